@@ -1,0 +1,29 @@
+//! What an arena is, what one entry of its journal does to it, and what is always true of it.
+//!
+//! Everything here is plain data and plain lists: nothing knows a hook object, a thread or a byte of input. The types
+//! are those that the other crates speak of, `specs/` has the definitions that their contracts cite, and `plain_step`
+//! is the slow program that computes them.
+#![tactic(auto)]
+
+mod asks;
+mod clients;
+mod entries;
+mod parts;
+mod seq;
+mod spaces;
+
+pub use asks::{Answer, Ask, Heard};
+pub use clients::Clients;
+pub use entries::{Entry, Op, Reply, Why};
+pub use parts::{Offered, Offers, Part, Parts, Region, Regions, Rest, Span, State};
+pub use seq::Seq;
+pub use spaces::{Added, Addeds, Life, Pace, Space};
+
+/// How many chunks of 2 MiB the space of addresses has. They are numbered from 1.
+pub const CHUNKS: u64 = 65535;
+
+/// How many pages of 4 KiB a chunk has.
+pub const CHUNK_PAGES: u64 = 512;
+
+/// How many clients there may be. They are numbered from 0.
+pub const CLIENTS: u32 = 32;
