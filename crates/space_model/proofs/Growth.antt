@@ -1,0 +1,88 @@
+-- An answered span against which nothing speaks shares no page with the extents.
+use Rattle.std.proofs.Common.{◌≡◌, ℕ, suc, zero, ◌+◌, ◌-◌, ◌*◌, ◌/◌, ◌%◌, ◌<◌, ◌≤◌, Bool, true, false, not, cond, ◌==◌, List, [], ◌∷◌, length, get_or, Option, Some, None, refl, sym, ◌∙◌, ap, subst, arith, find, ◌&&◌, ◌||◌, ◌⊎◌, inl, inr}
+use Rattle.std.specs.List.{list_any, range_with_len}
+use Rattle.std.specs.Option.{option_map}
+use Rattle.std.proofs.lemmas.List.Sums.{sum_by-cons}
+use Rattle.std.proofs.lemmas.List.FromFn.{get_or-range_with_len, length-range_with_len}
+use Rattle.std.proofs.lemmas.Bool.Decides.{nat_tests}
+use Rattle.space_model.specs.declared.entries.Why.{Why}
+use Rattle.space_model.specs.declared.entries.Why.TheVariants.{OffSpace, Unaligned, Meets}
+use Rattle.space_model.specs.declared.parts.Part.{Part}
+use Rattle.space_model.specs.declared.parts.Span.{Span}
+use Rattle.space_model.specs.Span.{IsPlaced, has_page, meets, chunk_span, chunks_of, end_of, pages_end}
+use Rattle.space_model.specs.Part.{holders}
+use Rattle.space_model.specs.Step.{is_owned, is_found, is_in_space, why_not}
+use Rattle.space_model.proofs.Exchange.{share}
+use Rattle.space_model.proofs.Pieces.{both_true}
+
+-- where nothing is found, nothing passes
+find_nothing : {X : Type 0} (test : X → Bool) (xs : List X) → find test xs ≡ None → (k : ℕ) (d : X) → k < length xs → test (get_or xs k d) ≡ false
+find_nothing test [] e k d h = absurd (omega arith)
+find_nothing test (x ∷ xs) e zero d h = elim (test x) as (λ b. cond b (Some x) (find test xs) ≡ None → b ≡ false) [ true ↦ λ i. absurd (cc) | false ↦ λ i. refl ] e
+find_nothing test (x ∷ xs) e (suc k) d h =
+    elim (test x) as (λ b. cond b (Some x) (find test xs) ≡ None → test (get_or xs k d) ≡ false)
+    [ true ↦ λ i. absurd (cc) | false ↦ λ i. find_nothing test xs i k d (omega arith) ] e
+
+-- an extent that doesn't meet a span has no page of it
+apart-share : (page : ℕ) (s : Span) (p : Part) → meets p.span s ≡ false → has_page page s ≡ true → share page p ≡ 0
+apart-share page s p apart has = grind (arith, nat_tests)
+
+-- where no extent meets a span, none has a page of it
+nobody_holds : (page : ℕ) (s : Span) (ps : List Part) → list_any (λ p. meets p.span s) ps ≡ false → has_page page s ≡ true → holders page ps ≡ 0
+nobody_holds page s [] apart has = refl
+nobody_holds page s (p ∷ ps) apart has =
+    elim (meets p.span s) as (λ b. meets p.span s ≡ b → (b || list_any (λ q. meets q.span s) ps) ≡ false → holders page (p ∷ ps) ≡ 0) [
+      | true ↦ λ h i. absurd (cc)
+      | false ↦ λ h i. omega (arith, sum_by-cons (share page) p ps, apart-share page s p h has, nobody_holds page s ps i has)
+    ] refl apart
+
+-- a page lies in the chunk of its number
+in_its_chunk : (page : ℕ) → has_page page (chunk_span (page / 512)) ≡ true
+in_its_chunk page = grind (arith, nat_tests)
+
+-- a chunk without an owner meets no extent
+unowned : (found : Option ℕ) (parts : List Part) (chunk : ℕ) → is_owned found parts chunk ≡ false → list_any (λ p. meets p.span (chunk_span chunk)) parts ≡ false
+unowned found parts chunk h =
+    elim (is_found found chunk) as (λ b. (b || list_any (λ p. meets p.span (chunk_span chunk)) parts) ≡ false → list_any (λ p. meets p.span (chunk_span chunk)) parts ≡ false)
+    [ true ↦ λ e. absurd (cc) | false ↦ λ e. e ] h
+
+-- what speaks for an answered span
+pub record Free (found : Option ℕ) (parts : List Part) (s : Span) : Type 0 where
+  pub inside : is_in_space s ≡ true
+  pub nobody : find (is_owned found parts) (chunks_of s) ≡ None
+
+nothing_mapped : {X Y : Type 0} (f : X → Y) (o : Option X) → option_map f o ≡ None → o ≡ None
+nothing_mapped f None e = refl
+nothing_mapped f (Some x) e = absurd (cc)
+
+pub why_not-free : (found : Option ℕ) (align : ℕ) (parts : List Part) (s : Span) → why_not found align parts s ≡ None → Free found parts s
+why_not-free found align parts s e =
+    elim (is_in_space s) as (λ b. is_in_space s ≡ b → cond (not b) (Some OffSpace) (cond (not (s.first % align == 0)) (Some Unaligned) (option_map (λ chunk. Meets (chunk_span chunk)) (find (is_owned found parts) (chunks_of s)))) ≡ None → Free found parts s) [
+      | false ↦ λ h i. absurd (cc)
+      | true ↦ λ h. elim (s.first % align == 0) as (λ b. cond (not b) (Some Unaligned) (option_map (λ chunk. Meets (chunk_span chunk)) (find (is_owned found parts) (chunks_of s))) ≡ None → Free found parts s) [
+        | false ↦ λ i. absurd (cc)
+        | true ↦ λ i. record { inside = h; nobody = nothing_mapped (λ chunk. Meets (chunk_span chunk)) _ i }
+      ]
+    ] refl e
+
+-- the chunk of a page of the span is among the span's chunks
+chunk_place : (page low high n : ℕ) → low / 512 ≤ page / 512 → page < high → n ≡ (high + 511) / 512 - low / 512 → page / 512 - low / 512 < n
+chunk_place page low high n above below is = omega arith
+
+-- an extent with a free span joins: no page has two extents
+pub free-holders : (found : Option ℕ) (parts : List Part) (new : Part) → Free found parts new.span → (page : ℕ) →
+    holders page parts ≤ 1 → holders page parts + share page new ≤ 1
+free-holders found parts new free page most =
+    elim (has_page page new.span) as (λ b. has_page page new.span ≡ b → holders page parts + cond b 1 0 ≤ 1) [
+      | false ↦ λ h. omega arith
+      | true ↦ λ h.
+          let inside : (new.span.first ≤ page) × (page < end_of new.span) = (grind (arith, nat_tests), grind (arith, nat_tests)) in
+          let low : ℕ = new.span.first / 512 in
+          let place : ℕ = page / 512 - low in
+          let above : low ≤ page / 512 = omega arith in
+          let within : place < (end_of new.span + 511) / 512 - low = omega arith in
+          let unseen = find_nothing (is_owned found parts) (chunks_of new.span) free.nobody place 0 (omega (arith, length-range_with_len low ((end_of new.span + 511) / 512 - low))) in
+          let here : get_or (chunks_of new.span) place 0 ≡ page / 512 = get_or-range_with_len low _ place 0 within ∙ omega arith in
+          let apart = unowned found parts (page / 512) (subst (λ c. is_owned found parts c ≡ false) here unseen) in
+          omega (arith, nobody_holds page (chunk_span (page / 512)) parts apart (in_its_chunk page))
+    ] refl

@@ -1,0 +1,77 @@
+-- The extents of an arena: their states, their pages, and the one form in which they change.
+use Rattle.std.specs.Prelude.{ℕ, Bool, true, false, ◌==◌, ◌&&◌, ◌||◌, not, List, ◌++◌, count_by}
+use Rattle.std.specs.List.{filter}
+use Rattle.space_model.specs.declared.parts.Span.{Span}
+use Rattle.space_model.specs.declared.parts.Part.{Part}
+use Rattle.space_model.specs.declared.parts.Rest.{Rest}
+use Rattle.space_model.specs.declared.parts.Rest.TheVariants.{Dirty as ToDirty, Muzzy as ToMuzzy, Retained as ToRetained}
+use Rattle.space_model.specs.declared.parts.State.{State}
+use Rattle.space_model.specs.declared.parts.State.TheVariants.{Active, Dirty, Muzzy, Retained, Flight}
+use Rattle.space_model.specs.Span.{has_page, same_span}
+
+-- whether the state is that of an extent which serves regions
+abbrev pub is_active : State → Bool
+is_active Active = true
+is_active Dirty = false
+is_active Muzzy = false
+is_active Retained = false
+is_active (Flight c rest) = false
+
+-- whether an extent in the state is listed among those of a rest
+abbrev pub is_listed : Rest → State → Bool
+is_listed ToDirty Dirty = true
+is_listed ToMuzzy Muzzy = true
+is_listed ToRetained Retained = true
+is_listed rest state = false
+
+-- whether the client has an extent in the state out of its list
+abbrev pub is_flight : ℕ → State → Bool
+is_flight client (Flight c rest) = c == client
+is_flight client Active = false
+is_flight client Dirty = false
+is_flight client Muzzy = false
+is_flight client Retained = false
+
+-- where an extent in the state belongs when it is put down
+abbrev pub rest_of : State → Rest
+rest_of Active = ToDirty
+rest_of Dirty = ToDirty
+rest_of Muzzy = ToMuzzy
+rest_of Retained = ToRetained
+rest_of (Flight c rest) = rest
+
+-- the state of an extent that is listed among those of a rest
+abbrev pub listed : Rest → State
+listed ToDirty = Dirty
+listed ToMuzzy = Muzzy
+listed ToRetained = Retained
+
+-- whether extents that belong there are committed, always
+abbrev pub is_backed : Rest → Bool
+is_backed ToDirty = true
+is_backed ToMuzzy = true
+is_backed ToRetained = false
+
+-- an extent that the client takes out of its list
+abbrev pub taken_out : ℕ → Part → Part
+taken_out client p = record p { state = Flight client (rest_of p.state) }
+
+-- an extent that is put down: it goes where it belongs
+abbrev pub put_down : Part → Part
+put_down p = record p { state = listed (rest_of p.state) }
+
+-- whether the extent begins at the page
+abbrev pub begins_at : ℕ → Part → Bool
+begins_at page p = p.span.first == page
+
+-- whether it is the client's extent in flight with just this span
+abbrev pub is_flight_at : ℕ → Span → Part → Bool
+is_flight_at client span p = is_flight client p.state && same_span p.span span
+
+-- how many extents have the page
+abbrev pub holders : ℕ → List Part → ℕ
+holders page parts = count_by (λ p. has_page page p.span) parts
+
+-- The one form in which extents change: those that pass a test go, and pieces come last.
+abbrev pub exchanged : (Part → Bool) → List Part → List Part → List Part
+exchanged gone parts pieces = filter (λ p. not (gone p)) parts ++ pieces

@@ -1,0 +1,66 @@
+-- What is always true of an arena.
+use Rattle.std.specs.Prelude.{◌≡◌, ℕ, ◌+◌, ◌*◌, ◌%◌, ◌<◌, ◌≤◌, ℤ, pos, negsuc, ◌≤ℤ◌, ◌==◌, Bool, true, false, IsTrue, List, [], All, AllPairs, filter}
+use Rattle.size_classes.specs.Classes.{align_at}
+use Rattle.space_model.specs.declared.parts.Part.{Part}
+use Rattle.space_model.specs.declared.parts.Offered.{Offered}
+use Rattle.space_model.specs.declared.parts.State.{State}
+use Rattle.space_model.specs.declared.parts.State.TheVariants.{Active, Dirty, Muzzy, Retained, Flight}
+use Rattle.space_model.specs.declared.spaces.Added.{Added}
+use Rattle.space_model.specs.declared.spaces.Pace.{Pace}
+use Rattle.space_model.specs.declared.spaces.Space.{Space}
+use Rattle.space_model.specs.declared.spaces.Life.{Life}
+use Rattle.space_model.specs.declared.spaces.Life.TheVariants.{Live, Absent, Dying}
+use Rattle.space_model.specs.Span.{IsPlaced, pages_end}
+use Rattle.space_model.specs.Part.{is_active, is_backed, rest_of, holders}
+use Rattle.space_model.specs.Region.{houses, homes, residents, fills, sharers}
+
+-- whether the state is that of an extent out of its list
+abbrev pub is_in_flight : State → Bool
+is_in_flight Active = false
+is_in_flight Dirty = false
+is_in_flight Muzzy = false
+is_in_flight Retained = false
+is_in_flight (Flight c rest) = true
+
+-- A decay time is -1 or up to 1000000000 ms, its epochs fit into the time that passed, and no epoch has more pages
+-- than there are.
+pub record IsPaced (pace : Pace) : Type 0 where
+  pub least : negsuc 0 ≤ℤ pace.ms
+  pub most : pace.ms ≤ℤ pos 1000000000
+  pub started : (ms : ℕ) → pace.ms ≡ pos ms → pace.epoch * ms * 5000 ≤ pace.start
+  pub rising : AllPairs (λ a b. a.epoch < b.epoch) pace.added
+  pub past : All (λ a. a.epoch ≤ pace.epoch) pace.added
+  pub pages : All (λ a. a.pages ≤ pages_end) pace.added
+  pub left : pace.left ≤ pages_end
+
+-- an arena that is absent or being destroyed has no region, extent in flight, offer or client, and an absent one no extent
+abbrev pub IsQuiet : Life → Space → Type 0
+IsQuiet Live s = Unit {0}
+IsQuiet (Dying c) s =
+    (s.regions ≡ []) × (s.offers ≡ []) × (s.bound ≡ []) × All (λ p. is_in_flight p.state ≡ false) s.parts
+IsQuiet Absent s = (s.regions ≡ []) × (s.offers ≡ []) × (s.bound ≡ []) × (s.parts ≡ [])
+
+-- The extents of an arena don't meet, and each region has its home in one of them.
+pub record Sound (s : Space) : Type 0 where
+  -- no page has two extents
+  pub owners : (page : ℕ) → holders page s.parts ≤ 1
+  -- no extent and no offer is empty, and all of them lie in the space
+  pub placed : All (λ p. IsPlaced p.span) s.parts
+  pub offered : All (λ o. IsPlaced o.span) s.offers
+  -- an extent that is dirty or muzzy, or on its way there, is committed, and so is an active one
+  pub backed : All (λ p. IsTrue (is_backed (rest_of p.state)) → IsTrue p.committed) s.parts
+  -- each region lies in just one active, committed extent, and each active extent has a region
+  pub homes : All (λ r. homes r s.parts ≡ 1) s.regions
+  pub used : All (λ p. IsTrue (is_active p.state) → 0 < residents p s.regions) s.parts
+  -- a large region starts its extent, which has the pages of its class and no other region
+  pub large : All (λ r. All (λ p. IsTrue (houses p r) → 36 ≤ r.class → IsTrue (fills p r) × (residents p s.regions ≡ 1)) s.parts) s.regions
+  -- each region is of a class and aligned as the class wants it, and no byte is in two regions
+  pub classes : All (λ r. r.class < 121) s.regions
+  pub aligned : All (λ r. r.addr % align_at r.class ≡ 0) s.regions
+  pub apart : (byte : ℕ) → sharers byte s.regions ≤ 1
+  -- an arena that isn't live serves nobody
+  pub quiet : IsQuiet s.life s
+  -- its box and its decay times are in range
+  pub box : s.box_no < 32
+  pub dirty : IsPaced s.dirty
+  pub muzzy : IsPaced s.muzzy
