@@ -1,11 +1,11 @@
 -- The test of an alignment, and the class at one.
-use Rattle.std.proofs.Common.{◌≡◌, ℕ, ◌+◌, ◌-◌, ◌*◌, ◌/◌, ◌%◌, ◌^◌, ◌<◌, ◌≤◌, ◌⊎◌, inl, inr, min, max, true, nat_eq, leb, ltb, ◌&&◌, ◌||◌, Bool, ℕ, zero, suc, refl, cond, IsTrue, sym, ◌∙◌, arith, add-one}
+use Rattle.std.proofs.Common.{◌≡◌, ℕ, ◌+◌, ◌*◌, ◌/◌, ◌%◌, ◌^◌, ◌<◌, ◌≤◌, ◌⊎◌, inl, inr, max, true, nat_eq, leb, ltb, ◌&&◌, ◌||◌, Bool, ℕ, zero, suc, refl, cond, IsTrue, ◌∙◌, arith, add-one}
 use Rattle.std.proofs.Math.Nat.{pow-le-pow_right, pow-suc, mul-le-mul_right}
 use Rattle.std.proofs.lemmas.Nat.{one_shl, pow_below, pow_pos, le-div, shr_split}
-use Rattle.std.proofs.lemmas.Bool.{agree_below_at, or_cases, cases_lt, eqb-true, eq-eqb}
+use Rattle.std.proofs.lemmas.Bool.{or_cases, cases_lt, eqb-true, eq-eqb}
 use Rattle.std.proofs.lemmas.Bool.Decides.{nat_tests}
 use Rattle.std.specs.Int.{next_multiple_of}
-use Rattle.size_classes.specs.Classes.{class_sizes, size_at, align_at, class_for, IsAlignment, aligned_for}
+use Rattle.size_classes.specs.Classes.{class_sizes, largest_align, size_at, align_at, class_for, IsAlignment, aligned_for}
 use Rattle.size_classes.proofs.Least.{class_for-mono, class_for-least, class_for-fits}
 use Rattle.size_classes.proofs.Table.{passes_below, at}
 
@@ -42,20 +42,11 @@ chosen_large : (align r c : ℕ) → (4096 < align) ⊎ (36 ≤ c) → c ≤ r �
     max c 36 ≡ cond (leb align 4096 && ltb r 36) r (max 36 c)
 chosen_large align r c either le = grind (arith, nat_tests)
 
-chosen_small : (align r c : ℕ) → align ≤ 4096 → c < 36 → min r 36 ≡ cond (leb align 4096 && ltb r 36) r (max 36 c)
-chosen_small align r c page small = grind (arith, nat_tests)
-
 -- an alignment above a page, or a size with a large class
 pub aligned_large : (n align : ℕ) → (4096 < align) ⊎ (36 ≤ class_for n) → max (class_for n) 36 ≡ aligned_for n align
 aligned_large n align either =
     chosen_large align (class_for (next_multiple_of (max n 1) align)) (class_for n) either
     (class_for-mono n (next_multiple_of (max n 1) align) (omega arith))
-
--- an alignment within a page, and a size with a small class
-pub aligned_small : (n align : ℕ) → align ≤ 4096 → class_for n < 36 →
-    min (class_for (next_multiple_of (max n 1) align)) 36 ≡ aligned_for n align
-aligned_small n align page small =
-    chosen_small align (class_for (next_multiple_of (max n 1) align)) (class_for n) page small
 
 -- the size before a class's, or 0
 abbrev size_before : ℕ → ℕ
@@ -67,7 +58,7 @@ abbrev divides : ℕ → ℕ → Bool
 divides c k = nat_eq (align_at c % 2 ^ k) 0 || nat_eq (size_before c / 2 ^ k) (size_at c / 2 ^ k)
 
 divides_below : passes_below (λ c. passes_below (divides c) 13) 36 ≡ true
-unfolding class_sizes
+unfolding class_sizes largest_align
 divides_below = refl
 
 -- the size before the class for n is below n

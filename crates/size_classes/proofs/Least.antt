@@ -1,5 +1,5 @@
 -- The class for a size is the least, told by the sizes beside it; and sizes rise with the class.
-use Rattle.std.proofs.Common.{◌≡◌, ℕ, ◌+◌, ◌-◌, ◌*◌, ◌/◌, ◌%◌, ◌^◌, ◌<◌, ◌≤◌, max, not, true, false, length, get_or, leb, refl, sym, ◌∙◌, arith, ◌⊎◌, inl, inr, suc, zero, subst, add-one}
+use Rattle.std.proofs.Common.{◌≡◌, ℕ, ◌-◌, ◌^◌, ◌<◌, ◌≤◌, max, not, leb, arith, inl, inr, suc, zero, add-one}
 use Rattle.std.proofs.lemmas.Bool.{le-leb, lt-leb, leb-true, leb-false, cases_lt}
 use Rattle.std.proofs.lemmas.List.Sums.{position_or_len_is, fails_before_first, passes_at_first, prefix_len-le-length}
 use Rattle.size_classes.specs.Classes.{class_sizes, size_at, class_for}
@@ -65,4 +65,12 @@ small_size n small =
     elim (cases_lt (class_for n) 35) [
       | inl less ↦ omega (arith, last_small_size, size_rises (class_for n) 35 less (omega arith))
       | inr last ↦ let e : class_for n ≡ 35 = omega arith in omega (arith, last_small_size, rw e at fits)
+    ]
+
+-- a larger size has a large class
+pub large_class : (n : ℕ) → 14336 < n → 36 ≤ class_for n
+large_class n above =
+    elim (cases_lt (class_for n) 36) [
+      | inl small ↦ absurd (omega (arith, small_size n small))
+      | inr done ↦ done
     ]

@@ -1,9 +1,9 @@
 -- Facts of the class table: each is a test over the whole table, computed once, and what it tells of one entry.
-use Rattle.std.proofs.Common.{◌≡◌, ℕ, ◌+◌, ◌-◌, ◌*◌, ◌/◌, ◌%◌, ◌^◌, ◌<◌, ◌≤◌, min, Bool, true, ◌&&◌, length, eqb, ltb, leb, refl, arith, ◌⊎◌, inl, inr, suc, zero, subst}
-use Rattle.std.proofs.lemmas.Bool.{agree_below, agree_below_at, and_parts, eqb-true, ltb-true, leb-true, cases_order}
+use Rattle.std.proofs.Common.{◌≡◌, ℕ, ◌+◌, ◌-◌, ◌*◌, ◌/◌, ◌%◌, ◌^◌, ◌<◌, ◌≤◌, min, Bool, true, ◌&&◌, length, eqb, ltb, leb, refl, arith}
+use Rattle.std.proofs.lemmas.Bool.{agree_below, agree_below_at, and_parts, eqb-true, ltb-true, leb-true}
 use Rattle.std.specs.Int.{trailing_zeros, w64}
 use lib.Count.{count_trailing_zeros}
-use Rattle.size_classes.specs.Classes.{class_sizes, size_at, pages_at, regions_at, align_at}
+use Rattle.size_classes.specs.Classes.{class_sizes, least_pages, largest_align, size_at, pages_at, regions_at, align_at}
 
 -- the test passes at each number below n
 abbrev pub passes_below : (ℕ → Bool) → ℕ → Bool
@@ -87,7 +87,7 @@ abbrev shifted : ℕ → Bool
 shifted c = eqb (size_at c / 2 ^ min (trailing_zeros w64 (size_at c)) 12) (pages_at c)
 
 shifted_below : passes_below shifted 121 ≡ true
-unfolding class_sizes count_trailing_zeros
+unfolding class_sizes least_pages count_trailing_zeros
 shifted_below = refl
 
 -- the pages are the size without its factors of two, of which twelve at most go
@@ -98,7 +98,7 @@ abbrev paged : ℕ → Bool
 paged c = leb 1 (pages_at c) && leb (pages_at c) (2 ^ 23)
 
 paged_below : passes_below paged 121 ≡ true
-unfolding class_sizes
+unfolding class_sizes least_pages
 paged_below = refl
 
 -- a slab or an extent has from 1 to 2 ^ 23 pages
@@ -111,7 +111,7 @@ abbrev whole : ℕ → Bool
 whole k = eqb (size_at (k + 36)) (4096 * pages_at (k + 36))
 
 whole_below : passes_below whole 85 ≡ true
-unfolding class_sizes
+unfolding class_sizes least_pages
 whole_below = refl
 
 -- a large class is whole pages
@@ -126,7 +126,7 @@ filled c =
     eqb (regions_at c * size_at c) (4096 * pages_at c) && (leb 1 (regions_at c) && leb (regions_at c) 512)
 
 filled_below : passes_below filled 36 ≡ true
-unfolding class_sizes
+unfolding class_sizes least_pages
 filled_below = refl
 
 -- the regions of a slab fill it, and there are from 1 to 512
@@ -141,7 +141,7 @@ abbrev aligned : ℕ → Bool
 aligned c = leb 1 (align_at c) && (eqb (size_at c % align_at c) 0 && eqb (4096 % align_at c) 0)
 
 aligned_below : passes_below aligned 121 ≡ true
-unfolding class_sizes
+unfolding class_sizes largest_align
 aligned_below = refl
 
 -- the alignment of a class divides its size and a page

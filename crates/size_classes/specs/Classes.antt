@@ -1,5 +1,5 @@
 -- The table of the size classes, and what follows from it. Sizes are in bytes, and a page has 4096 bytes.
-use Rattle.std.specs.Prelude.{◌≡◌, ◌==◌, ℕ, ◌+◌, ◌*◌, ◌/◌, ◌%◌, ◌^◌, ◌<◌, ◌≤◌, min, max, List, [], ◌∷◌, ◌&&◌, if◌then◌else◌, nat_lt, nat_le, slice_index, find, unwrap_or}
+use Rattle.std.specs.Prelude.{◌==◌, ℕ, ◌*◌, ◌/◌, ◌%◌, ◌^◌, ◌<◌, ◌≤◌, min, max, List, [], ◌∷◌, ◌&&◌, if◌then◌else◌, nat_lt, nat_le, slice_index, find, unwrap_or}
 use Rattle.std.specs.List.{position_or_len}
 use Rattle.std.specs.Int.{next_multiple_of, IsPowerOfTwo}
 
@@ -51,7 +51,7 @@ abbrev pub IsSmall : ℕ → Type 0
 IsSmall class = class < 36
 
 -- the least number of pages whose bytes are a multiple of the size, sought from 1 to 8
-abbrev pub least_pages : ℕ → ℕ
+unfoldable pub least_pages : ℕ → ℕ
 least_pages size =
     unwrap_or (find (λ pages. (4096 * pages) % size == 0) (1 ∷ 2 ∷ 3 ∷ 4 ∷ 5 ∷ 6 ∷ 7 ∷ 8 ∷ [])) 0
 
@@ -67,11 +67,16 @@ regions_at class = (4096 * pages_at class) / size_at class
 abbrev pub slots_at : ℕ → ℕ
 slots_at class = if nat_lt class 36 then min 200 (max 20 (2 * regions_at class)) else 20
 
--- the alignment of a class's addresses: the largest power of two, at most 4096, that divides its size
-abbrev pub align_at : ℕ → ℕ
-align_at class =
-    unwrap_or (find (λ align. size_at class % align == 0)
+-- the largest power of two, at most 4096, that divides the size
+unfoldable pub largest_align : ℕ → ℕ
+largest_align size =
+    unwrap_or
+    (find (λ align. size % align == 0)
     (4096 ∷ 2048 ∷ 1024 ∷ 512 ∷ 256 ∷ 128 ∷ 64 ∷ 32 ∷ 16 ∷ 8 ∷ 4 ∷ 2 ∷ [])) 1
+
+-- the alignment of a class's addresses, in bytes
+abbrev pub align_at : ℕ → ℕ
+align_at class = largest_align (size_at class)
 
 -- an alignment that may be asked: a power of two from 1 to 2 ^ 30
 abbrev pub IsAlignment : ℕ → Type 0

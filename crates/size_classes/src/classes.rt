@@ -73,6 +73,7 @@ pub fn aligned_class(size: u64, align: u64) -> Result<u8, SizeFault>
 pub fn size_of(class: u8) -> u64
     requires { class < 121 }
     ensures size { result ≡ size_at class }
+    ensures aligned { result % align_at class ≡ 0 }
     ensures at_least { 8 ≤ result }
     ensures at_most { result ≤ 2 ^ 35 }
 {
@@ -90,6 +91,7 @@ pub fn size_of(class: u8) -> u64
 pub fn class_pages(class: u8) -> u64
     requires { class < 121 }
     ensures pages { result ≡ pages_at class }
+    ensures large { 36 ≤ class → size_at class ≡ 4096 * result }
     ensures at_least { 1 ≤ result }
     ensures at_most { result ≤ 2 ^ 23 }
 {
@@ -101,6 +103,7 @@ pub fn class_pages(class: u8) -> u64
 pub fn slab_regions(class: u8) -> u64
     requires { IsSmall class }
     ensures regions { result ≡ regions_at class }
+    ensures filled { result * size_at class ≡ 4096 * pages_at class }
     ensures at_least { 1 ≤ result }
     ensures at_most { result ≤ 512 }
 {

@@ -1,7 +1,7 @@
-use Rattle.std.proofs.Common.{◌≡◌, ◌<◌, ◌≤◌, ◌⊎◌, inl, inr, refl, sym, arith}
+use Rattle.std.proofs.Common.{◌≡◌, ◌<◌, inl, inr, refl, sym, arith}
 use Rattle.size_classes.specs.Classes.{class_for}
 use Rattle.size_classes.proofs.Least.{small_size}
-use Rattle.size_classes.proofs.Alignment.{aligned_large, aligned_small, aligned_divides}
+use Rattle.size_classes.proofs.Alignment.{aligned_large, aligned_divides}
 use Rattle.size_classes.proofs.classes.aligned_class.Goals as goal
 
 pub returns-then-align-gt-PAGE_BYTES-clause-class : goal.returns-then-align-gt-PAGE_BYTES-clause-class

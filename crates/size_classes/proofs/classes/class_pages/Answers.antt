@@ -1,6 +1,4 @@
-use Rattle.std.proofs.Common.{◌≡◌, ◌/◌, ◌^◌}
-use Rattle.size_classes.specs.Classes.{pages_at}
-use Rattle.size_classes.proofs.Table.{pages_by_shift, pages_bounds}
+use Rattle.size_classes.proofs.Table.{large_size, pages_by_shift, pages_bounds}
 use Rattle.size_classes.proofs.classes.class_pages.Goals as goal
 
 pub returns-clause-pages : goal.returns-clause-pages
@@ -11,3 +9,6 @@ returns-clause-at_least c = rw (returns-clause-pages c) ((pages_bounds c.args.cl
 
 pub returns-clause-at_most : goal.returns-clause-at_most
 returns-clause-at_most c = rw (returns-clause-pages c) ((pages_bounds c.args.class c.requires).1)
+
+pub returns-clause-large : goal.returns-clause-large
+returns-clause-large c = λ large. rw (returns-clause-pages c) (large_size c.args.class large c.requires)

@@ -12,3 +12,8 @@ pub returns-clause-at_most : goal.returns-clause-at_most
 returns-clause-at_most c =
     rw (c.class_pages.ensures.pages, c.size_of.ensures.size, mul_comm (pages_at c.args.class) 4096)
     ((slab_filled c.args.class c.requires).2)
+
+pub returns-clause-filled : goal.returns-clause-filled
+returns-clause-filled c =
+    rw (c.class_pages.ensures.pages, c.size_of.ensures.size, mul_comm (pages_at c.args.class) 4096)
+    ((slab_filled c.args.class c.requires).0)
