@@ -1,0 +1,4 @@
+pub mod Table
+pub mod Least
+pub mod Computed
+pub mod Alignment
