@@ -64,7 +64,7 @@ listed-nobody d rest Retained h = refl
 listed-nobody d rest (Flight c r) h = elim rest as (λ x. is_listed x (Flight c r) ≡ true → is_flight d (Flight c r) ≡ false) [ ToDirty ↦ λ e. absurd (cc) | ToMuzzy ↦ λ e. absurd (cc) | ToRetained ↦ λ e. absurd (cc) ] h
 
 -- two numbers that differ aren't both the same as a third
-different : (e c d : ℕ) → eqb e c ≡ true → d ≢ c → eqb e d ≡ false
+pub different : (e c d : ℕ) → eqb e c ≡ true → d ≢ c → eqb e d ≡ false
 different e c d h other = grind (arith, nat_tests)
 
 -- two clients that differ have no flight in common

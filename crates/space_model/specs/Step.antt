@@ -184,9 +184,14 @@ reply_to space entry = (step_of space entry.client entry.op).reply
 
 -- ---- which entries may stand
 
--- whether the client has an extent in flight with just this span that passes the test
+-- whether something was found and passes the test
+abbrev pub found_passes : (Part → Bool) → Option Part → Bool
+found_passes test None = false
+found_passes test (Some p) = test p
+
+-- whether the client has an extent in flight with just this span, and it passes the test
 abbrev pub has_flight : Space → ℕ → Span → (Part → Bool) → Bool
-has_flight space c span test = list_any (λ p. is_flight_at c span p && test p) space.parts
+has_flight space c span test = found_passes test (find (is_flight_at c span) space.parts)
 
 -- whether the answer is one to an ask other than alloc
 abbrev pub is_yes_or_no : Answer → Bool
