@@ -9,12 +9,14 @@ mod asks;
 mod clients;
 mod entries;
 mod parts;
+mod plain;
 mod seq;
 mod spaces;
 
 pub use asks::{Answer, Ask, Heard};
 pub use clients::Clients;
 pub use entries::{Entry, Op, Reply, Why};
+pub use plain::may_stand;
 pub use parts::{Offered, Offers, Part, Parts, Region, Regions, Rest, Span, State};
 pub use seq::Seq;
 pub use spaces::{Added, Addeds, Life, Pace, Space};

@@ -8,7 +8,7 @@ use std::marker::Model;
 /// A list of values, which contracts see as the list of its elements and nothing else.
 #[derive(Drop)]
 pub struct Seq<T> {
-    items: Vec<T>,
+    pub(crate) items: Vec<T>,
 }
 
 impl<T> Model for Seq<T> {

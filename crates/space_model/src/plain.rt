@@ -1,0 +1,11 @@
+//! The slow machine: what an entry does to a space, by scans over its lists.
+//!
+//! It is what every faster body is compared with. A call is as slow as its definition reads: a look compares each
+//! candidate with each other one.
+
+mod finds;
+mod moves;
+mod stands;
+
+// pub use moves::plain_step;
+pub use stands::may_stand;

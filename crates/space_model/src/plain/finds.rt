@@ -1,0 +1,226 @@
+//! Searches over the extents of a space.
+
+ghost use Rattle.std.specs.Prelude.{◌≡◌, ◌+◌, ◌≤◌, ◌<◌, ◌^◌, ◌&&◌, find, IfSome};
+ghost use Rattle.std.specs.List.{list_any};
+ghost use Rattle.space_model.specs.Span.{IsPlaced, pages_end, end_of, run_start, holds_run, meets, chunk_span, chunks_of};
+ghost use Rattle.space_model.specs.Part.{is_active, is_listed, is_flight, is_flight_at, rest_of, listed};
+ghost use Rattle.space_model.specs.Fit.{is_candidate, is_better, is_best, fit_of, fit};
+ghost use Rattle.space_model.specs.Step.{is_found, is_owned, is_in_space, why_not};
+
+use crate::{CHUNK_PAGES, CHUNKS, Part, Rest, Span, State, Why};
+
+/// Where an extent in this state belongs when it is put down.
+pub fn rest_of(state: State) -> Rest
+    ensures { result ≡ rest_of state }
+{
+    match state {
+        State::Active | State::Dirty => Rest::Dirty,
+        State::Muzzy => Rest::Muzzy,
+        State::Retained => Rest::Retained,
+        State::Flight(_, rest) => rest,
+    }
+}
+
+/// The state of an extent that is listed among those of a rest.
+pub fn listed(rest: Rest) -> State
+    ensures { result ≡ listed rest }
+{
+    match rest {
+        Rest::Dirty => State::Dirty,
+        Rest::Muzzy => State::Muzzy,
+        Rest::Retained => State::Retained,
+    }
+}
+
+/// Whether an extent in this state is listed among those of a rest.
+fn is_listed(rest: Rest, state: State) -> bool
+    ensures { result ≡ is_listed rest state }
+{
+    match (rest, state) {
+        (Rest::Dirty, State::Dirty)
+        | (Rest::Muzzy, State::Muzzy)
+        | (Rest::Retained, State::Retained) => true,
+        _ => false,
+    }
+}
+
+/// Whether it is the client's extent in flight with just this span.
+fn is_flight_at(client: u32, span: Span, part: &Part) -> bool
+    ensures { result ≡ is_flight_at client span part.now }
+{
+    match part.state {
+        State::Flight(owner, _) => {
+            owner == client && part.span.first == span.first && part.span.pages == span.pages
+        }
+        _ => false,
+    }
+}
+
+/// The client's extent in flight with just this span.
+pub fn flight(parts: &[Part], client: u32, span: Span) -> Option<Part>
+    ensures { result ≡ find (is_flight_at client span) parts.now }
+{
+    parts
+        .iter()
+        .copied()
+        .find(|part| is_flight_at(client, span, part))
+}
+
+/// The page after a span's last one. In 128 bits, so that no answer of a hook wraps.
+fn end_of(span: Span) -> u128
+    ensures { result ≡ end_of span }
+{
+    u128::from(span.first) + u128::from(span.pages)
+}
+
+/// The first page at or above the span's start that is a multiple of the alignment.
+pub fn run_start(align: u64, span: Span) -> u128
+    requires { 1 ≤ align }
+    ensures start { result ≡ run_start align span }
+    ensures bound { result < 2 ^ 65 }
+{
+    let align = u128::from(align);
+    (u128::from(span.first) + (align - 1)) / align * align
+}
+
+/// Whether the extent is listed among those of the rest and holds the run.
+fn is_candidate(rest: Rest, pages: u64, align: u64, part: &Part) -> bool
+    requires { 1 ≤ align }
+    ensures { result ≡ is_candidate rest pages align part.now }
+{
+    is_listed(rest, part.state)
+        && run_start(align, part.span) + u128::from(pages) <= end_of(part.span)
+}
+
+/// Whether the first extent is smaller, or as small and at a lower page.
+fn is_better(part: &Part, other: &Part) -> bool
+    ensures { result ≡ is_better part.now other.now }
+{
+    part.span.pages < other.span.pages
+        || (part.span.pages == other.span.pages && part.span.first < other.span.first)
+}
+
+/// Whether the other extent is a candidate too, and a better one.
+fn is_better_candidate(rest: Rest, pages: u64, align: u64, other: &Part, part: &Part) -> bool
+    requires { 1 ≤ align }
+    ensures { result ≡ (is_candidate rest pages align other.now && is_better other.now part.now) }
+{
+    is_candidate(rest, pages, align, other) && is_better(other, part)
+}
+
+/// Whether some candidate is better than the extent.
+fn has_better(rest: Rest, pages: u64, align: u64, parts: &[Part], part: &Part) -> bool
+    requires { 1 ≤ align }
+    ensures { result ≡ list_any (λ q. is_candidate rest pages align q && is_better q part.now) parts.now }
+{
+    parts
+        .iter()
+        .any(|other| is_better_candidate(rest, pages, align, other, part))
+}
+
+/// Whether the extent is a candidate, and no candidate is better.
+fn is_best(rest: Rest, pages: u64, align: u64, parts: &[Part], part: &Part) -> bool
+    requires { 1 ≤ align }
+    ensures { result ≡ is_best rest pages align parts.now part.now }
+{
+    is_candidate(rest, pages, align, part) && !has_better(rest, pages, align, parts, part)
+}
+
+/// The best candidate among the extents of one rest.
+fn fit_of(rest: Rest, pages: u64, align: u64, parts: &[Part]) -> Option<Part>
+    requires { 1 ≤ align }
+    ensures { result ≡ fit_of rest pages align parts.now }
+{
+    parts
+        .iter()
+        .copied()
+        .find(|part| is_best(rest, pages, align, parts, part))
+}
+
+/// The extent that serves a request: a dirty one if any fits, else a muzzy one, else a retained one.
+pub fn fit(pages: u64, align: u64, parts: &[Part]) -> Option<Part>
+    requires { 1 ≤ align }
+    ensures { result ≡ fit pages align parts.now }
+{
+    fit_of(Rest::Dirty, pages, align, parts)
+        .or_else(|| fit_of(Rest::Muzzy, pages, align, parts))
+        .or_else(|| fit_of(Rest::Retained, pages, align, parts))
+}
+
+/// Whether two spans share a page.
+fn meets(span: Span, other: Span) -> bool
+    ensures { result ≡ meets span other }
+{
+    u128::from(span.first) < end_of(other) && u128::from(other.first) < end_of(span)
+}
+
+/// The pages of a chunk.
+fn chunk_span(chunk: u64) -> Span
+    requires { chunk < 2 ^ 32 }
+    ensures { result ≡ chunk_span chunk }
+{
+    Span {
+        first: CHUNK_PAGES * chunk,
+        pages: CHUNK_PAGES,
+    }
+}
+
+/// Whether this is the chunk that was found in another arena.
+fn is_found(found: Option<u64>, chunk: u64) -> bool
+    ensures { result ≡ is_found found chunk }
+{
+    match found {
+        Some(other) => other == chunk,
+        None => false,
+    }
+}
+
+/// Whether some extent meets the span.
+fn any_meets(parts: &[Part], span: Span) -> bool
+    ensures { result ≡ list_any (λ p. meets p.span span) parts.now }
+{
+    parts.iter().any(|part| meets(part.span, span))
+}
+
+/// Whether a chunk has an owner: it was found in another arena, or an extent of this one meets it.
+fn is_owned(found: Option<u64>, parts: &[Part], chunk: u64) -> bool
+    requires { chunk < 2 ^ 32 }
+    ensures { result ≡ is_owned found parts.now chunk }
+{
+    is_found(found, chunk) || any_meets(parts, chunk_span(chunk))
+}
+
+/// Whether all pages of the span are in the space.
+fn is_in_space(span: Span) -> bool
+    ensures { result ≡ is_in_space span }
+{
+    CHUNK_PAGES <= span.first && end_of(span) <= u128::from(CHUNK_PAGES * (CHUNKS + 1))
+}
+
+/// The least chunk of a span in the space that has an owner.
+fn owned_chunk(found: Option<u64>, parts: &[Part], span: Span) -> Option<u64>
+    requires { end_of span ≤ pages_end }
+    ensures least { result ≡ find (is_owned found parts.now) (chunks_of span) }
+    ensures bound { IfSome result (λ chunk. chunk < 2 ^ 32) }
+{
+    let low = span.first / CHUNK_PAGES;
+    let high = (span.first + span.pages).div_ceil(CHUNK_PAGES);
+    (low..high).find(|chunk| is_owned(found, parts, *chunk))
+}
+
+/// Why an answered span can't be taken, or none.
+pub fn why_not(found: Option<u64>, align: u64, parts: &[Part], span: Span) -> Option<Why>
+    requires { 1 ≤ align }
+    ensures { result ≡ why_not found align parts.now span }
+{
+    if !is_in_space(span) {
+        return Some(Why::OffSpace);
+    }
+    if span.first % align != 0 {
+        return Some(Why::Unaligned);
+    }
+    match owned_chunk(found, parts, span) {
+        Some(chunk) => Some(Why::Meets(chunk_span(chunk))),
+        None => None,
+    }
+}

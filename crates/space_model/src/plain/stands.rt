@@ -1,0 +1,154 @@
+//! Which entries may stand.
+
+ghost use Rattle.std.specs.Prelude.{◌≡◌, ◌==◌};
+ghost use Rattle.std.specs.List.{list_any};
+ghost use Rattle.space_model.specs.Part.{is_flight_at};
+ghost use Rattle.space_model.specs.Region.{is_held_by};
+ghost use Rattle.space_model.specs.Step.{is_live, is_yes_or_no, is_range_or_no, is_customer, cut_stands, grow_stands, commit_stands, land_stands, op_stands, stands};
+
+use super::finds::flight;
+use crate::{Answer, Ask, CLIENTS, Clients, Entry, Heard, Life, Op, Region, Space, Span};
+use size_classes::{CLASSES, SMALL_CLASSES, class_pages};
+
+/// Whether the arena serves requests.
+pub fn is_live(life: Life) -> bool
+    ensures { result ≡ is_live life }
+{
+    match life {
+        Life::Live => true,
+        Life::Absent | Life::Dying(_) => false,
+    }
+}
+
+/// Whether the answer is one to an ask other than alloc.
+fn is_yes_or_no(answer: Answer) -> bool
+    ensures { result ≡ is_yes_or_no answer }
+{
+    match answer {
+        Answer::Done | Answer::Refused => true,
+        Answer::Placed { .. } => false,
+    }
+}
+
+/// Whether the answer is one to an alloc.
+fn is_range_or_no(answer: Answer) -> bool
+    ensures { result ≡ is_range_or_no answer }
+{
+    match answer {
+        Answer::Placed { .. } | Answer::Refused => true,
+        Answer::Done => false,
+    }
+}
+
+/// Whether the client allocates from the arena.
+fn is_bound(bound: &Clients, client: u32) -> bool
+    ensures { result ≡ list_any (λ b. b == client) bound.now }
+{
+    bound.as_slice().iter().any(|other| *other == client)
+}
+
+/// Whether the client holds the region.
+fn is_held_by(client: u32, region: &Region) -> bool
+    ensures { result ≡ is_held_by client region.now }
+{
+    match region.holder {
+        Some(holder) => holder == client,
+        None => false,
+    }
+}
+
+/// Whether the client holds a region among these.
+fn holds_any(regions: &[Region], client: u32) -> bool
+    ensures { result ≡ list_any (is_held_by client) regions.now }
+{
+    regions.iter().any(|region| is_held_by(client, region))
+}
+
+/// Whether the client allocates from the arena, or holds a region of it.
+fn is_customer(space: &Space, client: u32) -> bool
+    ensures { result ≡ is_customer space.now client }
+{
+    is_bound(&space.bound, client) || holds_any(space.regions.as_slice(), client)
+}
+
+/// Whether the answer to a split may be taken in.
+fn cut_stands(space: &Space, client: u32, heard: Heard) -> bool
+    ensures { result ≡ cut_stands space.now client heard.ask heard.answer }
+{
+    match heard.ask {
+        Ask::Split { span, left } => {
+            is_yes_or_no(heard.answer)
+                && 0 < left
+                && left < span.pages
+                && flight(space.parts.as_slice(), client, span).is_some()
+        }
+        _ => false,
+    }
+}
+
+/// Whether the answer to an alloc may be taken in.
+fn grow_stands(space: &Space, client: u32, heard: Heard) -> bool
+    ensures { result ≡ grow_stands space.now client heard.ask heard.answer }
+{
+    match heard.ask {
+        Ask::Alloc { pages, align, .. } => {
+            is_range_or_no(heard.answer)
+                && 0 < pages
+                && align.is_power_of_two()
+                && is_customer(space, client)
+        }
+        _ => false,
+    }
+}
+
+/// Whether the answer to a commit may be taken in.
+fn commit_stands(space: &Space, client: u32, heard: Heard) -> bool
+    ensures { result ≡ commit_stands space.now client heard.ask heard.answer }
+{
+    match heard.ask {
+        Ask::Commit(span) => {
+            is_yes_or_no(heard.answer)
+                && match flight(space.parts.as_slice(), client, span) {
+                    Some(part) => !part.committed,
+                    None => false,
+                }
+        }
+        _ => false,
+    }
+}
+
+/// Whether regions of the class may land in the extent: one of a large class, in an extent of its pages.
+fn land_stands(space: &Space, client: u32, span: Span, class: u8, count: u32) -> bool
+    ensures { result ≡ land_stands space.now client span class count }
+{
+    SMALL_CLASSES <= class
+        && class < CLASSES
+        && count == 1
+        && span.pages == class_pages(class)
+        && match flight(space.parts.as_slice(), client, span) {
+            Some(part) => part.committed,
+            None => false,
+        }
+}
+
+/// Whether the operation may come next.
+fn op_stands(space: &Space, client: u32, op: &Op) -> bool
+    ensures { result ≡ op_stands space.now client op.now }
+{
+    match *op {
+        Op::Look { pages, align } => 0 < pages && align.is_power_of_two(),
+        Op::CutDone { heard, .. } => is_live(space.life) && cut_stands(space, client, heard),
+        Op::GrowDone { heard, .. } => is_live(space.life) && grow_stands(space, client, heard),
+        Op::CommitDone { heard } => is_live(space.life) && commit_stands(space, client, heard),
+        Op::Land { span, class, count } => {
+            is_live(space.life) && land_stands(space, client, span, class, count)
+        }
+    }
+}
+
+/// Whether the entry can come next in the journal of an arena that stands so.
+pub fn may_stand(space: &Space, entry: &Entry) -> bool
+    ensures { result ≡ stands space.now entry.now }
+{
+    entry.client < CLIENTS && op_stands(space, entry.client, &entry.op)
+}
