@@ -1,14 +1,12 @@
 -- What an exchange of extents does to sums, facts and filters, and that one extent alone begins at a page.
-use Rattle.std.proofs.Common.{◌≡◌, ℕ, ◌+◌, ◌<◌, ◌≤◌, Bool, true, false, not, cond, List, [], ◌∷◌, ◌++◌, Option, Some, None, refl, sym, ◌∙◌, ap, subst, arith, All, append-nil, filter, find, ltb, eqb, ◌&&◌}
-use Rattle.std.specs.List.{sum_by, count_by}
+use Rattle.std.proofs.Common.{◌≡◌, ℕ, ◌+◌, ◌<◌, ◌≤◌, Bool, true, false, not, cond, List, [], ◌∷◌, ◌++◌, Some, refl, sym, ◌∙◌, ap, subst, arith, All, append-nil, filter, find}
+use Rattle.std.specs.List.{sum_by}
 use Rattle.std.proofs.lemmas.List.Sums.{sum_by-append, sum_by-cons}
 use Rattle.std.proofs.lemmas.List.Filters.{sum_by-filter_both}
-use Rattle.std.proofs.lemmas.List.Elements.{All-append, All-filter, All-head, All-tail, All-cons, All-nil, filter-append}
-use Rattle.std.proofs.lemmas.Grind.{common_steps}
+use Rattle.std.proofs.lemmas.List.Elements.{All-append, All-filter, All-head, All-tail, filter-append}
 use Rattle.std.proofs.lemmas.Bool.Decides.{nat_tests}
 use Rattle.space_model.specs.declared.parts.Part.{Part}
-use Rattle.space_model.specs.declared.parts.Span.{Span}
-use Rattle.space_model.specs.Span.{has_page, end_of}
+use Rattle.space_model.specs.Span.{has_page}
 use Rattle.space_model.specs.Part.{exchanged, begins_at, holders}
 
 -- a sum after an exchange

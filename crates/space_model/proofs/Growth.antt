@@ -1,19 +1,17 @@
 -- An answered span against which nothing speaks shares no page with the extents.
-use Rattle.std.proofs.Common.{◌≡◌, ℕ, suc, zero, ◌+◌, ◌-◌, ◌*◌, ◌/◌, ◌%◌, ◌<◌, ◌≤◌, Bool, true, false, not, cond, ◌==◌, List, [], ◌∷◌, length, get_or, Option, Some, None, refl, sym, ◌∙◌, ap, subst, arith, find, ◌&&◌, ◌||◌, ◌⊎◌, inl, inr}
-use Rattle.std.specs.List.{list_any, range_with_len}
+use Rattle.std.proofs.Common.{◌≡◌, ℕ, suc, zero, ◌+◌, ◌-◌, ◌/◌, ◌%◌, ◌<◌, ◌≤◌, Bool, true, false, not, cond, ◌==◌, List, [], ◌∷◌, length, get_or, Option, Some, None, refl, ◌∙◌, subst, arith, find, ◌||◌}
+use Rattle.std.specs.List.{list_any}
 use Rattle.std.specs.Option.{option_map}
 use Rattle.std.proofs.lemmas.List.Sums.{sum_by-cons}
 use Rattle.std.proofs.lemmas.List.FromFn.{get_or-range_with_len, length-range_with_len}
 use Rattle.std.proofs.lemmas.Bool.Decides.{nat_tests}
-use Rattle.space_model.specs.declared.entries.Why.{Why}
 use Rattle.space_model.specs.declared.entries.Why.TheVariants.{OffSpace, Unaligned, Meets}
 use Rattle.space_model.specs.declared.parts.Part.{Part}
 use Rattle.space_model.specs.declared.parts.Span.{Span}
-use Rattle.space_model.specs.Span.{IsPlaced, has_page, meets, chunk_span, chunks_of, end_of, pages_end}
+use Rattle.space_model.specs.Span.{has_page, meets, chunk_span, chunks_of, end_of}
 use Rattle.space_model.specs.Part.{holders}
 use Rattle.space_model.specs.Step.{is_owned, is_found, is_in_space, why_not}
 use Rattle.space_model.proofs.Exchange.{share}
-use Rattle.space_model.proofs.Pieces.{both_true}
 
 -- where nothing is found, nothing passes
 find_nothing : {X : Type 0} (test : X → Bool) (xs : List X) → find test xs ≡ None → (k : ℕ) (d : X) → k < length xs → test (get_or xs k d) ≡ false

@@ -1,11 +1,9 @@
 -- An exchange of extents that serve no region keeps a space sound.
-use Rattle.std.proofs.Common.{◌≡◌, ℕ, ◌+◌, ◌*◌, ◌<◌, ◌≤◌, ◌≢◌, Bool, true, false, not, cond, IsTrue, List, [], ◌∷◌, ◌++◌, Option, Some, None, refl, sym, ◌∙◌, ap, subst, arith, All, filter, find, ◌&&◌}
-use Rattle.std.specs.List.{sum_by, count_by}
+use Rattle.std.proofs.Common.{◌≡◌, ℕ, ◌+◌, ◌<◌, ◌≤◌, ◌≢◌, Bool, true, false, cond, IsTrue, List, [], ◌∷◌, ◌++◌, Some, refl, sym, ◌∙◌, ap, subst, arith, All, filter, find, ◌&&◌}
 use Rattle.std.proofs.lemmas.List.Sums.{sum_by-append, sum_by-cons}
-use Rattle.std.proofs.lemmas.List.Elements.{All-weaker, All-head, All-tail, All-append, All-cons, All-nil}
+use Rattle.std.proofs.lemmas.List.Elements.{All-weaker, All-head, All-tail, All-append}
 use Rattle.space_model.specs.declared.parts.Part.{Part}
 use Rattle.space_model.specs.declared.parts.Region.{Region}
-use Rattle.space_model.specs.declared.parts.Span.{Span}
 use Rattle.space_model.specs.declared.spaces.Space.{Space}
 use Rattle.space_model.specs.declared.spaces.Life.{Life}
 use Rattle.space_model.specs.declared.spaces.Life.TheVariants.{Live}

@@ -1,9 +1,9 @@
 -- A region that lands in a committed extent in flight keeps a space sound.
-use Rattle.std.proofs.Common.{◌≡◌, ℕ, ◌+◌, ◌-◌, ◌*◌, ◌/◌, ◌%◌, ◌<◌, ◌≤◌, ◌≢◌, Bool, true, false, not, cond, IsTrue, List, [], ◌∷◌, ◌++◌, length, get_or, take, drop, Option, Some, None, refl, sym, ◌∙◌, ap, subst, arith, All, filter, find, insert, ◌&&◌, ◌==◌, eqb, ltb as nat_lt, append-nil}
-use Rattle.std.specs.List.{sum_by, count_by, position_or_len}
+use Rattle.std.proofs.Common.{◌≡◌, ℕ, ◌+◌, ◌*◌, ◌/◌, ◌%◌, ◌<◌, ◌≤◌, ◌≢◌, Bool, true, false, not, cond, IsTrue, List, [], ◌∷◌, ◌++◌, get_or, take, drop, Some, refl, sym, ◌∙◌, ap, subst, arith, All, filter, find, insert, eqb, ltb as nat_lt}
+use Rattle.std.specs.List.{sum_by, position_or_len}
 use Rattle.std.proofs.lemmas.List.{take-append-drop}
 use Rattle.std.proofs.lemmas.List.Sums.{sum_by-append, sum_by-cons, sum_by-insert, get_or-le-sum_by, sum_by-le-sum_by}
-use Rattle.std.proofs.lemmas.List.Elements.{All-weaker, All-append, All-cons, All-nil, All-head, All-tail, All-take, All-drop, All-filter, All-push, filter-append}
+use Rattle.std.proofs.lemmas.List.Elements.{All-weaker, All-append, All-cons, All-nil, All-head, All-tail, All-take, All-drop, All-filter, filter-append}
 use Rattle.std.proofs.lemmas.Bool.Decides.{nat_tests}
 use Rattle.std.proofs.lemmas.Nat.{mul-mod_first}
 use Rattle.size_classes.specs.Classes.{size_at, pages_at, align_at}
@@ -15,13 +15,13 @@ use Rattle.space_model.specs.declared.parts.State.TheVariants.{Active}
 use Rattle.space_model.specs.declared.spaces.Space.{Space}
 use Rattle.space_model.specs.declared.spaces.Life.{Life}
 use Rattle.space_model.specs.declared.spaces.Life.TheVariants.{Live}
-use Rattle.space_model.specs.Span.{IsPlaced, has_page, end_of}
+use Rattle.space_model.specs.Span.{IsPlaced, has_page}
 use Rattle.space_model.specs.Part.{exchanged, begins_at, holders, is_active, is_flight, is_backed, rest_of}
 use Rattle.space_model.specs.Region.{address_of, covers, sharers, lies_in, houses, homes, residents, fills, inserted, is_held_by}
 use Rattle.space_model.specs.Own.{mine}
 use Rattle.space_model.specs.Sound.{Sound, IsQuiet}
 use Rattle.space_model.proofs.Exchange.{share, All-exchanged, sum_by-replaced, filter-replaced, find_has}
-use Rattle.space_model.proofs.Idle.{serves, idle-houses, idle-serves, some_pages, false_true, Keeps}
+use Rattle.space_model.proofs.Idle.{serves, idle-serves, some_pages, false_true, Keeps}
 use Rattle.space_model.proofs.Pieces.{different, others-flight}
 
 -- 1 for true, 0 for false
@@ -36,9 +36,9 @@ All-insert P xs i x all here = All-append P (take i xs) (x ∷ drop i xs) (All-t
 filter-insert : {X : Type 0} (f : X → Bool) (xs : List X) (i : ℕ) (x : X) → f x ≡ false → filter f (insert xs i x) ≡ filter f xs
 filter-insert f xs i x fails =
     filter-append f (take i xs) (x ∷ drop i xs)
-        ∙ ap (λ b. filter f (take i xs) ++ cond b (x ∷ filter f (drop i xs)) (filter f (drop i xs))) fails
-        ∙ sym (filter-append f (take i xs) (drop i xs))
-        ∙ ap (filter f) (take-append-drop i xs)
+    ∙ ap (λ b. filter f (take i xs) ++ cond b (x ∷ filter f (drop i xs)) (filter f (drop i xs))) fails
+    ∙ sym (filter-append f (take i xs) (drop i xs))
+    ∙ ap (filter f) (take-append-drop i xs)
 
 -- where a sum is nothing, each term is
 sum_nothing : {X : Type 0} (f : X → ℕ) (xs : List X) → sum_by f xs ≡ 0 → All (λ x. f x ≡ 0) xs
@@ -54,7 +54,7 @@ nothing_sum f (x ∷ xs) none =
 serves-le-share : (byte : ℕ) (r : Region) (p : Part) → covers byte r ≡ true → serves r p ≤ share (byte / 4096) p
 serves-le-share byte r p has =
     elim (houses p r) as (λ b. houses p r ≡ b → cond b 1 0 ≤ share (byte / 4096) p)
-      [ false ↦ λ h. omega arith | true ↦ λ h. grind (arith, nat_tests) ] refl
+    [ false ↦ λ h. omega arith | true ↦ λ h. grind (arith, nat_tests) ] refl
 
 -- a multiple of 4096 is a multiple of what divides 4096
 divides_product : (n a : ℕ) → 1 ≤ a → 4096 % a ≡ 0 → (4096 * n) % a ≡ 0
@@ -107,16 +107,25 @@ without {c} {s} {p} {r} site f =
 settled_sum : {c : ℕ} {s : Space} {p : Part} {r : Region} → Site c s p r → (f : Part → ℕ) →
     sum_by f (exchanged (begins_at p.span.first) s.parts (settled p ∷ [])) + f p ≡ sum_by f s.parts + f (settled p)
 settled_sum {c} {s} {p} {r} site f =
-    omega (arith, sum_by-cons f (settled p) [],
-        sum_by-replaced f site.test s.parts (settled p ∷ []) p (some_pages s.parts site.sound.placed) (site.sound.owners p.span.first) site.found)
+    omega (
+      arith,
+      sum_by-cons f (settled p) [],
+      sum_by-replaced f site.test s.parts (settled p ∷ []) p (some_pages s.parts site.sound.placed) (site.sound.owners p.span.first) site.found,
+    )
 
 -- no region that was there has a byte in the extent
 none_inside : {c : ℕ} {s : Space} {p : Part} {r : Region} → Site c s p r → (old : Region) → homes old s.parts ≡ 1 → (byte : ℕ) →
     covers byte old ≡ true → share (byte / 4096) p ≡ 0
 none_inside {c} {s} {p} {r} site old home byte has =
-    omega (arith, home, idle-serves p old site.idle, without site (serves old), without site (share (byte / 4096)),
-        site.sound.owners (byte / 4096),
-        sum_by-le-sum_by (serves old) (share (byte / 4096)) (others_of s p) (λ x. serves-le-share byte old x has))
+    omega (
+      arith,
+      home,
+      idle-serves p old site.idle,
+      without site (serves old),
+      without site (share (byte / 4096)),
+      site.sound.owners (byte / 4096),
+      sum_by-le-sum_by (serves old) (share (byte / 4096)) (others_of s p) (λ x. serves-le-share byte old x has),
+    )
 
 -- a region has the byte at its address
 covers_start : (r : Region) → 8 ≤ size_at r.class → covers r.addr r ≡ true
@@ -130,7 +139,7 @@ none_served {c} {s} {p} {r} site old home class =
     let none : share (old.addr / 4096) (settled p) ≡ 0 = none_inside site old home old.addr has in
     let few = serves-le-share old.addr old (settled p) has in
     elim (houses (settled p) old) as (λ b. cond b 1 0 ≤ share (old.addr / 4096) (settled p) → b ≡ false)
-      [ true ↦ λ h. absurd (omega (arith, none, h)) | false ↦ λ h. refl ] few
+    [ true ↦ λ h. absurd (omega (arith, none, h)) | false ↦ λ h. refl ] few
 
 -- the settled extent serves the region
 serves_new : {c : ℕ} {s : Space} {p : Part} {r : Region} → Site c s p r → houses (settled p) r ≡ true
@@ -146,8 +155,13 @@ none_other {c} {s} {p} {r} site =
     let some : 0 < p.span.pages = find_has (λ q. 0 < q.span.pages) site.test s.parts p (some_pages s.parts site.sound.placed) site.found in
     let at : r.addr / 4096 ≡ p.span.first = omega (arith, site.start) in
     let one : share (r.addr / 4096) p ≡ 1 = rw at (first_share p some) in
-    omega (arith, one, without site (share (r.addr / 4096)), site.sound.owners (r.addr / 4096),
-        sum_by-le-sum_by (serves r) (share (r.addr / 4096)) (others_of s p) (λ x. serves-le-share r.addr r x has))
+    omega (
+      arith,
+      one,
+      without site (share (r.addr / 4096)),
+      site.sound.owners (r.addr / 4096),
+      sum_by-le-sum_by (serves r) (share (r.addr / 4096)) (others_of s p) (λ x. serves-le-share r.addr r x has),
+    )
 
 -- the large regions of a sound space, as its fact says it of one region and one extent
 abbrev LargeAt : List Region → Region → Part → Type 0
@@ -196,15 +210,19 @@ landed_keeps {c} {s} {p} {r} site =
     let one : serves r (settled p) ≡ 1 = ap ones here in
     let nowhere : homes r s.parts ≡ 0 = omega (arith, none_other site, without site (serves r), idle-serves p r site.idle) in
     let none_kept : All (λ q. serves r q ≡ 0) kept =
-        sum_nothing (serves r) kept (omega (arith, none_other site, sum_by-append (serves r) kept [])) in
+    sum_nothing (serves r) kept (omega (arith, none_other site, sum_by-append (serves r) kept [])) in
     let old_homes : All (λ q. homes q s.parts ≡ 1) s.regions = sound.homes in
     let not_settled : All (λ q. houses (settled p) q ≡ false) s.regions =
-        λ k d h. none_served site (get_or s.regions k d) (sound.homes k d h) (sound.classes k d h) in
+    λ k d h. none_served site (get_or s.regions k d) (sound.homes k d h) (sound.classes k d h) in
     let pages : (page : ℕ) → holders page parts ≡ holders page s.parts = λ page. omega (arith, settled_sum site (share page)) in
     let alone : residents (settled p) regions ≡ 1 =
-        omega (arith, sum_by-insert (serves_by (settled p)) s.regions place r, one,
-            nothing_sum (serves_by (settled p)) s.regions (All-weaker (λ q. houses (settled p) q ≡ false) (λ q. serves_by (settled p) q ≡ 0)
-                (λ q h. ap ones h) s.regions not_settled)) in
+    omega (
+      arith,
+      sum_by-insert (serves_by (settled p)) s.regions place r,
+      one,
+      nothing_sum (serves_by (settled p)) s.regions (All-weaker (λ q. houses (settled p) q ≡ false) (λ q. serves_by (settled p) q ≡ 0)
+          (λ q h. ap ones h) s.regions not_settled),
+    ) in
     record {
       sound = record {
         owners = λ page. omega (arith, pages page, sound.owners page);
@@ -213,40 +231,46 @@ landed_keeps {c} {s} {p} {r} site =
         offered = sound.offered;
         backed = All-exchanged (λ q. IsTrue (is_backed (rest_of q.state)) → IsTrue q.committed) gone s.parts (settled p ∷ []) sound.backed
             (All-cons (λ q. IsTrue (is_backed (rest_of q.state)) → IsTrue q.committed) (settled p) [] (λ h. site.committed)
-                (All-nil (λ q. IsTrue (is_backed (rest_of q.state)) → IsTrue q.committed)));
+            (All-nil (λ q. IsTrue (is_backed (rest_of q.state)) → IsTrue q.committed)));
         homes = All-insert (λ q. homes q parts ≡ 1) s.regions place r
             (λ k d h. let old = get_or s.regions k d in
-                omega (arith, settled_sum site (serves old), idle-serves p old site.idle, sound.homes k d h,
-                    ap ones (not_settled k d h)))
+            omega (
+              arith,
+              settled_sum site (serves old),
+              idle-serves p old site.idle,
+              sound.homes k d h,
+              ap ones (not_settled k d h),
+            ))
             (omega (arith, settled_sum site (serves r), idle-serves p r site.idle, nowhere, one));
         used = All-append (λ q. IsTrue (is_active q.state) → 0 < residents q regions) kept (settled p ∷ [])
             (All-weaker (λ q. IsTrue (is_active q.state) → 0 < residents q s.regions) (λ q. IsTrue (is_active q.state) → 0 < residents q regions)
-                (λ q h act. omega (arith, h act, sum_by-insert (serves_by q) s.regions place r)) kept
-                (All-filter (λ q. not (gone q)) (λ q. IsTrue (is_active q.state) → 0 < residents q s.regions) s.parts sound.used))
+            (λ q h act. omega (arith, h act, sum_by-insert (serves_by q) s.regions place r)) kept
+            (All-filter (λ q. not (gone q)) (λ q. IsTrue (is_active q.state) → 0 < residents q s.regions) s.parts sound.used))
             (All-cons (λ q. IsTrue (is_active q.state) → 0 < residents q regions) (settled p) [] (λ act. omega (arith, alone))
-                (All-nil (λ q. IsTrue (is_active q.state) → 0 < residents q regions)));
+            (All-nil (λ q. IsTrue (is_active q.state) → 0 < residents q regions)));
         large = All-insert (λ q. All (LargeAt regions q) parts) s.regions place r
             (λ k d h. let old = get_or s.regions k d in
-                All-append (LargeAt regions old) kept (settled p ∷ [])
-                    (λ j e i. let q = get_or kept j e in λ home big.
-                        let was = All-filter (λ x. not (gone x)) (LargeAt s.regions old) s.parts (sound.large k d h) j e i home big in
-                        (was.0, omega (arith, was.1, sum_by-insert (serves_by q) s.regions place r, none_kept j e i)))
-                    (All-cons (LargeAt regions old) (settled p) []
-                        (λ home big. absurd (false_true (subst IsTrue (not_settled k d h) home))) (All-nil (LargeAt regions old))))
+            All-append (LargeAt regions old) kept (settled p ∷ [])
+            (λ j e i. let q = get_or kept j e in λ home big.
+            let was = All-filter (λ x. not (gone x)) (LargeAt s.regions old) s.parts (sound.large k d h) j e i home big in
+            (was.0, omega (arith, was.1, sum_by-insert (serves_by q) s.regions place r, none_kept j e i)))
+            (All-cons (LargeAt regions old) (settled p) []
+            (λ home big. absurd (false_true (subst IsTrue (not_settled k d h) home))) (All-nil (LargeAt regions old))))
             (All-append (LargeAt regions r) kept (settled p ∷ [])
-                (λ j e i. λ home big. absurd (serves_none r (get_or kept j e) (none_kept j e i) home))
-                (All-cons (LargeAt regions r) (settled p) [] (λ home big. (fills_start (settled p) r site.start site.pages, alone)) (All-nil (LargeAt regions r))));
+            (λ j e i. λ home big. absurd (serves_none r (get_or kept j e) (none_kept j e i) home))
+            (All-cons (LargeAt regions r) (settled p) [] (λ home big. (fills_start (settled p) r site.start site.pages, alone)) (All-nil (LargeAt regions r))));
         classes = All-insert (λ q. q.class < 121) s.regions place r sound.classes site.class;
         aligned = All-insert (λ q. q.addr % align_at q.class ≡ 0) s.regions place r sound.aligned (start_aligned p.span.first r site.start site.class);
-        apart = λ byte. elim (covers byte r) as (λ b. covers byte r ≡ b → sharers byte regions ≤ 1)
-          [ false ↦ λ h. (let none : covered byte r ≡ 0 = ap ones h in
-                omega (arith, none, sum_by-insert (covered byte) s.regions place r, sound.apart byte))
+        apart = λ byte. elim (covers byte r) as (λ b. covers byte r ≡ b → sharers byte regions ≤ 1) [
+          | false ↦ λ h. (let none : covered byte r ≡ 0 = ap ones h in
+              omega (arith, none, sum_by-insert (covered byte) s.regions place r, sound.apart byte))
           | true ↦ λ h. (let has : share (byte / 4096) p ≡ 1 = byte_share byte p r (serves-le-share byte r (settled p) h) one in
-                let nobody : sharers byte s.regions ≡ 0 = nothing_sum (covered byte) s.regions
-                    (λ k d i. let old = get_or s.regions k d in elim (covers byte old) as (λ b. covers byte old ≡ b → ones b ≡ 0)
-                        [ false ↦ λ j. refl | true ↦ λ j. absurd (omega (arith, has, none_inside site old (sound.homes k d i) byte j)) ] refl) in
-                let most : covered byte r ≡ 1 = ap ones h in
-                omega (arith, nobody, most, sum_by-insert (covered byte) s.regions place r)) ] refl;
+              let nobody : sharers byte s.regions ≡ 0 = nothing_sum (covered byte) s.regions
+              (λ k d i. let old = get_or s.regions k d in elim (covers byte old) as (λ b. covers byte old ≡ b → ones b ≡ 0)
+              [ false ↦ λ j. refl | true ↦ λ j. absurd (omega (arith, has, none_inside site old (sound.homes k d i) byte j)) ] refl) in
+              let most : covered byte r ≡ 1 = ap ones h in
+              omega (arith, nobody, most, sum_by-insert (covered byte) s.regions place r))
+        ] refl;
         quiet = subst (λ (l : Life). IsQuiet l (record s { parts = parts; regions = regions })) (sym site.live) tt;
         box = sound.box;
         dirty = sound.dirty;
@@ -255,8 +279,8 @@ landed_keeps {c} {s} {p} {r} site =
       pages = pages;
       others = λ d other.
           let flights = filter-replaced (λ q. is_flight d q.state) site.test s.parts (settled p ∷ []) p (some_pages s.parts sound.placed)
-              (sound.owners p.span.first) site.found (others-flight c d p.state other site.flight) refl in
+          (sound.owners p.span.first) site.found (others-flight c d p.state other site.flight) refl in
           let held = filter-insert (is_held_by d) s.regions place r (not_held c d r site.holder other) in
           ap (λ (q : List Part × List Region). record (mine d s) { flights = q.0; regions = q.1 })
-             (cc (flights, held));
+          (cc (flights, held));
     }

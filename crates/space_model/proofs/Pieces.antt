@@ -1,22 +1,20 @@
 -- The pieces that each operation puts in an extent's place: idle, and with no page that it hadn't.
-use Rattle.std.proofs.Common.{◌≡◌, ℕ, ◌+◌, ◌-◌, ◌*◌, ◌<◌, ◌≤◌, ◌≢◌, Bool, true, false, not, cond, IsTrue, List, [], ◌∷◌, ◌++◌, Option, Some, None, refl, sym, ◌∙◌, ap, subst, arith, All, find, ◌&&◌, eqb, ltb, leb, ◌⊎◌, inl, inr}
+use Rattle.std.proofs.Common.{◌≡◌, ℕ, ◌+◌, ◌<◌, ◌≢◌, Bool, true, false, cond, IsTrue, List, [], ◌∷◌, Some, None, refl, sym, ap, subst, arith, find, ◌&&◌, eqb}
 use Rattle.std.specs.Option.{option_or}
-use Rattle.std.specs.List.{sum_by, count_by, list_any}
 use Rattle.std.proofs.lemmas.List.Sums.{sum_by-cons}
 use Rattle.std.proofs.lemmas.List.Elements.{All-cons, All-nil}
 use Rattle.std.proofs.lemmas.Bool.Decides.{nat_tests}
 use Rattle.space_model.specs.declared.parts.Part.{Part}
-use Rattle.space_model.specs.declared.parts.Span.{Span}
 use Rattle.space_model.specs.declared.parts.Rest.{Rest}
 use Rattle.space_model.specs.declared.parts.Rest.TheVariants.{Dirty as ToDirty, Muzzy as ToMuzzy, Retained as ToRetained}
 use Rattle.space_model.specs.declared.parts.State.{State}
 use Rattle.space_model.specs.declared.parts.State.TheVariants.{Active, Dirty, Muzzy, Retained, Flight}
-use Rattle.space_model.specs.Span.{IsPlaced, same_span, has_page, end_of}
-use Rattle.space_model.specs.Part.{holders, is_active, is_listed, is_flight, is_flight_at, is_backed, rest_of, listed, taken_out, put_down}
-use Rattle.space_model.specs.Fit.{fit, fit_of, is_best, is_candidate, is_better}
+use Rattle.space_model.specs.Span.{IsPlaced, has_page}
+use Rattle.space_model.specs.Part.{is_active, is_listed, is_flight, is_backed, rest_of, listed}
+use Rattle.space_model.specs.Fit.{fit, fit_of, is_best, is_candidate}
 use Rattle.space_model.specs.Step.{low_piece, high_piece}
 use Rattle.space_model.proofs.Exchange.{share, find_passes}
-use Rattle.space_model.proofs.Idle.{Idle, Replaces}
+use Rattle.space_model.proofs.Idle.{Replaces}
 
 -- the parts of a conjunction that is true
 pub both_true : (a b : Bool) → (a && b) ≡ true → (a ≡ true) × (b ≡ true)

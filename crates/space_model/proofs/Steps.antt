@@ -1,6 +1,5 @@
 -- Each operation keeps a sound space sound, accounts for its pages, and leaves what other clients own as it was.
-use Rattle.std.proofs.Common.{◌≡◌, ℕ, ◌+◌, ◌-◌, ◌*◌, ◌<◌, ◌≤◌, ◌≢◌, Bool, true, false, not, cond, IsTrue, List, [], ◌∷◌, ◌++◌, Option, Some, None, refl, sym, ◌∙◌, ap, subst, arith, All, filter, find, ◌&&◌, ◌||◌, ◌==◌, eqb, ltb as nat_lt, leb as nat_le, append-nil}
-use Rattle.std.specs.List.{list_any}
+use Rattle.std.proofs.Common.{◌≡◌, ℕ, ◌+◌, ◌*◌, ◌^◌, ◌<◌, ◌≤◌, ◌≢◌, Bool, true, false, cond, IsTrue, List, [], ◌∷◌, ◌++◌, Option, Some, None, refl, sym, ◌∙◌, ap, subst, arith, filter, find, ◌&&◌, ◌||◌, ◌==◌, Result, Ok, Err, IfOk, OnOk, OnErr, ltb as nat_lt, leb as nat_le, append-nil}
 use Rattle.std.specs.Int.{is_power_of_two}
 use Rattle.std.proofs.lemmas.List.Sums.{fold_push, sum_by-append, sum_by-cons}
 use Rattle.std.proofs.lemmas.List.Elements.{filter-append}
@@ -16,7 +15,7 @@ use Rattle.space_model.specs.declared.entries.Entry.{Entry}
 use Rattle.space_model.specs.declared.entries.Op.{Op}
 use Rattle.space_model.specs.declared.entries.Op.TheVariants.{Look, CutDone, GrowDone, CommitDone, Land}
 use Rattle.space_model.specs.declared.entries.Reply.{Reply}
-use Rattle.space_model.specs.declared.entries.Reply.TheVariants.{NoArena, Noted, Refused, Bad, Grown}
+use Rattle.space_model.specs.declared.entries.Reply.TheVariants.{NoArena, Noted, Refused, Bad}
 use Rattle.space_model.specs.declared.entries.Why.{Why}
 use Rattle.space_model.specs.declared.parts.Part.{Part}
 use Rattle.space_model.specs.declared.parts.Region.{Region}
@@ -25,18 +24,18 @@ use Rattle.space_model.specs.declared.spaces.Life.{Life}
 use Rattle.space_model.specs.declared.spaces.Life.TheVariants.{Live, Absent, Dying}
 use Rattle.space_model.specs.declared.spaces.Space.{Space}
 use Rattle.space_model.specs.Span.{IsPlaced, same_span, has_page, end_of, pages_end}
-use Rattle.space_model.specs.Part.{holders, is_active, is_flight, is_flight_at, is_backed, rest_of, listed, taken_out, put_down}
+use Rattle.space_model.specs.Part.{holders, is_active, is_flight, is_flight_at, is_backed, rest_of, taken_out, put_down}
 use Rattle.space_model.specs.Region.{address_of}
 use Rattle.space_model.specs.Fit.{fit}
-use Rattle.space_model.specs.Step.{is_live, stays, after_look, look_at, after_cut, cut_at, whole_at, low_piece, high_piece, after_grow, grow_unless, new_part, why_not, after_commit, commit_at, land_at, landed, step_of, space_after, reply_to, cut_stands, grow_stands, commit_stands, land_stands, found_passes, has_flight, op_stands, stands}
+use Rattle.space_model.specs.Step.{is_live, stays, after_look, look_at, after_cut, cut_at, whole_at, low_piece, high_piece, after_grow, grow_unless, new_part, why_not, after_commit, commit_at, land_at, step_of, space_after, reply_to, cut_stands, grow_stands, land_stands, found_passes, is_yes_or_no, op_stands, stands}
 use Rattle.space_model.specs.Sound.{Sound}
 use Rattle.space_model.specs.Journal.{granted_by, granted, Good}
 use Rattle.space_model.specs.Own.{mine}
 use Rattle.space_model.proofs.Exchange.{share, find_has, find_passes}
-use Rattle.space_model.proofs.Idle.{Idle, Keeps, Replaces, replaced_keeps, Sound-joined, mine_with, false_true}
+use Rattle.space_model.proofs.Idle.{Keeps, replaced_keeps, Sound-joined, mine_with, false_true}
 use Rattle.space_model.proofs.Pieces.{both_true, listed-idle, flight-idle, put_down-rest, put_down-idle, put_down-nobody, listed-nobody, others-flight, Listed, fit-listed, one_replaces, two_replace}
-use Rattle.space_model.proofs.Growth.{Free, why_not-free, free-holders}
-use Rattle.space_model.proofs.Landing.{Site, landed_keeps, settled}
+use Rattle.space_model.proofs.Growth.{why_not-free, free-holders}
+use Rattle.space_model.proofs.Landing.{Site, landed_keeps}
 
 -- a space that stays as it was keeps everything
 pub stays_keeps : (c : ℕ) (s : Space) → Sound s → Keeps c s s
@@ -60,16 +59,18 @@ taken_keeps c s p sound live at =
     let placed = find_has (λ q. IsPlaced q.span) at.test s.parts p sound.placed at.found in
     let backed = find_has (λ q. IsTrue (is_backed (rest_of q.state)) → IsTrue q.committed) at.test s.parts p sound.backed at.found in
     replaced_keeps c s at.test p (taken_out c p ∷ []) sound live at.found (listed-idle at.rest p.state at.is_in)
-        (λ d other. listed-nobody d at.rest p.state at.is_in)
-        (one_replaces c p (taken_out c p) placed refl refl backed (λ d other. not_both d c other))
+    (λ d other. listed-nobody d at.rest p.state at.is_in)
+    (one_replaces c p (taken_out c p) placed refl refl backed (λ d other. not_both d c other))
 
 look_keeps : (c : ℕ) (s : Space) (pages align : ℕ) → Sound s → Keeps c s (after_look s c pages align).after
 look_keeps c s pages align sound =
-    elim (is_live s.life) as (λ b. is_live s.life ≡ b → Keeps c s (cond b (look_at s c align (fit pages align s.parts)) (stays s NoArena)).after)
-      [ false ↦ λ h. stays_keeps c s sound
-      | true ↦ λ h. elim (fit pages align s.parts) as (λ o. fit pages align s.parts ≡ o → Keeps c s (look_at s c align o).after)
-          [ None ↦ λ e. stays_keeps c s sound
-          | Some p ↦ λ e. taken_keeps c s p sound (live_is s.life h) (fit-listed pages align s.parts p e) ] refl ] refl
+    elim (is_live s.life) as (λ b. is_live s.life ≡ b → Keeps c s (cond b (look_at s c align (fit pages align s.parts)) (stays s NoArena)).after) [
+      | false ↦ λ h. stays_keeps c s sound
+      | true ↦ λ h. elim (fit pages align s.parts) as (λ o. fit pages align s.parts ≡ o → Keeps c s (look_at s c align o).after) [
+        | None ↦ λ e. stays_keeps c s sound
+        | Some p ↦ λ e. taken_keeps c s p sound (live_is s.life h) (fit-listed pages align s.parts p e)
+      ] refl
+    ] refl
 
 -- ---- extents in flight
 
@@ -110,8 +111,8 @@ whole_keeps c s span None e sound live = stays_keeps c s sound
 whole_keeps c s span (Some p) e sound live =
     let at = flight_at c s span p sound live e in
     replaced_keeps c s (is_flight_at c span) p (put_down p ∷ []) sound at.live at.found at.idle (λ d other. others-flight c d p.state other at.own)
-        (one_replaces c p (put_down p) at.placed refl (put_down-idle (rest_of p.state)) (put_down_backed p at.backed)
-            (λ d other. put_down-nobody d (rest_of p.state)))
+    (one_replaces c p (put_down p) at.placed refl (put_down-idle (rest_of p.state)) (put_down_backed p at.backed)
+    (λ d other. put_down-nobody d (rest_of p.state)))
 
 -- ---- CutDone
 
@@ -121,17 +122,17 @@ cut_keeps c s span keep_low left None e sound live some fewer = stays_keeps c s 
 cut_keeps c s span true left (Some p) e sound live some fewer =
     let at = flight_at c s span p sound live e in
     let two = two_replace c p (low_piece left p) (put_down (high_piece left p)) left at.placed some (omega (arith, at.pages)) refl refl
-            at.idle (put_down-idle (rest_of p.state)) at.backed (put_down_backed p at.backed)
-            (λ d other. others-flight c d p.state other at.own) (λ d other. put_down-nobody d (rest_of p.state)) in
+    at.idle (put_down-idle (rest_of p.state)) at.backed (put_down_backed p at.backed)
+    (λ d other. others-flight c d p.state other at.own) (λ d other. put_down-nobody d (rest_of p.state)) in
     replaced_keeps c s (is_flight_at c span) p (put_down (high_piece left p) ∷ low_piece left p ∷ []) sound at.live at.found at.idle
-        (λ d other. others-flight c d p.state other at.own) two.1
+    (λ d other. others-flight c d p.state other at.own) two.1
 cut_keeps c s span false left (Some p) e sound live some fewer =
     let at = flight_at c s span p sound live e in
     let two = two_replace c p (put_down (low_piece left p)) (high_piece left p) left at.placed some (omega (arith, at.pages)) refl refl
-            (put_down-idle (rest_of p.state)) at.idle (put_down_backed p at.backed) at.backed
-            (λ d other. put_down-nobody d (rest_of p.state)) (λ d other. others-flight c d p.state other at.own) in
+    (put_down-idle (rest_of p.state)) at.idle (put_down_backed p at.backed) at.backed
+    (λ d other. put_down-nobody d (rest_of p.state)) (λ d other. others-flight c d p.state other at.own) in
     replaced_keeps c s (is_flight_at c span) p (put_down (low_piece left p) ∷ high_piece left p ∷ []) sound at.live at.found at.idle
-        (λ d other. others-flight c d p.state other at.own) two.0
+    (λ d other. others-flight c d p.state other at.own) two.0
 
 cut_done_keeps : (c : ℕ) (s : Space) (keep_low : Bool) (ask : Ask) (answer : Answer) → Sound s → is_live s.life ≡ true →
     cut_stands s c ask answer ≡ true → Keeps c s (after_cut s c keep_low ask answer).after
@@ -151,8 +152,8 @@ commit_keeps c s span None e sound live = stays_keeps c s sound
 commit_keeps c s span (Some p) e sound live =
     let at = flight_at c s span p sound live e in
     replaced_keeps c s (is_flight_at c span) p (record p { committed = true } ∷ []) sound at.live at.found at.idle
-        (λ d other. others-flight c d p.state other at.own)
-        (one_replaces c p (record p { committed = true }) at.placed refl at.idle (λ h. refl) (λ d other. others-flight c d p.state other at.own))
+    (λ d other. others-flight c d p.state other at.own)
+    (one_replaces c p (record p { committed = true }) at.placed refl at.idle (λ h. refl) (λ d other. others-flight c d p.state other at.own))
 
 commit_done_keeps : (c : ℕ) (s : Space) (ask : Ask) (answer : Answer) → Sound s → is_live s.life ≡ true →
     Keeps c s (after_commit s c ask answer).after
@@ -209,7 +210,7 @@ grow_done_keeps c s heard found (Alloc at pages align commit) Refuses sound live
 grow_done_keeps c s heard found (Alloc at pages align commit) (Placed first committed zeroed) sound live h =
     let within = both_true (nat_lt 0 pages && is_power_of_two align) _ h in
     grow_keeps c s heard found (record { first = first; pages = pages }) committed align
-        (why_not found align s.parts (record { first = first; pages = pages })) refl sound live (ltb-true _ _ (both_true (nat_lt 0 pages) _ within.0).0)
+    (why_not found align s.parts (record { first = first; pages = pages })) refl sound live (ltb-true _ _ (both_true (nat_lt 0 pages) _ within.0).0)
 grow_done_keeps c s heard found ask answer sound live h =
     kept_step c s (GrowDone heard found) s Noted (λ page before. refl) (stays_keeps c s sound)
 
@@ -249,8 +250,8 @@ land_done_keeps c s span class count sound live h =
     let one = both_true (nat_le 36 class && nat_lt class 121) _ pages.0 in
     let classes = both_true (nat_le 36 class) _ one.0 in
     subst (λ n. Keeps c s (land_at s c class n (find (is_flight_at c span) s.parts)).after) (sym (eqb-true _ _ one.1))
-        (land_keeps c s span class (find (is_flight_at c span) s.parts) refl sound live (leb-true _ _ classes.0) (ltb-true _ _ classes.1)
-            (eqb-true _ _ pages.1) committed.1)
+    (land_keeps c s span class (find (is_flight_at c span) s.parts) refl sound live (leb-true _ _ classes.0) (ltb-true _ _ classes.1)
+    (eqb-true _ _ pages.1) committed.1)
 
 -- ---- any operation
 
@@ -287,3 +288,42 @@ Good-step turns s entry good h =
       pages = λ page. keeps.pages page (granted page turns) (good.pages page)
           ∙ ap (λ (b : Bool). cond b 1 0) (sym (fold_push (λ (before : Bool) (turn : Entry × Reply). granted_by page before turn.0.op turn.1) false turns (entry, reply_to s entry)));
     }
+
+-- the numbers of an extent that may be cut
+pub cut_bounds : (c : ℕ) (s : Space) (span : Span) (left : ℕ) (answer : Answer) (p : Part) → Sound s →
+    IsTrue (cut_stands s c (Split span left) answer) → find (is_flight_at c span) s.parts ≡ Some p →
+    (left ≤ p.span.pages) × (p.span.first + p.span.pages < 2 ^ 64)
+cut_bounds c s span left answer p sound h found =
+    let whole = both_true (is_yes_or_no answer && nat_lt 0 left && nat_lt left span.pages) _ h in
+    let fewer = both_true (is_yes_or_no answer && nat_lt 0 left) (nat_lt left span.pages) whole.0 in
+    let passes = both_true (is_flight c p.state) (same_span p.span span) (find_passes (is_flight_at c span) s.parts p found) in
+    let same = both_true (p.span.first == span.first) (p.span.pages == span.pages) passes.1 in
+    let placed : IsPlaced p.span = find_has (λ q. IsPlaced q.span) (is_flight_at c span) s.parts p sound.placed found in
+    (omega (arith, ltb-true _ _ fewer.1, eqb-true _ _ same.1), omega (arith, placed.2))
+
+-- the first page of an extent is far from the end of the numbers
+pub found_first : (s : Space) (test : Part → Bool) (p : Part) → Sound s → find test s.parts ≡ Some p → p.span.first < 2 ^ 52
+found_first s test p sound found =
+    let placed : IsPlaced p.span = find_has (λ q. IsPlaced q.span) test s.parts p sound.placed found in omega (arith, placed.2)
+
+-- What a step's result leaves: the space after the entry, or the space as it was.
+pub record Outcome {E : Type 0} (s t : Space) (entry : Entry) (r : Result Reply E) : Type 0 where
+  pub after : OnOk r (t ≡ space_after s entry)
+  pub told : IfOk r (λ told. told ≡ reply_to s entry)
+  pub same : OnErr r (t ≡ s)
+
+pub Outcome-sound : {E : Type 0} (s t : Space) (entry : Entry) (r : Result Reply E) → Outcome s t entry r → Sound s → IsTrue (stands s entry) → Sound t
+Outcome-sound s t entry (Ok reply) out sound h = subst Sound (sym out.after) (entry_keeps s entry sound h).sound
+Outcome-sound s t entry (Err e) out sound h = subst Sound (sym out.same) sound
+
+pub Outcome-good : {E : Type 0} (s t : Space) (entry : Entry) (r : Result Reply E) → Outcome s t entry r → IsTrue (stands s entry) →
+    (turns : List (Entry × Reply)) → Good turns s → IfOk r (λ told. Good (turns ++ (entry, told) ∷ []) t)
+Outcome-good s t entry (Ok reply) out h turns good =
+    subst (λ (told : Reply). Good (turns ++ (entry, told) ∷ []) t) (sym out.told)
+    (subst (Good (turns ++ (entry, reply_to s entry) ∷ [])) (sym out.after) (Good-step turns s entry good h))
+Outcome-good s t entry (Err e) out h turns good = tt
+
+pub Outcome-others : {E : Type 0} (s t : Space) (entry : Entry) (r : Result Reply E) → Outcome s t entry r → Sound s → IsTrue (stands s entry) →
+    (d : ℕ) → d ≢ entry.client → mine d t ≡ mine d s
+Outcome-others s t entry (Ok reply) out sound h d other = ap (mine d) out.after ∙ (entry_keeps s entry sound h).others d other
+Outcome-others s t entry (Err e) out sound h d other = ap (mine d) out.same

@@ -1,5 +1,5 @@
 -- Which unused extent serves a request: first fit among the smallest, dirty before muzzy before retained.
-use Rattle.std.specs.Prelude.{ℕ, Bool, true, false, ◌==◌, ◌&&◌, ◌||◌, not, List, nat_lt, Option, None, Some, find}
+use Rattle.std.specs.Prelude.{ℕ, Bool, ◌==◌, ◌&&◌, ◌||◌, not, List, nat_lt, Option, find}
 use Rattle.std.specs.List.{list_any}
 use Rattle.std.specs.Option.{option_or}
 use Rattle.space_model.specs.declared.parts.Part.{Part}

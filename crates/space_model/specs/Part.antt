@@ -1,5 +1,5 @@
 -- The extents of an arena: their states, their pages, and the one form in which they change.
-use Rattle.std.specs.Prelude.{ℕ, Bool, true, false, ◌==◌, ◌&&◌, ◌||◌, not, List, ◌++◌, count_by}
+use Rattle.std.specs.Prelude.{ℕ, Bool, true, false, ◌==◌, ◌&&◌, not, List, ◌++◌, count_by}
 use Rattle.std.specs.List.{filter}
 use Rattle.space_model.specs.declared.parts.Span.{Span}
 use Rattle.space_model.specs.declared.parts.Part.{Part}

@@ -1,11 +1,8 @@
 -- What is always true of an arena.
-use Rattle.std.specs.Prelude.{◌≡◌, ℕ, ◌+◌, ◌*◌, ◌%◌, ◌<◌, ◌≤◌, ℤ, pos, negsuc, ◌≤ℤ◌, ◌==◌, Bool, true, false, IsTrue, List, [], All, AllPairs, filter}
+use Rattle.std.specs.Prelude.{◌≡◌, ℕ, ◌*◌, ◌%◌, ◌<◌, ◌≤◌, pos, negsuc, ◌≤ℤ◌, Bool, true, false, IsTrue, [], All, AllPairs}
 use Rattle.size_classes.specs.Classes.{align_at}
-use Rattle.space_model.specs.declared.parts.Part.{Part}
-use Rattle.space_model.specs.declared.parts.Offered.{Offered}
 use Rattle.space_model.specs.declared.parts.State.{State}
 use Rattle.space_model.specs.declared.parts.State.TheVariants.{Active, Dirty, Muzzy, Retained, Flight}
-use Rattle.space_model.specs.declared.spaces.Added.{Added}
 use Rattle.space_model.specs.declared.spaces.Pace.{Pace}
 use Rattle.space_model.specs.declared.spaces.Space.{Space}
 use Rattle.space_model.specs.declared.spaces.Life.{Life}

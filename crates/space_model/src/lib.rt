@@ -16,8 +16,8 @@ mod spaces;
 pub use asks::{Answer, Ask, Heard};
 pub use clients::Clients;
 pub use entries::{Entry, Op, Reply, Why};
-pub use plain::may_stand;
 pub use parts::{Offered, Offers, Part, Parts, Region, Regions, Rest, Span, State};
+pub use plain::{may_stand, plain_step};
 pub use seq::Seq;
 pub use spaces::{Added, Addeds, Life, Pace, Space};
 

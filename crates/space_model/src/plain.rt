@@ -7,5 +7,5 @@ mod finds;
 mod moves;
 mod stands;
 
-// pub use moves::plain_step;
+pub use moves::plain_step;
 pub use stands::may_stand;

@@ -113,9 +113,7 @@ fn has_better(rest: Rest, pages: u64, align: u64, parts: &[Part], part: &Part) -
     requires { 1 ≤ align }
     ensures { result ≡ list_any (λ q. is_candidate rest pages align q && is_better q part.now) parts.now }
 {
-    parts
-        .iter()
-        .any(|other| is_better_candidate(rest, pages, align, other, part))
+    parts.iter().any(|other| is_better_candidate(rest, pages, align, other, part))
 }
 
 /// Whether the extent is a candidate, and no candidate is better.
