@@ -11,7 +11,7 @@ const INLINE: usize = 8;
 /// A list of addresses. Contracts see the addresses in order, as `items`, and how many more fit, as `room`.
 ///
 /// No call but `reserve` takes memory.
-#[derive(Drop)]
+#[derive(Debug, Drop)]
 pub struct Addrs {
     list: SmallVec<u64, INLINE>,
 }
@@ -84,5 +84,21 @@ impl Addrs {
         ensures { result ≡ self.now.room }
     {
         self.list.capacity() - self.list.len()
+    }
+}
+
+/// Two lists are equal where their addresses are, whatever room is left.
+impl PartialEq for Addrs {
+    ghost use Rattle.std.specs.Prelude.{nat_eq};
+    ghost use Rattle.std.specs.Ordering.{on};
+    ghost use Rattle.std.specs.Cmp.Lexicographic.{pointwise};
+    ghost use Rattle.std.specs.Cmp.Rules.{comparing};
+
+    ghost eq = { on (λ a. a.items) (pointwise nat_eq) };
+
+    ghost laws = { Prim.search comparing };
+
+    fn eq(&self, other: &Addrs) -> bool {
+        self.as_slice() == other.as_slice()
     }
 }

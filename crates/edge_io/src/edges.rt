@@ -1,0 +1,82 @@
+//! The edge itself: std's readers as sources, and its writers as sinks.
+ghost use Rattle.std.specs.Prelude.{◌≡◌, false};
+
+use crate::traits::count_fault;
+use crate::{Failed, Sink, Source};
+use std::io::{Read, Write};
+
+/// A reader as a source. It tells what the reader tells.
+#[derive(Drop)]
+pub struct ReadEdge<R> {
+    inner: R,
+    faults: u64,
+    ended: bool,
+}
+
+impl<R: Read> ReadEdge<R> {
+    /// The reader as a source that has neither failed nor ended.
+    pub fn new(inner: R) -> ReadEdge<R>
+        ensures left { ⟦<ReadEdge<R> as Source>⟧.left result ≡ R.remaining inner }
+        ensures faults { ⟦<ReadEdge<R> as Source>⟧.faults result ≡ 0 }
+        ensures ended { ⟦<ReadEdge<R> as Source>⟧.ended result ≡ false }
+    {
+        ReadEdge {
+            inner,
+            faults: 0,
+            ended: false,
+        }
+    }
+}
+
+impl<R: Read> Source for ReadEdge<R> {
+    ghost left = { λ edge. R.remaining edge.inner };
+
+    ghost faults = { λ edge. edge.faults };
+
+    ghost ended = { λ edge. edge.ended };
+
+    fn read(&mut self, buf: &mut [u8]) -> Result<usize, Failed> {
+        let Ok(n) = self.inner.read(buf) else {
+            count_fault(&mut self.faults);
+            return Err(Failed);
+        };
+        if n == 0 && !buf.is_empty() {
+            self.ended = true;
+        }
+        Ok(n)
+    }
+}
+
+/// A writer as a sink. It tells what the writer tells.
+#[derive(Drop)]
+pub struct WriteEdge<W> {
+    inner: W,
+    faults: u64,
+}
+
+impl<W: Write> WriteEdge<W> {
+    /// The writer as a sink that hasn't failed.
+    pub fn new(inner: W) -> WriteEdge<W>
+        ensures held { ⟦<WriteEdge<W> as Sink>⟧.held result ≡ W.contents inner }
+        ensures faults { ⟦<WriteEdge<W> as Sink>⟧.faults result ≡ 0 }
+    {
+        WriteEdge { inner, faults: 0 }
+    }
+}
+
+impl<W: Write> Sink for WriteEdge<W> {
+    ghost held = { λ edge. W.contents edge.inner };
+
+    ghost faults = { λ edge. edge.faults };
+
+    fn write(&mut self, piece: &[u8]) -> Result<usize, Failed> {
+        let Ok(n) = self.inner.write(piece) else {
+            count_fault(&mut self.faults);
+            return Err(Failed);
+        };
+        if n == 0 && !piece.is_empty() {
+            count_fault(&mut self.faults);
+        }
+        Ok(n)
+    }
+}

@@ -1,0 +1,15 @@
+//! The program's edge: sources of bytes to read and sinks of bytes to write, which may fail.
+#![tactic(auto)]
+
+mod edges;
+mod memory;
+mod traits;
+mod whole;
+
+pub use edges::{ReadEdge, WriteEdge};
+pub use memory::{MemSink, MemSource};
+pub use traits::{Failed, Sink, Source};
+pub use whole::write_all;
+
+#[cfg(test)]
+mod tests;

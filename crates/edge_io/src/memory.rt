@@ -1,0 +1,185 @@
+//! A source and a sink that live in memory and fail at planned calls.
+ghost use Rattle.std.specs.Prelude.{◌≡◌, ℕ, ◌+◌, ◌-◌, ◌^◌, ◌<◌, ◌≤◌, ◌↔◌, ◌||◌, min, List, [], ◌++◌, length, take, drop, false, true, Some, IfOk, OnOk, OnErr, IsErr, IsTrue};
+ghost use Rattle.edge_io.specs.Bytes.{Consumes, Appends, Keeps, IsAtEnd, Rose, is_end};
+ghost use Rattle.edge_io.specs.Planned.{FailsNext};
+
+use crate::traits::count_fault;
+use crate::{Failed, Sink, Source};
+use std::alloc::Global;
+use std::marker::Model;
+
+/// A source of the bytes that it was made of. Contracts see it as a `PlannedSource`.
+#[derive(Drop)]
+pub struct MemSource {
+    bytes: Vec<u8>,
+    at: usize,
+    fail: Vec<u64>,
+    calls: u64,
+    faults: u64,
+    ended: bool,
+}
+
+impl Model for MemSource {
+    ghost use Rattle.std.specs.Prelude.{◌≡◌, ◌≤◌, drop, vec_len, true};
+    ghost use Rattle.edge_io.specs.Planned.{PlannedSource};
+
+    ghost Value = { PlannedSource };
+
+    ghost view = { λ s. record {
+      left = drop s.at s.bytes.items;
+      fail = s.fail.items;
+      calls = s.calls;
+      faults = s.faults;
+      ended = s.ended;
+    } };
+
+    // Where the end was met, nothing is left.
+    ghost invariant = { λ s. (s.at ≤ vec_len s.bytes) × (s.ended ≡ true → s.at ≡ vec_len s.bytes) };
+}
+
+impl MemSource {
+    /// A source of these bytes that fails at the calls whose ordinals stand in `fail`, and nowhere
+    /// else. The first call of `read` has the ordinal 1.
+    pub fn new(bytes: Vec<u8>, fail: Vec<u64>) -> MemSource
+        ensures left { result.left ≡ bytes.items }
+        ensures fail { result.fail ≡ fail.items }
+        ensures calls { result.calls ≡ 0 }
+        ensures faults { result.faults ≡ 0 }
+        ensures ended { result.ended ≡ false }
+    {
+        MemSource {
+            bytes,
+            at: 0,
+            fail,
+            calls: 0,
+            faults: 0,
+            ended: false,
+        }
+    }
+
+    /// Whether a read has met the end. Nothing is left then.
+    pub fn has_ended(&self) -> bool
+        ensures mark { result ≡ self.now.ended }
+        ensures nothing_left { IsTrue result → self.now.left ≡ [] }
+    {
+        self.ended
+    }
+}
+
+impl Source for MemSource {
+    ghost left = { λ s. Some s.left };
+
+    ghost faults = { λ s. s.faults };
+
+    ghost ended = { λ s. s.ended };
+
+    fn read(&mut self, buf: &mut [u8]) -> Result<usize, Failed>
+        ensures bound { IfOk result (λ n. n ≤ length buf.new) }
+        ensures moved { IfOk result (λ n. self.old.left ≡ take n buf.new ++ self.new.left) }
+        ensures count { IfOk result (λ n. n ≡ min (length buf.old) (length self.old.left)) }
+        ensures mark { self.new.ended ≡ (self.old.ended || is_end result (length buf.old)) }
+        ensures planned { IsErr result ↔ FailsNext self.old.fail self.old.calls }
+        ensures failed { OnErr result (Rose self.old.faults self.new.faults) }
+        ensures kept { OnErr result (self.new.left ≡ self.old.left) }
+        ensures unfailed { OnOk result (self.new.faults ≡ self.old.faults) }
+        ensures counts { self.old.faults ≤ self.new.faults }
+        ensures plan { self.new.fail ≡ self.old.fail }
+        ensures calls { self.new.calls ≡ min (self.old.calls + 1) (2 ^ 64 - 1) }
+    {
+        if is_planned(&self.fail, &mut self.calls) {
+            count_fault(&mut self.faults);
+            return Err(Failed);
+        }
+        let rest = &self.bytes[self.at..];
+        let n = rest.len().min(buf.len());
+        buf[..n].copy_from_slice(&rest[..n]);
+        self.at += n;
+        if n == 0 && !buf.is_empty() {
+            self.ended = true;
+        }
+        Ok(n)
+    }
+}
+
+// Counts a call, and tells whether it is one that fails.
+fn is_planned(fail: &[u64], calls: &mut u64) -> bool
+    ensures planned { IsTrue result ↔ FailsNext fail.now calls.old }
+    ensures counted { calls.new ≡ min (calls.old + 1) (2 ^ 64 - 1) }
+{
+    let Some(ordinal) = calls.checked_add(1) else {
+        return false;
+    };
+    *calls = ordinal;
+    fail.contains(&ordinal)
+}
+
+/// A sink that keeps what is written to it. Contracts see it as a `PlannedSink`.
+#[derive(Drop)]
+pub struct MemSink {
+    bytes: Vec<u8>,
+    fail: Vec<u64>,
+    calls: u64,
+    faults: u64,
+}
+
+impl Model for MemSink {
+    ghost use Rattle.edge_io.specs.Planned.{PlannedSink};
+
+    ghost Value = { PlannedSink };
+
+    ghost view = { λ s. record {
+      held = s.bytes.items;
+      fail = s.fail.items;
+      calls = s.calls;
+      faults = s.faults;
+    } };
+}
+
+impl MemSink {
+    /// An empty sink that fails at the calls whose ordinals stand in `fail`. The first call of `write`
+    /// has the ordinal 1. It may fail at another one too, for want of memory.
+    pub fn new(alloc: Global, fail: Vec<u64>) -> MemSink
+        ensures held { result.held ≡ [] }
+        ensures fail { result.fail ≡ fail.items }
+        ensures calls { result.calls ≡ 0 }
+        ensures faults { result.faults ≡ 0 }
+    {
+        MemSink {
+            bytes: Vec::new(alloc),
+            fail,
+            calls: 0,
+            faults: 0,
+        }
+    }
+
+    /// The bytes that were written.
+    pub fn held(&self) -> &[u8]
+        ensures { result.now ≡ self.now.held }
+    {
+        &self.bytes
+    }
+}
+
+impl Sink for MemSink {
+    ghost held = { λ s. Some s.held };
+
+    ghost faults = { λ s. s.faults };
+
+    fn write(&mut self, piece: &[u8]) -> Result<usize, Failed>
+        ensures count { IfOk result (λ n. n ≡ length piece.now) }
+        ensures appended { OnOk result (self.new.held ≡ self.old.held ++ piece.now) }
+        ensures planned { FailsNext self.old.fail self.old.calls → IsErr result }
+        ensures failed { OnErr result (Rose self.old.faults self.new.faults) }
+        ensures kept { OnErr result (self.new.held ≡ self.old.held) }
+        ensures unfailed { OnOk result (self.new.faults ≡ self.old.faults) }
+        ensures counts { self.old.faults ≤ self.new.faults }
+        ensures plan { self.new.fail ≡ self.old.fail }
+        ensures calls { self.new.calls ≡ min (self.old.calls + 1) (2 ^ 64 - 1) }
+    {
+        if is_planned(&self.fail, &mut self.calls) || self.bytes.extend_from_slice(piece).is_err() {
+            count_fault(&mut self.faults);
+            return Err(Failed);
+        }
+        Ok(piece.len())
+    }
+}

@@ -1,0 +1,60 @@
+//! What a source and a sink promise.
+ghost use Rattle.std.specs.Prelude.{◌≡◌, ℕ, ◌<◌, ◌≤◌, ◌||◌, List, length, take, Option, Bool, IfOk, OnErr};
+ghost use Rattle.edge_io.specs.Bytes.{Consumes, Appends, Keeps, IsAtEnd, Rose, is_end};
+
+/// A read or a write failed.
+#[derive(Clone, Copy, Debug, PartialEq, Eq)]
+pub struct Failed;
+
+/// Where bytes are read from. Its count of faults never falls.
+pub trait Source {
+    /// The bytes that are left, where the source tells them.
+    ghost left: { Self → Option (List ℕ) };
+
+    /// How many reads have failed, up to the greatest `u64`.
+    ghost faults: { Self → ℕ };
+
+    /// Whether a read into a buffer that isn't empty has answered 0.
+    ghost ended: { Self → Bool };
+
+    /// Moves the next bytes to the front of the buffer, and gives how many they are. 0 is the end of
+    /// input, where the buffer isn't empty. What stands in the buffer behind them is left open.
+    ///
+    /// `Failed` comes only where the count of faults rose, and moves nothing.
+    fn read(&mut self, buf: &mut [u8]) -> Result<usize, Failed>
+        ensures bound { IfOk result (λ n. n ≤ length buf.new) }
+        ensures moved { IfOk result (λ n. Consumes (left self.old) (left self.new) (take n buf.new)) }
+        ensures end { IfOk result (λ n. n ≡ 0 → 0 < length buf.old → IsAtEnd (left self.new)) }
+        ensures mark { ended self.new ≡ (ended self.old || is_end result (length buf.old)) }
+        ensures failed { OnErr result (Rose (faults self.old) (faults self.new)) }
+        ensures kept { OnErr result (Keeps (left self.old) (left self.new)) }
+        ensures counts { faults self.old ≤ faults self.new };
+}
+
+/// Where bytes are written to. Its count of faults never falls.
+pub trait Sink {
+    /// The bytes that the sink holds, where it tells them.
+    ghost held: { Self → Option (List ℕ) };
+
+    /// How many writes have failed or taken nothing of a piece that isn't empty, up to the greatest `u64`.
+    ghost faults: { Self → ℕ };
+
+    /// Appends the first bytes of the piece, and gives how many they are.
+    ///
+    /// `Failed`, and 0 of a piece that isn't empty, come only where the count of faults rose.
+    fn write(&mut self, piece: &[u8]) -> Result<usize, Failed>
+        ensures bound { IfOk result (λ n. n ≤ length piece.now) }
+        ensures appended { IfOk result (λ n. Appends (held self.old) (held self.new) (take n piece.now)) }
+        ensures nothing { IfOk result (λ n. n ≡ 0 → 0 < length piece.now → Rose (faults self.old) (faults self.new)) }
+        ensures failed { OnErr result (Rose (faults self.old) (faults self.new)) }
+        ensures kept { OnErr result (Keeps (held self.old) (held self.new)) }
+        ensures counts { faults self.old ≤ faults self.new };
+}
+
+/// Raises a count of faults, which stays at the greatest `u64`.
+pub(crate) fn count_fault(faults: &mut u64)
+    ensures rose { Rose faults.old faults.new }
+    ensures counts { faults.old ≤ faults.new }
+{
+    *faults = faults.saturating_add(1);
+}
