@@ -2,7 +2,7 @@
 
 ghost use Rattle.std.specs.Prelude.{◌≡◌, ◌<◌, length, map, vec_len};
 ghost use Rattle.hook_api.specs.Hooks.{HookCall, placed_answer, said_answer};
-ghost use Rattle.hook_api.specs.Shelf.{BoxStep};
+ghost use Rattle.hook_api.specs.Shelf.{count_of, BoxStep};
 
 use crate::asked::Asked;
 use crate::books::Book;
@@ -76,6 +76,13 @@ fn call(hooks: &mut Box<dyn ExtentHooks + Send>, ask: Ask) -> Answer
     }
 }
 
+/// The count of refusals of a box number: the box's own and the planned ones.
+fn count(hooks: &Box<dyn ExtentHooks + Send>, book: &Book) -> u64
+    ensures { result ≡ count_of (record { account = account hooks.now; book = book.now }) }
+{
+    hooks.refusals().saturating_add(book.planned)
+}
+
 /// Asks one box, except where a plan refuses the ask.
 fn ask_box(hooks: &mut Box<dyn ExtentHooks + Send>, book: &mut Book, box_no: u32, ask: Ask) -> Asked
     ensures step { BoxStep (record { account = account hooks.old; book = book.old }) result (record { account = account hooks.new; book = book.new }) }
@@ -83,7 +90,7 @@ fn ask_box(hooks: &mut Box<dyn ExtentHooks + Send>, book: &mut Book, box_no: u32
     ensures of_ask { result.ask ≡ ask }
 {
     let place = book.take_place();
-    let before = hooks.refusals().saturating_add(book.planned);
+    let before = count(hooks, book);
     let planned = book.take_plan(ask);
     let answer = if planned {
         book.planned = book.planned.saturating_add(1);
@@ -91,7 +98,7 @@ fn ask_box(hooks: &mut Box<dyn ExtentHooks + Send>, book: &mut Book, box_no: u32
     } else {
         call(hooks, ask)
     };
-    let after = hooks.refusals().saturating_add(book.planned);
+    let after = count(hooks, book);
     Asked {
         box_no,
         place,
@@ -104,7 +111,7 @@ fn ask_box(hooks: &mut Box<dyn ExtentHooks + Send>, book: &mut Book, box_no: u32
 }
 
 impl HookShelf {
-    ghost use Rattle.hook_api.specs.Shelf.{box_at, count_of, new_shelf, AskStep, PlanStep};
+    ghost use Rattle.hook_api.specs.Shelf.{box_at, new_shelf, AskStep, PlanStep};
     ghost use Rattle.hook_api.specs.ShelfOf.{shelf_of};
 
     /// A shelf of these 32 boxes, with no ask so far and no plan.
@@ -119,6 +126,7 @@ impl HookShelf {
     }
 
     /// Passes the ask to the box and gives its answer, except where a plan refuses it. Takes no memory.
+    #[tactic(auto, using(crate::proofs::Boxes::ask_step_at))]
     pub fn ask(&mut self, box_no: u32, ask: Ask) -> Asked
         requires { box_no < 32 }
         ensures step { AskStep (shelf_of ExtentHooks-dyn self.old) result (shelf_of ExtentHooks-dyn self.new) }
@@ -126,7 +134,10 @@ impl HookShelf {
         ensures of_ask { result.ask ≡ ask }
     {
         let i = box_no as usize;
-        ask_box(&mut self.boxes[i], &mut self.books[i], box_no, ask)
+        let mut book = self.books[i];
+        let asked = ask_box(&mut self.boxes[i], &mut book, box_no, ask);
+        self.books[i] = book;
+        asked
     }
 
     /// Replaces the plan of that box number and kind: the `nth` ask of the kind from now on is refused, or every ask
@@ -139,13 +150,12 @@ impl HookShelf {
     }
 
     /// The count of refusals of a box number: the box's own and the planned ones, at most the greatest `u64`.
+    #[tactic(auto, using(crate::proofs::Boxes::box_at_mapped))]
     pub fn refusals(&self, box_no: u32) -> u64
         requires { box_no < 32 }
         ensures { result ≡ count_of (box_at (shelf_of ExtentHooks-dyn self.now) box_no) }
     {
         let i = box_no as usize;
-        self.boxes[i]
-            .refusals()
-            .saturating_add(self.books[i].planned)
+        count(&self.boxes[i], &self.books[i])
     }
 }
