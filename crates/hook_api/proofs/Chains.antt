@@ -1,7 +1,8 @@
 -- Chains of asks.
-use Rattle.std.proofs.Common.{◌≡◌, ◌≢◌, ℕ, ◌+◌, ◌<◌, ◌==◌, Bool, true, false, List, [], ◌∷◌, ◌++◌, length, map, ap, subst, sym, ◌∙◌, refl, arith, append_assoc, append-nil, not, cond, filter, IsTrue, Option, Some, None, ◌≤◌}
+use Rattle.std.proofs.Common.{◌≡◌, ◌≢◌, ℕ, ◌+◌, ◌<◌, ◌==◌, Bool, true, false, List, [], ◌∷◌, ◌++◌, count_by, map, ap, subst, sym, ◌∙◌, refl, arith, append_assoc, append-nil, not, cond, filter, IsTrue, Option, Some, None, ◌≤◌}
 use Rattle.std.proofs.lemmas.Bool.{eqb-false, eqb-true}
 use Rattle.std.proofs.lemmas.Grind.{common_steps}
+use Rattle.std.proofs.lemmas.List.Sums.{sum_by-cons}
 use Rattle.hook_api.specs.declared.books.Book.{Book}
 use Rattle.hook_api.specs.declared.plans.Kind.{Kind}
 use Rattle.hook_api.specs.Asked.{AskFacts, heard_in}
@@ -59,39 +60,54 @@ count_case old mid asked false step is =
     let planned : mid.book.planned ≡ old.book.planned = rw is at step.planned_refusals in
     omega arith
 
+-- a step counts a planned refusal exactly where a plan refused the ask
+pub planned_case : (old mid : BoxState) (asked : AskFacts) (more : List AskFacts) (new : ℕ) (planned : Bool)
+    → BoxStep old asked mid → asked.planned ≡ planned
+    → capped new ≡ capped (mid.book.planned + count_by (λ (a : AskFacts). a.planned) more)
+    → capped new ≡ capped (old.book.planned + count_by (λ (a : AskFacts). a.planned) (asked ∷ more))
+planned_case old mid asked more new true step is rest =
+    let here : mid.book.planned ≡ capped (old.book.planned + 1) = rw is at step.planned_refusals in
+    rw (sum_by-cons (λ (a : AskFacts). cond a.planned 1 0) asked more, is) (omega arith)
+planned_case old mid asked more new false step is rest =
+    let here : mid.book.planned ≡ old.book.planned = rw is at step.planned_refusals in
+    rw (sum_by-cons (λ (a : AskFacts). cond a.planned 1 0) asked more, is) (omega arith)
+
 -- no ask: nothing changes
 pub box_chain_none : (old new : BoxState) → new ≡ old → BoxChain old [] new
 box_chain_none old new same = record {
-    places = refl;
-    next_place = ap (λ (s : BoxState). s.book.next_place) same;
-    counts = subst (λ (s : BoxState). count_of old ≤ count_of s) (sym same) (omega arith);
-    told = subst (λ (s : BoxState). TellsAll old.account.told [] s.account.told) (sym same) (tells_none old.account.told);
-  }
+  places = refl;
+  next_place = ap (λ (s : BoxState). s.book.next_place) same;
+  counts = subst (λ (s : BoxState). count_of old ≤ count_of s) (sym same) (omega arith);
+  planned = subst (λ (s : BoxState). capped s.book.planned ≡ capped (old.book.planned + 0)) (sym same) (omega arith);
+  told = subst (λ (s : BoxState). TellsAll old.account.told [] s.account.told) (sym same) (tells_none old.account.told);
+}
 
 -- an ask of the box number comes first
 pub box_chain_ask : (old mid new : BoxState) (asked : AskFacts) (asks : List AskFacts)
     → BoxStep old asked mid → BoxChain mid asks new → BoxChain old (asked ∷ asks) new
 box_chain_ask old mid new asked asks step rest = record {
-    places = rw (step.place, rest.places, step.next_place) refl;
-    next_place = rw (← step.next_place) rest.next_place;
-    counts =
-        ( omega arith
-        , (let falls : count_of old ≤ count_of mid = count_case old mid asked asked.planned step refl in omega arith)
-        , rw step.after rest.counts
-        );
-    told = told_case old mid asked (filter (λ asked. not asked.planned) asks) new.account.told asked.planned step refl rest.told;
-  }
+  places = rw (step.place, rest.places, step.next_place) refl;
+  next_place = rw (← step.next_place) rest.next_place;
+  counts = (
+    omega arith,
+    (let falls : count_of old ≤ count_of mid = count_case old mid asked asked.planned step refl in omega arith),
+    rw step.after rest.counts,
+  );
+  planned = planned_case old mid asked asks new.book.planned asked.planned step refl rest.planned;
+  told = told_case old mid asked (filter (λ asked. not asked.planned) asks) new.account.told asked.planned step refl rest.told;
+}
 
 -- a plan is set first
 pub box_chain_plan : (old mid new : BoxState) (asks : List AskFacts)
     → mid.account ≡ old.account → mid.book.next_place ≡ old.book.next_place → mid.book.planned ≡ old.book.planned
     → BoxChain mid asks new → BoxChain old asks new
 box_chain_plan old mid new asks account place planned rest = record {
-    places = rw (← place) rest.places;
-    next_place = rw (← place) rest.next_place;
-    counts = rw (← account, ← planned) rest.counts;
-    told = rw (← account) rest.told;
-  }
+  places = rw (← place) rest.places;
+  next_place = rw (← place) rest.next_place;
+  counts = rw (← account, ← planned) rest.counts;
+  planned = rw (← planned) rest.planned;
+  told = rw (← account) rest.told;
+}
 
 -- an ask of the shelf comes first, of this box number or of another
 pub made_case : (n : ℕ) (old mid : Shelf) (new : BoxState) (asked : AskFacts) (asks : List AskFacts) (here : Bool)
@@ -99,8 +115,8 @@ pub made_case : (n : ℕ) (old mid : Shelf) (new : BoxState) (asked : AskFacts) 
     → BoxChain (box_at old n) (cond here (asked ∷ asks) asks) new
 made_case n old mid new asked asks true step is rest =
     let own : BoxStep (box_at old n) asked (box_at mid n) =
-        let P : ℕ → Type 0 = λ k. BoxStep (box_at old k) asked (box_at mid k) in
-        subst P (eqb-true asked.box_no n is) step.box in
+    let P : ℕ → Type 0 = λ k. BoxStep (box_at old k) asked (box_at mid k) in
+    subst P (eqb-true asked.box_no n is) step.box in
     box_chain_ask (box_at old n) (box_at mid n) new asked asks own rest
 made_case n old mid new asked asks false step is rest =
     let other : n ≢ asked.box_no = λ e. eqb-false asked.box_no n is (sym e) in
@@ -112,9 +128,9 @@ pub set_case : (n : ℕ) (old mid : Shelf) (new : BoxState) (box_no : ℕ) (kind
     → BoxChain (box_at old n) asks new
 set_case n old mid new box_no kind nth asks true step is rest =
     let own : PlanStep old n kind nth mid =
-        subst (λ (k : ℕ). PlanStep old k kind nth mid) (eqb-true box_no n is) step in
+    subst (λ (k : ℕ). PlanStep old k kind nth mid) (eqb-true box_no n is) step in
     box_chain_plan (box_at old n) (box_at mid n) new asks own.account
-      (ap (λ (b : Book). b.next_place) own.book) (ap (λ (b : Book). b.planned) own.book) rest
+    (ap (λ (b : Book). b.next_place) own.book) (ap (λ (b : Book). b.planned) own.book) rest
 set_case n old mid new box_no kind nth asks false step is rest =
     let other : n ≢ box_no = λ e. eqb-false box_no n is (sym e) in
     subst (λ (s : BoxState). BoxChain s asks new) (step.others n other) rest
@@ -125,10 +141,10 @@ chain_at_box old new [] n chain =
     box_chain_none (box_at old n) (box_at new n) (ap (λ (s : Shelf). box_at s n) chain)
 chain_at_box old new (Made asked ∷ events) n chain =
     made_case n old chain.0 (box_at new n) asked (asks_of n (asks_in events)) (asked.box_no == n) chain.1 refl
-      (chain_at_box chain.0 new events n chain.2)
+    (chain_at_box chain.0 new events n chain.2)
 chain_at_box old new (PlanSet box_no kind nth ∷ events) n chain =
     set_case n old chain.0 (box_at new n) box_no kind nth (asks_of n (asks_in events)) (box_no == n) chain.1 refl
-      (chain_at_box chain.0 new events n chain.2)
+    (chain_at_box chain.0 new events n chain.2)
 
 -- the asks of a chain of asks are those asks
 pub asks_made : (asks : List AskFacts) → asks_in (map Made asks) ≡ asks

@@ -1,5 +1,5 @@
 -- The chain of asks of a shelf, and what it is at each box number.
-use Rattle.std.specs.Prelude.{◌≡◌, ℕ, ◌+◌, ◌≤◌, ◌==◌, not, List, [], ◌∷◌, ◌++◌, length, map, filter, Option, IfSome, IsSomeAnd}
+use Rattle.std.specs.Prelude.{◌≡◌, ℕ, ◌+◌, ◌≤◌, ◌==◌, not, List, [], ◌∷◌, ◌++◌, count_by, map, filter, Option, IfSome, IsSomeAnd}
 use Rattle.space_model.specs.declared.Heard.{Heard}
 use Rattle.hook_api.specs.declared.plans.Kind.{Kind}
 use Rattle.hook_api.specs.Asked.{AskFacts, heard_in}
@@ -64,6 +64,7 @@ pub record BoxChain (old : BoxState) (asks : List AskFacts) (new : BoxState) : T
   pub places : map (λ (asked : AskFacts). asked.place) asks ≡ places_from old.book.next_place asks
   pub next_place : new.book.next_place ≡ place_after old.book.next_place asks
   pub counts : CountsRise (count_of old) asks (count_of new)
+  pub planned : capped new.book.planned ≡ capped (old.book.planned + count_by (λ (asked : AskFacts). asked.planned) asks)
   pub told : TellsAll old.account.told (heard_by_box asks) new.account.told
 
 -- after an event of the shelf that it leads to, a chain goes on

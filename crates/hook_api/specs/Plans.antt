@@ -1,5 +1,5 @@
 -- The plans of a box number: which of its next asks are refused without being passed on.
-use Rattle.std.specs.Prelude.{ℕ, ◌-◌, ◌==◌, Bool, true, false, if◌then◌else◌, List, slice_index_or, slice_set, replicate, Option, Some, None}
+use Rattle.std.specs.Prelude.{◌≡◌, ◌↔◌, ◌⊎◌, ℕ, zero, suc, ◌+◌, ◌-◌, ◌==◌, IsTrue, Bool, true, false, if◌then◌else◌, List, slice_index_or, slice_set, replicate, Option, Some, None}
 use Rattle.space_model.specs.declared.Ask.{Ask}
 use Rattle.space_model.specs.declared.Ask.TheVariants as ask
 use Rattle.hook_api.specs.declared.plans.Kind.{Kind}
@@ -67,3 +67,12 @@ refuses plans (Some kind) = refuses_next (plan_at plans kind)
 abbrev pub plans_after : List Plan → Option Kind → List Plan
 plans_after plans None = plans
 plans_after plans (Some kind) = with_plan plans kind (next_plan (plan_at plans kind))
+
+-- the plan after so many asks of its kind
+abbrev pub plan_after : Plan → ℕ → Plan
+plan_after plan zero = plan
+plan_after plan (suc asks) = plan_after (next_plan plan) asks
+
+-- a plan of nth refuses, after so many asks of its kind, the next one exactly where that is the nth, or where nth is 0
+abbrev pub PlanRefusesNth : Type 0
+PlanRefusesNth = (nth asks : ℕ) → IsTrue (refuses_next (plan_after (plan_of nth) asks)) ↔ ((nth ≡ 0) ⊎ (nth ≡ asks + 1))

@@ -6,7 +6,7 @@ use Rattle.hook_api.specs.declared.plans.Kind.{Kind}
 use Rattle.hook_api.specs.Asked.{AskFacts, RefusalCounts}
 use Rattle.hook_api.specs.Counts.{capped}
 use Rattle.hook_api.specs.Hooks.{Account, HookCall}
-use Rattle.hook_api.specs.Plans.{kind_of, no_plans, plan_of, plans_after, refuses, with_plan}
+use Rattle.hook_api.specs.Plans.{kind_of, no_plans, plan_at, plan_of, plans_after, refuses, with_plan}
 
 -- the accounts of the boxes, and what the shelf keeps for each box number
 pub record Shelf : Type 0 where
@@ -64,6 +64,7 @@ pub record AskStep (old : Shelf) (asked : AskFacts) (new : Shelf) : Type 0 where
 
 -- one plan set on a shelf: the plan of that box number and kind is this one, and all else is as it was
 pub record PlanStep (old : Shelf) (box_no : ℕ) (kind : Kind) (nth : ℕ) (new : Shelf) : Type 0 where
+  pub plan : plan_at (box_at new box_no).book.plans kind ≡ plan_of nth
   pub account : (box_at new box_no).account ≡ (box_at old box_no).account
   pub book : (box_at new box_no).book ≡ record (box_at old box_no).book { plans = with_plan (box_at old box_no).book.plans kind (plan_of nth) }
   pub others : (n : ℕ) → n ≢ box_no → box_at new n ≡ box_at old n

@@ -2,7 +2,7 @@
 
 ghost use Rattle.std.specs.Prelude.{◌≡◌, ◌+◌, length};
 ghost use Rattle.hook_api.specs.Counts.{capped};
-ghost use Rattle.hook_api.specs.Plans.{kind_of, plan_of, plans_after, refuses, with_plan};
+ghost use Rattle.hook_api.specs.Plans.{kind_of, plan_at, plan_of, plans_after, refuses, with_plan};
 
 use crate::plans::{Kind, Plan};
 use space_model::Ask;
@@ -57,7 +57,8 @@ impl Book {
 
     /// Replaces the plan of a kind.
     pub(crate) fn set_plan(&mut self, kind: Kind, nth: u64)
-        ensures { self.new ≡ record self.old { plans = with_plan self.old.plans kind (plan_of nth) } }
+        ensures plans { self.new ≡ record self.old { plans = with_plan self.old.plans kind (plan_of nth) } }
+        ensures plan { plan_at self.new.plans kind ≡ plan_of nth }
     {
         self.plans[kind.index()] = Plan::of(nth);
     }

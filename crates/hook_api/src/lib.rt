@@ -17,7 +17,12 @@ mod shelf;
 pub use asked::{Asked, Askeds};
 pub use hooks::{Boxes, ExtentHooks, Placed, Said};
 pub use kept::{Journal, Journals, Kept, Kepts};
-pub use laws::{ask_chain_at_each_box, ask_chain_extends, chain_at_each_box, chain_extends};
+pub use laws::{
+    ask_chain_at_each_box, ask_chain_extends, chain_at_each_box, chain_extends, plan_refuses_nth,
+};
 pub use plans::Kind;
 pub use rising::RisingHooks;
 pub use shelf::HookShelf;
+
+#[cfg(test)]
+mod tests;
