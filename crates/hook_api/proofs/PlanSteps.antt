@@ -1,5 +1,5 @@
 -- Plans over the asks of their kind.
-use Rattle.std.proofs.Common.{◌≡◌, ◌↔◌, ◌⊎◌, ℕ, zero, suc, ◌+◌, ◌-◌, Bool, true, false, IsTrue, ap, arith, refl, inl, inr, sym}
+use Rattle.std.proofs.Common.{◌≡◌, ◌↔◌, ℕ, zero, suc, IsTrue, ap, arith, refl, inl, inr}
 use Rattle.std.proofs.lemmas.Bool.{eqb-true, eq-eqb}
 use Rattle.std.proofs.Math.Dec.{eqb-suc-zero}
 use Rattle.hook_api.specs.declared.plans.Plan.TheVariants.{Pass, After, All}

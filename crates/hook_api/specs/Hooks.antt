@@ -1,7 +1,7 @@
 -- What a call of a hook does, as far as anything is known of a box.
 use Rattle.std.specs.Prelude.{◌≡◌, ◌≢◌, ℕ, ◌≤◌, Bool, true, false, IsTrue, List, [], ◌∷◌, ◌++◌, Option, Some, None, IfSome, IsSomeAnd}
 use Rattle.space_model.specs.declared.Ask.{Ask}
-use Rattle.space_model.specs.declared.Ask.TheVariants.{Alloc, Dalloc, Destroy, Commit, Decommit, PurgeLazy, PurgeForced, Split, Merge}
+use Rattle.space_model.specs.declared.Ask.TheVariants.{Alloc, Destroy}
 use Rattle.space_model.specs.declared.Answer.{Answer}
 use Rattle.space_model.specs.declared.Answer.TheVariants.{Refused, Done, Placed}
 use Rattle.space_model.specs.declared.Heard.{Heard}

@@ -1,5 +1,5 @@
 -- A shelf as contracts see it, one ask of it, and one plan set on it.
-use Rattle.std.specs.Prelude.{◌≡◌, ◌≢◌, ℕ, ◌+◌, Bool, false, IsTrue, if◌then◌else◌, List, slice_index_or, replicate, None}
+use Rattle.std.specs.Prelude.{◌≡◌, ◌≢◌, ℕ, ◌+◌, false, IsTrue, if◌then◌else◌, List, slice_index_or, replicate, None}
 use Rattle.space_model.specs.declared.Answer.TheVariants.{Refused}
 use Rattle.hook_api.specs.declared.books.Book.{Book}
 use Rattle.hook_api.specs.declared.plans.Kind.{Kind}

@@ -1,4 +1,4 @@
-use Rattle.std.proofs.Common.{arith, rules, refl}
+use Rattle.std.proofs.Common.{arith, rules}
 use Rattle.std.proofs.lemmas.Grind.{common_steps}
 use Rattle.hook_api.proofs.Boxes.{ask_step_at}
 use Rattle.hook_api.proofs.shelf.HookShelf.ask.Goals as goal
