@@ -1,0 +1,25 @@
+-- What is known of one ask of a shelf.
+use Rattle.std.specs.Prelude.{◌≡◌, ℕ, Bool}
+use Rattle.space_model.specs.declared.Ask.{Ask}
+use Rattle.space_model.specs.declared.Answer.{Answer}
+use Rattle.space_model.specs.declared.Answer.TheVariants.{Refused}
+use Rattle.space_model.specs.declared.Heard.{Heard}
+use Rattle.hook_api.specs.Counts.{Rose}
+
+-- an ask that was made: of which box number and at which place there, its answer, the count of refusals before and after, and whether a plan refused it
+pub record AskFacts : Type 0 where
+  pub box_no : ℕ
+  pub place : ℕ
+  pub ask : Ask
+  pub answer : Answer
+  pub before : ℕ
+  pub after : ℕ
+  pub planned : Bool
+
+-- the ask with its answer
+abbrev pub heard_in : AskFacts → Heard
+heard_in asked = record { ask = asked.ask; answer = asked.answer }
+
+-- a refusal was counted
+abbrev pub RefusalCounts : Answer → ℕ → ℕ → Type 0
+RefusalCounts answer before after = answer ≡ Refused → Rose before after

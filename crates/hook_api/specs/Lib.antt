@@ -1,0 +1,10 @@
+pub mod Asked
+pub mod Chain
+pub mod Counts
+pub mod Hooks
+pub mod Journals
+pub mod Kept
+pub mod Plans
+pub mod Rising
+pub mod Shelf
+pub mod ShelfOf

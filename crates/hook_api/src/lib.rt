@@ -1,0 +1,28 @@
+//! Boxes of extent hooks, and the shelf that asks them.
+//!
+//! A box is whatever stands behind the hooks of an arena, and nothing is assumed of the ranges that it answers. The
+//! shelf has 32 boxes by number, refuses the asks that a plan names, and passes every other ask on. What it gives back,
+//! an [`Asked`], nobody else can make: a journal that keeps one beside an entry keeps an ask that was really made.
+#![tactic(auto)]
+
+mod asked;
+mod books;
+mod hooks;
+mod kept;
+mod laws;
+mod plans;
+mod rising;
+mod shelf;
+
+pub use asked::{Asked, Askeds};
+pub use hooks::{Boxes, ExtentHooks, Placed, Said};
+pub use kept::{Journal, Journals, Kept, Kepts};
+pub use laws::{
+    ask_chain_at_each_box, ask_chain_extends, chain_at_each_box, chain_extends, plan_refuses_nth,
+};
+pub use plans::Kind;
+pub use rising::RisingHooks;
+pub use shelf::HookShelf;
+
+#[cfg(test)]
+mod tests;

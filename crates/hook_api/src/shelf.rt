@@ -1,0 +1,161 @@
+//! The shelf of boxes.
+
+ghost use Rattle.std.specs.Prelude.{◌≡◌, ◌<◌, length, map, vec_len};
+ghost use Rattle.hook_api.specs.Hooks.{HookCall, placed_answer, said_answer};
+ghost use Rattle.hook_api.specs.Shelf.{count_of, BoxStep};
+
+use crate::asked::Asked;
+use crate::books::Book;
+use crate::hooks::{Boxes, ExtentHooks, Placed, Said};
+use crate::plans::Kind;
+use space_model::{Answer, Ask};
+
+/// How many boxes a shelf has.
+const BOXES: usize = 32;
+
+/// 32 boxes of hooks by number, and the plans that refuse asks before a box hears of them.
+#[derive(Drop)]
+pub struct HookShelf {
+    boxes: Boxes,
+    books: [Book; BOXES],
+    ghost full: { length boxes.items ≡ 32 },
+}
+
+/// What `alloc` gave, as an answer.
+fn heard_placed(placed: Option<Placed>) -> Answer
+    ensures { result ≡ placed_answer placed }
+{
+    match placed {
+        None => Answer::Refused,
+        Some(
+            Placed {
+                first,
+                committed,
+                zeroed,
+            },
+        ) => Answer::Placed {
+            first,
+            committed,
+            zeroed,
+        },
+    }
+}
+
+/// What another hook said, as an answer.
+fn heard_said(said: Said) -> Answer
+    ensures { result ≡ said_answer said }
+{
+    match said {
+        Said::Done => Answer::Done,
+        Said::Refused => Answer::Refused,
+    }
+}
+
+/// Calls the hook of an ask.
+fn call(hooks: &mut Box<dyn ExtentHooks + Send>, ask: Ask) -> Answer
+    ensures { HookCall (account hooks.old) ask result (account hooks.new) }
+{
+    match ask {
+        Ask::Alloc {
+            at,
+            pages,
+            align,
+            commit,
+        } => heard_placed(hooks.alloc(at, pages, align, commit)),
+        Ask::Dalloc { span, committed } => heard_said(hooks.dalloc(span, committed)),
+        Ask::Destroy { span, committed } => {
+            hooks.destroy(span, committed);
+            Answer::Done
+        }
+        Ask::Commit(span) => heard_said(hooks.commit(span)),
+        Ask::Decommit(span) => heard_said(hooks.decommit(span)),
+        Ask::PurgeLazy(span) => heard_said(hooks.purge_lazy(span)),
+        Ask::PurgeForced(span) => heard_said(hooks.purge_forced(span)),
+        Ask::Split { span, left } => heard_said(hooks.split(span, left)),
+        Ask::Merge { low, high } => heard_said(hooks.merge(low, high)),
+    }
+}
+
+/// The count of refusals of a box number: the box's own and the planned ones.
+fn count(hooks: &Box<dyn ExtentHooks + Send>, book: &Book) -> u64
+    ensures { result ≡ count_of (record { account = account hooks.now; book = book.now }) }
+{
+    hooks.refusals().saturating_add(book.planned)
+}
+
+/// Asks one box, except where a plan refuses the ask.
+fn ask_box(hooks: &mut Box<dyn ExtentHooks + Send>, book: &mut Book, box_no: u32, ask: Ask) -> Asked
+    ensures step { BoxStep (record { account = account hooks.old; book = book.old }) result (record { account = account hooks.new; book = book.new }) }
+    ensures of_box { result.box_no ≡ box_no }
+    ensures of_ask { result.ask ≡ ask }
+{
+    let place = book.take_place();
+    let before = count(hooks, book);
+    let planned = book.take_plan(ask);
+    let answer = if planned {
+        book.planned = book.planned.saturating_add(1);
+        Answer::Refused
+    } else {
+        call(hooks, ask)
+    };
+    let after = count(hooks, book);
+    Asked {
+        box_no,
+        place,
+        ask,
+        answer,
+        before,
+        after,
+        planned,
+    }
+}
+
+impl HookShelf {
+    ghost use Rattle.hook_api.specs.Shelf.{box_at, new_shelf, AskStep, PlanStep};
+    ghost use Rattle.hook_api.specs.ShelfOf.{shelf_of};
+
+    /// A shelf of these 32 boxes, with no ask so far and no plan.
+    pub fn new(boxes: Boxes) -> HookShelf
+        requires { vec_len boxes ≡ 32 }
+        ensures { shelf_of ExtentHooks-dyn result ≡ new_shelf (map (λ b. account b) boxes.items) }
+    {
+        HookShelf {
+            boxes,
+            books: [Book::new(); BOXES],
+        }
+    }
+
+    /// Passes the ask to the box and gives its answer, except where a plan refuses it. Takes no memory.
+    #[tactic(auto, using(crate::proofs::Boxes::ask_step_at))]
+    pub fn ask(&mut self, box_no: u32, ask: Ask) -> Asked
+        requires { box_no < 32 }
+        ensures step { AskStep (shelf_of ExtentHooks-dyn self.old) result (shelf_of ExtentHooks-dyn self.new) }
+        ensures of_box { result.box_no ≡ box_no }
+        ensures of_ask { result.ask ≡ ask }
+    {
+        let i = box_no as usize;
+        let mut book = self.books[i];
+        let asked = ask_box(&mut self.boxes[i], &mut book, box_no, ask);
+        self.books[i] = book;
+        asked
+    }
+
+    /// Replaces the plan of that box number and kind: the `nth` ask of the kind from now on is refused, or every ask
+    /// where `nth` is 0. A refused `nth` ends its plan. Takes no memory.
+    pub fn plan(&mut self, box_no: u32, kind: Kind, nth: u64)
+        requires { box_no < 32 }
+        ensures { PlanStep (shelf_of ExtentHooks-dyn self.old) box_no kind nth (shelf_of ExtentHooks-dyn self.new) }
+    {
+        self.books[box_no as usize].set_plan(kind, nth);
+    }
+
+    /// The count of refusals of a box number: the box's own and the planned ones, at most the greatest `u64`.
+    #[tactic(auto, using(crate::proofs::Boxes::box_at_mapped))]
+    pub fn refusals(&self, box_no: u32) -> u64
+        requires { box_no < 32 }
+        ensures { result ≡ count_of (box_at (shelf_of ExtentHooks-dyn self.now) box_no) }
+    {
+        let i = box_no as usize;
+        count(&self.boxes[i], &self.books[i])
+    }
+}
