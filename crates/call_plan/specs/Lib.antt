@@ -1,0 +1,4 @@
+pub mod Reading
+pub mod Malloc
+pub mod Rest
+pub mod Calls
