@@ -5,7 +5,7 @@ use Rattle.hook_api.specs.declared.books.Book.{Book}
 use Rattle.hook_api.specs.declared.plans.Kind.{Kind}
 use Rattle.hook_api.specs.Asked.{AskFacts, RefusalCounts}
 use Rattle.hook_api.specs.Counts.{capped}
-use Rattle.hook_api.specs.Hooks.{Account, HookCall}
+use Rattle.hook_api.specs.Hooks.{Account, Answers, HookCall}
 use Rattle.hook_api.specs.Plans.{kind_of, no_plans, plan_at, plan_of, plans_after, refuses, with_plan}
 
 -- the accounts of the boxes, and what the shelf keeps for each box number
@@ -51,6 +51,8 @@ pub record BoxStep (old : BoxState) (asked : AskFacts) (new : BoxState) : Type 0
   pub planned : asked.planned ≡ refuses old.book.plans (kind_of asked.ask)
   pub plans : new.book.plans ≡ plans_after old.book.plans (kind_of asked.ask)
   pub planned_refusals : new.book.planned ≡ (if asked.planned then capped (old.book.planned + 1) else old.book.planned)
+  -- the answer is of the ask's kind
+  pub answers : Answers asked.ask asked.answer
   -- a planned ask is refused, and the box doesn't hear of it
   pub refused : IsTrue asked.planned → asked.answer ≡ Refused
   pub held_back : IsTrue asked.planned → new.account ≡ old.account

@@ -6,7 +6,7 @@ ghost use Rattle.hook_api.specs.Hooks.{HookCall, placed_answer, said_answer};
 ghost use Rattle.hook_api.specs.Rising.{rising_account, rising_place, InChunks};
 
 use crate::hooks::{ExtentHooks, Placed, Said};
-use space_model::{Ask, CHUNK_PAGES, CHUNKS, Span};
+use space_model::{Answer, Ask, CHUNK_PAGES, CHUNKS, Span};
 use std::marker::Model;
 
 /// The first page above the last chunk.
@@ -89,29 +89,56 @@ impl ExtentHooks for RisingHooks {
         Said::Refused
     }
 
-    fn destroy(&mut self, _span: Span, _committed: bool) {}
+    fn destroy(&mut self, _span: Span, _committed: bool)
+        ensures hook { HookCall (rising_account self.old) (Ask.Destroy _span _committed) Answer.Done (rising_account self.new) }
+        ensures same { self.new ≡ self.old }
+    {}
 
-    fn commit(&mut self, _span: Span) -> Said {
+    fn commit(&mut self, _span: Span) -> Said
+        ensures hook { HookCall (rising_account self.old) (Ask.Commit _span) (said_answer result) (rising_account self.new) }
+        ensures accepts { result ≡ Said.Done }
+        ensures same { self.new ≡ self.old }
+    {
         Said::Done
     }
 
-    fn decommit(&mut self, _span: Span) -> Said {
+    fn decommit(&mut self, _span: Span) -> Said
+        ensures hook { HookCall (rising_account self.old) (Ask.Decommit _span) (said_answer result) (rising_account self.new) }
+        ensures accepts { result ≡ Said.Done }
+        ensures same { self.new ≡ self.old }
+    {
         Said::Done
     }
 
-    fn purge_lazy(&mut self, _span: Span) -> Said {
+    fn purge_lazy(&mut self, _span: Span) -> Said
+        ensures hook { HookCall (rising_account self.old) (Ask.PurgeLazy _span) (said_answer result) (rising_account self.new) }
+        ensures accepts { result ≡ Said.Done }
+        ensures same { self.new ≡ self.old }
+    {
         Said::Done
     }
 
-    fn purge_forced(&mut self, _span: Span) -> Said {
+    fn purge_forced(&mut self, _span: Span) -> Said
+        ensures hook { HookCall (rising_account self.old) (Ask.PurgeForced _span) (said_answer result) (rising_account self.new) }
+        ensures accepts { result ≡ Said.Done }
+        ensures same { self.new ≡ self.old }
+    {
         Said::Done
     }
 
-    fn split(&mut self, _span: Span, _left: u64) -> Said {
+    fn split(&mut self, _span: Span, _left: u64) -> Said
+        ensures hook { HookCall (rising_account self.old) (Ask.Split _span _left) (said_answer result) (rising_account self.new) }
+        ensures accepts { result ≡ Said.Done }
+        ensures same { self.new ≡ self.old }
+    {
         Said::Done
     }
 
-    fn merge(&mut self, _low: Span, _high: Span) -> Said {
+    fn merge(&mut self, _low: Span, _high: Span) -> Said
+        ensures hook { HookCall (rising_account self.old) (Ask.Merge _low _high) (said_answer result) (rising_account self.new) }
+        ensures accepts { result ≡ Said.Done }
+        ensures same { self.new ≡ self.old }
+    {
         Said::Done
     }
 

@@ -126,7 +126,6 @@ impl HookShelf {
     }
 
     /// Passes the ask to the box and gives its answer, except where a plan refuses it. Takes no memory.
-    #[tactic(auto, using(crate::proofs::Boxes::ask_step_at))]
     pub fn ask(&mut self, box_no: u32, ask: Ask) -> Asked
         requires { box_no < 32 }
         ensures step { AskStep (shelf_of ExtentHooks-dyn self.old) result (shelf_of ExtentHooks-dyn self.new) }
@@ -134,10 +133,7 @@ impl HookShelf {
         ensures of_ask { result.ask ≡ ask }
     {
         let i = box_no as usize;
-        let mut book = self.books[i];
-        let asked = ask_box(&mut self.boxes[i], &mut book, box_no, ask);
-        self.books[i] = book;
-        asked
+        ask_box(&mut self.boxes[i], &mut self.books[i], box_no, ask)
     }
 
     /// Replaces the plan of that box number and kind: the `nth` ask of the kind from now on is refused, or every ask
