@@ -1,0 +1,27 @@
+-- The lines of a list of bytes, each of which ends with byte 10.
+use Rattle.std.specs.Prelude.{◌==◌, ℕ, List, [], ◌∷◌}
+use Rattle.std.specs.List.{slice_split}
+
+-- the parts of a list of bytes between its newlines, of which the last has none behind it
+abbrev pub parts_of : List ℕ → List (List ℕ)
+parts_of bytes = slice_split (λ b. b == 10) bytes
+
+-- a list without its last element
+abbrev pub but_last : {X : Type 0} → List X → List X
+but_last [] = []
+but_last (x ∷ []) = []
+but_last (x ∷ y ∷ zs) = x ∷ but_last (y ∷ zs)
+
+-- the last of a list of lists, which is empty where there is none
+abbrev pub last_of : {X : Type 0} → List (List X) → List X
+last_of [] = []
+last_of (x ∷ []) = x
+last_of (x ∷ y ∷ zs) = last_of (y ∷ zs)
+
+-- the whole lines, in order, each without its newline
+unfoldable pub lines_of : List ℕ → List (List ℕ)
+lines_of bytes = but_last (parts_of bytes)
+
+-- what stands after the last newline
+unfoldable pub rest_of_lines : List ℕ → List ℕ
+rest_of_lines bytes = last_of (parts_of bytes)
