@@ -1,5 +1,5 @@
 -- The grammar of a line. What a line says is a value, or the first cause for which it isn't read.
-use Rattle.std.specs.Prelude.{◌==◌, ℕ, Bool, ◌&&◌, List, [], ◌∷◌, nat_lt, nat_le, Result, Ok, Err, if◌then◌else◌, codes}
+use Rattle.std.specs.Prelude.{◌==◌, ℕ, ◌<◌, Bool, ◌&&◌, List, [], ◌∷◌, nat_lt, nat_le, Result, Ok, Err, if◌then◌else◌, codes}
 use Rattle.std.specs.List.{slice_split, list_all}
 use Rattle.std.specs.Str.{bytes_eq}
 use Rattle.trace_text.specs.declared.faults.LineFault.{LineFault}
@@ -58,3 +58,7 @@ call_of (client ∷ call) = both (client_of client) (verb_of call) >>= λ p. Ok 
 -- a line, without its newline
 unfoldable pub line_of : List ℕ → Result Line LineFault
 line_of line = if list_all is_printable line then call_of (words_of line) else Err Bytes
+
+-- what every line that is read keeps to: its client is below 32
+abbrev pub IsWithinLimits : Line → Type 0
+IsWithinLimits (Call client verb) = client < 32

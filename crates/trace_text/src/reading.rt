@@ -3,7 +3,7 @@
 ghost use Rattle.std.specs.Prelude.{◌≡◌, map, IfOk};
 ghost use Rattle.std.specs.List.{list_all};
 ghost use Rattle.trace_text.specs.Causes.{both, Gives};
-ghost use Rattle.trace_text.specs.Grammar.{is_printable, words_of, client_of, pointer_of, malloc_of, free_of, verb_of, call_of, line_of};
+ghost use Rattle.trace_text.specs.Grammar.{is_printable, words_of, client_of, pointer_of, malloc_of, free_of, verb_of, call_of, line_of, IsWithinLimits};
 
 use crate::parts::{address, both_parts, decimal, name};
 use crate::{Line, LineFault, Name, Ptr, Verb};
@@ -16,9 +16,10 @@ const LAST_CLIENT: u64 = 31;
 ///
 /// The line has the shape `tC malloc NAME N` or `tC free PTR`. Else, the cause is the first that holds, in the
 /// order of `LineFault`; each but `NoMemory` comes exactly where it holds first.
-#[tactic(auto, unfolding(crate::specs::Grammar::line_of))]
+#[tactic(auto, unfolding(crate::specs::Grammar::line_of), using(crate::proofs::Limits::within_limits))]
 pub fn read(alloc: Global, line: &[u8]) -> Result<Line, LineFault>
-    ensures { Gives result (line_of line.now) }
+    ensures said { Gives result (line_of line.now) }
+    ensures limits { IfOk result IsWithinLimits }
 {
     if !all_printable(line) {
         return Err(LineFault::Bytes);
