@@ -1,0 +1,5 @@
+pub mod Digits
+pub mod Causes
+pub mod Shapes
+pub mod LineLemmas
+pub mod Limits

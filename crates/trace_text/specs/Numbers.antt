@@ -1,0 +1,41 @@
+-- The numbers of a line, as its words write them.
+use Rattle.std.specs.Prelude.{◌==◌, ℕ, ◌^◌, ◌<◌, Bool, ◌&&◌, ◌||◌, List, [], ◌∷◌, length, slice_index, nat_lt, nat_le, Result, Ok, Err, Option, Some, None, if◌then◌else◌}
+use Rattle.std.specs.Char.{is_ascii_digit}
+use Rattle.std.specs.Int.{is_in_range}
+use Rattle.std.specs.List.{list_all}
+use Rattle.std.specs.Str.Parse.{digits_value}
+use Rattle.trace_text.specs.declared.faults.LineFault.{LineFault}
+use Rattle.trace_text.specs.declared.faults.LineFault.TheVariants.{Words, Number}
+
+-- a hexadecimal digit in lower case
+abbrev pub is_lower_hex : ℕ → Bool
+is_lower_hex c = is_ascii_digit c || is_in_range 97 102 c
+
+-- a word of decimal digits, however many
+abbrev pub is_decimal : List ℕ → Bool
+is_decimal word = nat_lt 0 (length word) && list_all is_ascii_digit word
+
+-- a word of 1 to 16 lower-case hexadecimal digits
+abbrev pub is_hexadecimal : List ℕ → Bool
+is_hexadecimal word = nat_lt 0 (length word) && nat_le (length word) 16 && list_all is_lower_hex word
+
+-- a 0 stands before another digit
+abbrev pub has_leading_zero : List ℕ → Bool
+has_leading_zero digits = nat_lt 1 (length digits) && slice_index digits 0 == 48
+
+-- the number that digits in a base stand for, where it is below 2 ^ 64
+abbrev pub value_in : ℕ → List ℕ → Option ℕ
+value_in base digits = if nat_lt (digits_value base digits) (2 ^ 64) then Some (digits_value base digits) else None
+
+-- the number that digits in a base stand for, which has no leading zero and is below 2 ^ 64
+unfoldable pub number_in : ℕ → List ℕ → Result ℕ LineFault
+number_in base digits =
+    if has_leading_zero digits || nat_le (2 ^ 64) (digits_value base digits) then Err Number else Ok (digits_value base digits)
+
+-- the number that a word of decimal digits stands for
+unfoldable pub decimal_of : List ℕ → Result ℕ LineFault
+decimal_of word = if is_decimal word then number_in 10 word else Err Words
+
+-- the address that a word of hexadecimal digits stands for
+unfoldable pub address_of : List ℕ → Result ℕ LineFault
+address_of word = if is_hexadecimal word then number_in 16 word else Err Words

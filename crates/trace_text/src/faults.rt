@@ -1,0 +1,38 @@
+//! Why a line could not be read.
+
+ghost use Rattle.std.specs.Prelude.{◌≡◌};
+ghost use Rattle.trace_text.specs.declared.faults.LineFault.TheVariants.{NoMemory};
+
+use std::alloc::AllocError;
+use thiserror::Error;
+
+/// The cause of a line that could not be read: the first that holds, in the order of the variants.
+#[derive(Clone, Copy, Debug, PartialEq, Eq, Error)]
+pub enum LineFault {
+    /// Memory ran out. It comes before every other cause.
+    #[error("out of memory")]
+    NoMemory,
+    /// A byte outside 32 to 126.
+    #[error("bytes")]
+    Bytes,
+    /// The line has no shape of the grammar. Its words are parted by exactly one space.
+    #[error("words")]
+    Words,
+    /// A number that isn't below 2^64, or has a leading zero.
+    #[error("number")]
+    Number,
+    /// A client above 31.
+    #[error("threads")]
+    Threads,
+    /// A number outside the range of its place in the line. No line that is read now has such a place.
+    #[error("range")]
+    Range,
+}
+
+impl From<AllocError> for LineFault {
+    ghost from_gives = { λ _ e. e ≡ NoMemory };
+
+    fn from(_: AllocError) -> LineFault {
+        LineFault::NoMemory
+    }
+}
