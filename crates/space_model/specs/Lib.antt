@@ -7,3 +7,4 @@ pub mod Sound
 pub mod Journal
 -- Counts
 pub mod Own
+pub mod Opening
