@@ -1,5 +1,5 @@
 -- Intervals below a bound that have no point in common are together no longer than the bound.
-use Rattle.std.proofs.Common.{◌≡◌, ℕ, zero, suc, ◌+◌, ◌-◌, ◌<◌, ◌≤◌, min, Bool, cond, List, [], ◌∷◌, refl, sym, ◌∙◌, ap, arith, All, eqb, ltb as nat_lt, leb as nat_le, ◌&&◌}
+use Rattle.std.proofs.Common.{◌≡◌, ℕ, zero, suc, ◌+◌, ◌-◌, ◌≤◌, min, Bool, cond, List, [], ◌∷◌, refl, sym, arith, All, ltb as nat_lt, leb as nat_le, ◌&&◌}
 use Rattle.std.specs.List.{sum_by, count_by}
 use Rattle.std.proofs.lemmas.List.Sums.{sum_by-cons}
 use Rattle.std.proofs.lemmas.List.Elements.{All-head, All-tail}

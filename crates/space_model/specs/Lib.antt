@@ -5,6 +5,6 @@ pub mod Fit
 pub mod Step
 pub mod Sound
 pub mod Journal
--- Counts
+pub mod Counts
 pub mod Own
 pub mod Opening

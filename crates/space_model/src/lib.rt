@@ -7,6 +7,7 @@
 
 mod asks;
 mod clients;
+mod counts;
 mod entries;
 mod parts;
 mod plain;
@@ -15,9 +16,10 @@ mod spaces;
 
 pub use asks::{Answer, Ask, Heard};
 pub use clients::Clients;
+pub use counts::Counts;
 pub use entries::{Entry, Op, Reply, Why};
 pub use parts::{Offered, Offers, Part, Parts, Region, Regions, Rest, Span, State};
-pub use plain::{may_stand, plain_step};
+pub use plain::{may_stand, plain_counts, plain_step};
 pub use seq::Seq;
 pub use spaces::{Added, Addeds, Life, Pace, Space};
 
