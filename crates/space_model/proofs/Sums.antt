@@ -70,7 +70,7 @@ whole_sum (p ∷ ps) =
     )
 
 -- bytes are 4096 times pages
-bytes_pages : (parts : List Part) → sum_by bytes_of parts ≡ 4096 * sum_by (λ p. p.span.pages) parts
+pub bytes_pages : (parts : List Part) → sum_by bytes_of parts ≡ 4096 * sum_by (λ p. p.span.pages) parts
 bytes_pages [] = refl
 bytes_pages (p ∷ ps) = omega (arith, sum_by-cons bytes_of p ps, sum_by-cons (λ p. p.span.pages) p ps, bytes_pages ps)
 

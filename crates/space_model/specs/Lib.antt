@@ -8,3 +8,4 @@ pub mod Journal
 pub mod Counts
 pub mod Own
 pub mod Opening
+pub mod Laws
