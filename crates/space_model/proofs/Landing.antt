@@ -51,7 +51,7 @@ nothing_sum f (x ∷ xs) none =
     omega (arith, sum_by-cons f x xs, All-head (λ y. f y ≡ 0) x xs none, nothing_sum f xs (All-tail (λ y. f y ≡ 0) x xs none))
 
 -- an extent that serves a region has the page of each byte of it
-serves-le-share : (byte : ℕ) (r : Region) (p : Part) → covers byte r ≡ true → serves r p ≤ share (byte / 4096) p
+pub serves-le-share : (byte : ℕ) (r : Region) (p : Part) → covers byte r ≡ true → serves r p ≤ share (byte / 4096) p
 serves-le-share byte r p has =
     elim (houses p r) as (λ b. houses p r ≡ b → cond b 1 0 ≤ share (byte / 4096) p)
     [ false ↦ λ h. omega arith | true ↦ λ h. grind (arith, nat_tests) ] refl

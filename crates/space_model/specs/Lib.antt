@@ -5,5 +5,7 @@ pub mod Fit
 pub mod Step
 pub mod Sound
 pub mod Journal
--- Counts
+pub mod Counts
 pub mod Own
+pub mod Opening
+pub mod Laws

@@ -7,7 +7,9 @@
 
 mod asks;
 mod clients;
+mod counts;
 mod entries;
+mod laws;
 mod parts;
 mod plain;
 mod seq;
@@ -15,9 +17,13 @@ mod spaces;
 
 pub use asks::{Answer, Ask, Heard};
 pub use clients::Clients;
+pub use counts::Counts;
 pub use entries::{Entry, Op, Reply, Why};
+pub use laws::{
+    counts_add_up, entries_keep_good, nothing_is_shared, regions_are_usable, replays_are_good,
+};
 pub use parts::{Offered, Offers, Part, Parts, Region, Regions, Rest, Span, State};
-pub use plain::{may_stand, plain_step};
+pub use plain::{may_stand, plain_counts, plain_step};
 pub use seq::Seq;
 pub use spaces::{Added, Addeds, Life, Pace, Space};
 

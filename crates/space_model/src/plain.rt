@@ -6,6 +6,8 @@
 mod finds;
 mod moves;
 mod stands;
+mod sums;
 
 pub use moves::plain_step;
 pub use stands::may_stand;
+pub use sums::plain_counts;

@@ -1,5 +1,9 @@
 //! One arena as a value.
 
+ghost use Rattle.std.specs.Prelude.{◌≡◌, []};
+ghost use Rattle.space_model.specs.Opening.{new_pace, first_space, absent_space};
+ghost use Rattle.space_model.specs.Journal.{Good};
+
 use crate::{Clients, Offers, Parts, Regions, Seq};
 use std::alloc::Global;
 
@@ -32,7 +36,9 @@ pub struct Pace {
 
 impl Pace {
     /// The pace of a decay time from a moment on: epoch 0, nothing left and nothing added.
-    pub fn new(alloc: Global, ms: i64, now: u64) -> Self {
+    pub fn new(alloc: Global, ms: i64, now: u64) -> Self
+        ensures { result ≡ new_pace ms now }
+    {
         Pace {
             ms,
             start: now,
@@ -83,7 +89,10 @@ const MUZZY_MS: i64 = 0;
 
 impl Space {
     /// No arena: nothing in it, and nobody bound. Takes no memory.
-    pub fn absent(alloc: Global) -> Self {
+    pub fn absent(alloc: Global) -> Self
+        ensures absent { result ≡ absent_space }
+        ensures good { Good [] result }
+    {
         Space {
             life: Life::Absent,
             bound: Clients::none(),
@@ -93,7 +102,10 @@ impl Space {
 
     /// Arena 0 at the start: live and empty, with box 0, all 32 clients bound, and the default times from moment 0.
     /// Takes no memory.
-    pub fn first(alloc: Global) -> Self {
+    pub fn first(alloc: Global) -> Self
+        ensures first { result ≡ first_space }
+        ensures good { Good [] result }
+    {
         Space {
             life: Life::Live,
             parts: Seq::new(alloc),

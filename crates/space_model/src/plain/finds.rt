@@ -33,7 +33,7 @@ pub fn listed(rest: Rest) -> State
 }
 
 /// Whether an extent in this state is listed among those of a rest.
-fn is_listed(rest: Rest, state: State) -> bool
+pub fn is_listed(rest: Rest, state: State) -> bool
     ensures { result ≡ is_listed rest state }
 {
     match (rest, state) {

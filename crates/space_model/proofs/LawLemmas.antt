@@ -1,0 +1,147 @@
+-- The laws of arenas and journals.
+use Rattle.std.proofs.Common.{◌≡◌, ◌≢◌, ◌&&◌, ℕ, suc, rules, inl, inr, ◌+◌, ◌/◌, ◌<◌, ◌≤◌, Bool, true, false, cond, IsTrue, List, [], ◌∷◌, ◌++◌, length, get_or, take, refl, sym, ◌∙◌, ap, subst, arith, All, Any, append-nil, append_assoc}
+use Rattle.std.specs.List.{count_by}
+use Rattle.std.proofs.lemmas.Bool.{cases_lt}
+use Rattle.std.proofs.lemmas.List.{get_or-take, length-take}
+use Rattle.std.proofs.lemmas.List.Sums.{sum_by-cons, sum_by_more_le, get_or-le-sum_by, sum_by-le-sum_by}
+use Rattle.std.proofs.lemmas.List.Elements.{All-weaker, All-head, All-tail, All-cons}
+use Rattle.std.proofs.lemmas.Bool.Decides.{nat_tests}
+use Rattle.space_model.specs.declared.entries.Entry.{Entry}
+use Rattle.space_model.specs.declared.entries.Reply.{Reply}
+use Rattle.space_model.specs.declared.parts.Part.{Part}
+use Rattle.space_model.specs.declared.parts.State.TheVariants.{Retained}
+use Rattle.space_model.specs.Span.{IsPlaced, has_page, pages_end}
+use Rattle.space_model.specs.Part.{holders, is_active}
+use Rattle.space_model.specs.Region.{covers, lies_in, houses, homes}
+use Rattle.space_model.specs.Step.{space_after, reply_to, stands}
+use Rattle.space_model.specs.Journal.{Good, replay, all_stand, turns_of, granted}
+use Rattle.space_model.specs.Opening.{first_space, absent_space}
+use Rattle.space_model.specs.Laws.{FirstReplaysAreGood, AbsentReplaysAreGood, ReplaysKeepGood, ReplaysKeepOthers, PartsAreApart, RegionsAreApart, RegionsHaveHomes, RegionsAreGranted, BytesFitSpace}
+use Rattle.space_model.proofs.Exchange.{share}
+use Rattle.space_model.proofs.Idle.{serves}
+use Rattle.space_model.proofs.Pieces.{both_true}
+use Rattle.space_model.proofs.Landing.{serves-le-share}
+use Rattle.space_model.proofs.Steps.{entry_keeps, Good-step}
+use Rattle.space_model.proofs.Sums.{bytes_pages}
+use Rattle.space_model.proofs.Intervals.{lengths-le}
+
+-- ---- journals
+
+pub replays_keep_good : ReplaysKeepGood
+replays_keep_good turns s [] good h = subst (λ (ts : List (Entry × Reply)). Good ts s) (sym (append-nil turns)) good
+replays_keep_good turns s (e ∷ es) good h =
+    let both = both_true (stands s e) (all_stand (space_after s e) es) h in
+    subst (λ (ts : List (Entry × Reply)). Good ts (replay (space_after s e) es)) (append_assoc turns ((e, reply_to s e) ∷ []) (turns_of (space_after s e) es))
+    (replays_keep_good (turns ++ (e, reply_to s e) ∷ []) (space_after s e) es (Good-step turns s e good both.0) both.1)
+
+pub replays_keep_others : ReplaysKeepOthers
+replays_keep_others s [] client sound h other = refl
+replays_keep_others s (e ∷ es) client sound h other =
+    let both = both_true (stands s e) (all_stand (space_after s e) es) h in
+    let keeps = entry_keeps s e sound both.0 in
+    replays_keep_others (space_after s e) es client keeps.sound both.1 (All-tail (λ e. client ≢ e.client) e es other)
+    ∙ keeps.others client (All-head (λ e. client ≢ e.client) e es other)
+
+-- where there is no extent and no region
+first_good : Good [] first_space
+first_good = search rules
+
+absent_good : Good [] absent_space
+absent_good = search rules
+
+pub first_replays_are_good : FirstReplaysAreGood
+first_replays_are_good entries h = replays_keep_good [] first_space entries first_good h
+
+pub absent_replays_are_good : AbsentReplaysAreGood
+absent_replays_are_good entries h = replays_keep_good [] absent_space entries absent_good h
+
+-- ---- nothing is shared
+
+-- where at most one element passes, no two do
+one_passes : {X : Type 0} (test : X → Bool) (xs : List X) → count_by test xs ≤ 1 → (i j : ℕ) (d : X) → i < j → j < length xs →
+    ¬ (IsTrue (test (get_or xs i d)) × IsTrue (test (get_or xs j d)))
+one_passes test xs most i j d lower within both =
+    let one : Bool → ℕ = λ b. cond b 1 0 in
+    let front : i < length (take j xs) = omega (arith, length-take j xs) in
+    let same : one (test (get_or (take j xs) i d)) ≡ one (test (get_or xs i d)) = ap (λ x. one (test x)) (get_or-take j xs i d lower) in
+    omega (
+      arith,
+      same,
+      ap one both.0,
+      ap one both.1,
+      get_or-le-sum_by (λ x. cond (test x) 1 0) (take j xs) i d front,
+      sum_by_more_le (λ x. cond (test x) 1 0) xs j d within,
+    )
+
+pub parts_are_apart : PartsAreApart
+parts_are_apart s sound = λ i j d lower within page. one_passes (λ (p : Part). has_page page p.span) s.parts (sound.owners page) i j d lower within
+
+pub regions_are_apart : RegionsAreApart
+regions_are_apart s sound = λ i j d lower within byte. one_passes (covers byte) s.regions (sound.apart byte) i j d lower within
+
+-- ---- regions
+
+-- what passes a test that is counted once is there
+counted_once : {X : Type 0} (test : X → Bool) (xs : List X) → count_by test xs ≡ 1 → Any (λ x. IsTrue (test x)) xs
+counted_once test [] one = absurd (omega arith)
+counted_once test (x ∷ xs) one =
+    elim (test x) as (λ b. test x ≡ b → cond b 1 0 + count_by test xs ≡ 1 → Any (λ y. IsTrue (test y)) (x ∷ xs)) [
+      | true ↦ λ h k. (0, x, omega arith, refl, h)
+      | false ↦ λ h k. let later = counted_once test xs (omega arith) in (suc later.0, later.1, omega arith, later.3, later.4)
+    ] refl (sym (sum_by-cons (λ y. cond (test y) 1 0) x xs) ∙ one)
+
+pub regions_have_homes : RegionsHaveHomes
+regions_have_homes s sound =
+    All-weaker (λ r. homes r s.parts ≡ 1) (λ r. Any (λ p. IsTrue (is_active p.state) × IsTrue p.committed × IsTrue (lies_in p.span r)) s.parts)
+    (λ r home.
+    let there = counted_once (λ (p : Part). houses p r) s.parts home in
+    let p : Part = there.1 in
+    let last = both_true (is_active p.state && p.committed) (lies_in p.span r) there.4 in
+    let first = both_true (is_active p.state) p.committed last.0 in
+    (there.0, p, there.2, there.3, (first.0, first.1, last.1)))
+    s.regions sound.homes
+
+pub regions_are_granted : RegionsAreGranted
+regions_are_granted turns s good =
+    All-weaker (λ r. homes r s.parts ≡ 1) (λ r. (byte : ℕ) → IsTrue (covers byte r) → IsTrue (granted (byte / 4096) turns))
+    (λ r home byte has.
+    let within : homes r s.parts ≤ holders (byte / 4096) s.parts = sum_by-le-sum_by (serves r) (share (byte / 4096)) s.parts (λ p. serves-le-share byte r p has) in
+    elim (granted (byte / 4096) turns) as (λ b. holders (byte / 4096) s.parts ≡ cond b 1 0 → IsTrue b)
+    [ true ↦ λ h. refl | false ↦ λ h. absurd (omega arith) ] (good.pages (byte / 4096)))
+    s.regions good.sound.homes
+
+-- ---- the space
+
+-- no extent has a page below the first one
+none_below : (page : ℕ) (parts : List Part) → page < 512 → All (λ p. IsPlaced p.span) parts → holders page parts ≡ 0
+none_below page [] low placed = refl
+none_below page (p ∷ ps) low placed =
+    let here : IsPlaced p.span = All-head (λ p. IsPlaced p.span) p ps placed in
+    let nothing : share page p ≡ 0 = grind (arith, nat_tests) in
+    omega (arith, sum_by-cons (share page) p ps, none_below page ps low (All-tail (λ p. IsPlaced p.span) p ps placed))
+
+-- what lies below the first page, as if it were an extent
+below : Part
+below = record { span = record { first = 0; pages = 512 }; state = Retained; committed = false }
+
+-- no page of it is in an extent
+below_apart : (page : ℕ) (parts : List Part) → All (λ p. IsPlaced p.span) parts → holders page parts ≤ 1 → holders page (below ∷ parts) ≤ 1
+unfolding below
+below_apart page parts placed most =
+    elim (cases_lt page 512) [
+      | inl low ↦ let most : share page below ≤ 1 = grind (arith, nat_tests) in omega (arith, sum_by-cons (share page) below parts, none_below page parts low placed)
+      | inr high ↦ let nothing : share page below ≡ 0 = grind (arith, nat_tests) in omega (arith, sum_by-cons (share page) below parts)
+    ]
+
+pub bytes_fit_space : BytesFitSpace
+unfolding below
+bytes_fit_space s sound =
+    omega (
+      arith,
+      bytes_pages s.parts,
+      sum_by-cons (λ (p : Part). p.span.pages) below s.parts,
+      lengths-le (λ (p : Part). p.span.first) (λ p. p.span.pages) pages_end (below ∷ s.parts)
+          (All-cons (λ p. p.span.first + p.span.pages ≤ pages_end) below s.parts (omega arith)
+          (All-weaker (λ p. IsPlaced p.span) (λ p. p.span.first + p.span.pages ≤ pages_end) (λ p h. h.2) s.parts sound.placed))
+          (λ page. below_apart page s.parts sound.placed (sound.owners page)),
+    )

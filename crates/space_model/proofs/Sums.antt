@@ -1,0 +1,112 @@
+-- Sums of bytes: how those of the states add up, and that none is more than the space.
+use Rattle.std.proofs.Common.{◌≡◌, ℕ, ◌+◌, ◌*◌, ◌^◌, ◌≤◌, Bool, true, false, cond, List, [], ◌∷◌, refl, sym, ◌∙◌, arith, All}
+use Rattle.std.specs.List.{sum_by}
+use Rattle.std.proofs.lemmas.List.Sums.{sum_by-cons, sum_by-le-sum_by}
+use Rattle.std.proofs.lemmas.List.Elements.{All-weaker, All-head, All-tail}
+use Rattle.std.proofs.lemmas.Bool.Decides.{nat_tests}
+use Rattle.size_classes.specs.Classes.{size_at}
+use Rattle.space_model.specs.declared.parts.Part.{Part}
+use Rattle.space_model.specs.declared.parts.Region.{Region}
+use Rattle.space_model.specs.declared.parts.Rest.TheVariants.{Dirty as ToDirty, Muzzy as ToMuzzy, Retained as ToRetained}
+use Rattle.space_model.specs.declared.parts.State.{State}
+use Rattle.space_model.specs.declared.parts.State.TheVariants.{Active, Dirty, Muzzy, Retained, Flight}
+use Rattle.space_model.specs.declared.spaces.Space.{Space}
+use Rattle.space_model.specs.Span.{IsPlaced, pages_end}
+use Rattle.space_model.specs.Part.{is_active, is_listed}
+use Rattle.space_model.specs.Region.{houses, homes}
+use Rattle.space_model.specs.Sound.{Sound, is_in_flight}
+use Rattle.space_model.specs.Counts.{bytes_of, bytes_where, region_bytes, is_mapped}
+use Rattle.space_model.proofs.Intervals.{lengths-le}
+use Rattle.space_model.proofs.Idle.{serves}
+
+-- the bytes of an extent whose state passes, or none
+abbrev bytes_if : (State → Bool) → Part → ℕ
+bytes_if test p = cond (test p.state) (bytes_of p) 0
+
+-- a mapped extent is of one use
+one_use : (n : ℕ) (state : State) →
+    cond (is_mapped state) n 0 ≡ cond (is_active state) n 0 + cond (is_listed ToDirty state) n 0 + cond (is_listed ToMuzzy state) n 0 + cond (is_in_flight state) n 0
+one_use n Active = omega arith
+one_use n Dirty = omega arith
+one_use n Muzzy = omega arith
+one_use n Retained = refl
+one_use n (Flight c rest) = omega arith
+
+-- an extent is mapped or retained
+mapped_or : (n : ℕ) (state : State) → n ≡ cond (is_mapped state) n 0 + cond (is_listed ToRetained state) n 0
+mapped_or n Active = omega arith
+mapped_or n Dirty = omega arith
+mapped_or n Muzzy = omega arith
+mapped_or n Retained = omega arith
+mapped_or n (Flight c rest) = omega arith
+
+-- the bytes of mapped extents are those of the four uses
+pub mapped_sum : (parts : List Part) → bytes_where is_mapped parts
+    ≡ bytes_where is_active parts + bytes_where (is_listed ToDirty) parts + bytes_where (is_listed ToMuzzy) parts + bytes_where is_in_flight parts
+mapped_sum [] = refl
+mapped_sum (p ∷ ps) =
+    omega (
+      arith,
+      one_use (bytes_of p) p.state,
+      sum_by-cons (bytes_if is_mapped) p ps,
+      sum_by-cons (bytes_if is_active) p ps,
+      sum_by-cons (bytes_if (is_listed ToDirty)) p ps,
+      sum_by-cons (bytes_if (is_listed ToMuzzy)) p ps,
+      sum_by-cons (bytes_if is_in_flight) p ps,
+      mapped_sum ps,
+    )
+
+-- all bytes are those of mapped extents and of retained ones
+pub whole_sum : (parts : List Part) → sum_by bytes_of parts ≡ bytes_where is_mapped parts + bytes_where (is_listed ToRetained) parts
+whole_sum [] = refl
+whole_sum (p ∷ ps) =
+    omega (
+      arith,
+      mapped_or (bytes_of p) p.state,
+      sum_by-cons bytes_of p ps,
+      sum_by-cons (bytes_if is_mapped) p ps,
+      sum_by-cons (bytes_if (is_listed ToRetained)) p ps,
+      whole_sum ps,
+    )
+
+-- bytes are 4096 times pages
+pub bytes_pages : (parts : List Part) → sum_by bytes_of parts ≡ 4096 * sum_by (λ p. p.span.pages) parts
+bytes_pages [] = refl
+bytes_pages (p ∷ ps) = omega (arith, sum_by-cons bytes_of p ps, sum_by-cons (λ p. p.span.pages) p ps, bytes_pages ps)
+
+-- the extents have at most all pages
+pub bytes_le : (s : Space) → Sound s → sum_by bytes_of s.parts ≤ 4096 * pages_end
+bytes_le s sound =
+    omega (
+      arith,
+      bytes_pages s.parts,
+      lengths-le (λ (p : Part). p.span.first) (λ p. p.span.pages) pages_end s.parts
+          (All-weaker (λ p. IsPlaced p.span) (λ p. p.span.first + p.span.pages ≤ pages_end) (λ p h. h.2) s.parts sound.placed)
+          sound.owners,
+    )
+
+-- a part of a number is at most that
+if_le : (b : Bool) (n : ℕ) → cond b n 0 ≤ n
+if_le true n = omega arith
+if_le false n = omega arith
+
+-- the bytes of some of the extents fit
+pub bytes_where_fits : (test : State → Bool) (s : Space) → Sound s → bytes_where test s.parts ≤ 2 ^ 37
+bytes_where_fits test s sound =
+    omega (arith, bytes_le s sound, sum_by-le-sum_by (bytes_if test) bytes_of s.parts (λ p. if_le (test p.state) (bytes_of p)))
+
+-- a region that has a home ends within the space
+region_end : (r : Region) (parts : List Part) → All (λ p. IsPlaced p.span) parts → homes r parts ≡ 1 → r.addr + size_at r.class ≤ 4096 * pages_end
+region_end r [] placed home = absurd (omega arith)
+region_end r (p ∷ ps) placed home =
+    elim (houses p r) as (λ b. houses p r ≡ b → cond b 1 0 + homes r ps ≡ 1 → r.addr + size_at r.class ≤ 4096 * pages_end) [
+      | true ↦ λ h k. let here : IsPlaced p.span = All-head (λ p. IsPlaced p.span) p ps placed in grind (arith, nat_tests)
+      | false ↦ λ h k. region_end r ps (All-tail (λ p. IsPlaced p.span) p ps placed) (omega arith)
+    ] refl (sym (sum_by-cons (serves r) p ps) ∙ home)
+
+-- the regions have at most all bytes
+pub region_bytes_fits : (s : Space) → Sound s → region_bytes s.regions ≤ 2 ^ 37
+region_bytes_fits s sound =
+    lengths-le (λ (r : Region). r.addr) (λ r. size_at r.class) (4096 * pages_end) s.regions
+    (All-weaker (λ r. homes r s.parts ≡ 1) (λ r. r.addr + size_at r.class ≤ 4096 * pages_end) (λ r h. region_end r s.parts sound.placed h) s.regions sound.homes)
+    sound.apart
