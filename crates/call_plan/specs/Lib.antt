@@ -1,4 +1,5 @@
 pub mod Reading
 pub mod Malloc
 pub mod Rest
+pub mod Stages
 pub mod Calls

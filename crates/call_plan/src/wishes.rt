@@ -3,6 +3,7 @@
 ghost use Rattle.std.specs.Prelude.{◌≡◌, ◌+◌, ◌≤◌, ◌^◌, ℕ, List, [], ◌∷◌, max};
 ghost use Rattle.call_plan.specs.Reading.{Item, Replied, Told, ends};
 ghost use Rattle.call_plan.specs.Malloc.{whole_chunks, answered_span, commit, grant, trim, skip_to, grow, looked, skip_cut, trim_cut, grown, grant_cut, committed, landed};
+ghost use Rattle.call_plan.specs.Stages.{commit_point, grant_point, trim_point, skip_point, looked_point, skip_cut_point, trim_cut_point, grown_point, grant_cut_point, commit_done_point, landed_point, after_reply_point, after_answer_point};
 ghost use Rattle.call_plan.specs.Rest.{rest_after, rest_of_get, IsFitting, NeedIs};
 
 use crate::{Answered, Given, Need, Turn};
@@ -73,7 +74,8 @@ impl Wish {
 
     /// The extent has the pages: it is committed, where it isn't yet.
     fn commit(self, span: Span, committed: bool) -> Flow
-        ensures { rest_after self result ≡ commit self span committed }
+        ensures reads { rest_after self result ≡ commit self span committed }
+        ensures point { result ≡ ControlFlow.Continue (commit_point span committed) }
     {
         if committed {
             ControlFlow::Continue(Getting::Landing(span))
@@ -84,7 +86,8 @@ impl Wish {
 
     /// A grant: what is too much of it is cut off.
     fn grant(self, span: Span, committed: bool) -> Flow
-        ensures { rest_after self result ≡ grant self span committed }
+        ensures reads { rest_after self result ≡ grant self span committed }
+        ensures point { result ≡ ControlFlow.Continue (grant_point self span committed) }
     {
         if self.pages < span.pages {
             ControlFlow::Continue(Getting::GrantAsked(span, committed))
@@ -95,7 +98,8 @@ impl Wish {
 
     /// An unused extent: what stands behind the run is cut off.
     fn trim(self, span: Span, committed: bool) -> Flow
-        ensures { rest_after self result ≡ trim self span committed }
+        ensures reads { rest_after self result ≡ trim self span committed }
+        ensures point { result ≡ ControlFlow.Continue (trim_point self span committed) }
     {
         if self.pages < span.pages {
             ControlFlow::Continue(Getting::TrimAsked(span, committed))
@@ -106,7 +110,8 @@ impl Wish {
 
     /// An unused extent: what stands before the run is cut off.
     fn skip_to(self, span: Span, committed: bool, skip: u64) -> Flow
-        ensures { rest_after self result ≡ skip_to self span committed skip }
+        ensures reads { rest_after self result ≡ skip_to self span committed skip }
+        ensures point { result ≡ ControlFlow.Continue (skip_point self span committed skip) }
     {
         if 0 < skip {
             ControlFlow::Continue(Getting::SkipAsked(span, committed, skip))
@@ -129,7 +134,8 @@ fn answered_span(pages: u64, answer: Answer) -> Span
 impl Wish {
     /// The arena has to grow.
     fn grow(self) -> Flow
-        ensures { rest_after self result ≡ grow self }
+        ensures reads { rest_after self result ≡ grow self }
+        ensures point { result ≡ ControlFlow.Continue Getting.GrowAsked }
     {
         ControlFlow::Continue(Getting::GrowAsked)
     }
@@ -137,7 +143,8 @@ impl Wish {
     /// After the reply to the look.
     fn looked(self, reply: Reply) -> Flow
         requires { IsFitting (looked self reply []) }
-        ensures { rest_after self result ≡ looked self reply }
+        ensures reads { rest_after self result ≡ looked self reply }
+        ensures point { result ≡ looked_point self reply }
     {
         match reply {
             Reply::Took {
@@ -162,7 +169,8 @@ impl Wish {
     /// After the reply to a split of an unused extent: what stands before the run is cut off.
     fn skip_cut(self, committed: bool, reply: Reply) -> Flow
         requires { IsFitting (skip_cut self committed reply []) }
-        ensures { rest_after self result ≡ skip_cut self committed reply }
+        ensures reads { rest_after self result ≡ skip_cut self committed reply }
+        ensures point { result ≡ skip_cut_point self committed reply }
     {
         match reply {
             Reply::Cut(high) => self.trim(high, committed),
@@ -181,7 +189,8 @@ impl Wish {
     /// After the reply to a split of an unused extent: what stands behind the run is cut off.
     fn trim_cut(self, committed: bool, reply: Reply) -> Flow
         requires { IsFitting (trim_cut self committed reply []) }
-        ensures { rest_after self result ≡ trim_cut self committed reply }
+        ensures reads { rest_after self result ≡ trim_cut self committed reply }
+        ensures point { result ≡ trim_cut_point committed reply }
     {
         match reply {
             Reply::Cut(low) => self.commit(low, committed),
@@ -201,7 +210,8 @@ impl Wish {
     fn grown(self, asked: Asked, reply: Reply) -> Flow
         requires fits { self.pages ≤ 2 ^ 32 }
         requires fitting { IsFitting (grown self asked reply []) }
-        ensures { rest_after self result ≡ grown self asked reply }
+        ensures reads { rest_after self result ≡ grown self asked reply }
+        ensures point { result ≡ grown_point self asked reply }
     {
         match reply {
             Reply::Refused => ControlFlow::Break(Answered::Refused(asked)),
@@ -223,7 +233,8 @@ impl Wish {
     /// After the reply to a split of a grant.
     fn grant_cut(self, committed: bool, asked: Asked, reply: Reply) -> Flow
         requires { IsFitting (grant_cut self committed asked reply []) }
-        ensures { rest_after self result ≡ grant_cut self committed asked reply }
+        ensures reads { rest_after self result ≡ grant_cut self committed asked reply }
+        ensures point { result ≡ grant_cut_point committed asked reply }
     {
         match reply {
             Reply::Cut(low) => self.commit(low, committed),
@@ -242,7 +253,8 @@ impl Wish {
     /// After the reply to a commit.
     fn committed(self, span: Span, asked: Asked, reply: Reply) -> Flow
         requires { IsFitting (committed self span asked reply []) }
-        ensures { rest_after self result ≡ committed self span asked reply }
+        ensures reads { rest_after self result ≡ committed self span asked reply }
+        ensures point { result ≡ commit_done_point span asked reply }
     {
         match reply {
             Reply::Noted => ControlFlow::Continue(Getting::Landing(span)),
@@ -261,7 +273,8 @@ impl Wish {
     /// After the reply to the landing.
     fn landed(self, reply: Reply) -> Flow
         requires { IsFitting (landed self reply []) }
-        ensures { rest_after self result ≡ landed self reply }
+        ensures reads { rest_after self result ≡ landed self reply }
+        ensures point { result ≡ landed_point self reply }
     {
         match reply {
             Reply::Landed { first, .. } => ControlFlow::Break(Answered::Ok(Given::Region {
@@ -284,7 +297,8 @@ impl Wish {
     pub(crate) fn after_reply(self, getting: Getting, reply: Reply) -> Flow
         requires fits { self.pages ≤ 2 ^ 32 }
         requires fitting { IsFitting (rest_of_get self getting (Replied reply ∷ [])) }
-        ensures { (items : List Item) → rest_of_get self getting (Replied reply ∷ items) ≡ rest_after self result items }
+        ensures reads { (items : List Item) → rest_of_get self getting (Replied reply ∷ items) ≡ rest_after self result items }
+        ensures point { result ≡ after_reply_point self getting reply }
     {
         match getting {
             Getting::Looking => self.looked(reply),
@@ -305,7 +319,8 @@ impl Wish {
     /// The point after the answer to the ask that was needed.
     pub(crate) fn after_answer(self, getting: Getting, asked: Asked) -> Flow
         requires { IsFitting (rest_of_get self getting (Told asked ∷ [])) }
-        ensures { (items : List Item) → rest_of_get self getting (Told asked ∷ items) ≡ rest_after self result items }
+        ensures reads { (items : List Item) → rest_of_get self getting (Told asked ∷ items) ≡ rest_after self result items }
+        ensures point { result ≡ ControlFlow.Continue (after_answer_point getting asked) }
     {
         match getting {
             Getting::SkipAsked(_, committed, _) => ControlFlow::Continue(Getting::SkipCut(

@@ -1,5 +1,7 @@
-use Rattle.call_plan.proofs.Choice.{chosen}
+use Rattle.std.proofs.Common.{ap}
+use Rattle.std.specs.declared.ops.ControlFlow.TheVariants.{Continue}
+use Rattle.call_plan.proofs.Choice.{chosen, not_chosen}
 use Rattle.call_plan.proofs.wishes.Wish.trim.Goals as goal
 
-pub returns-then-self-span : goal.returns-then-self-span
-returns-then-self-span c = chosen _ _ _ _ c.if-self-span.true
+pub returns-then-self-span-clause-reads : goal.returns-then-self-span-clause-reads
+returns-then-self-span-clause-reads c = chosen _ _ _ _ c.if-self-span.true
