@@ -1,2 +1,6 @@
 pub mod Choice
 pub mod Starts
+pub mod Flights
+pub mod Cutting
+pub mod Known
+pub mod Powers

@@ -1,6 +1,8 @@
 -- Calls as contracts see them, and the run of a call.
 use Rattle.std.specs.Prelude.{◌≡◌, ℕ, ◌<◌, ◌≤◌, true, List, [], ◌∷◌}
 use Rattle.std.specs.Int.{is_power_of_two}
+use Rattle.std.specs.declared.ops.ControlFlow.{ControlFlow}
+use Rattle.std.specs.declared.ops.ControlFlow.TheVariants.{Continue, Break}
 use Rattle.size_classes.specs.Classes.{pages_at}
 use Rattle.call_plan.specs.declared.needs.Answered.{Answered}
 use Rattle.call_plan.specs.declared.needs.Fed.{Fed}
@@ -9,7 +11,9 @@ use Rattle.call_plan.specs.declared.needs.Request.{Request}
 use Rattle.call_plan.specs.declared.needs.Request.TheVariants.{Malloc}
 use Rattle.call_plan.specs.declared.stages.Stage.{Stage}
 use Rattle.call_plan.specs.declared.stages.Stage.TheVariants.{Get, Ended}
+use Rattle.call_plan.specs.declared.wishes.Getting.{Getting}
 use Rattle.call_plan.specs.declared.wishes.Wish.{Wish}
+use Rattle.call_plan.specs.Stages.{after_reply_point, after_answer_point}
 use Rattle.call_plan.specs.Reading.{Item, Replied, Told, Outcome, Ends}
 use Rattle.call_plan.specs.Malloc.{malloc}
 
@@ -52,3 +56,15 @@ IsBuilt (Malloc size) = 14336 < size
 abbrev pub HasNotTold : Stage → Fed → Type 0
 HasNotTold (Get wish getting) fed = Unit {0}
 HasNotTold (Ended answer) fed = items_of fed ≡ []
+
+-- where a malloc goes on, or its end
+abbrev pub stage_of : Wish → ControlFlow Answered Getting → Stage
+stage_of wish (Continue getting) = Get wish getting
+stage_of wish (Break answer) = Ended answer
+
+-- the point of a call after what it was fed
+abbrev pub stage_after : Stage → Fed → Stage
+stage_after (Get wish getting) Begin = Get wish getting
+stage_after (Get wish getting) (FedReply reply) = stage_of wish (after_reply_point wish getting reply)
+stage_after (Get wish getting) (Answer asked) = Get wish (after_answer_point getting asked)
+stage_after (Ended answer) fed = Ended answer

@@ -3,3 +3,5 @@ pub mod Malloc
 pub mod Rest
 pub mod Stages
 pub mod Calls
+pub mod Knows
+pub mod Laws

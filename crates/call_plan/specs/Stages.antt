@@ -3,7 +3,7 @@ use Rattle.std.specs.Prelude.{ℕ, Bool, true, false, nat_lt, if◌then◌else�
 use Rattle.std.specs.declared.ops.ControlFlow.{ControlFlow}
 use Rattle.std.specs.declared.ops.ControlFlow.TheVariants.{Continue, Break}
 use Rattle.space_model.specs.declared.Reply.{Reply}
-use Rattle.space_model.specs.declared.Reply.TheVariants.{NoArena, Noted, Took, Grow, Cut, Whole, Refused as Refuse, Bad, Grown, Landed}
+use Rattle.space_model.specs.declared.Reply.TheVariants.{NoArena, Noted, Took, Cut, Bad, Grown, Landed}
 use Rattle.space_model.specs.declared.Span.{Span}
 use Rattle.hook_api.specs.Asked.{AskFacts}
 use Rattle.call_plan.specs.declared.needs.Answered.{Answered}

@@ -3,7 +3,8 @@
 ghost use Rattle.std.specs.Prelude.{◌≡◌, ◌++◌, ◌<◌, ℕ, List, [], IfOk};
 ghost use Rattle.call_plan.specs.Reading.{Item};
 ghost use Rattle.call_plan.specs.Rest.{rest_of, rest_of_get, rest_after, NeedIs, IsFitting};
-ghost use Rattle.call_plan.specs.Calls.{reading, items_of, IsBuilt, IsPlanned, IsWish, HasNotTold};
+ghost use Rattle.call_plan.specs.Knows.{Knows};
+ghost use Rattle.call_plan.specs.Calls.{reading, items_of, IsBuilt, IsPlanned, IsWish, HasNotTold, stage_of, stage_after};
 
 use crate::{Answered, Fed, Getting, Need, Request, Stage, Wish};
 use size_classes::{class_of, class_pages};
@@ -28,6 +29,7 @@ pub struct Call {
 }
 
 impl Model for Call {
+    ghost use Rattle.call_plan.specs.Knows.{Knows};
     ghost use Rattle.call_plan.specs.Calls.{CallFacts, IsPlanned};
 
     ghost Value = { CallFacts };
@@ -44,6 +46,7 @@ fn malloc(arena: u32, size: u64) -> Stage
     requires { 14336 < size }
     ensures reads { rest_of result ≡ reading arena (Request.Malloc size) }
     ensures planned { IsPlanned result }
+    ensures knows { (client : ℕ) (space : _) → Knows client space result }
 {
     match class_of(size) {
         Ok(class) => {
@@ -74,6 +77,7 @@ impl Wish {
         requires wish { IsWish self }
         requires fitting { IsFitting (rest_of_get self getting (items_of fed)) }
         ensures reads { (items : List Item) → rest_of_get self getting (items_of fed ++ items) ≡ rest_of result items }
+        ensures point { result ≡ stage_after (Stage.Get self getting) fed }
         ensures planned { IsPlanned result }
     {
         let next = match fed {
@@ -88,6 +92,7 @@ impl Wish {
     fn stage(self, next: ControlFlow<Answered, Getting>) -> Stage
         requires { IsWish self }
         ensures reads { rest_of result ≡ rest_after self next }
+        ensures point { result ≡ stage_of self next }
         ensures planned { IsPlanned result }
     {
         match next {
@@ -104,6 +109,7 @@ impl Stage {
         requires fitting { IsFitting (rest_of self (items_of fed)) }
         requires goes_on { HasNotTold self fed }
         ensures reads { (items : List Item) → rest_of self (items_of fed ++ items) ≡ rest_of result items }
+        ensures point { result ≡ stage_after self fed }
         ensures planned { IsPlanned result }
     {
         match self {
@@ -133,6 +139,7 @@ impl Call {
         ensures client { IfOk result (λ call. call.client ≡ desk.old.client) }
         ensures reads { IfOk result (λ call. rest_of call.stage ≡ reading desk.old.arena request) }
         ensures planned { IfOk result (λ call. IsPlanned call.stage) }
+        ensures knows { (client : ℕ) (space : _) → IfOk result (λ call. Knows client space call.stage) }
         ensures desk { desk.new ≡ desk.old }
     {
         Ok(Call {
@@ -148,6 +155,7 @@ impl Call {
         requires fitting { IsFitting (rest_of self.old.stage (items_of fed)) }
         requires goes_on { HasNotTold self.old.stage fed }
         ensures reads { (items : List Item) → rest_of self.old.stage (items_of fed ++ items) ≡ rest_of self.new.stage items }
+        ensures point { self.new.stage ≡ stage_after self.old.stage fed }
         ensures need { NeedIs self.new.client (rest_of self.new.stage []) result }
         ensures client { self.new.client ≡ self.old.client }
         ensures planned { IsPlanned self.new.stage }

@@ -6,11 +6,13 @@
 #![tactic(auto)]
 
 mod calls;
+mod laws;
 mod needs;
 mod stages;
 mod wishes;
 
 pub use calls::{Call, Desk};
+pub use laws::{asks_go_on, turns_go_on};
 pub use needs::{Answered, Fed, Given, Need, Request, Turn};
 pub use stages::Stage;
 pub use wishes::{Getting, Wish};

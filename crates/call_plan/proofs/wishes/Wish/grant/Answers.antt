@@ -1,6 +1,4 @@
-use Rattle.std.proofs.Common.{ap}
-use Rattle.std.specs.declared.ops.ControlFlow.TheVariants.{Continue}
-use Rattle.call_plan.proofs.Choice.{chosen, not_chosen}
+use Rattle.call_plan.proofs.Choice.{chosen}
 use Rattle.call_plan.proofs.wishes.Wish.grant.Goals as goal
 
 pub returns-then-self-span-clause-reads : goal.returns-then-self-span-clause-reads

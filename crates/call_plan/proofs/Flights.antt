@@ -1,0 +1,84 @@
+-- The extent that a client has in flight is found where the client left it: last.
+use Rattle.std.proofs.Common.{◌≡◌, ℕ, ◌+◌, ◌<◌, ◌≤◌, Bool, true, cond, List, [], ◌∷◌, ◌++◌, Some, None, refl, ◌∙◌, ap, subst, arith, All, find, ◌==◌}
+use Rattle.std.specs.Option.{option_or}
+use Rattle.std.proofs.lemmas.List.Folds.{find-append}
+use Rattle.std.proofs.lemmas.List.Sums.{sum_by-append, sum_by-cons}
+use Rattle.std.proofs.lemmas.List.Elements.{All-nil, All-cons, All-head, All-tail}
+use Rattle.std.proofs.lemmas.Bool.Decides.{nat_tests}
+use Rattle.std.proofs.lemmas.Bool.{eqb-true}
+use Rattle.space_model.specs.declared.Part.{Part}
+use Rattle.space_model.specs.declared.Space.{Space}
+use Rattle.space_model.specs.declared.Span.{Span}
+use Rattle.space_model.specs.Span.{same_span}
+use Rattle.space_model.specs.Part.{holders, is_flight, is_flight_at}
+use Rattle.space_model.specs.Sound.{Sound}
+use Rattle.space_model.proofs.Exchange.{share, find_passes, find-le-sum_by, find_has}
+use Rattle.space_model.proofs.Pieces.{both_true}
+use Rattle.space_model.proofs.Idle.{some_pages}
+use Rattle.call_plan.specs.Knows.{Flying}
+
+-- a span is itself
+same_span_itself : (s : Span) → same_span s s ≡ true
+same_span_itself s = grind (arith, nat_tests)
+
+-- spans with the same first page and pages are the same
+pub span_is : (s t : Span) → same_span s t ≡ true → s ≡ t
+span_is s t h =
+    let both = both_true (s.first == t.first) (s.pages == t.pages) h in
+    let first : s.first ≡ t.first = eqb-true _ _ both.0 in
+    let pages : s.pages ≡ t.pages = eqb-true _ _ both.1 in
+    let of : ℕ → ℕ → Span = λ a b. record { first = a; pages = b } in
+    ap (λ a. of a s.pages) first ∙ ap (λ b. of t.first b) pages
+
+-- an extent that isn't empty has its first page
+start_share : (first : ℕ) (p : Part) → p.span.first ≡ first → 0 < p.span.pages → share first p ≡ 1
+start_share first p at some = grind (arith, nat_tests)
+
+-- what is found in flight has the span
+pub found_span : (c : ℕ) (span : Span) (parts : List Part) (p : Part) → find (is_flight_at c span) parts ≡ Some p → (p.span ≡ span) × (is_flight c p.state ≡ true)
+found_span c span parts p found =
+    let passes = both_true (is_flight c p.state) (same_span p.span span) (find_passes (is_flight_at c span) parts p found) in
+    (span_is p.span span passes.1, passes.0)
+
+-- what is true of each element of two lists is true of those of the first, and of the last one
+All-left : {X : Type 0} (P : X → Type 0) (xs ys : List X) → All P (xs ++ ys) → All P xs
+All-left P [] ys all = All-nil P
+All-left P (x ∷ xs) ys all = All-cons P x xs (All-head P x (xs ++ ys) all) (All-left P xs ys (All-tail P x (xs ++ ys) all))
+
+All-last : {X : Type 0} (P : X → Type 0) (xs : List X) (y : X) → All P (xs ++ y ∷ []) → P y
+All-last P [] y all = All-head P y [] all
+All-last P (x ∷ xs) y all = All-last P xs y (All-tail P x (xs ++ y ∷ []) all)
+
+-- nothing in front of the last extent has its span, where no page has two extents
+none_in_front : (c : ℕ) (q : Part) (front : List Part) → All (λ p. 0 < p.span.pages) front → 0 < q.span.pages →
+    holders q.span.first front + share q.span.first q ≤ 1 → find (is_flight_at c q.span) front ≡ None
+none_in_front c q front some q_some most =
+    elim (find (is_flight_at c q.span) front) as (λ o. find (is_flight_at c q.span) front ≡ o → o ≡ None) [
+      | None ↦ λ e. refl
+      | Some p ↦ λ e.
+          let same = (found_span c q.span front p e).0 in
+          let p_some : 0 < p.span.pages = find_has (λ x. 0 < x.span.pages) (is_flight_at c q.span) front p some e in
+          let p_one : share q.span.first p ≡ 1 = start_share q.span.first p (ap (λ (s : Span). s.first) same) p_some in
+          let q_one : share q.span.first q ≡ 1 = start_share q.span.first q refl q_some in
+          absurd (omega (arith, p_one, q_one, most, find-le-sum_by (share q.span.first) (is_flight_at c q.span) front p e))
+    ] refl
+
+-- the client's extent that comes last is the one that is found by its span
+pub last_flies : (c : ℕ) (t : Space) (front : List Part) (q : Part) (b : Bool) → Sound t → t.parts ≡ front ++ q ∷ [] → is_flight c q.state ≡ true →
+    q.committed ≡ b → Flying c t q.span b
+last_flies c t front q b sound is own committed =
+    let page : ℕ = q.span.first in
+    let some : All (λ p. 0 < p.span.pages) (front ++ q ∷ []) = subst (All (λ p. 0 < p.span.pages)) is (some_pages t.parts sound.placed) in
+    let in_front : All (λ p. 0 < p.span.pages) front = All-left (λ p. 0 < p.span.pages) front (q ∷ []) some in
+    let at_end : 0 < q.span.pages = All-last (λ p. 0 < p.span.pages) front q some in
+    let most : holders page front + share page q ≤ 1 =
+    omega (arith, sound.owners page, ap (holders page) is, sum_by-append (share page) front (q ∷ []), sum_by-cons (share page) q []) in
+    let none = none_in_front c q front in_front at_end most in
+    let passes : is_flight_at c q.span q ≡ true = rw (own, same_span_itself q.span) refl in
+    record {
+      part = q;
+      found = ap (find (is_flight_at c q.span)) is ∙ find-append (is_flight_at c q.span) front (q ∷ [])
+          ∙ ap (λ o. option_or o (find (is_flight_at c q.span) (q ∷ []))) none
+          ∙ ap (λ (b : Bool). cond b (Some q) None) passes;
+      committed = committed;
+    }
