@@ -1,0 +1,317 @@
+//! A script of entries whose replies, extents and counts were worked out by hand.
+
+ghost use Rattle.std.specs.Prelude.{◌+◌, ◌<◌, ◌^◌};
+ghost use Rattle.space_model.specs.Sound.{Sound};
+
+use super::*;
+use std::process::Abort;
+use std::test::Fail;
+
+/// An operation in short.
+#[derive(Clone, Copy)]
+enum Short {
+    /// Pages and alignment.
+    Look(u64, u64),
+    /// Pages that were asked for, the page that came and whether it is committed, and a chunk of another arena.
+    Grow(u64, u64, bool, Option<u64>),
+    /// A split at so many pages.
+    Cut(Span, u64, Answer),
+    /// A commit.
+    Commit(Span, Answer),
+    /// One region of the class.
+    Land(Span, u8),
+}
+
+/// What the script does next, and what is to be seen then.
+#[derive(Clone, Copy)]
+enum Line {
+    /// An arena begins.
+    Start,
+    /// The operation of client 0 has this reply.
+    Reply(Short, Reply),
+    /// The client's operation may not stand.
+    Bars(u32, Short),
+    /// These bytes are allocated, retained and in flight, all bytes of active extents are allocated, and no others are.
+    Counts(u64, u64, u64),
+    /// These are the extents.
+    Parts([Part; 4]),
+}
+
+const CHUNK: Span = Span {
+    first: 512,
+    pages: 512,
+};
+
+const FIVE: Span = Span {
+    first: 512,
+    pages: 5,
+};
+
+const REST: Span = Span {
+    first: 517,
+    pages: 507,
+};
+
+const NEXT: Span = Span {
+    first: 1024,
+    pages: 512,
+};
+
+const NEXT_FIVE: Span = Span {
+    first: 1024,
+    pages: 5,
+};
+
+const NEXT_REST: Span = Span {
+    first: 1029,
+    pages: 507,
+};
+
+const GROWN: Reply = Reply::Grown {
+    span: CHUNK,
+    committed: false,
+};
+
+const GROWN_COMMITTED: Reply = Reply::Grown {
+    span: CHUNK,
+    committed: true,
+};
+
+const GROWN_NEXT: Reply = Reply::Grown {
+    span: NEXT,
+    committed: false,
+};
+
+const TOOK: Reply = Reply::Took {
+    span: CHUNK,
+    committed: false,
+    skip: 0,
+};
+
+const TOOK_REST: Reply = Reply::Took {
+    span: REST,
+    committed: false,
+    skip: 0,
+};
+
+const LANDED: Reply = Reply::Landed {
+    first: 0x20_0000,
+    count: 1,
+};
+
+const LANDED_NEXT: Reply = Reply::Landed {
+    first: 0x40_0000,
+    count: 1,
+};
+
+const TWO_CHUNKS: [Part; 4] = [
+    Part {
+        span: FIVE,
+        state: State::Active,
+        committed: true,
+    },
+    Part {
+        span: REST,
+        state: State::Retained,
+        committed: false,
+    },
+    Part {
+        span: NEXT_REST,
+        state: State::Retained,
+        committed: false,
+    },
+    Part {
+        span: NEXT_FIVE,
+        state: State::Active,
+        committed: true,
+    },
+];
+
+/// The class of 20480 bytes, which are 5 pages.
+const FIVE_CLASS: u8 = 37;
+
+/// The class of 2 MiB, a chunk.
+const CHUNK_CLASS: u8 = 64;
+
+const SCRIPT: [Line; 52] = [
+    // Five pages of a new chunk, whose rest is retained.
+    Line::Start,
+    Line::Reply(Short::Look(5, 1), Reply::Grow),
+    Line::Bars(0, Short::Grow(0, 512, false, None)),
+    Line::Reply(Short::Grow(512, 512, false, None), GROWN),
+    Line::Counts(0, 0, 2097152),
+    Line::Bars(0, Short::Cut(CHUNK, 512, Answer::Done)),
+    Line::Bars(0, Short::Cut(CHUNK, 0, Answer::Done)),
+    Line::Bars(1, Short::Cut(CHUNK, 5, Answer::Done)),
+    Line::Reply(Short::Cut(CHUNK, 5, Answer::Done), Reply::Cut(FIVE)),
+    Line::Bars(0, Short::Land(FIVE, FIVE_CLASS)),
+    Line::Bars(0, Short::Commit(CHUNK, Answer::Done)),
+    Line::Reply(Short::Commit(FIVE, Answer::Done), Reply::Noted),
+    Line::Bars(0, Short::Commit(FIVE, Answer::Done)),
+    Line::Bars(0, Short::Land(FIVE, CHUNK_CLASS)),
+    Line::Reply(Short::Land(FIVE, FIVE_CLASS), LANDED),
+    Line::Counts(20480, 2076672, 0),
+    // The split of the rest is refused, so that it is put down whole, and the next chunk serves.
+    Line::Reply(Short::Look(5, 1), TOOK_REST),
+    Line::Reply(Short::Cut(REST, 5, Answer::Refused), Reply::Whole),
+    Line::Reply(Short::Grow(512, 1024, false, None), GROWN_NEXT),
+    Line::Reply(Short::Cut(NEXT, 5, Answer::Done), Reply::Cut(NEXT_FIVE)),
+    Line::Reply(Short::Commit(NEXT_FIVE, Answer::Done), Reply::Noted),
+    Line::Reply(Short::Land(NEXT_FIVE, FIVE_CLASS), LANDED_NEXT),
+    Line::Counts(40960, 4153344, 0),
+    Line::Parts(TWO_CHUNKS),
+    // The split of the grant is refused, so that all of it is retained, and serves the next request.
+    Line::Start,
+    Line::Reply(Short::Look(5, 1), Reply::Grow),
+    Line::Reply(Short::Grow(512, 512, false, None), GROWN),
+    Line::Reply(Short::Cut(CHUNK, 5, Answer::Refused), Reply::Whole),
+    Line::Counts(0, 2097152, 0),
+    Line::Reply(Short::Look(5, 1), TOOK),
+    Line::Reply(Short::Cut(CHUNK, 5, Answer::Done), Reply::Cut(FIVE)),
+    Line::Reply(Short::Commit(FIVE, Answer::Done), Reply::Noted),
+    Line::Reply(Short::Land(FIVE, FIVE_CLASS), LANDED),
+    Line::Counts(20480, 2076672, 0),
+    // A commit is refused, and the piece is put down.
+    Line::Reply(Short::Look(1, 1), TOOK_REST),
+    Line::Reply(Short::Commit(REST, Answer::Refused), Reply::Whole),
+    Line::Counts(20480, 2076672, 0),
+    // A box that always answers the same page, and others that answer pages which can't be.
+    Line::Start,
+    Line::Bars(32, Short::Look(512, 1)),
+    Line::Bars(0, Short::Look(0, 1)),
+    Line::Bars(0, Short::Look(512, 3)),
+    Line::Reply(Short::Look(512, 1), Reply::Grow),
+    Line::Reply(
+        Short::Grow(512, 512, true, Some(1)),
+        Reply::Bad(Why::Meets(CHUNK)),
+    ),
+    Line::Reply(Short::Grow(512, 512, true, None), GROWN_COMMITTED),
+    Line::Reply(Short::Land(CHUNK, CHUNK_CLASS), LANDED),
+    Line::Reply(Short::Look(512, 1), Reply::Grow),
+    Line::Reply(
+        Short::Grow(512, 512, true, None),
+        Reply::Bad(Why::Meets(CHUNK)),
+    ),
+    Line::Reply(
+        Short::Grow(512, 513, true, None),
+        Reply::Bad(Why::Unaligned),
+    ),
+    Line::Reply(Short::Grow(512, 0, true, None), Reply::Bad(Why::OffSpace)),
+    Line::Reply(
+        Short::Grow(512, 33554176, true, None),
+        Reply::Bad(Why::OffSpace),
+    ),
+    Line::Reply(
+        Short::Grow(512, u64::MAX, true, None),
+        Reply::Bad(Why::OffSpace),
+    ),
+    Line::Counts(2097152, 0, 0),
+];
+
+/// The operation in full.
+fn op_of(short: Short) -> Op {
+    match short {
+        Short::Look(pages, align) => Op::Look { pages, align },
+        Short::Grow(pages, first, committed, found) => Op::GrowDone {
+            heard: Heard {
+                ask: Ask::Alloc {
+                    at: None,
+                    pages,
+                    align: 512,
+                    commit: false,
+                },
+                answer: Answer::Placed {
+                    first,
+                    committed,
+                    zeroed: false,
+                },
+            },
+            found,
+        },
+        Short::Cut(span, left, answer) => Op::CutDone {
+            heard: Heard {
+                ask: Ask::Split { span, left },
+                answer,
+            },
+            keep_low: true,
+        },
+        Short::Commit(span, answer) => Op::CommitDone {
+            heard: Heard {
+                ask: Ask::Commit(span),
+                answer,
+            },
+        },
+        Short::Land(span, class) => Op::Land {
+            span,
+            class,
+            count: 1,
+        },
+    }
+}
+
+/// The counts where nothing is dirty or muzzy, and each active extent is full.
+fn counts_of(allocated: u64, retained: u64, flight: u64) -> Counts {
+    Counts {
+        allocated,
+        active: allocated,
+        dirty: 0,
+        muzzy: 0,
+        retained,
+        flight,
+        mapped: allocated.saturating_add(flight),
+    }
+}
+
+/// The entry of client 0 may stand, and has this reply.
+fn replies(rt: &impl Abort, space: &mut Space, short: Short, reply: Reply) -> Result<(), Fail>
+    requires { Sound space.old }
+    ensures { Sound space.new }
+{
+    let entry = Entry {
+        client: 0,
+        op: op_of(short),
+    };
+    assert!(rt; may_stand(space, &entry));
+    let told = plain_step(space, &entry)?;
+    assert_eq!(rt; told, reply);
+    Ok(())
+}
+
+/// Carries out a line of the script, and says whether what it tells is so.
+fn follow(rt: &impl Abort, space: &mut Space, line: Line) -> Result<bool, Fail>
+    requires { Sound space.old }
+    ensures { Sound space.new }
+{
+    let as_wished = match line {
+        Line::Start => true,
+        Line::Reply(short, reply) => {
+            replies(rt, space, short, reply)?;
+            true
+        }
+        Line::Bars(client, short) => !may_stand(
+            space,
+            &Entry {
+                client,
+                op: op_of(short),
+            },
+        ),
+        Line::Counts(allocated, retained, flight) => {
+            plain_counts(space) == counts_of(allocated, retained, flight)
+        }
+        Line::Parts(parts) => space.parts.as_slice() == parts.as_slice(),
+    };
+    Ok(as_wished)
+}
+
+#[test]
+fn the_script_is_carried_out_as_written(rt: HostRuntime) -> Result<(), Fail> {
+    let mut space = Space::first(rt.alloc());
+    for (number, line) in SCRIPT.into_iter().enumerate() {
+        if matches!(line, Line::Start) {
+            space = Space::first(rt.alloc());
+        }
+        let as_wished = follow(&rt, &mut space, line)?;
+        assert!(rt; as_wished, "line {number}");
+    }
+    Ok(())
+}
