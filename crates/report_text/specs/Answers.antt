@@ -6,7 +6,6 @@ use Rattle.space_model.specs.declared.asks.Ask.{Ask}
 use Rattle.space_model.specs.declared.asks.Ask.TheVariants.{Alloc, Dalloc, Destroy, Commit, Decommit, PurgeLazy, PurgeForced, Split, Merge}
 use Rattle.space_model.specs.declared.entries.Why.{Why}
 use Rattle.space_model.specs.declared.entries.Why.TheVariants.{OffSpace, Unaligned, Meets}
-use Rattle.space_model.specs.declared.parts.Span.{Span}
 use Rattle.call_plan.specs.declared.needs.Answered.{Answered}
 use Rattle.call_plan.specs.declared.needs.Answered.TheVariants.{Ok, Refused, BadAnswer, TooLarge, NoArena}
 use Rattle.call_plan.specs.declared.needs.Given.{Given}

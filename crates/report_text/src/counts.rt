@@ -16,7 +16,9 @@ impl<'a> fmt::Display for UsedText<'a> {
     #[tactic(auto, unfolding(crate::specs::Lines::used_text))]
     fn fmt<W: fmt::Write>(&self, f: &mut fmt::Formatter<W>) -> fmt::Result {
         let Counts {
-            allocated, active, ..
+            allocated,
+            active,
+            ..
         } = *self.0;
         write!(f, "allocated {allocated} active {active}")
     }

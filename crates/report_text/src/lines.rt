@@ -13,7 +13,12 @@ use std::alloc::{AllocError as NoMemory, Global};
 ///
 /// A region is `@ADDR SIZE`, with the size of its class in bytes, which is 0 of a class that isn't in the table.
 #[tactic(auto, unfolding(crate::specs::Lines::malloc_line))]
-pub fn malloc_line(alloc: Global, client: u32, name: &[u8], answered: &Answered) -> Result<Vec<u8>, NoMemory>
+pub fn malloc_line(
+    alloc: Global,
+    client: u32,
+    name: &[u8],
+    answered: &Answered,
+) -> Result<Vec<u8>, NoMemory>
     ensures { IfOk result (λ line. line.items ≡ malloc_line client name.now answered.now) }
 {
     let mut line = format!(in alloc; "t{client} malloc ")?.into_bytes();
@@ -28,9 +33,11 @@ pub fn malloc_line(alloc: Global, client: u32, name: &[u8], answered: &Answered)
 pub fn counts_line(alloc: Global, index: u32, counts: &Counts) -> Result<Vec<u8>, NoMemory>
     ensures { IfOk result (λ line. line.items ≡ counts_line index counts.now) }
 {
-    let line = format!(
-        in alloc;
-        "arena {index} {} {} {}\n", UsedText(counts), UnusedText(counts), MappedText(counts)
+    let line = format!(in alloc;
+        "arena {index} {} {} {}\n",
+        UsedText(counts),
+        UnusedText(counts),
+        MappedText(counts)
     )?;
     Ok(line.into_bytes())
 }
