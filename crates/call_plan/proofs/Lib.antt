@@ -4,3 +4,4 @@ pub mod Flights
 pub mod Cutting
 pub mod Known
 pub mod Powers
+pub mod Shorter

@@ -5,3 +5,4 @@ pub mod Stages
 pub mod Calls
 pub mod Knows
 pub mod Laws
+pub mod Left
