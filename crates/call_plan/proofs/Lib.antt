@@ -5,3 +5,4 @@ pub mod Cutting
 pub mod Known
 pub mod Powers
 pub mod Shorter
+pub mod Points
