@@ -1,3 +1,4 @@
 pub mod Frames
 pub mod Wants
 pub mod Plays
+pub mod Ways

@@ -87,7 +87,7 @@ not_above a b h = grind (arith, nat_tests)
 -- ---- lines begin
 
 -- the call that a carried line opens is going
-opened_going : (s : Space) (client : ℕ) (name : List ℕ) (size : ℕ) → client < 32 → 14336 < size → Going s (opened client name size)
+pub opened_going : (s : Space) (client : ℕ) (name : List ℕ) (size : ℕ) → client < 32 → 14336 < size → Going s (opened client name size)
 opened_going s client name size own large =
     elim (nat_lt (2 ^ 35) size) as (λ b. nat_lt (2 ^ 35) size ≡ b → Going s (opened client name size))
       [ true ↦ λ h. record {
@@ -117,7 +117,7 @@ begun_sane (Call client (MallocVerb name size) ∷ lines) w known carried =
       | Astray ↦ record { kept = known; call = opened_going w.space client name size here.0 here.1; lines = later } ]
 begun_sane (Call client (Free target) ∷ lines) w known carried = absurd (All-head IsCarried (Call client (Free target)) lines carried)
 
-fed_sane : (w : World) (call : Open) (lines : List Line) → Kept w.space w.kept → Going w.space call → All IsCarried lines → Sane (fed w call lines)
+pub fed_sane : (w : World) (call : Open) (lines : List Line) → Kept w.space w.kept → Going w.space call → All IsCarried lines → Sane (fed w call lines)
 fed_sane w call lines known going carried =
     elim (outcome_of call) as (λ o. Sane (on_end o (λ answer. begun lines (printed w call answer)) (record w { call = Some call; lines = lines })))
       [ Ends answer items ↦ begun_sane lines (printed w call answer) known carried

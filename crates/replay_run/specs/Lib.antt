@@ -1,3 +1,4 @@
 pub mod World
 
 pub mod Sane
+pub mod Carried

@@ -4,4 +4,5 @@
 //! call to the arena and to the shelf of hooks, and prints its answer.
 #![tactic(auto)]
 
+mod calls;
 mod state;
