@@ -148,6 +148,13 @@ impl Call {
         })
     }
 
+    /// The client whose call it is.
+    pub fn client(&self) -> u32
+        ensures { result ≡ self.now.client }
+    {
+        self.client
+    }
+
     /// Takes in what the call was fed, and tells what it needs next, or its answer.
     ///
     /// `fed` answers the need that was told last, and is `Begin` where none was told. The call hasn't told `Done` yet.

@@ -2,3 +2,4 @@ pub mod Frames
 pub mod Wants
 pub mod Plays
 pub mod Ways
+pub mod Runs

@@ -53,7 +53,7 @@ abbrev now : Open → List Item → Open
 now call items = record call { items = items }
 
 -- its outcome is what is left to read
-outcome_now : (call : Open) (items : List Item) (stage : Stage) → ((more : List Item) → reading call.arena call.request (items ++ more) ≡ rest_of stage more) →
+pub outcome_now : (call : Open) (items : List Item) (stage : Stage) → ((more : List Item) → reading call.arena call.request (items ++ more) ≡ rest_of stage more) →
     outcome_of (now call items) ≡ rest_of stage []
 outcome_now call items stage reads = ap (reading call.arena call.request) (sym (append-nil items)) ∙ reads []
 
@@ -195,7 +195,7 @@ way_end {start} {h0} {sh0} {space} {kept} {heard} {shelf} {text} {call} {stage} 
 
 -- a call that was just opened is underway
 pub way_start : (space : Space) (kept : List KeptFacts) (heard : List AskFacts) (shelf : Shelf) (text : List ℕ) (call : Open) (stage : Stage) →
-    call.items ≡ [] → reading call.arena call.request ≡ rest_of stage →
+    call.items ≡ [] → ((more : List Item) → reading call.arena call.request more ≡ rest_of stage more) →
     Underway (fed (world_of space kept text) call []) heard shelf space kept heard shelf text call stage
 way_start space kept heard shelf text call stage none reads = record {
   played = record {
@@ -207,6 +207,6 @@ way_start space kept heard shelf text call stage none reads = record {
     chain = refl;
   };
   items = [];
-  reads = λ more. ap (λ f. f more) reads;
+  reads = reads;
   here = ap (λ (items : List Item). fed (world_of space kept text) (now call items) []) none;
 }

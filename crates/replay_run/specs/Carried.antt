@@ -10,6 +10,7 @@ use Rattle.call_plan.specs.declared.stages.Stage.{Stage}
 use Rattle.call_plan.specs.Reading.{Item}
 use Rattle.call_plan.specs.Rest.{rest_of}
 use Rattle.call_plan.specs.Calls.{reading}
+use Rattle.replay_run.specs.Sane.{Sane}
 use Rattle.replay_run.specs.World.{Open, World, idle, printed, fed, Move, IsPlay, world_after, asks_in}
 
 -- the world between two lines, with this space, journal and text, and no line to come
@@ -40,3 +41,21 @@ pub record Underway (start : World) (heard_before : List AskFacts) (shelf_before
   pub items : List Item
   pub reads : (more : List Item) → reading call.arena call.request (items ++ more) ≡ rest_of stage more
   pub here : world_after start played.moves ≡ fed (world_of space kept text) (record call { items = items }) []
+
+-- A call of the client is underway, from some sound world on.
+pub record IsUnderway (client : ℕ) (space : Space) (kept : List KeptFacts) (heard : List AskFacts) (shelf : Shelf) (stage : Stage) : Type 0 where
+  pub start : World
+  pub heard_before : List AskFacts
+  pub shelf_before : Shelf
+  pub text : List ℕ
+  pub call : Open
+  pub sane : Sane start
+  pub way : Underway start heard_before shelf_before space kept heard shelf text call stage
+  pub own : call.client ≡ client
+
+-- wherever the call of the client came from, it was carried out so
+abbrev pub CarriedOn : {E : Type 0} → ℕ → Space → List KeptFacts → List AskFacts → Shelf → Stage →
+    Space → List KeptFacts → List AskFacts → Shelf → Result Answered E → Type 0
+CarriedOn client space kept heard shelf stage space' kept' heard' shelf' r =
+    (start : World) (h0 : List AskFacts) (sh0 : Shelf) (text : List ℕ) (call : Open) → call.client ≡ client →
+    Underway start h0 sh0 space kept heard shelf text call stage → Carried start h0 sh0 space' kept' heard' shelf' text call r

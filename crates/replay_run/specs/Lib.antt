@@ -2,3 +2,4 @@ pub mod World
 
 pub mod Sane
 pub mod Carried
+pub mod Input

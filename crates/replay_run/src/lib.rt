@@ -5,4 +5,5 @@
 #![tactic(auto)]
 
 mod calls;
+mod input;
 mod state;
