@@ -121,4 +121,3 @@ rest_of_lines-push a piece more h =
     let whole = All-append IsNotNewline (rest_of_lines a) piece (rest_has_none a) h in
     rest_of_lines-append a (piece ++ 10 ∷ more)
     ∙ (ap rest_of_lines (sym (append_assoc (rest_of_lines a) piece (10 ∷ more))) ∙ rest_of_lines-line (rest_of_lines a ++ piece) more whole)
-

@@ -1,5 +1,5 @@
 -- The numbers of a line, as its words write them.
-use Rattle.std.specs.Prelude.{◌==◌, ℕ, ◌^◌, ◌<◌, Bool, ◌&&◌, ◌||◌, List, [], ◌∷◌, length, slice_index, nat_lt, nat_le, Result, Ok, Err, Option, Some, None, if◌then◌else◌}
+use Rattle.std.specs.Prelude.{◌==◌, ℕ, ◌^◌, Bool, ◌&&◌, ◌||◌, List, length, slice_index, nat_lt, nat_le, Result, Ok, Err, Option, Some, None, if◌then◌else◌}
 use Rattle.std.specs.Char.{is_ascii_digit}
 use Rattle.std.specs.Int.{is_in_range}
 use Rattle.std.specs.List.{list_all}
