@@ -1,5 +1,5 @@
 -- What two parts that were read give together.
-use Rattle.std.proofs.Common.{◌≡◌, ◌⊎◌, inl, inr, refl, sym, Result, Ok, Err}
+use Rattle.std.proofs.Common.{◌≡◌, ◌⊎◌, inl, inr, refl, Result, Ok, Err}
 use Rattle.trace_text.specs.declared.faults.LineFault.{LineFault}
 use Rattle.trace_text.specs.declared.faults.LineFault.TheVariants.{NoMemory, Bytes, Words, Number, Threads, Range}
 use Rattle.trace_text.specs.Causes.{both, first_cause, GivesCause, Gives}

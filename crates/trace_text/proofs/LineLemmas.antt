@@ -1,10 +1,10 @@
 -- How the lines of a list of bytes grow with it.
-use Rattle.std.proofs.Common.{◌≡◌, ◌∙◌, ℕ, Bool, true, false, eqb, cond, List, [], ◌∷◌, ◌++◌, refl, sym, ap, append_assoc}
-use Rattle.std.specs.List.{onto_first}
+use Rattle.std.proofs.Common.{suc, length, arith, ◌≡◌, ◌∙◌, ℕ, Bool, true, false, eqb, cond, List, [], ◌∷◌, ◌++◌, refl, sym, ap, append_assoc}
+use Rattle.std.specs.List.{onto_first, flat_map, join_with_byte, count_by}
 use Rattle.std.proofs.lemmas.List.Elements.{All-nil, All-cons, All-append}
 use Rattle.std.proofs.lemmas.List.{append-nil}
-use Rattle.std.proofs.lemmas.List.Splits.{slice_split_none, slice_split_at, slice_split-cons_no}
-use Rattle.trace_text.specs.Lines.{parts_of, but_last, last_of, lines_of, rest_of_lines, HasNoNewline}
+use Rattle.std.proofs.lemmas.List.Splits.{slice_split_none, slice_split_at, slice_split-cons_no, length-slice_split, join_with_byte-slice_split}
+use Rattle.trace_text.specs.Lines.{parts_of, but_last, last_of, lines_of, rest_of_lines, HasNoNewline, ended}
 
 abbrev IsNotNewline : ℕ → Type 0
 IsNotNewline b = eqb b 10 ≡ false
@@ -122,3 +122,29 @@ rest_of_lines-push a piece more h =
     rest_of_lines-append a (piece ++ 10 ∷ more)
     ∙ (ap rest_of_lines (sym (append_assoc (rest_of_lines a) piece (10 ∷ more))) ∙ rest_of_lines-line (rest_of_lines a ++ piece) more whole)
 
+joined_parts : (q : List ℕ) (qs : List (List ℕ)) → flat_map ended (but_last (q ∷ qs)) ++ last_of (q ∷ qs) ≡ join_with_byte 10 (q ∷ qs)
+joined_parts q [] = refl
+joined_parts q (r ∷ rs) =
+    append_assoc (ended q) (flat_map ended (but_last (r ∷ rs))) (last_of (r ∷ rs))
+    ∙ (append_assoc q (10 ∷ []) (flat_map ended (but_last (r ∷ rs)) ++ last_of (r ∷ rs)) ∙ ap (λ l. q ++ (10 ∷ l)) (joined_parts r rs))
+
+-- the lines with their newlines, and then the rest, are the bytes
+pub joined_lines : (bytes : List ℕ) → flat_map ended (lines_of bytes) ++ rest_of_lines bytes ≡ bytes
+unfolding lines_of rest_of_lines
+joined_lines bytes =
+    let some = parted bytes in
+    rw some.is (joined_parts some.first some.others) ∙ (ap (join_with_byte 10) (sym some.is) ∙ join_with_byte-slice_split 10 bytes)
+
+length-but_last : {X : Type 0} (x : X) (xs : List X) → length (but_last (x ∷ xs)) ≡ length xs
+length-but_last x [] = refl
+length-but_last x (y ∷ ys) = ap suc (length-but_last y ys)
+
+-- there are as many lines as newlines
+pub length-lines_of : (bytes : List ℕ) → length (lines_of bytes) ≡ count_by (λ b. eqb b 10) bytes
+unfolding lines_of
+length-lines_of bytes =
+    let some = parted bytes in
+    let parts = length-slice_split (λ b. eqb b 10) bytes in
+    let more : length (parts_of bytes) ≡ suc (length some.others) = rw some.is refl in
+    let lines : length (but_last (parts_of bytes)) ≡ length some.others = rw some.is (length-but_last some.first some.others) in
+    omega (arith, parts, more, lines)

@@ -1,5 +1,5 @@
 -- How the shapes of a line are told apart.
-use Rattle.std.proofs.Common.{◌≡◌, ℕ, Bool, true, false, eqb, cond, List, [], ◌∷◌, take, drop, Ok, refl, ◌&&◌}
+use Rattle.std.proofs.Common.{◌≡◌, ℕ, true, false, eqb, List, [], ◌∷◌, take, drop, Ok, refl}
 use Rattle.std.proofs.Math.Bool.{and-true}
 use Rattle.std.specs.Cmp.Lexicographic.{pointwise}
 use Rattle.trace_text.specs.declared.lines.Ptr.TheVariants.{Name, At}

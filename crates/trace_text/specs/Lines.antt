@@ -1,5 +1,5 @@
 -- The lines of a list of bytes, each of which ends with a newline, byte 10.
-use Rattle.std.specs.Prelude.{◌≡◌, ◌==◌, ℕ, false, List, [], ◌∷◌}
+use Rattle.std.specs.Prelude.{◌≡◌, ◌==◌, ℕ, false, List, [], ◌∷◌, ◌++◌}
 use Rattle.std.specs.List.{All, slice_split}
 
 -- the parts of a list of bytes between its newlines: behind the last of them there is none
@@ -29,3 +29,7 @@ rest_of_lines bytes = last_of (parts_of bytes)
 -- no newline is among the bytes
 abbrev pub HasNoNewline : List ℕ → Type 0
 HasNoNewline bytes = All (λ b. (b == 10) ≡ false) bytes
+
+-- a line as it stands among the bytes
+abbrev pub ended : List ℕ → List ℕ
+ended line = line ++ 10 ∷ []

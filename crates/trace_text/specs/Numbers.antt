@@ -1,8 +1,9 @@
 -- The numbers of a line, as its words write them.
-use Rattle.std.specs.Prelude.{◌==◌, ℕ, ◌^◌, ◌<◌, Bool, ◌&&◌, ◌||◌, List, [], ◌∷◌, length, slice_index, nat_lt, nat_le, Result, Ok, Err, Option, Some, None, if◌then◌else◌}
+use Rattle.std.specs.Prelude.{◌==◌, ℕ, ◌^◌, Bool, ◌&&◌, ◌||◌, List, length, slice_index, nat_lt, nat_le, Result, Err, Option, Some, None, if◌then◌else◌}
 use Rattle.std.specs.Char.{is_ascii_digit}
 use Rattle.std.specs.Int.{is_in_range}
 use Rattle.std.specs.List.{list_all}
+use Rattle.std.specs.Option.{ok_or}
 use Rattle.std.specs.Str.Parse.{digits_value}
 use Rattle.trace_text.specs.declared.faults.LineFault.{LineFault}
 use Rattle.trace_text.specs.declared.faults.LineFault.TheVariants.{Words, Number}
@@ -27,10 +28,9 @@ has_leading_zero digits = nat_lt 1 (length digits) && slice_index digits 0 == 48
 abbrev pub value_in : ℕ → List ℕ → Option ℕ
 value_in base digits = if nat_lt (digits_value base digits) (2 ^ 64) then Some (digits_value base digits) else None
 
--- the number that digits in a base stand for, which has no leading zero and is below 2 ^ 64
+-- the same number, where no 0 stands before it
 unfoldable pub number_in : ℕ → List ℕ → Result ℕ LineFault
-number_in base digits =
-    if has_leading_zero digits || nat_le (2 ^ 64) (digits_value base digits) then Err Number else Ok (digits_value base digits)
+number_in base digits = if has_leading_zero digits then Err Number else ok_or (value_in base digits) Number
 
 -- the number that a word of decimal digits stands for
 unfoldable pub decimal_of : List ℕ → Result ℕ LineFault

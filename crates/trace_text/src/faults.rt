@@ -12,20 +12,20 @@ pub enum LineFault {
     /// Memory ran out. It comes before every other cause.
     #[error("out of memory")]
     NoMemory,
-    /// A byte outside 32 to 126.
-    #[error("bytes")]
+    /// A byte outside 32 to 126, anywhere in the line.
+    #[error("a byte outside 32 to 126")]
     Bytes,
     /// The line has no shape of the grammar. Its words are parted by exactly one space.
-    #[error("words")]
+    #[error("no line of the grammar")]
     Words,
-    /// A number that isn't below 2^64, or has a leading zero.
-    #[error("number")]
+    /// A number that isn't below 2^64 or has a leading zero, anywhere in the line.
+    #[error("a number of 2^64 or more, or with a leading zero")]
     Number,
     /// A client above 31.
-    #[error("threads")]
+    #[error("a client above 31")]
     Threads,
     /// A number outside the range of its place in the line. No line that is read now has such a place.
-    #[error("range")]
+    #[error("a number outside its range")]
     Range,
 }
 

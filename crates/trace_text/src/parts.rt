@@ -1,8 +1,8 @@
 //! The parts of a line, each by itself, and the first cause of two.
 
-ghost use Rattle.std.specs.Prelude.{◌≡◌, ◌==◌, ◌+◌, ◌*◌, ◌^◌, ◌<◌, ◌≤◌, length, nat_lt, nat_le, Result};
+ghost use Rattle.std.specs.Prelude.{◌≡◌, ◌+◌, ◌*◌, ◌^◌, ◌<◌, ◌≤◌, Result};
 ghost use Rattle.trace_text.specs.Causes.{first_cause, both, Gives};
-ghost use Rattle.trace_text.specs.Numbers.{is_decimal, is_hexadecimal, has_leading_zero, value_in, number_in, decimal_of, address_of, is_lower_hex};
+ghost use Rattle.trace_text.specs.Numbers.{is_decimal, is_hexadecimal, value_in, number_in, decimal_of, address_of, is_lower_hex};
 ghost use Rattle.trace_text.specs.Names.{is_name_byte, is_name, name_of};
 ghost use Rattle.std.specs.Char.{digit_value, is_ascii_digit};
 ghost use Rattle.std.specs.List.{list_all};
@@ -70,7 +70,7 @@ fn is_name_byte(byte: u8) -> bool
     byte.is_ascii_lowercase() || byte.is_ascii_digit() || byte == b'_'
 }
 
-/// A decimal number.
+/// A decimal number, of any number of digits.
 #[tactic(auto, unfolding(crate::specs::Numbers::decimal_of), using(crate::proofs::Digits::decimal_digits))]
 pub fn decimal(word: &[u8]) -> Result<u64, LineFault>
     ensures { result ≡ decimal_of word.now }
@@ -93,7 +93,7 @@ fn all_digits(word: &[u8]) -> bool
     word.iter().all(|byte| byte.is_ascii_digit())
 }
 
-/// An address, in hexadecimal digits.
+/// An address, of 1 to 16 lower-case hexadecimal digits.
 #[tactic(auto, unfolding(crate::specs::Numbers::address_of), using(crate::proofs::Digits::hexadecimal_digits))]
 pub fn address(word: &[u8]) -> Result<u64, LineFault>
     ensures { result ≡ address_of word.now }

@@ -2,7 +2,7 @@
 
 ghost use Rattle.std.specs.Prelude.{◌≡◌, map, IfOk};
 ghost use Rattle.std.specs.List.{list_all};
-ghost use Rattle.trace_text.specs.Causes.{both, Gives};
+ghost use Rattle.trace_text.specs.Causes.{Gives};
 ghost use Rattle.trace_text.specs.Grammar.{is_printable, words_of, client_of, pointer_of, malloc_of, free_of, verb_of, call_of, line_of, IsWithinLimits};
 
 use crate::parts::{address, both_parts, decimal, name};
@@ -14,8 +14,10 @@ const LAST_CLIENT: u64 = 31;
 
 /// What a line says, which is given without its newline.
 ///
-/// The line has the shape `tC malloc NAME N` or `tC free PTR`. Else, the cause is the first that holds, in the
-/// order of `LineFault`; each but `NoMemory` comes exactly where it holds first.
+/// A line has the shape `tC malloc NAME N` or `tC free PTR`, where C and N are decimal numbers, NAME is a
+/// lower-case letter and up to 31 lower-case letters, digits or `_`, and PTR is a NAME or `@` and an address of 1 to
+/// 16 lower-case hexadecimal digits. An `Err` is the first cause that holds, in the order of `LineFault`. Each but
+/// `NoMemory` comes exactly where it holds first.
 #[tactic(auto, unfolding(crate::specs::Grammar::line_of), using(crate::proofs::Limits::within_limits))]
 pub fn read(alloc: Global, line: &[u8]) -> Result<Line, LineFault>
     ensures said { Gives result (line_of line.now) }
