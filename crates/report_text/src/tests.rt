@@ -114,7 +114,7 @@ fn prints_refusals(rt: HostRuntime) -> Result<(), Fail> {
 }
 
 #[test]
-fn prints_other_lines(rt: HostRuntime) -> Result<(), Fail> {
+fn prints_counts_and_statuses(rt: HostRuntime) -> Result<(), Fail> {
     let none = Counts {
         allocated: 0,
         active: 0,
@@ -141,6 +141,20 @@ fn prints_other_lines(rt: HostRuntime) -> Result<(), Fail> {
     let want =
         "arena 0 allocated 112 active 28672 dirty 20480 muzzy 4096 retained 2048000 flight 8192 mapped 61440\n";
     assert_eq!(rt; line.as_slice(), want.as_bytes());
+    let grown = Counts {
+        allocated: 20480,
+        active: 20480,
+        retained: 2_076_672,
+        mapped: 20480,
+        ..none
+    };
+    let line = counts_line(rt.alloc(), 0, &grown)?;
+    let want =
+        "arena 0 allocated 20480 active 20480 dirty 0 muzzy 0 retained 2076672 flight 0 mapped 20480\n";
+    assert_eq!(rt; line.as_slice(), want.as_bytes());
+    let held = region(0x20_0000, 37);
+    let line = malloc_line(rt.alloc(), 0, b"a", &held)?;
+    assert_eq!(rt; line.as_slice(), b"t0 malloc a @200000 20480\n".as_slice());
     let line = bad_line(rt.alloc(), 2, "unbuilt")?;
     assert_eq!(rt; line.as_slice(), b"line 2: unbuilt\n".as_slice());
     let want = "usage: jarena replay [--json] | threads [--journal] | soak START CALLS\n";
