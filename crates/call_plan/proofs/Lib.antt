@@ -4,3 +4,5 @@ pub mod Flights
 pub mod Cutting
 pub mod Known
 pub mod Powers
+pub mod Causes
+pub mod Bounds

@@ -5,3 +5,5 @@ pub mod Stages
 pub mod Calls
 pub mod Knows
 pub mod Laws
+pub mod Causes
+pub mod Bounds

@@ -1,5 +1,7 @@
 //! Laws of calls, as contracts of functions that do nothing.
 
+ghost use Rattle.call_plan.specs.Bounds.{RunsAreShort};
+ghost use Rattle.call_plan.specs.Causes.{RepliesFit, MallocsHaveCauses};
 ghost use Rattle.call_plan.specs.Laws.{TurnsGoOn, AsksGoOn};
 
 /// Every turn that a call needs may stand in the space of its arena, which is sound and live: the extent that the call
@@ -11,4 +13,21 @@ pub fn turns_go_on()
 /// Every answer of its kind to an ask that a call needs leads on.
 pub fn asks_go_on()
     ensures { AsksGoOn }
+{}
+
+/// Every reply of an arena fits the answer that its operation carries: it tells of a refusal exactly where the hook
+/// refused.
+pub fn replies_fit()
+    ensures { RepliesFit }
+{}
+
+/// Every answer of a malloc has its cause among what this very call was fed: a region that landed, a refused ask that was
+/// needed, a bad range that its alloc placed, a size that is too large, or an arena that isn't live.
+pub fn mallocs_have_causes()
+    ensures { MallocsHaveCauses }
+{}
+
+/// Every call ends after at most 5 asks and 7 turns.
+pub fn runs_are_short()
+    ensures { RunsAreShort }
 {}
