@@ -1,5 +1,6 @@
 -- A malloc's reading ends after few items: how many each part of it takes.
 use Rattle.std.proofs.Common.{◌≡◌, ℕ, ◌+◌, ◌^◌, ◌≤◌, max, Bool, true, false, cond, List, [], ◌∷◌, count_by, Option, None, Some, refl, sym, ap, subst, arith, ltb as nat_lt}
+use Rattle.std.proofs.lemmas.List.Sums.{sum_by-cons}
 use Rattle.size_classes.specs.Classes.{class_for}
 use Rattle.space_model.specs.declared.Ask.{Ask}
 use Rattle.space_model.specs.declared.Ask.TheVariants.{Alloc, Commit, Split}
@@ -22,6 +23,19 @@ record Few (asks turns : ℕ) (items : List Item) : Type 0 where
   asks_few : count_by is_told items ≤ asks
   turns_few : count_by is_replied items ≤ turns
 
+-- one more ask, or one more turn
+few-told : (asks turns : ℕ) (asked : AskFacts) (items : List Item) → Few asks turns items → Few (asks + 1) turns (Told asked ∷ items)
+few-told asks turns asked items few = record {
+  asks_few = omega (arith, few.asks_few, sum_by-cons (λ item. cond (is_told item) 1 0) (Told asked) items);
+  turns_few = omega (arith, few.turns_few, sum_by-cons (λ item. cond (is_replied item) 1 0) (Told asked) items);
+}
+
+few-replied : (asks turns : ℕ) (reply : Reply) (items : List Item) → Few asks turns items → Few asks (turns + 1) (Replied reply ∷ items)
+few-replied asks turns reply items few = record {
+  asks_few = omega (arith, few.asks_few, sum_by-cons (λ item. cond (is_told item) 1 0) (Replied reply) items);
+  turns_few = omega (arith, few.turns_few, sum_by-cons (λ item. cond (is_replied item) 1 0) (Replied reply) items);
+}
+
 -- the reading ends after so many asks and turns at most
 abbrev Within : ℕ → ℕ → (List Item → Outcome) → Type 0
 Within asks turns read = (items : List Item) (answer : Answered) → read items ≡ Ends answer [] → Few asks turns items
@@ -30,7 +44,7 @@ turn-within : (asks turns arena : ℕ) (op : Op) (asked : Option AskFacts) (on :
     ((reply : Reply) → Within asks turns (on reply)) → Within asks (turns + 1) (turn arena op asked on)
 turn-within asks turns arena op asked on each [] answer e = absurd (cc)
 turn-within asks turns arena op asked on each (Replied reply ∷ items) answer e =
-    let few = each reply items answer e in record { asks_few = omega (arith, few.asks_few); turns_few = omega (arith, few.turns_few) }
+    few-replied asks turns reply items (each reply items answer e)
 turn-within asks turns arena op asked on each (Told told ∷ items) answer e = absurd (cc)
 
 -- an ask, and the turn that takes in its answer
@@ -40,8 +54,7 @@ asked-within : (asks turns arena : ℕ) (wanted : Ask) (op : AskFacts → Op) (o
 asked-within asks turns arena wanted op on each [] answer e = absurd (cc)
 asked-within asks turns arena wanted op on each (Replied reply ∷ items) answer e = absurd (cc)
 asked-within asks turns arena wanted op on each (Told told ∷ items) answer e =
-    let few = turn-within asks turns arena (op told) (Some told) (on told) (each told) items answer e in
-    record { asks_few = omega (arith, few.asks_few); turns_few = omega (arith, few.turns_few) }
+    few-told asks (turns + 1) told items (turn-within asks turns arena (op told) (Some told) (on told) (each told) items answer e)
 
 ends-within : (asks turns : ℕ) (told : Answered) → Within asks turns (ends told)
 ends-within asks turns told items answer e = let none : items ≡ [] = cc in subst (Few asks turns) (sym none) (record { asks_few = omega arith; turns_few = omega arith })
