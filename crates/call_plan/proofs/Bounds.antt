@@ -1,5 +1,5 @@
 -- A malloc's reading ends after few items: how many each part of it takes.
-use Rattle.std.proofs.Common.{◌≡◌, ℕ, ◌+◌, ◌^◌, ◌≤◌, max, Bool, true, false, cond, List, [], ◌∷◌, count_by, Option, None, Some, refl, sym, ap, subst, arith, ltb as nat_lt}
+use Rattle.std.proofs.Common.{◌≡◌, ℕ, ◌+◌, ◌^◌, ◌≤◌, max, Bool, true, false, cond, List, [], ◌∷◌, count_by, Option, None, Some, sym, subst, arith, ltb as nat_lt}
 use Rattle.std.proofs.lemmas.List.Sums.{sum_by-cons}
 use Rattle.size_classes.specs.Classes.{class_for}
 use Rattle.space_model.specs.declared.Ask.{Ask}
@@ -16,7 +16,7 @@ use Rattle.call_plan.specs.declared.needs.Request.TheVariants.{Malloc}
 use Rattle.call_plan.specs.declared.wishes.Wish.{Wish}
 use Rattle.call_plan.specs.Reading.{Item, Replied, Told, Outcome, Ends, turn, ask, ends, astray}
 use Rattle.call_plan.specs.Malloc.{landed, land, committed, commit, grant_cut, grant, whole_chunks, grown, grow, trim_cut, trim, skip_cut, skip_to, looked, look, wish_for}
-use Rattle.call_plan.specs.Bounds.{is_told, is_replied, IsShort, RunsAreShort}
+use Rattle.call_plan.specs.Bounds.{is_told, is_replied, RunsAreShort}
 
 -- Among the items are so many asks and turns at most.
 record Few (asks turns : ℕ) (items : List Item) : Type 0 where
@@ -142,5 +142,5 @@ look-within wish = turn-within 5 6 wish.arena (Look wish.pages wish.align) None 
 pub runs-are_short : RunsAreShort
 runs-are_short arena (Malloc size) items answer e =
     let few = choice-within 5 7 (nat_lt (2 ^ 35) size) (ends TooLarge) (look (wish_for arena (class_for size))) (ends-within 5 7 TooLarge)
-        (look-within (wish_for arena (class_for size))) items answer e in
+    (look-within (wish_for arena (class_for size))) items answer e in
     record { asks = few.asks_few; turns = few.turns_few }

@@ -1,9 +1,10 @@
 -- Every answer with which a malloc ends has its cause: what each part of its reading needs to have been fed before.
-use Rattle.std.proofs.Common.{◌≡◌, ℕ, ◌<◌, ◌≤◌, ◌^◌, ◌⊎◌, inl, inr, ◌↔◌, max, Bool, true, false, cond, List, [], ◌∷◌, ◌++◌, fold, Contains, Option, None, Some, find, refl, sym, ◌∙◌, ap, subst, arith, append_assoc, ltb as nat_lt}
-use Rattle.std.proofs.lemmas.Bool.{ltb-true}
+use Rattle.std.proofs.Common.{◌≡◌, ◌≢◌, ℕ, ◌%◌, ◌<◌, ◌^◌, ◌==◌, not, ◌⊎◌, inl, inr, max, Bool, true, false, cond, List, [], ◌∷◌, ◌++◌, Contains, Option, None, Some, find, refl, sym, ◌∙◌, ap, subst, arith, append_assoc, ltb as nat_lt}
+use Rattle.std.specs.Option.{option_map}
+use Rattle.std.proofs.lemmas.Bool.{eqb-true, ltb-true}
 use Rattle.std.proofs.lemmas.Bool.Decides.{nat_tests}
 use Rattle.std.proofs.lemmas.List.{append-nil}
-use Rattle.std.proofs.lemmas.List.Elements.{Contains-append_left, Contains-push}
+use Rattle.std.proofs.lemmas.List.Elements.{All-contains_itself, Contains-append_left, Contains-push}
 use Rattle.std.proofs.lemmas.List.Sums.{fold-append}
 use Rattle.size_classes.specs.Classes.{class_for}
 use Rattle.space_model.specs.declared.Ask.{Ask}
@@ -18,8 +19,11 @@ use Rattle.space_model.specs.declared.Reply.TheVariants.{NoArena, Noted, Took, G
 use Rattle.space_model.specs.declared.Space.{Space}
 use Rattle.space_model.specs.declared.Span.{Span}
 use Rattle.space_model.specs.declared.Why.{Why}
+use Rattle.space_model.specs.declared.Why.TheVariants.{OffSpace, Unaligned, Meets}
 use Rattle.space_model.specs.Part.{is_flight_at}
-use Rattle.space_model.specs.Step.{cut_at, whole_at, after_cut, grow_unless, why_not, after_grow, commit_at, after_commit, commit_stands, land_at, step_of, op_stands, found_passes}
+use Rattle.space_model.specs.Span.{chunk_span, chunks_of}
+use Rattle.space_model.specs.Step.{cut_at, whole_at, after_cut, grow_unless, why_not, is_in_space, is_owned, after_grow, commit_at, after_commit, commit_stands, land_at, found_passes}
+use Rattle.space_model.proofs.Exchange.{find_has}
 use Rattle.space_model.proofs.Pieces.{both_true}
 use Rattle.hook_api.specs.Asked.{AskFacts, heard_in}
 use Rattle.call_plan.specs.declared.needs.Answered.{Answered}
@@ -27,9 +31,9 @@ use Rattle.call_plan.specs.declared.needs.Answered.TheVariants.{Ok, Refused, Bad
 use Rattle.call_plan.specs.declared.needs.Given.TheVariants.{Region}
 use Rattle.call_plan.specs.declared.wishes.Wish.{Wish}
 use Rattle.call_plan.specs.Reading.{Item, Replied, Told, Outcome, Ends, turn, ask, ends, astray}
-use Rattle.call_plan.specs.Malloc.{landed, land, committed, commit, grant_cut, grant, answered_span, whole_chunks, grown, grow, trim_cut, trim, skip_cut, skip_to, looked, look, wish_for, malloc}
+use Rattle.call_plan.specs.Malloc.{landed, land, committed, commit, grant_cut, grant, answered_span, whole_chunks, grown, grow, trim_cut, trim, skip_cut, skip_to, looked, look, wish_for}
 use Rattle.call_plan.specs.Knows.{with_found}
-use Rattle.call_plan.specs.Causes.{CutFits, GrowFits, CommitFits, LandFits, ReplyFits, RepliesFit, ItemFits, ItemsFit, Extent, extent, flight_after, in_flight, AllocNeeded, SplitNeeded, IsNeeded, RegionCause, RefusedCause, BadAnswerCause, HasCause, Explained, MallocsHaveCauses}
+use Rattle.call_plan.specs.Causes.{CutFits, WhyFits, BadFits, GrowFits, CommitFits, LandFits, ReplyFits, RepliesFit, ItemFits, ItemsFit, extent, flight_after, in_flight, IsNeeded, BadAnswerCause, HasCause, Explained, MallocsHaveCauses}
 
 -- ---- what an arena replies fits
 
@@ -47,15 +51,41 @@ cut-fits s c keep_low (Split span left) Done = cut_at-fits s keep_low left (find
 cut-fits s c keep_low (Split span left) Refuses = whole_at-fits s (find (is_flight_at c span) s.parts)
 cut-fits s c keep_low asked answer = tt
 
-grow_unless-fits : (s : Space) (c first pages : ℕ) (b zeroed : Bool) (o : Option Why) →
-    GrowFits (Placed first b zeroed) (grow_unless s c (record { first = first; pages = pages }) b o).reply
-grow_unless-fits s c first pages b zeroed (Some why) = (first, b, zeroed, refl)
-grow_unless-fits s c first pages b zeroed None = (zeroed, refl)
+-- the chunk that is told is one of the range
+chunk-fits : (span : Span) (why : Why) (align : ℕ) (o : Option ℕ) → ((number : ℕ) → o ≡ Some number → Contains (chunks_of span) number) →
+    is_in_space span ≡ true → span.first % align ≡ 0 → option_map (λ chunk. Meets (chunk_span chunk)) o ≡ Some why → WhyFits align span why
+chunk-fits span why align None one inside aligned e = absurd (cc)
+chunk-fits span why align (Some number) one inside aligned e =
+    let same : Meets (chunk_span number) ≡ why = cc in
+    subst (WhyFits align span) same (inside, aligned, (number, one number refl, refl))
 
-grow-fits : (s : Space) (c : ℕ) (found : Option ℕ) (asked : Ask) (answer : Answer) → GrowFits answer (after_grow s c found asked answer).reply
+why-fits : (found : Option ℕ) (align : ℕ) (parts : List Part) (span : Span) (why : Why) → why_not found align parts span ≡ Some why → WhyFits align span why
+why-fits found align parts span why =
+    elim (is_in_space span) as (λ inside. is_in_space span ≡ inside →
+    cond (not inside) (Some OffSpace) (cond (not (span.first % align == 0)) (Some Unaligned) (option_map (λ chunk. Meets (chunk_span chunk)) (find (is_owned found parts) (chunks_of span)))) ≡ Some why → WhyFits align span why) [
+      | false ↦ λ inside e. let same : OffSpace ≡ why = cc in subst (WhyFits align span) same inside
+      | true ↦ λ inside. elim (span.first % align == 0) as (λ aligned. (span.first % align == 0) ≡ aligned →
+          cond (not aligned) (Some Unaligned) (option_map (λ chunk. Meets (chunk_span chunk)) (find (is_owned found parts) (chunks_of span))) ≡ Some why → WhyFits align span why) [
+            | false ↦ λ aligned e. let same : Unaligned ≡ why = cc in subst (WhyFits align span) same (inside, not_multiple (span.first % align) aligned)
+            | true ↦ λ aligned e. chunk-fits span why align (find (is_owned found parts) (chunks_of span))
+                (λ number h. find_has (Contains (chunks_of span)) (is_owned found parts) (chunks_of span) number (All-contains_itself (chunks_of span)) h)
+                inside (eqb-true _ _ aligned) e
+          ] refl
+    ] refl
+  where
+    not_multiple : (n : ℕ) → (n == 0) ≡ false → n ≢ 0
+    not_multiple n h e = grind (arith, nat_tests)
+
+grow_unless-fits : (s : Space) (c : ℕ) (found : Option ℕ) (at : Option ℕ) (first pages align : ℕ) (commit b zeroed : Bool) (o : Option Why) →
+    why_not found align s.parts (record { first = first; pages = pages }) ≡ o →
+    GrowFits (Alloc at pages align commit) (Placed first b zeroed) (grow_unless s c (record { first = first; pages = pages }) b o).reply
+grow_unless-fits s c found at first pages align commit b zeroed (Some why) e = why-fits found align s.parts (record { first = first; pages = pages }) why e
+grow_unless-fits s c found at first pages align commit b zeroed None e = (zeroed, refl)
+
+grow-fits : (s : Space) (c : ℕ) (found : Option ℕ) (asked : Ask) (answer : Answer) → GrowFits asked answer (after_grow s c found asked answer).reply
 grow-fits s c found (Alloc at pages align commit) Refuses = refl
 grow-fits s c found (Alloc at pages align commit) (Placed first b zeroed) =
-    grow_unless-fits s c first pages b zeroed (why_not found align s.parts (record { first = first; pages = pages }))
+    grow_unless-fits s c found at first pages align commit b zeroed (why_not found align s.parts (record { first = first; pages = pages })) refl
 grow-fits s c found asked answer = tt
 
 commit_at-fits : (s : Space) (o : Option Part) → CommitFits Done (commit_at s o).reply
@@ -187,33 +217,36 @@ grant-caused : (size : ℕ) (wish : Wish) (before : List Item) (span : Span) (b 
 grant-caused size wish before span b flight granted =
     choice-caused size wish before (nat_lt wish.pages span.pages) _ (commit wish span b)
     (λ more. asked-caused size wish before wish.arena (Split span wish.pages) (λ asked. CutDone (heard_in asked) true) (grant_cut wish b)
-        (λ asked reply is fit. grant_cut-caused size wish before span b asked reply flight
-            (subst (IsNeeded wish before) (sym is) (record { is_committed = b; granted = granted; left_wanted = refl; more = ltb-true _ _ more })) fit))
+    (λ asked reply is fit. grant_cut-caused size wish before span b asked reply flight
+    (subst (IsNeeded wish before) (sym is) (record { is_committed = b; granted = granted; left_wanted = refl; more = ltb-true _ _ more })) fit))
     (commit-caused size wish before span b flight)
 
--- the span of a range that was placed
-bad-caused : (wish : Wish) (earlier : List Item) (asked : AskFacts) (why : Why) (first : ℕ) (b zeroed : Bool) →
-    asked.ask ≡ Alloc None (whole_chunks wish.pages) (max 512 wish.align) false → asked.answer ≡ Placed first b zeroed →
-    BadAnswerCause wish ((earlier ++ Told asked ∷ []) ++ Replied (Bad why) ∷ []) (record { first = first; pages = whole_chunks wish.pages }) why
-bad-caused wish earlier asked why first b zeroed is placed = record {
+-- a range that was placed, and what speaks against it
+bad-caused : (wish : Wish) (earlier : List Item) (asked : AskFacts) (why : Why) (answer : Answer) → asked.answer ≡ answer →
+    asked.ask ≡ Alloc None (whole_chunks wish.pages) (max 512 wish.align) false →
+    BadFits (Alloc None (whole_chunks wish.pages) (max 512 wish.align) false) answer why →
+    BadAnswerCause wish ((earlier ++ Told asked ∷ []) ++ Replied (Bad why) ∷ []) (answered_span (whole_chunks wish.pages) answer) why
+bad-caused wish earlier asked why (Placed first b zeroed) placed is bad = record {
   asked = asked;
   told = Contains-append_left _ (Replied (Bad why) ∷ []) _ (Contains-push earlier (Told asked));
-  asked_pages = is;
+  alloc = is;
   pages = refl;
   is_committed = b;
   zeroed = zeroed;
   placed = placed;
   replied = Contains-push (earlier ++ Told asked ∷ []) (Replied (Bad why));
+  against = bad;
 }
+bad-caused wish earlier asked why Done placed is bad = absurd bad
+bad-caused wish earlier asked why Refuses placed is bad = absurd bad
 
 grown-caused : (size : ℕ) (wish : Wish) (earlier : List Item) (asked : AskFacts) (reply : Reply) →
-    asked.ask ≡ Alloc None (whole_chunks wish.pages) (max 512 wish.align) false → IsNeeded wish earlier asked.ask → GrowFits asked.answer reply →
+    asked.ask ≡ Alloc None (whole_chunks wish.pages) (max 512 wish.align) false → IsNeeded wish earlier asked.ask → GrowFits asked.ask asked.answer reply →
     Caused size wish ((earlier ++ Told asked ∷ []) ++ Replied reply ∷ []) (grown wish asked reply)
 grown-caused size wish earlier asked Refuse is needed fit = refused-caused size wish earlier asked Refuse fit needed
 grown-caused size wish earlier asked (Bad why) is needed fit =
     ends-caused size wish _ (BadAnswer (answered_span (whole_chunks wish.pages) asked.answer) why)
-    (subst (λ a. BadAnswerCause wish ((earlier ++ Told asked ∷ []) ++ Replied (Bad why) ∷ []) (answered_span (whole_chunks wish.pages) a) why)
-        (sym fit.3) (bad-caused wish earlier asked why fit.0 fit.1 fit.2 is fit.3))
+    (bad-caused wish earlier asked why asked.answer refl is (subst (λ a. BadFits a asked.answer why) is fit))
 grown-caused size wish earlier asked (Grown span b) is needed fit =
     grant-caused size wish _ span b (flight-push (earlier ++ Told asked ∷ []) (Replied (Grown span b))) (Contains-push _ (Replied (Grown span b)))
 grown-caused size wish earlier asked reply is needed fit = astray-caused size wish _
@@ -234,7 +267,7 @@ trim-caused : (size : ℕ) (wish : Wish) (before : List Item) (span : Span) (b :
 trim-caused size wish before span b flight =
     choice-caused size wish before (nat_lt wish.pages span.pages) _ (commit wish span b)
     (λ more. asked-caused size wish before wish.arena (Split span wish.pages) (λ asked. CutDone (heard_in asked) true) (λ asked. trim_cut wish b)
-        (λ asked reply is fit. trim_cut-caused size wish before span b asked reply flight))
+    (λ asked reply is fit. trim_cut-caused size wish before span b asked reply flight))
     (commit-caused size wish before span b flight)
 
 skip_cut-caused : (size : ℕ) (wish : Wish) (earlier : List Item) (span : Span) (b : Bool) (asked : AskFacts) (reply : Reply) →
@@ -248,7 +281,7 @@ skip_to-caused : (size : ℕ) (wish : Wish) (before : List Item) (span : Span) (
 skip_to-caused size wish before span b skip flight =
     choice-caused size wish before (nat_lt 0 skip) _ (trim wish span b)
     (λ more. asked-caused size wish before wish.arena (Split span skip) (λ asked. CutDone (heard_in asked) false) (λ asked. skip_cut wish b)
-        (λ asked reply is fit. skip_cut-caused size wish before span b asked reply flight))
+    (λ asked reply is fit. skip_cut-caused size wish before span b asked reply flight))
     (trim-caused size wish before span b flight)
 
 looked-caused : (size : ℕ) (wish : Wish) (before : List Item) (reply : Reply) → Caused size wish (before ++ Replied reply ∷ []) (looked wish reply)

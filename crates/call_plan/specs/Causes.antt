@@ -1,5 +1,5 @@
 -- Why each answer of a malloc comes, by what its call was fed.
-use Rattle.std.specs.Prelude.{◌≡◌, ℕ, ◌+◌, ◌<◌, ◌^◌, ◌⊎◌, ◌↔◌, max, Bool, true, false, List, [], ◌∷◌, ◌++◌, fold, Contains, Option, None, Some}
+use Rattle.std.specs.Prelude.{◌≡◌, ◌≢◌, ℕ, ◌%◌, ◌<◌, ◌^◌, ◌⊎◌, ◌↔◌, max, Bool, true, false, List, [], ◌∷◌, ◌++◌, fold, Contains, Option, None, Some}
 use Rattle.std.specs.Option.{option_map}
 use Rattle.size_classes.specs.Classes.{class_for}
 use Rattle.space_model.specs.declared.Ask.{Ask}
@@ -13,7 +13,9 @@ use Rattle.space_model.specs.declared.Reply.TheVariants.{NoArena, Noted, Took, G
 use Rattle.space_model.specs.declared.Space.{Space}
 use Rattle.space_model.specs.declared.Span.{Span}
 use Rattle.space_model.specs.declared.Why.{Why}
-use Rattle.space_model.specs.Step.{step_of, op_stands}
+use Rattle.space_model.specs.declared.Why.TheVariants.{OffSpace, Unaligned, Meets}
+use Rattle.space_model.specs.Span.{chunk_span, chunks_of}
+use Rattle.space_model.specs.Step.{is_in_space, step_of, op_stands}
 use Rattle.hook_api.specs.Asked.{AskFacts}
 use Rattle.call_plan.specs.declared.needs.Answered.{Answered}
 use Rattle.call_plan.specs.declared.needs.Answered.TheVariants.{Ok, Refused, BadAnswer, TooLarge, NoArena as NoSuchArena}
@@ -33,12 +35,24 @@ CutFits answer (Cut kept) = answer ≡ Done
 CutFits answer Whole = answer ≡ Refuses
 CutFits answer reply = Unit {0}
 
+-- what speaks against a range: it is off the space, else it isn't at the alignment, else this is one of its chunks
+abbrev pub WhyFits : ℕ → Span → Why → Type 0
+WhyFits align span OffSpace = is_in_space span ≡ false
+WhyFits align span Unaligned = (is_in_space span ≡ true) × (span.first % align ≢ 0)
+WhyFits align span (Meets chunk) = (is_in_space span ≡ true) × (span.first % align ≡ 0)
+    × ((number : ℕ) × Contains (chunks_of span) number × (chunk ≡ chunk_span number))
+
+-- a range is bad only where an alloc placed it, of the pages and the alignment that were asked for
+abbrev pub BadFits : Ask → Answer → Why → Type 0
+BadFits (Alloc at pages align commit) (Placed first is_committed zeroed) why = WhyFits align (record { first = first; pages = pages }) why
+BadFits asked answer why = ⊥
+
 -- an arena grew where a range was placed, which it takes or finds bad, and didn't where the alloc was refused
-abbrev pub GrowFits : Answer → Reply → Type 0
-GrowFits answer (Grown span is_committed) = (zeroed : Bool) × (answer ≡ Placed span.first is_committed zeroed)
-GrowFits answer (Bad why) = (first : ℕ) × (is_committed : Bool) × (zeroed : Bool) × (answer ≡ Placed first is_committed zeroed)
-GrowFits answer Refuse = answer ≡ Refuses
-GrowFits answer reply = Unit {0}
+abbrev pub GrowFits : Ask → Answer → Reply → Type 0
+GrowFits asked answer (Grown span is_committed) = (zeroed : Bool) × (answer ≡ Placed span.first is_committed zeroed)
+GrowFits asked answer (Bad why) = BadFits asked answer why
+GrowFits asked answer Refuse = answer ≡ Refuses
+GrowFits asked answer reply = Unit {0}
 
 -- an extent was noted as committed where the commit was done, and put down whole where it was refused
 abbrev pub CommitFits : Answer → Reply → Type 0
@@ -54,7 +68,7 @@ LandFits count reply = Unit {0}
 -- what the reply to an operation says of the answer that it carried
 abbrev pub ReplyFits : Op → Reply → Type 0
 ReplyFits (CutDone heard keep_low) reply = CutFits heard.answer reply
-ReplyFits (GrowDone heard found) reply = GrowFits heard.answer reply
+ReplyFits (GrowDone heard found) reply = GrowFits heard.ask heard.answer reply
 ReplyFits (CommitDone heard) reply = CommitFits heard.answer reply
 ReplyFits (Land span class count) reply = LandFits count reply
 ReplyFits op reply = Unit {0}
@@ -140,16 +154,17 @@ pub record RefusedCause (wish : Wish) (items : List Item) (asked : AskFacts) : T
   pub refused : asked.answer ≡ Refuses
   pub needed : IsNeeded wish earlier asked.ask
 
--- An alloc of this call placed the range, and the arena replied that it is bad.
+-- An alloc of this call placed the range, and the arena replied what speaks against it.
 pub record BadAnswerCause (wish : Wish) (items : List Item) (span : Span) (why : Why) : Type 0 where
   pub asked : AskFacts
   pub told : Contains items (Told asked)
-  pub asked_pages : asked.ask ≡ Alloc None span.pages (max 512 wish.align) false
+  pub alloc : asked.ask ≡ Alloc None span.pages (max 512 wish.align) false
   pub pages : span.pages ≡ whole_chunks wish.pages
   pub is_committed : Bool
   pub zeroed : Bool
   pub placed : asked.answer ≡ Placed span.first is_committed zeroed
   pub replied : Contains items (Replied (Bad why))
+  pub against : WhyFits (max 512 wish.align) span why
 
 -- why a malloc of so many bytes, which had this wish, gave its answer after these items
 abbrev pub HasCause : ℕ → Wish → List Item → Answered → Type 0
