@@ -4,5 +4,6 @@ pub mod Flights
 pub mod Cutting
 pub mod Known
 pub mod Powers
+pub mod Shorter
 pub mod Causes
 pub mod Bounds

@@ -5,5 +5,6 @@ pub mod Stages
 pub mod Calls
 pub mod Knows
 pub mod Laws
+pub mod Left
 pub mod Causes
 pub mod Bounds

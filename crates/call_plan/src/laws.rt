@@ -1,5 +1,6 @@
 //! Laws of calls, as contracts of functions that do nothing.
 
+ghost use Rattle.call_plan.specs.Left.{TurnsShorten, AsksShorten};
 ghost use Rattle.call_plan.specs.Bounds.{RunsAreShort};
 ghost use Rattle.call_plan.specs.Causes.{RepliesFit, MallocsHaveCauses};
 ghost use Rattle.call_plan.specs.Laws.{TurnsGoOn, AsksGoOn};
@@ -15,14 +16,21 @@ pub fn asks_go_on()
     ensures { AsksGoOn }
 {}
 
-/// Every reply of an arena fits the answer that its operation carries: it tells of a refusal exactly where the hook
-/// refused.
+/// Each turn and each ask that a call needs brings it nearer to its end.
+pub fn calls_shorten()
+    ensures turns { TurnsShorten }
+    ensures asks { AsksShorten }
+{}
+
+/// Every reply of an arena fits the answer that its operation carries: it tells of a refusal only where the hook refused,
+/// and of a cut, a new extent or a commit only where the hook did what was asked.
 pub fn replies_fit()
     ensures { RepliesFit }
 {}
 
 /// Every answer of a malloc has its cause among what this very call was fed: a region that landed, a refused ask that was
-/// needed, a bad range that its alloc placed, a size that is too large, or an arena that isn't live.
+/// needed, a bad range that its alloc placed and what speaks against it, a size that is too large, or an arena that isn't
+/// live.
 pub fn mallocs_have_causes()
     ensures { MallocsHaveCauses }
 {}
