@@ -6,3 +6,5 @@ pub mod Known
 pub mod Powers
 pub mod Shorter
 pub mod Points
+pub mod Causes
+pub mod Bounds

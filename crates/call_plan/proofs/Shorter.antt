@@ -25,17 +25,17 @@ commit_left span false = omega arith
 grant_left : (wish : Wish) (span : Span) (b : Bool) → points_left (grant_point wish span b) ≤ 7
 grant_left wish span b =
     elim (nat_lt wish.pages span.pages) as (λ x. points_left (cond x (GrantAsked span b) (commit_point span b)) ≤ 7)
-        [ true ↦ omega arith | false ↦ omega (arith, commit_left span b) ]
+    [ true ↦ omega arith | false ↦ omega (arith, commit_left span b) ]
 
 trim_left : (wish : Wish) (span : Span) (b : Bool) → points_left (trim_point wish span b) ≤ 11
 trim_left wish span b =
     elim (nat_lt wish.pages span.pages) as (λ x. points_left (cond x (TrimAsked span b) (commit_point span b)) ≤ 11)
-        [ true ↦ omega arith | false ↦ omega (arith, commit_left span b) ]
+    [ true ↦ omega arith | false ↦ omega (arith, commit_left span b) ]
 
 skip_left : (wish : Wish) (span : Span) (b : Bool) (skip : ℕ) → points_left (skip_point wish span b skip) ≤ 13
 skip_left wish span b skip =
     elim (nat_lt 0 skip) as (λ x. points_left (cond x (SkipAsked span b skip) (trim_point wish span b)) ≤ 13)
-        [ true ↦ omega arith | false ↦ omega (arith, trim_left wish span b) ]
+    [ true ↦ omega arith | false ↦ omega (arith, trim_left wish span b) ]
 
 looked_left : (wish : Wish) (reply : Reply) → steps_left (stage_of wish (looked_point wish reply)) < 14
 looked_left wish (Took span b skip) = omega (arith, skip_left wish span b skip)

@@ -66,7 +66,7 @@ Knows c s (Ended answer) = Unit {0}
 
 -- the operation as it enters a journal: that of an alloc carries the chunk of another arena that was found
 abbrev pub with_found : Option ℕ → Op → Op
-with_found found (GrowDone heard none) = GrowDone heard found
+with_found found (GrowDone heard _) = GrowDone heard found
 with_found found op = op
 
 -- A space in which a client's call goes on: it is sound and live, and the client allocates from it.

@@ -6,3 +6,5 @@ pub mod Calls
 pub mod Knows
 pub mod Laws
 pub mod Left
+pub mod Causes
+pub mod Bounds

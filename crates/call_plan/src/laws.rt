@@ -1,6 +1,8 @@
 //! Laws of calls, as contracts of functions that do nothing.
 
 ghost use Rattle.call_plan.specs.Left.{TurnsShorten, AsksShorten};
+ghost use Rattle.call_plan.specs.Bounds.{RunsAreShort};
+ghost use Rattle.call_plan.specs.Causes.{RepliesFit, MallocsHaveCauses};
 ghost use Rattle.call_plan.specs.Laws.{TurnsGoOn, AsksGoOn};
 
 /// Every turn that a call needs may stand in the space of its arena, which is sound and live: the extent that the call
@@ -18,5 +20,22 @@ pub fn asks_go_on()
 pub fn calls_shorten()
     ensures turns { TurnsShorten }
     ensures asks { AsksShorten }
-{
-}
+{}
+
+/// Every reply of an arena fits the answer that its operation carries: it tells of a refusal only where the hook refused,
+/// and of a cut, a new extent or a commit only where the hook did what was asked.
+pub fn replies_fit()
+    ensures { RepliesFit }
+{}
+
+/// Every answer of a malloc has its cause among what this very call was fed: a region that landed, a refused ask that was
+/// needed, a bad range that its alloc placed and what speaks against it, a size that is too large, or an arena that isn't
+/// live.
+pub fn mallocs_have_causes()
+    ensures { MallocsHaveCauses }
+{}
+
+/// Every call ends after at most 5 asks and 7 turns.
+pub fn runs_are_short()
+    ensures { RunsAreShort }
+{}

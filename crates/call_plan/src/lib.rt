@@ -12,7 +12,9 @@ mod stages;
 mod wishes;
 
 pub use calls::{Call, Desk};
-pub use laws::{asks_go_on, calls_shorten, turns_go_on};
+pub use laws::{
+    asks_go_on, calls_shorten, mallocs_have_causes, replies_fit, runs_are_short, turns_go_on,
+};
 pub use needs::{Answered, Fed, Given, Need, Request, Turn};
 pub use stages::Stage;
 pub use wishes::{Getting, Wish};
