@@ -1,0 +1,11 @@
+//! A ticket lock whose history is the replay of what happened under it.
+#![tactic(auto)]
+
+mod lock;
+mod machine;
+mod rule;
+mod view;
+
+pub use lock::{Pass, TurnLock};
+pub use machine::Machine;
+pub use view::Turn;
