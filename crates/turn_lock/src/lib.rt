@@ -4,6 +4,7 @@
 mod lock;
 mod machine;
 mod rule;
+mod turns;
 mod view;
 
 pub use lock::{Pass, TurnLock};

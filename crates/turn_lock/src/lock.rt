@@ -10,15 +10,16 @@ use crate::rule::{Board, Place};
 
 /// A lock round the state of a machine.
 pub struct TurnLock<M: Machine> {
-    table: Board<M>,
+    pub(crate) table: Board<M>,
     ghost sized: { (table.shared.table_id.words ≡ 2) × (table.shared.table_id.slots ≡ 1) },
 }
 
 /// The right to take turns under one number, and to give numbers away.
+#[derive(Drop)]
 pub struct Pass<M: Machine> {
-    seat: Place<M>,
-    number: u32,
-    end: u32,
+    pub(crate) seat: Place<M>,
+    pub(crate) number: u32,
+    pub(crate) end: u32,
     ghost home: { length seat.me.1 ≡ 0 },
     ghost idle: { is_idle seat.me.0.stage ≡ true },
     ghost one: { length seat.me.0.claims ≡ 1 },

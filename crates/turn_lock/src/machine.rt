@@ -5,9 +5,9 @@ use std::alloc::AllocError as NoMemory;
 
 /// A state under a lock, and the steps that change it.
 pub trait Machine {
-    type State;
+    type State: Drop;
     type Op;
-    type Entry;
+    type Entry: Drop;
     type Reply;
     type Own;
 

@@ -1,0 +1,137 @@
+-- Each step keeps the rule.
+use Rattle.std.proofs.Common.{◌≡◌, ℕ, ◌+◌, ◌-◌, ◌%◌, ◌^◌, ◌<◌, ◌≤◌, ◌≢◌, ◌⊎◌, zero, suc, Bool, true, false, cond, ltb, List, [], ◌∷◌, ◌++◌, map, length, get_or, take, drop, set, Some, sym, refl, ap, ◌∙◌, subst, inl, inr, ⊎_elim, arith}
+use mathlib.Core.Option.{Option, none, some, some-injective, some-ne-none}
+use mathlib.Core.List.{IsPrefix}
+use mathlib.Core.Logic.{dite}
+use native.Mathlib.Decide.{ℕ_discrete}
+use lib.ListN.{get_elem?}
+use lib.Seq.{set-get_or}
+use Rattle.std.proofs.Math.Nat.{mod-add-mod}
+use Rattle.std.proofs.lemmas.Bool.Decides.{nat_tests}
+use Rattle.atomic_table.specs.Table.{State, Me, step, keeps, takes, gives, stepped, Allows, Splits, Joins, opening}
+use Rattle.atomic_table.proofs.Lists.{at_set, set_again, set_else, at_snoc, at_longer, one_turn}
+use Rattle.turn_lock.specs.declared.view.Turn.{Turn}
+use Rattle.turn_lock.specs.declared.view.Claim.{Claim}
+use Rattle.turn_lock.specs.declared.view.Stage.{Stage}
+use Rattle.turn_lock.specs.declared.view.Stage.TheVariants.{Idle, Waiting, Serving}
+use Rattle.turn_lock.specs.declared.view.View.{View}
+use Rattle.turn_lock.specs.History.{turn_of, entries, entries_by, replay, IsLegal}
+use Rattle.turn_lock.specs.Rule.{total, times, tickets_in, ticket_of, is_serving, is_idle, IsClaim, StandsIn, counted, has, tickets, staged, Knows, Slot, opening_view, Rule}
+use Rattle.turn_lock.specs.Steps.{drew, Enters, looked, with_turn, added, skipped, first_part, later_part, joined, spent}
+use Rattle.turn_lock.proofs.Totals.{total_set, total_append, total_one, total_two, total_none, total_le, times_range, times_parts, length_parts, length_range}
+use Rattle.turn_lock.proofs.Histories.{by_append, by_other, by_same, entries_append, prefix_all, prefix_more, replay_append, legal_more}
+
+-- what stands at a place that was set
+set_at : {A : Type 0} (l : List A) (i : ℕ) (a b : A) → get_elem? l i ≡ some a → get_elem? (set l i b) i ≡ some b
+set_at [] i a b e = absurd (some-ne-none a (sym e))
+set_at (x ∷ xs) zero a b e = refl
+set_at (x ∷ xs) (suc i) a b e = set_at xs i a b e
+
+-- the cases of a place after one was set
+set_cases : {A : Type 0} (P : ℕ → A → Type 0) (l : List A) (id : ℕ) (w : A) → P id w → ((j : ℕ) (u : A) → j ≢ id → get_elem? l j ≡ some u → P j u) → (j : ℕ) (u : A) → get_elem? (set l id w) j ≡ some u → P j u
+set_cases {A = A} P l id w mine others j u e = ⊎_elim (λ (t : (j ≡ id) × (w ≡ u)). subst (λ (x : ℕ × A). P x.0 x.1) (λ i. (sym t.0 i, t.1 i)) mine) (λ (t : (j ≢ id) × (get_elem? l j ≡ some u)). others j u t.0 t.1) (at_set l id j w u e)
+
+module _ {E : Type 0} where
+  idle_is : (st : Stage E) → is_idle st ≡ true → st ≡ Idle
+  idle_is Idle h = refl
+  idle_is (Waiting t) h = cc
+  idle_is (Serving t whole) h = cc
+
+  serving_is : (st : Stage E) → is_serving st ≡ true → (t : ℕ) × (whole : List (Turn E)) × (st ≡ Serving t whole)
+  serving_is Idle h = cc
+  serving_is (Waiting t) h = cc
+  serving_is (Serving t whole) h = (t, whole, refl)
+
+  not_serving : (st : Stage E) → (is_serving st ≡ true → ⊥) → is_serving st ≡ false
+  not_serving Idle h = refl
+  not_serving (Waiting t) h = refl
+  not_serving (Serving t whole) h = absurd (h refl)
+
+  -- each ticket stands in the line
+  stands_in : (log : List (Turn E)) (served waiting : ℕ) (st : Stage E) (t : ℕ) → StandsIn log served waiting st → ticket_of st ≡ some t → (served ≤ t) × (t < served + waiting)
+  stands_in log served waiting Idle t k e = absurd (some-ne-none t (sym e))
+  stands_in log served waiting (Waiting x) t k e = let is : x ≡ t = some-injective x t e in let a = k.0 in let b = k.1 in (omega arith, omega arith)
+  stands_in log served waiting (Serving x whole) t k e = let is : x ≡ t = some-injective x t e in let a = k.0 in let b = k.1 in (omega arith, omega arith)
+
+  -- a longer line leaves each ticket its place
+  stands_longer : (log : List (Turn E)) (served waiting : ℕ) (st : Stage E) → StandsIn log served waiting st → StandsIn log served (waiting + 1) st
+  stands_longer log served waiting Idle k = tt
+  stands_longer log served waiting (Waiting t) k = let a = k.0 in let b = k.1 in (a, omega arith)
+  stands_longer log served waiting (Serving t whole) k = let b = k.1 in (k.0, omega arith, k.2)
+
+module _ {S E : Type 0} where
+  -- a view that is replaced by one that is served as it was leaves the slot where it is
+  slot_stays : (value : S) (homes : List (Option S)) (views : List (View S E)) (id : ℕ) (v w : View S E) → get_elem? views id ≡ some v → is_serving w.stage ≡ is_serving v.stage → Slot value homes views → Slot value homes (set views id w)
+  slot_stays value homes views id v w at alike (inl h) = inl (h.0, set_cases (λ j (u : View S E). is_serving u.stage ≡ false) views id w (alike ∙ h.1 id v at) (λ j u _ e. h.1 j u e))
+  slot_stays value homes views id v w at alike (inr h) = dite (ℕ_discrete h.1.0 id)
+      (λ is. let here = subst (λ j. get_elem? views j ≡ some h.1.1) is h.1.2 in
+          let one = some-injective v h.1.1 (sym at ∙ here) in
+          inr (h.0, (id, w, set_at views id v w at, alike ∙ (ap (λ (u : View S E). is_serving u.stage) one ∙ h.1.3))))
+      (λ other. inr (h.0, (h.1.0, h.1.1, set_else views id h.1.0 w other ∙ h.1.2, h.1.3)))
+
+module _ {S O E R : Type 0} (logs : S → ℕ → O → E → Type 0) (after : S → E → S × R) (kept : S → List E) (first : S) (seats : ℕ) where
+  abbrev V : Type 0
+  V = View S E
+
+  abbrev Hist : Type 0
+  Hist = List (Turn E)
+
+  abbrev St : Type 0
+  St = State S V
+
+  abbrev Kept : St → Type 0
+  Kept = Rule logs after kept first seats
+
+  -- one view is replaced by another with the same numbers, and the line, the history and the slot follow
+  moved : (s : St) (r : Kept s) (id : ℕ) (v w : V) → get_elem? s.views id ≡ some v → (log : Hist) (served waiting : ℕ) (ws : List ℕ) (hs : List (Option S))
+      → ws ≡ ((served + waiting) % 18446744073709551616) ∷ (served % 18446744073709551616) ∷ [] → tickets w + r.waiting ≡ tickets v + waiting
+      → w.claims ≡ v.claims ⊎ ((counted w ≡ counted v) × ((n : ℕ) → has n w ≡ has n v))
+      → length log ≤ served → IsLegal logs after first log → kept (replay after first log) ≡ entries log → ((n : ℕ) → seats ≤ n → entries_by n log ≡ [])
+      → Knows first log served waiting w → ((j : ℕ) (u : V) → j ≢ id → get_elem? s.views j ≡ some u → Knows first log served waiting u)
+      → ((j : ℕ) (u : V) (t : ℕ) → j ≢ id → get_elem? s.views j ≡ some u → ticket_of w.stage ≡ some t → ticket_of u.stage ≡ some t → ⊥)
+      → Slot (replay after first log) hs (set s.views id w) → Kept record { words = ws; homes = hs; views = set s.views id w }
+  moved s r id v w at log served waiting ws hs words line numbers turns legal tied named mine others alone slot =
+      let same : (counted w ≡ counted v) × ((n : ℕ) → has n w ≡ has n v) = ⊎_elim (λ (e : w.claims ≡ v.claims). (ap (total (λ (c : Claim E). length c.numbers)) e, λ n. ap (total (λ (c : Claim E). times n c.numbers)) e)) (λ z. z) numbers in
+      record {
+        log = log;
+        served = served;
+        waiting = waiting;
+        words = words;
+        line = (let a = total_set tickets s.views id v w at in let b = r.line in omega arith);
+        room = (let a = total_set counted s.views id v w at in let b = r.room in let c = same.0 in omega arith);
+        once = λ n. (let a = total_set (has n) s.views id v w at in let c = same.1 n in let d : total (has n) (set s.views id w) ≡ total (has n) s.views = omega arith in d ∙ r.once n);
+        small = r.small;
+        turns = turns;
+        legal = legal;
+        keeps = tied;
+        named = named;
+        knows = set_cases (λ j (u : V). Knows first log served waiting u) s.views id w mine others;
+        apart = λ i j a b t ia jb ta tb. set_cases (λ i (x : V). ticket_of x.stage ≡ some t → i ≡ j) s.views id w
+            (λ tx. set_cases (λ j (y : V). ticket_of y.stage ≡ some t → id ≡ j) s.views id w (λ _. refl) (λ j y n e ty. absurd (alone j y t n e tx ty)) j b jb tb)
+            (λ i x n e tx. set_cases (λ j (y : V). ticket_of y.stage ≡ some t → i ≡ j) s.views id w (λ ty. absurd (alone i x t n e ty tx)) (λ j y _ f ty. r.apart i j x y t e f tx ty) j b jb tb)
+            i a ia ta;
+        slot = slot;
+      }
+
+  -- the low 64 bits of the next number
+  low_next : (n : ℕ) → (n % 18446744073709551616 + 1) % 18446744073709551616 ≡ (n + 1) % 18446744073709551616
+  low_next n = mod-add-mod n 18446744073709551616 1
+
+  pub draws : (slots id : ℕ) (me : Me S V) → is_idle me.0.stage ≡ true → 0 < counted me.0 → Allows Kept slots id me 0 (λ n. (n + 1) % 2 ^ 64) (drew (step slots 0 1 0 none) me)
+  draws slots id me idle some_number s r long at small =
+      let k : ℕ = r.served + r.waiting in let v : V = me.0 in let w : V = staged v (Waiting k) in let still = idle_is v.stage idle in let know = r.knows id v at in
+      let free : tickets v ≡ 0 = ap tickets_in still in
+      let found : get_or s.words 0 0 ≡ k % 18446744073709551616 = ap (λ (l : List ℕ). get_or l 0 0) r.words in
+      let next : (get_or s.words 0 0 + 1) % 18446744073709551616 ≡ (r.served + (r.waiting + 1)) % 18446744073709551616 = ap (λ (n : ℕ). (n + 1) % 18446744073709551616) found ∙ (low_next k ∙ ap (λ (n : ℕ). n % 18446744073709551616) (omega arith)) in
+      let words : set s.words 0 ((get_or s.words 0 0 + 1) % 18446744073709551616) ≡ ((r.served + (r.waiting + 1)) % 18446744073709551616) ∷ (r.served % 18446744073709551616) ∷ [] =
+          ap (λ (l : List ℕ). set l 0 ((get_or s.words 0 0 + 1) % 18446744073709551616)) r.words ∙ ap (λ (n : ℕ). n ∷ (r.served % 18446744073709551616) ∷ []) next in (
+        w,
+        keeps,
+        tt,
+        moved s r id v w at r.log r.served (r.waiting + 1) _ s.homes words (omega arith) (inl refl) r.turns r.legal r.keeps r.named
+            record { begun = know.begun; claims = know.claims; named = some_number; stands = (omega arith, omega arith) }
+            (λ j u _ e. let other = r.knows j u e in record { begun = other.begun; claims = other.claims; named = other.named; stands = stands_longer r.log r.served r.waiting u.stage other.stands })
+            (λ j u t _ e tw tu. let is : k ≡ t = some-injective k t tw in let low = stands_in r.log r.served r.waiting u.stage t (r.knows j u e).stands tu in let b = low.1 in omega arith)
+            (slot_stays (replay after first r.log) s.homes s.views id v w at (ap is_serving (sym still)) r.slot),
+        (k, sym found, refl),
+      )

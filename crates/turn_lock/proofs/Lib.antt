@@ -1,0 +1,3 @@
+mod Histories
+mod Keeps
+mod Totals
