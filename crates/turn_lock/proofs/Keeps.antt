@@ -53,6 +53,12 @@ module _ {E : Type 0} where
   stands_in log served waiting (Waiting x) t k e = let is : x ≡ t = some-injective x t e in let a = k.0 in let b = k.1 in (omega arith, omega arith)
   stands_in log served waiting (Serving x whole) t k e = let is : x ≡ t = some-injective x t e in let a = k.0 in let b = k.1 in (omega arith, omega arith)
 
+  -- the seat that is served has the ticket that is served
+  serving_ticket : (log : List (Turn E)) (served waiting : ℕ) (st : Stage E) → is_serving st ≡ true → StandsIn log served waiting st → ticket_of st ≡ some served
+  serving_ticket log served waiting Idle h k = cc
+  serving_ticket log served waiting (Waiting x) h k = cc
+  serving_ticket log served waiting (Serving x whole) h k = ap some k.0
+
   -- a longer line leaves each ticket its place
   stands_longer : (log : List (Turn E)) (served waiting : ℕ) (st : Stage E) → StandsIn log served waiting st → StandsIn log served (waiting + 1) st
   stands_longer log served waiting Idle k = tt
@@ -135,3 +141,57 @@ module _ {S O E R : Type 0} (logs : S → ℕ → O → E → Type 0) (after : S
             (slot_stays (replay after first r.log) s.homes s.views id v w at (ap is_serving (sym still)) r.slot),
         (k, sym found, refl),
       )
+
+  -- no more tickets stand in the line than there are numbers
+  few : (s : St) (r : Kept s) → r.waiting ≤ seats
+  few s r = let a = total_le tickets counted s.views (λ j u e. (r.knows j u e).named) in let b = r.line in let c = r.room in omega arith
+
+  -- a step that changes nothing
+  unmoved : (s : St) (r : Kept s) (i id : ℕ) (me : Me S V) → get_elem? s.views id ≡ some me.0 → Kept (stepped s i (get_or s.words i 0) id me.1 me.0 keeps)
+  unmoved s r i id me at = subst (λ (ws : List ℕ). Kept record { words = ws; homes = s.homes; views = set s.views id me.0 }) (sym (set-get_or s.words i 0))
+      (subst (λ (vs : List V). Kept record { words = s.words; homes = s.homes; views = vs }) (sym (set_again s.views id me.0 at)) r)
+
+  -- who has the ticket that is served is the seat that is served, if there is one
+  served_one : (s : St) (r : Kept s) (id j : ℕ) (v u : V) → get_elem? s.views id ≡ some v → ticket_of v.stage ≡ some r.served → get_elem? s.views j ≡ some u → is_serving u.stage ≡ true → j ≡ id
+  served_one s r id j v u at ticket there out = r.apart j id u v r.served there at (serving_ticket r.log r.served r.waiting u.stage out (r.knows j u there).stands) ticket
+
+  -- a seat whose ticket is served, and which hasn't entered, finds the slot at home
+  at_home : (s : St) (r : Kept s) (id : ℕ) (v : V) → get_elem? s.views id ≡ some v → ticket_of v.stage ≡ some r.served → is_serving v.stage ≡ false → s.homes ≡ some (replay after first r.log) ∷ []
+  at_home s r id v at ticket not_yet = ⊎_elim (λ h. h.0)
+      (λ (h : (s.homes ≡ none ∷ []) × ((j : ℕ) × (u : V) × (get_elem? s.views j ≡ some u) × (is_serving u.stage ≡ true))). let j : ℕ = h.1.0 in let u : V = h.1.1 in let same_seat = served_one s r id j v u at ticket h.1.2 h.1.3 in
+          let one = some-injective v u (sym at ∙ subst (λ i. get_elem? s.views i ≡ some u) same_seat h.1.2) in
+          let wrong : false ≡ true = sym not_yet ∙ (ap (λ (x : V). is_serving x.stage) one ∙ h.1.3) in absurd cc)
+      r.slot
+
+  same_tickets : (v : V) (k j : ℕ) → v.stage ≡ Waiting k → v.stage ≡ Waiting j → k ≡ j
+  same_tickets v k j a b = some-injective k j (sym (ap ticket_of a) ∙ ap ticket_of b)
+
+  pub looks : (slots id : ℕ) (me : Me S V) (k : ℕ) → me.0.stage ≡ Waiting k → me.1 ≡ [] → Allows Kept slots id me 1 (λ n. n) (looked logs after kept (step slots 1 0 0 none) me)
+  looks slots id me k stage empty s r long at small =
+      let v : V = me.0 in let know = r.knows id v at in let n : ℕ = get_or s.words 1 0 in let found : n ≡ r.served % 18446744073709551616 = ap (λ (l : List ℕ). get_or l 1 0) r.words in
+      let stands : StandsIn r.log r.served r.waiting (Waiting k) = subst (StandsIn r.log r.served r.waiting) stage know.stands in dite (ℕ_discrete n (k % 18446744073709551616))
+      (λ yes. let a = stands.0 in let b = stands.1 in let c = few s r in let d = r.small in let same_ticket : r.served ≡ k = one_turn r.served k 18446744073709551616 a (omega arith) (sym found ∙ yes) in
+          let y : S = replay after first r.log in let w : V = staged v (Serving k r.log) in
+          let home = at_home s r id v at (ap ticket_of stage ∙ ap some (sym same_ticket)) (ap is_serving stage) in
+          let out : set s.homes 0 none ≡ none ∷ [] = ap (λ l. set l 0 none) home in (
+            w,
+            takes 0 y,
+            ap (λ l. get_elem? l 0) home,
+            moved s r id v w at r.log r.served r.waiting _ (set s.homes 0 none) (set-get_or s.words 1 0 ∙ r.words) (ap (λ (z : Stage E). tickets_in z + r.waiting) (sym stage)) (inl refl) r.turns r.legal r.keeps r.named
+                record { begun = know.begun; claims = know.claims; named = subst (λ (z : Stage E). tickets_in z ≤ counted v) stage know.named; stands = (sym same_ticket, omega arith, refl) }
+                (λ j u _ e. r.knows j u e)
+                (λ j u t other e tw tu. other (r.apart j id u v t e at tu (ap ticket_of stage ∙ tw)))
+                (inr (out, (id, w, set_at s.views id v w at, refl))),
+            (λ k' is _. let one = same_tickets v k k' stage is in (
+              (λ no. absurd (no (yes ∙ ap (λ (z : ℕ). z % 18446744073709551616) one))),
+              (λ _. (
+                r.log,
+                y,
+                (λ i. (staged v (Serving (one i) r.log), (0, y) ∷ empty i)),
+                (λ b begun. let begin = sym (know.begun b begun) in (ap (λ (z : S). replay after z r.log) begin, subst (λ (z : S). IsLegal logs after z r.log) begin r.legal)),
+                r.keeps,
+                know.claims,
+              )),
+            )),
+          ))
+      (λ no. (v, keeps, tt, unmoved s r 1 id me at, (λ k' is _. ((λ _. refl), (λ yes. absurd (no (yes ∙ ap (λ (z : ℕ). z % 18446744073709551616) (sym (same_tickets v k k' stage is)))))))))
