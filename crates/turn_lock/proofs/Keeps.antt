@@ -59,6 +59,12 @@ module _ {E : Type 0} where
   serving_ticket log served waiting (Waiting x) h k = cc
   serving_ticket log served waiting (Serving x whole) h k = ap some k.0
 
+  -- where the next ticket is served, each other one is nearer
+  stands_nearer : (log log' : List (Turn E)) (served waiting : ℕ) (st : Stage E) → (ticket_of st ≡ some served → ⊥) → StandsIn log served waiting st → StandsIn log' (served + 1) (waiting - 1) st
+  stands_nearer log log' served waiting Idle other k = tt
+  stands_nearer log log' served waiting (Waiting t) other k = let a = k.0 in let b = k.1 in let c : t ≢ served = (λ e. other (ap some e)) in (omega arith, omega arith)
+  stands_nearer log log' served waiting (Serving t whole) other k = absurd (other (ap some k.0))
+
   -- a longer line leaves each ticket its place
   stands_longer : (log : List (Turn E)) (served waiting : ℕ) (st : Stage E) → StandsIn log served waiting st → StandsIn log served (waiting + 1) st
   stands_longer log served waiting Idle k = tt
@@ -195,3 +201,31 @@ module _ {S O E R : Type 0} (logs : S → ℕ → O → E → Type 0) (after : S
             )),
           ))
       (λ no. (v, keeps, tt, unmoved s r 1 id me at, (λ k' is _. ((λ _. refl), (λ yes. absurd (no (yes ∙ ap (λ (z : ℕ). z % 18446744073709551616) (sym (same_tickets v k k' stage is)))))))))
+
+  -- what a view's claims say of a history
+  abbrev Claims : Hist → V → Type 0
+  Claims log v = (i : ℕ) (c : Claim E) → get_elem? v.claims i ≡ some c → IsClaim log c
+
+  -- the seat that is served leaves, and the next ticket is served
+  leaves : (s : St) (r : Kept s) (id : ℕ) (v w : V) (k : ℕ) (whole : Hist) (y y' : S) → get_elem? s.views id ≡ some v → v.stage ≡ Serving k whole → w.stage ≡ Idle → w.first ≡ v.first → (log : Hist)
+      → w.claims ≡ v.claims ⊎ ((counted w ≡ counted v) × ((n : ℕ) → has n w ≡ has n v))
+      → length log ≤ r.served + 1 → IsLegal logs after first log → kept (replay after first log) ≡ entries log → ((n : ℕ) → seats ≤ n → entries_by n log ≡ []) → y' ≡ replay after first log
+      → Claims log w → ((j : ℕ) (u : V) → j ≢ id → get_elem? s.views j ≡ some u → Claims log u) → Kept (stepped s 1 ((get_or s.words 1 0 + 1) % 2 ^ 64) id ((0, y') ∷ []) w gives)
+  leaves s r id v w k whole y y' at stage idle same_first log numbers turns legal tied named value mine others =
+      let know = r.knows id v at in let stands : StandsIn r.log r.served r.waiting (Serving k whole) = subst (StandsIn r.log r.served r.waiting) stage know.stands in
+      let here : k ≡ r.served = stands.0 in let some_ticket : 0 < r.waiting = stands.1 in
+      let ticket : ticket_of v.stage ≡ some r.served = ap ticket_of stage ∙ ap some here in
+      let found : get_or s.words 1 0 ≡ r.served % 18446744073709551616 = ap (λ (l : List ℕ). get_or l 1 0) r.words in
+      let next : (get_or s.words 1 0 + 1) % 18446744073709551616 ≡ (r.served + 1) % 18446744073709551616 = ap (λ (n : ℕ). (n + 1) % 18446744073709551616) found ∙ low_next r.served in
+      let more : r.served + r.waiting ≡ (r.served + 1) + (r.waiting - 1) = omega arith in
+      let words : set s.words 1 ((get_or s.words 1 0 + 1) % 18446744073709551616) ≡ (((r.served + 1) + (r.waiting - 1)) % 18446744073709551616) ∷ ((r.served + 1) % 18446744073709551616) ∷ [] =
+          ap (λ (l : List ℕ). set l 1 ((get_or s.words 1 0 + 1) % 18446744073709551616)) r.words ∙ (λ i. ((more i) % 18446744073709551616) ∷ (next i) ∷ []) in
+      let out : set s.homes 0 (some y') ≡ some (replay after first log) ∷ [] =
+          ⊎_elim (λ h. let wrong : true ≡ false = sym (ap is_serving stage) ∙ h.1 id v at in absurd cc) (λ h. ap (λ l. set l 0 (some y')) h.0 ∙ ap (λ (z : S). some z ∷ []) value) r.slot in
+      let one : tickets v ≡ 1 = ap tickets_in stage in let none_left : tickets w ≡ 0 = ap tickets_in idle in
+      moved s r id v w at log (r.served + 1) (r.waiting - 1) _ _ words (omega arith) numbers turns legal tied named
+          record { begun = λ b h. know.begun b (sym same_first ∙ h); claims = mine; named = omega arith; stands = subst (StandsIn log (r.served + 1) (r.waiting - 1)) (sym idle) tt }
+          (λ j u other e. let him = r.knows j u e in record { begun = him.begun; claims = others j u other e; named = him.named; stands = stands_nearer r.log log r.served r.waiting u.stage
+              (λ t. other (r.apart j id u v r.served e at t ticket)) him.stands })
+          (λ j u t _ e tw tu. absurd (some-ne-none t (sym tw ∙ ap ticket_of idle)))
+          (inl (out, set_cases (λ j (u : V). is_serving u.stage ≡ false) s.views id w (ap is_serving idle) (λ j u other e. not_serving u.stage (λ h. other (served_one s r id j v u at ticket e h)))))
