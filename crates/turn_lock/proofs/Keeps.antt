@@ -1,5 +1,5 @@
 -- Each step keeps the rule.
-use Rattle.std.proofs.Common.{◌≡◌, ℕ, ◌+◌, ◌-◌, ◌%◌, ◌^◌, ◌<◌, ◌≤◌, ◌≢◌, ◌⊎◌, zero, suc, Bool, true, false, cond, ltb, List, [], ◌∷◌, ◌++◌, map, length, get_or, take, drop, set, Some, sym, refl, ap, ◌∙◌, subst, inl, inr, ⊎_elim, arith}
+use Rattle.std.proofs.Common.{◌≡◌, ℕ, ◌+◌, ◌-◌, ◌%◌, ◌^◌, ◌<◌, ◌≤◌, ◌≢◌, ◌⊎◌, zero, suc, Bool, true, false, cond, ltb, List, [], ◌∷◌, ◌++◌, map, length, get_or, take, drop, set, Some, sym, refl, ap, ◌∙◌, subst, inl, inr, ⊎_elim, arith, length-append}
 use mathlib.Core.Option.{Option, none, some, some-injective, some-ne-none}
 use mathlib.Core.List.{IsPrefix}
 use mathlib.Core.Logic.{dite}
@@ -8,7 +8,8 @@ use lib.ListN.{get_elem?}
 use lib.Seq.{set-get_or}
 use Rattle.std.proofs.Math.Nat.{mod-add-mod}
 use Rattle.std.proofs.lemmas.Bool.Decides.{nat_tests}
-use Rattle.atomic_table.specs.Table.{State, Me, step, keeps, takes, gives, stepped, Allows, Splits, Joins, opening}
+use Rattle.std.proofs.lemmas.List.{append_cancel_left}
+use Rattle.atomic_table.specs.Table.{State, Me, step, keeps, takes, gives, stepped, rest, Allows, Splits, Joins, opening}
 use Rattle.atomic_table.proofs.Lists.{at_set, set_again, set_else, at_snoc, at_longer, one_turn}
 use Rattle.turn_lock.specs.declared.view.Turn.{Turn}
 use Rattle.turn_lock.specs.declared.view.Claim.{Claim}
@@ -31,7 +32,16 @@ set_at (x ∷ xs) (suc i) a b e = set_at xs i a b e
 set_cases : {A : Type 0} (P : ℕ → A → Type 0) (l : List A) (id : ℕ) (w : A) → P id w → ((j : ℕ) (u : A) → j ≢ id → get_elem? l j ≡ some u → P j u) → (j : ℕ) (u : A) → get_elem? (set l id w) j ≡ some u → P j u
 set_cases {A = A} P l id w mine others j u e = ⊎_elim (λ (t : (j ≡ id) × (w ≡ u)). subst (λ (x : ℕ × A). P x.0 x.1) (λ i. (sym t.0 i, t.1 i)) mine) (λ (t : (j ≢ id) × (get_elem? l j ≡ some u)). others j u t.0 t.1) (at_set l id j w u e)
 
+the_one : {A : Type 0} (a b : A) → a ∷ [] ≡ b ∷ [] → a ≡ b
+the_one a b e = some-injective a b (ap (λ l. get_elem? l 0) e)
+
 module _ {E : Type 0} where
+  -- the history that the seat that is served knows
+  abbrev whole_of : Stage E → List (Turn E)
+  whole_of Idle = []
+  whole_of (Waiting t) = []
+  whole_of (Serving t whole) = whole
+
   idle_is : (st : Stage E) → is_idle st ≡ true → st ≡ Idle
   idle_is Idle h = refl
   idle_is (Waiting t) h = cc
@@ -229,3 +239,74 @@ module _ {S O E R : Type 0} (logs : S → ℕ → O → E → Type 0) (after : S
               (λ t. other (r.apart j id u v r.served e at t ticket)) him.stands })
           (λ j u t _ e tw tu. absurd (some-ne-none t (sym tw ∙ ap ticket_of idle)))
           (inl (out, set_cases (λ j (u : V). is_serving u.stage ≡ false) s.views id w (ap is_serving idle) (λ j u other e. not_serving u.stage (λ h. other (served_one s r id j v u at ticket e h)))))
+
+  -- the seat that is served leaves with no entry
+  pub skips : (slots id : ℕ) (me : Me S V) (k : ℕ) (whole : Hist) (y : S) → me.0.stage ≡ Serving k whole → me.0.first ≡ Some first → me.1 ≡ (0, y) ∷ [] → y ≡ replay after first whole
+      → Allows Kept slots id me 1 (λ n. (n + 1) % 2 ^ 64) (skipped (step slots 1 1 0 none) me)
+  skips slots id me k whole y stage begun holds value s r long at small =
+      let v : V = me.0 in let w : V = staged v Idle in let know = r.knows id v at in
+      let stands : StandsIn r.log r.served r.waiting (Serving k whole) = subst (StandsIn r.log r.served r.waiting) stage know.stands in let turns = r.turns in (
+        w,
+        gives,
+        tt,
+        subst (λ cs. Kept (stepped s 1 ((get_or s.words 1 0 + 1) % 2 ^ 64) id cs w gives)) (sym holds)
+            (leaves s r id v w k whole y y at stage refl refl r.log (inl refl) (omega arith) r.legal r.keeps r.named (value ∙ ap (replay after first) stands.2) know.claims (λ j u _ e. (r.knows j u e).claims)),
+        refl,
+      )
+
+  -- a number that a view has is below the number of seats, and no other view has it
+  below : (s : St) (r : Kept s) (id n : ℕ) (v : V) → get_elem? s.views id ≡ some v → 0 < has n v → n < seats
+  below s r id n v at some_time = let a = total_one (has n) s.views id v at in let b = r.once n in let c : 0 < cond (ltb n seats) 1 0 = omega arith in grind (arith, nat_tests)
+
+  alone : (s : St) (r : Kept s) (id j n : ℕ) (v u : V) → get_elem? s.views id ≡ some v → get_elem? s.views j ≡ some u → j ≢ id → 0 < has n v → has n u ≡ 0
+  alone s r id j n v u at there other some_time = let a = total_two (has n) s.views id j v u (λ e. other (sym e)) at there in let b = r.once n in let c : cond (ltb n seats) 1 0 ≤ 1 = grind (arith, nat_tests) in omega arith
+
+  -- a history with one more turn of a number leaves the claims of others
+  claims_stay : (log : Hist) (m : ℕ) (e : E) (u : V) → has m u ≡ 0 → Claims log u → Claims (log ++ turn_of m e ∷ []) u
+  claims_stay log m e u none_of claims i c at = let old = claims i c at in (
+    prefix_more c.seen log (turn_of m e ∷ []) old.0,
+    λ n some_time. by_other n m e log
+        (λ is. let a = total_one (λ (c : Claim E). times n c.numbers) u.claims i c at in let b : has n u ≡ 0 = subst (λ (x : ℕ). has x u ≡ 0) is none_of in omega arith) ∙ old.1 n some_time,
+  )
+
+  -- the first of some numbers is among them
+  first_there : (numbers : List ℕ) → 0 < length numbers → 0 < times (get_or numbers 0 0) numbers
+  first_there [] h = absurd (omega arith)
+  first_there (x ∷ xs) h = grind (arith, nat_tests)
+
+  only_claim : (log : Hist) (c : Claim E) → IsClaim log c → (i : ℕ) (d : Claim E) → get_elem? (c ∷ []) i ≡ some d → IsClaim log d
+  only_claim log c claim zero d e = subst (IsClaim log) (some-injective c d e) claim
+  only_claim log c claim (suc i) d e = absurd (some-ne-none d (sym e))
+
+  -- the seat that is served leaves with one more entry
+  pub adds : (slots id : ℕ) (me : Me S V) (k : ℕ) (whole : Hist) (c : Claim E) (op : O) (e : E) (y : S) → me.0.stage ≡ Serving k whole → me.0.first ≡ Some first → me.0.claims ≡ c ∷ [] → 0 < length c.numbers
+      → me.1 ≡ (0, y) ∷ [] → y ≡ (after (replay after first whole) e).0 → logs (replay after first whole) (get_or c.numbers 0 0) op e → kept y ≡ entries whole ++ e ∷ []
+      → Allows Kept slots id me 1 (λ n. (n + 1) % 2 ^ 64) (added kept (step slots 1 1 0 none) me)
+  adds slots id me k whole c op e y stage begun claim some_number holds value logged keeps_one s r long at small =
+      let v : V = me.0 in let know = r.knows id v at in let m : ℕ = get_or c.numbers 0 0 in
+      let stands : StandsIn r.log r.served r.waiting (Serving k whole) = subst (StandsIn r.log r.served r.waiting) stage know.stands in
+      let turns = r.turns in let same_log : whole ≡ r.log = stands.2 in
+      let log : Hist = whole ++ turn_of m e ∷ [] in let c' : Claim E = with_turn c whole e in
+      let w : V = record { first = v.first; stage = Idle; claims = c' ∷ [] } in
+      let mine : (n : ℕ) → has n w ≡ has n v = λ n. sym (ap (total (λ (c : Claim E). times n c.numbers)) claim) in
+      let there : 0 < has m v = (let a = first_there c.numbers some_number in let b = mine m in omega arith) in
+      let now : y ≡ replay after first log = value ∙ sym (replay_append logs after first whole (turn_of m e ∷ [])) in (
+        w,
+        gives,
+        tt,
+        subst (λ cs. Kept (stepped s 1 ((get_or s.words 1 0 + 1) % 2 ^ 64) id cs w gives)) (sym holds)
+            (leaves s r id v w k whole y y at stage refl refl log
+            (inr (sym (ap (total (λ (c : Claim E). length c.numbers)) claim), mine))
+            (omega (arith, length-append whole (turn_of m e ∷ []), ap length same_log))
+            (legal_more logs after first whole (turn_of m e ∷ []) (subst (IsLegal logs after first) (sym same_log) r.legal) ((op, logged), tt))
+            (ap kept (sym now) ∙ (keeps_one ∙ sym (entries_append whole (turn_of m e ∷ []))))
+            (λ n far. let near = below s r id m v at there in by_other n m e whole (λ is. omega arith) ∙ (ap (entries_by n) same_log ∙ r.named n far))
+            now
+            (only_claim log c' (prefix_all log, λ n _. refl))
+            (λ j u other e'. subst (λ (h : Hist). Claims (h ++ turn_of m e ∷ []) u) (sym same_log) (claims_stay r.log m e u (alone s r id j m v u at e' other there) (r.knows j u e').claims))),
+        (λ k' whole' c1 y1 e1 stage' claim' holds' keeps'.
+            let same_whole : whole ≡ whole' = sym (ap whole_of stage) ∙ ap whole_of stage' in let same_claim = the_one c c1 (sym claim ∙ claim') in
+            let same_slot : y ≡ y1 = ap (λ (z : ℕ × S). z.1) (the_one (0, y) (0, y1) (sym holds ∙ holds')) in
+            let same_entry = the_one e e1 (append_cancel_left (entries whole) (e ∷ []) (e1 ∷ []) (sym keeps_one ∙ (ap kept same_slot ∙ (keeps' ∙ ap (λ (h : Hist). entries h ++ e1 ∷ []) (sym same_whole))))) in
+            (λ i. (record { first = v.first; stage = Idle; claims = with_turn (same_claim i) (same_whole i) (same_entry i) ∷ [] }, ap rest holds i))),
+      )
