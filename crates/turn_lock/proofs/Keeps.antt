@@ -9,6 +9,7 @@ use lib.Seq.{set-get_or}
 use Rattle.std.proofs.Math.Nat.{mod-add-mod}
 use Rattle.std.proofs.lemmas.Bool.Decides.{nat_tests}
 use Rattle.std.proofs.lemmas.List.{append_cancel_left}
+use Rattle.std.specs.List.{range_with_len}
 use Rattle.atomic_table.specs.Table.{State, Me, step, keeps, takes, gives, stepped, rest, Allows, Splits, Joins, opening}
 use Rattle.atomic_table.proofs.Lists.{at_set, set_again, set_else, at_snoc, at_longer, one_turn}
 use Rattle.turn_lock.specs.declared.view.Turn.{Turn}
@@ -19,7 +20,7 @@ use Rattle.turn_lock.specs.declared.view.View.{View}
 use Rattle.turn_lock.specs.History.{turn_of, entries, entries_by, replay, IsLegal}
 use Rattle.turn_lock.specs.Rule.{total, times, tickets_in, ticket_of, is_serving, is_idle, IsClaim, StandsIn, counted, has, tickets, staged, Knows, Slot, opening_view, Rule}
 use Rattle.turn_lock.specs.Steps.{drew, Enters, looked, with_turn, added, skipped, first_part, later_part, joined, spent}
-use Rattle.turn_lock.proofs.Totals.{total_set, total_append, total_one, total_two, total_none, total_le, times_range, times_parts, length_parts, length_range}
+use Rattle.turn_lock.proofs.Totals.{total_set, total_append, total_one, total_two, total_none, total_le, times_range, times_parts, length_parts, length_range, total_parts, at_mapped, at_append}
 use Rattle.turn_lock.proofs.Histories.{by_append, by_other, by_same, entries_append, prefix_all, prefix_more, replay_append, legal_more}
 
 -- what stands at a place that was set
@@ -31,6 +32,11 @@ set_at (x ∷ xs) (suc i) a b e = set_at xs i a b e
 -- the cases of a place after one was set
 set_cases : {A : Type 0} (P : ℕ → A → Type 0) (l : List A) (id : ℕ) (w : A) → P id w → ((j : ℕ) (u : A) → j ≢ id → get_elem? l j ≡ some u → P j u) → (j : ℕ) (u : A) → get_elem? (set l id w) j ≡ some u → P j u
 set_cases {A = A} P l id w mine others j u e = ⊎_elim (λ (t : (j ≡ id) × (w ≡ u)). subst (λ (x : ℕ × A). P x.0 x.1) (λ i. (sym t.0 i, t.1 i)) mine) (λ (t : (j ≢ id) × (get_elem? l j ≡ some u)). others j u t.0 t.1) (at_set l id j w u e)
+
+-- the cases of a place in a list of one
+at_only : {A : Type 0} (P : ℕ → A → Type 0) (a : A) → P 0 a → (j : ℕ) (u : A) → get_elem? (a ∷ []) j ≡ some u → P j u
+at_only P a here zero u e = subst (P 0) (some-injective a u e) here
+at_only P a here (suc j) u e = absurd (some-ne-none u (sym e))
 
 the_one : {A : Type 0} (a b : A) → a ∷ [] ≡ b ∷ [] → a ≡ b
 the_one a b e = some-injective a b (ap (λ l. get_elem? l 0) e)
@@ -274,10 +280,6 @@ module _ {S O E R : Type 0} (logs : S → ℕ → O → E → Type 0) (after : S
   first_there [] h = absurd (omega arith)
   first_there (x ∷ xs) h = grind (arith, nat_tests)
 
-  only_claim : (log : Hist) (c : Claim E) → IsClaim log c → (i : ℕ) (d : Claim E) → get_elem? (c ∷ []) i ≡ some d → IsClaim log d
-  only_claim log c claim zero d e = subst (IsClaim log) (some-injective c d e) claim
-  only_claim log c claim (suc i) d e = absurd (some-ne-none d (sym e))
-
   -- the seat that is served leaves with one more entry
   pub adds : (slots id : ℕ) (me : Me S V) (k : ℕ) (whole : Hist) (c : Claim E) (op : O) (e : E) (y : S) → me.0.stage ≡ Serving k whole → me.0.first ≡ Some first → me.0.claims ≡ c ∷ [] → 0 < length c.numbers
       → me.1 ≡ (0, y) ∷ [] → y ≡ (after (replay after first whole) e).0 → logs (replay after first whole) (get_or c.numbers 0 0) op e → kept y ≡ entries whole ++ e ∷ []
@@ -302,7 +304,7 @@ module _ {S O E R : Type 0} (logs : S → ℕ → O → E → Type 0) (after : S
             (ap kept (sym now) ∙ (keeps_one ∙ sym (entries_append whole (turn_of m e ∷ []))))
             (λ n far. let near = below s r id m v at there in by_other n m e whole (λ is. omega arith) ∙ (ap (entries_by n) same_log ∙ r.named n far))
             now
-            (only_claim log c' (prefix_all log, λ n _. refl))
+            (at_only (λ i (d : Claim E). IsClaim log d) c' (prefix_all log, λ n _. refl))
             (λ j u other e'. subst (λ (h : Hist). Claims (h ++ turn_of m e ∷ []) u) (sym same_log) (claims_stay r.log m e u (alone s r id j m v u at e' other there) (r.knows j u e').claims))),
         (λ k' whole' c1 y1 e1 stage' claim' holds' keeps'.
             let same_whole : whole ≡ whole' = sym (ap whole_of stage) ∙ ap whole_of stage' in let same_claim = the_one c c1 (sym claim ∙ claim') in
@@ -310,3 +312,114 @@ module _ {S O E R : Type 0} (logs : S → ℕ → O → E → Type 0) (after : S
             let same_entry = the_one e e1 (append_cancel_left (entries whole) (e ∷ []) (e1 ∷ []) (sym keeps_one ∙ (ap kept same_slot ∙ (keeps' ∙ ap (λ (h : Hist). entries h ++ e1 ∷ []) (sym same_whole))))) in
             (λ i. (record { first = v.first; stage = Idle; claims = with_turn (same_claim i) (same_whole i) (same_entry i) ∷ [] }, ap rest holds i))),
       )
+
+  -- where two parts of a view count what it counted, so do all views
+  part_totals : (f : V → ℕ) (views : List V) (id : ℕ) (v left right : V) → get_elem? views id ≡ some v → f left + f right ≡ f v → total f (set views id left ++ right ∷ []) ≡ total f views
+  part_totals f views id v left right at both = let a = total_set f views id v left at in let b = total_append f (set views id left) (right ∷ []) in omega arith
+
+  -- the claims of a part, which has some of the numbers
+  part_claims : (log : Hist) (part : List ℕ → List ℕ) → ((n : ℕ) (xs : List ℕ) → times n (part xs) ≤ times n xs) → (claims : List (Claim E)) → ((i : ℕ) (c : Claim E) → get_elem? claims i ≡ some c → IsClaim log c)
+      → (i : ℕ) (c : Claim E) → get_elem? (map (λ (c : Claim E). record { numbers = part c.numbers; seen = c.seen }) claims) i ≡ some c → IsClaim log c
+  part_claims log part fewer claims all i c at = let from = at_mapped (λ (c : Claim E). record { numbers = part c.numbers; seen = c.seen }) claims i c at in let old = all i from.0 from.1 in
+      subst (IsClaim log) from.2 (old.0, λ n some_time. let few = fewer n from.0.numbers in old.1 n (omega arith))
+
+  no_ticket : (st : Stage E) (t : ℕ) {P : Type 0} → st ≡ Idle → ticket_of st ≡ some t → P
+  no_ticket st t is e = absurd (some-ne-none t (sym e ∙ ap ticket_of is))
+
+  pub splits : (id : ℕ) (v : V) → is_idle v.stage ≡ true → Splits Kept id v (first_part v) (later_part v)
+  splits id v idle s r at =
+      let left : V = first_part v in let right : V = later_part v in let still = idle_is v.stage idle in let know = r.knows id v at in let free : tickets v ≡ 0 = ap tickets_in still in
+      let part_count : counted left + counted right ≡ counted v = total_parts (λ (c : Claim E). length c.numbers) (λ (c : Claim E). record { numbers = take 1 c.numbers; seen = c.seen }) (λ (c : Claim E). record { numbers = drop 1 c.numbers; seen = c.seen })
+              (λ (c : Claim E). length c.numbers) (λ c. length_parts c.numbers) v.claims in
+      let part_has : (n : ℕ) → has n left + has n right ≡ has n v = λ n. total_parts (λ (c : Claim E). times n c.numbers) (λ (c : Claim E). record { numbers = take 1 c.numbers; seen = c.seen }) (λ (c : Claim E). record { numbers = drop 1 c.numbers; seen = c.seen })
+              (λ (c : Claim E). times n c.numbers) (λ c. times_parts n c.numbers) v.claims in
+      let left_ok : Knows first r.log r.served r.waiting left =
+          record { begun = know.begun; claims = part_claims r.log (take 1) (λ n xs. let a = times_parts n xs in omega arith) v.claims know.claims; named = omega arith; stands = know.stands } in
+      let right_ok : Knows first r.log r.served r.waiting right =
+          record { begun = know.begun; claims = part_claims r.log (drop 1) (λ n xs. let a = times_parts n xs in omega arith) v.claims know.claims; named = omega arith; stands = tt } in
+      let vs : List V = set s.views id left in
+      let each : (P : ℕ → V → Type 0) → P id left → ((j : ℕ) → P j right) → ((j : ℕ) (u : V) → j ≢ id → get_elem? s.views j ≡ some u → P j u) → (j : ℕ) (u : V) → get_elem? (vs ++ right ∷ []) j ≡ some u → P j u =
+          (λ P one two others j u e. ⊎_elim (λ h. set_cases P s.views id left one others j u h) (λ h. subst (P j) h (two j)) (at_snoc vs right u j e)) in
+      record {
+        log = r.log;
+        served = r.served;
+        waiting = r.waiting;
+        words = r.words;
+        line = part_totals tickets s.views id v left right at (omega arith) ∙ r.line;
+        room = part_totals counted s.views id v left right at part_count ∙ r.room;
+        once = λ n. part_totals (has n) s.views id v left right at (part_has n) ∙ r.once n;
+        small = r.small;
+        turns = r.turns;
+        legal = r.legal;
+        keeps = r.keeps;
+        named = r.named;
+        knows = each (λ j u. Knows first r.log r.served r.waiting u) left_ok (λ j. right_ok) (λ j u _ e. r.knows j u e);
+        apart = λ i j a b t ia jb ta tb. each (λ i x. ticket_of x.stage ≡ some t → i ≡ j) (λ tx. no_ticket v.stage t still tx) (λ i tx. no_ticket Idle t refl tx)
+            (λ i x n e tx. each (λ j y. ticket_of y.stage ≡ some t → i ≡ j) (λ ty. no_ticket v.stage t still ty) (λ j ty. no_ticket Idle t refl ty) (λ j y _ f ty. r.apart i j x y t e f tx ty) j b jb tb) i a ia ta;
+        slot = ⊎_elim
+            (λ h. inl (h.0, λ j u e. ⊎_elim (h.1 j u) (λ p. ap (λ (z : V). is_serving z.stage) (sym p)) (at_snoc vs right u j e)))
+            (λ h. inr (h.0, (h.1.0, h.1.1, at_longer vs (right ∷ []) h.1.0 h.1.1 h.1.2, h.1.3)))
+            (slot_stays (replay after first r.log) s.homes s.views id v left at refl r.slot);
+      }
+
+  pub joins : (id : ℕ) (v : V) (other : ℕ) (w : V) → is_idle v.stage ≡ true → is_idle w.stage ≡ true → Joins Kept id v other w (joined v w) spent
+  joins id v other w idle_v idle_w s r at differ there =
+      let both : V = joined v w in let vs : List V = set s.views id both in let still_v = idle_is v.stage idle_v in let still_w = idle_is w.stage idle_w in
+      let theirs : get_elem? s.views other ≡ some w = sym (set_else s.views id other both differ) ∙ there in
+      let know_v = r.knows id v at in let know_w = r.knows other w theirs in
+      let free_v : tickets v ≡ 0 = ap tickets_in still_v in let free_w : tickets w ≡ 0 = ap tickets_in still_w in
+      let sums : (f : V → ℕ) → f both ≡ f v + f w → f spent ≡ 0 → total f (set vs other spent) ≡ total f s.views =
+          (λ f sum none_left. let a = total_set f s.views id v both at in let b = total_set f vs other w spent there in omega arith) in
+      let each : (P : ℕ → V → Type 0) → P id both → P other spent → ((j : ℕ) (u : V) → get_elem? s.views j ≡ some u → P j u) → (j : ℕ) (u : V) → get_elem? (set vs other spent) j ≡ some u → P j u =
+          (λ P one two others. set_cases P vs other spent two (λ j u _ e. set_cases P s.views id both one (λ i x _ f. others i x f) j u e)) in
+      record {
+        log = r.log;
+        served = r.served;
+        waiting = r.waiting;
+        words = r.words;
+        line = sums tickets (omega arith) refl ∙ r.line;
+        room = sums counted (total_append (λ (c : Claim E). length c.numbers) v.claims w.claims) refl ∙ r.room;
+        once = λ n. sums (has n) (total_append (λ (c : Claim E). times n c.numbers) v.claims w.claims) refl ∙ r.once n;
+        small = r.small;
+        turns = r.turns;
+        legal = r.legal;
+        keeps = r.keeps;
+        named = r.named;
+        knows = each (λ j u. Knows first r.log r.served r.waiting u)
+            record { begun = know_v.begun; claims = at_append (IsClaim r.log) v.claims w.claims know_v.claims know_w.claims; named = omega arith; stands = know_v.stands }
+            record { begun = λ b h. absurd cc; claims = λ i c e. absurd (some-ne-none c (sym e)); named = omega arith; stands = tt }
+            r.knows;
+        apart = λ i j a b t ia jb ta tb. each (λ i x. ticket_of x.stage ≡ some t → i ≡ j) (λ tx. no_ticket v.stage t still_v tx) (λ tx. no_ticket Idle t refl tx)
+            (λ i x e tx. each (λ j y. ticket_of y.stage ≡ some t → i ≡ j) (λ ty. no_ticket v.stage t still_v ty) (λ ty. no_ticket Idle t refl ty) (λ j y f ty. r.apart i j x y t e f tx ty) j b jb tb) i a ia ta;
+        slot = slot_stays (replay after first r.log) s.homes vs other w spent there (sym (ap is_serving still_w)) (slot_stays (replay after first r.log) s.homes s.views id v both at refl r.slot);
+      }
+
+  pub opens : kept first ≡ [] → seats < 4294967296 → Kept (opening (0 ∷ 0 ∷ []) (first ∷ []) (opening_view first seats))
+  opens empty small = let v : V = opening_view first seats in
+      record {
+        log = [];
+        served = 0;
+        waiting = 0;
+        words = refl;
+        line = refl;
+        room = (let a = length_range 0 seats in omega arith);
+        once = λ n. (let a = times_range n 0 seats in grind (arith, nat_tests));
+        small = small;
+        turns = omega arith;
+        legal = tt;
+        keeps = empty;
+        named = λ n far. refl;
+        knows = at_only (λ j (u : V). Knows first [] 0 0 u) v record { begun = λ b h. cc; claims = at_only (λ i (c : Claim E). IsClaim [] c) (record { numbers = range_with_len 0 seats; seen = [] }) (prefix_all [], λ n _. refl); named = omega arith; stands = tt };
+        apart = λ i j a b t ia jb ta tb. at_only (λ i (x : V). ticket_of x.stage ≡ some t → i ≡ j) v (λ tx. no_ticket Idle t refl tx) i a ia ta;
+        slot = inl (refl, at_only (λ j (u : V). is_serving u.stage ≡ false) v refl);
+      }
+
+  -- where one view has all numbers and no ticket, the value is at home
+  pub closes : (s : St) (r : Kept s) (id : ℕ) (v : V) → get_elem? s.views id ≡ some v → is_idle v.stage ≡ true → counted v ≡ seats → s.homes ≡ some (replay after first r.log) ∷ []
+  closes s r id v at idle all = ⊎_elim (λ h. h.0)
+      (λ (h : (s.homes ≡ none ∷ []) × ((j : ℕ) × (u : V) × (get_elem? s.views j ≡ some u) × (is_serving u.stage ≡ true))). let j : ℕ = h.1.0 in let u : V = h.1.1 in let whose = serving_is u.stage h.1.3 in let one : tickets u ≡ 1 = ap tickets_in whose.2 in
+          dite (ℕ_discrete j id)
+          (λ is. let same_view = some-injective v u (sym at ∙ subst (λ i. get_elem? s.views i ≡ some u) is h.1.2) in
+              let none_there : tickets u ≡ 0 = ap tickets_in (sym (ap (λ (x : V). x.stage) same_view) ∙ idle_is v.stage idle) in absurd (omega arith))
+          (λ other. let a = total_two counted s.views id j v u (λ e. other (sym e)) at h.1.2 in let b = r.room in let c = (r.knows j u h.1.2).named in absurd (omega arith)))
+      r.slot

@@ -56,3 +56,20 @@ length_parts (x ∷ xs) = omega arith
 pub length_range : (a k : ℕ) → length (range_with_len a k) ≡ k
 length_range a zero = refl
 length_range a (suc k) = let rest = length_range (a + 1) k in omega arith
+
+-- what two functions of each element count together
+pub total_parts : {A B : Type 0} (f : B → ℕ) (l r : A → B) (g : A → ℕ) → ((a : A) → f (l a) + f (r a) ≡ g a) → (xs : List A) → total f (map l xs) + total f (map r xs) ≡ total g xs
+total_parts f l r g both [] = refl
+total_parts f l r g both (x ∷ xs) = let here = both x in let rest = total_parts f l r g both xs in omega arith
+
+-- an element of a mapped list comes from one of the list
+pub at_mapped : {A B : Type 0} (f : A → B) (xs : List A) (i : ℕ) (b : B) → get_elem? (map f xs) i ≡ some b → (a : A) × (get_elem? xs i ≡ some a) × (f a ≡ b)
+at_mapped f [] i b e = absurd (some-ne-none b (sym e))
+at_mapped f (x ∷ xs) zero b e = (x, refl, some-injective (f x) b e)
+at_mapped f (x ∷ xs) (suc i) b e = at_mapped f xs i b e
+
+-- an element of two lists end to end is one of either
+pub at_append : {A : Type 0} (P : A → Type 0) (xs ys : List A) → ((i : ℕ) (a : A) → get_elem? xs i ≡ some a → P a) → ((i : ℕ) (a : A) → get_elem? ys i ≡ some a → P a) → (i : ℕ) (a : A) → get_elem? (xs ++ ys) i ≡ some a → P a
+at_append P [] ys left right i a e = right i a e
+at_append P (x ∷ xs) ys left right zero a e = left 0 a e
+at_append P (x ∷ xs) ys left right (suc i) a e = at_append P xs ys (λ j b. left (suc j) b) right i a e
