@@ -1,3 +1,4 @@
 mod Histories
 mod Keeps
 mod Totals
+mod Turned

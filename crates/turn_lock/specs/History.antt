@@ -1,5 +1,5 @@
 -- Histories: the turns that were taken under a lock, in their order.
-use Rattle.std.specs.Prelude.{ℕ, ◌==◌, List, [], ◌∷◌, map}
+use Rattle.std.specs.Prelude.{ℕ, ◌≡◌, ◌==◌, List, [], ◌∷◌, ◌++◌, map}
 use Rattle.std.specs.List.{filter, fold}
 use Rattle.turn_lock.specs.declared.view.Turn.{Turn}
 
@@ -14,6 +14,10 @@ entries turns = map (λ t. t.entry) turns
 -- the entries that were made under a number
 abbrev pub entries_by : {E : Type 0} → ℕ → List (Turn E) → List E
 entries_by n turns = entries (filter (λ t. t.number == n) turns)
+
+-- the history has a last turn, and the fact holds of the turns before it and of its entry
+abbrev pub WithLast : {E : Type 0} → List (Turn E) → (List (Turn E) → Turn E → Type 0) → Type 0
+WithLast {E} turns fact = (before : List (Turn E)) × (last : Turn E) × (turns ≡ before ++ last ∷ []) × fact before last
 
 -- the state after all turns of a history, where it was s before
 abbrev pub replay : {S E R : Type 0} → (S → E → S × R) → S → List (Turn E) → S

@@ -1,11 +1,10 @@
 -- What a clause says of a lock and of its passes.
-use Rattle.std.specs.Prelude.{ℕ, ◌≡◌, ◌+◌, ◌-◌, ◌++◌, List, [], ◌∷◌, Some}
-use mathlib.Core.List.{IsPrefix}
+use Rattle.std.specs.Prelude.{ℕ, ◌≡◌, ◌+◌, ◌-◌, List, Some}
 use Rattle.turn_lock.specs.declared.machine.Machine.{Ghosts}
 use Rattle.turn_lock.specs.declared.lock.TurnLock.{TurnLock}
 use Rattle.turn_lock.specs.declared.lock.Pass.{Pass}
 use Rattle.turn_lock.specs.declared.view.Turn.{Turn}
-use Rattle.turn_lock.specs.History.{turn_of, entries_by, replay}
+use Rattle.turn_lock.specs.History.{replay}
 use Rattle.turn_lock.specs.Views.{seen_by}
 
 module _ {M S O E R W : Type 0} where

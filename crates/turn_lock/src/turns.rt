@@ -1,9 +1,10 @@
 //! How a pass takes its turn.
-ghost use Rattle.std.specs.Prelude.{◌≡◌, ℕ, ◌<◌, [], ◌∷◌, ◌++◌, true, IfOk, OnErr, IsOk};
-ghost use Rattle.turn_lock.specs.History.{entries};
+ghost use Rattle.std.specs.Prelude.{◌≡◌, ℕ, ◌<◌, [], ◌∷◌, ◌++◌, true, length, slice_index, IfOk, OnOk, OnErr, IsOk};
+ghost use mathlib.Core.List.{IsPrefix};
+ghost use Rattle.turn_lock.specs.History.{entries_by, replay, IsLegal, WithLast};
 ghost use Rattle.turn_lock.specs.Rule.{counted, is_idle};
-ghost use Rattle.turn_lock.specs.Steps.{Enters, added, skipped};
-ghost use Rattle.turn_lock.specs.declared.view.Stage.TheVariants.{Serving};
+ghost use Rattle.turn_lock.specs.Steps.{Enters};
+ghost use Rattle.turn_lock.specs.Views.{seen_by, numbers_of, Served};
 ghost use Rattle.turn_lock.specs.Locks.{first, number, spare, seen, IsPassOf, own_known};
 
 use crate::lock::{Pass, TurnLock};
@@ -33,20 +34,25 @@ impl<M: Machine> TurnLock<M> {
         unreachable!()
     }
 
-    /// Waits for its turn, and takes one step of the machine in it.
-    pub fn turn<R: Wait>(
+    // Takes a turn from a seat that has one claim, under its first number.
+    fn serve<R: Wait>(
         &self,
         rt: &R,
-        pass: &mut Pass<M>,
+        seat: &mut Place<M>,
+        number: u32,
         op: M::Op,
     ) -> Result<M::Reply, NoMemory>
-        requires lock { IsPassOf self.now pass.old }
-        requires may { M.may (own_known M.after M.own self.now pass.old) op }
-        ensures lock { IsPassOf self.now pass.new }
-        ensures pass { (number pass.new ≡ number pass.old) × (spare pass.new ≡ spare pass.old) }
+        requires lock { (seat.old.table_id ≡ self.now.table.shared.table_id) × (seat.old.me.0.first ≡ Some (first self.now)) }
+        requires idle { (is_idle seat.old.me.0.stage ≡ true) × (seat.old.me.1 ≡ []) }
+        requires claim { (length seat.old.me.0.claims ≡ 1) × (0 < length (numbers_of seat.old.me.0.claims)) × (slice_index (numbers_of seat.old.me.0.claims) 0 ≡ number) }
+        requires may { M.may (M.own (replay M.after (first self.now) (seen_by seat.old.me.0.claims)) number) op }
+        ensures lock { (seat.new.table_id ≡ seat.old.table_id) × (seat.new.me.0.first ≡ seat.old.me.0.first) }
+        ensures idle { (is_idle seat.new.me.0.stage ≡ true) × (seat.new.me.1 ≡ []) }
+        ensures claim { (length seat.new.me.0.claims ≡ 1) × (numbers_of seat.new.me.0.claims ≡ numbers_of seat.old.me.0.claims) }
+        ensures sure { M.sure (M.own (replay M.after (first self.now) (seen_by seat.old.me.0.claims)) number) op → IsOk result }
+        ensures served { IfOk result (λ r. Served M.logs M.after M.own (first self.now) number (numbers_of seat.old.me.0.claims) op r (seen_by seat.old.me.0.claims) (seen_by seat.new.me.0.claims)) }
+        ensures no_memory { OnErr result (seat.new.me.0.claims ≡ seat.old.me.0.claims) }
     {
-        let number = pass.number;
-        let seat = &mut pass.seat;
         self.enter(rt, seat);
         match M::step(seat.slot_mut(&self.table.shared, 0), number, op) {
             Ok((_entry, reply)) => {
@@ -58,5 +64,32 @@ impl<M: Machine> TurnLock<M> {
                 Err(NoMemory)
             }
         }
+    }
+
+    /// Waits for its turn, and takes one step of the machine in it.
+    ///
+    /// The reply is the machine's after all turns that were taken before, and the pass then knows these and its own.
+    /// Where the step finds no memory the pass is left as it was, and the history has no turn more.
+    pub fn turn<R: Wait>(
+        &self,
+        rt: &R,
+        pass: &mut Pass<M>,
+        op: M::Op,
+    ) -> Result<M::Reply, NoMemory>
+        requires lock { IsPassOf self.now pass.old }
+        requires may { M.may (own_known M.after M.own self.now pass.old) op }
+        ensures lock { IsPassOf self.now pass.new }
+        ensures numbers { (number pass.new ≡ number pass.old) × (spare pass.new ≡ spare pass.old) }
+        ensures sure { M.sure (own_known M.after M.own self.now pass.old) op → IsOk result }
+        ensures history { OnOk result (WithLast (seen pass.new) (λ before last. IsPrefix (seen pass.old) before × (last.number ≡ number pass.old))) }
+        ensures legal { OnOk result (IsLegal M.logs M.after (first self.now) (seen pass.new)) }
+        ensures entry { OnOk result (WithLast (seen pass.new) (λ before last. M.logs (replay M.after (first self.now) before) (number pass.old) op last.entry)) }
+        ensures reply { IfOk result (λ r. WithLast (seen pass.new) (λ before last. r ≡ (M.after (replay M.after (first self.now) before) last.entry).1)) }
+        ensures made { OnOk result (WithLast (seen pass.new) (λ before last. entries_by (number pass.old) (seen pass.new) ≡ entries_by (number pass.old) (seen pass.old) ++ last.entry ∷ [])) }
+        ensures own { OnOk result (WithLast (seen pass.new) (λ before last. M.own (replay M.after (first self.now) before) (number pass.old) ≡ own_known M.after M.own self.now pass.old)) }
+        ensures no_memory { OnErr result (seen pass.new ≡ seen pass.old) }
+    {
+        let number = pass.number;
+        self.serve(rt, &mut pass.seat, number, op)
     }
 }
