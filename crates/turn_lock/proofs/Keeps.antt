@@ -41,6 +41,11 @@ at_only P a here (suc j) u e = absurd (some-ne-none u (sym e))
 the_one : {A : Type 0} (a b : A) → a ∷ [] ≡ b ∷ [] → a ≡ b
 the_one a b e = some-injective a b (ap (λ l. get_elem? l 0) e)
 
+-- the first of some numbers is among them
+pub first_there : (numbers : List ℕ) → 0 < length numbers → 0 < times (get_or numbers 0 0) numbers
+first_there [] h = absurd (omega arith)
+first_there (x ∷ xs) h = grind (arith, nat_tests)
+
 module _ {E : Type 0} where
   -- the history that the seat that is served knows
   abbrev whole_of : Stage E → List (Turn E)
@@ -274,11 +279,6 @@ module _ {S O E R : Type 0} (logs : S → ℕ → O → E → Type 0) (after : S
     λ n some_time. by_other n m e log
         (λ is. let a = total_one (λ (c : Claim E). times n c.numbers) u.claims i c at in let b : has n u ≡ 0 = subst (λ (x : ℕ). has x u ≡ 0) is none_of in omega arith) ∙ old.1 n some_time,
   )
-
-  -- the first of some numbers is among them
-  first_there : (numbers : List ℕ) → 0 < length numbers → 0 < times (get_or numbers 0 0) numbers
-  first_there [] h = absurd (omega arith)
-  first_there (x ∷ xs) h = grind (arith, nat_tests)
 
   -- the seat that is served leaves with one more entry
   pub adds : (slots id : ℕ) (me : Me S V) (k : ℕ) (whole : Hist) (c : Claim E) (op : O) (e : E) (y : S) → me.0.stage ≡ Serving k whole → me.0.first ≡ Some first → me.0.claims ≡ c ∷ [] → 0 < length c.numbers
