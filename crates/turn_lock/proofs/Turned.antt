@@ -1,6 +1,7 @@
 -- What a turn shows of the history that it met.
-use Rattle.std.proofs.Common.{◌≡◌, ℕ, ◌+◌, ◌-◌, ◌%◌, ◌^◌, ◌<◌, ◌≤◌, ◌≢◌, true, List, [], ◌∷◌, ◌++◌, length, get_or, Some, sym, refl, ap, ◌∙◌, subst, arith, length-append}
+use Rattle.std.proofs.Common.{◌≡◌, ℕ, ◌+◌, ◌-◌, ◌%◌, ◌^◌, ◌<◌, ◌≤◌, ◌≢◌, true, zero, suc, Result, Ok, Err, IfOk, OnErr, List, [], ◌∷◌, ◌++◌, length, get_or, Some, sym, refl, ap, ◌∙◌, subst, arith, length-append}
 use Rattle.std.specs.List.{range_with_len}
+use Rattle.std.proofs.lemmas.Bool.Decides.{nat_tests}
 use mathlib.Core.Option.{none, some, some-injective}
 use mathlib.Core.List.{IsPrefix}
 use lib.ListN.{get_elem?}
@@ -10,10 +11,11 @@ use Rattle.turn_lock.specs.declared.view.Claim.{Claim}
 use Rattle.turn_lock.specs.declared.view.View.{View}
 use Rattle.turn_lock.specs.declared.view.Stage.TheVariants.{Idle, Serving}
 use Rattle.turn_lock.specs.Steps.{Sat, Enters, added, skipped, with_turn}
-use Rattle.turn_lock.specs.History.{turn_of, entries, entries_by, replay, IsLegal}
+use Rattle.turn_lock.specs.History.{turn_of, entries, entries_by, replay, IsLegal, WithLast}
 use Rattle.turn_lock.specs.Rule.{times, is_idle, IsClaim, staged, Rule}
 use Rattle.turn_lock.specs.Views.{seen_by, numbers_of, Served}
-use Rattle.turn_lock.proofs.Histories.{by_append, nothing_after, replay_append, legal_later, legal_more, own_stays}
+use Rattle.turn_lock.proofs.Totals.{times_range, length_range}
+use Rattle.turn_lock.proofs.Histories.{by_append, by_other, by_same, nothing_after, replay_append, legal_later, legal_more, own_stays}
 use Rattle.turn_lock.proofs.Keeps.{adds, skips, first_there}
 
 -- a list of one
@@ -140,3 +142,37 @@ module _ {S O E R W : Type 0} (logs : S → ℕ → O → E → Type 0) (after :
             made = subst (λ (l : List (Claim E)). (x : ℕ) → 0 < times x (numbers_of l) → entries_by x log ≡ entries_by x (seen_by l)) (sym is) owned.1;
             met = met_at c is;
           }
+
+first_of_range : (n k : ℕ) → 0 < k → get_or (range_with_len n k) 0 0 ≡ n
+first_of_range n zero h = absurd (omega arith)
+first_of_range n (suc k) h = refl
+
+-- numbers that a pass has to give away stay without entries
+pub fresh_stays : {S O E R W X : Type 0} (logs : S → ℕ → O → E → Type 0) (after : S → E → S × R) (own : S → ℕ → W) (first : S) (n end : ℕ) (op : O) (result : Result R X) (old new : List (Claim E))
+    → numbers_of old ≡ range_with_len n (end - n) → ((m : ℕ) → n < m → m < end → length (entries_by m (seen_by old)) ≡ 0)
+    → IfOk result (λ r. Served logs after own first n (numbers_of old) op r (seen_by old) (seen_by new)) → OnErr result (new ≡ old) → (m : ℕ) → n < m → m < end → length (entries_by m (seen_by new)) ≡ 0
+fresh_stays logs after own first n end op (Ok r) old new numbers fresh s _ m above below =
+    let there : 0 < times m (range_with_len n (end - n)) = (let a = times_range m n (end - n) in grind (arith, nat_tests)) in
+    let made = s.made m (subst (λ (l : List ℕ). 0 < times m l) (sym numbers) there) in
+    ap (λ h. length (entries_by m h)) s.ends ∙ (ap length (by_other m n s.entry s.before (λ e. omega arith)) ∙ (ap length made ∙ fresh m above below))
+fresh_stays logs after own first n end op (Err e) old new numbers fresh _ same m above below = ap (λ l. length (entries_by m (seen_by l))) same ∙ fresh m above below
+
+-- the first number of a pass, of which it has some
+pub first_number : (numbers : List ℕ) (n end : ℕ) → n < end → numbers ≡ range_with_len n (end - n) → (0 < length numbers) × (get_or numbers 0 0 ≡ n)
+first_number numbers n end some_number is = (
+  (let a = length_range n (end - n) in let b = ap length is in omega arith),
+  ap (λ (l : List ℕ). get_or l 0 0) is ∙ first_of_range n (end - n) (omega arith),
+)
+
+-- a fact of each turn that replied is one of the history's last turn
+pub on_last : {S O E R W X : Type 0} (logs : S → ℕ → O → E → Type 0) (after : S → E → S × R) (own : S → ℕ → W) (first : S) (n : ℕ) (numbers : List ℕ) (op : O) (old new : List (Turn E)) (P : R → List (Turn E) → Turn E → Type 0)
+    → ((r : R) → (s : Served logs after own first n numbers op r old new) → P r s.before (turn_of n s.entry)) → (result : Result R X) → IfOk result (λ r. Served logs after own first n numbers op r old new) → IfOk result (λ r. WithLast new (P r))
+on_last logs after own first n numbers op old new P f (Ok r) s = (s.before, turn_of n s.entry, s.ends, f r s)
+on_last logs after own first n numbers op old new P f (Err e) s = s
+
+-- the entries of the pass's number are those from before and the new one
+pub made_one : {S O E R W : Type 0} (logs : S → ℕ → O → E → Type 0) (after : S → E → S × R) (own : S → ℕ → W) (first : S) (n end : ℕ) (numbers : List ℕ) (op : O) (r : R) (old new : List (Turn E)) → n < end → numbers ≡ range_with_len n (end - n)
+    → (s : Served logs after own first n numbers op r old new) → entries_by n new ≡ entries_by n old ++ s.entry ∷ []
+made_one logs after own first n end numbers op r old new some_number is s =
+    let there : 0 < times n (range_with_len n (end - n)) = (let a = times_range n n (end - n) in grind (arith, nat_tests)) in
+    ap (entries_by n) s.ends ∙ (by_same n s.entry s.before ∙ ap (λ l. l ++ s.entry ∷ []) (s.made n (subst (λ (l : List ℕ). 0 < times n l) (sym is) there)))
