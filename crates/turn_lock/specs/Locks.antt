@@ -13,8 +13,8 @@ module _ {M S O E R W : Type 0} where
   first lock = lock.table.shared.key.first.value
 
   -- how many numbers its passes share
-  abbrev pub seats : TurnLock M S O E R W → ℕ
-  seats lock = lock.table.shared.key.seats
+  abbrev pub seat_count : TurnLock M S O E R W → ℕ
+  seat_count lock = lock.table.shared.key.seats
 
   module _ {g : Ghosts M S O E R W} where
     -- the number under which a pass takes its turns

@@ -3,6 +3,7 @@
 
 mod lock;
 mod machine;
+mod makes;
 mod rule;
 mod turns;
 mod view;

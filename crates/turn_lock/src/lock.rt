@@ -1,5 +1,5 @@
-//! The lock and its passes.
-ghost use Rattle.std.specs.Prelude.{◌≡◌, ℕ, ◌-◌, ◌<◌, ◌≤◌, true, length};
+//! The lock and its passes: how they are made, and how a pass is split.
+ghost use Rattle.std.specs.Prelude.{◌≡◌, ℕ, ◌+◌, ◌-◌, ◌<◌, ◌≤◌, true, [], length, IfOk};
 ghost use Rattle.std.specs.List.{range_with_len};
 ghost use Rattle.turn_lock.specs.History.{entries_by};
 ghost use Rattle.turn_lock.specs.Rule.{is_idle};
@@ -8,13 +8,14 @@ ghost use Rattle.turn_lock.specs.Views.{seen_by, numbers_of};
 use crate::machine::Machine;
 use crate::rule::{Board, Place};
 
-/// A lock round the state of a machine.
+/// A lock round the state of a machine. Threads share it by reference.
+#[derive(Drop)]
 pub struct TurnLock<M: Machine> {
     pub(crate) table: Board<M>,
     ghost sized: { (table.shared.table_id.words ≡ 2) × (table.shared.table_id.slots ≡ 1) },
 }
 
-/// The right to take turns under one number, and to give numbers away.
+/// The right to take turns under one number, and to give away the numbers that follow it. It has no lifetime, and may go to another thread.
 #[derive(Drop)]
 pub struct Pass<M: Machine> {
     pub(crate) seat: Place<M>,

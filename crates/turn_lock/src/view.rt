@@ -24,6 +24,7 @@ pub struct View<S, E> {
     pub claims: LinkedList<Claim<E>>,
 }
 
+#[derive(Drop)]
 pub struct Key<S> {
     pub first: Snapshot<S>,
     pub seats: u32,
