@@ -368,7 +368,7 @@ module _ {S O E R : Type 0} (logs : S → ℕ → O → E → Type 0) (after : S
       let theirs : get_elem? s.views other ≡ some w = sym (set_else s.views id other both differ) ∙ there in
       let know_v = r.knows id v at in let know_w = r.knows other w theirs in
       let free_v : tickets v ≡ 0 = ap tickets_in still_v in let free_w : tickets w ≡ 0 = ap tickets_in still_w in
-      let sums : (f : V → ℕ) → f both ≡ f v + f w → f spent ≡ 0 → total f (set vs other spent) ≡ total f s.views =
+      let sums : (f : V → ℕ) → f both ≡ f w + f v → f spent ≡ 0 → total f (set vs other spent) ≡ total f s.views =
           (λ f sum none_left. let a = total_set f s.views id v both at in let b = total_set f vs other w spent there in omega arith) in
       let each : (P : ℕ → V → Type 0) → P id both → P other spent → ((j : ℕ) (u : V) → get_elem? s.views j ≡ some u → P j u) → (j : ℕ) (u : V) → get_elem? (set vs other spent) j ≡ some u → P j u =
           (λ P one two others. set_cases P vs other spent two (λ j u _ e. set_cases P s.views id both one (λ i x _ f. others i x f) j u e)) in
@@ -378,15 +378,15 @@ module _ {S O E R : Type 0} (logs : S → ℕ → O → E → Type 0) (after : S
         waiting = r.waiting;
         words = r.words;
         line = sums tickets (omega arith) refl ∙ r.line;
-        room = sums counted (total_append (λ (c : Claim E). length c.numbers) v.claims w.claims) refl ∙ r.room;
-        once = λ n. sums (has n) (total_append (λ (c : Claim E). times n c.numbers) v.claims w.claims) refl ∙ r.once n;
+        room = sums counted (total_append (λ (c : Claim E). length c.numbers) w.claims v.claims) refl ∙ r.room;
+        once = λ n. sums (has n) (total_append (λ (c : Claim E). times n c.numbers) w.claims v.claims) refl ∙ r.once n;
         small = r.small;
         turns = r.turns;
         legal = r.legal;
         keeps = r.keeps;
         named = r.named;
         knows = each (λ j u. Knows first r.log r.served r.waiting u)
-            record { begun = know_v.begun; claims = at_append (IsClaim r.log) v.claims w.claims know_v.claims know_w.claims; named = omega arith; stands = know_v.stands }
+            record { begun = know_v.begun; claims = at_append (IsClaim r.log) w.claims v.claims know_w.claims know_v.claims; named = omega arith; stands = know_v.stands }
             record { begun = λ b h. absurd cc; claims = λ i c e. absurd (some-ne-none c (sym e)); named = omega arith; stands = tt }
             r.knows;
         apart = λ i j a b t ia jb ta tb. each (λ i x. ticket_of x.stage ≡ some t → i ≡ j) (λ tx. no_ticket v.stage t still_v tx) (λ tx. no_ticket Idle t refl tx)

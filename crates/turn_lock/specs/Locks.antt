@@ -1,10 +1,13 @@
 -- What a clause says of a lock and of its passes.
-use Rattle.std.specs.Prelude.{ℕ, ◌≡◌, ◌+◌, ◌-◌, List, Some}
+use Rattle.std.specs.Prelude.{ℕ, ◌≡◌, ◌≢◌, ◌+◌, ◌-◌, List, [], Some, vec_capacity, vec_len}
+use Rattle.std.specs.List.{All}
+use mathlib.Core.List.{IsPrefix}
 use Rattle.turn_lock.specs.declared.machine.Machine.{Ghosts}
 use Rattle.turn_lock.specs.declared.lock.TurnLock.{TurnLock}
 use Rattle.turn_lock.specs.declared.lock.Pass.{Pass}
+use Rattle.turn_lock.specs.declared.lock.Passes.{Passes}
 use Rattle.turn_lock.specs.declared.view.Turn.{Turn}
-use Rattle.turn_lock.specs.History.{replay}
+use Rattle.turn_lock.specs.History.{entries, entries_by, replay, IsLegal}
 use Rattle.turn_lock.specs.Views.{seen_by}
 
 module _ {M S O E R W : Type 0} where
@@ -29,6 +32,10 @@ module _ {M S O E R W : Type 0} where
     abbrev pub seen : Pass M S O E R W g → List (Turn E)
     seen pass = seen_by pass.seat.me.0.claims
 
+    -- how many numbers it has, its own and those that it has to give away
+    abbrev pub held : Pass M S O E R W g → ℕ
+    held pass = pass.end - pass.number
+
     -- it is a pass of this lock
     abbrev pub IsPassOf : TurnLock M S O E R W → Pass M S O E R W g → Type 0
     IsPassOf lock pass = (pass.seat.table_id ≡ lock.table.shared.table_id) × (pass.seat.me.0.first ≡ Some (first lock))
@@ -36,3 +43,24 @@ module _ {M S O E R W : Type 0} where
     -- what belongs to the pass's number after the history that it has seen
     abbrev pub own_known : (S → E → S × R) → (S → ℕ → W) → TurnLock M S O E R W → Pass M S O E R W g → W
     own_known after own lock pass = own (replay after (first lock) (seen pass)) (number pass)
+
+    -- the passes in a list of passes
+    abbrev pub passes : Passes M S O E R W g → List (Pass M S O E R W g)
+    passes others = others.items.items
+
+    -- how many passes can be added to it
+    abbrev pub room : Passes M S O E R W g → ℕ
+    room others = vec_capacity others.items - vec_len others.items
+
+    -- a pass's history begins the whole one, in which the entries of its number are those that it made
+    abbrev pub HasMade : List (Turn E) → Pass M S O E R W g → Type 0
+    HasMade log pass = IsPrefix (seen pass) log × (entries_by (number pass) log ≡ entries_by (number pass) (seen pass))
+
+  -- a state is the replay of a whole history, and keeps its entries. The history has the entries that these passes made, and no others
+  pub record IsWhole (logs : S → ℕ → O → E → Type 0) (after : S → E → S × R) (kept : S → List E) {g : Ghosts M S O E R W} (begun : S) (all : List (Pass M S O E R W g)) (state : S) : Type 0 where
+    pub log : List (Turn E)
+    pub replayed : state ≡ replay after begun log
+    pub keeps : kept state ≡ entries log
+    pub legal : IsLegal logs after begun log
+    pub made : All (HasMade log) all
+    pub others : (n : ℕ) → All (λ pass. number pass ≢ n) all → entries_by n log ≡ []

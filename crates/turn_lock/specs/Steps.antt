@@ -43,7 +43,7 @@ module _ {S E : Type 0} where
 
   -- the claims of both
   abbrev pub joined : View S E → View S E → View S E
-  joined v w = record { first = v.first; stage = v.stage; claims = v.claims ++ w.claims }
+  joined v w = record { first = v.first; stage = v.stage; claims = w.claims ++ v.claims }
 
   -- a view that was joined to another knows nothing
   abbrev pub spent : View S E

@@ -1,6 +1,7 @@
 //! A ticket lock whose history is the replay of what happened under it.
 #![tactic(auto)]
 
+mod closes;
 mod lock;
 mod machine;
 mod makes;
@@ -8,6 +9,6 @@ mod rule;
 mod turns;
 mod view;
 
-pub use lock::{Pass, TurnLock};
+pub use lock::{Pass, Passes, TurnLock};
 pub use machine::Machine;
 pub use view::Turn;

@@ -28,3 +28,9 @@ pub struct Pass<M: Machine> {
     ghost some: { number < end },
     ghost fresh: { (n : ℕ) → number < n → n < end → length (entries_by n (seen_by seat.me.0.claims)) ≡ 0 },
 }
+
+/// A list of passes.
+#[derive(Drop)]
+pub struct Passes<M: Machine> {
+    pub(crate) items: Vec<Pass<M>>,
+}
