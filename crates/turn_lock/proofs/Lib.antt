@@ -1,3 +1,4 @@
+mod Closing
 mod Histories
 mod Keeps
 mod Totals
