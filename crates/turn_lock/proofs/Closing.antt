@@ -64,6 +64,14 @@ module _ {E : Type 0} where
   abbrev often : ℕ → List (Claim E) → ℕ
   often n cs = total (λ c. times n c.numbers) cs
 
+module _ {S O E R : Type 0} (logs : S → ℕ → O → E → Type 0) (after : S → E → S × R) (kept : S → List E) (first : S) (seats : ℕ) where
+  -- a view that has all numbers has each
+  has_each : (s : State S (View S E)) (r : Rule logs after kept first seats s) (id : ℕ) (v : View S E) → get_elem? s.views id ≡ some v → counted v ≡ seats → (n : ℕ) → n < seats → 0 < has n v
+  has_each s r id v at all n below =
+      let none_left : total counted (set s.views id spent) ≡ 0 = (let a = total_set counted s.views id v spent at in let b = r.room in omega arith) in
+      let few = total_le (has n) counted (set s.views id spent) (λ j u e. total_le (λ (c : Claim E). times n c.numbers) (λ (c : Claim E). length c.numbers) u.claims (λ i c e. times_le n c.numbers)) in
+      let a = total_set (has n) s.views id v spent at in let b = r.once n in let d : total (has n) s.views ≡ 1 = grind (arith, nat_tests) in omega arith
+
 module _ {M S O E R W : Type 0} {g : Ghosts M S O E R W} where
   -- the claims of a pass
   abbrev pub claims_of : Pass M S O E R W g → List (Claim E)
@@ -119,13 +127,6 @@ module _ {M S O E R W : Type 0} {g : Ghosts M S O E R W} where
       (λ some_here. unused log p one.0 one.1 (claims_left log (claims_of p) (claims_in ps) all) n (other 0 p (omega arith)) (omega arith))
 
   module _ (logs : S → ℕ → O → E → Type 0) (after : S → E → S × R) (kept : S → List E) (first : S) (seats : ℕ) where
-    -- a view that has all numbers has each
-    has_each : (s : State S (View S E)) (r : Rule logs after kept first seats s) (id : ℕ) (v : View S E) → get_elem? s.views id ≡ some v → counted v ≡ seats → (n : ℕ) → n < seats → 0 < has n v
-    has_each s r id v at all n below =
-        let none_left : total counted (set s.views id spent) ≡ 0 = (let a = total_set counted s.views id v spent at in let b = r.room in omega arith) in
-        let few = total_le (has n) counted (set s.views id spent) (λ j u e. total_le (λ (c : Claim E). times n c.numbers) (λ (c : Claim E). length c.numbers) u.claims (λ i c e. times_le n c.numbers)) in
-        let a = total_set (has n) s.views id v spent at in let b = r.once n in let d : total (has n) s.views ≡ 1 = grind (arith, nat_tests) in omega arith
-
     -- the history of a lock all of whose passes are joined
     pub whole : (s : State S (View S E)) (r : Rule logs after kept first seats s) (id : ℕ) (v : View S E) (pass : Pass M S O E R W g) (others : List (Pass M S O E R W g)) → get_elem? s.views id ≡ some v
         → v.claims ≡ claims_in others ++ claims_of pass → held pass + sum_by held others ≡ seats → (counted v ≡ seats) × IsWhole logs after kept {g = g} first (pass ∷ others) (replay after first r.log)
@@ -143,7 +144,7 @@ module _ {M S O E R W : Type 0} {g : Ghosts M S O E R W} where
             made = All-cons (HasMade r.log) pass others (made_by r.log pass one.0 one.1 right) (all_made r.log others left);
             others = λ n other. dite (dec_le seats n)
                 (λ far. r.named n far)
-                (λ near. let some_time = has_each s r id v at all n (lt_of_not-le near) in let a = ap (often n) claims in let b = total_append (λ (c : Claim E). times n c.numbers) (claims_in others) (claims_of pass) in
+                (λ near. let some_time = has_each logs after kept first seats s r id v at all n (lt_of_not-le near) in let a = ap (often n) claims in let b = total_append (λ (c : Claim E). times n c.numbers) (claims_in others) (claims_of pass) in
                 dite (ℕ_discrete (often n (claims_of pass)) 0)
                     (λ none_here. unused_in r.log others left n (All-tail (λ p. number p ≢ n) pass others other) (omega arith))
                     (λ some_here. unused r.log pass one.0 one.1 right n (other 0 pass (omega arith)) (omega arith)));
