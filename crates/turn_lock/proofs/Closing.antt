@@ -1,5 +1,5 @@
 -- What the claims of all passes say of the whole history.
-use Rattle.std.proofs.Common.{◌≡◌, ℕ, ◌+◌, ◌-◌, ◌<◌, ◌≤◌, ◌≢◌, zero, suc, cond, eqb, ltb, true, List, [], ◌∷◌, ◌++◌, length, get_or, set, sym, refl, ap, ◌∙◌, subst, lt_of_not-le, arith, append_assoc, append-nil}
+use Rattle.std.proofs.Common.{◌≡◌, ℕ, ◌+◌, ◌-◌, ◌<◌, ◌≤◌, ◌≢◌, suc, List, [], ◌∷◌, ◌++◌, length, set, sym, refl, ap, ◌∙◌, subst, lt_of_not-le, arith, append_assoc, append-nil}
 use Rattle.std.specs.List.{All, flat_map, sum_by, range_with_len}
 use Rattle.std.proofs.lemmas.List.Elements.{All-nil, All-cons, All-tail}
 use Rattle.std.proofs.lemmas.List.Sums.{sum_by-cons}
@@ -18,10 +18,10 @@ use Rattle.turn_lock.specs.declared.view.Turn.{Turn}
 use Rattle.turn_lock.specs.declared.view.Claim.{Claim}
 use Rattle.turn_lock.specs.declared.view.View.{View}
 use Rattle.turn_lock.specs.History.{entries_by, replay}
-use Rattle.turn_lock.specs.Rule.{total, times, counted, has, is_idle, IsClaim, Rule}
+use Rattle.turn_lock.specs.Rule.{total, times, counted, has, IsClaim, Rule}
 use Rattle.turn_lock.specs.Steps.{spent}
 use Rattle.turn_lock.specs.Views.{seen_by, numbers_of}
-use Rattle.turn_lock.specs.Locks.{number, seen, held, HasMade, IsWhole}
+use Rattle.turn_lock.specs.Locks.{number, held, HasMade, IsWhole}
 use Rattle.turn_lock.proofs.Totals.{total_set, total_append, total_le, times_range, length_range}
 use Rattle.turn_lock.proofs.Turned.{only_one}
 
@@ -89,7 +89,7 @@ module _ {M S O E R W : Type 0} {g : Ghosts M S O E R W} where
   one_of p = only_one (claims_of p) p.one
 
   size_is : (p : Pass M S O E R W g) (c : Claim E) → claims_of p ≡ c ∷ [] → sizes (claims_of p) ≡ held p
-  size_is p c is = let a = ap (λ (l : List (Claim E)). length (numbers_of l)) is in let b = ap (λ (l : List ℕ). length l) p.numbers in let d = length_range p.number (p.end - p.number) in let e = ap sizes is in omega arith
+  size_is p c is = let a = ap (λ (l : List (Claim E)). length (numbers_of l)) is in let b = ap (λ (l : List ℕ). length l) p.numbers in let d = length_range p.number (p.end - p.number) in let e = ap sizes is in let some_number : p.number < p.end = p.some in omega arith
 
   sizes_are : (ps : List (Pass M S O E R W g)) → sizes (claims_in ps) ≡ sum_by held ps
   sizes_are [] = refl
@@ -101,7 +101,7 @@ module _ {M S O E R W : Type 0} {g : Ghosts M S O E R W} where
       let numbers : c.numbers ≡ range_with_len p.number (p.end - p.number) = sym (ap (λ (l : List (Claim E)). numbers_of l) is) ∙ p.numbers in
       let some_number = p.some in let there : 0 < times p.number (range_with_len p.number (p.end - p.number)) = (let a = times_range p.number p.number (p.end - p.number) in grind (arith, nat_tests)) in
       subst (λ (l : List (Claim E)). IsPrefix (seen_by l) log × (entries_by p.number log ≡ entries_by p.number (seen_by l))) (sym is)
-          (claim.0, claim.1 p.number (subst (λ (l : List ℕ). 0 < times p.number l) (sym numbers) there))
+      (claim.0, claim.1 p.number (subst (λ (l : List ℕ). 0 < times p.number l) (sym numbers) there))
 
   all_made : (log : List (Turn E)) (ps : List (Pass M S O E R W g)) → AllClaims log (claims_in ps) → All (HasMade log) ps
   all_made log [] all = All-nil (HasMade log)
@@ -123,7 +123,7 @@ module _ {M S O E R W : Type 0} {g : Ghosts M S O E R W} where
   unused_in log [] all n other some_time = absurd (omega arith)
   unused_in log (p ∷ ps) all n other some_time = let one = one_of p in dite (ℕ_discrete (often n (claims_of p)) 0)
       (λ none_here. unused_in log ps (claims_right log (claims_of p) (claims_in ps) all) n (All-tail (λ p. number p ≢ n) p ps other)
-          (let a = total_append (λ (c : Claim E). times n c.numbers) (claims_of p) (claims_in ps) in omega arith))
+      (let a = total_append (λ (c : Claim E). times n c.numbers) (claims_of p) (claims_in ps) in omega arith))
       (λ some_here. unused log p one.0 one.1 (claims_left log (claims_of p) (claims_in ps) all) n (other 0 p (omega arith)) (omega arith))
 
   module _ (logs : S → ℕ → O → E → Type 0) (after : S → E → S × R) (kept : S → List E) (first : S) (seats : ℕ) where
@@ -146,7 +146,7 @@ module _ {M S O E R W : Type 0} {g : Ghosts M S O E R W} where
                 (λ far. r.named n far)
                 (λ near. let some_time = has_each logs after kept first seats s r id v at all n (lt_of_not-le near) in let a = ap (often n) claims in let b = total_append (λ (c : Claim E). times n c.numbers) (claims_in others) (claims_of pass) in
                 dite (ℕ_discrete (often n (claims_of pass)) 0)
-                    (λ none_here. unused_in r.log others left n (All-tail (λ p. number p ≢ n) pass others other) (omega arith))
-                    (λ some_here. unused r.log pass one.0 one.1 right n (other 0 pass (omega arith)) (omega arith)));
+                (λ none_here. unused_in r.log others left n (All-tail (λ p. number p ≢ n) pass others other) (omega arith))
+                (λ some_here. unused r.log pass one.0 one.1 right n (other 0 pass (omega arith)) (omega arith)));
           },
         )

@@ -1,7 +1,6 @@
 -- Each step keeps the rule.
-use Rattle.std.proofs.Common.{◌≡◌, ℕ, ◌+◌, ◌-◌, ◌%◌, ◌^◌, ◌<◌, ◌≤◌, ◌≢◌, ◌⊎◌, zero, suc, Bool, true, false, cond, ltb, List, [], ◌∷◌, ◌++◌, map, length, get_or, take, drop, set, Some, sym, refl, ap, ◌∙◌, subst, inl, inr, ⊎_elim, arith, length-append}
+use Rattle.std.proofs.Common.{◌≡◌, ℕ, ◌+◌, ◌-◌, ◌%◌, ◌^◌, ◌<◌, ◌≤◌, ◌≢◌, ◌⊎◌, zero, suc, true, false, cond, ltb, List, [], ◌∷◌, ◌++◌, map, length, get_or, take, drop, set, Some, sym, refl, ap, ◌∙◌, subst, inl, inr, ⊎_elim, arith, length-append}
 use mathlib.Core.Option.{Option, none, some, some-injective, some-ne-none}
-use mathlib.Core.List.{IsPrefix}
 use mathlib.Core.Logic.{dite}
 use native.Mathlib.Decide.{ℕ_discrete}
 use lib.ListN.{get_elem?}
@@ -19,9 +18,9 @@ use Rattle.turn_lock.specs.declared.view.Stage.TheVariants.{Idle, Waiting, Servi
 use Rattle.turn_lock.specs.declared.view.View.{View}
 use Rattle.turn_lock.specs.History.{turn_of, entries, entries_by, replay, IsLegal}
 use Rattle.turn_lock.specs.Rule.{total, times, tickets_in, ticket_of, is_serving, is_idle, IsClaim, StandsIn, counted, has, tickets, staged, Knows, Slot, opening_view, Rule}
-use Rattle.turn_lock.specs.Steps.{drew, Enters, looked, with_turn, added, skipped, first_part, later_part, joined, spent}
-use Rattle.turn_lock.proofs.Totals.{total_set, total_append, total_one, total_two, total_none, total_le, times_range, times_parts, length_parts, length_range, total_parts, at_mapped, at_append}
-use Rattle.turn_lock.proofs.Histories.{by_append, by_other, by_same, entries_append, prefix_all, prefix_more, replay_append, legal_more}
+use Rattle.turn_lock.specs.Steps.{drew, looked, with_turn, added, skipped, first_part, later_part, joined, spent}
+use Rattle.turn_lock.proofs.Totals.{total_set, total_append, total_one, total_two, total_le, times_range, times_parts, length_parts, length_range, total_parts, at_mapped, at_append}
+use Rattle.turn_lock.proofs.Histories.{by_other, entries_append, prefix_all, prefix_more, replay_append, legal_more}
 
 -- what stands at a place that was set
 set_at : {A : Type 0} (l : List A) (i : ℕ) (a b : A) → get_elem? l i ≡ some a → get_elem? (set l i b) i ≡ some b
@@ -98,8 +97,8 @@ module _ {S E : Type 0} where
   slot_stays value homes views id v w at alike (inl h) = inl (h.0, set_cases (λ j (u : View S E). is_serving u.stage ≡ false) views id w (alike ∙ h.1 id v at) (λ j u _ e. h.1 j u e))
   slot_stays value homes views id v w at alike (inr h) = dite (ℕ_discrete h.1.0 id)
       (λ is. let here = subst (λ j. get_elem? views j ≡ some h.1.1) is h.1.2 in
-          let one = some-injective v h.1.1 (sym at ∙ here) in
-          inr (h.0, (id, w, set_at views id v w at, alike ∙ (ap (λ (u : View S E). is_serving u.stage) one ∙ h.1.3))))
+      let one = some-injective v h.1.1 (sym at ∙ here) in
+      inr (h.0, (id, w, set_at views id v w at, alike ∙ (ap (λ (u : View S E). is_serving u.stage) one ∙ h.1.3))))
       (λ other. inr (h.0, (h.1.0, h.1.1, set_else views id h.1.0 w other ∙ h.1.2, h.1.3)))
 
 module _ {S O E R : Type 0} (logs : S → ℕ → O → E → Type 0) (after : S → E → S × R) (kept : S → List E) (first : S) (seats : ℕ) where
@@ -157,7 +156,7 @@ module _ {S O E R : Type 0} (logs : S → ℕ → O → E → Type 0) (after : S
       let found : get_or s.words 0 0 ≡ k % 18446744073709551616 = ap (λ (l : List ℕ). get_or l 0 0) r.words in
       let next : (get_or s.words 0 0 + 1) % 18446744073709551616 ≡ (r.served + (r.waiting + 1)) % 18446744073709551616 = ap (λ (n : ℕ). (n + 1) % 18446744073709551616) found ∙ (low_next k ∙ ap (λ (n : ℕ). n % 18446744073709551616) (omega arith)) in
       let words : set s.words 0 ((get_or s.words 0 0 + 1) % 18446744073709551616) ≡ ((r.served + (r.waiting + 1)) % 18446744073709551616) ∷ (r.served % 18446744073709551616) ∷ [] =
-          ap (λ (l : List ℕ). set l 0 ((get_or s.words 0 0 + 1) % 18446744073709551616)) r.words ∙ ap (λ (n : ℕ). n ∷ (r.served % 18446744073709551616) ∷ []) next in (
+      ap (λ (l : List ℕ). set l 0 ((get_or s.words 0 0 + 1) % 18446744073709551616)) r.words ∙ ap (λ (n : ℕ). n ∷ (r.served % 18446744073709551616) ∷ []) next in (
         w,
         keeps,
         tt,
@@ -186,8 +185,8 @@ module _ {S O E R : Type 0} (logs : S → ℕ → O → E → Type 0) (after : S
   at_home : (s : St) (r : Kept s) (id : ℕ) (v : V) → get_elem? s.views id ≡ some v → ticket_of v.stage ≡ some r.served → is_serving v.stage ≡ false → s.homes ≡ some (replay after first r.log) ∷ []
   at_home s r id v at ticket not_yet = ⊎_elim (λ h. h.0)
       (λ (h : (s.homes ≡ none ∷ []) × ((j : ℕ) × (u : V) × (get_elem? s.views j ≡ some u) × (is_serving u.stage ≡ true))). let j : ℕ = h.1.0 in let u : V = h.1.1 in let same_seat = served_one s r id j v u at ticket h.1.2 h.1.3 in
-          let one = some-injective v u (sym at ∙ subst (λ i. get_elem? s.views i ≡ some u) same_seat h.1.2) in
-          let wrong : false ≡ true = sym not_yet ∙ (ap (λ (x : V). is_serving x.stage) one ∙ h.1.3) in absurd cc)
+      let one = some-injective v u (sym at ∙ subst (λ i. get_elem? s.views i ≡ some u) same_seat h.1.2) in
+      let wrong : false ≡ true = sym not_yet ∙ (ap (λ (x : V). is_serving x.stage) one ∙ h.1.3) in absurd cc)
       r.slot
 
   same_tickets : (v : V) (k j : ℕ) → v.stage ≡ Waiting k → v.stage ≡ Waiting j → k ≡ j
@@ -198,29 +197,29 @@ module _ {S O E R : Type 0} (logs : S → ℕ → O → E → Type 0) (after : S
       let v : V = me.0 in let know = r.knows id v at in let n : ℕ = get_or s.words 1 0 in let found : n ≡ r.served % 18446744073709551616 = ap (λ (l : List ℕ). get_or l 1 0) r.words in
       let stands : StandsIn r.log r.served r.waiting (Waiting k) = subst (StandsIn r.log r.served r.waiting) stage know.stands in dite (ℕ_discrete n (k % 18446744073709551616))
       (λ yes. let a = stands.0 in let b = stands.1 in let c = few s r in let d = r.small in let same_ticket : r.served ≡ k = one_turn r.served k 18446744073709551616 a (omega arith) (sym found ∙ yes) in
-          let y : S = replay after first r.log in let w : V = staged v (Serving k r.log) in
-          let home = at_home s r id v at (ap ticket_of stage ∙ ap some (sym same_ticket)) (ap is_serving stage) in
-          let out : set s.homes 0 none ≡ none ∷ [] = ap (λ l. set l 0 none) home in (
-            w,
-            takes 0 y,
-            ap (λ l. get_elem? l 0) home,
-            moved s r id v w at r.log r.served r.waiting _ (set s.homes 0 none) (set-get_or s.words 1 0 ∙ r.words) (ap (λ (z : Stage E). tickets_in z + r.waiting) (sym stage)) (inl refl) r.turns r.legal r.keeps r.named
-                record { begun = know.begun; claims = know.claims; named = subst (λ (z : Stage E). tickets_in z ≤ counted v) stage know.named; stands = (sym same_ticket, omega arith, refl) }
-                (λ j u _ e. r.knows j u e)
-                (λ j u t other e tw tu. other (r.apart j id u v t e at tu (ap ticket_of stage ∙ tw)))
-                (inr (out, (id, w, set_at s.views id v w at, refl))),
-            (λ k' is _. let one = same_tickets v k k' stage is in (
-              (λ no. absurd (no (yes ∙ ap (λ (z : ℕ). z % 18446744073709551616) one))),
-              (λ _. (
-                r.log,
-                y,
-                (λ i. (staged v (Serving (one i) r.log), (0, y) ∷ empty i)),
-                (λ b begun. let begin = sym (know.begun b begun) in (ap (λ (z : S). replay after z r.log) begin, subst (λ (z : S). IsLegal logs after z r.log) begin r.legal)),
-                r.keeps,
-                know.claims,
-              )),
-            )),
-          ))
+      let y : S = replay after first r.log in let w : V = staged v (Serving k r.log) in
+      let home = at_home s r id v at (ap ticket_of stage ∙ ap some (sym same_ticket)) (ap is_serving stage) in
+      let out : set s.homes 0 none ≡ none ∷ [] = ap (λ l. set l 0 none) home in (
+        w,
+        takes 0 y,
+        ap (λ l. get_elem? l 0) home,
+        moved s r id v w at r.log r.served r.waiting _ (set s.homes 0 none) (set-get_or s.words 1 0 ∙ r.words) (ap (λ (z : Stage E). tickets_in z + r.waiting) (sym stage)) (inl refl) r.turns r.legal r.keeps r.named
+            record { begun = know.begun; claims = know.claims; named = subst (λ (z : Stage E). tickets_in z ≤ counted v) stage know.named; stands = (sym same_ticket, omega arith, refl) }
+            (λ j u _ e. r.knows j u e)
+            (λ j u t other e tw tu. other (r.apart j id u v t e at tu (ap ticket_of stage ∙ tw)))
+            (inr (out, (id, w, set_at s.views id v w at, refl))),
+        (λ k' is _. let one = same_tickets v k k' stage is in (
+          (λ no. absurd (no (yes ∙ ap (λ (z : ℕ). z % 18446744073709551616) one))),
+          (λ _. (
+            r.log,
+            y,
+            (λ i. (staged v (Serving (one i) r.log), (0, y) ∷ empty i)),
+            (λ b begun. let begin = sym (know.begun b begun) in (ap (λ (z : S). replay after z r.log) begin, subst (λ (z : S). IsLegal logs after z r.log) begin r.legal)),
+            r.keeps,
+            know.claims,
+          )),
+        )),
+      ))
       (λ no. (v, keeps, tt, unmoved s r 1 id me at, (λ k' is _. ((λ _. refl), (λ yes. absurd (no (yes ∙ ap (λ (z : ℕ). z % 18446744073709551616) (sym (same_tickets v k k' stage is)))))))))
 
   -- what a view's claims say of a history
@@ -240,16 +239,21 @@ module _ {S O E R : Type 0} (logs : S → ℕ → O → E → Type 0) (after : S
       let next : (get_or s.words 1 0 + 1) % 18446744073709551616 ≡ (r.served + 1) % 18446744073709551616 = ap (λ (n : ℕ). (n + 1) % 18446744073709551616) found ∙ low_next r.served in
       let more : r.served + r.waiting ≡ (r.served + 1) + (r.waiting - 1) = omega arith in
       let words : set s.words 1 ((get_or s.words 1 0 + 1) % 18446744073709551616) ≡ (((r.served + 1) + (r.waiting - 1)) % 18446744073709551616) ∷ ((r.served + 1) % 18446744073709551616) ∷ [] =
-          ap (λ (l : List ℕ). set l 1 ((get_or s.words 1 0 + 1) % 18446744073709551616)) r.words ∙ (λ i. ((more i) % 18446744073709551616) ∷ (next i) ∷ []) in
+      ap (λ (l : List ℕ). set l 1 ((get_or s.words 1 0 + 1) % 18446744073709551616)) r.words ∙ (λ i. ((more i) % 18446744073709551616) ∷ (next i) ∷ []) in
       let out : set s.homes 0 (some y') ≡ some (replay after first log) ∷ [] =
-          ⊎_elim (λ h. let wrong : true ≡ false = sym (ap is_serving stage) ∙ h.1 id v at in absurd cc) (λ h. ap (λ l. set l 0 (some y')) h.0 ∙ ap (λ (z : S). some z ∷ []) value) r.slot in
+      ⊎_elim (λ h. let wrong : true ≡ false = sym (ap is_serving stage) ∙ h.1 id v at in absurd cc) (λ h. ap (λ l. set l 0 (some y')) h.0 ∙ ap (λ (z : S). some z ∷ []) value) r.slot in
       let one : tickets v ≡ 1 = ap tickets_in stage in let none_left : tickets w ≡ 0 = ap tickets_in idle in
       moved s r id v w at log (r.served + 1) (r.waiting - 1) _ _ words (omega arith) numbers turns legal tied named
-          record { begun = λ b h. know.begun b (sym same_first ∙ h); claims = mine; named = omega arith; stands = subst (StandsIn log (r.served + 1) (r.waiting - 1)) (sym idle) tt }
-          (λ j u other e. let him = r.knows j u e in record { begun = him.begun; claims = others j u other e; named = him.named; stands = stands_nearer r.log log r.served r.waiting u.stage
-              (λ t. other (r.apart j id u v r.served e at t ticket)) him.stands })
-          (λ j u t _ e tw tu. absurd (some-ne-none t (sym tw ∙ ap ticket_of idle)))
-          (inl (out, set_cases (λ j (u : V). is_serving u.stage ≡ false) s.views id w (ap is_serving idle) (λ j u other e. not_serving u.stage (λ h. other (served_one s r id j v u at ticket e h)))))
+      record { begun = λ b h. know.begun b (sym same_first ∙ h); claims = mine; named = omega arith; stands = subst (StandsIn log (r.served + 1) (r.waiting - 1)) (sym idle) tt }
+      (λ j u other e. let him = r.knows j u e in record {
+        begun = him.begun;
+        claims = others j u other e;
+        named = him.named;
+        stands = stands_nearer r.log log r.served r.waiting u.stage
+            (λ t. other (r.apart j id u v r.served e at t ticket)) him.stands;
+      })
+      (λ j u t _ e tw tu. absurd (some-ne-none t (sym tw ∙ ap ticket_of idle)))
+      (inl (out, set_cases (λ j (u : V). is_serving u.stage ≡ false) s.views id w (ap is_serving idle) (λ j u other e. not_serving u.stage (λ h. other (served_one s r id j v u at ticket e h)))))
 
   -- the seat that is served leaves with no entry
   pub skips : (slots id : ℕ) (me : Me S V) (k : ℕ) (whole : Hist) (y : S) → me.0.stage ≡ Serving k whole → me.0.first ≡ Some first → me.1 ≡ (0, y) ∷ [] → y ≡ replay after first whole
@@ -330,16 +334,16 @@ module _ {S O E R : Type 0} (logs : S → ℕ → O → E → Type 0) (after : S
   splits id v idle s r at =
       let left : V = first_part v in let right : V = later_part v in let still = idle_is v.stage idle in let know = r.knows id v at in let free : tickets v ≡ 0 = ap tickets_in still in
       let part_count : counted left + counted right ≡ counted v = total_parts (λ (c : Claim E). length c.numbers) (λ (c : Claim E). record { numbers = take 1 c.numbers; seen = c.seen }) (λ (c : Claim E). record { numbers = drop 1 c.numbers; seen = c.seen })
-              (λ (c : Claim E). length c.numbers) (λ c. length_parts c.numbers) v.claims in
+      (λ (c : Claim E). length c.numbers) (λ c. length_parts c.numbers) v.claims in
       let part_has : (n : ℕ) → has n left + has n right ≡ has n v = λ n. total_parts (λ (c : Claim E). times n c.numbers) (λ (c : Claim E). record { numbers = take 1 c.numbers; seen = c.seen }) (λ (c : Claim E). record { numbers = drop 1 c.numbers; seen = c.seen })
-              (λ (c : Claim E). times n c.numbers) (λ c. times_parts n c.numbers) v.claims in
+      (λ (c : Claim E). times n c.numbers) (λ c. times_parts n c.numbers) v.claims in
       let left_ok : Knows first r.log r.served r.waiting left =
-          record { begun = know.begun; claims = part_claims r.log (take 1) (λ n xs. let a = times_parts n xs in omega arith) v.claims know.claims; named = omega arith; stands = know.stands } in
+      record { begun = know.begun; claims = part_claims r.log (take 1) (λ n xs. let a = times_parts n xs in omega arith) v.claims know.claims; named = omega arith; stands = know.stands } in
       let right_ok : Knows first r.log r.served r.waiting right =
-          record { begun = know.begun; claims = part_claims r.log (drop 1) (λ n xs. let a = times_parts n xs in omega arith) v.claims know.claims; named = omega arith; stands = tt } in
+      record { begun = know.begun; claims = part_claims r.log (drop 1) (λ n xs. let a = times_parts n xs in omega arith) v.claims know.claims; named = omega arith; stands = tt } in
       let vs : List V = set s.views id left in
       let each : (P : ℕ → V → Type 0) → P id left → ((j : ℕ) → P j right) → ((j : ℕ) (u : V) → j ≢ id → get_elem? s.views j ≡ some u → P j u) → (j : ℕ) (u : V) → get_elem? (vs ++ right ∷ []) j ≡ some u → P j u =
-          (λ P one two others j u e. ⊎_elim (λ h. set_cases P s.views id left one others j u h) (λ h. subst (P j) h (two j)) (at_snoc vs right u j e)) in
+      (λ P one two others j u e. ⊎_elim (λ h. set_cases P s.views id left one others j u h) (λ h. subst (P j) h (two j)) (at_snoc vs right u j e)) in
       record {
         log = r.log;
         served = r.served;
@@ -369,9 +373,9 @@ module _ {S O E R : Type 0} (logs : S → ℕ → O → E → Type 0) (after : S
       let know_v = r.knows id v at in let know_w = r.knows other w theirs in
       let free_v : tickets v ≡ 0 = ap tickets_in still_v in let free_w : tickets w ≡ 0 = ap tickets_in still_w in
       let sums : (f : V → ℕ) → f both ≡ f w + f v → f spent ≡ 0 → total f (set vs other spent) ≡ total f s.views =
-          (λ f sum none_left. let a = total_set f s.views id v both at in let b = total_set f vs other w spent there in omega arith) in
+      (λ f sum none_left. let a = total_set f s.views id v both at in let b = total_set f vs other w spent there in omega arith) in
       let each : (P : ℕ → V → Type 0) → P id both → P other spent → ((j : ℕ) (u : V) → get_elem? s.views j ≡ some u → P j u) → (j : ℕ) (u : V) → get_elem? (set vs other spent) j ≡ some u → P j u =
-          (λ P one two others. set_cases P vs other spent two (λ j u _ e. set_cases P s.views id both one (λ i x _ f. others i x f) j u e)) in
+      (λ P one two others. set_cases P vs other spent two (λ j u _ e. set_cases P s.views id both one (λ i x _ f. others i x f) j u e)) in
       record {
         log = r.log;
         served = r.served;
@@ -418,8 +422,8 @@ module _ {S O E R : Type 0} (logs : S → ℕ → O → E → Type 0) (after : S
   pub closes : (s : St) (r : Kept s) (id : ℕ) (v : V) → get_elem? s.views id ≡ some v → is_idle v.stage ≡ true → counted v ≡ seats → s.homes ≡ some (replay after first r.log) ∷ []
   closes s r id v at idle all = ⊎_elim (λ h. h.0)
       (λ (h : (s.homes ≡ none ∷ []) × ((j : ℕ) × (u : V) × (get_elem? s.views j ≡ some u) × (is_serving u.stage ≡ true))). let j : ℕ = h.1.0 in let u : V = h.1.1 in let whose = serving_is u.stage h.1.3 in let one : tickets u ≡ 1 = ap tickets_in whose.2 in
-          dite (ℕ_discrete j id)
-          (λ is. let same_view = some-injective v u (sym at ∙ subst (λ i. get_elem? s.views i ≡ some u) is h.1.2) in
-              let none_there : tickets u ≡ 0 = ap tickets_in (sym (ap (λ (x : V). x.stage) same_view) ∙ idle_is v.stage idle) in absurd (omega arith))
-          (λ other. let a = total_two counted s.views id j v u (λ e. other (sym e)) at h.1.2 in let b = r.room in let c = (r.knows j u h.1.2).named in absurd (omega arith)))
+      dite (ℕ_discrete j id)
+      (λ is. let same_view = some-injective v u (sym at ∙ subst (λ i. get_elem? s.views i ≡ some u) is h.1.2) in
+      let none_there : tickets u ≡ 0 = ap tickets_in (sym (ap (λ (x : V). x.stage) same_view) ∙ idle_is v.stage idle) in absurd (omega arith))
+      (λ other. let a = total_two counted s.views id j v u (λ e. other (sym e)) at h.1.2 in let b = r.room in let c = (r.knows j u h.1.2).named in absurd (omega arith)))
       r.slot

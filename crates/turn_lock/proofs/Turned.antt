@@ -1,8 +1,8 @@
 -- What a turn shows of the history that it met.
-use Rattle.std.proofs.Common.{◌≡◌, ℕ, ◌+◌, ◌-◌, ◌%◌, ◌^◌, ◌<◌, ◌≤◌, ◌≢◌, true, zero, suc, Result, Ok, Err, IfOk, OnErr, List, [], ◌∷◌, ◌++◌, length, get_or, Some, sym, refl, ap, ◌∙◌, subst, arith, length-append}
+use Rattle.std.proofs.Common.{◌≡◌, ℕ, ◌+◌, ◌-◌, ◌%◌, ◌^◌, ◌<◌, ◌≢◌, true, zero, suc, Result, Ok, Err, IfOk, OnErr, List, [], ◌∷◌, ◌++◌, length, get_or, Some, sym, refl, ap, ◌∙◌, subst, arith}
 use Rattle.std.specs.List.{range_with_len}
 use Rattle.std.proofs.lemmas.Bool.Decides.{nat_tests}
-use mathlib.Core.Option.{none, some, some-injective}
+use mathlib.Core.Option.{none, some-injective}
 use mathlib.Core.List.{IsPrefix}
 use lib.ListN.{get_elem?}
 use Rattle.atomic_table.specs.Table.{rest, step, Allows}
@@ -111,7 +111,7 @@ module _ {S O E R W : Type 0} (logs : S → ℕ → O → E → Type 0) (after :
     pub leaves_with : (seats slots id : ℕ) → Allows (Rule logs after kept first seats) slots id (m.0, (0, state) ∷ rest m.1) 1 (λ x. (x + 1) % 2 ^ 64) (added kept (step slots 1 1 0 none) (m.0, (0, state) ∷ rest m.1))
     leaves_with seats slots id = let c = claim.0 in let is = claim.1 in let p = parts c is state in let f = facts c is in
         adds logs after kept first seats slots id (m.0, (0, state) ∷ rest m.1) k log c op e state p.0 p.1 p.2 (some_of c is) p.3 f.0
-            (subst (λ (x : ℕ). logs (replay after first log) x op e) (sym (first_of c is)) f.1) f.2
+        (subst (λ (x : ℕ). logs (replay after first log) x op e) (sym (first_of c is)) f.1) f.2
 
     module _ (slots found : ℕ) (w : Sat S E) (told : added kept (step slots 1 1 0 none) (m.0, (0, state) ∷ rest m.1) found w) where
       after_it : (c : Claim E) → v.claims ≡ c ∷ [] → w ≡ (record { first = m.0.first; stage = Idle; claims = with_turn c log e ∷ [] }, [])

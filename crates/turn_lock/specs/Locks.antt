@@ -34,7 +34,7 @@ module _ {M S O E R W : Type 0} where
 
     -- how many numbers it has, its own and those that it has to give away
     abbrev pub held : Pass M S O E R W g → ℕ
-    held pass = pass.end - pass.number
+    held pass = spare pass + 1
 
     -- it is a pass of this lock
     abbrev pub IsPassOf : TurnLock M S O E R W → Pass M S O E R W g → Type 0

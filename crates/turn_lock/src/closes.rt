@@ -51,11 +51,13 @@ impl<M: Machine> TurnLock<M> {
             number: _,
             end: _,
         } = pass;
-        while let Some(Pass {
-            seat: other,
-            number: _,
-            end: _,
-        }) = items.pop()
+        while let Some(
+            Pass {
+                seat: other,
+                number: _,
+                end: _,
+            },
+        ) = items.pop()
         {
             self.table.shared.join_seat::<Glue>(&mut seat, other);
         }

@@ -6,6 +6,8 @@ mod lock;
 mod machine;
 mod makes;
 mod rule;
+#[cfg(test)]
+mod tests;
 mod turns;
 mod view;
 

@@ -6,9 +6,13 @@ use std::alloc::AllocError as NoMemory;
 /// A state under a lock, and the steps that change it.
 pub trait Machine {
     type State: Drop;
+
     type Op;
+
     type Entry: Drop;
+
     type Reply;
+
     type Own;
 
     ghost logs: { Self.State → ℕ → Self.Op → Self.Entry → Type 0 };

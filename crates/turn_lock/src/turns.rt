@@ -70,12 +70,7 @@ impl<M: Machine> TurnLock<M> {
     ///
     /// The reply is the machine's after all turns that were taken before, and the pass then knows these and its own.
     /// Where the step finds no memory the pass is left as it was, and the history has no turn more.
-    pub fn turn<R: Wait>(
-        &self,
-        rt: &R,
-        pass: &mut Pass<M>,
-        op: M::Op,
-    ) -> Result<M::Reply, NoMemory>
+    pub fn turn<R: Wait>(&self, rt: &R, pass: &mut Pass<M>, op: M::Op) -> Result<M::Reply, NoMemory>
         requires lock { IsPassOf self.now pass.old }
         requires may { M.may (own_known M.after M.own self.now pass.old) op }
         ensures lock { IsPassOf self.now pass.new }

@@ -1,5 +1,5 @@
-use Rattle.std.proofs.Common.{rules, ◌≡◌, ◌∷◌, ◌++◌, [], ap, sym, ◌∙◌, subst, append-nil}
-use mathlib.Core.Option.{some, some-injective}
+use Rattle.std.proofs.Common.{rules, ◌≡◌, ◌∷◌, ◌++◌, [], ap, sym, ◌∙◌, subst}
+use mathlib.Core.Option.{some-injective}
 use lib.ListN.{get_elem?}
 use Rattle.turn_lock.specs.Locks.{IsPassOf, IsWhole}
 use Rattle.turn_lock.specs.Rule.{is_idle}

@@ -1,10 +1,8 @@
-use Rattle.std.proofs.Common.{rules, ◌≡◌, ◌++◌, ◌∷◌, [], length, refl, ap, sym, ◌∙◌, subst}
-use Rattle.std.proofs.lemmas.Result.{IfOk-weaker}
+use Rattle.std.proofs.Common.{◌≡◌, ◌++◌, ◌∷◌, [], length, refl, ap, ◌∙◌}
 use mathlib.Core.List.{IsPrefix}
-use Rattle.turn_lock.specs.History.{turn_of, entries_by, replay, IsLegal}
-use Rattle.turn_lock.specs.Views.{seen_by, numbers_of, Served}
+use Rattle.turn_lock.specs.History.{entries_by, replay}
+use Rattle.turn_lock.specs.Views.{seen_by, numbers_of}
 use Rattle.turn_lock.proofs.Turned.{fresh_stays, made_one, on_last}
-use Rattle.turn_lock.proofs.Histories.{by_same}
 use Rattle.turn_lock.proofs.lock.TurnLock.turn.Goals as goal
 
 pub invariant_of-pass : goal.invariant_of-pass
@@ -33,11 +31,11 @@ returns-clause-reply g c = on_last g.M.Machine.logs g.M.Machine.after g.M.Machin
 pub returns-clause-own : goal.returns-clause-own
 returns-clause-own g c = on_last g.M.Machine.logs g.M.Machine.after g.M.Machine.own c.args.self.now.table.shared.key.first.value c.args.pass.now.number (numbers_of c.args.pass.now.seat.me.0.claims) c.args.op (seen_by c.args.pass.now.seat.me.0.claims) (seen_by c.serve.new.seat.me.0.claims)
     (λ r before last. g.M.Machine.own (replay g.M.Machine.after c.args.self.now.table.shared.key.first.value before) c.args.pass.now.number
-        ≡ g.M.Machine.own (replay g.M.Machine.after c.args.self.now.table.shared.key.first.value (seen_by c.args.pass.now.seat.me.0.claims)) c.args.pass.now.number)
+    ≡ g.M.Machine.own (replay g.M.Machine.after c.args.self.now.table.shared.key.first.value (seen_by c.args.pass.now.seat.me.0.claims)) c.args.pass.now.number)
     (λ r s. s.met) c.serve.result c.serve.ensures.served
 
 pub returns-clause-made : goal.returns-clause-made
 returns-clause-made g c = on_last g.M.Machine.logs g.M.Machine.after g.M.Machine.own c.args.self.now.table.shared.key.first.value c.args.pass.now.number (numbers_of c.args.pass.now.seat.me.0.claims) c.args.op (seen_by c.args.pass.now.seat.me.0.claims) (seen_by c.serve.new.seat.me.0.claims)
     (λ r before last. entries_by c.args.pass.now.number (seen_by c.serve.new.seat.me.0.claims) ≡ entries_by c.args.pass.now.number (seen_by c.args.pass.now.seat.me.0.claims) ++ last.entry ∷ [])
     (λ r s. made_one g.M.Machine.logs g.M.Machine.after g.M.Machine.own c.args.self.now.table.shared.key.first.value c.args.pass.now.number c.args.pass.now.end (numbers_of c.args.pass.now.seat.me.0.claims) c.args.op r
-        (seen_by c.args.pass.now.seat.me.0.claims) (seen_by c.serve.new.seat.me.0.claims) c.args.pass.now.some c.args.pass.now.numbers s) c.serve.result c.serve.ensures.served
+    (seen_by c.args.pass.now.seat.me.0.claims) (seen_by c.serve.new.seat.me.0.claims) c.args.pass.now.some c.args.pass.now.numbers s) c.serve.result c.serve.ensures.served
