@@ -23,6 +23,7 @@ use Rattle.turn_lock.specs.Steps.{spent}
 use Rattle.turn_lock.specs.Views.{seen_by, numbers_of}
 use Rattle.turn_lock.specs.Locks.{number, held, HasMade, IsWhole}
 use Rattle.turn_lock.proofs.Totals.{total_set, total_append, total_le, times_range, length_range}
+use Rattle.turn_lock.proofs.Histories.{start_stays}
 use Rattle.turn_lock.proofs.Turned.{only_one}
 
 last_of_all : {A : Type 0} (P : A → Type 0) (xs : List A) (x : A) → All P (xs ++ x ∷ []) → P x
@@ -126,10 +127,10 @@ module _ {M S O E R W : Type 0} {g : Ghosts M S O E R W} where
       (let a = total_append (λ (c : Claim E). times n c.numbers) (claims_of p) (claims_in ps) in omega arith))
       (λ some_here. unused log p one.0 one.1 (claims_left log (claims_of p) (claims_in ps) all) n (other 0 p (omega arith)) (omega arith))
 
-  module _ (logs : S → ℕ → O → E → Type 0) (after : S → E → S × R) (kept : S → List E) (first : S) (seats : ℕ) where
+  module _ (logs : S → ℕ → O → E → Type 0) (after : S → E → S × R) (kept : S → List E) (start : S → S) (starts : (s : S) (n : ℕ) (op : O) (e : E) → logs s n op e → start (after s e).0 ≡ start s) (first : S) (seats : ℕ) where
     -- the history of a lock all of whose passes are joined
     pub whole : (s : State S (View S E)) (r : Rule logs after kept first seats s) (id : ℕ) (v : View S E) (pass : Pass M S O E R W g) (others : List (Pass M S O E R W g)) → get_elem? s.views id ≡ some v
-        → v.claims ≡ claims_in others ++ claims_of pass → held pass + sum_by held others ≡ seats → (counted v ≡ seats) × IsWhole logs after kept {g = g} first (pass ∷ others) (replay after first r.log)
+        → v.claims ≡ claims_in others ++ claims_of pass → held pass + sum_by held others ≡ seats → (counted v ≡ seats) × IsWhole logs after kept start {g = g} first (pass ∷ others) (replay after first r.log)
     whole s r id v pass others at claims count =
         let one = one_of pass in
         let all_of : AllClaims r.log (claims_in others ++ claims_of pass) = subst (AllClaims r.log) claims (r.knows id v at).claims in
@@ -139,6 +140,7 @@ module _ {M S O E R W : Type 0} {g : Ghosts M S O E R W} where
           record {
             log = r.log;
             replayed = refl;
+            begun = start_stays logs after start starts first r.log r.legal;
             keeps = r.keeps;
             legal = r.legal;
             made = All-cons (HasMade r.log) pass others (made_by r.log pass one.0 one.1 right) (all_made r.log others left);

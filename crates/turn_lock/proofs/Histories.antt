@@ -50,6 +50,11 @@ module _ {S O E R : Type 0} (logs : S → ℕ → O → E → Type 0) (after : S
   legal_later s [] ys l = l
   legal_later s (x ∷ xs) ys l = legal_later (after s x.entry).0 xs ys l.1
 
+  -- what a state began as stays
+  pub start_stays : (start : S → S) → ((s : S) (n : ℕ) (op : O) (e : E) → logs s n op e → start (after s e).0 ≡ start s) → (s : S) (ts : Hist) → IsLegal logs after s ts → start (replay after s ts) ≡ start s
+  start_stays start law s [] l = refl
+  start_stays start law s (t ∷ ts) l = start_stays start law (after s t.entry).0 ts l.1 ∙ law s t.number l.0.0 t.entry l.0.1
+
   -- what a number owns stays as it was through the turns of others
   pub own_stays : {W : Type 0} (own : S → ℕ → W) → ((s : S) (n : ℕ) (op : O) (e : E) (k : ℕ) → logs s n op e → k ≢ n → own (after s e).0 k ≡ own s k)
       → (k : ℕ) (s : S) (ts : Hist) → IsLegal logs after s ts → entries_by k ts ≡ [] → own (replay after s ts) k ≡ own s k

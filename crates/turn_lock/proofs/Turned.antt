@@ -176,3 +176,9 @@ pub made_one : {S O E R W : Type 0} (logs : S → ℕ → O → E → Type 0) (a
 made_one logs after own first n end numbers op r old new some_number is s =
     let there : 0 < times n (range_with_len n (end - n)) = (let a = times_range n n (end - n) in grind (arith, nat_tests)) in
     ap (entries_by n) s.ends ∙ (by_same n s.entry s.before ∙ ap (λ l. l ++ s.entry ∷ []) (s.made n (subst (λ (l : List ℕ). 0 < times n l) (sym is) there)))
+
+-- what the number owns after the turn
+pub left_with : {S O E R W : Type 0} (logs : S → ℕ → O → E → Type 0) (after : S → E → S × R) (own : S → ℕ → W) (first : S) (n : ℕ) (numbers : List ℕ) (op : O) (r : R) (old new : List (Turn E))
+    → (s : Served logs after own first n numbers op r old new) → own (replay after first new) n ≡ own (after (replay after first s.before) s.entry).0 n
+left_with {E = E} logs after own first n numbers op r old new s =
+    ap (λ (h : List (Turn E)). own (replay after first h) n) s.ends ∙ ap (λ z. own z n) (replay_append logs after first s.before (turn_of n s.entry ∷ []))

@@ -57,10 +57,11 @@ module _ {M S O E R W : Type 0} where
     HasMade log pass = IsPrefix (seen pass) log × (entries_by (number pass) log ≡ entries_by (number pass) (seen pass))
 
   -- a state is the replay of a whole history, and keeps its entries. The history has the entries that these passes made, and no others
-  pub record IsWhole (logs : S → ℕ → O → E → Type 0) (after : S → E → S × R) (kept : S → List E) {g : Ghosts M S O E R W} (begun : S) (all : List (Pass M S O E R W g)) (state : S) : Type 0 where
+  pub record IsWhole (logs : S → ℕ → O → E → Type 0) (after : S → E → S × R) (kept : S → List E) (start : S → S) {g : Ghosts M S O E R W} (first : S) (all : List (Pass M S O E R W g)) (state : S) : Type 0 where
     pub log : List (Turn E)
-    pub replayed : state ≡ replay after begun log
+    pub replayed : state ≡ replay after first log
+    pub begun : start state ≡ start first
     pub keeps : kept state ≡ entries log
-    pub legal : IsLegal logs after begun log
+    pub legal : IsLegal logs after first log
     pub made : All (HasMade log) all
     pub others : (n : ℕ) → All (λ pass. number pass ≢ n) all → entries_by n log ≡ []

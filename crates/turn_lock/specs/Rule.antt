@@ -85,11 +85,13 @@ module _ {S E : Type 0} where
     pub named : tickets v ≤ counted v
     pub stands : StandsIn log served waiting v.stage
 
+  -- no seat is served: none is between the load that found its ticket and the step that serves the next one
+  abbrev pub NoneServed : List (View S E) → Type 0
+  NoneServed views = (j : ℕ) (v : View S E) → get_elem? views j ≡ some v → is_serving v.stage ≡ false
+
   -- the value is at home and no seat is served, or a seat that is served has it
   abbrev pub Slot : S → List (Option S) → List (View S E) → Type 0
-  Slot value homes views =
-      ((homes ≡ some value ∷ []) × ((j : ℕ) (v : View S E) → get_elem? views j ≡ some v → is_serving v.stage ≡ false))
-      ⊎ ((homes ≡ none ∷ []) × ((j : ℕ) × (v : View S E) × (get_elem? views j ≡ some v) × (is_serving v.stage ≡ true)))
+  Slot value homes views = ((homes ≡ some value ∷ []) × NoneServed views) ⊎ ((homes ≡ none ∷ []) × ((j : ℕ) × (v : View S E) × (get_elem? views j ≡ some v) × (is_serving v.stage ≡ true)))
 
   -- the view of the first seat
   abbrev pub opening_view : S → ℕ → View S E

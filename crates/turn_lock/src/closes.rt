@@ -43,7 +43,7 @@ impl<M: Machine> TurnLock<M> {
     pub fn close(self, pass: Pass<M>, others: Passes<M>) -> M::State
         requires lock { IsPassOf self pass × All (IsPassOf self) (passes others) }
         requires all { held pass + sum_by held (passes others) ≡ seat_count self }
-        ensures { IsWhole M.logs M.after M.kept (first self) (pass ∷ passes others) result }
+        ensures { IsWhole M.logs M.after M.kept M.start (first self) (pass ∷ passes others) result }
     {
         let Passes { mut items } = others;
         let Pass {

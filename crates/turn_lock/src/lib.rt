@@ -2,6 +2,7 @@
 #![tactic(auto)]
 
 mod closes;
+mod laws;
 mod lock;
 mod machine;
 mod makes;
@@ -11,6 +12,7 @@ mod tests;
 mod turns;
 mod view;
 
+pub use laws::free_turn;
 pub use lock::{Pass, Passes, TurnLock};
 pub use machine::Machine;
 pub use view::Turn;

@@ -82,6 +82,7 @@ impl<M: Machine> TurnLock<M> {
         ensures reply { IfOk result (λ r. WithLast (seen pass.new) (λ before last. r ≡ (M.after (replay M.after (first self.now) before) last.entry).1)) }
         ensures made { OnOk result (WithLast (seen pass.new) (λ before last. entries_by (number pass.old) (seen pass.new) ≡ entries_by (number pass.old) (seen pass.old) ++ last.entry ∷ [])) }
         ensures own { OnOk result (WithLast (seen pass.new) (λ before last. M.own (replay M.after (first self.now) before) (number pass.old) ≡ own_known M.after M.own self.now pass.old)) }
+        ensures left { OnOk result (WithLast (seen pass.new) (λ before last. own_known M.after M.own self.now pass.new ≡ M.own (M.after (replay M.after (first self.now) before) last.entry).0 (number pass.old))) }
         ensures no_memory { OnErr result (seen pass.new ≡ seen pass.old) }
     {
         let number = pass.number;

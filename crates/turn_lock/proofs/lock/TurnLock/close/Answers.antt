@@ -32,8 +32,8 @@ returns g c =
     let key = c.args.self.table.shared.key in let values = c.close_with-closed.ensures.values.2 in let s = values.0 in let r = values.1.0 in let at = values.1.1 in let v = c.loop-other.seat.me.0 in
     let none_left : c.loop-other.items.items ≡ [] = empty_is c.loop-other.items.items (search rules) in
     let claims = ap (λ l. claims_in l ++ v.claims) (sym none_left) ∙ c.loop-other.invariant.claims in
-    let end = whole g.M.Machine.logs g.M.Machine.after g.M.Machine.kept key.first.value key.seats s r c.loop-other.seat.id v c.args.pass c.args.others.items.items at claims c.requires.all in
+    let end = whole g.M.Machine.logs g.M.Machine.after g.M.Machine.kept g.M.Machine.start g.met.M.Machine.starts key.first.value key.seats s r c.loop-other.seat.id v c.args.pass c.args.others.items.items at claims c.requires.all in
     let home = closes g.M.Machine.logs g.M.Machine.after g.M.Machine.kept key.first.value key.seats s r c.loop-other.seat.id v at c.loop-other.invariant.idle end.0 in
     let there = values.4 0 _ (ap (λ l. get_elem? l 0) home) in
     let result = some-injective _ _ (sym there ∙ c.take-state.ensures.value) in
-    subst (IsWhole g.M.Machine.logs g.M.Machine.after g.M.Machine.kept key.first.value (c.args.pass ∷ c.args.others.items.items)) result end.1
+    subst (IsWhole g.M.Machine.logs g.M.Machine.after g.M.Machine.kept g.M.Machine.start key.first.value (c.args.pass ∷ c.args.others.items.items)) result end.1

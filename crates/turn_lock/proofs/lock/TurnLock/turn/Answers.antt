@@ -2,7 +2,7 @@ use Rattle.std.proofs.Common.{◌≡◌, ◌++◌, ◌∷◌, [], length, refl, 
 use mathlib.Core.List.{IsPrefix}
 use Rattle.turn_lock.specs.History.{entries_by, replay}
 use Rattle.turn_lock.specs.Views.{seen_by, numbers_of}
-use Rattle.turn_lock.proofs.Turned.{fresh_stays, made_one, on_last}
+use Rattle.turn_lock.proofs.Turned.{fresh_stays, left_with, made_one, on_last}
 use Rattle.turn_lock.proofs.lock.TurnLock.turn.Goals as goal
 
 pub invariant_of-pass : goal.invariant_of-pass
@@ -39,3 +39,10 @@ returns-clause-made g c = on_last g.M.Machine.logs g.M.Machine.after g.M.Machine
     (λ r before last. entries_by c.args.pass.now.number (seen_by c.serve.new.seat.me.0.claims) ≡ entries_by c.args.pass.now.number (seen_by c.args.pass.now.seat.me.0.claims) ++ last.entry ∷ [])
     (λ r s. made_one g.M.Machine.logs g.M.Machine.after g.M.Machine.own c.args.self.now.table.shared.key.first.value c.args.pass.now.number c.args.pass.now.end (numbers_of c.args.pass.now.seat.me.0.claims) c.args.op r
     (seen_by c.args.pass.now.seat.me.0.claims) (seen_by c.serve.new.seat.me.0.claims) c.args.pass.now.some c.args.pass.now.numbers s) c.serve.result c.serve.ensures.served
+
+pub returns-clause-left : goal.returns-clause-left
+returns-clause-left g c = on_last g.M.Machine.logs g.M.Machine.after g.M.Machine.own c.args.self.now.table.shared.key.first.value c.args.pass.now.number (numbers_of c.args.pass.now.seat.me.0.claims) c.args.op (seen_by c.args.pass.now.seat.me.0.claims) (seen_by c.serve.new.seat.me.0.claims)
+    (λ r before last. g.M.Machine.own (replay g.M.Machine.after c.args.self.now.table.shared.key.first.value (seen_by c.serve.new.seat.me.0.claims)) c.args.pass.now.number
+    ≡ g.M.Machine.own (g.M.Machine.after (replay g.M.Machine.after c.args.self.now.table.shared.key.first.value before) last.entry).0 c.args.pass.now.number)
+    (λ r s. left_with g.M.Machine.logs g.M.Machine.after g.M.Machine.own c.args.self.now.table.shared.key.first.value c.args.pass.now.number (numbers_of c.args.pass.now.seat.me.0.claims) c.args.op r
+    (seen_by c.args.pass.now.seat.me.0.claims) (seen_by c.serve.new.seat.me.0.claims) s) c.serve.result c.serve.ensures.served
