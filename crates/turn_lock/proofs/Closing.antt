@@ -1,7 +1,8 @@
 -- What the claims of all passes say of the whole history.
 use Rattle.std.proofs.Common.{◌≡◌, ℕ, ◌+◌, ◌-◌, ◌<◌, ◌≤◌, ◌≢◌, suc, List, [], ◌∷◌, ◌++◌, length, set, sym, refl, ap, ◌∙◌, subst, lt_of_not-le, arith, append_assoc, append-nil}
-use Rattle.std.specs.List.{All, flat_map, sum_by, range_with_len}
+use Rattle.std.specs.List.{All, AllPairs, flat_map, sum_by, range_with_len}
 use Rattle.std.proofs.lemmas.List.Elements.{All-nil, All-cons, All-tail}
+use Rattle.std.proofs.lemmas.List.Kept.{AllPairs-cons}
 use Rattle.std.proofs.lemmas.List.Sums.{sum_by-cons}
 use Rattle.std.proofs.lemmas.Grind.{flat_map-append}
 use Rattle.std.proofs.lemmas.Bool.Decides.{nat_tests}
@@ -22,7 +23,7 @@ use Rattle.turn_lock.specs.Rule.{total, times, counted, has, IsClaim, Rule}
 use Rattle.turn_lock.specs.Steps.{spent}
 use Rattle.turn_lock.specs.Views.{seen_by, numbers_of}
 use Rattle.turn_lock.specs.Locks.{number, held, HasMade, IsWhole}
-use Rattle.turn_lock.proofs.Totals.{total_set, total_append, total_le, times_range, length_range}
+use Rattle.turn_lock.proofs.Totals.{total_one, total_set, total_append, total_le, times_range, length_range}
 use Rattle.turn_lock.proofs.Histories.{start_stays}
 use Rattle.turn_lock.proofs.Turned.{only_one}
 
@@ -96,13 +97,32 @@ module _ {M S O E R W : Type 0} {g : Ghosts M S O E R W} where
   sizes_are [] = refl
   sizes_are (p ∷ ps) = let one = one_of p in let a = size_is p one.0 one.1 in let b = sizes_are ps in let d = total_append (λ (c : Claim E). length c.numbers) (claims_of p) (claims_in ps) in let e = sum_by-cons held p ps in omega arith
 
+  -- a pass's number is among the numbers of its claim
+  own_number : (p : Pass M S O E R W g) (c : Claim E) → claims_of p ≡ c ∷ [] → 0 < times (number p) c.numbers
+  own_number p c is = let some_number = p.some in let there : 0 < times p.number (range_with_len p.number (p.end - p.number)) = (let a = times_range p.number p.number (p.end - p.number) in grind (arith, nat_tests)) in
+      subst (λ (l : List ℕ). 0 < times p.number l) (sym (sym (ap (λ (l : List (Claim E)). numbers_of l) is) ∙ p.numbers)) there
+
+  own_often : (p : Pass M S O E R W g) (c : Claim E) → claims_of p ≡ c ∷ [] → 0 < often (number p) (claims_of p)
+  own_often p c is = let a = own_number p c is in let b = ap (often (number p)) is in omega arith
+
+  -- passes that have a number nowhere have another
+  others_differ : (n : ℕ) (ps : List (Pass M S O E R W g)) → often n (claims_in ps) ≡ 0 → All (λ q. n ≢ number q) ps
+  others_differ n [] none = All-nil (λ q. n ≢ number q)
+  others_differ n (q ∷ qs) none = let one = one_of q in let a = total_append (λ (c : Claim E). times n c.numbers) (claims_of q) (claims_in qs) in
+      All-cons (λ q. n ≢ number q) q qs (λ is. let b : 0 < often n (claims_of q) = subst (λ (m : ℕ). 0 < often m (claims_of q)) (sym is) (own_often q one.0 one.1) in omega arith) (others_differ n qs (omega arith))
+
+  -- where no number is there twice, no two passes have one number
+  all_apart : (ps : List (Pass M S O E R W g)) → ((n : ℕ) → often n (claims_in ps) ≤ 1) → AllPairs (λ p q. number p ≢ number q) ps
+  all_apart [] once = λ i j d l m. absurd (omega arith)
+  all_apart (p ∷ ps) once = let one = one_of p in let a = own_often p one.0 one.1 in let b = once (number p) in let e = total_append (λ (c : Claim E). times (number p) c.numbers) (claims_of p) (claims_in ps) in
+      AllPairs-cons (λ p q. number p ≢ number q) p ps (others_differ (number p) ps (omega arith))
+      (all_apart ps (λ n. let c = once n in let d = total_append (λ (c : Claim E). times n c.numbers) (claims_of p) (claims_in ps) in omega arith))
+
   made_by : (log : List (Turn E)) (p : Pass M S O E R W g) (c : Claim E) → claims_of p ≡ c ∷ [] → AllClaims log (claims_of p) → HasMade log p
   made_by log p c is all =
       let claim = all 0 c (ap (λ (l : List (Claim E)). get_elem? l 0) is) in
-      let numbers : c.numbers ≡ range_with_len p.number (p.end - p.number) = sym (ap (λ (l : List (Claim E)). numbers_of l) is) ∙ p.numbers in
-      let some_number = p.some in let there : 0 < times p.number (range_with_len p.number (p.end - p.number)) = (let a = times_range p.number p.number (p.end - p.number) in grind (arith, nat_tests)) in
       subst (λ (l : List (Claim E)). IsPrefix (seen_by l) log × (entries_by p.number log ≡ entries_by p.number (seen_by l))) (sym is)
-      (claim.0, claim.1 p.number (subst (λ (l : List ℕ). 0 < times p.number l) (sym numbers) there))
+      (claim.0, claim.1 p.number (own_number p c is))
 
   all_made : (log : List (Turn E)) (ps : List (Pass M S O E R W g)) → AllClaims log (claims_in ps) → All (HasMade log) ps
   all_made log [] all = All-nil (HasMade log)
@@ -143,6 +163,8 @@ module _ {M S O E R W : Type 0} {g : Ghosts M S O E R W} where
             begun = start_stays logs after start starts first r.log r.legal;
             keeps = r.keeps;
             legal = r.legal;
+            apart = all_apart (pass ∷ others) (λ n. let a = ap (often n) claims in let b = total_append (λ (c : Claim E). times n c.numbers) (claims_in others) (claims_of pass) in
+                let d = total_append (λ (c : Claim E). times n c.numbers) (claims_of pass) (claims_in others) in let e = total_one (has n) s.views id v at in let f = r.once n in let h : total (has n) s.views ≤ 1 = grind (arith, nat_tests) in omega arith);
             made = All-cons (HasMade r.log) pass others (made_by r.log pass one.0 one.1 right) (all_made r.log others left);
             others = λ n other. dite (dec_le seats n)
                 (λ far. r.named n far)

@@ -1,6 +1,6 @@
 -- What a clause says of a lock and of its passes.
 use Rattle.std.specs.Prelude.{ℕ, ◌≡◌, ◌≢◌, ◌+◌, ◌-◌, List, [], Some, vec_capacity, vec_len}
-use Rattle.std.specs.List.{All}
+use Rattle.std.specs.List.{All, AllPairs}
 use mathlib.Core.List.{IsPrefix}
 use Rattle.turn_lock.specs.declared.machine.Machine.{Ghosts}
 use Rattle.turn_lock.specs.declared.lock.TurnLock.{TurnLock}
@@ -63,5 +63,6 @@ module _ {M S O E R W : Type 0} where
     pub begun : start state ≡ start first
     pub keeps : kept state ≡ entries log
     pub legal : IsLegal logs after first log
+    pub apart : AllPairs (λ p q. number p ≢ number q) all
     pub made : All (HasMade log) all
     pub others : (n : ℕ) → All (λ pass. number pass ≢ n) all → entries_by n log ≡ []
