@@ -32,6 +32,10 @@ module _ {M S O E R W : Type 0} where
     abbrev pub seen : Pass M S O E R W g → List (Turn E)
     seen pass = seen_by pass.seat.me.0.claims
 
+    -- the entries that were made under its number
+    abbrev pub own_entries : Pass M S O E R W g → List E
+    own_entries pass = entries_by (number pass) (seen pass)
+
     -- how many numbers it has, its own and those that it has to give away
     abbrev pub held : Pass M S O E R W g → ℕ
     held pass = spare pass + 1
@@ -54,7 +58,7 @@ module _ {M S O E R W : Type 0} where
 
     -- a pass's history begins the whole one, in which the entries of its number are those that it made
     abbrev pub HasMade : List (Turn E) → Pass M S O E R W g → Type 0
-    HasMade log pass = IsPrefix (seen pass) log × (entries_by (number pass) log ≡ entries_by (number pass) (seen pass))
+    HasMade log pass = IsPrefix (seen pass) log × (entries_by (number pass) log ≡ own_entries pass)
 
   -- a state is the replay of a whole history, and keeps its entries. The history has the entries that these passes made, and no others
   pub record IsWhole (logs : S → ℕ → O → E → Type 0) (after : S → E → S × R) (kept : S → List E) (start : S → S) {g : Ghosts M S O E R W} (first : S) (all : List (Pass M S O E R W g)) (state : S) : Type 0 where

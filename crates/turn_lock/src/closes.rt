@@ -19,11 +19,11 @@ impl<M: Machine> Passes<M> {
     }
 
     /// Makes room for `more` further passes, and changes nothing else.
-    pub fn reserve(&mut self, more: usize) -> Result<(), NoMemory>
+    pub fn reserve(&mut self, more: u64) -> Result<(), NoMemory>
         ensures passes { passes self.new ≡ passes self.old }
         ensures room { OnOk result (more ≤ room self.new) }
     {
-        self.items.reserve(more)
+        self.items.reserve(more as usize)
     }
 
     /// Adds a pass, for which there has to be room.

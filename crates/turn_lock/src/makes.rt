@@ -1,7 +1,6 @@
 //! How a lock is made, and how its passes are split.
 ghost use Rattle.std.specs.Prelude.{◌≡◌, ◌+◌, ◌<◌, [], IfOk};
-ghost use Rattle.turn_lock.specs.History.{entries_by};
-ghost use Rattle.turn_lock.specs.Locks.{first, seat_count, number, spare, seen, IsPassOf};
+ghost use Rattle.turn_lock.specs.Locks.{first, seat_count, number, spare, seen, own_entries, IsPassOf};
 
 use crate::lock::{Pass, TurnLock};
 use crate::machine::Machine;
@@ -52,7 +51,7 @@ impl<M: Machine> TurnLock<M> {
         ensures first { (number result.0 ≡ number pass) × (spare result.0 ≡ 0) }
         ensures second { (number result.1 ≡ number pass + 1) × (spare result.1 + 1 ≡ spare pass) }
         ensures seen { (seen result.0 ≡ seen pass) × (seen result.1 ≡ seen pass) }
-        ensures unused { entries_by (number result.1) (seen pass) ≡ [] }
+        ensures unused { own_entries result.1 ≡ [] }
     {
         let Pass {
             mut seat,

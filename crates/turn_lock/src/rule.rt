@@ -5,6 +5,7 @@ use atomic_table::{Join, Play, Seat, Split, Table, TableRule};
 use std::alloc::Global;
 use std::marker::PhantomData;
 
+/// The rule.
 pub struct Turning<M> {
     machine: PhantomData<M>,
 }
@@ -29,6 +30,7 @@ pub type Board<M: Machine> = Table<
 /// A seat at that table.
 pub type Place<M: Machine> = Seat<M::State, View<M::State, M::Entry>>;
 
+/// Draws a ticket.
 pub struct Draw;
 
 impl<S, E> Play<S, View<S, E>> for Draw {
@@ -37,6 +39,7 @@ impl<S, E> Play<S, View<S, E>> for Draw {
     ghost then = { drew };
 }
 
+/// Reads the ticket that is served, and takes the slot where it is the seat's.
 pub struct Look<M> {
     machine: PhantomData<M>,
 }
@@ -47,6 +50,7 @@ impl<M: Machine> Play<M::State, View<M::State, M::Entry>> for Look<M> {
     ghost then = { looked M.logs M.after M.kept };
 }
 
+/// Serves the next ticket, and adds the turn to the history.
 pub struct Add<M> {
     machine: PhantomData<M>,
 }
@@ -57,6 +61,7 @@ impl<M: Machine> Play<M::State, View<M::State, M::Entry>> for Add<M> {
     ghost then = { added M.kept };
 }
 
+/// Serves the next ticket after a step that found no memory.
 pub struct Skip;
 
 impl<S, E> Play<S, View<S, E>> for Skip {
@@ -65,6 +70,7 @@ impl<S, E> Play<S, View<S, E>> for Skip {
     ghost then = { skipped };
 }
 
+/// Splits off the numbers after the first.
 pub struct Cut;
 
 impl<S, E> Split<View<S, E>> for Cut {
@@ -75,6 +81,7 @@ impl<S, E> Split<View<S, E>> for Cut {
     ghost right = { later_part };
 }
 
+/// Joins the claims of two seats.
 pub struct Glue;
 
 impl<S, E> Join<View<S, E>> for Glue {

@@ -1,11 +1,11 @@
 //! How a pass takes its turn.
 ghost use Rattle.std.specs.Prelude.{◌≡◌, ℕ, ◌<◌, [], ◌∷◌, ◌++◌, true, length, slice_index, IfOk, OnOk, OnErr, IsOk};
 ghost use mathlib.Core.List.{IsPrefix};
-ghost use Rattle.turn_lock.specs.History.{entries_by, replay, IsLegal, WithLast};
+ghost use Rattle.turn_lock.specs.History.{replay, IsLegal, WithLast};
 ghost use Rattle.turn_lock.specs.Rule.{counted, is_idle};
 ghost use Rattle.turn_lock.specs.Steps.{Enters};
 ghost use Rattle.turn_lock.specs.Views.{seen_by, numbers_of, Served};
-ghost use Rattle.turn_lock.specs.Locks.{first, number, spare, seen, IsPassOf, own_known};
+ghost use Rattle.turn_lock.specs.Locks.{first, number, spare, seen, own_entries, IsPassOf, own_known};
 
 use crate::lock::{Pass, TurnLock};
 use crate::machine::Machine;
@@ -80,7 +80,7 @@ impl<M: Machine> TurnLock<M> {
         ensures legal { OnOk result (IsLegal M.logs M.after (first self.now) (seen pass.new)) }
         ensures entry { OnOk result (WithLast (seen pass.new) (λ before last. M.logs (replay M.after (first self.now) before) (number pass.old) op last.entry)) }
         ensures reply { IfOk result (λ r. WithLast (seen pass.new) (λ before last. r ≡ (M.after (replay M.after (first self.now) before) last.entry).1)) }
-        ensures made { OnOk result (WithLast (seen pass.new) (λ before last. entries_by (number pass.old) (seen pass.new) ≡ entries_by (number pass.old) (seen pass.old) ++ last.entry ∷ [])) }
+        ensures made { OnOk result (WithLast (seen pass.new) (λ before last. own_entries pass.new ≡ own_entries pass.old ++ last.entry ∷ [])) }
         ensures own { OnOk result (WithLast (seen pass.new) (λ before last. M.own (replay M.after (first self.now) before) (number pass.old) ≡ own_known M.after M.own self.now pass.old)) }
         ensures left { OnOk result (WithLast (seen pass.new) (λ before last. own_known M.after M.own self.now pass.new ≡ M.own (M.after (replay M.after (first self.now) before) last.entry).0 (number pass.old))) }
         ensures no_memory { OnErr result (seen pass.new ≡ seen pass.old) }
