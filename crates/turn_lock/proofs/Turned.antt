@@ -9,6 +9,7 @@ use Rattle.atomic_table.specs.Table.{rest, step, Allows}
 use Rattle.turn_lock.specs.declared.view.Turn.{Turn}
 use Rattle.turn_lock.specs.declared.view.Claim.{Claim}
 use Rattle.turn_lock.specs.declared.view.View.{View}
+use Rattle.turn_lock.specs.declared.view.Stage.{Stage}
 use Rattle.turn_lock.specs.declared.view.Stage.TheVariants.{Idle, Serving}
 use Rattle.turn_lock.specs.Steps.{Sat, Enters, added, skipped, with_turn}
 use Rattle.turn_lock.specs.History.{turn_of, entries, entries_by, replay, IsLegal, WithLast}
@@ -34,6 +35,10 @@ module _ {S O E R W : Type 0} (logs : S → ℕ → O → E → Type 0) (after :
       ap (λ (h : List (Turn E)). own (replay after first h) n) (sym is)
       ∙ (ap (λ (s : S). own s n) (replay_append logs after first c.seen later)
       ∙ own_stays logs after own others n (replay after first c.seen) later (legal_later logs after first c.seen later (subst (IsLegal logs after first) (sym is) legal)) none_made)
+
+-- the seat that waited has entered
+pub waited : {S O E R : Type 0} (logs : S → ℕ → O → E → Type 0) (after : S → E → S × R) (kept : S → List E) (k : ℕ) (v : View S E) (stage : Stage E) (m : Sat S E) → Enters logs after kept k (staged v stage) m → Enters logs after kept k v m
+waited logs after kept k v stage m e = record { log = e.log; value = e.value; seat = e.seat; replayed = e.replayed; keeps = e.keeps; claims = e.claims }
 
 -- the seat that has entered, by its parts
 pub ready : {S E : Type 0} (v : View S E) (m : Sat S E) (k : ℕ) (log : List (Turn E)) (y first : S) (c : Claim E) (now x : S) → m ≡ (staged v (Serving k log), (0, y) ∷ []) → v.first ≡ Some first → v.claims ≡ c ∷ []
@@ -67,22 +72,22 @@ module _ {S O E R W : Type 0} (logs : S → ℕ → O → E → Type 0) (after :
   Hist = List (Turn E)
 
   abbrev log : Hist
-  log = entered.0
+  log = entered.log
 
   abbrev y : S
-  y = entered.1
+  y = entered.value
 
   claim : (c : Claim E) × (v.claims ≡ c ∷ [])
   claim = only_one v.claims one
 
   is_claim : (c : Claim E) → v.claims ≡ c ∷ [] → IsClaim log c
-  is_claim c e = entered.5 0 c (ap (λ (l : List (Claim E)). get_elem? l 0) e)
+  is_claim c e = entered.claims 0 c (ap (λ (l : List (Claim E)). get_elem? l 0) e)
 
   replayed : (y ≡ replay after first log) × IsLegal logs after first log
-  replayed = entered.3 first begun
+  replayed = entered.replayed first begun
 
   parts : (c : Claim E) → v.claims ≡ c ∷ [] → (x : S) → (m.0.stage ≡ Serving k log) × (m.0.first ≡ Some first) × (m.0.claims ≡ c ∷ []) × ((0, x) ∷ rest m.1 ≡ (0, x) ∷ []) × (now ≡ y)
-  parts c e x = ready v m k log y first c now x entered.2 begun e slot
+  parts c e x = ready v m k log y first c now x entered.seat begun e slot
 
   first_of : (c : Claim E) → v.claims ≡ c ∷ [] → get_or c.numbers 0 0 ≡ n
   first_of c e = sym (ap (λ (l : List (Claim E)). get_or (numbers_of l) 0 0) e) ∙ named
@@ -105,7 +110,7 @@ module _ {S O E R W : Type 0} (logs : S → ℕ → O → E → Type 0) (after :
 
   module _ (state : S) (op : O) (e : E) (r : R) (logged : logs now n op e) (did : (state, r) ≡ after now e) where
     facts : (c : Claim E) → v.claims ≡ c ∷ [] → (state ≡ (after (replay after first log) e).0) × logs (replay after first log) n op e × (kept state ≡ entries log ++ e ∷ []) × (r ≡ (after (replay after first log) e).1)
-    facts c is = wrote logs after kept keeps (replay after first log) now y state n op e r log (parts c is now).4 replayed.0 logged did entered.4
+    facts c is = wrote logs after kept keeps (replay after first log) now y state n op e r log (parts c is now).4 replayed.0 logged did entered.keeps
 
     -- the seat may leave with the entry
     pub leaves_with : (seats slots id : ℕ) → Allows (Rule logs after kept first seats) slots id (m.0, (0, state) ∷ rest m.1) 1 (λ x. (x + 1) % 2 ^ 64) (added kept (step slots 1 1 0 none) (m.0, (0, state) ∷ rest m.1))

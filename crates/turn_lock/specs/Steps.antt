@@ -51,11 +51,13 @@ module _ {S E : Type 0} where
 
 module _ {S O E R : Type 0} (logs : S → ℕ → O → E → Type 0) (after : S → E → S × R) (kept : S → List E) where
   -- the seat with the ticket k took the slot, whose value is the replay of the whole history
-  abbrev pub Enters : ℕ → View S E → Sat S E → Type 0
-  Enters k v n = (log : List (Turn E)) × (y : S) × (n ≡ (staged v (Serving k log), (0, y) ∷ []))
-      × ((s : S) → v.first ≡ Some s → (y ≡ replay after s log) × IsLegal logs after s log)
-      × (kept y ≡ entries log)
-      × ((i : ℕ) (c : Claim E) → get_elem? v.claims i ≡ some c → IsClaim log c)
+  pub record Enters (k : ℕ) (v : View S E) (n : Sat S E) : Type 0 where
+    pub log : List (Turn E)
+    pub value : S
+    pub seat : n ≡ (staged v (Serving k log), (0, value) ∷ [])
+    pub replayed : (s : S) → v.first ≡ Some s → (value ≡ replay after s log) × IsLegal logs after s log
+    pub keeps : kept value ≡ entries log
+    pub claims : (i : ℕ) (c : Claim E) → get_elem? v.claims i ≡ some c → IsClaim log c
 
   -- nothing changed where the ticket is not served, and else the seat entered
   abbrev pub looked : Step S → Sat S E → ℕ → Sat S E → Type 0
