@@ -27,10 +27,12 @@ use Rattle.turn_lock.proofs.Totals.{total_one, total_set, total_append, total_le
 use Rattle.turn_lock.proofs.Histories.{start_stays}
 use Rattle.turn_lock.proofs.Turned.{only_one}
 
+-- a fact of each element is one of the last
 last_of_all : {A : Type 0} (P : A → Type 0) (xs : List A) (x : A) → All P (xs ++ x ∷ []) → P x
 last_of_all P [] x h = h 0 x (omega arith)
 last_of_all P (y ∷ ys) x h = last_of_all P ys x (All-tail P y (ys ++ x ∷ []) h)
 
+-- and of each before it
 front_of_all : {A : Type 0} (P : A → Type 0) (xs : List A) (x : A) → All P (xs ++ x ∷ []) → All P xs
 front_of_all P [] x h = All-nil P
 front_of_all P (y ∷ ys) x h = All-cons P y ys (h 0 y (omega arith)) (front_of_all P ys x (All-tail P y (ys ++ x ∷ []) h))
@@ -39,6 +41,7 @@ front_of_all P (y ∷ ys) x h = All-cons P y ys (h 0 y (omega arith)) (front_of_
 pub all_parts : {A : Type 0} (P : A → Type 0) (items xs : List A) (x : A) → items ≡ xs ++ x ∷ [] → All P items → P x × All P xs
 all_parts P items xs x is h = let parts = subst (All P) is h in (last_of_all P xs x parts, front_of_all P xs x parts)
 
+-- a list of no length is empty
 pub empty_is : {A : Type 0} (xs : List A) → length xs ≡ 0 → xs ≡ []
 empty_is [] e = refl
 empty_is (x ∷ xs) e = absurd (omega arith)
@@ -53,16 +56,20 @@ module _ {E : Type 0} where
   abbrev AllClaims : List (Turn E) → List (Claim E) → Type 0
   AllClaims log cs = (i : ℕ) (c : Claim E) → get_elem? cs i ≡ some c → IsClaim log c
 
+  -- claims of two lists are claims of the first
   claims_left : (log : List (Turn E)) (xs ys : List (Claim E)) → AllClaims log (xs ++ ys) → AllClaims log xs
   claims_left log xs ys h i c e = h i c (at_longer xs ys i c e)
 
+  -- and of the second
   claims_right : (log : List (Turn E)) (xs ys : List (Claim E)) → AllClaims log (xs ++ ys) → AllClaims log ys
   claims_right log [] ys h = h
   claims_right log (x ∷ xs) ys h = claims_right log xs ys (λ i c e. h (suc i) c e)
 
+  -- how many numbers some claims have
   abbrev sizes : List (Claim E) → ℕ
   sizes cs = total (λ c. length c.numbers) cs
 
+  -- how often they have the number n
   abbrev often : ℕ → List (Claim E) → ℕ
   often n cs = total (λ c. times n c.numbers) cs
 
@@ -87,12 +94,15 @@ module _ {M S O E R W : Type 0} {g : Ghosts M S O E R W} where
   pub claims_move : (items rest : List (Pass M S O E R W g)) (p : Pass M S O E R W g) (vs : List (Claim E)) → items ≡ rest ++ p ∷ [] → claims_in rest ++ (claims_of p ++ vs) ≡ claims_in items ++ vs
   claims_move items rest p vs is = sym (ap (λ l. claims_in l ++ vs) is ∙ (ap (λ l. l ++ vs) (flat_map-append claims_of rest (p ∷ []) ∙ ap (λ l. claims_in rest ++ l) (append-nil (claims_of p))) ∙ append_assoc (claims_in rest) (claims_of p) vs))
 
+  -- a pass has one claim
   one_of : (p : Pass M S O E R W g) → (c : Claim E) × (claims_of p ≡ c ∷ [])
   one_of p = only_one (claims_of p) p.one
 
+  -- its claim has as many numbers as it holds
   size_is : (p : Pass M S O E R W g) (c : Claim E) → claims_of p ≡ c ∷ [] → sizes (claims_of p) ≡ held p
   size_is p c is = let a = ap (λ (l : List (Claim E)). length (numbers_of l)) is in let b = ap (λ (l : List ℕ). length l) p.numbers in let d = length_range p.number (p.end - p.number) in let e = ap sizes is in let some_number : p.number < p.end = p.some in omega arith
 
+  -- so do the claims of all passes
   sizes_are : (ps : List (Pass M S O E R W g)) → sizes (claims_in ps) ≡ sum_by held ps
   sizes_are [] = refl
   sizes_are (p ∷ ps) = let one = one_of p in let a = size_is p one.0 one.1 in let b = sizes_are ps in let d = total_append (λ (c : Claim E). length c.numbers) (claims_of p) (claims_in ps) in let e = sum_by-cons held p ps in omega arith
@@ -102,6 +112,7 @@ module _ {M S O E R W : Type 0} {g : Ghosts M S O E R W} where
   own_number p c is = let some_number = p.some in let there : 0 < times p.number (range_with_len p.number (p.end - p.number)) = (let a = times_range p.number p.number (p.end - p.number) in grind (arith, nat_tests)) in
       subst (λ (l : List ℕ). 0 < times p.number l) (sym (sym (ap (λ (l : List (Claim E)). numbers_of l) is) ∙ p.numbers)) there
 
+  -- and among those of its claims
   own_often : (p : Pass M S O E R W g) (c : Claim E) → claims_of p ≡ c ∷ [] → 0 < often (number p) (claims_of p)
   own_often p c is = let a = own_number p c is in let b = ap (often (number p)) is in omega arith
 
@@ -118,12 +129,14 @@ module _ {M S O E R W : Type 0} {g : Ghosts M S O E R W} where
       AllPairs-cons (λ p q. number p ≢ number q) p ps (others_differ (number p) ps (omega arith))
       (all_apart ps (λ n. let c = once n in let d = total_append (λ (c : Claim E). times n c.numbers) (claims_of p) (claims_in ps) in omega arith))
 
+  -- the entries of a pass are those that its claim has
   made_by : (log : List (Turn E)) (p : Pass M S O E R W g) (c : Claim E) → claims_of p ≡ c ∷ [] → AllClaims log (claims_of p) → HasMade log p
   made_by log p c is all =
       let claim = all 0 c (ap (λ (l : List (Claim E)). get_elem? l 0) is) in
       subst (λ (l : List (Claim E)). IsPrefix (seen_by l) log × (entries_by p.number log ≡ entries_by p.number (seen_by l))) (sym is)
       (claim.0, claim.1 p.number (own_number p c is))
 
+  -- and those of all passes
   all_made : (log : List (Turn E)) (ps : List (Pass M S O E R W g)) → AllClaims log (claims_in ps) → All (HasMade log) ps
   all_made log [] all = All-nil (HasMade log)
   all_made log (p ∷ ps) all = let one = one_of p in All-cons (HasMade log) p ps (made_by log p one.0 one.1 (claims_left log (claims_of p) (claims_in ps) all)) (all_made log ps (claims_right log (claims_of p) (claims_in ps) all))

@@ -11,6 +11,7 @@ use Rattle.turn_lock.specs.declared.view.Turn.{Turn}
 use Rattle.turn_lock.specs.History.{turn_of, entries, entries_by, replay, IsLegal}
 
 module _ {E : Type 0} where
+  -- the entries of a number in two parts of a history
   pub by_append : (n : ℕ) (xs ys : List (Turn E)) → entries_by n (xs ++ ys) ≡ entries_by n xs ++ entries_by n ys
   by_append n xs ys = let p : Turn E → Bool = λ t. eqb t.number n in ap (map (λ (t : Turn E). t.entry)) (filter-append p xs ys) ∙ map-append (λ (t : Turn E). t.entry) (filter p xs) (filter p ys)
 
@@ -22,12 +23,15 @@ module _ {E : Type 0} where
   pub by_same : (n : ℕ) (e : E) (xs : List (Turn E)) → entries_by n (xs ++ turn_of n e ∷ []) ≡ entries_by n xs ++ e ∷ []
   by_same n e xs = by_append n xs (turn_of n e ∷ []) ∙ ap (λ (b : Bool). entries_by n xs ++ map (λ (t : Turn E). t.entry) (cond b (turn_of n e ∷ []) [])) (eq-eqb n n refl)
 
+  -- the entries of two parts of a history
   pub entries_append : (xs ys : List (Turn E)) → entries (xs ++ ys) ≡ entries xs ++ entries ys
   entries_append xs ys = map-append (λ (t : Turn E). t.entry) xs ys
 
+-- a list begins with itself
 pub prefix_all : {A : Type 0} (xs : List A) → IsPrefix xs xs
 prefix_all xs = ([], append-nil xs)
 
+-- what begins a list begins a longer one
 pub prefix_more : {A : Type 0} (xs ys zs : List A) → IsPrefix xs ys → IsPrefix xs (ys ++ zs)
 prefix_more xs ys zs p = (p.0 ++ zs, sym (append_assoc xs p.0 zs) ∙ ap (λ l. l ++ zs) p.1)
 
@@ -39,13 +43,16 @@ module _ {S O E R : Type 0} (logs : S → ℕ → O → E → Type 0) (after : S
   abbrev Hist : Type 0
   Hist = List (Turn E)
 
+  -- the replay of two parts
   pub replay_append : (s : S) (xs ys : Hist) → replay after s (xs ++ ys) ≡ replay after (replay after s xs) ys
   replay_append s xs ys = fold-append (λ (z : S) (t : Turn E). (after z t.entry).0) s xs ys
 
+  -- two legal parts are a legal history
   pub legal_more : (s : S) (xs ys : Hist) → IsLegal logs after s xs → IsLegal logs after (replay after s xs) ys → IsLegal logs after s (xs ++ ys)
   legal_more s [] ys l m = m
   legal_more s (x ∷ xs) ys l m = (l.0, legal_more (after s x.entry).0 xs ys l.1 m)
 
+  -- the later part of a legal history is legal
   pub legal_later : (s : S) (xs ys : Hist) → IsLegal logs after s (xs ++ ys) → IsLegal logs after (replay after s xs) ys
   legal_later s [] ys l = l
   legal_later s (x ∷ xs) ys l = legal_later (after s x.entry).0 xs ys l.1

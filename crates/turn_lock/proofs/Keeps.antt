@@ -37,6 +37,7 @@ at_only : {A : Type 0} (P : ℕ → A → Type 0) (a : A) → P 0 a → (j : ℕ
 at_only P a here zero u e = subst (P 0) (some-injective a u e) here
 at_only P a here (suc j) u e = absurd (some-ne-none u (sym e))
 
+-- lists of one element are equal by it
 the_one : {A : Type 0} (a b : A) → a ∷ [] ≡ b ∷ [] → a ≡ b
 the_one a b e = some-injective a b (ap (λ l. get_elem? l 0) e)
 
@@ -52,16 +53,19 @@ module _ {E : Type 0} where
   whole_of (Waiting t) = []
   whole_of (Serving t whole) = whole
 
+  -- the one idle stage
   idle_is : (st : Stage E) → is_idle st ≡ true → st ≡ Idle
   idle_is Idle h = refl
   idle_is (Waiting t) h = cc
   idle_is (Serving t whole) h = cc
 
+  -- the stage of a seat that is served
   serving_is : (st : Stage E) → is_serving st ≡ true → (t : ℕ) × (whole : List (Turn E)) × (st ≡ Serving t whole)
   serving_is Idle h = cc
   serving_is (Waiting t) h = cc
   serving_is (Serving t whole) h = (t, whole, refl)
 
+  -- a seat that cannot be served is not
   not_serving : (st : Stage E) → (is_serving st ≡ true → ⊥) → is_serving st ≡ false
   not_serving Idle h = refl
   not_serving (Waiting t) h = refl
@@ -149,6 +153,7 @@ module _ {S O E R : Type 0} (logs : S → ℕ → O → E → Type 0) (after : S
   low_next : (n : ℕ) → (n % 18446744073709551616 + 1) % 18446744073709551616 ≡ (n + 1) % 18446744073709551616
   low_next n = mod-add-mod n 18446744073709551616 1
 
+  -- drawing a ticket keeps the rule
   pub draws : (slots id : ℕ) (me : Me S V) → is_idle me.0.stage ≡ true → 0 < counted me.0 → Allows Kept slots id me 0 (λ n. (n + 1) % 2 ^ 64) (drew (step slots 0 1 0 none) me)
   draws slots id me idle some_number s r long at small =
       let k : ℕ = r.served + r.waiting in let v : V = me.0 in let w : V = staged v (Waiting k) in let still = idle_is v.stage idle in let know = r.knows id v at in
@@ -189,9 +194,11 @@ module _ {S O E R : Type 0} (logs : S → ℕ → O → E → Type 0) (after : S
       let wrong : false ≡ true = sym not_yet ∙ (ap (λ (x : V). is_serving x.stage) one ∙ h.1.3) in absurd cc)
       r.slot
 
+  -- a seat waits with one ticket
   same_tickets : (v : V) (k j : ℕ) → v.stage ≡ Waiting k → v.stage ≡ Waiting j → k ≡ j
   same_tickets v k j a b = some-injective k j (sym (ap ticket_of a) ∙ ap ticket_of b)
 
+  -- reading the ticket that is served keeps the rule
   pub looks : (slots id : ℕ) (me : Me S V) (k : ℕ) → me.0.stage ≡ Waiting k → me.1 ≡ [] → Allows Kept slots id me 1 (λ n. n) (looked logs after kept (step slots 1 0 0 none) me)
   looks slots id me k stage empty s r long at small =
       let v : V = me.0 in let know = r.knows id v at in let n : ℕ = get_or s.words 1 0 in let found : n ≡ r.served % 18446744073709551616 = ap (λ (l : List ℕ). get_or l 1 0) r.words in
@@ -273,6 +280,7 @@ module _ {S O E R : Type 0} (logs : S → ℕ → O → E → Type 0) (after : S
   below : (s : St) (r : Kept s) (id n : ℕ) (v : V) → get_elem? s.views id ≡ some v → 0 < has n v → n < seats
   below s r id n v at some_time = let a = total_one (has n) s.views id v at in let b = r.once n in let c : 0 < cond (ltb n seats) 1 0 = omega arith in grind (arith, nat_tests)
 
+  -- nor has another view a number that one has
   alone : (s : St) (r : Kept s) (id j n : ℕ) (v u : V) → get_elem? s.views id ≡ some v → get_elem? s.views j ≡ some u → j ≢ id → 0 < has n v → has n u ≡ 0
   alone s r id j n v u at there other some_time = let a = total_two (has n) s.views id j v u (λ e. other (sym e)) at there in let b = r.once n in let c : cond (ltb n seats) 1 0 ≤ 1 = grind (arith, nat_tests) in omega arith
 
@@ -327,9 +335,11 @@ module _ {S O E R : Type 0} (logs : S → ℕ → O → E → Type 0) (after : S
   part_claims log part fewer claims all i c at = let from = at_mapped (λ (c : Claim E). record { numbers = part c.numbers; seen = c.seen }) claims i c at in let old = all i from.0 from.1 in
       subst (IsClaim log) from.2 (old.0, λ n some_time. let few = fewer n from.0.numbers in old.1 n (omega arith))
 
+  -- an idle seat has no ticket
   no_ticket : (st : Stage E) (t : ℕ) {P : Type 0} → st ≡ Idle → ticket_of st ≡ some t → P
   no_ticket st t is e = absurd (some-ne-none t (sym e ∙ ap ticket_of is))
 
+  -- a split keeps the rule
   pub splits : (id : ℕ) (v : V) → is_idle v.stage ≡ true → Splits Kept id v (first_part v) (later_part v)
   splits id v idle s r at =
       let left : V = first_part v in let right : V = later_part v in let still = idle_is v.stage idle in let know = r.knows id v at in let free : tickets v ≡ 0 = ap tickets_in still in
@@ -366,6 +376,7 @@ module _ {S O E R : Type 0} (logs : S → ℕ → O → E → Type 0) (after : S
             (slot_stays (replay after first r.log) s.homes s.views id v left at refl r.slot);
       }
 
+  -- a join keeps the rule
   pub joins : (id : ℕ) (v : V) (other : ℕ) (w : V) → is_idle v.stage ≡ true → is_idle w.stage ≡ true → Joins Kept id v other w (joined v w) spent
   joins id v other w idle_v idle_w s r at differ there =
       let both : V = joined v w in let vs : List V = set s.views id both in let still_v = idle_is v.stage idle_v in let still_w = idle_is w.stage idle_w in
@@ -398,6 +409,7 @@ module _ {S O E R : Type 0} (logs : S → ℕ → O → E → Type 0) (after : S
         slot = slot_stays (replay after first r.log) s.homes vs other w spent there (sym (ap is_serving still_w)) (slot_stays (replay after first r.log) s.homes s.views id v both at refl r.slot);
       }
 
+  -- the rule holds at the start
   pub opens : kept first ≡ [] → seats < 4294967296 → Kept (opening (0 ∷ 0 ∷ []) (first ∷ []) (opening_view first seats))
   opens empty small = let v : V = opening_view first seats in
       record {

@@ -13,6 +13,7 @@ module _ {A : Type 0} (f : A → ℕ) where
   total_set (x ∷ xs) zero a b e = let is : f x ≡ f a = ap f (some-injective x a e) in omega arith
   total_set (x ∷ xs) (suc i) a b e = let rest = total_set xs i a b e in omega arith
 
+  -- the sum of two lists
   pub total_append : (xs ys : List A) → total f (xs ++ ys) ≡ total f xs + total f ys
   total_append [] ys = omega arith
   total_append (x ∷ xs) ys = let rest = total_append xs ys in omega arith
@@ -31,10 +32,7 @@ module _ {A : Type 0} (f : A → ℕ) where
   total_two (x ∷ xs) (suc i) zero a b n e d = let is : f x ≡ f b = ap f (some-injective x b d) in let rest = total_one xs i a e in omega arith
   total_two (x ∷ xs) (suc i) (suc j) a b n e d = let rest = total_two xs i j a b (λ p. n (ap suc p)) e d in omega arith
 
-  pub total_none : (xs : List A) → ((i : ℕ) (a : A) → get_elem? xs i ≡ some a → f a ≡ 0) → total f xs ≡ 0
-  total_none [] none = refl
-  total_none (x ∷ xs) none = let here = none 0 x refl in let rest = total_none xs (λ i a. none (suc i) a) in omega arith
-
+-- a sum of no larger terms is no larger
 pub total_le : {A : Type 0} (f g : A → ℕ) (xs : List A) → ((i : ℕ) (a : A) → get_elem? xs i ≡ some a → f a ≤ g a) → total f xs ≤ total g xs
 total_le f g [] le = omega arith
 total_le f g (x ∷ xs) le = let here = le 0 x refl in let rest = total_le f g xs (λ i a. le (suc i) a) in omega arith
@@ -49,10 +47,12 @@ pub times_parts : (n : ℕ) (xs : List ℕ) → times n (take 1 xs) + times n (d
 times_parts n [] = refl
 times_parts n (x ∷ xs) = omega arith
 
+-- the first number and the later ones are as many
 pub length_parts : (xs : List ℕ) → length (take 1 xs) + length (drop 1 xs) ≡ length xs
 length_parts [] = refl
 length_parts (x ∷ xs) = omega arith
 
+-- a range has as many numbers as it says
 pub length_range : (a k : ℕ) → length (range_with_len a k) ≡ k
 length_range a zero = refl
 length_range a (suc k) = let rest = length_range (a + 1) k in omega arith

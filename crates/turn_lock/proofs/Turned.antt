@@ -77,24 +77,31 @@ module _ {S O E R W : Type 0} (logs : S → ℕ → O → E → Type 0) (after :
   abbrev y : S
   y = entered.value
 
+  -- the one claim of the pass
   claim : (c : Claim E) × (v.claims ≡ c ∷ [])
   claim = only_one v.claims one
 
+  -- it is a claim of the whole history
   is_claim : (c : Claim E) → v.claims ≡ c ∷ [] → IsClaim log c
   is_claim c e = entered.claims 0 c (ap (λ (l : List (Claim E)). get_elem? l 0) e)
 
+  -- the value is the replay of a legal history
   replayed : (y ≡ replay after first log) × IsLegal logs after first log
   replayed = entered.replayed first begun
 
+  -- the seat by its parts, with x in its slot
   parts : (c : Claim E) → v.claims ≡ c ∷ [] → (x : S) → (m.0.stage ≡ Serving k log) × (m.0.first ≡ Some first) × (m.0.claims ≡ c ∷ []) × ((0, x) ∷ rest m.1 ≡ (0, x) ∷ []) × (now ≡ y)
   parts c e x = ready v m k log y first c now x entered.seat begun e slot
 
+  -- the first number of the claim
   first_of : (c : Claim E) → v.claims ≡ c ∷ [] → get_or c.numbers 0 0 ≡ n
   first_of c e = sym (ap (λ (l : List (Claim E)). get_or (numbers_of l) 0 0) e) ∙ named
 
+  -- it has numbers
   some_of : (c : Claim E) → v.claims ≡ c ∷ [] → 0 < length c.numbers
   some_of c e = subst (λ (l : List (Claim E)). 0 < length (numbers_of l)) e some_number
 
+  -- what the number owns in the replay is what the claim knew
   met_at : (c : Claim E) → v.claims ≡ c ∷ [] → own (replay after first log) n ≡ own (replay after first (seen_by v.claims)) n
   met_at c e = own_met logs after own others first n log c (is_claim c e) (subst (λ (x : ℕ). 0 < times x c.numbers) (first_of c e) (first_there c.numbers (some_of c e))) replayed.1
       ∙ ap (λ (l : List (Claim E)). own (replay after first (seen_by l)) n) (sym e)
@@ -109,6 +116,7 @@ module _ {S O E R W : Type 0} (logs : S → ℕ → O → E → Type 0) (after :
       skips logs after kept first seats slots id (m.0, (0, state) ∷ rest m.1) k log state p.0 p.1 p.3 (same ∙ (p.4 ∙ replayed.0))
 
   module _ (state : S) (op : O) (e : E) (r : R) (logged : logs now n op e) (did : (state, r) ≡ after now e) where
+    -- what the step did to the replay
     facts : (c : Claim E) → v.claims ≡ c ∷ [] → (state ≡ (after (replay after first log) e).0) × logs (replay after first log) n op e × (kept state ≡ entries log ++ e ∷ []) × (r ≡ (after (replay after first log) e).1)
     facts c is = wrote logs after kept keeps (replay after first log) now y state n op e r log (parts c is now).4 replayed.0 logged did entered.keeps
 
@@ -119,6 +127,7 @@ module _ {S O E R W : Type 0} (logs : S → ℕ → O → E → Type 0) (after :
         (subst (λ (x : ℕ). logs (replay after first log) x op e) (sym (first_of c is)) f.1) f.2
 
     module _ (slots found : ℕ) (w : Sat S E) (told : added kept (step slots 1 1 0 none) (m.0, (0, state) ∷ rest m.1) found w) where
+      -- the seat after the turn
       after_it : (c : Claim E) → v.claims ≡ c ∷ [] → w ≡ (record { first = m.0.first; stage = Idle; claims = with_turn c log e ∷ [] }, [])
       after_it c is = let p = parts c is state in told k log c state e p.0 p.2 p.3 (facts c is).2
 
@@ -148,10 +157,6 @@ module _ {S O E R W : Type 0} (logs : S → ℕ → O → E → Type 0) (after :
             met = met_at c is;
           }
 
-first_of_range : (n k : ℕ) → 0 < k → get_or (range_with_len n k) 0 0 ≡ n
-first_of_range n zero h = absurd (omega arith)
-first_of_range n (suc k) h = refl
-
 -- numbers that a pass has to give away stay without entries
 pub fresh_stays : {S O E R W X : Type 0} (logs : S → ℕ → O → E → Type 0) (after : S → E → S × R) (own : S → ℕ → W) (first : S) (n end : ℕ) (op : O) (result : Result R X) (old new : List (Claim E))
     → numbers_of old ≡ range_with_len n (end - n) → ((m : ℕ) → n < m → m < end → length (entries_by m (seen_by old)) ≡ 0)
@@ -161,13 +166,6 @@ fresh_stays logs after own first n end op (Ok r) old new numbers fresh s _ m abo
     let made = s.made m (subst (λ (l : List ℕ). 0 < times m l) (sym numbers) there) in
     ap (λ h. length (entries_by m h)) s.ends ∙ (ap length (by_other m n s.entry s.before (λ e. omega arith)) ∙ (ap length made ∙ fresh m above below))
 fresh_stays logs after own first n end op (Err e) old new numbers fresh _ same m above below = ap (λ l. length (entries_by m (seen_by l))) same ∙ fresh m above below
-
--- the first number of a pass, of which it has some
-pub first_number : (numbers : List ℕ) (n end : ℕ) → n < end → numbers ≡ range_with_len n (end - n) → (0 < length numbers) × (get_or numbers 0 0 ≡ n)
-first_number numbers n end some_number is = (
-  (let a = length_range n (end - n) in let b = ap length is in omega arith),
-  ap (λ (l : List ℕ). get_or l 0 0) is ∙ first_of_range n (end - n) (omega arith),
-)
 
 -- a fact of each turn that replied is one of the history's last turn
 pub on_last : {S O E R W X : Type 0} (logs : S → ℕ → O → E → Type 0) (after : S → E → S × R) (own : S → ℕ → W) (first : S) (n : ℕ) (numbers : List ℕ) (op : O) (old new : List (Turn E)) (P : R → List (Turn E) → Turn E → Type 0)
