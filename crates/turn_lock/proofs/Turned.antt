@@ -12,7 +12,7 @@ use Rattle.turn_lock.specs.declared.view.View.{View}
 use Rattle.turn_lock.specs.declared.view.Stage.{Stage}
 use Rattle.turn_lock.specs.declared.view.Stage.TheVariants.{Idle, Serving}
 use Rattle.turn_lock.specs.Steps.{Sat, Enters, added, skipped, with_turn}
-use Rattle.turn_lock.specs.History.{turn_of, entries, entries_by, replay, IsLegal, WithLast}
+use Rattle.turn_lock.specs.History.{turn_of, entries, entries_by, replay, IsLegal}
 use Rattle.turn_lock.specs.Rule.{times, is_idle, IsClaim, staged, Rule}
 use Rattle.turn_lock.specs.Views.{seen_by, numbers_of, Served}
 use Rattle.turn_lock.proofs.Totals.{times_range, length_range}
@@ -166,12 +166,6 @@ fresh_stays logs after own first n end op (Ok r) old new numbers fresh s _ m abo
     let made = s.made m (subst (λ (l : List ℕ). 0 < times m l) (sym numbers) there) in
     ap (λ h. length (entries_by m h)) s.ends ∙ (ap length (by_other m n s.entry s.before (λ e. omega arith)) ∙ (ap length made ∙ fresh m above below))
 fresh_stays logs after own first n end op (Err e) old new numbers fresh _ same m above below = ap (λ l. length (entries_by m (seen_by l))) same ∙ fresh m above below
-
--- a fact of each turn that replied is one of the history's last turn
-pub on_last : {S O E R W X : Type 0} (logs : S → ℕ → O → E → Type 0) (after : S → E → S × R) (own : S → ℕ → W) (first : S) (n : ℕ) (numbers : List ℕ) (op : O) (old new : List (Turn E)) (P : R → List (Turn E) → Turn E → Type 0)
-    → ((r : R) → (s : Served logs after own first n numbers op r old new) → P r s.before (turn_of n s.entry)) → (result : Result R X) → IfOk result (λ r. Served logs after own first n numbers op r old new) → IfOk result (λ r. WithLast new (P r))
-on_last logs after own first n numbers op old new P f (Ok r) s = (s.before, turn_of n s.entry, s.ends, f r s)
-on_last logs after own first n numbers op old new P f (Err e) s = s
 
 -- the entries of the pass's number are those from before and the new one
 pub made_one : {S O E R W : Type 0} (logs : S → ℕ → O → E → Type 0) (after : S → E → S × R) (own : S → ℕ → W) (first : S) (n end : ℕ) (numbers : List ℕ) (op : O) (r : R) (old new : List (Turn E)) → n < end → numbers ≡ range_with_len n (end - n)

@@ -15,10 +15,6 @@ entries turns = map (λ t. t.entry) turns
 abbrev pub entries_by : {E : Type 0} → ℕ → List (Turn E) → List E
 entries_by n turns = entries (filter (λ t. t.number == n) turns)
 
--- the history has a last turn, and the fact holds of the turns before it and of its entry
-abbrev pub WithLast : {E : Type 0} → List (Turn E) → (List (Turn E) → Turn E → Type 0) → Type 0
-WithLast {E} turns fact = (before : List (Turn E)) × (last : Turn E) × (turns ≡ before ++ last ∷ []) × fact before last
-
 -- the state after all turns of a history, where it was s before
 abbrev pub replay : {S E R : Type 0} → (S → E → S × R) → S → List (Turn E) → S
 replay after s turns = fold (λ s t. (after s t.entry).0) s turns

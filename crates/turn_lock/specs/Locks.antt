@@ -1,5 +1,5 @@
 -- What a clause says of a lock and of its passes.
-use Rattle.std.specs.Prelude.{ℕ, ◌≡◌, ◌≢◌, ◌+◌, ◌-◌, List, [], Some, vec_capacity, vec_len}
+use Rattle.std.specs.Prelude.{ℕ, ◌≡◌, ◌≢◌, ◌+◌, ◌-◌, List, [], ◌∷◌, ◌++◌, Some, vec_capacity, vec_len}
 use Rattle.std.specs.List.{All, AllPairs}
 use mathlib.Core.List.{IsPrefix}
 use Rattle.turn_lock.specs.declared.machine.Machine.{Ghosts}
@@ -7,7 +7,7 @@ use Rattle.turn_lock.specs.declared.lock.TurnLock.{TurnLock}
 use Rattle.turn_lock.specs.declared.lock.Pass.{Pass}
 use Rattle.turn_lock.specs.declared.lock.Passes.{Passes}
 use Rattle.turn_lock.specs.declared.view.Turn.{Turn}
-use Rattle.turn_lock.specs.History.{entries, entries_by, replay, IsLegal}
+use Rattle.turn_lock.specs.History.{turn_of, entries, entries_by, replay, IsLegal}
 use Rattle.turn_lock.specs.Views.{seen_by}
 
 module _ {M S O E R W : Type 0} where
@@ -59,6 +59,23 @@ module _ {M S O E R W : Type 0} where
     -- a pass's history begins the whole one, in which the entries of its number are those that it made
     abbrev pub HasMade : List (Turn E) → Pass M S O E R W g → Type 0
     HasMade log pass = IsPrefix (seen pass) log × (entries_by (number pass) log ≡ own_entries pass)
+
+  -- a turn that replied r: the turns before it and its entry, what it met, and what it left
+  pub record Turned (logs : S → ℕ → O → E → Type 0) (after : S → E → S × R) (own : S → ℕ → W) {g : Ghosts M S O E R W} (lock : TurnLock M S O E R W) (old new : Pass M S O E R W g) (op : O) (r : R) : Type 0 where
+    pub before : List (Turn E)
+    pub entry : E
+    -- the history begins with all that the pass had seen, and ends with its own turn
+    pub begins : IsPrefix (seen old) before
+    pub ends : seen new ≡ before ++ turn_of (number old) entry ∷ []
+    pub legal : IsLegal logs after (first lock) (seen new)
+    -- the entry and the reply are the machine's at that place
+    pub logged : logs (replay after (first lock) before) (number old) op entry
+    pub reply : r ≡ (after (replay after (first lock) before) entry).1
+    -- the entries of the number are those from before and this one
+    pub made : own_entries new ≡ own_entries old ++ entry ∷ []
+    -- what belongs to the number is what the pass knew, and the pass knows what the turn left to it
+    pub met : own (replay after (first lock) before) (number old) ≡ own_known after own lock old
+    pub left : own_known after own lock new ≡ own (after (replay after (first lock) before) entry).0 (number old)
 
   -- a state is the replay of a whole history, and keeps its entries. The history has the entries that these passes made, and no others
   pub record IsWhole (logs : S → ℕ → O → E → Type 0) (after : S → E → S × R) (kept : S → List E) (start : S → S) {g : Ghosts M S O E R W} (first : S) (all : List (Pass M S O E R W g)) (state : S) : Type 0 where

@@ -1,11 +1,10 @@
 //! How a pass takes its turn.
-ghost use Rattle.std.specs.Prelude.{◌≡◌, ℕ, ◌<◌, [], ◌∷◌, ◌++◌, true, length, slice_index, IfOk, OnOk, OnErr, IsOk};
-ghost use mathlib.Core.List.{IsPrefix};
-ghost use Rattle.turn_lock.specs.History.{replay, IsLegal, WithLast};
+ghost use Rattle.std.specs.Prelude.{◌≡◌, ℕ, ◌<◌, [], true, length, slice_index, Some, IfOk, OnErr, IsOk};
+ghost use Rattle.turn_lock.specs.History.{replay};
 ghost use Rattle.turn_lock.specs.Rule.{counted, is_idle};
 ghost use Rattle.turn_lock.specs.Steps.{Enters};
 ghost use Rattle.turn_lock.specs.Views.{seen_by, numbers_of, Served};
-ghost use Rattle.turn_lock.specs.Locks.{first, number, spare, seen, own_entries, IsPassOf, own_known};
+ghost use Rattle.turn_lock.specs.Locks.{first, number, spare, seen, own_known, IsPassOf, Turned};
 
 use crate::lock::{Pass, TurnLock};
 use crate::machine::Machine;
@@ -68,21 +67,15 @@ impl<M: Machine> TurnLock<M> {
 
     /// Waits for its turn, and takes one step of the machine in it.
     ///
-    /// The reply is the machine's after all turns that were taken before, and the pass then knows these and its own.
-    /// Where the step finds no memory the pass is left as it was, and the history has no turn more.
+    /// The reply is the machine's after all turns that were taken before, and the pass then knows these and its own (`Turned`).
+    /// `Err` is want of memory: the pass is left as it was, and the history has no turn more.
     pub fn turn<R: Wait>(&self, rt: &R, pass: &mut Pass<M>, op: M::Op) -> Result<M::Reply, NoMemory>
         requires lock { IsPassOf self.now pass.old }
         requires may { M.may (own_known M.after M.own self.now pass.old) op }
         ensures lock { IsPassOf self.now pass.new }
         ensures numbers { (number pass.new ≡ number pass.old) × (spare pass.new ≡ spare pass.old) }
         ensures sure { M.sure (own_known M.after M.own self.now pass.old) op → IsOk result }
-        ensures history { OnOk result (WithLast (seen pass.new) (λ before last. IsPrefix (seen pass.old) before × (last.number ≡ number pass.old))) }
-        ensures legal { OnOk result (IsLegal M.logs M.after (first self.now) (seen pass.new)) }
-        ensures entry { OnOk result (WithLast (seen pass.new) (λ before last. M.logs (replay M.after (first self.now) before) (number pass.old) op last.entry)) }
-        ensures reply { IfOk result (λ r. WithLast (seen pass.new) (λ before last. r ≡ (M.after (replay M.after (first self.now) before) last.entry).1)) }
-        ensures made { OnOk result (WithLast (seen pass.new) (λ before last. own_entries pass.new ≡ own_entries pass.old ++ last.entry ∷ [])) }
-        ensures own { OnOk result (WithLast (seen pass.new) (λ before last. M.own (replay M.after (first self.now) before) (number pass.old) ≡ own_known M.after M.own self.now pass.old)) }
-        ensures left { OnOk result (WithLast (seen pass.new) (λ before last. own_known M.after M.own self.now pass.new ≡ M.own (M.after (replay M.after (first self.now) before) last.entry).0 (number pass.old))) }
+        ensures turned { IfOk result (λ r. Turned M.logs M.after M.own self.now pass.old pass.new op r) }
         ensures no_memory { OnErr result (seen pass.new ≡ seen pass.old) }
     {
         let number = pass.number;
