@@ -217,14 +217,14 @@ module _ {S O E R : Type 0} (logs : S → ℕ → O → E → Type 0) (after : S
             (inr (out, (id, w, set_at s.views id v w at, refl))),
         (λ k' is _. let one = same_tickets v k k' stage is in (
           (λ no. absurd (no (yes ∙ ap (λ (z : ℕ). z % 18446744073709551616) one))),
-              (λ _. record {
-                log = r.log;
-                value = y;
-                seat = (λ i. (staged v (Serving (one i) r.log), (0, y) ∷ empty i));
-                replayed = (λ b begun. let begin = sym (know.begun b begun) in (ap (λ (z : S). replay after z r.log) begin, subst (λ (z : S). IsLegal logs after z r.log) begin r.legal));
-                keeps = r.keeps;
-                claims = know.claims;
-              }),
+          (λ _. record {
+            log = r.log;
+            value = y;
+            seat = (λ i. (staged v (Serving (one i) r.log), (0, y) ∷ empty i));
+            replayed = (λ b begun. let begin = sym (know.begun b begun) in (ap (λ (z : S). replay after z r.log) begin, subst (λ (z : S). IsLegal logs after z r.log) begin r.legal));
+            keeps = r.keeps;
+            claims = know.claims;
+          }),
         )),
       ))
       (λ no. (v, keeps, tt, unmoved s r 1 id me at, (λ k' is _. ((λ _. refl), (λ yes. absurd (no (yes ∙ ap (λ (z : ℕ). z % 18446744073709551616) (sym (same_tickets v k k' stage is)))))))))

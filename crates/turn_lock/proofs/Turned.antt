@@ -1,5 +1,5 @@
 -- What a turn shows of the history that it met.
-use Rattle.std.proofs.Common.{◌≡◌, ℕ, ◌+◌, ◌-◌, ◌%◌, ◌^◌, ◌<◌, ◌≢◌, true, zero, suc, Result, Ok, Err, IfOk, OnErr, List, [], ◌∷◌, ◌++◌, length, get_or, Some, sym, refl, ap, ◌∙◌, subst, arith}
+use Rattle.std.proofs.Common.{◌≡◌, ℕ, ◌+◌, ◌-◌, ◌%◌, ◌^◌, ◌<◌, ◌≢◌, true, Result, Ok, Err, IfOk, OnErr, List, [], ◌∷◌, ◌++◌, length, get_or, Some, sym, refl, ap, ◌∙◌, subst, arith}
 use Rattle.std.specs.List.{range_with_len}
 use Rattle.std.proofs.lemmas.Bool.Decides.{nat_tests}
 use mathlib.Core.Option.{none, some-injective}
@@ -15,7 +15,7 @@ use Rattle.turn_lock.specs.Steps.{Sat, Enters, added, skipped, with_turn}
 use Rattle.turn_lock.specs.History.{turn_of, entries, entries_by, replay, IsLegal}
 use Rattle.turn_lock.specs.Rule.{times, is_idle, IsClaim, staged, Rule}
 use Rattle.turn_lock.specs.Views.{seen_by, numbers_of, Served}
-use Rattle.turn_lock.proofs.Totals.{times_range, length_range}
+use Rattle.turn_lock.proofs.Totals.{times_range}
 use Rattle.turn_lock.proofs.Histories.{by_append, by_other, by_same, nothing_after, replay_append, legal_later, legal_more, own_stays}
 use Rattle.turn_lock.proofs.Keeps.{adds, skips, first_there}
 

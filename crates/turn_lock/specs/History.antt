@@ -1,5 +1,5 @@
 -- Histories: the turns that were taken under a lock, in their order.
-use Rattle.std.specs.Prelude.{ℕ, ◌≡◌, ◌==◌, List, [], ◌∷◌, ◌++◌, map}
+use Rattle.std.specs.Prelude.{ℕ, ◌==◌, List, [], ◌∷◌, map}
 use Rattle.std.specs.List.{filter, fold}
 use Rattle.turn_lock.specs.declared.view.Turn.{Turn}
 
