@@ -98,20 +98,25 @@ module _ {S E : Type 0} where
   opening_view first seats = record { first = Some first; stage = Idle; claims = record { numbers = range_with_len 0 seats; seen = [] } ∷ [] }
 
 module _ {S O E R : Type 0} (logs : S → ℕ → O → E → Type 0) (after : S → E → S × R) (kept : S → List E) where
-  -- the line, the numbers, the history and the slot
+  -- the line of tickets, the numbers of the passes, the whole history and the slot
   pub record Rule (first : S) (seats : ℕ) (s : State S (View S E)) : Type 0 where
     pub log : List (Turn E)
     pub served : ℕ
     pub waiting : ℕ
+    -- the words are the next ticket and the one that is served, and as many seats have a ticket as stand between
     pub words : s.words ≡ ((served + waiting) % 18446744073709551616) ∷ (served % 18446744073709551616) ∷ []
     pub line : total tickets s.views ≡ waiting
+    -- each number below the number of seats belongs to one view
     pub room : total counted s.views ≡ seats
     pub once : (n : ℕ) → total (has n) s.views ≡ (if nat_lt n seats then 1 else 0)
     pub small : seats < 4294967296
+    -- the history has at most one turn for each ticket that was served, and is one that the machine may have
     pub turns : length log ≤ served
     pub legal : IsLegal logs after first log
     pub keeps : kept (replay after first log) ≡ entries log
     pub named : (n : ℕ) → seats ≤ n → entries_by n log ≡ []
+    -- what each view says is true, and no two have one ticket
     pub knows : (j : ℕ) (v : View S E) → get_elem? s.views j ≡ some v → Knows first log served waiting v
     pub apart : (i j : ℕ) (v w : View S E) (t : ℕ) → get_elem? s.views i ≡ some v → get_elem? s.views j ≡ some w → ticket_of v.stage ≡ some t → ticket_of w.stage ≡ some t → i ≡ j
+    -- the value, at home or out with the seat that is served, is the replay of the history
     pub slot : Slot (replay after first log) s.homes s.views

@@ -1,5 +1,5 @@
 //! Lists of passes, and how a lock is closed.
-ghost use Rattle.std.specs.Prelude.{◌≡◌, ◌+◌, ◌<◌, ◌≤◌, [], ◌∷◌, ◌++◌, OnOk, OnErr, vec_capacity, vec_len};
+ghost use Rattle.std.specs.Prelude.{◌≡◌, ◌+◌, ◌<◌, ◌≤◌, [], ◌∷◌, ◌++◌, OnOk};
 ghost use Rattle.std.specs.List.{All, sum_by};
 ghost use Rattle.turn_lock.specs.Locks.{first, seat_count, held, passes, room, IsPassOf, IsWhole};
 

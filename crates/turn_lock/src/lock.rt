@@ -1,5 +1,5 @@
-//! The lock and its passes: how they are made, and how a pass is split.
-ghost use Rattle.std.specs.Prelude.{◌≡◌, ℕ, ◌+◌, ◌-◌, ◌<◌, ◌≤◌, true, [], length, IfOk};
+//! The lock and its passes.
+ghost use Rattle.std.specs.Prelude.{◌≡◌, ℕ, ◌-◌, ◌<◌, true, length};
 ghost use Rattle.std.specs.List.{range_with_len};
 ghost use Rattle.turn_lock.specs.History.{entries_by};
 ghost use Rattle.turn_lock.specs.Rule.{is_idle};
