@@ -1,0 +1,5 @@
+mod Closing
+mod Histories
+mod Keeps
+mod Totals
+mod Turned

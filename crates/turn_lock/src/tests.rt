@@ -1,0 +1,2 @@
+mod adder;
+mod quota;
