@@ -1,2 +1,4 @@
-pub mod Sorted
 pub mod KeyOrder
+pub mod Packed
+pub mod Places
+pub mod Sorted
