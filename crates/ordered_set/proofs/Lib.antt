@@ -1,3 +1,4 @@
+pub mod Indexes
 pub mod KeyOrder
 pub mod Packed
 pub mod Places
