@@ -1,3 +1,5 @@
+pub mod Edits
+pub mod Halves
 pub mod Indexes
 pub mod KeyOrder
 pub mod Packed
