@@ -4,4 +4,5 @@ pub mod Indexes
 pub mod KeyOrder
 pub mod Packed
 pub mod Places
+pub mod Removed
 pub mod Sorted
