@@ -1,3 +1,4 @@
+pub mod Calls
 pub mod Edits
 pub mod Halves
 pub mod Indexes
