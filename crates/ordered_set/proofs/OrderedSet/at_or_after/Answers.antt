@@ -1,4 +1,4 @@
-use Rattle.std.proofs.Common.{◌≡◌, slice_get, filter, sym, ap, ◌∙◌}
+use Rattle.std.proofs.Common.{slice_get, sym, ap, ◌∙◌}
 use Rattle.std.specs.List.{find}
 use Rattle.ordered_set.specs.Blocks.{joined}
 use Rattle.ordered_set.specs.Keys.{is_from}

@@ -1,5 +1,4 @@
-use Rattle.std.proofs.Common.{◌≡◌, slice_get, ap, ◌∙◌}
-use Rattle.ordered_set.specs.Blocks.{first_keys}
+use Rattle.std.proofs.Common.{slice_get, ap, ◌∙◌}
 use Rattle.ordered_set.proofs.Calls.{first_of_all}
 use Rattle.ordered_set.proofs.OrderedSet.first.Goals as goal
 

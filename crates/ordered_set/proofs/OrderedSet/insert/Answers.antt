@@ -1,4 +1,4 @@
-use Rattle.std.proofs.Common.{arith, ap, ◌∙◌, length, subst, sym}
+use Rattle.std.proofs.Common.{arith, ap, ◌∙◌, length, subst}
 use Rattle.std.specs.List.{Contains}
 use Rattle.ordered_set.specs.Blocks.{index_keys}
 use Rattle.ordered_set.proofs.Calls.{length_with}
