@@ -1,0 +1,172 @@
+-- A table's rows and the keys of its sets, after an insertion and after a removal.
+use Rattle.std.proofs.Common.{◌≡◌, ◌==◌, ℕ, ◌+◌, ◌^◌, ◌<◌, ◌≤◌, suc, zero, Bool, true, false, cond, not, List, [], ◌∷◌, ◌++◌, length, map, filter, find, Option, Some, None, option_map, unwrap_or, Ordering, Less, Equal, Greater, is_lt, is_gt, is_eq, ◌≢◌, ◌⊎◌, inl, inr, refl, sym, ap, ◌∙◌, subst, arith}
+use Rattle.std.specs.List.{Contains, AllByRecursion as Every}
+use Rattle.std.proofs.lemmas.Bool.{cond-true, cond-false, cases_Bool, eqb-true, eq-eqb, ne_eqb, not-true, not_from_false, lt-ltb}
+use Rattle.std.proofs.lemmas.List.{map_push, append-nil}
+use Rattle.std.proofs.lemmas.List.Elements.{Contains-append_left, Contains-append_right}
+use Rattle.std.proofs.lemmas.Cmp.{tied_itself}
+use Rattle.std.specs.List.Sorted.{IsStrictlySortedBy}
+use Rattle.ordered_set.specs.declared.key.Key.{Key}
+use Rattle.ordered_set.specs.Keys.{key_cmp, IsAscending, is_above, is_below, is_other, with_key, without_key}
+use Rattle.ordered_set.proofs.KeyOrder.{key_tie, key_total}
+use Rattle.ordered_set.proofs.Sorted.{filter_all, filter_none, every_map}
+use Rattle.fit_lists.specs.declared.table.Row.{Row}
+use Rattle.fit_lists.specs.declared.table.Table.{Table}
+use Rattle.fit_lists.specs.Rows.{IsIndex, IsNext, IsSound, IsTable, age_key, length_key, minor_of, number_key, owner_key, row_at, rows_of, size_key}
+use Rattle.fit_lists.proofs.Members.{contains_cases, contains_later, every_from, filter_from, filter_has, other_from, push_cases, with_from, with_keeps, with_self, without_from, without_keeps}
+
+-- the rows but those of a number
+abbrev pub other_rows : ℕ → List Row → List Row
+other_rows n rows = filter (λ x. not (x.number == n)) rows
+
+-- ---- one set
+
+pub index_new : (f : Row → Key) → IsIndex f [] []
+unfolding IsStrictlySortedBy
+index_new f = record { ascending = tt; has = λ x (k, l, e). absurd (omega arith); from = λ x (k, l, e). absurd (omega arith) }
+
+pub index_absent : (f : Row → Key) (rows : List Row) (ks : List Key) (r : Row) → IsIndex f rows ks → ((x : Row) → Contains rows x → f x ≡ f r → ⊥) → Contains ks (f r) → ⊥
+index_absent f rows ks r i fresh m = let p = i.from (f r) m in fresh p.0 p.1 p.2
+
+pub index_with : (f : Row → Key) (rows : List Row) (ks ks' : List Key) (r : Row) → IsIndex f rows ks → IsAscending ks' → ks' ≡ with_key ks (f r) → IsIndex f (rows ++ r ∷ []) ks'
+index_with f rows ks ks' r i s e = record {
+  ascending = s;
+  has = λ x m. rw e (elim (push_cases rows r x m) [ inl same ↦ rw same (with_self ks (f r)) | inr old ↦ with_keeps ks (f r) (f x) (i.has x old) ]);
+  from = λ k m. elim (with_from ks (f r) k (subst (λ z. Contains z k) e m)) [
+    | inl same ↦ (r, Contains-append_right rows (r ∷ []) r (zero, omega arith, refl), sym same)
+    | inr old ↦ let p = i.from k old in (p.0, Contains-append_left rows (r ∷ []) p.0 p.1, p.2)
+    ]
+}
+
+pub index_without : (f : Row → Key) (rows : List Row) (ks ks' : List Key) (r : Row) → IsIndex f rows ks → IsAscending ks' → ks' ≡ without_key ks (f r) → ((x : Row) → Contains rows x → f x ≡ f r → x.number ≡ r.number) → ((x : Row) → Contains rows x → x.number ≡ r.number → x ≡ r) → IsIndex f (other_rows r.number rows) ks'
+index_without f rows ks ks' r i s e inj own = record {
+  ascending = s;
+  has = λ x m.
+    let p = filter_from (λ x. not (x.number == r.number)) rows x m in
+    let other : f x ≢ f r = λ same. let n : not (x.number == r.number) ≡ false = ap not (eq-eqb x.number r.number (inj x p.0 same)) in let t : true ≡ false = sym p.1 ∙ n in cc in
+    rw e (without_keeps ks (f r) (f x) (i.has x p.0) other);
+  from = λ k m.
+    let p = without_from ks (f r) k (subst (λ z. Contains z k) e m) in
+    let q = i.from k p.0 in
+    let other : q.0.number ≡ r.number → ⊥ = λ same. p.1 (sym q.2 ∙ ap f (own q.0 q.1 same)) in
+    (q.0, filter_has (λ x. not (x.number == r.number)) rows q.0 q.1 (not_from_false _ (ne_eqb q.0.number r.number other)), q.2)
+}
+
+-- ---- the rows from the sets
+
+find_minor : (ks : List Key) (major minor : ℕ) → Contains ks (record { major = major; minor = minor }) → ((k : Key) → Contains ks k → k.major ≡ major → k.minor ≡ minor) → unwrap_or (option_map (λ k. k.minor) (find (λ k. k.major == major) ks)) 0 ≡ minor
+find_minor [] major minor (k, l, e) own = absurd (omega arith)
+find_minor (k ∷ ks) major minor m own = elim (cases_Bool (k.major == major)) [
+    | inl t ↦ rw t (own k (zero, omega arith, refl) (eqb-true k.major major t))
+    | inr f ↦ rw f (find_minor ks major minor (later (contains_cases k ks _ m) f) (λ y n. own y (contains_later k ks y n)))
+    ]
+  where
+  later : (k ≡ record { major = major; minor = minor }) ⊎ Contains ks (record { major = major; minor = minor }) → (k.major == major) ≡ false → Contains ks (record { major = major; minor = minor })
+  later (inl same) f = absurd (let t : (k.major == major) ≡ true = eq-eqb k.major major (ap (λ y. y.major) same) in cc)
+  later (inr deep) f = deep
+
+pub minor_is : (ks : List Key) (major minor : ℕ) → Contains ks (record { major = major; minor = minor }) → ((k : Key) → Contains ks k → k.major ≡ major → k.minor ≡ minor) → minor_of ks major ≡ minor
+unfolding minor_of
+minor_is ks major minor m own = find_minor ks major minor m own
+
+map_each : (g : Key → Row) (rows : List Row) → Every (λ x. g (age_key x) ≡ x) rows → map g (map age_key rows) ≡ rows
+map_each g [] e = refl
+map_each g (x ∷ xs) e = λ i. e.0 i ∷ map_each g xs e.1 i
+
+-- the sets determine the rows
+pub rows_are : (t : Table) (rows : List Row) → IsTable t rows → rows_of t ≡ rows
+unfolding rows_of
+rows_are t rows i = ap (map (row_at t)) i.ages ∙ map_each (row_at t) rows (every_from _ rows (λ x m. each x m))
+  where
+  each : (x : Row) → Contains rows x → row_at t (age_key x) ≡ x
+  each x m =
+    let number : minor_of t.owners.keys x.first ≡ x.number = minor_is t.owners.keys x.first x.number (i.owners.has x m) (λ k n same. let p = i.owners.from k n in sym (ap (λ y. y.minor) p.2) ∙ ap (λ (y : Row). y.number) (i.sound.firsts p.0 x p.1 m (ap (λ y. y.major) p.2 ∙ same))) in
+    let pages : minor_of t.lengths.keys x.first ≡ x.pages = minor_is t.lengths.keys x.first x.pages (i.lengths.has x m) (λ k n same. let p = i.lengths.from k n in sym (ap (λ y. y.minor) p.2) ∙ ap (λ (y : Row). y.pages) (i.sound.firsts p.0 x p.1 m (ap (λ y. y.major) p.2 ∙ same))) in
+    λ j. record { number = number j; first = x.first; pages = pages j; age = x.age }
+
+-- ---- soundness
+
+pub sound_new : IsSound []
+sound_new = record {
+  numbers = λ x y (k, l, e) n. absurd (omega arith);
+  ages = λ x y (k, l, e) n. absurd (omega arith);
+  firsts = λ x y (k, l, e) n. absurd (omega arith);
+  apart = λ x y (k, l, e) n. absurd (omega arith);
+  number = λ x (k, l, e). absurd (omega arith);
+  some = λ x (k, l, e). absurd (omega arith);
+  within = λ x (k, l, e). absurd (omega arith)
+}
+
+pub sound_filter : (p : Row → Bool) (rows : List Row) → IsSound rows → IsSound (filter p rows)
+sound_filter p rows s =
+    let in' : (x : Row) → Contains (filter p rows) x → Contains rows x = λ x m. (filter_from p rows x m).0 in
+    record {
+      numbers = λ x y m n. s.numbers x y (in' x m) (in' y n);
+      ages = λ x y m n. s.ages x y (in' x m) (in' y n);
+      firsts = λ x y m n. s.firsts x y (in' x m) (in' y n);
+      apart = λ x y m n. s.apart x y (in' x m) (in' y n);
+      number = λ x m. s.number x (in' x m);
+      some = λ x m. s.some x (in' x m);
+      within = λ x m. s.within x (in' x m)
+    }
+
+-- a fact of two rows, of which one is new
+two_rows : (rows : List Row) (r : Row) (P : Row → Row → Type 0) → ((x y : Row) → Contains rows x → Contains rows y → P x y) → ((x : Row) → Contains rows x → P x r) → ((y : Row) → Contains rows y → P r y) → P r r → (x y : Row) → Contains (rows ++ r ∷ []) x → Contains (rows ++ r ∷ []) y → P x y
+two_rows rows r P old left right new x y m n = elim (push_cases rows r x m) [
+    | inl e ↦ elim (push_cases rows r y n) [ inl f ↦ rw (e, f) new | inr b ↦ rw e (right y b) ]
+    | inr a ↦ elim (push_cases rows r y n) [ inl f ↦ rw f (left x a) | inr b ↦ old x y a b ]
+    ]
+
+one_row : (rows : List Row) (r : Row) (P : Row → Type 0) → ((x : Row) → Contains rows x → P x) → P r → (x : Row) → Contains (rows ++ r ∷ []) x → P x
+one_row rows r P old new x m = elim (push_cases rows r x m) [ inl e ↦ rw e new | inr a ↦ old x a ]
+
+pub first_new : (rows : List Row) (r : Row) → IsSound rows → IsNext rows r → (x : Row) → Contains rows x → x.first ≡ r.first → ⊥
+first_new rows r s n x m e = let some = s.some x m in let more = n.some in elim (n.apart x m) [ inl a ↦ omega arith | inr b ↦ omega arith ]
+
+pub sound_with : (rows : List Row) (r : Row) → IsSound rows → IsNext rows r → IsSound (rows ++ r ∷ [])
+sound_with rows r s n = record {
+  numbers = two_rows rows r (λ x y. x.number ≡ y.number → x ≡ y) s.numbers (λ x m e. absurd (n.new x m e)) (λ y m e. absurd (n.new y m (sym e))) (λ e. refl);
+  ages = two_rows rows r (λ x y. x.age ≡ y.age → x ≡ y) s.ages (λ x m e. let l = n.later x m in absurd (omega arith)) (λ y m e. let l = n.later y m in absurd (omega arith)) (λ e. refl);
+  firsts = two_rows rows r (λ x y. x.first ≡ y.first → x ≡ y) s.firsts (λ x m e. absurd (first_new rows r s n x m e)) (λ y m e. absurd (first_new rows r s n y m (sym e))) (λ e. refl);
+  apart = two_rows rows r (λ x y. x.first < y.first → x.first + x.pages ≤ y.first) s.apart
+    (λ x m l. let more = n.some in elim (n.apart x m) [ inl a ↦ a | inr b ↦ omega arith ])
+    (λ y m l. let more = s.some y m in elim (n.apart y m) [ inl a ↦ omega arith | inr b ↦ b ])
+    (λ l. absurd (omega arith));
+  number = one_row rows r (λ x. x.number < 2 ^ 32) s.number n.number;
+  some = one_row rows r (λ x. 0 < x.pages) s.some n.some;
+  within = one_row rows r (λ x. x.first + x.pages ≤ 2 ^ 32) s.within n.within
+}
+
+-- ---- the set by age
+
+pub major_less : (a b : Key) → a.major < b.major → key_cmp a b ≡ Less
+unfolding key_cmp
+major_less a b l = rw (lt-ltb a.major b.major l)
+
+map_every : (P : Key → Type 0) (rows : List Row) → Every (λ x. P (age_key x)) rows → Every P (map age_key rows)
+map_every P [] e = tt
+map_every P (x ∷ xs) e = (e.0, map_every P xs e.1)
+
+pub ages_with : (rows : List Row) (r : Row) → ((x : Row) → Contains rows x → x.age < r.age) → with_key (map age_key rows) (age_key r) ≡ map age_key (rows ++ r ∷ [])
+ages_with rows r later =
+    let less : Every (λ k. key_cmp k (age_key r) ≡ Less) (map age_key rows) = map_every _ rows (every_from _ rows (λ x m. major_less (age_key x) (age_key r) (later x m))) in
+    let low = filter_all (is_below (age_key r)) (map age_key rows) (every_map _ _ (λ k e. ap is_lt e) _ less) in
+    let high = filter_none (is_above (age_key r)) (map age_key rows) (every_map _ _ (λ k e. ap is_gt e) _ less) in
+    (λ j. low j ++ age_key r ∷ high j) ∙ sym (map_push age_key rows r)
+
+filter_map : (p : Key → Bool) (q : Row → Bool) (rows : List Row) → Every (λ x. p (age_key x) ≡ q x) rows → filter p (map age_key rows) ≡ map age_key (filter q rows)
+filter_map p q [] e = refl
+filter_map p q (x ∷ xs) e = elim (cases_Bool (q x)) [
+    | inl t ↦ rw (e.0, t) (ap (λ ks. age_key x ∷ ks) (filter_map p q xs e.1))
+    | inr f ↦ rw (e.0, f) (filter_map p q xs e.1)
+    ]
+
+pub ages_without : (rows : List Row) (r : Row) → IsSound rows → Contains rows r → without_key (map age_key rows) (age_key r) ≡ map age_key (other_rows r.number rows)
+ages_without rows r s m = filter_map (is_other (age_key r)) (λ x. not (x.number == r.number)) rows (every_from _ rows (λ x n. each x n (cases_Bool (x.number == r.number))))
+  where
+  each : (x : Row) → Contains rows x → ((x.number == r.number) ≡ true) ⊎ ((x.number == r.number) ≡ false) → is_other (age_key r) (age_key x) ≡ not (x.number == r.number)
+  each x n (inl t) =
+    let same : x ≡ r = s.numbers x r n m (eqb-true x.number r.number t) in
+    let itself : key_cmp (age_key x) (age_key r) ≡ Equal = subst (λ y. key_cmp (age_key y) (age_key r) ≡ Equal) (sym same) (tied_itself key_total (age_key r)) in
+    rw (itself, t)
+  each x n (inr f) = rw f (other_from (age_key r) (age_key x) (λ e. let same : x ≡ r = s.ages x r n m (ap (λ k. k.major) e) in let t : (x.number == r.number) ≡ true = eq-eqb x.number r.number (ap (λ (y : Row). y.number) same) in cc))
