@@ -170,3 +170,102 @@ ages_without rows r s m = filter_map (is_other (age_key r)) (λ x. not (x.number
     let itself : key_cmp (age_key x) (age_key r) ≡ Equal = subst (λ y. key_cmp (age_key y) (age_key r) ≡ Equal) (sym same) (tied_itself key_total (age_key r)) in
     rw (itself, t)
   each x n (inr f) = rw f (other_from (age_key r) (age_key x) (λ e. let same : x ≡ r = s.ages x r n m (ap (λ k. k.major) e) in let t : (x.number == r.number) ≡ true = eq-eqb x.number r.number (ap (λ (y : Row). y.number) same) in cc))
+
+-- ---- the whole table
+
+pub settled : (t : Table) (rows : List Row) → IsTable t rows → IsTable t (rows_of t)
+settled t rows i = subst (IsTable t) (sym (rows_are t rows i)) i
+
+pub table_new : (t : Table) → t.ages.keys ≡ [] → t.numbers.keys ≡ [] → t.owners.keys ≡ [] → t.lengths.keys ≡ [] → t.sizes.keys ≡ [] → IsTable t []
+unfolding IsStrictlySortedBy
+table_new t a n o l s = record {
+  sound = sound_new;
+  ages = a;
+  ascending = rw a tt;
+  numbers = rw n (index_new number_key);
+  owners = rw o (index_new owner_key);
+  lengths = rw l (index_new length_key);
+  sizes = rw s (index_new size_key)
+}
+
+-- other sets with the same keys
+pub table_same : (t t' : Table) (rows : List Row) → IsTable t rows → t'.ages.keys ≡ t.ages.keys → t'.numbers.keys ≡ t.numbers.keys → t'.owners.keys ≡ t.owners.keys → t'.lengths.keys ≡ t.lengths.keys → t'.sizes.keys ≡ t.sizes.keys → IsTable t' rows
+table_same t t' rows i a n o l s = record {
+  sound = i.sound;
+  ages = a ∙ i.ages;
+  ascending = rw a i.ascending;
+  numbers = rw n i.numbers;
+  owners = rw o i.owners;
+  lengths = rw l i.lengths;
+  sizes = rw s i.sizes
+}
+
+-- a set after an insertion, and after a removal
+abbrev pub Gains : List Key → List Key → Key → Type 0
+Gains ks ks' key = (ks' ≡ with_key ks key) × IsAscending ks'
+
+abbrev pub Loses : List Key → List Key → Key → Type 0
+Loses ks ks' key = (ks' ≡ without_key ks key) × IsAscending ks'
+
+pub table_with : (t t' : Table) (rows : List Row) (r : Row) → IsTable t rows → IsNext rows r → Gains t.ages.keys t'.ages.keys (age_key r) → Gains t.numbers.keys t'.numbers.keys (number_key r) → Gains t.owners.keys t'.owners.keys (owner_key r) → Gains t.lengths.keys t'.lengths.keys (length_key r) → Gains t.sizes.keys t'.sizes.keys (size_key r) → IsTable t' (rows ++ r ∷ [])
+table_with t t' rows r i next a n o l s = record {
+  sound = sound_with rows r i.sound next;
+  ages = a.0 ∙ ap (λ ks. with_key ks (age_key r)) i.ages ∙ ages_with rows r next.later;
+  ascending = a.1;
+  numbers = index_with number_key rows t.numbers.keys t'.numbers.keys r i.numbers n.1 n.0;
+  owners = index_with owner_key rows t.owners.keys t'.owners.keys r i.owners o.1 o.0;
+  lengths = index_with length_key rows t.lengths.keys t'.lengths.keys r i.lengths l.1 l.0;
+  sizes = index_with size_key rows t.sizes.keys t'.sizes.keys r i.sizes s.1 s.0
+}
+
+pub table_without : (t t' : Table) (rows : List Row) (r : Row) → IsTable t rows → Contains rows r → Loses t.ages.keys t'.ages.keys (age_key r) → Loses t.numbers.keys t'.numbers.keys (number_key r) → Loses t.owners.keys t'.owners.keys (owner_key r) → Loses t.lengths.keys t'.lengths.keys (length_key r) → Loses t.sizes.keys t'.sizes.keys (size_key r) → IsTable t' (other_rows r.number rows)
+table_without t t' rows r i m a n o l s =
+    let own : (x : Row) → Contains rows x → x.number ≡ r.number → x ≡ r = λ x k e. i.sound.numbers x r k m e in
+    let by_first : (x : Row) → Contains rows x → x.first ≡ r.first → x.number ≡ r.number = λ x k e. ap (λ (y : Row). y.number) (i.sound.firsts x r k m e) in
+    record {
+      sound = sound_filter _ rows i.sound;
+      ages = a.0 ∙ ap (λ ks. without_key ks (age_key r)) i.ages ∙ ages_without rows r i.sound m;
+      ascending = a.1;
+      numbers = index_without number_key rows t.numbers.keys t'.numbers.keys r i.numbers n.1 n.0 (λ x k e. ap (λ y. y.major) e) own;
+      owners = index_without owner_key rows t.owners.keys t'.owners.keys r i.owners o.1 o.0 (λ x k e. by_first x k (ap (λ y. y.major) e)) own;
+      lengths = index_without length_key rows t.lengths.keys t'.lengths.keys r i.lengths l.1 l.0 (λ x k e. by_first x k (ap (λ y. y.major) e)) own;
+      sizes = index_without size_key rows t.sizes.keys t'.sizes.keys r i.sizes s.1 s.0 (λ x k e. by_first x k (ap (λ y. y.minor) e)) own
+    }
+
+-- ---- a new row has no key yet
+
+map_member : (f : Row → Key) (rows : List Row) (k : Key) → Contains (map f rows) k → (x : Row) × Contains rows x × (f x ≡ k)
+map_member f [] k (n, l, e) = absurd (omega arith)
+map_member f (x ∷ xs) k m = elim (contains_cases (f x) (map f xs) k m) [
+    | inl e ↦ (x, (zero, omega arith, refl), e)
+    | inr d ↦ let p = map_member f xs k d in (p.0, contains_later x xs p.0 p.1, p.2)
+    ]
+
+pub age_absent : (t : Table) (rows : List Row) (r : Row) → IsTable t rows → IsNext rows r → Contains t.ages.keys (age_key r) → ⊥
+age_absent t rows r i next m =
+    let p = map_member age_key rows (age_key r) (subst (λ ks. Contains ks (age_key r)) i.ages m) in
+    let l = next.later p.0 p.1 in
+    let same : p.0.age ≡ r.age = ap (λ k. k.major) p.2 in
+    omega arith
+
+pub number_absent : (t : Table) (rows : List Row) (r : Row) → IsTable t rows → IsNext rows r → Contains t.numbers.keys (number_key r) → ⊥
+number_absent t rows r i next = index_absent number_key rows t.numbers.keys r i.numbers (λ x m e. next.new x m (ap (λ k. k.major) e))
+
+pub owner_absent : (t : Table) (rows : List Row) (r : Row) → IsTable t rows → IsNext rows r → Contains t.owners.keys (owner_key r) → ⊥
+owner_absent t rows r i next = index_absent owner_key rows t.owners.keys r i.owners (λ x m e. first_new rows r i.sound next x m (ap (λ k. k.major) e))
+
+pub length_absent : (t : Table) (rows : List Row) (r : Row) → IsTable t rows → IsNext rows r → Contains t.lengths.keys (length_key r) → ⊥
+length_absent t rows r i next = index_absent length_key rows t.lengths.keys r i.lengths (λ x m e. first_new rows r i.sound next x m (ap (λ k. k.major) e))
+
+pub size_absent : (t : Table) (rows : List Row) (r : Row) → IsTable t rows → IsNext rows r → Contains t.sizes.keys (size_key r) → ⊥
+size_absent t rows r i next = index_absent size_key rows t.sizes.keys r i.sizes (λ x m e. first_new rows r i.sound next x m (ap (λ k. k.minor) e))
+
+-- ---- a row that is there has its keys
+
+pub age_present : (t : Table) (rows : List Row) (r : Row) → IsTable t rows → Contains rows r → Contains t.ages.keys (age_key r)
+age_present t rows r i m = rw i.ages (map_has rows m)
+  where
+  map_has : (xs : List Row) → Contains xs r → Contains (map age_key xs) (age_key r)
+  map_has [] (k, l, e) = absurd (omega arith)
+  map_has (x ∷ xs) (zero, l, e) = (zero, omega arith, ap age_key e)
+  map_has (x ∷ xs) (suc k, l, e) = contains_later (age_key x) (map age_key xs) (age_key r) (map_has xs (k, omega arith, e))

@@ -1,8 +1,12 @@
-use Rattle.std.proofs.Common.{◌≡◌, List, [], refl, sym, ap, ◌∙◌}
-use Rattle.std.specs.List.Sorted.{IsStrictlySortedBy}
-use Rattle.fit_lists.specs.Rows.{IsTable, IsIndex, rows_of, age_key, number_key, owner_key, length_key, size_key}
-use Rattle.fit_lists.proofs.Tables.{index_new, rows_are, sound_new}
+use Rattle.std.proofs.Common.{◌≡◌, List, [], ap}
+use Rattle.fit_lists.specs.Rows.{IsTable, rows_of}
+use Rattle.fit_lists.proofs.Tables.{rows_are, settled, table_new}
 use Rattle.fit_lists.proofs.table.Table.new.Goals as goal
 
 pub returns-clause-table : goal.returns-clause-table
-returns-clause-table c = ?
+returns-clause-table c =
+    settled _ [] (table_new _ (ap (λ s. s.keys) c.new.ensures) (ap (λ s. s.keys) c.new-2.ensures) (ap (λ s. s.keys) c.new-3.ensures) (ap (λ s. s.keys) c.new-4.ensures) (ap (λ s. s.keys) c.new-5.ensures))
+
+pub returns-clause-rows : goal.returns-clause-rows
+returns-clause-rows c =
+    rows_are _ [] (table_new _ (ap (λ s. s.keys) c.new.ensures) (ap (λ s. s.keys) c.new-2.ensures) (ap (λ s. s.keys) c.new-3.ensures) (ap (λ s. s.keys) c.new-4.ensures) (ap (λ s. s.keys) c.new-5.ensures))
