@@ -1,6 +1,6 @@
 -- A table's rows and the keys of its sets, after an insertion and after a removal.
 use Rattle.std.proofs.Common.{◌≡◌, ◌==◌, ℕ, ◌+◌, ◌^◌, ◌<◌, ◌≤◌, suc, zero, Bool, true, false, cond, not, List, [], ◌∷◌, ◌++◌, length, map, filter, find, Option, Some, None, option_map, unwrap_or, Ordering, Less, Equal, Greater, is_lt, is_gt, is_eq, ◌≢◌, ◌⊎◌, inl, inr, refl, sym, ap, ◌∙◌, subst, arith}
-use Rattle.std.specs.List.{Contains, AllByRecursion as Every}
+use Rattle.std.specs.List.{Any, Contains, AllByRecursion as Every}
 use Rattle.std.proofs.lemmas.Bool.{cond-true, cond-false, cases_Bool, eqb-true, eq-eqb, ne_eqb, not-true, not_from_false, lt-ltb}
 use Rattle.std.proofs.lemmas.List.{map_push, append-nil}
 use Rattle.std.proofs.lemmas.List.Elements.{Contains-append_left, Contains-append_right}
@@ -269,3 +269,34 @@ age_present t rows r i m = rw i.ages (map_has rows m)
   map_has [] (k, l, e) = absurd (omega arith)
   map_has (x ∷ xs) (zero, l, e) = (zero, omega arith, ap age_key e)
   map_has (x ∷ xs) (suc k, l, e) = contains_later (age_key x) (map age_key xs) (age_key r) (map_has xs (k, omega arith, e))
+
+-- ---- a row by its number
+
+-- the sets lead from the number of a row to its other parts
+pub row_found : (t : Table) (rows : List Row) (number age first pages : ℕ) → IsTable t rows → Contains t.numbers.keys (record { major = number; minor = age }) → Contains t.ages.keys (record { major = age; minor = first }) → Contains t.lengths.keys (record { major = first; minor = pages }) → Contains rows (record { number = number; first = first; pages = pages; age = age })
+row_found t rows number age first pages i n a l =
+    let x = i.numbers.from _ n in
+    let y = map_member age_key rows (record { major = age; minor = first }) (subst (λ ks. Contains ks (record { major = age; minor = first })) i.ages a) in
+    let z = i.lengths.from _ l in
+    let xy : x.0 ≡ y.0 = i.sound.ages x.0 y.0 x.1 y.1 (ap (λ k. k.minor) x.2 ∙ sym (ap (λ k. k.major) y.2)) in
+    let zy : z.0 ≡ y.0 = i.sound.firsts z.0 y.0 z.1 y.1 (ap (λ k. k.major) z.2 ∙ sym (ap (λ k. k.minor) y.2)) in
+    let is_number : y.0.number ≡ number = ap (λ (r : Row). r.number) (sym xy) ∙ ap (λ k. k.major) x.2 in
+    let is_first : y.0.first ≡ first = ap (λ k. k.minor) y.2 in
+    let is_pages : y.0.pages ≡ pages = ap (λ (r : Row). r.pages) (sym zy) ∙ ap (λ k. k.minor) z.2 in
+    let is_age : y.0.age ≡ age = ap (λ k. k.major) y.2 in
+    let is : y.0 ≡ record { number = number; first = first; pages = pages; age = age } = λ j. record { number = is_number j; first = is_first j; pages = is_pages j; age = is_age j } in
+    subst (Contains rows) is y.1
+
+-- a key by its major number
+pub any_key : (ks : List Key) (k : Key) (major : ℕ) → Contains ks k → k.major ≡ major → Any (λ y. y.major ≡ major) ks
+any_key ks k major (n, l, e) f = (n, k, l, e, f)
+
+pub age_known : (t : Table) (rows : List Row) (number age : ℕ) → IsTable t rows → Contains t.numbers.keys (record { major = number; minor = age }) → Any (λ k. k.major ≡ age) t.ages.keys
+age_known t rows number age i n =
+    let x = i.numbers.from _ n in
+    any_key t.ages.keys (age_key x.0) age (age_present t rows x.0 i x.1) (ap (λ k. k.minor) x.2)
+
+pub first_known : (t : Table) (rows : List Row) (age first : ℕ) → IsTable t rows → Contains t.ages.keys (record { major = age; minor = first }) → (y : Row) × Contains rows y × (y.first ≡ first)
+first_known t rows age first i a =
+    let y = map_member age_key rows (record { major = age; minor = first }) (subst (λ ks. Contains ks (record { major = age; minor = first })) i.ages a) in
+    (y.0, y.1, ap (λ k. k.minor) y.2)
