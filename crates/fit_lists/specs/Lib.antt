@@ -1,2 +1,3 @@
-pub mod Spans
+pub mod Lists
 pub mod Rows
+pub mod Spans

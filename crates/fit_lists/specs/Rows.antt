@@ -1,10 +1,11 @@
 -- The rows of a table, and the sets of keys that it keeps them in.
-use Rattle.std.specs.Prelude.{◌≡◌, ◌==◌, ℕ, ◌+◌, ◌^◌, ◌<◌, ◌≤◌, ◌⊎◌, List, [], ◌∷◌, map, find, Option, option_map, unwrap_or, Contains}
+use Rattle.std.specs.Prelude.{◌≡◌, ◌==◌, ℕ, ◌+◌, ◌^◌, ◌<◌, ◌≤◌, ◌⊎◌, List, [], ◌∷◌, map, find, Option, option_map, unwrap_or, Contains, nat_lt, if◌then◌else◌}
 use Rattle.std.specs.List.{AllByRecursion}
 use Rattle.ordered_set.specs.declared.key.Key.{Key}
 use Rattle.ordered_set.specs.Keys.{KeySet, IsAscending}
 use Rattle.fit_lists.specs.declared.table.Row.{Row}
 use Rattle.fit_lists.specs.declared.table.Table.{Table}
+use Rattle.fit_lists.specs.Spans.{Listed}
 
 -- the keys of a row in each of the sets
 abbrev pub age_key : Row → Key
@@ -33,6 +34,15 @@ row_at table key = record { number = minor_of table.owners.keys key.minor; first
 -- all rows, in the order of their ages
 unfoldable pub rows_of : Table → List Row
 rows_of table = map (row_at table) table.ages.keys
+
+-- the rows, of which the first one that isn't younger than an age gets just this age
+abbrev pub with_age : List Row → ℕ → List Row
+with_age [] age = []
+with_age (row ∷ rows) age = if nat_lt row.age age then row ∷ with_age rows age else (record { number = row.number; first = row.first; pages = row.pages; age = age } ∷ rows)
+
+-- a row without its age
+abbrev pub listed : Row → Listed
+listed row = record { number = row.number; first = row.first; pages = row.pages }
 
 -- the keys are those of the rows
 pub record IsIndex (key_of : Row → Key) (rows : List Row) (keys : List Key) : Type 0 where

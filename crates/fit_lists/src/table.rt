@@ -1,7 +1,7 @@
 //! The rows of a list, kept in five ordered sets of pairs of numbers.
-ghost use Rattle.std.specs.Prelude.{◌≡◌, ◌==◌, ℕ, ◌+◌, ◌<◌, ◌≤◌, [], ◌∷◌, ◌++◌, not, map, max, filter, Any, Contains, OnOk};
-ghost use Rattle.ordered_set.specs.Keys.{with_key, without_key};
-ghost use Rattle.fit_lists.specs.Rows.{HasRoom, IsNext, IsTable, age_key, length_key, number_key, owner_key, rows_of, size_key};
+ghost use Rattle.std.specs.Prelude.{◌≡◌, ◌==◌, All, length, find, Some, ℕ, ◌+◌, ◌<◌, ◌≤◌, [], ◌∷◌, ◌++◌, not, map, max, filter, Any, Contains, OnOk};
+ghost use Rattle.ordered_set.specs.Keys.{is_from, with_key, without_key};
+ghost use Rattle.fit_lists.specs.Rows.{HasRoom, IsNext, IsTable, age_key, length_key, listed, number_key, owner_key, rows_of, size_key, with_age};
 
 use ordered_set::{Key, OrderedSet};
 use std::alloc::{AllocError as NoMemory, Global};
@@ -127,6 +127,74 @@ impl Table {
             pages,
             age,
         }
+    }
+
+    // The number of the span that begins at this page.
+    pub fn number_at(&self, first: u64) -> u32
+        requires table { IsTable self.now (rows_of self.now) }
+        requires listed { Any (λ row. row.first ≡ first) (rows_of self.now) }
+        ensures { Any (λ row. (row.first ≡ first) × (row.number ≡ result)) (rows_of self.now) }
+    {
+        minor_at(&self.owners, first) as u32
+    }
+
+    // An age above all others. Where the ages are used up, the rows first get new ones.
+    pub fn next_age(&mut self) -> u64
+        requires { IsTable self.old (rows_of self.old) }
+        ensures table { IsTable self.new (rows_of self.new) }
+        ensures rows { map listed (rows_of self.new) ≡ map listed (rows_of self.old) }
+        ensures later { All (λ row. row.age < result) (rows_of self.new) }
+        ensures lengths { self.new.lengths.keys ≡ self.old.lengths.keys }
+        ensures room { (n : ℕ) → HasRoom self.old n → HasRoom self.new n }
+    {
+        match self.ages.last() {
+            None => 0,
+            Some(last) if last.major < u64::MAX => last.major + 1,
+            Some(_) => {
+                self.renumber();
+                self.ages.len()
+            }
+        }
+    }
+
+    // Makes the ages 0, 1, 2 and so on.
+    fn renumber(&mut self)
+        requires { IsTable self.old (rows_of self.old) }
+        ensures table { IsTable self.new (rows_of self.new) }
+        ensures rows { map listed (rows_of self.new) ≡ map listed (rows_of self.old) }
+        ensures later { All (λ row. row.age < length (rows_of self.new)) (rows_of self.new) }
+        ensures lengths { self.new.lengths.keys ≡ self.old.lengths.keys }
+        ensures room { (n : ℕ) → HasRoom self.old n → HasRoom self.new n }
+    {
+        for age in 0..self.ages.len() {
+            let key = self.ages.at_or_after(Key { major: age, minor: 0 }).unwrap();
+            self.set_age(key, age);
+        }
+    }
+
+    // Gives the first row that isn't younger than an age just this age.
+    fn set_age(&mut self, key: Key, age: u64)
+        requires table { IsTable self.old (rows_of self.old) }
+        requires key { find (is_from (record { major = age; minor = 0 })) self.old.ages.keys ≡ Some key }
+        ensures table { IsTable self.new (rows_of self.new) }
+        ensures rows { rows_of self.new ≡ with_age (rows_of self.old) age }
+        ensures lengths { self.new.lengths.keys ≡ self.old.lengths.keys }
+        ensures room { (n : ℕ) → HasRoom self.old n → HasRoom self.new n }
+    {
+        let number = minor_at(&self.owners, key.minor);
+        self.ages.remove(key);
+        self.ages.insert(Key {
+            major: age,
+            minor: key.minor,
+        });
+        self.numbers.remove(Key {
+            major: number,
+            minor: key.major,
+        });
+        self.numbers.insert(Key {
+            major: number,
+            minor: age,
+        });
     }
 
     pub fn insert(&mut self, row: Row)
