@@ -1,3 +1,4 @@
+pub mod Aging
 pub mod Members
 pub mod Orders
 pub mod Tables

@@ -111,13 +111,13 @@ sound_filter p rows s =
     }
 
 -- a fact of two rows, of which one is new
-two_rows : (rows : List Row) (r : Row) (P : Row → Row → Type 0) → ((x y : Row) → Contains rows x → Contains rows y → P x y) → ((x : Row) → Contains rows x → P x r) → ((y : Row) → Contains rows y → P r y) → P r r → (x y : Row) → Contains (rows ++ r ∷ []) x → Contains (rows ++ r ∷ []) y → P x y
+pub two_rows : (rows : List Row) (r : Row) (P : Row → Row → Type 0) → ((x y : Row) → Contains rows x → Contains rows y → P x y) → ((x : Row) → Contains rows x → P x r) → ((y : Row) → Contains rows y → P r y) → P r r → (x y : Row) → Contains (rows ++ r ∷ []) x → Contains (rows ++ r ∷ []) y → P x y
 two_rows rows r P old left right new x y m n = elim (push_cases rows r x m) [
     | inl e ↦ elim (push_cases rows r y n) [ inl f ↦ rw (e, f) new | inr b ↦ rw e (right y b) ]
     | inr a ↦ elim (push_cases rows r y n) [ inl f ↦ rw f (left x a) | inr b ↦ old x y a b ]
     ]
 
-one_row : (rows : List Row) (r : Row) (P : Row → Type 0) → ((x : Row) → Contains rows x → P x) → P r → (x : Row) → Contains (rows ++ r ∷ []) x → P x
+pub one_row : (rows : List Row) (r : Row) (P : Row → Type 0) → ((x : Row) → Contains rows x → P x) → P r → (x : Row) → Contains (rows ++ r ∷ []) x → P x
 one_row rows r P old new x m = elim (push_cases rows r x m) [ inl e ↦ rw e new | inr a ↦ old x a ]
 
 pub first_new : (rows : List Row) (r : Row) → IsSound rows → IsNext rows r → (x : Row) → Contains rows x → x.first ≡ r.first → ⊥
@@ -234,7 +234,7 @@ table_without t t' rows r i m a n o l s =
 
 -- ---- a new row has no key yet
 
-map_member : (f : Row → Key) (rows : List Row) (k : Key) → Contains (map f rows) k → (x : Row) × Contains rows x × (f x ≡ k)
+pub map_member : (f : Row → Key) (rows : List Row) (k : Key) → Contains (map f rows) k → (x : Row) × Contains rows x × (f x ≡ k)
 map_member f [] k (n, l, e) = absurd (omega arith)
 map_member f (x ∷ xs) k m = elim (contains_cases (f x) (map f xs) k m) [
     | inl e ↦ (x, (zero, omega arith, refl), e)

@@ -2,7 +2,7 @@
 //! `new` and `reserve` take memory.
 #![tactic(auto)]
 
-ghost use Rattle.std.specs.Prelude.{◌≡◌, ◌==◌, ◌+◌, ◌^◌, ◌<◌, ◌≤◌, ◌≢◌, ◌↔◌, [], ◌∷◌, ◌++◌, not, length, max, filter, sum_by, slice_get, option_map, All, Any, IsTrue, IsNone, IfSome, OnOk, OnErr};
+ghost use Rattle.std.specs.Prelude.{◌≡◌, ◌==◌, ℕ, ◌+◌, ◌*◌, ◌^◌, ◌<◌, ◌≤◌, ◌≢◌, ◌↔◌, [], ◌∷◌, ◌++◌, not, length, max, filter, sum_by, slice_get, option_map, All, Any, IsTrue, IsNone, IfSome, OnOk, OnErr};
 ghost use Rattle.fit_lists.specs.Spans.{HoldsRun, IsApart, IsFirstFit};
 
 use crate::table::{Row, Table};
@@ -154,12 +154,21 @@ impl FitList {
     }
 }
 
-// Whether a span, given by its pages and its first page, holds such a run.
+// How many pages lie between a page and the next multiple of the alignment.
+fn pages_to_multiple(page: u64, align: u64) -> u64
+    requires { 0 < align }
+    ensures multiple { (k : ℕ) × (k * align ≡ page + result) }
+    ensures least { (k : ℕ) → page ≤ k * align → page + result ≤ k * align }
+{
+    let over = page % align;
+    if over == 0 { 0 } else { align - over }
+}
+
+// Whether a span, given by its key in the set by size, holds such a run.
 fn holds_run(size: Key, pages: u64, align: u64) -> bool
     requires { 0 < align }
     ensures { IsTrue result ↔ HoldsRun pages align (record { number = 0; first = size.minor; pages = size.major }) }
 {
-    let over = size.minor % align;
-    let skipped = if over == 0 { 0 } else { align - over };
+    let skipped = pages_to_multiple(size.minor, align);
     skipped <= size.major && pages <= size.major - skipped
 }
