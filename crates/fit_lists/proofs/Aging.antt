@@ -1,5 +1,5 @@
 -- One row gets a lower age that keeps its place.
-use Rattle.std.proofs.Common.{◌≡◌, ℕ, ◌+◌, ◌<◌, ◌≤◌, suc, zero, Bool, true, false, cond, not, List, [], ◌∷◌, ◌++◌, length, map, filter, find, Option, Some, None, Ordering, Less, Equal, Greater, is_lt, is_gt, nat_lt, ltb, eqb, ◌^◌, ◌≢◌, ◌⊎◌, inl, inr, refl, sym, ap, ◌∙◌, subst, arith, length-append}
+use Rattle.std.proofs.Common.{◌≡◌, ℕ, ◌+◌, ◌<◌, ◌≤◌, suc, zero, Bool, true, false, cond, not, List, [], ◌∷◌, ◌++◌, length, map, filter, find, Option, Some, None, Ordering, Less, Equal, Greater, is_lt, is_gt, nat_lt, ltb, eqb, ◌^◌, ◌≢◌, ◌⊎◌, inl, inr, refl, sym, ap, ◌∙◌, subst, arith, length-append, add-zero}
 use Rattle.std.specs.List.{Any, Contains, AllByRecursion as Every}
 use Rattle.std.specs.List.Sorted.{IsStrictlySortedBy}
 use Rattle.std.specs.Ordering.{ordering_reverse}
@@ -59,6 +59,10 @@ split (x ∷ xs) age key e = elim (cases_lt x.age age) [
         now = rw (le-ltb x.age age g)
       }
     ]
+
+-- the rows below an age
+abbrev pub young_rows : ℕ → List Row → List Row
+young_rows age rows = filter (λ x. ltb x.age age) rows
 
 -- ---- members of a list around one row
 
@@ -128,6 +132,25 @@ module _ (xs : List Row) (r : Row) (ys : List Row) (age : ℕ) (young : Every (�
         differs x m (sound.ages x r (mid_other xs r ys x m) (mid_self xs r ys) same)
       ]
 
+  later : (y : Row) → Contains ys y → age < y.age
+  later y m = let le = less_major (age_key r) (age_key y) (every_member _ ys older y m) in elim (cases_eq y.age age) [
+      | inl e ↦ absurd (other_age y (Contains-append_right xs ys y m) e)
+      | inr ne ↦ omega arith
+      ]
+
+  -- one more row is younger than the next age
+  pub count_mid : length (young_rows (age + 1) (xs ++ new ∷ ys)) ≡ length (young_rows age was) + 1
+  count_mid =
+    let low = filter_all (λ x. ltb x.age age) xs (every_map _ _ (λ x l. lt-ltb x.age age l) xs young) in
+    let low_next = filter_all (λ x. ltb x.age (age + 1)) xs (every_map _ _ (λ x l. lt-ltb x.age (age + 1) (omega arith)) xs young) in
+    let high = filter_none (λ x. ltb x.age age) ys (every_from _ ys (λ y m. let l = later y m in le-ltb y.age age (omega arith))) in
+    let high_next = filter_none (λ x. ltb x.age (age + 1)) ys (every_from _ ys (λ y m. let l = later y m in le-ltb y.age (age + 1) (omega arith))) in
+    let here : ltb r.age age ≡ false = le-ltb r.age age from in
+    let here_next : ltb age (age + 1) ≡ true = lt-ltb age (age + 1) (omega arith) in
+    let before = filter-append (λ x. ltb x.age age) xs (r ∷ ys) ∙ rw (low, here, high) refl in
+    let after = filter-append (λ x. ltb x.age (age + 1)) xs (new ∷ ys) ∙ rw (low_next, here_next, high_next) refl in
+    ap length after ∙ length-append xs (new ∷ []) ∙ sym (ap (λ n. n + 1) (ap length before ∙ length-append xs [] ∙ add-zero (length xs)))
+
   pub sound_aged : IsSound (xs ++ new ∷ ys)
   sound_aged =
     let into : (x : Row) → Contains (xs ++ new ∷ ys) x → Contains (others ++ new ∷ []) x = λ x m. elim (mid_cases xs new ys x m) [
@@ -196,12 +219,6 @@ module _ (xs : List Row) (r : Row) (ys : List Row) (age : ℕ) (young : Every (�
       filter-append _ (map age_key xs) (map age_key ys)
       ∙ rw (filter_none (is_above (age_key new)) (map age_key xs) (every_map _ _ (λ k e. ap is_gt e) _ low), filter_all (is_above (age_key new)) (map age_key ys) (every_map _ _ (λ k e. ap is_gt e) _ high)) in
     ap (λ ks. with_key ks (age_key new)) rest ∙ (λ j. below j ++ age_key new ∷ above j) ∙ sym (map-append age_key xs (new ∷ ys))
-    where
-    later : (y : Row) → Contains ys y → age < y.age
-    later y m = let le = less_major (age_key r) (age_key y) (every_member _ ys older y m) in elim (cases_eq y.age age) [
-      | inl e ↦ absurd (other_age y (Contains-append_right xs ys y m) e)
-      | inr ne ↦ omega arith
-      ]
 
 -- ---- the steps of a change of age
 
@@ -257,3 +274,48 @@ module _ (t : Table) (rows : List Row) (age : ℕ) (key : Key) (i : IsTable t ro
         lengths = rw l (kept length_key t.lengths.keys refl was'.lengths);
         sizes = rw s (kept size_key t.sizes.keys refl was'.sizes)
       })
+
+-- ---- all ages
+
+-- where not all rows are younger, there is a next one
+pub next_key : (rows : List Row) (age : ℕ) → length (young_rows age rows) < length rows → (key : Key) × (find (is_from (start age)) (map age_key rows) ≡ Some key)
+next_key [] age l = absurd (omega arith)
+next_key (x ∷ xs) age l = elim (cases_lt x.age age) [
+    | inl less ↦
+      let later : is_from (start age) (age_key x) ≡ false = elim (cases_Bool (is_from (start age) (age_key x))) [ inl t ↦ absurd (let g = from_start (age_key x) age t in omega arith) | inr f ↦ f ] in
+      let p = next_key xs age (let m : length (young_rows age (x ∷ xs)) ≡ suc (length (young_rows age xs)) = rw (lt-ltb x.age age less) refl in omega arith) in
+      (p.0, rw later p.1)
+    | inr g ↦ (age_key x, rw (start_from (age_key x) age g))
+    ]
+
+pub count_aged : (t : Table) (rows : List Row) (age : ℕ) (key : Key) → IsTable t rows → Split rows age key → length (young_rows (age + 1) (with_age rows age)) ≡ length (young_rows age rows) + 1
+count_aged t rows age key i p =
+    let was' : IsTable t (p.before ++ p.row ∷ p.after) = subst (IsTable t) p.is i in
+    ap (λ xs. length (young_rows (age + 1) xs)) p.now
+    ∙ count_mid p.before p.row p.after age p.young p.from was'.sound (subst IsAscending was'.ages i.ascending)
+    ∙ ap (λ xs. length (young_rows age xs) + 1) (sym p.is)
+
+pub listed_aged : (rows : List Row) (age : ℕ) → map listed (with_age rows age) ≡ map listed rows
+listed_aged [] age = refl
+listed_aged (x ∷ xs) age = elim (cases_lt x.age age) [
+    | inl l ↦ rw (lt-ltb x.age age l) (ap (λ ys. listed x ∷ ys) (listed_aged xs age))
+    | inr g ↦ rw (le-ltb x.age age g)
+    ]
+
+pub none_young : (rows : List Row) → length (young_rows 0 rows) ≡ 0
+none_young rows = ap length (filter_none _ rows (every_from _ rows (λ x m. le-ltb x.age 0 (omega arith))))
+
+young_le : (rows : List Row) (age : ℕ) → length (young_rows age rows) ≤ length rows
+young_le [] age = omega arith
+young_le (x ∷ xs) age = elim (cases_lt x.age age) [
+    | inl l ↦ rw (lt-ltb x.age age l) (omega (arith, young_le xs age))
+    | inr g ↦ rw (le-ltb x.age age g) (omega (arith, young_le xs age))
+    ]
+
+-- where as many rows are young as there are, all are
+pub all_young : (rows : List Row) (age : ℕ) → length (young_rows age rows) ≡ length rows → Every (λ x. x.age < age) rows
+all_young [] age e = tt
+all_young (x ∷ xs) age e = elim (cases_lt x.age age) [
+    | inl l ↦ (l, all_young xs age (let m : length (young_rows age (x ∷ xs)) ≡ suc (length (young_rows age xs)) = rw (lt-ltb x.age age l) refl in omega arith))
+    | inr g ↦ absurd (let m : length (young_rows age (x ∷ xs)) ≡ length (young_rows age xs) = rw (le-ltb x.age age g) refl in let b = young_le xs age in omega arith)
+    ]
