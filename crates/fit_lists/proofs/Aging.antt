@@ -83,7 +83,7 @@ module _ (xs : List Row) (r : Row) (ys : List Row) where
   mid_self = Contains-append_right xs (r ∷ ys) r (zero, omega arith, refl)
 
 -- the keys of the rows
-keys_each : (P : Key → Type 0) (rows : List Row) → Every P (map age_key rows) → Every (λ x. P (age_key x)) rows
+pub keys_each : (P : Key → Type 0) (rows : List Row) → Every P (map age_key rows) → Every (λ x. P (age_key x)) rows
 keys_each P [] e = tt
 keys_each P (x ∷ xs) e = (e.0, keys_each P xs e.1)
 

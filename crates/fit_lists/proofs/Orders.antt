@@ -1,12 +1,12 @@
 -- What the order of keys says of their numbers.
-use Rattle.std.proofs.Common.{◌≡◌, ℕ, ◌<◌, ◌≤◌, suc, zero, Bool, true, false, not, List, [], ◌∷◌, find, Option, Some, None, Ordering, Less, Equal, Greater, is_lt, nat_cmp, ◌⊎◌, inl, inr, refl, sym, ap, ◌∙◌, subst, arith}
+use Rattle.std.proofs.Common.{◌≡◌, ℕ, ◌<◌, ◌≤◌, suc, zero, Bool, true, false, not, List, [], ◌∷◌, find, Option, Some, None, Ordering, Less, Equal, Greater, is_lt, nat_cmp, ◌⊎◌, inl, inr, refl, sym, ap, ◌∙◌, subst, arith, length, slice_get, ◌-◌}
 use Rattle.std.specs.List.{Contains, AllByRecursion as Every}
 use Rattle.std.specs.List.Sorted.{IsStrictlySortedBy}
 use Rattle.std.specs.Ordering.{ordering_then, MatchOrdering}
 use Rattle.std.proofs.lemmas.Bool.{cases_Bool, cases_order, not-true, not-false, lt-ltb}
 use Rattle.std.proofs.lemmas.Cmp.{ranked}
 use Rattle.ordered_set.specs.declared.key.Key.{Key}
-use Rattle.ordered_set.specs.Keys.{key_cmp, IsAscending, is_below, is_from}
+use Rattle.ordered_set.specs.Keys.{key_cmp, IsAscending, is_below, is_from, last_of}
 use Rattle.ordered_set.proofs.Sorted.{every_member, less_from_lt}
 use Rattle.fit_lists.proofs.Members.{contains_cases, contains_later}
 
@@ -73,3 +73,16 @@ first_of (k ∷ ks) major x s m f = elim (cases_Bool (is_from (start major) k)) 
   later : is_from (start major) k ≡ false → (k ≡ x) ⊎ Contains ks x → Contains ks x
   later b (inl e) = absurd (let t = start_from k major (let g : k.major ≡ major = ap (λ y. y.major) e ∙ f in omega arith) in cc)
   later b (inr d) = d
+
+-- the last key has the greatest major number
+pub last_greatest : (ks : List Key) (last : Key) → IsAscending ks → Some last ≡ last_of ks → Every (λ k. k.major ≤ last.major) ks
+unfolding IsStrictlySortedBy
+last_greatest [] last s e = tt
+last_greatest (k ∷ []) last s e =
+    let same : Some last ≡ Some k = e in
+    let one : last ≡ k = cc in
+    (let m = ap (λ (y : Key). y.major) one in omega arith, tt)
+last_greatest (k ∷ (l ∷ ks)) last s e =
+    let place : length (k ∷ (l ∷ ks)) - 1 ≡ suc (length (l ∷ ks) - 1) = omega arith in
+    let deep = last_greatest (l ∷ ks) last s.1 (e ∙ ap (slice_get (k ∷ (l ∷ ks))) place) in
+    (let first = less_major k l s.0.0 in let more = deep.0 in omega arith, deep)

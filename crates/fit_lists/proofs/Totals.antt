@@ -1,9 +1,10 @@
 -- The spans of the rows, and the sums of their pages.
-use Rattle.std.proofs.Common.{◌≡◌, ◌==◌, ℕ, ◌+◌, ◌^◌, ◌<◌, ◌≤◌, suc, zero, Bool, true, false, not, List, [], ◌∷◌, ◌++◌, length, map, filter, Ordering, Less, Equal, ◌⊎◌, inl, inr, refl, sym, ap, ◌∙◌, subst, arith, length-append, Some, slice_get}
+use Rattle.std.proofs.Common.{◌≡◌, ◌==◌, ℕ, ◌+◌, ◌^◌, ◌<◌, ◌≤◌, suc, zero, Bool, true, false, not, List, [], ◌∷◌, ◌++◌, length, map, filter, Ordering, Less, Equal, ◌⊎◌, inl, inr, refl, sym, ap, ◌∙◌, subst, arith, length-append, Some, slice_get, add-zero}
 use Rattle.std.specs.List.{All, Any, Contains, sum_by, AllByRecursion as Every}
 use Rattle.std.specs.List.Sorted.{IsStrictlySortedBy}
 use Rattle.std.proofs.lemmas.Bool.{cases_Bool, eqb-true, eq-eqb, ne_eqb, not_from_false}
 use Rattle.std.proofs.lemmas.List.{length-map}
+use Rattle.std.proofs.lemmas.List.Elements.{All-contains}
 use Rattle.std.proofs.lemmas.List.Sums.{sum_by-cons, sum_by-append}
 use Rattle.std.proofs.lemmas.Cmp.{tied_itself}
 use Rattle.ordered_set.specs.declared.key.Key.{Key}
@@ -13,11 +14,11 @@ use Rattle.ordered_set.proofs.KeyOrder.{key_tie, key_total}
 use Rattle.ordered_set.proofs.Sorted.{absent, every_member, filter_all, others_is, parts, present}
 use Rattle.fit_lists.specs.declared.table.Row.{Row}
 use Rattle.fit_lists.specs.declared.table.Table.{Table}
-use Rattle.fit_lists.specs.Rows.{IsIndex, IsSound, IsTable, age_key, length_key, listed}
-use Rattle.fit_lists.specs.Spans.{Listed}
+use Rattle.fit_lists.specs.Rows.{IsIndex, IsNext, IsSound, IsTable, age_key, length_key, listed}
+use Rattle.fit_lists.specs.Spans.{IsApart, Listed}
 use Rattle.fit_lists.proofs.Members.{contains_cases, contains_later, every_from}
 use Rattle.fit_lists.proofs.Orders.{less_parts}
-use Rattle.fit_lists.proofs.Tables.{age_present, ages_without, other_rows}
+use Rattle.fit_lists.proofs.Tables.{age_present, ages_without, length_absent, other_rows}
 
 -- ---- spans and rows
 
@@ -158,3 +159,45 @@ any_first rows r first (k, l, e) f = (k, r, l, e, f)
 -- the number that the owners give for the first page of a row
 pub number_is : (rows : List Row) (r : Row) (number : ℕ) → IsSound rows → Contains rows r → Any (λ x. (x.first ≡ r.first) × (x.number ≡ number)) rows → r.number ≡ number
 number_is rows r number s m (k, x, l, e, f) = ap (λ (y : Row). y.number) (s.firsts r x m (k, l, e) (sym f.0)) ∙ f.1
+
+-- ---- a row more
+
+pub sum_listed : (rows : List Row) → sum_by (λ s. s.pages) (map listed rows) ≡ sum_by (λ r. r.pages) rows
+sum_listed [] = refl
+sum_listed (x ∷ xs) = sum_by-cons (λ (s : Listed). s.pages) (listed x) (map listed xs) ∙ ap (λ n. x.pages + n) (sum_listed xs) ∙ sym (sum_by-cons (λ (r : Row). r.pages) x xs)
+
+pub same_sum : (rows rows' : List Row) → map listed rows' ≡ map listed rows → sum_by (λ r. r.pages) rows' ≡ sum_by (λ r. r.pages) rows
+same_sum rows rows' e = sym (sum_listed rows') ∙ ap (sum_by (λ s. s.pages)) e ∙ sum_listed rows
+
+pub same_length : (rows rows' : List Row) → map listed rows' ≡ map listed rows → length rows' ≡ length rows
+same_length rows rows' e = sym (length-map rows' listed) ∙ ap length e ∙ length-map rows listed
+
+-- what the spans say of a row that may come next
+pub next_row : (rows : List Row) (spans : List Listed) (r : Row) → map listed rows ≡ spans → r.number < 2 ^ 32 → 0 < r.pages → r.first + r.pages ≤ 2 ^ 32 → All (λ s. s.number ≡ r.number → ⊥) spans → All (IsApart r.first r.pages) spans → All (λ x. x.age < r.age) rows → IsNext rows r
+next_row rows spans r e number some within fresh apart later =
+    let span : (x : Row) → Contains rows x → Contains spans (listed x) = λ x m. subst (λ ss. Contains ss (listed x)) e (listed_has rows x m) in
+    record {
+      number = number;
+      some = some;
+      within = within;
+      new = λ x m. All-contains (λ s. s.number ≡ r.number → ⊥) spans (listed x) fresh (span x m);
+      apart = λ x m. All-contains (IsApart r.first r.pages) spans (listed x) apart (span x m);
+      later = λ x m. All-contains (λ x. x.age < r.age) rows x later m
+    }
+
+-- the sums after an insertion
+pub record Grown (t : Table) (rows : List Row) (pages : ℕ) : Type 0 where
+  pub sum : sum_by (λ r. r.pages) rows ≡ pages
+  pub keys : sum_by (λ k. k.minor) t.lengths.keys ≡ pages
+  pub bound : pages ≤ 2 ^ 32
+
+pub grown : (t t' : Table) (rows rows' : List Row) (r : Row) → IsTable t rows → IsNext rows r → IsTable t' rows' → rows' ≡ rows ++ r ∷ [] → t'.lengths.keys ≡ with_key t.lengths.keys (length_key r) → sum_by (λ k. k.minor) t.lengths.keys ≡ sum_by (λ x. x.pages) rows → Grown t' rows' (sum_by (λ x. x.pages) rows + r.pages)
+grown t t' rows rows' r i next i' e l same =
+    let keys : sum_by (λ k. k.minor) t'.lengths.keys ≡ sum_by (λ x. x.pages) rows + r.pages =
+      ap (sum_by (λ k. k.minor)) l ∙ sum_with (λ k. k.minor) t.lengths.keys (length_key r) i.lengths.ascending (length_absent t rows r i next) ∙ ap (λ n. n + r.pages) same in
+    let bound = pages_bound t' rows' i' in
+    record {
+      sum = ap (sum_by (λ x. x.pages)) e ∙ sum_by-append (λ (x : Row). x.pages) rows (r ∷ []) ∙ ap (λ n. sum_by (λ (x : Row). x.pages) rows + n) (sum_by-cons (λ (x : Row). x.pages) r [] ∙ add-zero r.pages);
+      keys = keys;
+      bound = omega arith
+    }
