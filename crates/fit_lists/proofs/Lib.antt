@@ -1,4 +1,5 @@
 pub mod Aging
+pub mod Fits
 pub mod Members
 pub mod Orders
 pub mod Tables
