@@ -1,14 +1,14 @@
 -- A table's rows and the keys of its sets, after an insertion and after a removal.
-use Rattle.std.proofs.Common.{◌≡◌, ◌==◌, ℕ, ◌+◌, ◌^◌, ◌<◌, ◌≤◌, suc, zero, Bool, true, false, cond, not, List, [], ◌∷◌, ◌++◌, length, map, filter, find, Option, Some, None, option_map, unwrap_or, Ordering, Less, Equal, Greater, is_lt, is_gt, is_eq, ◌≢◌, ◌⊎◌, inl, inr, refl, sym, ap, ◌∙◌, subst, arith}
+use Rattle.std.proofs.Common.{◌≡◌, ◌==◌, ℕ, ◌+◌, ◌^◌, ◌<◌, ◌≤◌, suc, zero, Bool, true, false, not, List, [], ◌∷◌, ◌++◌, map, filter, find, option_map, unwrap_or, Less, Equal, is_lt, is_gt, ◌≢◌, ◌⊎◌, inl, inr, refl, sym, ap, ◌∙◌, subst, arith}
 use Rattle.std.specs.List.{Any, Contains, AllByRecursion as Every}
-use Rattle.std.proofs.lemmas.Bool.{cond-true, cond-false, cases_Bool, eqb-true, eq-eqb, ne_eqb, not-true, not_from_false, lt-ltb}
-use Rattle.std.proofs.lemmas.List.{map_push, append-nil}
+use Rattle.std.proofs.lemmas.Bool.{cases_Bool, eqb-true, eq-eqb, ne_eqb, not_from_false, lt-ltb}
+use Rattle.std.proofs.lemmas.List.{map_push}
 use Rattle.std.proofs.lemmas.List.Elements.{Contains-append_left, Contains-append_right}
 use Rattle.std.proofs.lemmas.Cmp.{tied_itself}
 use Rattle.std.specs.List.Sorted.{IsStrictlySortedBy}
 use Rattle.ordered_set.specs.declared.key.Key.{Key}
 use Rattle.ordered_set.specs.Keys.{key_cmp, IsAscending, is_above, is_below, is_other, with_key, without_key}
-use Rattle.ordered_set.proofs.KeyOrder.{key_tie, key_total}
+use Rattle.ordered_set.proofs.KeyOrder.{key_total}
 use Rattle.ordered_set.proofs.Sorted.{filter_all, filter_none, every_map}
 use Rattle.fit_lists.specs.declared.table.Row.{Row}
 use Rattle.fit_lists.specs.declared.table.Table.{Table}
@@ -35,21 +35,21 @@ index_with f rows ks ks' r i s e = record {
   from = λ k m. elim (with_from ks (f r) k (subst (λ z. Contains z k) e m)) [
     | inl same ↦ (r, Contains-append_right rows (r ∷ []) r (zero, omega arith, refl), sym same)
     | inr old ↦ let p = i.from k old in (p.0, Contains-append_left rows (r ∷ []) p.0 p.1, p.2)
-    ]
+  ];
 }
 
 pub index_without : (f : Row → Key) (rows : List Row) (ks ks' : List Key) (r : Row) → IsIndex f rows ks → IsAscending ks' → ks' ≡ without_key ks (f r) → ((x : Row) → Contains rows x → f x ≡ f r → x.number ≡ r.number) → ((x : Row) → Contains rows x → x.number ≡ r.number → x ≡ r) → IsIndex f (other_rows r.number rows) ks'
 index_without f rows ks ks' r i s e inj own = record {
   ascending = s;
   has = λ x m.
-    let p = filter_from (λ x. not (x.number == r.number)) rows x m in
-    let other : f x ≢ f r = λ same. let n : not (x.number == r.number) ≡ false = ap not (eq-eqb x.number r.number (inj x p.0 same)) in let t : true ≡ false = sym p.1 ∙ n in cc in
-    rw e (without_keeps ks (f r) (f x) (i.has x p.0) other);
+      let p = filter_from (λ x. not (x.number == r.number)) rows x m in
+      let other : f x ≢ f r = λ same. let n : not (x.number == r.number) ≡ false = ap not (eq-eqb x.number r.number (inj x p.0 same)) in let t : true ≡ false = sym p.1 ∙ n in cc in
+      rw e (without_keeps ks (f r) (f x) (i.has x p.0) other);
   from = λ k m.
-    let p = without_from ks (f r) k (subst (λ z. Contains z k) e m) in
-    let q = i.from k p.0 in
-    let other : q.0.number ≡ r.number → ⊥ = λ same. p.1 (sym q.2 ∙ ap f (own q.0 q.1 same)) in
-    (q.0, filter_has (λ x. not (x.number == r.number)) rows q.0 q.1 (not_from_false _ (ne_eqb q.0.number r.number other)), q.2)
+      let p = without_from ks (f r) k (subst (λ z. Contains z k) e m) in
+      let q = i.from k p.0 in
+      let other : q.0.number ≡ r.number → ⊥ = λ same. p.1 (sym q.2 ∙ ap f (own q.0 q.1 same)) in
+      (q.0, filter_has (λ x. not (x.number == r.number)) rows q.0 q.1 (not_from_false _ (ne_eqb q.0.number r.number other)), q.2);
 }
 
 -- ---- the rows from the sets
@@ -57,13 +57,13 @@ index_without f rows ks ks' r i s e inj own = record {
 find_minor : (ks : List Key) (major minor : ℕ) → Contains ks (record { major = major; minor = minor }) → ((k : Key) → Contains ks k → k.major ≡ major → k.minor ≡ minor) → unwrap_or (option_map (λ k. k.minor) (find (λ k. k.major == major) ks)) 0 ≡ minor
 find_minor [] major minor (k, l, e) own = absurd (omega arith)
 find_minor (k ∷ ks) major minor m own = elim (cases_Bool (k.major == major)) [
-    | inl t ↦ rw t (own k (zero, omega arith, refl) (eqb-true k.major major t))
-    | inr f ↦ rw f (find_minor ks major minor (later (contains_cases k ks _ m) f) (λ y n. own y (contains_later k ks y n)))
-    ]
+  | inl t ↦ rw t (own k (zero, omega arith, refl) (eqb-true k.major major t))
+  | inr f ↦ rw f (find_minor ks major minor (later (contains_cases k ks _ m) f) (λ y n. own y (contains_later k ks y n)))
+]
   where
-  later : (k ≡ record { major = major; minor = minor }) ⊎ Contains ks (record { major = major; minor = minor }) → (k.major == major) ≡ false → Contains ks (record { major = major; minor = minor })
-  later (inl same) f = absurd (let t : (k.major == major) ≡ true = eq-eqb k.major major (ap (λ y. y.major) same) in cc)
-  later (inr deep) f = deep
+    later : (k ≡ record { major = major; minor = minor }) ⊎ Contains ks (record { major = major; minor = minor }) → (k.major == major) ≡ false → Contains ks (record { major = major; minor = minor })
+    later (inl same) f = absurd (let t : (k.major == major) ≡ true = eq-eqb k.major major (ap (λ y. y.major) same) in cc)
+    later (inr deep) f = deep
 
 pub minor_is : (ks : List Key) (major minor : ℕ) → Contains ks (record { major = major; minor = minor }) → ((k : Key) → Contains ks k → k.major ≡ major → k.minor ≡ minor) → minor_of ks major ≡ minor
 unfolding minor_of
@@ -78,11 +78,11 @@ pub rows_are : (t : Table) (rows : List Row) → IsTable t rows → rows_of t �
 unfolding rows_of
 rows_are t rows i = ap (map (row_at t)) i.ages ∙ map_each (row_at t) rows (every_from _ rows (λ x m. each x m))
   where
-  each : (x : Row) → Contains rows x → row_at t (age_key x) ≡ x
-  each x m =
-    let number : minor_of t.owners.keys x.first ≡ x.number = minor_is t.owners.keys x.first x.number (i.owners.has x m) (λ k n same. let p = i.owners.from k n in sym (ap (λ y. y.minor) p.2) ∙ ap (λ (y : Row). y.number) (i.sound.firsts p.0 x p.1 m (ap (λ y. y.major) p.2 ∙ same))) in
-    let pages : minor_of t.lengths.keys x.first ≡ x.pages = minor_is t.lengths.keys x.first x.pages (i.lengths.has x m) (λ k n same. let p = i.lengths.from k n in sym (ap (λ y. y.minor) p.2) ∙ ap (λ (y : Row). y.pages) (i.sound.firsts p.0 x p.1 m (ap (λ y. y.major) p.2 ∙ same))) in
-    λ j. record { number = number j; first = x.first; pages = pages j; age = x.age }
+    each : (x : Row) → Contains rows x → row_at t (age_key x) ≡ x
+    each x m =
+        let number : minor_of t.owners.keys x.first ≡ x.number = minor_is t.owners.keys x.first x.number (i.owners.has x m) (λ k n same. let p = i.owners.from k n in sym (ap (λ y. y.minor) p.2) ∙ ap (λ (y : Row). y.number) (i.sound.firsts p.0 x p.1 m (ap (λ y. y.major) p.2 ∙ same))) in
+        let pages : minor_of t.lengths.keys x.first ≡ x.pages = minor_is t.lengths.keys x.first x.pages (i.lengths.has x m) (λ k n same. let p = i.lengths.from k n in sym (ap (λ y. y.minor) p.2) ∙ ap (λ (y : Row). y.pages) (i.sound.firsts p.0 x p.1 m (ap (λ y. y.major) p.2 ∙ same))) in
+        λ j. record { number = number j; first = x.first; pages = pages j; age = x.age }
 
 -- ---- soundness
 
@@ -94,7 +94,7 @@ sound_new = record {
   apart = λ x y (k, l, e) n. absurd (omega arith);
   number = λ x (k, l, e). absurd (omega arith);
   some = λ x (k, l, e). absurd (omega arith);
-  within = λ x (k, l, e). absurd (omega arith)
+  within = λ x (k, l, e). absurd (omega arith);
 }
 
 pub sound_filter : (p : Row → Bool) (rows : List Row) → IsSound rows → IsSound (filter p rows)
@@ -107,15 +107,15 @@ sound_filter p rows s =
       apart = λ x y m n. s.apart x y (in' x m) (in' y n);
       number = λ x m. s.number x (in' x m);
       some = λ x m. s.some x (in' x m);
-      within = λ x m. s.within x (in' x m)
+      within = λ x m. s.within x (in' x m);
     }
 
 -- a fact of two rows, of which one is new
 pub two_rows : (rows : List Row) (r : Row) (P : Row → Row → Type 0) → ((x y : Row) → Contains rows x → Contains rows y → P x y) → ((x : Row) → Contains rows x → P x r) → ((y : Row) → Contains rows y → P r y) → P r r → (x y : Row) → Contains (rows ++ r ∷ []) x → Contains (rows ++ r ∷ []) y → P x y
 two_rows rows r P old left right new x y m n = elim (push_cases rows r x m) [
-    | inl e ↦ elim (push_cases rows r y n) [ inl f ↦ rw (e, f) new | inr b ↦ rw e (right y b) ]
-    | inr a ↦ elim (push_cases rows r y n) [ inl f ↦ rw f (left x a) | inr b ↦ old x y a b ]
-    ]
+  | inl e ↦ elim (push_cases rows r y n) [ inl f ↦ rw (e, f) new | inr b ↦ rw e (right y b) ]
+  | inr a ↦ elim (push_cases rows r y n) [ inl f ↦ rw f (left x a) | inr b ↦ old x y a b ]
+]
 
 pub one_row : (rows : List Row) (r : Row) (P : Row → Type 0) → ((x : Row) → Contains rows x → P x) → P r → (x : Row) → Contains (rows ++ r ∷ []) x → P x
 one_row rows r P old new x m = elim (push_cases rows r x m) [ inl e ↦ rw e new | inr a ↦ old x a ]
@@ -129,12 +129,12 @@ sound_with rows r s n = record {
   ages = two_rows rows r (λ x y. x.age ≡ y.age → x ≡ y) s.ages (λ x m e. let l = n.later x m in absurd (omega arith)) (λ y m e. let l = n.later y m in absurd (omega arith)) (λ e. refl);
   firsts = two_rows rows r (λ x y. x.first ≡ y.first → x ≡ y) s.firsts (λ x m e. absurd (first_new rows r s n x m e)) (λ y m e. absurd (first_new rows r s n y m (sym e))) (λ e. refl);
   apart = two_rows rows r (λ x y. x.first < y.first → x.first + x.pages ≤ y.first) s.apart
-    (λ x m l. let more = n.some in elim (n.apart x m) [ inl a ↦ a | inr b ↦ omega arith ])
-    (λ y m l. let more = s.some y m in elim (n.apart y m) [ inl a ↦ omega arith | inr b ↦ b ])
-    (λ l. absurd (omega arith));
+      (λ x m l. let more = n.some in elim (n.apart x m) [ inl a ↦ a | inr b ↦ omega arith ])
+      (λ y m l. let more = s.some y m in elim (n.apart y m) [ inl a ↦ omega arith | inr b ↦ b ])
+      (λ l. absurd (omega arith));
   number = one_row rows r (λ x. x.number < 2 ^ 32) s.number n.number;
   some = one_row rows r (λ x. 0 < x.pages) s.some n.some;
-  within = one_row rows r (λ x. x.first + x.pages ≤ 2 ^ 32) s.within n.within
+  within = one_row rows r (λ x. x.first + x.pages ≤ 2 ^ 32) s.within n.within;
 }
 
 -- ---- the set by age
@@ -157,19 +157,19 @@ ages_with rows r later =
 filter_map : (p : Key → Bool) (q : Row → Bool) (rows : List Row) → Every (λ x. p (age_key x) ≡ q x) rows → filter p (map age_key rows) ≡ map age_key (filter q rows)
 filter_map p q [] e = refl
 filter_map p q (x ∷ xs) e = elim (cases_Bool (q x)) [
-    | inl t ↦ rw (e.0, t) (ap (λ ks. age_key x ∷ ks) (filter_map p q xs e.1))
-    | inr f ↦ rw (e.0, f) (filter_map p q xs e.1)
-    ]
+  | inl t ↦ rw (e.0, t) (ap (λ ks. age_key x ∷ ks) (filter_map p q xs e.1))
+  | inr f ↦ rw (e.0, f) (filter_map p q xs e.1)
+]
 
 pub ages_without : (rows : List Row) (r : Row) → IsSound rows → Contains rows r → without_key (map age_key rows) (age_key r) ≡ map age_key (other_rows r.number rows)
 ages_without rows r s m = filter_map (is_other (age_key r)) (λ x. not (x.number == r.number)) rows (every_from _ rows (λ x n. each x n (cases_Bool (x.number == r.number))))
   where
-  each : (x : Row) → Contains rows x → ((x.number == r.number) ≡ true) ⊎ ((x.number == r.number) ≡ false) → is_other (age_key r) (age_key x) ≡ not (x.number == r.number)
-  each x n (inl t) =
-    let same : x ≡ r = s.numbers x r n m (eqb-true x.number r.number t) in
-    let itself : key_cmp (age_key x) (age_key r) ≡ Equal = subst (λ y. key_cmp (age_key y) (age_key r) ≡ Equal) (sym same) (tied_itself key_total (age_key r)) in
-    rw (itself, t)
-  each x n (inr f) = rw f (other_from (age_key r) (age_key x) (λ e. let same : x ≡ r = s.ages x r n m (ap (λ k. k.major) e) in let t : (x.number == r.number) ≡ true = eq-eqb x.number r.number (ap (λ (y : Row). y.number) same) in cc))
+    each : (x : Row) → Contains rows x → ((x.number == r.number) ≡ true) ⊎ ((x.number == r.number) ≡ false) → is_other (age_key r) (age_key x) ≡ not (x.number == r.number)
+    each x n (inl t) =
+        let same : x ≡ r = s.numbers x r n m (eqb-true x.number r.number t) in
+        let itself : key_cmp (age_key x) (age_key r) ≡ Equal = subst (λ y. key_cmp (age_key y) (age_key r) ≡ Equal) (sym same) (tied_itself key_total (age_key r)) in
+        rw (itself, t)
+    each x n (inr f) = rw f (other_from (age_key r) (age_key x) (λ e. let same : x ≡ r = s.ages x r n m (ap (λ k. k.major) e) in let t : (x.number == r.number) ≡ true = eq-eqb x.number r.number (ap (λ (y : Row). y.number) same) in cc))
 
 -- ---- the whole table
 
@@ -185,7 +185,7 @@ table_new t a n o l s = record {
   numbers = rw n (index_new number_key);
   owners = rw o (index_new owner_key);
   lengths = rw l (index_new length_key);
-  sizes = rw s (index_new size_key)
+  sizes = rw s (index_new size_key);
 }
 
 -- other sets with the same keys
@@ -197,7 +197,7 @@ table_same t t' rows i a n o l s = record {
   numbers = rw n i.numbers;
   owners = rw o i.owners;
   lengths = rw l i.lengths;
-  sizes = rw s i.sizes
+  sizes = rw s i.sizes;
 }
 
 -- a set after an insertion, and after a removal
@@ -215,7 +215,7 @@ table_with t t' rows r i next a n o l s = record {
   numbers = index_with number_key rows t.numbers.keys t'.numbers.keys r i.numbers n.1 n.0;
   owners = index_with owner_key rows t.owners.keys t'.owners.keys r i.owners o.1 o.0;
   lengths = index_with length_key rows t.lengths.keys t'.lengths.keys r i.lengths l.1 l.0;
-  sizes = index_with size_key rows t.sizes.keys t'.sizes.keys r i.sizes s.1 s.0
+  sizes = index_with size_key rows t.sizes.keys t'.sizes.keys r i.sizes s.1 s.0;
 }
 
 pub table_without : (t t' : Table) (rows : List Row) (r : Row) → IsTable t rows → Contains rows r → Loses t.ages.keys t'.ages.keys (age_key r) → Loses t.numbers.keys t'.numbers.keys (number_key r) → Loses t.owners.keys t'.owners.keys (owner_key r) → Loses t.lengths.keys t'.lengths.keys (length_key r) → Loses t.sizes.keys t'.sizes.keys (size_key r) → IsTable t' (other_rows r.number rows)
@@ -229,7 +229,7 @@ table_without t t' rows r i m a n o l s =
       numbers = index_without number_key rows t.numbers.keys t'.numbers.keys r i.numbers n.1 n.0 (λ x k e. ap (λ y. y.major) e) own;
       owners = index_without owner_key rows t.owners.keys t'.owners.keys r i.owners o.1 o.0 (λ x k e. by_first x k (ap (λ y. y.major) e)) own;
       lengths = index_without length_key rows t.lengths.keys t'.lengths.keys r i.lengths l.1 l.0 (λ x k e. by_first x k (ap (λ y. y.major) e)) own;
-      sizes = index_without size_key rows t.sizes.keys t'.sizes.keys r i.sizes s.1 s.0 (λ x k e. by_first x k (ap (λ y. y.minor) e)) own
+      sizes = index_without size_key rows t.sizes.keys t'.sizes.keys r i.sizes s.1 s.0 (λ x k e. by_first x k (ap (λ y. y.minor) e)) own;
     }
 
 -- ---- a new row has no key yet
@@ -237,9 +237,9 @@ table_without t t' rows r i m a n o l s =
 pub map_member : (f : Row → Key) (rows : List Row) (k : Key) → Contains (map f rows) k → (x : Row) × Contains rows x × (f x ≡ k)
 map_member f [] k (n, l, e) = absurd (omega arith)
 map_member f (x ∷ xs) k m = elim (contains_cases (f x) (map f xs) k m) [
-    | inl e ↦ (x, (zero, omega arith, refl), e)
-    | inr d ↦ let p = map_member f xs k d in (p.0, contains_later x xs p.0 p.1, p.2)
-    ]
+  | inl e ↦ (x, (zero, omega arith, refl), e)
+  | inr d ↦ let p = map_member f xs k d in (p.0, contains_later x xs p.0 p.1, p.2)
+]
 
 pub age_absent : (t : Table) (rows : List Row) (r : Row) → IsTable t rows → IsNext rows r → Contains t.ages.keys (age_key r) → ⊥
 age_absent t rows r i next m =
@@ -265,10 +265,10 @@ size_absent t rows r i next = index_absent size_key rows t.sizes.keys r i.sizes 
 pub age_present : (t : Table) (rows : List Row) (r : Row) → IsTable t rows → Contains rows r → Contains t.ages.keys (age_key r)
 age_present t rows r i m = rw i.ages (map_has rows m)
   where
-  map_has : (xs : List Row) → Contains xs r → Contains (map age_key xs) (age_key r)
-  map_has [] (k, l, e) = absurd (omega arith)
-  map_has (x ∷ xs) (zero, l, e) = (zero, omega arith, ap age_key e)
-  map_has (x ∷ xs) (suc k, l, e) = contains_later (age_key x) (map age_key xs) (age_key r) (map_has xs (k, omega arith, e))
+    map_has : (xs : List Row) → Contains xs r → Contains (map age_key xs) (age_key r)
+    map_has [] (k, l, e) = absurd (omega arith)
+    map_has (x ∷ xs) (zero, l, e) = (zero, omega arith, ap age_key e)
+    map_has (x ∷ xs) (suc k, l, e) = contains_later (age_key x) (map age_key xs) (age_key r) (map_has xs (k, omega arith, e))
 
 -- ---- a row by its number
 

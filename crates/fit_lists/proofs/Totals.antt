@@ -1,6 +1,6 @@
 -- The spans of the rows, and the sums of their pages.
-use Rattle.std.proofs.Common.{◌≡◌, ◌==◌, ℕ, ◌+◌, ◌^◌, ◌<◌, ◌≤◌, suc, zero, Bool, true, false, not, List, [], ◌∷◌, ◌++◌, length, map, filter, Ordering, Less, Equal, ◌⊎◌, inl, inr, refl, sym, ap, ◌∙◌, subst, arith, length-append, Some, slice_get, add-zero}
-use Rattle.std.specs.List.{All, Any, Contains, sum_by, AllByRecursion as Every}
+use Rattle.std.proofs.Common.{◌≡◌, ◌==◌, ℕ, ◌+◌, ◌^◌, ◌<◌, ◌≤◌, suc, zero, true, not, List, [], ◌∷◌, ◌++◌, length, map, filter, Less, Equal, inl, inr, refl, sym, ap, ◌∙◌, subst, arith, Some, slice_get, add-zero}
+use Rattle.std.specs.List.{All, Any, Contains, sum_by}
 use Rattle.std.specs.List.Sorted.{IsStrictlySortedBy}
 use Rattle.std.proofs.lemmas.Bool.{cases_Bool, eqb-true, eq-eqb, ne_eqb, not_from_false}
 use Rattle.std.proofs.lemmas.List.{length-map}
@@ -14,7 +14,7 @@ use Rattle.ordered_set.proofs.KeyOrder.{key_tie, key_total}
 use Rattle.ordered_set.proofs.Sorted.{absent, every_member, filter_all, others_is, parts, present}
 use Rattle.fit_lists.specs.declared.table.Row.{Row}
 use Rattle.fit_lists.specs.declared.table.Table.{Table}
-use Rattle.fit_lists.specs.Rows.{IsIndex, IsNext, IsSound, IsTable, age_key, length_key, listed}
+use Rattle.fit_lists.specs.Rows.{IsNext, IsSound, IsTable, age_key, length_key, listed}
 use Rattle.fit_lists.specs.Spans.{IsApart, Listed}
 use Rattle.fit_lists.proofs.Members.{contains_cases, contains_later, every_from}
 use Rattle.fit_lists.proofs.Orders.{less_parts}
@@ -29,9 +29,9 @@ listed_has (x ∷ xs) r m = elim (contains_cases x xs r m) [ inl e ↦ (zero, om
 pub listed_from : (rows : List Row) (s : Listed) → Contains (map listed rows) s → (r : Row) × Contains rows r × (listed r ≡ s)
 listed_from [] s (k, l, e) = absurd (omega arith)
 listed_from (x ∷ xs) s m = elim (contains_cases (listed x) (map listed xs) s m) [
-    | inl e ↦ (x, (zero, omega arith, refl), e)
-    | inr d ↦ let p = listed_from xs s d in (p.0, contains_later x xs p.0 p.1, p.2)
-    ]
+  | inl e ↦ (x, (zero, omega arith, refl), e)
+  | inr d ↦ let p = listed_from xs s d in (p.0, contains_later x xs p.0 p.1, p.2)
+]
 
 pub any_listed : (rows : List Row) (n : ℕ) → Any (λ s. s.number ≡ n) (map listed rows) → Any (λ r. r.number ≡ n) rows
 any_listed rows n (k, s, l, e, f) =
@@ -42,9 +42,9 @@ any_listed rows n (k, s, l, e, f) =
 pub listed_others : (rows : List Row) (n : ℕ) → map listed (other_rows n rows) ≡ filter (λ s. not (s.number == n)) (map listed rows)
 listed_others [] n = refl
 listed_others (x ∷ xs) n = elim (cases_Bool (x.number == n)) [
-    | inl t ↦ rw t (listed_others xs n)
-    | inr f ↦ rw f (ap (λ ys. listed x ∷ ys) (listed_others xs n))
-    ]
+  | inl t ↦ rw t (listed_others xs n)
+  | inr f ↦ rw f (ap (λ ys. listed x ∷ ys) (listed_others xs n))
+]
 
 -- ---- a row less
 
@@ -52,32 +52,33 @@ rows_less : (f : Row → ℕ) (rows : List Row) (r : Row) → IsAscending (map a
 unfolding IsStrictlySortedBy
 rows_less f [] r s own (k, l, e) = absurd (omega arith)
 rows_less f (x ∷ xs) r s own m = elim (cases_Bool (x.number == r.number)) [
-    | inl t ↦
+  | inl t ↦
       let same : x ≡ r = own x (zero, omega arith, refl) (eqb-true x.number r.number t) in
       let rest : other_rows r.number xs ≡ xs = filter_all _ xs (every_from _ xs (λ y n. not_from_false _ (ne_eqb y.number r.number (λ e. twice y n (own y (contains_later x xs y n) e ∙ sym same))))) in
       let sum = sum_by-cons f x xs in
       let value = ap f same in
       rw (t, rest) (omega arith)
-    | inr b ↦
+  | inr b ↦
       let deep : Contains xs r = elim (contains_cases x xs r m) [
         | inl e ↦ absurd (let t : (x.number == r.number) ≡ true = eq-eqb x.number r.number (ap (λ (y : Row). y.number) e) in cc)
         | inr d ↦ d
-        ] in
+      ] in
       let less = rows_less f xs r s.1 (λ y n. own y (contains_later x xs y n)) deep in
       let sum = sum_by-cons f x xs in
       let kept = sum_by-cons f x (other_rows r.number xs) in
       rw b (omega arith)
-    ]
+]
   where
-  keys_has : (ys : List Row) (y : Row) → Contains ys y → Contains (map age_key ys) (age_key y)
-  keys_has [] y (k, l, e) = absurd (omega arith)
-  keys_has (z ∷ zs) y (zero, l, e) = (zero, omega arith, ap age_key e)
-  keys_has (z ∷ zs) y (suc k, l, e) = contains_later (age_key z) (map age_key zs) (age_key y) (keys_has zs y (k, omega arith, e))
-  twice : (y : Row) → Contains xs y → y ≡ x → ⊥
-  twice y n e =
-    let l : key_cmp (age_key x) (age_key y) ≡ Less = every_member _ (map age_key xs) s.0 (age_key y) (keys_has xs y n) in
-    let itself : key_cmp (age_key x) (age_key y) ≡ Equal = subst (λ (z : Row). key_cmp (age_key x) (age_key z) ≡ Equal) (sym e) (tied_itself key_total (age_key x)) in
-    let f : Less ≡ Equal = sym l ∙ itself in cc
+    keys_has : (ys : List Row) (y : Row) → Contains ys y → Contains (map age_key ys) (age_key y)
+    keys_has [] y (k, l, e) = absurd (omega arith)
+    keys_has (z ∷ zs) y (zero, l, e) = (zero, omega arith, ap age_key e)
+    keys_has (z ∷ zs) y (suc k, l, e) = contains_later (age_key z) (map age_key zs) (age_key y) (keys_has zs y (k, omega arith, e))
+
+    twice : (y : Row) → Contains xs y → y ≡ x → ⊥
+    twice y n e =
+        let l : key_cmp (age_key x) (age_key y) ≡ Less = every_member _ (map age_key xs) s.0 (age_key y) (keys_has xs y n) in
+        let itself : key_cmp (age_key x) (age_key y) ≡ Equal = subst (λ (z : Row). key_cmp (age_key x) (age_key z) ≡ Equal) (sym e) (tied_itself key_total (age_key x)) in
+        let f : Less ≡ Equal = sym l ∙ itself in cc
 
 pub sum_less : (f : Row → ℕ) (t : Table) (rows : List Row) (r : Row) → IsTable t rows → Contains rows r → sum_by f (other_rows r.number rows) + f r ≡ sum_by f rows
 sum_less f t rows r i m = rows_less f rows r (subst IsAscending i.ages i.ascending) (λ y n e. i.sound.numbers y r n m e) m
@@ -125,23 +126,24 @@ pub pages_bound : (t : Table) (rows : List Row) → IsTable t rows → sum_by (�
 pages_bound t rows i =
     let bound = spread (2 ^ 32) t.lengths.keys 0 i.lengths.ascending (λ k m. inside k m) (λ k l m n e. apart k l m n e) (omega arith) (λ k m. omega arith) in omega arith
   where
-  inside : (k : Key) → Contains t.lengths.keys k → k.major + k.minor ≤ 2 ^ 32
-  inside k m = let p = i.lengths.from k m in subst (λ (y : Key). y.major + y.minor ≤ 2 ^ 32) p.2 (i.sound.within p.0 p.1)
-  apart : (k l : Key) → Contains t.lengths.keys k → Contains t.lengths.keys l → key_cmp k l ≡ Less → k.major + k.minor ≤ l.major
-  apart k l m n e =
-    let p = i.lengths.from k m in
-    let q = i.lengths.from l n in
-    let pf : p.0.first ≡ k.major = ap (λ y. y.major) p.2 in
-    let pp : p.0.pages ≡ k.minor = ap (λ y. y.minor) p.2 in
-    let qf : q.0.first ≡ l.major = ap (λ y. y.major) q.2 in
-    elim (less_parts k l e) [
-      | inl less ↦ let a = i.sound.apart p.0 q.0 p.1 q.1 (omega arith) in omega arith
-      | inr ties ↦ absurd (
-        let same : p.0 ≡ q.0 = i.sound.firsts p.0 q.0 p.1 q.1 (pf ∙ ties.0 ∙ sym qf) in
-        let one : k ≡ l = sym p.2 ∙ ap length_key same ∙ q.2 in
-        let minor = ap (λ (y : Key). y.minor) one in
-        omega (arith, ties.1))
-      ]
+    inside : (k : Key) → Contains t.lengths.keys k → k.major + k.minor ≤ 2 ^ 32
+    inside k m = let p = i.lengths.from k m in subst (λ (y : Key). y.major + y.minor ≤ 2 ^ 32) p.2 (i.sound.within p.0 p.1)
+
+    apart : (k l : Key) → Contains t.lengths.keys k → Contains t.lengths.keys l → key_cmp k l ≡ Less → k.major + k.minor ≤ l.major
+    apart k l m n e =
+        let p = i.lengths.from k m in
+        let q = i.lengths.from l n in
+        let pf : p.0.first ≡ k.major = ap (λ y. y.major) p.2 in
+        let pp : p.0.pages ≡ k.minor = ap (λ y. y.minor) p.2 in
+        let qf : q.0.first ≡ l.major = ap (λ y. y.major) q.2 in
+        elim (less_parts k l e) [
+          | inl less ↦ let a = i.sound.apart p.0 q.0 p.1 q.1 (omega arith) in omega arith
+          | inr ties ↦ absurd (
+              let same : p.0 ≡ q.0 = i.sound.firsts p.0 q.0 p.1 q.1 (pf ∙ ties.0 ∙ sym qf) in
+              let one : k ≡ l = sym p.2 ∙ ap length_key same ∙ q.2 in
+              let minor = ap (λ (y : Key). y.minor) one in
+              omega (arith, ties.1))
+        ]
 
 -- ---- the owner of a page, and the first row
 
@@ -182,7 +184,7 @@ next_row rows spans r e number some within fresh apart later =
       within = within;
       new = λ x m. All-contains (λ s. s.number ≡ r.number → ⊥) spans (listed x) fresh (span x m);
       apart = λ x m. All-contains (IsApart r.first r.pages) spans (listed x) apart (span x m);
-      later = λ x m. All-contains (λ x. x.age < r.age) rows x later m
+      later = λ x m. All-contains (λ x. x.age < r.age) rows x later m;
     }
 
 -- the sums after an insertion
@@ -194,10 +196,10 @@ pub record Grown (t : Table) (rows : List Row) (pages : ℕ) : Type 0 where
 pub grown : (t t' : Table) (rows rows' : List Row) (r : Row) → IsTable t rows → IsNext rows r → IsTable t' rows' → rows' ≡ rows ++ r ∷ [] → t'.lengths.keys ≡ with_key t.lengths.keys (length_key r) → sum_by (λ k. k.minor) t.lengths.keys ≡ sum_by (λ x. x.pages) rows → Grown t' rows' (sum_by (λ x. x.pages) rows + r.pages)
 grown t t' rows rows' r i next i' e l same =
     let keys : sum_by (λ k. k.minor) t'.lengths.keys ≡ sum_by (λ x. x.pages) rows + r.pages =
-      ap (sum_by (λ k. k.minor)) l ∙ sum_with (λ k. k.minor) t.lengths.keys (length_key r) i.lengths.ascending (length_absent t rows r i next) ∙ ap (λ n. n + r.pages) same in
+    ap (sum_by (λ k. k.minor)) l ∙ sum_with (λ k. k.minor) t.lengths.keys (length_key r) i.lengths.ascending (length_absent t rows r i next) ∙ ap (λ n. n + r.pages) same in
     let bound = pages_bound t' rows' i' in
     record {
       sum = ap (sum_by (λ x. x.pages)) e ∙ sum_by-append (λ (x : Row). x.pages) rows (r ∷ []) ∙ ap (λ n. sum_by (λ (x : Row). x.pages) rows + n) (sum_by-cons (λ (x : Row). x.pages) r [] ∙ add-zero r.pages);
       keys = keys;
-      bound = omega arith
+      bound = omega arith;
     }

@@ -1,5 +1,5 @@
 -- What a list keeps between calls.
-use Rattle.std.specs.Prelude.{◌≡◌, ℕ, ◌+◌, ◌^◌, ◌<◌, List, length, map, sum_by}
+use Rattle.std.specs.Prelude.{◌≡◌, ◌+◌, ◌^◌, ◌<◌, length, map, sum_by}
 use Rattle.fit_lists.specs.declared.FitList.TheInside.{Inside}
 use Rattle.fit_lists.specs.Rows.{HasRoom, IsTable, listed, rows_of}
 use Rattle.fit_lists.specs.Spans.{Listing}

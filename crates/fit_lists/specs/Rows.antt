@@ -1,8 +1,7 @@
 -- The rows of a table, and the sets of keys that it keeps them in.
-use Rattle.std.specs.Prelude.{◌≡◌, ◌==◌, ℕ, ◌+◌, ◌^◌, ◌<◌, ◌≤◌, ◌⊎◌, List, [], ◌∷◌, map, find, Option, option_map, unwrap_or, Contains, nat_lt, if◌then◌else◌}
-use Rattle.std.specs.List.{AllByRecursion}
+use Rattle.std.specs.Prelude.{◌≡◌, ◌==◌, ℕ, ◌+◌, ◌^◌, ◌<◌, ◌≤◌, ◌⊎◌, List, [], ◌∷◌, map, find, option_map, unwrap_or, Contains, nat_lt, if◌then◌else◌}
 use Rattle.ordered_set.specs.declared.key.Key.{Key}
-use Rattle.ordered_set.specs.Keys.{KeySet, IsAscending}
+use Rattle.ordered_set.specs.Keys.{IsAscending}
 use Rattle.fit_lists.specs.declared.table.Row.{Row}
 use Rattle.fit_lists.specs.declared.table.Table.{Table}
 use Rattle.fit_lists.specs.Spans.{Listed}

@@ -11,6 +11,8 @@ use std::alloc::{AllocError as NoMemory, Global};
 use std::marker::Model;
 
 mod table;
+#[cfg(test)]
+mod tests;
 
 /// Spans of pages with their numbers, in order of insertion.
 ///
@@ -143,10 +145,11 @@ impl FitList {
         ensures none { IsNone result ↔ All (λ span. ¬ HoldsRun pages align span) self.now.spans }
         ensures fits { IfSome result (IsFirstFit self.now.spans pages align) }
     {
-        let mut size = self.table.sizes.at_or_after(Key {
+        let start = Key {
             major: pages,
             minor: 0,
-        })?;
+        };
+        let mut size = self.table.sizes.at_or_after(start)?;
         while !holds_run(size, pages, align) {
             size = self.table.sizes.after(size)?;
         }

@@ -167,7 +167,13 @@ impl Table {
         ensures room { (n : ℕ) → HasRoom self.old n → HasRoom self.new n }
     {
         for age in 0..self.ages.len() {
-            let key = self.ages.at_or_after(Key { major: age, minor: 0 }).unwrap();
+            let key = self
+                .ages
+                .at_or_after(Key {
+                    major: age,
+                    minor: 0,
+                })
+                .unwrap();
             self.set_age(key, age);
         }
     }

@@ -1,8 +1,8 @@
-use Rattle.std.proofs.Common.{◌≡◌, List, length, map, filter, ap, sym, ◌∙◌, subst, Some, None, IsNone, Less, arith}
+use Rattle.std.proofs.Common.{sym, subst}
 use Rattle.std.specs.List.{All, Contains}
 use Rattle.std.proofs.lemmas.Bool.{iff_false}
 use Rattle.std.proofs.lemmas.List.Elements.{All-contains}
-use Rattle.fit_lists.specs.Rows.{listed, rows_of}
+use Rattle.fit_lists.specs.Rows.{rows_of}
 use Rattle.fit_lists.specs.Spans.{HoldsRun, IsFirstFit}
 use Rattle.fit_lists.proofs.Fits.{begins, fewer_above, fit_found, goes_on, none_after, none_at_start, none_listed, size_row}
 use Rattle.fit_lists.proofs.FitList.first_fit.Goals as goal

@@ -1,4 +1,4 @@
-use Rattle.std.proofs.Common.{◌≡◌, length, filter}
+use Rattle.std.proofs.Common.{length, filter}
 use Rattle.std.specs.List.{Contains}
 use Rattle.ordered_set.specs.Keys.{is_above}
 use Rattle.fit_lists.proofs.Fits.{NoneBelow}

@@ -1,8 +1,8 @@
-use Rattle.std.proofs.Common.{◌≡◌, ◌+◌, ◌-◌, ◌^◌, ◌<◌, ap, sym, ◌∙◌, subst, arith, length, length-append, map, List, [], ◌∷◌}
+use Rattle.std.proofs.Common.{◌≡◌, ◌+◌, ◌-◌, ap, sym, ◌∙◌, subst, arith, length, length-append, [], ◌∷◌}
 use Rattle.std.specs.List.{sum_by}
 use Rattle.fit_lists.specs.declared.table.Row.{Row}
 use Rattle.fit_lists.specs.Rows.{HasRoom, IsNext, rows_of}
-use Rattle.fit_lists.proofs.Totals.{Grown, grown, next_row, same_length, same_sum}
+use Rattle.fit_lists.proofs.Totals.{grown, next_row, same_length, same_sum}
 use Rattle.fit_lists.proofs.FitList.insert.Goals as goal
 
 pub insert-requires-clause-next : goal.insert-requires-clause-next
@@ -40,5 +40,5 @@ invariant_of-self c =
       pages = pages ∙ sym more.sum;
       lengths = pages ∙ sym more.keys;
       room = c.insert.ensures.room _ (subst (HasRoom t) back (c.next_age-age.ensures.room _ i.room));
-      small = omega arith
+      small = omega arith;
     }

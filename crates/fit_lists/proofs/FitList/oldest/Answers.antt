@@ -1,4 +1,4 @@
-use Rattle.std.proofs.Common.{◌≡◌, Some, slice_get, option_map, map, ap, sym, ◌∙◌, subst, refl}
+use Rattle.std.proofs.Common.{◌≡◌, Some, slice_get, option_map, ap, sym, ◌∙◌, subst}
 use Rattle.std.specs.List.{Any}
 use Rattle.std.proofs.lemmas.Option.{slice_get-map}
 use Rattle.fit_lists.specs.Rows.{rows_of, age_key, listed}

@@ -11,5 +11,5 @@ invariant_of-self c =
       pages = i.pages ∙ ap (sum_by (λ r. r.pages)) (sym c.reserve.ensures.rows);
       lengths = i.lengths ∙ ap (sum_by (λ k. k.minor)) (sym c.reserve.ensures.lengths);
       room = c.reserve.ensures.room _ i.room;
-      small = omega arith
+      small = omega arith;
     }

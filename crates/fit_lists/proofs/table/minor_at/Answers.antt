@@ -1,6 +1,5 @@
-use Rattle.std.proofs.Common.{◌≡◌, Some, find, ap, sym, ◌∙◌, subst}
+use Rattle.std.proofs.Common.{◌≡◌, Some, sym, ◌∙◌, subst}
 use Rattle.std.specs.List.{Contains}
-use Rattle.ordered_set.specs.declared.key.Key.{Key}
 use Rattle.fit_lists.proofs.Orders.{first_of}
 use Rattle.fit_lists.proofs.table.minor_at.Goals as goal
 

@@ -1,9 +1,7 @@
-use Rattle.std.proofs.Common.{◌≡◌, List, ◌++◌, ◌∷◌, [], ap, sym, subst, ◌∙◌, not, filter, ◌==◌}
+use Rattle.std.proofs.Common.{◌++◌, ◌∷◌, [], ap, subst, ◌∙◌}
 use Rattle.std.specs.List.{Contains}
-use Rattle.ordered_set.specs.declared.key.Key.{Key}
-use Rattle.ordered_set.specs.Keys.{with_key, without_key}
-use Rattle.fit_lists.specs.declared.table.Row.{Row}
-use Rattle.fit_lists.specs.Rows.{IsTable, rows_of, age_key, number_key, owner_key, length_key, size_key}
+use Rattle.ordered_set.specs.Keys.{with_key}
+use Rattle.fit_lists.specs.Rows.{rows_of}
 use Rattle.fit_lists.proofs.Tables.{rows_are, settled, table_with, age_absent, number_absent, owner_absent, length_absent, size_absent}
 use Rattle.fit_lists.proofs.table.Table.insert.Goals as goal
 

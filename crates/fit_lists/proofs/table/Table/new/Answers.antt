@@ -1,5 +1,4 @@
-use Rattle.std.proofs.Common.{◌≡◌, List, [], ap}
-use Rattle.fit_lists.specs.Rows.{IsTable, rows_of}
+use Rattle.std.proofs.Common.{[], ap}
 use Rattle.fit_lists.proofs.Tables.{rows_are, settled, table_new}
 use Rattle.fit_lists.proofs.table.Table.new.Goals as goal
 

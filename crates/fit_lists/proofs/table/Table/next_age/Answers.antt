@@ -1,7 +1,6 @@
-use Rattle.std.proofs.Common.{◌≡◌, ◌+◌, ◌<◌, Some, map, ap, sym, ◌∙◌, subst, arith}
+use Rattle.std.proofs.Common.{◌+◌, ◌<◌, arith}
 use Rattle.std.proofs.lemmas.List.Elements.{All-from_recursion}
-use Rattle.ordered_set.specs.Keys.{last_of}
-use Rattle.fit_lists.specs.Rows.{age_key, rows_of}
+use Rattle.fit_lists.specs.Rows.{rows_of}
 use Rattle.fit_lists.proofs.Aging.{keys_each}
 use Rattle.fit_lists.proofs.Orders.{last_greatest}
 use Rattle.ordered_set.proofs.Sorted.{every_map}

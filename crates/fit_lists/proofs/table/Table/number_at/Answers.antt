@@ -1,4 +1,4 @@
-use Rattle.std.proofs.Common.{◌≡◌, arith}
+use Rattle.std.proofs.Common.{arith}
 use Rattle.fit_lists.specs.Rows.{rows_of, owner_key}
 use Rattle.fit_lists.proofs.Tables.{any_key}
 use Rattle.fit_lists.proofs.Totals.{owner_row}

@@ -1,9 +1,6 @@
-use Rattle.std.proofs.Common.{◌≡◌, List, ◌++◌, ◌∷◌, [], ap, sym, subst, ◌∙◌, not, filter, ◌==◌}
-use Rattle.std.specs.List.{Contains}
-use Rattle.ordered_set.specs.declared.key.Key.{Key}
-use Rattle.ordered_set.specs.Keys.{with_key, without_key}
-use Rattle.fit_lists.specs.declared.table.Row.{Row}
-use Rattle.fit_lists.specs.Rows.{IsTable, rows_of, age_key, number_key, owner_key, length_key, size_key}
+use Rattle.std.proofs.Common.{ap, ◌∙◌}
+use Rattle.ordered_set.specs.Keys.{without_key}
+use Rattle.fit_lists.specs.Rows.{rows_of}
 use Rattle.fit_lists.proofs.Tables.{other_rows, rows_are, settled, table_without, age_present}
 use Rattle.fit_lists.proofs.table.Table.remove.Goals as goal
 

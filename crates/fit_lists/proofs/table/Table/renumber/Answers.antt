@@ -1,4 +1,4 @@
-use Rattle.std.proofs.Common.{◌≡◌, ◌+◌, ◌<◌, find, Some, length, map, ap, sym, ◌∙◌, subst, refl, arith}
+use Rattle.std.proofs.Common.{◌≡◌, ◌+◌, ◌<◌, find, length, map, ap, sym, ◌∙◌, subst, refl, arith}
 use Rattle.std.specs.List.{AllByRecursion as Every}
 use Rattle.std.proofs.lemmas.List.{length-map}
 use Rattle.std.proofs.lemmas.List.Elements.{All-from_recursion}
@@ -15,7 +15,7 @@ loop-age-init c = record {
   lengths = refl;
   room = λ n h. h;
   end = c.len-age-end.ensures.len ∙ ap length c.requires.ages ∙ length-map (rows_of c.args.self.now) age_key;
-  count = none_young (rows_of c.args.self.now)
+  count = none_young (rows_of c.args.self.now);
 }
 
 pub unwrap-key-requires : goal.unwrap-key-requires
@@ -40,7 +40,7 @@ loop-age-preserved c =
       lengths = c.set_age.ensures.lengths ∙ i.lengths;
       room = λ n h. c.set_age.ensures.room n (i.room n h);
       end = i.end;
-      count = ap (λ xs. length (young_rows (age + 1) xs)) c.set_age.ensures.rows ∙ count_aged c.loop-age.self rows age c.unwrap-key.result i.table p ∙ ap (λ n. n + 1) i.count
+      count = ap (λ xs. length (young_rows (age + 1) xs)) c.set_age.ensures.rows ∙ count_aged c.loop-age.self rows age c.unwrap-key.result i.table p ∙ ap (λ n. n + 1) i.count;
     }
 
 pub returns-clause-later : goal.returns-clause-later

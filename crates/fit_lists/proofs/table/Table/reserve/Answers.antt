@@ -1,5 +1,5 @@
-use Rattle.std.proofs.Common.{◌≡◌, refl}
-use Rattle.fit_lists.specs.Rows.{IsTable, rows_of}
+use Rattle.std.proofs.Common.{refl}
+use Rattle.fit_lists.specs.Rows.{rows_of}
 use Rattle.fit_lists.proofs.Tables.{rows_are, settled, table_same}
 use Rattle.fit_lists.proofs.table.Table.reserve.Goals as goal
 
@@ -26,4 +26,3 @@ returns-clause-table c = settled _ (rows_of c.args.self.now) (table_same c.args.
 
 pub returns-clause-rows : goal.returns-clause-rows
 returns-clause-rows c = rows_are _ (rows_of c.args.self.now) (table_same c.args.self.now _ (rows_of c.args.self.now) c.requires c.reserve.ensures.keys c.reserve-2.ensures.keys c.reserve-3.ensures.keys c.reserve-4.ensures.keys c.reserve-5.ensures.keys)
-

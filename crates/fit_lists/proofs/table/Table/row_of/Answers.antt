@@ -1,5 +1,4 @@
-use Rattle.std.proofs.Common.{◌≡◌, ap, sym, ◌∙◌, subst}
-use Rattle.std.specs.List.{Contains, Any}
+use Rattle.std.proofs.Common.{sym, ◌∙◌}
 use Rattle.fit_lists.specs.Rows.{rows_of, number_key, length_key}
 use Rattle.fit_lists.proofs.Tables.{age_known, any_key, first_known, row_found}
 use Rattle.fit_lists.proofs.table.Table.row_of.Goals as goal

@@ -1,7 +1,6 @@
-use Rattle.std.proofs.Common.{◌≡◌, List, Some, find, ap, sym, ◌∙◌, subst, map, refl}
+use Rattle.std.proofs.Common.{find, ap, sym, ◌∙◌, subst, refl}
 use Rattle.std.specs.List.{Contains}
-use Rattle.ordered_set.specs.Keys.{is_from, with_key, without_key}
-use Rattle.ordered_set.specs.declared.key.Key.{Key}
+use Rattle.ordered_set.specs.Keys.{is_from, with_key}
 use Rattle.fit_lists.specs.Rows.{rows_of, with_age}
 use Rattle.fit_lists.proofs.Aging.{split, key_in, owner_known, no_age_key, number_key_in, no_number_key, table_aged}
 use Rattle.fit_lists.proofs.Orders.{start}
