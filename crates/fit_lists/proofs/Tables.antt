@@ -1,0 +1,302 @@
+-- A table's rows and the keys of its sets, after an insertion and after a removal.
+use Rattle.std.proofs.Common.{◌≡◌, ◌==◌, ℕ, ◌+◌, ◌^◌, ◌<◌, ◌≤◌, suc, zero, Bool, true, false, not, List, [], ◌∷◌, ◌++◌, map, filter, find, option_map, unwrap_or, Less, Equal, is_lt, is_gt, ◌≢◌, ◌⊎◌, inl, inr, refl, sym, ap, ◌∙◌, subst, arith}
+use Rattle.std.specs.List.{Any, Contains, AllByRecursion as Every}
+use Rattle.std.proofs.lemmas.Bool.{cases_Bool, eqb-true, eq-eqb, ne_eqb, not_from_false, lt-ltb}
+use Rattle.std.proofs.lemmas.List.{map_push}
+use Rattle.std.proofs.lemmas.List.Elements.{Contains-append_left, Contains-append_right}
+use Rattle.std.proofs.lemmas.Cmp.{tied_itself}
+use Rattle.std.specs.List.Sorted.{IsStrictlySortedBy}
+use Rattle.ordered_set.specs.declared.key.Key.{Key}
+use Rattle.ordered_set.specs.Keys.{key_cmp, IsAscending, is_above, is_below, is_other, with_key, without_key}
+use Rattle.ordered_set.proofs.KeyOrder.{key_total}
+use Rattle.ordered_set.proofs.Sorted.{filter_all, filter_none, every_map}
+use Rattle.fit_lists.specs.declared.table.Row.{Row}
+use Rattle.fit_lists.specs.declared.table.Table.{Table}
+use Rattle.fit_lists.specs.Rows.{IsIndex, IsNext, IsSound, IsTable, age_key, length_key, minor_of, number_key, owner_key, row_at, rows_of, size_key}
+use Rattle.fit_lists.proofs.Members.{contains_cases, contains_later, every_from, filter_from, filter_has, other_from, push_cases, with_from, with_keeps, with_self, without_from, without_keeps}
+
+-- the rows but those of a number
+abbrev pub other_rows : ℕ → List Row → List Row
+other_rows n rows = filter (λ x. not (x.number == n)) rows
+
+-- ---- one set
+
+pub index_new : (f : Row → Key) → IsIndex f [] []
+unfolding IsStrictlySortedBy
+index_new f = record { ascending = tt; has = λ x (k, l, e). absurd (omega arith); from = λ x (k, l, e). absurd (omega arith) }
+
+pub index_absent : (f : Row → Key) (rows : List Row) (ks : List Key) (r : Row) → IsIndex f rows ks → ((x : Row) → Contains rows x → f x ≡ f r → ⊥) → Contains ks (f r) → ⊥
+index_absent f rows ks r i fresh m = let p = i.from (f r) m in fresh p.0 p.1 p.2
+
+pub index_with : (f : Row → Key) (rows : List Row) (ks ks' : List Key) (r : Row) → IsIndex f rows ks → IsAscending ks' → ks' ≡ with_key ks (f r) → IsIndex f (rows ++ r ∷ []) ks'
+index_with f rows ks ks' r i s e = record {
+  ascending = s;
+  has = λ x m. rw e (elim (push_cases rows r x m) [ inl same ↦ rw same (with_self ks (f r)) | inr old ↦ with_keeps ks (f r) (f x) (i.has x old) ]);
+  from = λ k m. elim (with_from ks (f r) k (subst (λ z. Contains z k) e m)) [
+    | inl same ↦ (r, Contains-append_right rows (r ∷ []) r (zero, omega arith, refl), sym same)
+    | inr old ↦ let p = i.from k old in (p.0, Contains-append_left rows (r ∷ []) p.0 p.1, p.2)
+  ];
+}
+
+pub index_without : (f : Row → Key) (rows : List Row) (ks ks' : List Key) (r : Row) → IsIndex f rows ks → IsAscending ks' → ks' ≡ without_key ks (f r) → ((x : Row) → Contains rows x → f x ≡ f r → x.number ≡ r.number) → ((x : Row) → Contains rows x → x.number ≡ r.number → x ≡ r) → IsIndex f (other_rows r.number rows) ks'
+index_without f rows ks ks' r i s e inj own = record {
+  ascending = s;
+  has = λ x m.
+      let p = filter_from (λ x. not (x.number == r.number)) rows x m in
+      let other : f x ≢ f r = λ same. let n : not (x.number == r.number) ≡ false = ap not (eq-eqb x.number r.number (inj x p.0 same)) in let t : true ≡ false = sym p.1 ∙ n in cc in
+      rw e (without_keeps ks (f r) (f x) (i.has x p.0) other);
+  from = λ k m.
+      let p = without_from ks (f r) k (subst (λ z. Contains z k) e m) in
+      let q = i.from k p.0 in
+      let other : q.0.number ≡ r.number → ⊥ = λ same. p.1 (sym q.2 ∙ ap f (own q.0 q.1 same)) in
+      (q.0, filter_has (λ x. not (x.number == r.number)) rows q.0 q.1 (not_from_false _ (ne_eqb q.0.number r.number other)), q.2);
+}
+
+-- ---- the rows from the sets
+
+find_minor : (ks : List Key) (major minor : ℕ) → Contains ks (record { major = major; minor = minor }) → ((k : Key) → Contains ks k → k.major ≡ major → k.minor ≡ minor) → unwrap_or (option_map (λ k. k.minor) (find (λ k. k.major == major) ks)) 0 ≡ minor
+find_minor [] major minor (k, l, e) own = absurd (omega arith)
+find_minor (k ∷ ks) major minor m own = elim (cases_Bool (k.major == major)) [
+  | inl t ↦ rw t (own k (zero, omega arith, refl) (eqb-true k.major major t))
+  | inr f ↦ rw f (find_minor ks major minor (later (contains_cases k ks _ m) f) (λ y n. own y (contains_later k ks y n)))
+]
+  where
+    later : (k ≡ record { major = major; minor = minor }) ⊎ Contains ks (record { major = major; minor = minor }) → (k.major == major) ≡ false → Contains ks (record { major = major; minor = minor })
+    later (inl same) f = absurd (let t : (k.major == major) ≡ true = eq-eqb k.major major (ap (λ y. y.major) same) in cc)
+    later (inr deep) f = deep
+
+pub minor_is : (ks : List Key) (major minor : ℕ) → Contains ks (record { major = major; minor = minor }) → ((k : Key) → Contains ks k → k.major ≡ major → k.minor ≡ minor) → minor_of ks major ≡ minor
+unfolding minor_of
+minor_is ks major minor m own = find_minor ks major minor m own
+
+map_each : (g : Key → Row) (rows : List Row) → Every (λ x. g (age_key x) ≡ x) rows → map g (map age_key rows) ≡ rows
+map_each g [] e = refl
+map_each g (x ∷ xs) e = λ i. e.0 i ∷ map_each g xs e.1 i
+
+-- the sets determine the rows
+pub rows_are : (t : Table) (rows : List Row) → IsTable t rows → rows_of t ≡ rows
+unfolding rows_of
+rows_are t rows i = ap (map (row_at t)) i.ages ∙ map_each (row_at t) rows (every_from _ rows (λ x m. each x m))
+  where
+    each : (x : Row) → Contains rows x → row_at t (age_key x) ≡ x
+    each x m =
+        let number : minor_of t.owners.keys x.first ≡ x.number = minor_is t.owners.keys x.first x.number (i.owners.has x m) (λ k n same. let p = i.owners.from k n in sym (ap (λ y. y.minor) p.2) ∙ ap (λ (y : Row). y.number) (i.sound.firsts p.0 x p.1 m (ap (λ y. y.major) p.2 ∙ same))) in
+        let pages : minor_of t.lengths.keys x.first ≡ x.pages = minor_is t.lengths.keys x.first x.pages (i.lengths.has x m) (λ k n same. let p = i.lengths.from k n in sym (ap (λ y. y.minor) p.2) ∙ ap (λ (y : Row). y.pages) (i.sound.firsts p.0 x p.1 m (ap (λ y. y.major) p.2 ∙ same))) in
+        λ j. record { number = number j; first = x.first; pages = pages j; age = x.age }
+
+-- ---- soundness
+
+pub sound_new : IsSound []
+sound_new = record {
+  numbers = λ x y (k, l, e) n. absurd (omega arith);
+  ages = λ x y (k, l, e) n. absurd (omega arith);
+  firsts = λ x y (k, l, e) n. absurd (omega arith);
+  apart = λ x y (k, l, e) n. absurd (omega arith);
+  number = λ x (k, l, e). absurd (omega arith);
+  some = λ x (k, l, e). absurd (omega arith);
+  within = λ x (k, l, e). absurd (omega arith);
+}
+
+pub sound_filter : (p : Row → Bool) (rows : List Row) → IsSound rows → IsSound (filter p rows)
+sound_filter p rows s =
+    let in' : (x : Row) → Contains (filter p rows) x → Contains rows x = λ x m. (filter_from p rows x m).0 in
+    record {
+      numbers = λ x y m n. s.numbers x y (in' x m) (in' y n);
+      ages = λ x y m n. s.ages x y (in' x m) (in' y n);
+      firsts = λ x y m n. s.firsts x y (in' x m) (in' y n);
+      apart = λ x y m n. s.apart x y (in' x m) (in' y n);
+      number = λ x m. s.number x (in' x m);
+      some = λ x m. s.some x (in' x m);
+      within = λ x m. s.within x (in' x m);
+    }
+
+-- a fact of two rows, of which one is new
+pub two_rows : (rows : List Row) (r : Row) (P : Row → Row → Type 0) → ((x y : Row) → Contains rows x → Contains rows y → P x y) → ((x : Row) → Contains rows x → P x r) → ((y : Row) → Contains rows y → P r y) → P r r → (x y : Row) → Contains (rows ++ r ∷ []) x → Contains (rows ++ r ∷ []) y → P x y
+two_rows rows r P old left right new x y m n = elim (push_cases rows r x m) [
+  | inl e ↦ elim (push_cases rows r y n) [ inl f ↦ rw (e, f) new | inr b ↦ rw e (right y b) ]
+  | inr a ↦ elim (push_cases rows r y n) [ inl f ↦ rw f (left x a) | inr b ↦ old x y a b ]
+]
+
+pub one_row : (rows : List Row) (r : Row) (P : Row → Type 0) → ((x : Row) → Contains rows x → P x) → P r → (x : Row) → Contains (rows ++ r ∷ []) x → P x
+one_row rows r P old new x m = elim (push_cases rows r x m) [ inl e ↦ rw e new | inr a ↦ old x a ]
+
+pub first_new : (rows : List Row) (r : Row) → IsSound rows → IsNext rows r → (x : Row) → Contains rows x → x.first ≡ r.first → ⊥
+first_new rows r s n x m e = let some = s.some x m in let more = n.some in elim (n.apart x m) [ inl a ↦ omega arith | inr b ↦ omega arith ]
+
+pub sound_with : (rows : List Row) (r : Row) → IsSound rows → IsNext rows r → IsSound (rows ++ r ∷ [])
+sound_with rows r s n = record {
+  numbers = two_rows rows r (λ x y. x.number ≡ y.number → x ≡ y) s.numbers (λ x m e. absurd (n.new x m e)) (λ y m e. absurd (n.new y m (sym e))) (λ e. refl);
+  ages = two_rows rows r (λ x y. x.age ≡ y.age → x ≡ y) s.ages (λ x m e. let l = n.later x m in absurd (omega arith)) (λ y m e. let l = n.later y m in absurd (omega arith)) (λ e. refl);
+  firsts = two_rows rows r (λ x y. x.first ≡ y.first → x ≡ y) s.firsts (λ x m e. absurd (first_new rows r s n x m e)) (λ y m e. absurd (first_new rows r s n y m (sym e))) (λ e. refl);
+  apart = two_rows rows r (λ x y. x.first < y.first → x.first + x.pages ≤ y.first) s.apart
+      (λ x m l. let more = n.some in elim (n.apart x m) [ inl a ↦ a | inr b ↦ omega arith ])
+      (λ y m l. let more = s.some y m in elim (n.apart y m) [ inl a ↦ omega arith | inr b ↦ b ])
+      (λ l. absurd (omega arith));
+  number = one_row rows r (λ x. x.number < 2 ^ 32) s.number n.number;
+  some = one_row rows r (λ x. 0 < x.pages) s.some n.some;
+  within = one_row rows r (λ x. x.first + x.pages ≤ 2 ^ 32) s.within n.within;
+}
+
+-- ---- the set by age
+
+pub major_less : (a b : Key) → a.major < b.major → key_cmp a b ≡ Less
+unfolding key_cmp
+major_less a b l = rw (lt-ltb a.major b.major l)
+
+map_every : (P : Key → Type 0) (rows : List Row) → Every (λ x. P (age_key x)) rows → Every P (map age_key rows)
+map_every P [] e = tt
+map_every P (x ∷ xs) e = (e.0, map_every P xs e.1)
+
+pub ages_with : (rows : List Row) (r : Row) → ((x : Row) → Contains rows x → x.age < r.age) → with_key (map age_key rows) (age_key r) ≡ map age_key (rows ++ r ∷ [])
+ages_with rows r later =
+    let less : Every (λ k. key_cmp k (age_key r) ≡ Less) (map age_key rows) = map_every _ rows (every_from _ rows (λ x m. major_less (age_key x) (age_key r) (later x m))) in
+    let low = filter_all (is_below (age_key r)) (map age_key rows) (every_map _ _ (λ k e. ap is_lt e) _ less) in
+    let high = filter_none (is_above (age_key r)) (map age_key rows) (every_map _ _ (λ k e. ap is_gt e) _ less) in
+    (λ j. low j ++ age_key r ∷ high j) ∙ sym (map_push age_key rows r)
+
+filter_map : (p : Key → Bool) (q : Row → Bool) (rows : List Row) → Every (λ x. p (age_key x) ≡ q x) rows → filter p (map age_key rows) ≡ map age_key (filter q rows)
+filter_map p q [] e = refl
+filter_map p q (x ∷ xs) e = elim (cases_Bool (q x)) [
+  | inl t ↦ rw (e.0, t) (ap (λ ks. age_key x ∷ ks) (filter_map p q xs e.1))
+  | inr f ↦ rw (e.0, f) (filter_map p q xs e.1)
+]
+
+pub ages_without : (rows : List Row) (r : Row) → IsSound rows → Contains rows r → without_key (map age_key rows) (age_key r) ≡ map age_key (other_rows r.number rows)
+ages_without rows r s m = filter_map (is_other (age_key r)) (λ x. not (x.number == r.number)) rows (every_from _ rows (λ x n. each x n (cases_Bool (x.number == r.number))))
+  where
+    each : (x : Row) → Contains rows x → ((x.number == r.number) ≡ true) ⊎ ((x.number == r.number) ≡ false) → is_other (age_key r) (age_key x) ≡ not (x.number == r.number)
+    each x n (inl t) =
+        let same : x ≡ r = s.numbers x r n m (eqb-true x.number r.number t) in
+        let itself : key_cmp (age_key x) (age_key r) ≡ Equal = subst (λ y. key_cmp (age_key y) (age_key r) ≡ Equal) (sym same) (tied_itself key_total (age_key r)) in
+        rw (itself, t)
+    each x n (inr f) = rw f (other_from (age_key r) (age_key x) (λ e. let same : x ≡ r = s.ages x r n m (ap (λ k. k.major) e) in let t : (x.number == r.number) ≡ true = eq-eqb x.number r.number (ap (λ (y : Row). y.number) same) in cc))
+
+-- ---- the whole table
+
+pub settled : (t : Table) (rows : List Row) → IsTable t rows → IsTable t (rows_of t)
+settled t rows i = subst (IsTable t) (sym (rows_are t rows i)) i
+
+pub table_new : (t : Table) → t.ages.keys ≡ [] → t.numbers.keys ≡ [] → t.owners.keys ≡ [] → t.lengths.keys ≡ [] → t.sizes.keys ≡ [] → IsTable t []
+unfolding IsStrictlySortedBy
+table_new t a n o l s = record {
+  sound = sound_new;
+  ages = a;
+  ascending = rw a tt;
+  numbers = rw n (index_new number_key);
+  owners = rw o (index_new owner_key);
+  lengths = rw l (index_new length_key);
+  sizes = rw s (index_new size_key);
+}
+
+-- other sets with the same keys
+pub table_same : (t t' : Table) (rows : List Row) → IsTable t rows → t'.ages.keys ≡ t.ages.keys → t'.numbers.keys ≡ t.numbers.keys → t'.owners.keys ≡ t.owners.keys → t'.lengths.keys ≡ t.lengths.keys → t'.sizes.keys ≡ t.sizes.keys → IsTable t' rows
+table_same t t' rows i a n o l s = record {
+  sound = i.sound;
+  ages = a ∙ i.ages;
+  ascending = rw a i.ascending;
+  numbers = rw n i.numbers;
+  owners = rw o i.owners;
+  lengths = rw l i.lengths;
+  sizes = rw s i.sizes;
+}
+
+-- a set after an insertion, and after a removal
+abbrev pub Gains : List Key → List Key → Key → Type 0
+Gains ks ks' key = (ks' ≡ with_key ks key) × IsAscending ks'
+
+abbrev pub Loses : List Key → List Key → Key → Type 0
+Loses ks ks' key = (ks' ≡ without_key ks key) × IsAscending ks'
+
+pub table_with : (t t' : Table) (rows : List Row) (r : Row) → IsTable t rows → IsNext rows r → Gains t.ages.keys t'.ages.keys (age_key r) → Gains t.numbers.keys t'.numbers.keys (number_key r) → Gains t.owners.keys t'.owners.keys (owner_key r) → Gains t.lengths.keys t'.lengths.keys (length_key r) → Gains t.sizes.keys t'.sizes.keys (size_key r) → IsTable t' (rows ++ r ∷ [])
+table_with t t' rows r i next a n o l s = record {
+  sound = sound_with rows r i.sound next;
+  ages = a.0 ∙ ap (λ ks. with_key ks (age_key r)) i.ages ∙ ages_with rows r next.later;
+  ascending = a.1;
+  numbers = index_with number_key rows t.numbers.keys t'.numbers.keys r i.numbers n.1 n.0;
+  owners = index_with owner_key rows t.owners.keys t'.owners.keys r i.owners o.1 o.0;
+  lengths = index_with length_key rows t.lengths.keys t'.lengths.keys r i.lengths l.1 l.0;
+  sizes = index_with size_key rows t.sizes.keys t'.sizes.keys r i.sizes s.1 s.0;
+}
+
+pub table_without : (t t' : Table) (rows : List Row) (r : Row) → IsTable t rows → Contains rows r → Loses t.ages.keys t'.ages.keys (age_key r) → Loses t.numbers.keys t'.numbers.keys (number_key r) → Loses t.owners.keys t'.owners.keys (owner_key r) → Loses t.lengths.keys t'.lengths.keys (length_key r) → Loses t.sizes.keys t'.sizes.keys (size_key r) → IsTable t' (other_rows r.number rows)
+table_without t t' rows r i m a n o l s =
+    let own : (x : Row) → Contains rows x → x.number ≡ r.number → x ≡ r = λ x k e. i.sound.numbers x r k m e in
+    let by_first : (x : Row) → Contains rows x → x.first ≡ r.first → x.number ≡ r.number = λ x k e. ap (λ (y : Row). y.number) (i.sound.firsts x r k m e) in
+    record {
+      sound = sound_filter _ rows i.sound;
+      ages = a.0 ∙ ap (λ ks. without_key ks (age_key r)) i.ages ∙ ages_without rows r i.sound m;
+      ascending = a.1;
+      numbers = index_without number_key rows t.numbers.keys t'.numbers.keys r i.numbers n.1 n.0 (λ x k e. ap (λ y. y.major) e) own;
+      owners = index_without owner_key rows t.owners.keys t'.owners.keys r i.owners o.1 o.0 (λ x k e. by_first x k (ap (λ y. y.major) e)) own;
+      lengths = index_without length_key rows t.lengths.keys t'.lengths.keys r i.lengths l.1 l.0 (λ x k e. by_first x k (ap (λ y. y.major) e)) own;
+      sizes = index_without size_key rows t.sizes.keys t'.sizes.keys r i.sizes s.1 s.0 (λ x k e. by_first x k (ap (λ y. y.minor) e)) own;
+    }
+
+-- ---- a new row has no key yet
+
+pub map_member : (f : Row → Key) (rows : List Row) (k : Key) → Contains (map f rows) k → (x : Row) × Contains rows x × (f x ≡ k)
+map_member f [] k (n, l, e) = absurd (omega arith)
+map_member f (x ∷ xs) k m = elim (contains_cases (f x) (map f xs) k m) [
+  | inl e ↦ (x, (zero, omega arith, refl), e)
+  | inr d ↦ let p = map_member f xs k d in (p.0, contains_later x xs p.0 p.1, p.2)
+]
+
+pub age_absent : (t : Table) (rows : List Row) (r : Row) → IsTable t rows → IsNext rows r → Contains t.ages.keys (age_key r) → ⊥
+age_absent t rows r i next m =
+    let p = map_member age_key rows (age_key r) (subst (λ ks. Contains ks (age_key r)) i.ages m) in
+    let l = next.later p.0 p.1 in
+    let same : p.0.age ≡ r.age = ap (λ k. k.major) p.2 in
+    omega arith
+
+pub number_absent : (t : Table) (rows : List Row) (r : Row) → IsTable t rows → IsNext rows r → Contains t.numbers.keys (number_key r) → ⊥
+number_absent t rows r i next = index_absent number_key rows t.numbers.keys r i.numbers (λ x m e. next.new x m (ap (λ k. k.major) e))
+
+pub owner_absent : (t : Table) (rows : List Row) (r : Row) → IsTable t rows → IsNext rows r → Contains t.owners.keys (owner_key r) → ⊥
+owner_absent t rows r i next = index_absent owner_key rows t.owners.keys r i.owners (λ x m e. first_new rows r i.sound next x m (ap (λ k. k.major) e))
+
+pub length_absent : (t : Table) (rows : List Row) (r : Row) → IsTable t rows → IsNext rows r → Contains t.lengths.keys (length_key r) → ⊥
+length_absent t rows r i next = index_absent length_key rows t.lengths.keys r i.lengths (λ x m e. first_new rows r i.sound next x m (ap (λ k. k.major) e))
+
+pub size_absent : (t : Table) (rows : List Row) (r : Row) → IsTable t rows → IsNext rows r → Contains t.sizes.keys (size_key r) → ⊥
+size_absent t rows r i next = index_absent size_key rows t.sizes.keys r i.sizes (λ x m e. first_new rows r i.sound next x m (ap (λ k. k.minor) e))
+
+-- ---- a row that is there has its keys
+
+pub age_present : (t : Table) (rows : List Row) (r : Row) → IsTable t rows → Contains rows r → Contains t.ages.keys (age_key r)
+age_present t rows r i m = rw i.ages (map_has rows m)
+  where
+    map_has : (xs : List Row) → Contains xs r → Contains (map age_key xs) (age_key r)
+    map_has [] (k, l, e) = absurd (omega arith)
+    map_has (x ∷ xs) (zero, l, e) = (zero, omega arith, ap age_key e)
+    map_has (x ∷ xs) (suc k, l, e) = contains_later (age_key x) (map age_key xs) (age_key r) (map_has xs (k, omega arith, e))
+
+-- ---- a row by its number
+
+-- the sets lead from the number of a row to its other parts
+pub row_found : (t : Table) (rows : List Row) (number age first pages : ℕ) → IsTable t rows → Contains t.numbers.keys (record { major = number; minor = age }) → Contains t.ages.keys (record { major = age; minor = first }) → Contains t.lengths.keys (record { major = first; minor = pages }) → Contains rows (record { number = number; first = first; pages = pages; age = age })
+row_found t rows number age first pages i n a l =
+    let x = i.numbers.from _ n in
+    let y = map_member age_key rows (record { major = age; minor = first }) (subst (λ ks. Contains ks (record { major = age; minor = first })) i.ages a) in
+    let z = i.lengths.from _ l in
+    let xy : x.0 ≡ y.0 = i.sound.ages x.0 y.0 x.1 y.1 (ap (λ k. k.minor) x.2 ∙ sym (ap (λ k. k.major) y.2)) in
+    let zy : z.0 ≡ y.0 = i.sound.firsts z.0 y.0 z.1 y.1 (ap (λ k. k.major) z.2 ∙ sym (ap (λ k. k.minor) y.2)) in
+    let is_number : y.0.number ≡ number = ap (λ (r : Row). r.number) (sym xy) ∙ ap (λ k. k.major) x.2 in
+    let is_first : y.0.first ≡ first = ap (λ k. k.minor) y.2 in
+    let is_pages : y.0.pages ≡ pages = ap (λ (r : Row). r.pages) (sym zy) ∙ ap (λ k. k.minor) z.2 in
+    let is_age : y.0.age ≡ age = ap (λ k. k.major) y.2 in
+    let is : y.0 ≡ record { number = number; first = first; pages = pages; age = age } = λ j. record { number = is_number j; first = is_first j; pages = is_pages j; age = is_age j } in
+    subst (Contains rows) is y.1
+
+-- a key by its major number
+pub any_key : (ks : List Key) (k : Key) (major : ℕ) → Contains ks k → k.major ≡ major → Any (λ y. y.major ≡ major) ks
+any_key ks k major (n, l, e) f = (n, k, l, e, f)
+
+pub age_known : (t : Table) (rows : List Row) (number age : ℕ) → IsTable t rows → Contains t.numbers.keys (record { major = number; minor = age }) → Any (λ k. k.major ≡ age) t.ages.keys
+age_known t rows number age i n =
+    let x = i.numbers.from _ n in
+    any_key t.ages.keys (age_key x.0) age (age_present t rows x.0 i x.1) (ap (λ k. k.minor) x.2)
+
+pub first_known : (t : Table) (rows : List Row) (age first : ℕ) → IsTable t rows → Contains t.ages.keys (record { major = age; minor = first }) → (y : Row) × Contains rows y × (y.first ≡ first)
+first_known t rows age first i a =
+    let y = map_member age_key rows (record { major = age; minor = first }) (subst (λ ks. Contains ks (record { major = age; minor = first })) i.ages a) in
+    (y.0, y.1, ap (λ k. k.minor) y.2)
