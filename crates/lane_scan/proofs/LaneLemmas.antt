@@ -1,0 +1,39 @@
+-- Lemmas on lanes: the comparison by the top bit.
+use Rattle.std.proofs.Common.{◌≡◌, ◌≢◌, ◌⊎◌, inl, inr, ℕ, zero, suc, ◌+◌, ◌-◌, ◌*◌, ◌/◌, ◌%◌, ◌^◌, ◌<◌, ◌≤◌, min, Bool, true, false, ◌&&◌, cond, leb, ltb, eqb, List, [], ◌∷◌, ◌++◌, length, get_or, map, replicate, refl, sym, ap, ◌∙◌, arith, Fits, w64, bit_and}
+use Rattle.std.proofs.lemmas.Bool.{le-leb, lt-leb, cases_lt}
+use Rattle.std.proofs.lemmas.Bool.Decides.{nat_tests, leb_tells}
+use Rattle.std.proofs.lemmas.Nat.Bits.{bit_at_and}
+use Rattle.std.proofs.lemmas.Simd.{zip2_splat, zip2-map, Each1-weaker, map-map}
+use Rattle.std.proofs.lemmas.Grind.{common_steps}
+use lib.Bits.{and_le_r}
+use lib.Lanes.{zip2, Each1}
+
+-- both words have the top bit exactly where their conjunction has it
+pub top-bit_and : (a b : ℕ) → a < 2 ^ 64 → b < 2 ^ 64 → leb (2 ^ 63) (bit_and a b) ≡ (leb (2 ^ 63) a && leb (2 ^ 63) b)
+top-bit_and a b ha hb =
+    let both = bit_at_and a b 63 in
+    let le = and_le_r a b in
+    grind (arith, nat_tests)
+
+-- where the top bit of the difference and of the complement are set, a lane is below the bound
+pub top_below : (x b : ℕ) → x < 2 ^ 64 → b ≤ 2 ^ 63 → leb (2 ^ 63) (bit_and ((x + (2 ^ 64 - b)) % 2 ^ 64) (2 ^ 64 - 1 - x)) ≡ ltb x b
+top_below x b hx hb =
+    let d = (x + (2 ^ 64 - b)) % 2 ^ 64 in
+    top-bit_and d (2 ^ 64 - 1 - x) (omega arith) (omega arith) ∙ grind (arith, nat_tests)
+
+-- two maps agree where they agree on each element
+pub map_agree : {X Y : Type 0} (f g : X → Y) (xs : List X) → Each1 (λ x. f x ≡ g x) xs → map f xs ≡ map g xs
+map_agree f g [] h = refl
+map_agree f g (x ∷ xs) h = let first = h.0 in let rest = map_agree f g xs h.1 in cc
+
+-- the top bits that the comparison computes
+pub tops_below : (b n : ℕ) (xs : List ℕ) → b ≤ 2 ^ 63 → length xs ≡ n → Each1 (Fits w64) xs
+    → map (leb (2 ^ 63)) (zip2 bit_and (zip2 (λ x y. (x + (2 ^ 64 - y)) % 2 ^ 64) xs (replicate n b)) (map (λ x. 2 ^ 64 - 1 - x) xs)) ≡ map (λ x. ltb x b) xs
+tops_below b n xs hb long fits =
+    let difference : ℕ → ℕ = λ x. (x + (2 ^ 64 - b)) % 2 ^ 64 in
+    let complement : ℕ → ℕ = λ x. 2 ^ 64 - 1 - x in
+    ap (λ ds. map (leb (2 ^ 63)) (zip2 bit_and ds (map complement xs))) (zip2_splat (λ x y. (x + (2 ^ 64 - y)) % 2 ^ 64) xs n b long)
+    ∙ ap (map (leb (2 ^ 63))) (zip2-map bit_and difference complement xs)
+    ∙ map-map (leb (2 ^ 63)) (λ x. bit_and (difference x) (complement x)) xs
+    ∙ map_agree (λ x. leb (2 ^ 63) (bit_and (difference x) (complement x))) (λ x. ltb x b) xs
+      (Each1-weaker (Fits w64) (λ x. leb (2 ^ 63) (bit_and (difference x) (complement x)) ≡ ltb x b) (λ x f. top_below x b f.fits hb) xs fits)
