@@ -1,5 +1,5 @@
 -- Lemmas on the bits of words.
-use Rattle.std.proofs.Common.{◌≡◌, ◌≢◌, ℕ, zero, suc, ◌+◌, ◌-◌, ◌*◌, ◌/◌, ◌%◌, ◌^◌, ◌<◌, ◌≤◌, inl, inr, ltb, Bool, true, false, cond, eqb, List, [], ◌∷◌, ◌++◌, length, get_or, map, take, drop, refl, sym, ap, ◌∙◌, arith, rules, zero-add, take-add, count_by, sum_by, position, Some, None, Option, Fits, w64}
+use Rattle.std.proofs.Common.{◌≡◌, ◌≢◌, ℕ, zero, suc, ◌+◌, ◌-◌, ◌*◌, ◌/◌, ◌%◌, ◌^◌, ◌<◌, ◌≤◌, inl, inr, ltb, Bool, true, false, not, cond, eqb, List, [], ◌∷◌, ◌++◌, length, get_or, map, take, drop, refl, sym, ap, ◌∙◌, arith, rules, zero-add, take-add, count_by, sum_by, position, Some, None, Option, Fits, w64}
 use Rattle.std.specs.Int.{bit_at}
 use Rattle.std.specs.Int.RustNames.{count_ones}
 use Rattle.std.specs.List.{range_with_len, flat_map, position_or_len}
@@ -33,12 +33,13 @@ bit_again zero h = refl
 bit_again (suc zero) h = refl
 bit_again (suc (suc n)) h = absurd (omega arith)
 
--- a word that is made of 64 bits has these bits
-pub word_bits-mask_l : (ms : List Bool) → length ms ≡ 64 → word_bits (mask_l ms) ≡ ms
-word_bits-mask_l ms long =
-    ext_get_or false (word_bits (mask_l ms)) ms (length-word_bits (mask_l ms) ∙ sym long)
-    (λ i lt. let h : i < 64 = omega (arith, length-word_bits (mask_l ms)) in
-        get_or-word_bits (mask_l ms) i h ∙ ap (λ n. eqb n 1) (bit_mask_l ms i) ∙ one_of (get_or ms i false))
+-- a word that fails the test for a set bit is zero
+pub zero_from_test : (n : ℕ) → not (eqb n 0) ≡ false → n ≡ 0
+zero_from_test n h = grind (arith, nat_tests)
+
+-- a word that is made of bits has these bits
+pub bit_of_mask : (ms : List Bool) (k : ℕ) → eqb (bit_at (mask_l ms) k) 1 ≡ get_or ms k false
+bit_of_mask ms k = ap (λ n. eqb n 1) (bit_mask_l ms k) ∙ one_of (get_or ms k false)
 
 -- the word that is made of a word's bits is that word
 pub mask_l-word_bits : (w : ℕ) → w < 2 ^ 64 → mask_l (word_bits w) ≡ w
@@ -101,14 +102,14 @@ lowest_at ws i lt zero_before nonzero fits =
     let at = bit_at-trailing_zeros w64 w nonzero fits in
     let long = length-bits_of ws in
     let here : (k : ℕ) → k / 64 ≡ i → get_or (bits_of ws) k false ≡ eqb (bit_at w (k % 64)) 1 =
-        λ k e. get_or-bits_of_at ws k ∙ ap (λ j. eqb (bit_at (get_or ws j 0) (k % 64)) 1) e in
+    λ k e. get_or-bits_of_at ws k ∙ ap (λ j. eqb (bit_at (get_or ws j 0) (k % 64)) 1) e in
     let found : position_or_len (λ bit. bit) (bits_of ws) ≡ 64 * i + t =
-        position_or_len_is (λ bit. bit) (bits_of ws) (64 * i + t) false (omega (arith, at.0))
-        (λ k before. elim (cases_lt (k / 64) i) [
-          inl h ↦ get_or-bits_of_at ws k ∙ bit_of_zero (get_or ws (k / 64) 0) (k % 64) (zero_before (k / 64) h)
-        | inr h ↦ here k (omega (arith, at.0)) ∙ ap (λ n. eqb n 1) (at.2 (k % 64) (omega (arith, at.0)))
-        ])
-        (λ within. here (64 * i + t) (omega (arith, at.0)) ∙ ap (λ k. eqb (bit_at w k) 1) (omega (arith, at.0)) ∙ ap (λ n. eqb n 1) at.1) in
+    position_or_len_is (λ bit. bit) (bits_of ws) (64 * i + t) false (omega (arith, at.0))
+    (λ k before. elim (cases_lt (k / 64) i) [
+      | inl h ↦ get_or-bits_of_at ws k ∙ bit_of_zero (get_or ws (k / 64) 0) (k % 64) (zero_before (k / 64) h)
+      | inr h ↦ here k (omega (arith, at.0)) ∙ ap (λ n. eqb n 1) (at.2 (k % 64) (omega (arith, at.0)))
+    ])
+    (λ within. here (64 * i + t) (omega (arith, at.0)) ∙ ap (λ k. eqb (bit_at w k) 1) (omega (arith, at.0)) ∙ ap (λ n. eqb n 1) at.1) in
     ap (λ n. cond (ltb n (length (bits_of ws))) (Some n) None) found
     ∙ ap (λ b. cond b (Some (64 * i + t)) None) (lt-ltb (64 * i + t) (length (bits_of ws)) (omega (arith, at.0)))
 
@@ -117,9 +118,9 @@ pub lowest_none : (ws : List ℕ) → ((k : ℕ) → k < length ws → get_or ws
 lowest_none ws zeros =
     let long = length-bits_of ws in
     let none : position_or_len (λ bit. bit) (bits_of ws) ≡ length (bits_of ws) =
-        position_or_len_is (λ bit. bit) (bits_of ws) (length (bits_of ws)) false (omega arith)
-        (λ k lt. get_or-bits_of_at ws k ∙ bit_of_zero (get_or ws (k / 64) 0) (k % 64) (zeros (k / 64) (omega arith)))
-        (λ lt. absurd (omega arith)) in
+    position_or_len_is (λ bit. bit) (bits_of ws) (length (bits_of ws)) false (omega arith)
+    (λ k lt. get_or-bits_of_at ws k ∙ bit_of_zero (get_or ws (k / 64) 0) (k % 64) (zeros (k / 64) (omega arith)))
+    (λ lt. absurd (omega arith)) in
     ap (λ n. cond (ltb n (length (bits_of ws))) (Some n) None) none
     ∙ ap (λ b. cond b (Some (length (bits_of ws))) None) (le-ltb (length (bits_of ws)) (length (bits_of ws)) (omega arith))
 

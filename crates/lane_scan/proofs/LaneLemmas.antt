@@ -1,12 +1,13 @@
 -- Lemmas on lanes: the comparison by the top bit.
-use Rattle.std.proofs.Common.{◌≡◌, ◌≢◌, ◌⊎◌, inl, inr, ℕ, zero, suc, ◌+◌, ◌-◌, ◌*◌, ◌/◌, ◌%◌, ◌^◌, ◌<◌, ◌≤◌, min, Bool, true, false, ◌&&◌, cond, leb, ltb, eqb, List, [], ◌∷◌, ◌++◌, length, get_or, map, replicate, refl, sym, ap, ◌∙◌, arith, Fits, w64, bit_and}
+use Rattle.std.proofs.Common.{◌≡◌, ◌≢◌, ◌⊎◌, inl, inr, ℕ, zero, suc, ◌+◌, ◌-◌, ◌*◌, ◌/◌, ◌%◌, ◌^◌, ◌<◌, ◌≤◌, min, Bool, true, false, not, ◌&&◌, cond, leb, ltb, eqb, List, [], ◌∷◌, ◌++◌, length, get_or, map, replicate, refl, sym, ap, ◌∙◌, arith, Fits, w64, bit_and}
 use Rattle.std.proofs.lemmas.Bool.{le-leb, lt-leb, cases_lt}
 use Rattle.std.proofs.lemmas.Bool.Decides.{nat_tests, leb_tells}
 use Rattle.std.proofs.lemmas.Nat.Bits.{bit_at_and}
-use Rattle.std.proofs.lemmas.Simd.{zip2_splat, zip2-map, Each1-weaker, map-map}
-use Rattle.std.proofs.lemmas.Grind.{common_steps}
+use Rattle.std.proofs.lemmas.Simd.{zip2_splat, zip2-map, Each1-weaker, map-map, tops_compared, zip2_splat_left, mask_l-mod}
+use Rattle.std.proofs.lemmas.List.{length-map}
 use lib.Bits.{and_le_r}
-use lib.Lanes.{zip2, Each1}
+use lib.Lanes.{zip2, Each1, mask_l, top}
+use mir.Val.{bits, hbits}
 
 -- both words have the top bit exactly where their conjunction has it
 pub top-bit_and : (a b : ℕ) → a < 2 ^ 64 → b < 2 ^ 64 → leb (2 ^ 63) (bit_and a b) ≡ (leb (2 ^ 63) a && leb (2 ^ 63) b)
@@ -36,4 +37,33 @@ tops_below b n xs hb long fits =
     ∙ ap (map (leb (2 ^ 63))) (zip2-map bit_and difference complement xs)
     ∙ map-map (leb (2 ^ 63)) (λ x. bit_and (difference x) (complement x)) xs
     ∙ map_agree (λ x. leb (2 ^ 63) (bit_and (difference x) (complement x))) (λ x. ltb x b) xs
-      (Each1-weaker (Fits w64) (λ x. leb (2 ^ 63) (bit_and (difference x) (complement x)) ≡ ltb x b) (λ x f. top_below x b f.fits hb) xs fits)
+    (Each1-weaker (Fits w64) (λ x. leb (2 ^ 63) (bit_and (difference x) (complement x)) ≡ ltb x b) (λ x f. top_below x b f.fits hb) xs fits)
+
+-- a conjunction with complements has words for lanes
+pub Each1-and_complements : (xs ys : List ℕ) → Each1 (λ lane. lane < 2 ^ 64) (zip2 bit_and xs (map (λ y. 2 ^ 64 - 1 - y) ys))
+Each1-and_complements [] ys = tt
+Each1-and_complements (x ∷ xs) [] = tt
+Each1-and_complements (x ∷ xs) (y ∷ ys) = (omega (arith, and_le_r x (2 ^ 64 - 1 - y)), Each1-and_complements xs ys)
+
+-- the mask that is computed of the lanes' top bits
+pub top_mask : (xs : List ℕ) (n : ℕ) → length xs ≡ n → n ≤ 64
+    → mask_l (map (top (hbits w64)) (zip2 (λ a b. cond (leb a b) (2 ^ bits w64 - 1) 0) (replicate n (2 ^ 63)) xs)) % 2 ^ 64 ≡ mask_l (map (leb (2 ^ 63)) xs)
+top_mask xs n long le =
+    ap (λ ms. mask_l ms % 2 ^ 64) (tops_compared w64 leb (replicate n (2 ^ 63)) xs ∙ zip2_splat_left leb (2 ^ 63) n xs long)
+    ∙ mask_l-mod (map (leb (2 ^ 63)) xs) 64 (omega (arith, length-map xs (leb (2 ^ 63))))
+
+-- how far a value lies above the first one inside tells whether it is inside
+pub offset_inside : (x lo hi : ℕ) → x < 2 ^ 64 → lo < 2 ^ 64 → hi < 2 ^ 64 → ltb ((x + (2 ^ 64 - lo)) % 2 ^ 64) (hi - lo) ≡ (leb lo x && ltb x hi)
+offset_inside x lo hi hx hlo hhi = grind (arith, nat_tests)
+
+complement_top : (b : ℕ) → b < 2 ^ 64 → leb (2 ^ 63) (2 ^ 64 - 1 - b) ≡ not (leb (2 ^ 63) b)
+complement_top b hb = grind (arith, nat_tests)
+
+-- the top bits of one vector where those of another are not set
+pub tops_without : (xs ys : List ℕ) → length xs ≡ length ys → Each1 (λ lane. lane < 2 ^ 64) xs → Each1 (λ lane. lane < 2 ^ 64) ys
+    → map (leb (2 ^ 63)) (zip2 bit_and xs (map (λ y. 2 ^ 64 - 1 - y) ys)) ≡ zip2 (λ a b. a && not b) (map (leb (2 ^ 63)) xs) (map (leb (2 ^ 63)) ys)
+tops_without [] ys long hx hy = refl
+tops_without (x ∷ xs) [] long hx hy = absurd (omega arith)
+tops_without (x ∷ xs) (y ∷ ys) long hx hy =
+    let rest = tops_without xs ys (omega arith) hx.1 hy.1 in
+    let first = top-bit_and x (2 ^ 64 - 1 - y) hx.0 (omega arith) ∙ ap (λ t. leb (2 ^ 63) x && t) (complement_top y hy.0) in cc

@@ -1,10 +1,10 @@
 //! Values in a range, and spans that meet a span.
 ghost use Rattle.std.specs.Prelude.{◌≡◌, ◌≤◌, ◌^◌, ◌*◌, ◌+◌, ◌-◌, ◌<◌, ◌++◌, ℕ, false, length, map, replicate, slice_index};
 ghost use Rattle.std.specs.List.{list_any, zip};
-ghost use Rattle.lane_scan.specs.Bits.{bits_of, word_bits};
+ghost use Rattle.lane_scan.specs.Bits.{bits_of, HasBits};
 ghost use Rattle.lane_scan.specs.Ranges.{is_inside, meets};
 
-use crate::lanes::{below, TOP};
+use crate::lanes::{TOP, below, top_bits};
 use std::simd::prelude::*;
 
 // How many pairs are compared at a time.
@@ -16,7 +16,7 @@ pub fn mark_inside(values: &[u64], lo: u64, hi: u64, out: &mut [u64])
     requires { length values.now ≤ 64 * length out.old }
     ensures { bits_of out.new
         ≡ map (is_inside lo hi) values.now
-            ++ replicate (64 * length out.old - length values.now) false }
+        ++ replicate (64 * length out.old - length values.now) false }
 {
     let mut rest = values;
     for word in out.iter_mut() {
@@ -29,12 +29,10 @@ pub fn mark_inside(values: &[u64], lo: u64, hi: u64, out: &mut [u64])
 // The word whose bit k tells whether value k lies inside.
 fn marks_of(values: &[u64], lo: u64, hi: u64) -> u64
     requires { length values.now ≤ 64 }
-    ensures { word_bits result
-        ≡ map (is_inside lo hi) values.now ++ replicate (64 - length values.now) false }
+    ensures { HasBits result (map (is_inside lo hi) values.now) }
 {
-    let width = hi.saturating_sub(lo);
-    if values.len() == 64 && width <= TOP {
-        return lane_marks(values, lo, width);
+    if values.len() == 64 && hi.saturating_sub(lo) <= TOP {
+        return lane_marks(values, lo, hi);
     }
     let mut word = 0;
     for (k, value) in values.iter().enumerate() {
@@ -45,18 +43,15 @@ fn marks_of(values: &[u64], lo: u64, hi: u64) -> u64
     word
 }
 
-// The same of 64 values, from the first value inside and how many follow it.
+// The same of 64 values, by how far each lies above the first value inside.
 #[inline(always)]
-fn lane_marks(values: &[u64], lo: u64, width: u64) -> u64
+fn lane_marks(values: &[u64], lo: u64, hi: u64) -> u64
     requires whole { length values.now ≡ 64 }
-    requires narrow { width ≤ 2 ^ 63 }
-    requires fits { lo + width < 2 ^ 64 }
-    ensures { word_bits result ≡ map (is_inside lo (lo + width)) values.now }
+    requires narrow { hi - lo ≤ 2 ^ 63 }
+    ensures { HasBits result (map (is_inside lo hi) values.now) }
 {
     let offsets = u64x64::from_slice(values) - u64x64::splat(lo);
-    below(offsets, width)
-        .simd_ge(u64x64::splat(TOP))
-        .to_bitmask()
+    top_bits(below(offsets, hi.saturating_sub(lo)))
 }
 
 /// Whether some `firsts[i] < hi` has `lo < ends[i]`. Both lists have the same length.
@@ -64,26 +59,30 @@ pub fn meets_any(lo: u64, hi: u64, firsts: &[u64], ends: &[u64]) -> bool
     requires { length firsts.now ≡ length ends.now }
     ensures { result ≡ list_any (meets lo hi) (zip firsts.now ends.now) }
 {
-    let at = if lo < TOP && hi <= TOP {
-        blocks_apart(lo, hi, firsts, ends)
-    } else {
-        0
-    };
-    firsts[at..]
+    let at = blocks_apart(lo, hi, firsts, ends);
+    plain_meets(lo, hi, &firsts[at..], &ends[at..])
+}
+
+// The plain scan.
+fn plain_meets(lo: u64, hi: u64, firsts: &[u64], ends: &[u64]) -> bool
+    ensures { result ≡ list_any (meets lo hi) (zip firsts.now ends.now) }
+{
+    firsts
         .iter()
-        .zip(&ends[at..])
+        .zip(ends)
         .any(|(first, end)| *first < hi && lo < *end)
 }
 
-// How many pairs the blocks before the first one that has a pair that meets have.
+// How many pairs stand in the blocks before the first block that meets. The lanes compare with bounds up to 2^63.
 fn blocks_apart(lo: u64, hi: u64, firsts: &[u64], ends: &[u64]) -> usize
-    requires paired { length firsts.now ≡ length ends.now }
-    requires low { lo < 2 ^ 63 }
-    requires high { hi ≤ 2 ^ 63 }
+    requires { length firsts.now ≡ length ends.now }
     ensures within { result ≤ length firsts.now }
     ensures apart { (k : ℕ) → k < result
         → meets lo hi (slice_index firsts.now k, slice_index ends.now k) ≡ false }
 {
+    if lo >= TOP || hi > TOP {
+        return 0;
+    }
     let mut at = 0;
     while firsts.len() - at >= LANES {
         if block_meets(lo, hi, firsts, ends, at) {
@@ -106,5 +105,54 @@ fn block_meets(lo: u64, hi: u64, firsts: &[u64], ends: &[u64], at: usize) -> boo
 {
     let begins = below(u64x16::from_slice(&firsts[at..]), hi);
     let ended = below(u64x16::from_slice(&ends[at..]), lo + 1);
-    (begins & !ended).simd_ge(u64x16::splat(TOP)).to_bitmask() != 0
+    top_bits(begins & !ended) != 0
+}
+
+#[cfg(test)]
+mod tests {
+    use super::*;
+    use std::test::Fail;
+
+    // Lengths on both sides of a block of lanes and of a word.
+    const LENGTHS: [usize; 9] = [0, 1, 7, 8, 9, 63, 64, 65, 200];
+
+    // Value i of a list that rises and falls, with some values above 2^63.
+    fn value(i: usize) -> u64 {
+        (i as u64 % 1_000).wrapping_mul(0x9e37_79b9_7f4a_7c15)
+    }
+
+    #[test]
+    fn lanes_and_plain_loops_agree(rt: HostRuntime) -> Result<(), Fail> {
+        let bounds: [(u64, u64); 5] = [
+            (0, 0),
+            (1 << 62, 1 << 63),
+            (5, u64::MAX),
+            (1 << 63, u64::MAX),
+            (u64::MAX, 0),
+        ];
+        for len in LENGTHS {
+            let mut values = Vec::new(rt.alloc());
+            let mut ends = Vec::new(rt.alloc());
+            for i in 0..len {
+                values.push(value(i))?;
+                ends.push(value(i + 500))?;
+            }
+            for (lo, hi) in bounds {
+                let mut marks = [u64::MAX; 4];
+                assert!(rt; values.len() <= 256);
+                mark_inside(&values, lo, hi, &mut marks);
+                for i in 0..256 {
+                    let inside = i < values.len() && lo <= values[i] && values[i] < hi;
+                    assert_eq!(rt; marks[i / 64] >> (i % 64) & 1 == 1, inside);
+                }
+                assert_eq!(rt; values.len(), ends.len());
+                let mut meets = false;
+                for i in 0..values.len() {
+                    meets |= values[i] < hi && lo < ends[i];
+                }
+                assert_eq!(rt; meets_any(lo, hi, &values, &ends), meets);
+            }
+        }
+        Ok(())
+    }
 }

@@ -1,12 +1,9 @@
 use Rattle.std.proofs.Common.{◌≡◌, ◌∙◌, ℕ, ◌<◌, ◌+◌, ◌≤◌, Bool, not, eqb, true, false, inl, inr, length, get_or, sym, ap, arith, w64}
 use Rattle.std.proofs.lemmas.Bool.{cases_lt}
-use Rattle.std.proofs.lemmas.Bool.Decides.{nat_tests}
+use Rattle.lane_scan.proofs.BitLemmas.{zero_from_test}
 use Rattle.std.proofs.lemmas.Simd.{bitmask_splat, length-chunk, none_from_empty_mask}
 use lib.Lanes.{chunk}
 use Rattle.lane_scan.proofs.words.zero_blocks.Goals as goal
-
-zero_from_test : (n : ℕ) → not (eqb n 0) ≡ false → n ≡ 0
-zero_from_test n h = grind (arith, nat_tests)
 
 pub loop-at-preserved : goal.loop-at-preserved
 loop-at-preserved c =
