@@ -1,13 +1,13 @@
 -- Lemmas on lanes: the comparison by the top bit.
-use Rattle.std.proofs.Common.{◌≡◌, ◌≢◌, ◌⊎◌, inl, inr, ℕ, zero, suc, ◌+◌, ◌-◌, ◌*◌, ◌/◌, ◌%◌, ◌^◌, ◌<◌, ◌≤◌, min, Bool, true, false, not, ◌&&◌, cond, leb, ltb, eqb, List, [], ◌∷◌, ◌++◌, length, get_or, map, replicate, refl, sym, ap, ◌∙◌, arith, Fits, w64, bit_and}
+use Rattle.std.proofs.Common.{◌≡◌, ◌≢◌, ◌⊎◌, inl, inr, ℕ, zero, suc, ◌+◌, ◌-◌, ◌*◌, ◌/◌, ◌%◌, ◌^◌, ◌<◌, ◌≤◌, min, Bool, true, false, not, ◌&&◌, cond, leb, ltb, eqb, List, [], ◌∷◌, ◌++◌, length, get_or, map, replicate, refl, sym, ap, ◌∙◌, arith, Fits, w64, bit_and, bit_or}
 use Rattle.std.proofs.lemmas.Bool.{le-leb, lt-leb, cases_lt}
 use Rattle.std.proofs.lemmas.Bool.Decides.{nat_tests, leb_tells}
 use Rattle.std.proofs.lemmas.Nat.Bits.{bit_at_and}
-use Rattle.std.proofs.lemmas.Simd.{zip2_splat, zip2-map, Each1-weaker, map-map, tops_compared, zip2_splat_left, mask_l-mod}
+use Rattle.std.proofs.lemmas.Simd.{zip2_splat, zip2-map, Each1-weaker, map-map}
 use Rattle.std.proofs.lemmas.List.{length-map}
+use Rattle.std.proofs.lemmas.Nat.{le_or_l, le_or_r}
 use lib.Bits.{and_le_r}
-use lib.Lanes.{zip2, Each1, mask_l, top}
-use mir.Val.{bits, hbits}
+use lib.Lanes.{zip2, Each1, fold_l}
 
 -- both words have the top bit exactly where their conjunction has it
 pub top-bit_and : (a b : ℕ) → a < 2 ^ 64 → b < 2 ^ 64 → leb (2 ^ 63) (bit_and a b) ≡ (leb (2 ^ 63) a && leb (2 ^ 63) b)
@@ -45,12 +45,15 @@ Each1-and_complements [] ys = tt
 Each1-and_complements (x ∷ xs) [] = tt
 Each1-and_complements (x ∷ xs) (y ∷ ys) = (omega (arith, and_le_r x (2 ^ 64 - 1 - y)), Each1-and_complements xs ys)
 
--- the mask that is computed of the lanes' top bits
-pub top_mask : (xs : List ℕ) (n : ℕ) → length xs ≡ n → n ≤ 64
-    → mask_l (map (top (hbits w64)) (zip2 (λ a b. cond (leb a b) (2 ^ bits w64 - 1) 0) (replicate n (2 ^ 63)) xs)) % 2 ^ 64 ≡ mask_l (map (leb (2 ^ 63)) xs)
-top_mask xs n long le =
-    ap (λ ms. mask_l ms % 2 ^ 64) (tops_compared w64 leb (replicate n (2 ^ 63)) xs ∙ zip2_splat_left leb (2 ^ 63) n xs long)
-    ∙ mask_l-mod (map (leb (2 ^ 63)) xs) 64 (omega (arith, length-map xs (leb (2 ^ 63))))
+-- each lane is at most the disjunction of all
+pub le-fold_or : (a : ℕ) (xs : List ℕ) → a ≤ fold_l bit_or a xs
+le-fold_or a [] = omega arith
+le-fold_or a (x ∷ xs) = omega (arith, le_or_l a x, le-fold_or (bit_or a x) xs)
+
+pub lane-le-fold_or : (a : ℕ) (xs : List ℕ) (i : ℕ) → get_or xs i 0 ≤ fold_l bit_or a xs
+lane-le-fold_or a [] i = omega arith
+lane-le-fold_or a (x ∷ xs) zero = omega (arith, le_or_r a x, le-fold_or (bit_or a x) xs)
+lane-le-fold_or a (x ∷ xs) (suc i) = lane-le-fold_or (bit_or a x) xs i
 
 -- how far a value lies above the first one inside tells whether it is inside
 pub offset_inside : (x lo hi : ℕ) → x < 2 ^ 64 → lo < 2 ^ 64 → hi < 2 ^ 64 → ltb ((x + (2 ^ 64 - lo)) % 2 ^ 64) (hi - lo) ≡ (leb lo x && ltb x hi)

@@ -2,55 +2,59 @@
 use Rattle.std.proofs.Common.{◌≡◌, inl, inr, ℕ, zero, suc, ◌+◌, ◌-◌, ◌*◌, ◌/◌, ◌%◌, ◌^◌, ◌<◌, ◌≤◌, Bool, true, false, not, ◌&&◌, ◌||◌, cond, leb, ltb, eqb, List, [], ◌∷◌, ◌++◌, length, get_or, map, take, drop, set, replicate, refl, sym, ap, ◌∙◌, arith, Fits, w64, bit_and, bit_or, eq-eqb, ne_eqb}
 use Rattle.std.specs.Int.{bit_at}
 use Rattle.std.specs.List.{list_any, zip}
-use Rattle.std.proofs.lemmas.Bool.{cases_lt, cases_eq, cases_order}
+use Rattle.std.proofs.lemmas.Bool.{cases_lt, cases_eq, cases_order, lt-leb, leb-false}
 use Rattle.std.proofs.lemmas.Bool.Decides.{nat_tests}
 use Rattle.std.proofs.lemmas.Nat.Bits.{bit_at-zero, bit_at_set_same, bit_at_set_other}
 use Rattle.std.proofs.lemmas.List.{length-map, get_or-map, map_more, length-take-le, get_or_at, get_or_append_left, get_or_past, length_push, take-map, drop-map, get_or-take, get_or-drop, get_or-append_right, ext_get_or, length-append, length-replicate}
 use Rattle.std.proofs.lemmas.Simd.{zip2_splat, Each1-weaker, map-map, get_or-zip2, get_or-chunk}
-use lib.Lanes.{zip2, Each1, mask_l, chunk}
+use lib.Lanes.{zip2, Each1, mask_l, chunk, fold_l}
 use Rattle.lane_scan.specs.Bits.{bits_of, HasBits}
 use Rattle.lane_scan.specs.Ranges.{is_inside, meets}
 use Rattle.lane_scan.proofs.BitLemmas.{bit_of_mask, length-bits_of, get_or-bits_of_at}
-use Rattle.lane_scan.proofs.LaneLemmas.{map_agree, offset_inside, tops_without}
+use Rattle.lane_scan.proofs.LaneLemmas.{map_agree, offset_inside, tops_without, lane-le-fold_or}
 
--- the mask of the lanes whose offset is below the width of the range marks the values inside
-pub marks_from_offsets : (xs : List ℕ) (lo hi width word : ℕ) (lanes : List ℕ) → Each1 (Fits w64) xs → lo < 2 ^ 64 → hi < 2 ^ 64 → length xs ≡ 64 → width ≡ hi - lo
-    → word ≡ mask_l (map (leb (2 ^ 63)) lanes)
-    → map (leb (2 ^ 63)) lanes ≡ map (λ x. ltb x width) (zip2 (λ x y. (x + (2 ^ 64 - y)) % 2 ^ 64) xs (replicate 64 lo))
-    → HasBits word (map (is_inside lo hi) xs)
-marks_from_offsets xs lo hi width word lanes fits hlo hhi long wide is tops k lt =
+-- the mask of the values whose offset is below the width of the range marks the values inside
+pub marks_from_offsets : (xs : List ℕ) (lo hi width word : ℕ) → Each1 (Fits w64) xs → lo < 2 ^ 64 → hi < 2 ^ 64 → length xs ≡ 64 → width ≡ hi - lo
+    → word ≡ mask_l (map (λ x. ltb x width) (zip2 (λ x y. (x + (2 ^ 64 - y)) % 2 ^ 64) xs (replicate 64 lo))) → HasBits word (map (is_inside lo hi) xs)
+marks_from_offsets xs lo hi width word fits hlo hhi long wide is k lt =
     let offset : ℕ → ℕ = λ x. (x + (2 ^ 64 - lo)) % 2 ^ 64 in
-    let inside : map (leb (2 ^ 63)) lanes ≡ map (is_inside lo hi) xs =
-    tops
-    ∙ ap (map (λ x. ltb x width)) (zip2_splat (λ x y. (x + (2 ^ 64 - y)) % 2 ^ 64) xs 64 lo long)
+    let inside : map (λ x. ltb x width) (zip2 (λ x y. (x + (2 ^ 64 - y)) % 2 ^ 64) xs (replicate 64 lo)) ≡ map (is_inside lo hi) xs =
+    ap (map (λ x. ltb x width)) (zip2_splat (λ x y. (x + (2 ^ 64 - y)) % 2 ^ 64) xs 64 lo long)
     ∙ map-map (λ x. ltb x width) offset xs
     ∙ map_agree (λ x. ltb (offset x) width) (is_inside lo hi) xs
     (Each1-weaker (Fits w64) (λ x. ltb (offset x) width ≡ is_inside lo hi x) (λ x f. ap (ltb (offset x)) wide ∙ offset_inside x lo hi f.fits hlo hhi) xs fits) in
     ap (λ w. eqb (bit_at w k) 1) (is ∙ ap mask_l inside) ∙ bit_of_mask (map (is_inside lo hi) xs) k
 
+-- where the disjunction of all lanes has no top bit, no lane has
+clear_tops : (zs : List ℕ) → leb (2 ^ 63) (fold_l bit_or 0 zs) ≡ false → (i : ℕ) → get_or (map (leb (2 ^ 63)) zs) i false ≡ false
+clear_tops zs none i =
+    elim (cases_lt i (length zs)) [
+      | inl h ↦ get_or-map (leb (2 ^ 63)) zs i 0 false h ∙ lt-leb (2 ^ 63) (get_or zs i 0) (omega (arith, leb-false (2 ^ 63) (fold_l bit_or 0 zs) none, lane-le-fold_or 0 zs i))
+      | inr h ↦ get_or_past (map (leb (2 ^ 63)) zs) i false (omega (arith, length-map zs (leb (2 ^ 63))))
+    ]
+
 meets_by_tests : (f e lo hi : ℕ) → (ltb f hi && not (ltb e (lo + 1))) ≡ false → meets lo hi (f, e) ≡ false
 meets_by_tests f e lo hi h = grind (arith, nat_tests)
 
 -- where no top bit is set, no pair of a block meets
-pub none_meets : (fs es : List ℕ) (lo hi word : ℕ) (xs ys : List ℕ) → length fs ≡ length es → Each1 (λ lane. lane < 2 ^ 64) xs → Each1 (λ lane. lane < 2 ^ 64) ys
+pub none_meets : (fs es : List ℕ) (lo hi : ℕ) (xs ys : List ℕ) → length fs ≡ length es → Each1 (λ lane. lane < 2 ^ 64) xs → Each1 (λ lane. lane < 2 ^ 64) ys
     → map (leb (2 ^ 63)) xs ≡ map (λ x. ltb x hi) fs → map (leb (2 ^ 63)) ys ≡ map (λ y. ltb y (lo + 1)) es
-    → word ≡ mask_l (map (leb (2 ^ 63)) (zip2 bit_and xs (map (λ y. 2 ^ 64 - 1 - y) ys))) → word ≡ 0
+    → leb (2 ^ 63) (fold_l bit_or 0 (zip2 bit_and xs (map (λ y. 2 ^ 64 - 1 - y) ys))) ≡ false
     → (i : ℕ) → i < length fs → meets lo hi (get_or fs i 0, get_or es i 0) ≡ false
-none_meets fs es lo hi word xs ys paired hx hy begins ended is none i lt =
+none_meets fs es lo hi xs ys paired hx hy begins ended none i lt =
     let below_hi : ℕ → Bool = λ x. ltb x hi in
     let to_lo : ℕ → Bool = λ y. ltb y (lo + 1) in
+    let zs = zip2 bit_and xs (map (λ y. 2 ^ 64 - 1 - y) ys) in
     let same : length xs ≡ length ys =
     sym (length-map xs (leb (2 ^ 63))) ∙ ap length begins ∙ length-map fs below_hi ∙ paired ∙ sym (length-map es to_lo) ∙ sym (ap length ended) ∙ length-map ys (leb (2 ^ 63)) in
-    let tops : map (leb (2 ^ 63)) (zip2 bit_and xs (map (λ y. 2 ^ 64 - 1 - y) ys)) ≡ zip2 (λ a b. a && not b) (map below_hi fs) (map to_lo es) =
+    let tops : map (leb (2 ^ 63)) zs ≡ zip2 (λ a b. a && not b) (map below_hi fs) (map to_lo es) =
     tops_without xs ys same hx hy ∙ ap (λ ts. zip2 (λ a b. a && not b) ts (map (leb (2 ^ 63)) ys)) begins ∙ ap (zip2 (λ a b. a && not b) (map below_hi fs)) ended in
-    let ms = zip2 (λ a b. a && not b) (map below_hi fs) (map to_lo es) in
-    let clear : get_or ms i false ≡ false =
-    sym (bit_of_mask ms i) ∙ ap (λ w. eqb (bit_at w i) 1) (sym (is ∙ ap mask_l tops) ∙ none) ∙ ap (λ n. eqb n 1) (bit_at-zero i) in
-    let here : get_or ms i false ≡ (below_hi (get_or fs i 0) && not (to_lo (get_or es i 0))) =
+    let clear : get_or (map (leb (2 ^ 63)) zs) i false ≡ false = clear_tops zs none i in
+    let here : get_or (zip2 (λ a b. a && not b) (map below_hi fs) (map to_lo es)) i false ≡ (below_hi (get_or fs i 0) && not (to_lo (get_or es i 0))) =
     get_or-zip2 (λ a b. a && not b) (map below_hi fs) (map to_lo es) i false false false (omega (arith, length-map fs below_hi)) (omega (arith, length-map es to_lo))
     ∙ ap (λ t. t && not (get_or (map to_lo es) i false)) (get_or-map below_hi fs i 0 false lt)
     ∙ ap (λ t. below_hi (get_or fs i 0) && not t) (get_or-map to_lo es i 0 false (omega arith)) in
-    meets_by_tests (get_or fs i 0) (get_or es i 0) lo hi (sym here ∙ clear)
+    meets_by_tests (get_or fs i 0) (get_or es i 0) lo hi (sym here ∙ ap (λ ts. get_or ts i false) (sym tops) ∙ clear)
 
 -- the element of a list that a block has
 pub get_or-in_chunk : (at n : ℕ) (xs : List ℕ) (k : ℕ) → at ≤ k → k < at + n → get_or xs k 0 ≡ get_or (chunk at n xs) (k - at) 0

@@ -3,7 +3,6 @@
 //! takes memory.
 #![tactic(auto)]
 
-mod lanes;
 mod ranges;
 mod words;
 

@@ -1,14 +1,17 @@
 //! Values in a range, and spans that meet a span.
-ghost use Rattle.std.specs.Prelude.{◌≡◌, ◌≤◌, ◌^◌, ◌*◌, ◌+◌, ◌-◌, ◌<◌, ◌++◌, ℕ, false, length, map, replicate, slice_index};
+ghost use Rattle.std.specs.Prelude.{◌≡◌, ◌≤◌, ◌^◌, ◌*◌, ◌+◌, ◌-◌, ◌<◌, ◌++◌, ℕ, false, length, map, nat_le, nat_lt, replicate, slice_index};
 ghost use Rattle.std.specs.List.{list_any, zip};
+ghost use Rattle.std.specs.Simd.Lanes.{Each1};
 ghost use Rattle.lane_scan.specs.Bits.{bits_of, HasBits};
 ghost use Rattle.lane_scan.specs.Ranges.{is_inside, meets};
 
-use crate::lanes::{TOP, below, top_bits};
 use std::simd::prelude::*;
 
 // How many pairs are compared at a time.
 const LANES: usize = 16;
+
+// The top bit of a word.
+const TOP: u64 = 1 << 63;
 
 /// Sets bit `i` of `out` exactly where `lo <= values[i] < hi`, and clears all its other bits. Bit `k` of word `j`
 /// is bit `64 * j + k`, and `out` has a bit for each value.
@@ -31,7 +34,7 @@ fn marks_of(values: &[u64], lo: u64, hi: u64) -> u64
     requires { length values.now ≤ 64 }
     ensures { HasBits result (map (is_inside lo hi) values.now) }
 {
-    if values.len() == 64 && hi.saturating_sub(lo) <= TOP {
+    if values.len() == 64 {
         return lane_marks(values, lo, hi);
     }
     let mut word = 0;
@@ -46,12 +49,13 @@ fn marks_of(values: &[u64], lo: u64, hi: u64) -> u64
 // The same of 64 values, by how far each lies above the first value inside.
 #[inline(always)]
 fn lane_marks(values: &[u64], lo: u64, hi: u64) -> u64
-    requires whole { length values.now ≡ 64 }
-    requires narrow { hi - lo ≤ 2 ^ 63 }
+    requires { length values.now ≡ 64 }
     ensures { HasBits result (map (is_inside lo hi) values.now) }
 {
     let offsets = u64x64::from_slice(values) - u64x64::splat(lo);
-    top_bits(below(offsets, hi.saturating_sub(lo)))
+    offsets
+        .simd_lt(u64x64::splat(hi.saturating_sub(lo)))
+        .to_bitmask()
 }
 
 /// Whether some `firsts[i] < hi` has `lo < ends[i]`. Both lists have the same length.
@@ -105,7 +109,18 @@ fn block_meets(lo: u64, hi: u64, firsts: &[u64], ends: &[u64], at: usize) -> boo
 {
     let begins = below(u64x16::from_slice(&firsts[at..]), hi);
     let ended = below(u64x16::from_slice(&ends[at..]), lo + 1);
-    top_bits(begins & !ended) != 0
+    (begins & !ended).reduce_or() >= TOP
+}
+
+// Each lane's top bit is set exactly where that lane is below the bound. This takes less time than to compare
+// unsigned lanes.
+#[inline(always)]
+fn below(lanes: u64x16, bound: u64) -> u64x16
+    requires { bound ≤ 2 ^ 63 }
+    ensures tops { map (nat_le (2 ^ 63)) result ≡ map (λ lane. nat_lt lane bound) lanes }
+    ensures words { Each1 (λ lane. lane < 2 ^ 64) result }
+{
+    (lanes - u64x16::splat(bound)) & !lanes
 }
 
 #[cfg(test)]

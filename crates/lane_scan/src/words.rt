@@ -6,7 +6,7 @@ ghost use Rattle.lane_scan.specs.Bits.{bits_of};
 use std::simd::prelude::*;
 
 // How many words are read at a time.
-const LANES: usize = 16;
+const LANES: usize = 8;
 
 /// The place of the lowest set bit, where bit `k` of word `j` has the place `64 * j + k`. `None` where no bit is
 /// set. There are at most 2^20 words.
@@ -27,10 +27,10 @@ fn zero_blocks(words: &[u64]) -> usize
     ensures within { result ≤ length words.now }
     ensures zero { (k : ℕ) → k < result → slice_index words.now k ≡ 0 }
 {
-    let zero = u64x16::splat(0);
+    let zero = u64x8::splat(0);
     let mut at = 0;
     while words.len() - at >= LANES {
-        if u64x16::from_slice(&words[at..]).simd_ne(zero).to_bitmask() != 0 {
+        if u64x8::from_slice(&words[at..]).simd_ne(zero).to_bitmask() != 0 {
             return at;
         }
         at += LANES;
@@ -63,6 +63,6 @@ fn block_ones(words: &[u64], at: usize) -> u32
     requires { at + LANES ≤ length words.now }
     ensures { result ≡ count_by (λ bit. bit) (bits_of (chunk at LANES words.now)) }
 {
-    let ones = u64x16::from_slice(&words[at..]).count_ones();
+    let ones = u64x8::from_slice(&words[at..]).count_ones();
     ones.strict_reduce_sum() as u32
 }

@@ -12,11 +12,11 @@ pub overflow_add-count : goal.overflow_add-count
 overflow_add-count c =
     let ws = c.args.words.now in
     let at = c.loop-at.at in
-    record { fits = omega (arith, count_more ws at 16, c.block_ones-count.ensures, c.loop-at.invariant.counted, count-bits_of-le (take (at + 16) ws), length-take-le (at + 16) ws (omega arith)) }
+    record { fits = omega (arith, count_more ws at 8, c.block_ones-count.ensures, c.loop-at.invariant.counted, count-bits_of-le (take (at + 8) ws), length-take-le (at + 8) ws (omega arith)) }
 
 pub loop-at-preserved-then-words-at-ge-LANES : goal.loop-at-preserved-then-words-at-ge-LANES
 loop-at-preserved-then-words-at-ge-LANES c =
-    record { within = omega arith; counted = omega (arith, count_more c.args.words.now c.loop-at.at 16, c.block_ones-count.ensures, c.loop-at.invariant.counted) }
+    record { within = omega arith; counted = omega (arith, count_more c.args.words.now c.loop-at.at 8, c.block_ones-count.ensures, c.loop-at.invariant.counted) }
 
 pub overflow_add-count-else-words-at-ge-LANES : goal.overflow_add-count-else-words-at-ge-LANES
 overflow_add-count-else-words-at-ge-LANES c =
