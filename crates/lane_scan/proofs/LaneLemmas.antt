@@ -1,10 +1,8 @@
 -- Lemmas on lanes: the comparison by the top bit.
-use Rattle.std.proofs.Common.{◌≡◌, ◌≢◌, ◌⊎◌, inl, inr, ℕ, zero, suc, ◌+◌, ◌-◌, ◌*◌, ◌/◌, ◌%◌, ◌^◌, ◌<◌, ◌≤◌, min, Bool, true, false, not, ◌&&◌, cond, leb, ltb, eqb, List, [], ◌∷◌, ◌++◌, length, get_or, map, replicate, refl, sym, ap, ◌∙◌, arith, Fits, w64, bit_and, bit_or}
-use Rattle.std.proofs.lemmas.Bool.{le-leb, lt-leb, cases_lt}
-use Rattle.std.proofs.lemmas.Bool.Decides.{nat_tests, leb_tells}
+use Rattle.std.proofs.Common.{◌≡◌, ℕ, zero, suc, ◌+◌, ◌-◌, ◌%◌, ◌^◌, ◌<◌, ◌≤◌, not, ◌&&◌, leb, ltb, List, [], ◌∷◌, length, get_or, map, replicate, refl, ap, ◌∙◌, arith, Fits, w64, bit_and, bit_or}
+use Rattle.std.proofs.lemmas.Bool.Decides.{nat_tests}
 use Rattle.std.proofs.lemmas.Nat.Bits.{bit_at_and}
 use Rattle.std.proofs.lemmas.Simd.{zip2_splat, zip2-map, Each1-weaker, map-map}
-use Rattle.std.proofs.lemmas.List.{length-map}
 use Rattle.std.proofs.lemmas.Nat.{le_or_l, le_or_r}
 use lib.Bits.{and_le_r}
 use lib.Lanes.{zip2, Each1, fold_l}

@@ -1,29 +1,53 @@
 -- Lemmas on ranges, over lists.
-use Rattle.std.proofs.Common.{◌≡◌, inl, inr, ℕ, zero, suc, ◌+◌, ◌-◌, ◌*◌, ◌/◌, ◌%◌, ◌^◌, ◌<◌, ◌≤◌, Bool, true, false, not, ◌&&◌, ◌||◌, cond, leb, ltb, eqb, List, [], ◌∷◌, ◌++◌, length, get_or, map, take, drop, set, replicate, refl, sym, ap, ◌∙◌, arith, Fits, w64, bit_and, bit_or, eq-eqb, ne_eqb}
+use Rattle.std.proofs.Common.{◌≡◌, inl, inr, ℕ, zero, suc, ◌+◌, ◌-◌, ◌*◌, ◌/◌, ◌%◌, ◌^◌, ◌<◌, ◌≤◌, Bool, true, false, not, ◌&&◌, ◌||◌, leb, ltb, eqb, List, [], ◌∷◌, ◌++◌, length, get_or, map, take, take-add, drop, replicate, refl, sym, ap, subst, ◌∙◌, arith, Fits, w64, bit_and, bit_or}
 use Rattle.std.specs.Int.{bit_at}
 use Rattle.std.specs.List.{list_any, zip}
-use Rattle.std.proofs.lemmas.Bool.{cases_lt, cases_eq, cases_order, lt-leb, leb-false}
+use Rattle.std.proofs.lemmas.Bool.{cases_lt, lt-leb, leb-false}
 use Rattle.std.proofs.lemmas.Bool.Decides.{nat_tests}
-use Rattle.std.proofs.lemmas.Nat.Bits.{bit_at-zero, bit_at_set_same, bit_at_set_other}
-use Rattle.std.proofs.lemmas.List.{length-map, get_or-map, map_more, length-take-le, get_or_at, get_or_append_left, get_or_past, length_push, take-map, drop-map, get_or-take, get_or-drop, get_or-append_right, ext_get_or, length-append, length-replicate}
-use Rattle.std.proofs.lemmas.Simd.{zip2_splat, Each1-weaker, map-map, get_or-zip2, get_or-chunk}
+use Rattle.std.proofs.lemmas.List.{length-map, map-append, drop_more, get_or-map, length-take-le, get_or_append_left, get_or_past, take-map, drop-map, get_or-take, get_or-drop, get_or-append_right, ext_get_or, length-append, length-replicate}
+use Rattle.std.proofs.lemmas.Simd.{mask_l-lt, zip2_splat, Each1-weaker, map-map, get_or-zip2, get_or-chunk}
+use native.Mathlib.Nat.{pow-suc, lt_of_lt_of_le}
+use lib.Pow.{pow_mono}
+use lib.Bits.{or_shifted_r}
+use mir.Val.{bool_byte}
 use lib.Lanes.{zip2, Each1, mask_l, chunk, fold_l}
-use Rattle.lane_scan.specs.Bits.{bits_of, HasBits}
+use Rattle.lane_scan.specs.Bits.{bits_of}
 use Rattle.lane_scan.specs.Ranges.{is_inside, meets}
 use Rattle.lane_scan.proofs.BitLemmas.{bit_of_mask, length-bits_of, get_or-bits_of_at}
 use Rattle.lane_scan.proofs.LaneLemmas.{map_agree, offset_inside, tops_without, lane-le-fold_or}
 
--- the mask of the values whose offset is below the width of the range marks the values inside
-pub marks_from_offsets : (xs : List ℕ) (lo hi width word : ℕ) → Each1 (Fits w64) xs → lo < 2 ^ 64 → hi < 2 ^ 64 → length xs ≡ 64 → width ≡ hi - lo
-    → word ≡ mask_l (map (λ x. ltb x width) (zip2 (λ x y. (x + (2 ^ 64 - y)) % 2 ^ 64) xs (replicate 64 lo))) → HasBits word (map (is_inside lo hi) xs)
-marks_from_offsets xs lo hi width word fits hlo hhi long wide is k lt =
+-- the values whose offset is below the width of the range are those inside
+pub offsets_below : (xs : List ℕ) (lo hi width n : ℕ) → Each1 (Fits w64) xs → lo < 2 ^ 64 → hi < 2 ^ 64 → length xs ≡ n → width ≡ hi - lo
+    → map (λ x. ltb x width) (zip2 (λ x y. (x + (2 ^ 64 - y)) % 2 ^ 64) xs (replicate n lo)) ≡ map (is_inside lo hi) xs
+offsets_below xs lo hi width n fits hlo hhi long wide =
     let offset : ℕ → ℕ = λ x. (x + (2 ^ 64 - lo)) % 2 ^ 64 in
-    let inside : map (λ x. ltb x width) (zip2 (λ x y. (x + (2 ^ 64 - y)) % 2 ^ 64) xs (replicate 64 lo)) ≡ map (is_inside lo hi) xs =
-    ap (map (λ x. ltb x width)) (zip2_splat (λ x y. (x + (2 ^ 64 - y)) % 2 ^ 64) xs 64 lo long)
+    ap (map (λ x. ltb x width)) (zip2_splat (λ x y. (x + (2 ^ 64 - y)) % 2 ^ 64) xs n lo long)
     ∙ map-map (λ x. ltb x width) offset xs
     ∙ map_agree (λ x. ltb (offset x) width) (is_inside lo hi) xs
-    (Each1-weaker (Fits w64) (λ x. ltb (offset x) width ≡ is_inside lo hi x) (λ x f. ap (ltb (offset x)) wide ∙ offset_inside x lo hi f.fits hlo hhi) xs fits) in
-    ap (λ w. eqb (bit_at w k) 1) (is ∙ ap mask_l inside) ∙ bit_of_mask (map (is_inside lo hi) xs) k
+    (Each1-weaker (Fits w64) (λ x. ltb (offset x) width ≡ is_inside lo hi x) (λ x f. ap (ltb (offset x)) wide ∙ offset_inside x lo hi f.fits hlo hhi) xs fits)
+
+pub mask_l-append : (ms ns : List Bool) → mask_l (ms ++ ns) ≡ mask_l ns * 2 ^ length ms + mask_l ms
+mask_l-append [] ns = omega arith
+mask_l-append (m ∷ ms) ns =
+    omega (arith, mask_l-append ms ns, ap (λ p. mask_l ns * p) (pow-suc 2 (length ms)))
+
+-- the mask of the values up to the end of one more block
+pub mask_more : (f : ℕ → Bool) (xs : List ℕ) (at n word block : ℕ) → at + n ≤ length xs → at + n ≤ 64
+    → word ≡ mask_l (map f (take at xs)) → block ≡ mask_l (map f (take n (drop at xs)))
+    → bit_or word (block * 2 ^ at % 2 ^ 64) ≡ mask_l (map f (take (at + n) xs))
+mask_more f xs at n word block room small before here =
+    let front = map f (take at xs) in
+    let back = map f (take n (drop at xs)) in
+    let long : length front ≡ at = length-map (take at xs) f ∙ length-take-le at xs (omega arith) in
+    let all : length (map f (take (at + n) xs)) ≡ at + n = length-map (take (at + n) xs) f ∙ length-take-le (at + n) xs room in
+    let whole : mask_l (map f (take (at + n) xs)) ≡ block * 2 ^ at + word =
+    ap (λ vs. mask_l (map f vs)) (take-add at n xs) ∙ ap mask_l (map-append f (take at xs) (take n (drop at xs))) ∙ mask_l-append front back
+    ∙ ap (λ k. mask_l back * 2 ^ k + mask_l front) long ∙ ap (λ b. b * 2 ^ at + mask_l front) (sym here) ∙ ap (λ w. block * 2 ^ at + w) (sym before) in
+    let below : mask_l (map f (take (at + n) xs)) < 2 ^ 64 =
+    lt_of_lt_of_le (mask_l-lt (map f (take (at + n) xs))) (pow_mono {i = length (map f (take (at + n) xs))} {j = 64} (omega arith)) in
+    let short : mask_l front < 2 ^ at = let P : ℕ → Type 0 = λ k. mask_l front < 2 ^ k in subst P long (mask_l-lt front) in
+    let fits : word < 2 ^ at = omega arith in
+    ap (bit_or word) (omega arith) ∙ or_shifted_r block at word fits ∙ sym whole
 
 -- where the disjunction of all lanes has no top bit, no lane has
 clear_tops : (zs : List ℕ) → leb (2 ^ 63) (fold_l bit_or 0 zs) ≡ false → (i : ℕ) → get_or (map (leb (2 ^ 63)) zs) i false ≡ false
@@ -70,47 +94,13 @@ list_any-zip-drop p (f ∷ fs) (e ∷ es) (suc at) none le paired =
     list_any-zip-drop p fs es at (λ k lt. none (suc k) (omega arith)) (omega arith) (omega arith)
     ∙ ap (λ t. t || list_any p (zip fs es)) (sym (none zero (omega arith)))
 
--- the answers for one value more
-pub map_take_more : (f : ℕ → Bool) (xs : List ℕ) (k m : ℕ) → k < length xs → get_or (map f (take (k + 1) xs)) m false ≡ cond (eqb m k) (f (get_or xs k 0)) (get_or (map f (take k xs)) m false)
-map_take_more f xs k m lt =
-    let front = map f (take k xs) in
-    let long : length front ≡ k = length-map (take k xs) f ∙ length-take-le k xs (omega arith) in
-    ap (λ l. get_or l m false) (map_more f xs k 0 lt)
-    ∙ elim (cases_order m k) [
-      | inl e ↦ get_or_at front (f (get_or xs k 0)) [] false m (long ∙ sym e) ∙ ap (λ t. cond t (f (get_or xs k 0)) (get_or front m false)) (sym (eq-eqb m k e))
-      | inr (inl h) ↦ get_or_append_left front (f (get_or xs k 0) ∷ []) false m (omega arith) ∙ ap (λ t. cond t (f (get_or xs k 0)) (get_or front m false)) (sym (ne_eqb m k (omega arith)))
-      | inr (inr h) ↦
-          get_or_past (front ++ f (get_or xs k 0) ∷ []) m false (omega (arith, length_push front (f (get_or xs k 0)))) ∙ sym (get_or_past front m false (omega arith))
-          ∙ ap (λ t. cond t (f (get_or xs k 0)) (get_or front m false)) (sym (ne_eqb m k (omega arith)))
-    ]
+byte_of : (b : Bool) → bool_byte b ≡ mask_l (b ∷ [])
+byte_of true = refl
+byte_of false = refl
 
--- a bit is set where a value is inside
-pub mark_set : (f : ℕ → Bool) (xs : List ℕ) (w k : ℕ) → k < length xs → k < 64 → f (get_or xs k 0) ≡ true
-    → ((m : ℕ) → eqb (bit_at w m) 1 ≡ get_or (map f (take k xs)) m false)
-    → (m : ℕ) → eqb (bit_at (bit_or w (1 * 2 ^ k % 2 ^ 64)) m) 1 ≡ get_or (map f (take (k + 1) xs)) m false
-mark_set f xs w k lt small passes old m =
-    elim (cases_eq m k) [
-      | inl e ↦
-          ap (λ i. eqb (bit_at (bit_or w (1 * 2 ^ k % 2 ^ 64)) i) 1) e ∙ ap (λ n. eqb n 1) (bit_at_set_same w64 w k small)
-          ∙ sym (map_take_more f xs k m lt ∙ ap (λ t. cond t (f (get_or xs k 0)) (get_or (map f (take k xs)) m false)) (eq-eqb m k e) ∙ passes)
-      | inr ne ↦
-          ap (λ n. eqb n 1) (bit_at_set_other w64 w k small m ne) ∙ old m
-          ∙ sym (map_take_more f xs k m lt ∙ ap (λ t. cond t (f (get_or xs k 0)) (get_or (map f (take k xs)) m false)) (ne_eqb m k ne))
-    ]
-
--- the bits stay where a value is not inside
-pub mark_kept : (f : ℕ → Bool) (xs : List ℕ) (w k : ℕ) → k < length xs → f (get_or xs k 0) ≡ false
-    → ((m : ℕ) → eqb (bit_at w m) 1 ≡ get_or (map f (take k xs)) m false)
-    → (m : ℕ) → eqb (bit_at w m) 1 ≡ get_or (map f (take (k + 1) xs)) m false
-mark_kept f xs w k lt fails old m =
-    old m
-    ∙ sym (map_take_more f xs k m lt
-    ∙ elim (cases_eq m k) [
-      | inl e ↦
-          ap (λ t. cond t (f (get_or xs k 0)) (get_or (map f (take k xs)) m false)) (eq-eqb m k e) ∙ fails
-          ∙ sym (get_or_past (map f (take k xs)) m false (omega (arith, length-map (take k xs) f, length-take-le k xs (omega arith))))
-      | inr ne ↦ ap (λ t. cond t (f (get_or xs k 0)) (get_or (map f (take k xs)) m false)) (ne_eqb m k ne)
-    ])
+-- the mask of one value
+pub mask_one : (f : ℕ → Bool) (xs : List ℕ) (at : ℕ) → at < length xs → bool_byte (f (get_or xs at 0)) ≡ mask_l (map f (take 1 (drop at xs)))
+mask_one f xs at lt = byte_of (f (get_or xs at 0)) ∙ ap (λ vs. mask_l (map f (take 1 vs))) (sym (drop_more xs at 0 lt))
 
 -- the answers for the values of one word
 pub map_word : (f : ℕ → Bool) (xs : List ℕ) (j k : ℕ) → k < 64 → get_or (map f (take 64 (drop (64 * j) xs))) k false ≡ get_or (map f xs) (64 * j + k) false
@@ -131,13 +121,17 @@ get_or-padded xs n i =
       | inr h ↦ get_or-append_right xs (replicate n false) (length xs) i false refl h ∙ of_falses n (i - length xs) ∙ sym (get_or_past xs i false h)
     ]
 
--- words whose bits are the answers for the values have these bits and then no others
+-- words that mask the values, 64 at a time, have the answers for bits and then no others
 pub bits_of_marked : (f : ℕ → Bool) (xs out : List ℕ) → length xs ≤ 64 * length out
-    → ((j k : ℕ) → j < length out → k < 64 → eqb (bit_at (get_or out j 0) k) 1 ≡ get_or (map f xs) (64 * j + k) false)
+    → ((j : ℕ) → j < length out → get_or out j 0 ≡ mask_l (map f (take 64 (drop (64 * j) xs))))
     → bits_of out ≡ map f xs ++ replicate (64 * length out - length xs) false
 bits_of_marked f xs out room marked =
     let pad = replicate (64 * length out - length xs) false in
     ext_get_or false (bits_of out) (map f xs ++ pad)
     (omega (arith, length-bits_of out, length-append (map f xs) pad, length-map xs f, length-replicate (64 * length out - length xs) false))
-    (λ i lt. get_or-bits_of_at out i ∙ marked (i / 64) (i % 64) (omega (arith, length-bits_of out)) (omega arith) ∙ ap (λ n. get_or (map f xs) n false) (omega arith)
+    (λ i lt. get_or-bits_of_at out i
+    ∙ ap (λ w. eqb (bit_at w (i % 64)) 1) (marked (i / 64) (omega (arith, length-bits_of out)))
+    ∙ bit_of_mask (map f (take 64 (drop (64 * (i / 64)) xs))) (i % 64)
+    ∙ map_word f xs (i / 64) (i % 64) (omega arith)
+    ∙ ap (λ n. get_or (map f xs) n false) (omega arith)
     ∙ sym (get_or-padded (map f xs) (64 * length out - length xs) i))

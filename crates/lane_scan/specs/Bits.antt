@@ -1,5 +1,5 @@
 -- The bits of words, in order.
-use Rattle.std.specs.Prelude.{ℕ, ◌<◌, ◌≡◌, Bool, false, List, map, ◌==◌, slice_index_or}
+use Rattle.std.specs.Prelude.{ℕ, Bool, List, map, ◌==◌}
 use Rattle.std.specs.Int.{bit_at}
 use Rattle.std.specs.List.{flat_map, range_with_len}
 
@@ -10,7 +10,3 @@ word_bits word = map (λ k. bit_at word k == 1) (range_with_len 0 64)
 -- the bits of words: bit k of word j stands at 64 * j + k
 unfoldable pub bits_of : List ℕ → List Bool
 bits_of words = flat_map word_bits words
-
--- the bits of a word are these, from the lowest on, and no other is set
-abbrev pub HasBits : ℕ → List Bool → Type 0
-HasBits word bits = (k : ℕ) → k < 64 → (bit_at word k == 1) ≡ slice_index_or bits k false

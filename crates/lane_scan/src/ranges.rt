@@ -1,13 +1,13 @@
 //! Values in a range, and spans that meet a span.
 ghost use Rattle.std.specs.Prelude.{◌≡◌, ◌≤◌, ◌^◌, ◌*◌, ◌+◌, ◌-◌, ◌<◌, ◌++◌, ℕ, false, length, map, nat_le, nat_lt, replicate, slice_index};
 ghost use Rattle.std.specs.List.{list_any, zip};
-ghost use Rattle.std.specs.Simd.Lanes.{Each1};
-ghost use Rattle.lane_scan.specs.Bits.{bits_of, HasBits};
+ghost use Rattle.std.specs.Simd.Lanes.{Each1, chunk, mask_l};
+ghost use Rattle.lane_scan.specs.Bits.{bits_of};
 ghost use Rattle.lane_scan.specs.Ranges.{is_inside, meets};
 
 use std::simd::prelude::*;
 
-// How many pairs are compared at a time.
+// How many values, or pairs, are compared at a time.
 const LANES: usize = 16;
 
 // The top bit of a word.
@@ -32,29 +32,37 @@ pub fn mark_inside(values: &[u64], lo: u64, hi: u64, out: &mut [u64])
 // The word whose bit k tells whether value k lies inside.
 fn marks_of(values: &[u64], lo: u64, hi: u64) -> u64
     requires { length values.now ≤ 64 }
-    ensures { HasBits result (map (is_inside lo hi) values.now) }
+    ensures { result ≡ mask_l (map (is_inside lo hi) values.now) }
 {
-    if values.len() == 64 {
-        return lane_marks(values, lo, hi);
-    }
     let mut word = 0;
-    for (k, value) in values.iter().enumerate() {
-        if lo <= *value && *value < hi {
-            word |= 1 << k;
+    let mut at = 0;
+    while at < values.len() {
+        if values.len() - at >= LANES {
+            word |= lane_marks(values, at, lo, hi) << at;
+            at += LANES;
+        } else {
+            word |= u64::from(is_inside(values[at], lo, hi)) << at;
+            at += 1;
         }
     }
     word
 }
 
-// The same of 64 values, by how far each lies above the first value inside.
-#[inline(always)]
-fn lane_marks(values: &[u64], lo: u64, hi: u64) -> u64
-    requires { length values.now ≡ 64 }
-    ensures { HasBits result (map (is_inside lo hi) values.now) }
+fn is_inside(value: u64, lo: u64, hi: u64) -> bool
+    ensures { result ≡ is_inside lo hi value }
 {
-    let offsets = u64x64::from_slice(values) - u64x64::splat(lo);
+    lo <= value && value < hi
+}
+
+// The marks of one block, by how far each value lies above the first one inside.
+#[inline(always)]
+fn lane_marks(values: &[u64], at: usize, lo: u64, hi: u64) -> u64
+    requires { at + LANES ≤ length values.now }
+    ensures { result ≡ mask_l (map (is_inside lo hi) (chunk at LANES values.now)) }
+{
+    let offsets = u64x16::from_slice(&values[at..]) - u64x16::splat(lo);
     offsets
-        .simd_lt(u64x64::splat(hi.saturating_sub(lo)))
+        .simd_lt(u64x16::splat(hi.saturating_sub(lo)))
         .to_bitmask()
 }
 

@@ -1,7 +1,11 @@
-use Rattle.std.proofs.Common.{◌≡◌, ℕ, false, eqb, get_or, map, take}
-use Rattle.std.specs.Int.{bit_at}
+use Rattle.std.proofs.Common.{◌≡◌, ◌≤◌, ◌-◌, length, map, take}
+use lib.Lanes.{mask_l}
 use Rattle.lane_scan.specs.Ranges.{is_inside}
 use Rattle.lane_scan.proofs.ranges.marks_of.Given as goal
 
-abbrev pub invariant-loop-k : goal.invariant-loop-k
-invariant-loop-k l = (m : ℕ) → eqb (bit_at l.word m) 1 ≡ get_or (map (is_inside l.lo l.hi) (take l.k l.values)) m false
+abbrev pub invariant-loop-at : goal.invariant-loop-at
+invariant-loop-at l =
+    record { within : l.at ≤ length l.values; marked : l.word ≡ mask_l (map (is_inside l.lo l.hi) (take l.at l.values)) }
+
+abbrev pub decreases-loop-at : goal.decreases-loop-at
+decreases-loop-at l = length l.values - l.at

@@ -1,4 +1,4 @@
-use Rattle.std.proofs.Common.{◌≡◌, arith, Fits, w32, w64}
+use Rattle.std.proofs.Common.{arith, w64}
 use Rattle.std.proofs.lemmas.Simd.{chunk-fits, length-chunk}
 use lib.Lanes.{chunk}
 use Rattle.lane_scan.proofs.BitLemmas.{lane_sum, count-bits_of-le}

@@ -1,4 +1,4 @@
-use Rattle.std.proofs.Common.{◌≡◌, ◌+◌, arith, Fits, w32, w64, length, take, drop, refl}
+use Rattle.std.proofs.Common.{◌+◌, arith, take, refl}
 use Rattle.std.proofs.lemmas.List.{length-take-le}
 use Rattle.lane_scan.specs.Bits.{bits_of}
 use Rattle.lane_scan.proofs.BitLemmas.{count_more, count_more_word, count-bits_of-le}

@@ -1,4 +1,4 @@
-use Rattle.std.proofs.Common.{◌≡◌, ◌∙◌, ℕ, ◌<◌, ◌+◌, ◌≤◌, Bool, not, eqb, true, false, inl, inr, length, get_or, sym, ap, arith, w64}
+use Rattle.std.proofs.Common.{◌∙◌, ◌+◌, ◌≤◌, not, eqb, inl, inr, length, get_or, sym, arith, w64}
 use Rattle.std.proofs.lemmas.Bool.{cases_lt}
 use Rattle.lane_scan.proofs.BitLemmas.{zero_from_test}
 use Rattle.std.proofs.lemmas.Simd.{bitmask_splat, length-chunk, none_from_empty_mask}

@@ -1,4 +1,4 @@
-use Rattle.std.proofs.Common.{◌≡◌, ◌≤◌, ◌<◌, ◌-◌, ℕ, length, get_or, replicate}
+use Rattle.std.proofs.Common.{◌≡◌, ◌≤◌, ◌<◌, ◌-◌, ℕ, length, get_or}
 use Rattle.lane_scan.proofs.words.zero_blocks.Given as goal
 
 abbrev pub invariant-loop-at : goal.invariant-loop-at
