@@ -105,7 +105,7 @@ fn blocks_apart(lo: u64, hi: u64, firsts: &[u64], ends: &[u64]) -> usize
     at
 }
 
-// Whether a pair of one block meets.
+// False only where no pair of one block meets.
 #[inline(always)]
 fn block_meets(lo: u64, hi: u64, firsts: &[u64], ends: &[u64], at: usize) -> bool
     requires firsts { at + LANES ≤ length firsts.now }
