@@ -1,16 +1,16 @@
 -- Lemmas on the table of two levels.
-use Rattle.std.proofs.Common.{◌≡◌, ◌≢◌, inl, inr, ℕ, zero, suc, ◌+◌, ◌-◌, ◌*◌, ◌/◌, ◌%◌, ◌<◌, ◌≤◌, Bool, true, false, ◌&&◌, ◌||◌, cond, leb, ltb, eqb, nat_eq, Option, Some, None, is_some, List, [], ◌∷◌, ◌++◌, length, get_or, set as put_at, map as each, count_by, refl, sym, ap, ◌∙◌, ◌⊎◌, arith, eq-eqb, ne_eqb}
+use Rattle.std.proofs.Common.{◌≡◌, ◌≢◌, inl, inr, ℕ, zero, suc, ◌+◌, ◌-◌, ◌*◌, ◌/◌, ◌%◌, ◌^◌, ◌<◌, ◌≤◌, Bool, true, false, not, ◌&&◌, ◌||◌, cond, leb, ltb, eqb, nat_eq, Option, Some, None, is_some, List, [], ◌∷◌, ◌++◌, length, get_or, set as put_at, map as each, count_by, refl, sym, ap, ◌∙◌, ◌⊎◌, arith, eq-eqb, ne_eqb}
 use Rattle.std.specs.Option.{option_map, option_and_then}
 use Rattle.std.specs.List.{filter, filter_map, cons_option, range_with_len, list_any, All}
 use Rattle.std.specs.Ordering.{nat_cmp, eq_by_cmp}
 use Rattle.std.specs.Cmp.{unsigned_tied, nat_cmp_total}
 use Rattle.std.specs.FinMap as map
 use Rattle.std.specs.FinSet as set
-use Rattle.std.proofs.lemmas.Bool.{cases_eq, cases_lt, cases_Bool}
+use Rattle.std.proofs.lemmas.Bool.{cases_eq, cases_lt, false≢true}
 use Rattle.std.proofs.lemmas.List.Sums.{sum_by-set, sum_by-append}
 use Rattle.std.proofs.Math.Bool.{and-true, and-false, or-false}
 use Rattle.std.proofs.lemmas.Bool.Decides.{nat_tests}
-use Rattle.std.proofs.lemmas.List.{get_or_past, get_or-map, get_or_read, length-map, length-set, get_or-set_same, get_or-set_other, length-append, get_or_append_left, get_or-append_right}
+use Rattle.std.proofs.lemmas.List.{get_or_past, get_or-map, get_or_read, length-map, length-set, get_or-set_same, get_or-set_other, length-append, map-set, get_or_append_left, get_or-append_right}
 use Rattle.page_map.specs.Pages.{Pages, put, no_pages}
 use Rattle.page_map.specs.Table.{leaf_of, place_of, number_of, numbers_in, chunks_in, pages_in, IsTable, IsBlankLeaf}
 use Rattle.page_map.specs.declared.table.TheConstants.{CHUNKS}
@@ -340,3 +340,73 @@ elim_leaf root leaves more used table page (Some i) is =
 
 pub numbers_in-append : (root : List (Option ℕ)) (leaves more : List (List (Option ℕ))) (used : ℕ) → IsTable root leaves used → numbers_in root (leaves ++ more) ≡ numbers_in root leaves
 numbers_in-append root leaves more used table = same_numbers root root (leaves ++ more) leaves (λ page. elim_leaf root leaves more used table page (leaf_of root (page / 512)) refl)
+
+-- whether a chunk has a leaf, by what the table holds
+pub contains_leaf : (root : List (Option ℕ)) (leaves : List (List (Option ℕ))) (used chunk : ℕ) (pages : Pages) → pages_in root leaves used ≡ pages
+    → set.contains pages.chunks chunk ≡ is_some (leaf_of root chunk)
+contains_leaf root leaves used chunk pages is = sym (ap (λ p. set.contains p.chunks chunk) is) ∙ contains-chunks_in root chunk
+
+-- where a leaf is there or spare, the root has a place for the page's chunk
+pub chunk_in_root : (root : List (Option ℕ)) (leaves : List (List (Option ℕ))) (used page : ℕ) (pages : Pages) → IsTable root leaves used → pages_in root leaves used ≡ pages → page < 2 ^ 25
+    → (set.contains pages.chunks (page / 512) ≡ false → 0 < pages.spare) → page / 512 < length root
+chunk_in_root root leaves used page pages table is small room =
+    elim (cases_lt (page / 512) (length root)) [
+      inl h ↦ h
+    | inr h ↦
+        let spare = room (contains_leaf root leaves used (page / 512) pages is ∙ ap is_some (get_or_past root (page / 512) None h)) in
+        let count : length leaves - used ≡ pages.spare = ap (λ p. p.spare) is in
+        omega (arith, table.rooted (omega arith))
+    ]
+
+-- where the chunk has no leaf, one is spare
+pub spare_there : (root : List (Option ℕ)) (leaves : List (List (Option ℕ))) (used chunk : ℕ) (pages : Pages) → pages_in root leaves used ≡ pages → leaf_of root chunk ≡ None
+    → (set.contains pages.chunks chunk ≡ false → 0 < pages.spare) → used < length leaves
+spare_there root leaves used chunk pages is free room =
+    let spare = room (contains_leaf root leaves used chunk pages is ∙ ap is_some free) in
+    let count : length leaves - used ≡ pages.spare = ap (λ p. p.spare) is in
+    omega arith
+
+pub none_of : (o : Option ℕ) → is_some o ≡ false → o ≡ None
+none_of None e = refl
+none_of (Some n) e = absurd (false≢true (sym e))
+
+-- what was read of a chunk tells whether it has a leaf
+pub read_free : (root : List (Option ℕ)) (chunk : ℕ) (o : Option ℕ) (b : Bool) → chunk < length root → o ≡ get_or root chunk o → is_some o ≡ not b → b ≡ true → leaf_of root chunk ≡ None
+read_free root chunk o b lt read tested passed = sym (get_or_read root chunk o lt read None) ∙ none_of o (tested ∙ ap not passed)
+
+pub read_taken : (root : List (Option ℕ)) (chunk : ℕ) (o : Option ℕ) (b : Bool) → chunk < length root → o ≡ get_or root chunk o → is_some o ≡ not b → b ≡ false → is_some (leaf_of root chunk) ≡ true
+read_taken root chunk o b lt read tested passed = ap is_some (sym (get_or_read root chunk o lt read None)) ∙ tested ∙ ap not passed
+
+-- a write to an element is a write to the lists of all
+pub each-written : {V : Type 0} (vs : List V) (f : V → List (Option ℕ)) (leaf place at : ℕ) (v w : V) (number : Option ℕ) → leaf < length vs → v ≡ get_or vs leaf v
+    → f w ≡ put_at (f v) place number → place ≡ at → each f (put_at vs leaf w) ≡ written (each f vs) leaf at number
+each-written vs f leaf place at v w number lt read wrote here =
+    map-set f vs leaf w ∙ ap (put_at (each f vs) leaf) (wrote ∙ ap (λ l. put_at l place number) (item_at vs f leaf v lt read) ∙ ap (λ n. put_at (get_or (each f vs) leaf []) n number) here)
+
+-- what a table holds after a write
+pub pages_in-written : (root : List (Option ℕ)) (leaves : List (List (Option ℕ))) (used leaf page : ℕ) (number : Option ℕ) (pages : Pages) → IsTable root leaves used
+    → leaf_of root (page / 512) ≡ Some leaf → pages_in root leaves used ≡ pages → pages_in root (written leaves leaf (page % 512) number) used ≡ record pages { numbers = put pages.numbers page number }
+pages_in-written root leaves used leaf page number pages table has is =
+    let numbers = numbers_in-written root leaves used leaf page number table has in
+    let spare = ap (λ n. n - used) (length-set leaves leaf (put_at (get_or leaves leaf []) (page % 512) number)) in
+    let step : pages_in root (written leaves leaf (page % 512) number) used ≡ record (pages_in root leaves used) { numbers = put (numbers_in root leaves) page number } =
+        λ i. record { numbers = numbers i; chunks = chunks_in root; spare = spare i } in
+    step ∙ ap {A = Pages} (λ p. record p { numbers = put p.numbers page number }) is
+
+-- a chunk that was inserted is there
+pub contains-inserted_same : (chunks : set.FinSet nat_cmp) (chunk : ℕ) → set.contains (set.insert chunks chunk) chunk ≡ true
+contains-inserted_same chunks chunk = contains-inserted chunks chunk chunk ∙ ap (λ b. b || set.contains chunks chunk) (eq-eqb chunk chunk refl)
+
+-- a page whose chunk has no leaf may be removed
+pub without_page : (root : List (Option ℕ)) (leaves : List (List (Option ℕ))) (used page : ℕ) (pages : Pages) → pages_in root leaves used ≡ pages → leaf_of root (page / 512) ≡ None
+    → pages ≡ record pages { numbers = map.remove pages.numbers page }
+without_page root leaves used page pages is free =
+    let none : map.get pages.numbers page ≡ None =
+        sym (ap (λ p. map.get p.numbers page) is) ∙ get-numbers_in root leaves page ∙ number_without_leaf root leaves page free in
+    let same : pages.numbers ≡ map.remove pages.numbers page =
+        map.same_map nat_cmp_total map.nat_cmp-IsAntisymmetric pages.numbers (map.remove pages.numbers page)
+        (λ q. elim (cases_eq q page) [
+          inl e ↦ ap (map.get pages.numbers) e ∙ none ∙ ap (λ b. cond b None (map.get pages.numbers q)) (sym (eq-eqb q page e)) ∙ sym (get-put pages.numbers page None q)
+        | inr ne ↦ ap (λ b. cond b None (map.get pages.numbers q)) (sym (ne_eqb q page ne)) ∙ sym (get-put pages.numbers page None q)
+        ]) in
+    λ i. record { numbers = same i; chunks = pages.chunks; spare = pages.spare }

@@ -137,8 +137,9 @@ impl PageMap {
         requires { set.contains self.old.chunks (page / CHUNK_PAGES) ≡ true }
         ensures { self.new ≡ record self.old { numbers = put self.old.numbers page number } }
     {
-        if let Some(leaf) = leaf_at(&self.root, page) {
-            self.leaves[leaf][place_at(page)] = number;
+        match leaf_at(&self.root, page) {
+            Some(leaf) => self.leaves[leaf][place_at(page)] = number,
+            None => unreachable!(),
         }
     }
 }
