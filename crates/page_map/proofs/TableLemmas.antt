@@ -1,8 +1,8 @@
 -- Lemmas on the table of two levels.
-use Rattle.std.proofs.Common.{◌≡◌, ◌≢◌, inl, inr, ℕ, zero, suc, ◌+◌, ◌-◌, ◌*◌, ◌/◌, ◌%◌, ◌^◌, ◌<◌, ◌≤◌, Bool, true, false, not, ◌&&◌, ◌||◌, cond, leb, ltb, eqb, nat_eq, Option, Some, None, is_some, List, [], ◌∷◌, ◌++◌, length, get_or, set as put_at, map as each, count_by, refl, sym, ap, ◌∙◌, ◌⊎◌, arith, eq-eqb, ne_eqb}
+use Rattle.std.proofs.Common.{◌≡◌, ◌≢◌, inl, inr, ℕ, zero, suc, ◌+◌, ◌-◌, ◌*◌, ◌/◌, ◌%◌, ◌^◌, ◌<◌, ◌≤◌, max, Bool, true, false, not, ◌&&◌, ◌||◌, cond, leb, ltb, eqb, nat_eq, Option, Some, None, is_some, List, [], ◌∷◌, ◌++◌, length, get_or, set as put_at, map as each, count_by, refl, sym, ap, subst, ◌∙◌, ◌⊎◌, arith, eq-eqb, ne_eqb}
 use Rattle.std.specs.Option.{option_map, option_and_then}
 use Rattle.std.specs.List.{filter, filter_map, cons_option, range_with_len, list_any, All}
-use Rattle.std.specs.Ordering.{nat_cmp, eq_by_cmp}
+use Rattle.std.specs.Ordering.{nat_cmp}
 use Rattle.std.specs.Cmp.{unsigned_tied, nat_cmp_total}
 use Rattle.std.specs.FinMap as map
 use Rattle.std.specs.FinSet as set
@@ -10,9 +10,9 @@ use Rattle.std.proofs.lemmas.Bool.{cases_eq, cases_lt, false≢true}
 use Rattle.std.proofs.lemmas.List.Sums.{sum_by-set, sum_by-append}
 use Rattle.std.proofs.Math.Bool.{and-true, and-false, or-false}
 use Rattle.std.proofs.lemmas.Bool.Decides.{nat_tests}
-use Rattle.std.proofs.lemmas.List.{get_or_past, get_or-map, get_or_read, length-map, length-set, get_or-set_same, get_or-set_other, length-append, map-set, get_or_append_left, get_or-append_right}
-use Rattle.page_map.specs.Pages.{Pages, put, no_pages}
-use Rattle.page_map.specs.Table.{leaf_of, place_of, number_of, numbers_in, chunks_in, pages_in, IsTable, IsBlankLeaf}
+use Rattle.std.proofs.lemmas.List.{get_or_past, get_or-map, get_or_read, length-map, length-set, get_or-set_same, get_or-set_other, length-append, map-set, nil_from_length, get_or_append_left, get_or-append_right}
+use Rattle.page_map.specs.Pages.{Pages, put}
+use Rattle.page_map.specs.Table.{leaf_of, place_of, number_of, numbers_in, chunks_in, pages_in, IsTable, IsBlankLeaf, IsRootAfter}
 use Rattle.page_map.specs.declared.table.TheConstants.{CHUNKS}
 
 -- whether q is one of the n numbers from a on
@@ -51,13 +51,13 @@ find-range f a (suc n) q =
     let later = map.find nat_cmp q (filter_map (λ key. option_map (λ value. (key, value)) (f key)) (range_with_len (a + 1) n)) in
     find_cons (f a) a q _
     ∙ elim (cases_eq q a) [
-      inl e ↦
-        ap (λ b. cond b (cond (is_some (f a)) (f a) later) later) (range_first a n q e).2
-        ∙ ap (cond (is_some (f a)) (f a)) (find-range f (a + 1) n q ∙ ap (λ b. cond b (f q) None) (range_first a n q e).1)
-        ∙ or_none (f a) ∙ ap f (sym e) ∙ ap (λ b. cond b (f q) None) (sym (range_first a n q e).0)
-    | inr ne ↦
-        ap (λ b. cond b (cond (is_some (f a)) (f a) later) later) (range_later a n q ne).1
-        ∙ find-range f (a + 1) n q ∙ ap (λ b. cond b (f q) None) (sym (range_later a n q ne).0)
+      | inl e ↦
+          ap (λ b. cond b (cond (is_some (f a)) (f a) later) later) (range_first a n q e).2
+          ∙ ap (cond (is_some (f a)) (f a)) (find-range f (a + 1) n q ∙ ap (λ b. cond b (f q) None) (range_first a n q e).1)
+          ∙ or_none (f a) ∙ ap f (sym e) ∙ ap (λ b. cond b (f q) None) (sym (range_first a n q e).0)
+      | inr ne ↦
+          ap (λ b. cond b (cond (is_some (f a)) (f a) later) later) (range_later a n q ne).1
+          ∙ find-range f (a + 1) n q ∙ ap (λ b. cond b (f q) None) (sym (range_later a n q ne).0)
     ]
 
 any_cons : (b : Bool) (a q : ℕ) (ks : List ℕ) → list_any (λ y. nat_eq y q) (cond b (a ∷ ks) ks) ≡ (eqb a q && b || list_any (λ y. nat_eq y q) ks)
@@ -70,12 +70,12 @@ list_any-range p a zero q = ap (λ b. b && p q) (sym (range_none a q))
 list_any-range p a (suc n) q =
     any_cons (p a) a q _ ∙ ap (λ t. eqb a q && p a || t) (list_any-range p (a + 1) n q)
     ∙ elim (cases_eq q a) [
-      inl e ↦
-        let first = range_first a n q e in
-        ap (λ b. b && p a || within_range (a + 1) n q && p q) first.3 ∙ ap (λ b. p a || b && p q) first.1 ∙ or-false (p a) ∙ ap p (sym e) ∙ ap (λ b. b && p q) (sym first.0)
-    | inr ne ↦
-        let later = range_later a n q ne in
-        ap (λ b. b && p a || within_range (a + 1) n q && p q) later.2 ∙ ap (λ b. b && p q) (sym later.0)
+      | inl e ↦
+          let first = range_first a n q e in
+          ap (λ b. b && p a || within_range (a + 1) n q && p q) first.3 ∙ ap (λ b. p a || b && p q) first.1 ∙ or-false (p a) ∙ ap p (sym e) ∙ ap (λ b. b && p q) (sym first.0)
+      | inr ne ↦
+          let later = range_later a n q ne in
+          ap (λ b. b && p a || within_range (a + 1) n q && p q) later.2 ∙ ap (λ b. b && p q) (sym later.0)
     ]
 
 in_root : {X : Type 0} (o : Option X) (a n q : ℕ) → (a + n ≤ q → o ≡ None) → a ≤ q → cond (within_range a n q) o None ≡ o
@@ -92,8 +92,8 @@ pub contains-chunks_in : (root : List (Option ℕ)) (chunk : ℕ) → set.contai
 unfolding chunks_in
 contains-chunks_in root chunk = set.contains-from_list_nat _ chunk ∙ list_any-range (λ c. is_some (leaf_of root c)) 0 (length root) chunk
     ∙ elim (cases_lt chunk (length root)) [
-      inl h ↦ ap (λ b. b && is_some (leaf_of root chunk)) (range_inside 0 (length root) chunk (omega arith) (omega arith))
-    | inr h ↦ ap (λ o. within_range 0 (length root) chunk && is_some o) (get_or_past root chunk None h) ∙ and-false (within_range 0 (length root) chunk) ∙ ap is_some (sym (get_or_past root chunk None h))
+      | inl h ↦ ap (λ b. b && is_some (leaf_of root chunk)) (range_inside 0 (length root) chunk (omega arith) (omega arith))
+      | inr h ↦ ap (λ o. within_range 0 (length root) chunk && is_some o) (get_or_past root chunk None h) ∙ and-false (within_range 0 (length root) chunk) ∙ ap is_some (sym (get_or_past root chunk None h))
     ]
 
 -- an element's list among the lists of all
@@ -143,8 +143,8 @@ contains-inserted chunks chunk q = set.contains-insert nat_cmp_total chunks chun
 pub insert_again : (chunks : set.FinSet nat_cmp) (chunk : ℕ) → set.contains chunks chunk ≡ true → chunks ≡ set.insert chunks chunk
 insert_again chunks chunk has = set.same_set nat_cmp_total map.nat_cmp-IsAntisymmetric chunks (set.insert chunks chunk)
     (λ q. elim (cases_eq q chunk) [
-      inl e ↦ ap (set.contains chunks) e ∙ has ∙ sym (contains-inserted chunks chunk q ∙ ap (λ b. b || set.contains chunks q) (eq-eqb q chunk e))
-    | inr ne ↦ sym (contains-inserted chunks chunk q ∙ ap (λ b. b || set.contains chunks q) (ne_eqb q chunk ne))
+      | inl e ↦ ap (set.contains chunks) e ∙ has ∙ sym (contains-inserted chunks chunk q ∙ ap (λ b. b || set.contains chunks q) (eq-eqb q chunk e))
+      | inr ne ↦ sym (contains-inserted chunks chunk q ∙ ap (λ b. b || set.contains chunks q) (ne_eqb q chunk ne))
     ])
 
 -- a chunk takes the first spare leaf
@@ -159,21 +159,21 @@ given_cases : (root : List (Option ℕ)) (used chunk : ℕ) → chunk < length r
     → ((c ≡ chunk) × (leaf ≡ used)) ⊎ ((c ≢ chunk) × (leaf_of root c ≡ Some leaf))
 given_cases root used chunk lt c leaf has =
     elim (cases_eq c chunk) [
-      inl e ↦ inl (e, sym (some_same used leaf (sym (ap (leaf_of (given root chunk used)) e ∙ get_or-set_same root chunk (Some used) None lt) ∙ has)))
-    | inr ne ↦ inr (ne, sym (get_or-set_other root chunk c (Some used) None ne) ∙ has)
+      | inl e ↦ inl (e, sym (some_same used leaf (sym (ap (leaf_of (given root chunk used)) e ∙ get_or-set_same root chunk (Some used) None lt) ∙ has)))
+      | inr ne ↦ inr (ne, sym (get_or-set_other root chunk c (Some used) None ne) ∙ has)
     ]
 
 pub IsTable-given : (root : List (Option ℕ)) (leaves : List (List (Option ℕ))) (used chunk : ℕ) → IsTable root leaves used → chunk < length root → leaf_of root chunk ≡ None → used < length leaves
     → IsTable (given root chunk used) leaves (used + 1)
 IsTable-given root leaves used chunk table lt free spare = record {
   rooted = λ some. length-set root chunk (Some used) ∙ table.rooted some;
-  small = omega (arith, length-set root chunk (Some used), table.small);
+  sized = λ some. length-set root chunk (Some used) ∙ table.sized (omega arith);
   within = omega arith;
   counted = omega (arith, sum_by-set (λ o. cond (is_some o) 1 0) root chunk (Some used) None lt, ap {B = ℕ} (λ o. cond (is_some o) 1 0) free, table.counted);
   taken = λ c leaf has. elim (given_cases root used chunk lt c leaf has) [ inl h ↦ omega arith | inr h ↦ omega (arith, table.taken c leaf h.1) ];
   apart = λ c o leaf has also. elim (given_cases root used chunk lt c leaf has) [
-    inl h ↦ elim (given_cases root used chunk lt o leaf also) [ inl g ↦ h.0 ∙ sym g.0 | inr g ↦ absurd (omega (arith, table.taken o leaf g.1)) ]
-  | inr h ↦ elim (given_cases root used chunk lt o leaf also) [ inl g ↦ absurd (omega (arith, table.taken c leaf h.1)) | inr g ↦ table.apart c o leaf h.1 g.1 ]
+    | inl h ↦ elim (given_cases root used chunk lt o leaf also) [ inl g ↦ h.0 ∙ sym g.0 | inr g ↦ absurd (omega (arith, table.taken o leaf g.1)) ]
+    | inr h ↦ elim (given_cases root used chunk lt o leaf also) [ inl g ↦ absurd (omega (arith, table.taken c leaf h.1)) | inr g ↦ table.apart c o leaf h.1 g.1 ]
   ];
   full = table.full;
   blank = λ leaf place le. table.blank leaf place (omega arith);
@@ -184,22 +184,22 @@ pub numbers_in-given : (root : List (Option ℕ)) (leaves : List (List (Option �
 numbers_in-given root leaves used chunk table lt free =
     same_numbers (given root chunk used) root leaves leaves
     (λ page. elim (cases_eq (page / 512) chunk) [
-      inl e ↦
-        number_in_leaf (given root chunk used) leaves page used (ap (leaf_of (given root chunk used)) e ∙ get_or-set_same root chunk (Some used) None lt)
-        ∙ table.blank used (page % 512) (omega arith)
-        ∙ sym (number_without_leaf root leaves page (ap (leaf_of root) e ∙ free))
-    | inr ne ↦ ap (option_and_then (λ leaf. place_of leaves leaf (page % 512))) (get_or-set_other root chunk (page / 512) (Some used) None ne)
+      | inl e ↦
+          number_in_leaf (given root chunk used) leaves page used (ap (leaf_of (given root chunk used)) e ∙ get_or-set_same root chunk (Some used) None lt)
+          ∙ table.blank used (page % 512) (omega arith)
+          ∙ sym (number_without_leaf root leaves page (ap (leaf_of root) e ∙ free))
+      | inr ne ↦ ap (option_and_then (λ leaf. place_of leaves leaf (page % 512))) (get_or-set_other root chunk (page / 512) (Some used) None ne)
     ])
 
 pub chunks_in-given : (root : List (Option ℕ)) (used chunk : ℕ) → chunk < length root → chunks_in (given root chunk used) ≡ set.insert (chunks_in root) chunk
 chunks_in-given root used chunk lt = set.same_set nat_cmp_total map.nat_cmp-IsAntisymmetric (chunks_in (given root chunk used)) (set.insert (chunks_in root) chunk)
     (λ q. contains-chunks_in (given root chunk used) q
-      ∙ elim (cases_eq q chunk) [
-        inl e ↦ ap is_some (ap (leaf_of (given root chunk used)) e ∙ get_or-set_same root chunk (Some used) None lt) ∙ ap (λ b. b || set.contains (chunks_in root) q) (sym (eq-eqb q chunk e))
+    ∙ elim (cases_eq q chunk) [
+      | inl e ↦ ap is_some (ap (leaf_of (given root chunk used)) e ∙ get_or-set_same root chunk (Some used) None lt) ∙ ap (λ b. b || set.contains (chunks_in root) q) (sym (eq-eqb q chunk e))
       | inr ne ↦
           ap is_some (get_or-set_other root chunk q (Some used) None ne) ∙ sym (contains-chunks_in root q) ∙ ap (λ b. b || set.contains (chunks_in root) q) (sym (ne_eqb q chunk ne))
-      ]
-      ∙ sym (contains-inserted (chunks_in root) chunk q))
+    ]
+    ∙ sym (contains-inserted (chunks_in root) chunk q))
 
 -- the leaves with this at a place of a leaf
 abbrev written : List (List (Option ℕ)) → ℕ → ℕ → Option ℕ → List (List (Option ℕ))
@@ -211,16 +211,16 @@ IsTable-written root leaves used leaf place number table lt =
     let line = get_or leaves leaf [] in
     let same = length-set leaves leaf (put_at line place number) in record {
       rooted = λ some. table.rooted (omega arith);
-      small = table.small;
+      sized = table.sized;
       within = omega (arith, table.within);
       counted = table.counted;
       taken = table.taken;
       apart = table.apart;
       full = λ i within. elim (cases_eq i leaf) [
-        inl e ↦
-          ap (λ n. length (get_or (written leaves leaf place number) n [])) e ∙ ap length (get_or-set_same leaves leaf (put_at line place number) [] (omega (arith, table.within)))
-          ∙ length-set line place number ∙ table.full leaf (omega (arith, table.within))
-      | inr ne ↦ ap length (get_or-set_other leaves leaf i (put_at line place number) [] ne) ∙ table.full i (omega arith)
+        | inl e ↦
+            ap (λ n. length (get_or (written leaves leaf place number) n [])) e ∙ ap length (get_or-set_same leaves leaf (put_at line place number) [] (omega (arith, table.within)))
+            ∙ length-set line place number ∙ table.full leaf (omega (arith, table.within))
+        | inr ne ↦ ap length (get_or-set_other leaves leaf i (put_at line place number) [] ne) ∙ table.full i (omega arith)
       ];
       blank = λ i at le. ap (λ l. get_or l at None) (get_or-set_other leaves leaf i (put_at line place number) [] (omega arith)) ∙ table.blank i at le;
     }
@@ -236,12 +236,12 @@ elsewhere root leaves used leaf page number table has q ne (Some i) is =
     let small : leaf < length leaves = omega (arith, table.taken (page / 512) leaf has, table.within) in
     number_in_leaf root (written leaves leaf (page % 512) number) q i is
     ∙ elim (cases_eq i leaf) [
-      inl e ↦
-        let chunk : q / 512 ≡ page / 512 = table.apart (q / 512) (page / 512) leaf (is ∙ ap Some e) has in
-        let place : q % 512 ≢ page % 512 = λ same. ne (omega arith) in
-        ap (λ n. place_of (written leaves leaf (page % 512) number) n (q % 512)) e ∙ ap (λ l. get_or l (q % 512) None) (get_or-set_same leaves leaf line' [] small)
-        ∙ get_or-set_other line (page % 512) (q % 512) number None place ∙ ap (λ n. place_of leaves n (q % 512)) (sym e)
-    | inr other ↦ ap (λ l. get_or l (q % 512) None) (get_or-set_other leaves leaf i line' [] other)
+      | inl e ↦
+          let chunk : q / 512 ≡ page / 512 = table.apart (q / 512) (page / 512) leaf (is ∙ ap Some e) has in
+          let place : q % 512 ≢ page % 512 = λ same. ne (omega arith) in
+          ap (λ n. place_of (written leaves leaf (page % 512) number) n (q % 512)) e ∙ ap (λ l. get_or l (q % 512) None) (get_or-set_same leaves leaf line' [] small)
+          ∙ get_or-set_other line (page % 512) (q % 512) number None place ∙ ap (λ n. place_of leaves n (q % 512)) (sym e)
+      | inr other ↦ ap (λ l. get_or l (q % 512) None) (get_or-set_other leaves leaf i line' [] other)
     ]
     ∙ sym (number_in_leaf root leaves q i is)
 
@@ -253,14 +253,14 @@ number_of-written root leaves used leaf page number table has q =
     let after = written leaves leaf (page % 512) number in
     let small : leaf < length leaves = omega (arith, table.taken (page / 512) leaf has, table.within) in
     elim (cases_eq q page) [
-      inl e ↦
-        ap (number_of root after) e ∙ number_in_leaf root after page leaf has
-        ∙ ap (λ l. get_or l (page % 512) None) (get_or-set_same leaves leaf line' [] small)
-        ∙ get_or-set_same line (page % 512) number None (omega (arith, table.full leaf small))
-        ∙ ap (λ b. cond b number (number_of root leaves q)) (sym (eq-eqb q page e))
-    | inr ne ↦
-        elsewhere root leaves used leaf page number table has q ne (leaf_of root (q / 512)) refl
-        ∙ ap (λ b. cond b number (number_of root leaves q)) (sym (ne_eqb q page ne))
+      | inl e ↦
+          ap (number_of root after) e ∙ number_in_leaf root after page leaf has
+          ∙ ap (λ l. get_or l (page % 512) None) (get_or-set_same leaves leaf line' [] small)
+          ∙ get_or-set_same line (page % 512) number None (omega (arith, table.full leaf small))
+          ∙ ap (λ b. cond b number (number_of root leaves q)) (sym (eq-eqb q page e))
+      | inr ne ↦
+          elsewhere root leaves used leaf page number table has q ne (leaf_of root (q / 512)) refl
+          ∙ ap (λ b. cond b number (number_of root leaves q)) (sym (ne_eqb q page ne))
     ]
 
 get-put : (numbers : map.FinMap nat_cmp ℕ) (page : ℕ) (number : Option ℕ) (q : ℕ) → map.get (put numbers page number) q ≡ cond (eqb q page) number (map.get numbers q)
@@ -272,9 +272,9 @@ pub numbers_in-written : (root : List (Option ℕ)) (leaves : List (List (Option
 numbers_in-written root leaves used leaf page number table has =
     map.same_map nat_cmp_total map.nat_cmp-IsAntisymmetric (numbers_in root (written leaves leaf (page % 512) number)) (put (numbers_in root leaves) page number)
     (λ q. get-numbers_in root (written leaves leaf (page % 512) number) q
-      ∙ number_of-written root leaves used leaf page number table has q
-      ∙ ap (cond (eqb q page) number) (sym (get-numbers_in root leaves q))
-      ∙ sym (get-put (numbers_in root leaves) page number q))
+    ∙ number_of-written root leaves used leaf page number table has q
+    ∙ ap (cond (eqb q page) number) (sym (get-numbers_in root leaves q))
+    ∙ sym (get-put (numbers_in root leaves) page number q))
 
 none_is_some : (n : ℕ) → ◌≡◌ {A = Option ℕ} None (Some n) → ⊥
 none_is_some n e = cc
@@ -289,7 +289,7 @@ pub IsTable-bare : (root new : List (Option ℕ)) (leaves : List (List (Option �
     → ((chunk : ℕ) → leaf_of new chunk ≡ None) → IsTable new leaves used
 IsTable-bare root new leaves used table empty long bare = record {
   rooted = λ some. long;
-  small = omega arith;
+  sized = λ some. long;
   within = table.within;
   counted = table.counted ∙ ap (count_by is_some) empty ∙ sym (none_counted new bare);
   taken = λ chunk leaf has. absurd (none_is_some leaf (sym (bare chunk) ∙ has));
@@ -305,28 +305,42 @@ pages_in-bare root new leaves used empty bare =
     let old : (chunk : ℕ) → leaf_of root chunk ≡ None = λ chunk. ap (λ r. leaf_of r chunk) empty in
     let numbers = same_numbers new root leaves leaves (λ page. number_without_leaf new leaves page (bare (page / 512)) ∙ sym (number_without_leaf root leaves page (old (page / 512)))) in
     let chunks = set.same_set nat_cmp_total map.nat_cmp-IsAntisymmetric (chunks_in new) (chunks_in root)
-        (λ chunk. contains-chunks_in new chunk ∙ ap is_some (bare chunk ∙ sym (old chunk)) ∙ sym (contains-chunks_in root chunk)) in
+    (λ chunk. contains-chunks_in new chunk ∙ ap is_some (bare chunk ∙ sym (old chunk)) ∙ sym (contains-chunks_in root chunk)) in
     λ i. record { numbers = numbers i; chunks = chunks i; spare = length leaves - used }
 
 blank_or_past : (more : List (List (Option ℕ))) (i place : ℕ) → All IsBlankLeaf more → place_of more i place ≡ None
 blank_or_past more i place blank = elim (cases_lt i (length more)) [ inl h ↦ (blank i [] h).1 place | inr h ↦ ap (λ l. get_or l place None) (get_or_past more i [] h) ]
 
+-- the table after its root was made
+pub IsTable-rooted : (root new : List (Option ℕ)) (leaves : List (List (Option ℕ))) (used : ℕ) → IsTable root leaves used → IsRootAfter root new → IsTable new leaves used × (length new ≡ CHUNKS) × (pages_in new leaves used ≡ pages_in root leaves used)
+IsTable-rooted root new leaves used table after =
+    elim (cases_eq (length root) 0) [
+      | inl e ↦ (
+        IsTable-bare root new leaves used table (nil_from_length root e) (after.made e) (after.bare e),
+        after.made e,
+        pages_in-bare root new leaves used (nil_from_length root e) (after.bare e),
+      )
+      | inr ne ↦
+          let same = after.kept (omega arith) in
+          let P : List (Option ℕ) → Type 0 = λ r. IsTable r leaves used in (subst P (sym same) table, ap length same ∙ table.sized (omega arith), ap (λ r. pages_in r leaves used) same)
+    ]
+
 -- more blank leaves are more spare ones
 pub IsTable-append : (root : List (Option ℕ)) (leaves more : List (List (Option ℕ))) (used : ℕ) → IsTable root leaves used → length root ≡ CHUNKS → All IsBlankLeaf more → IsTable root (leaves ++ more) used
 IsTable-append root leaves more used table long blank = record {
   rooted = λ some. long;
-  small = table.small;
+  sized = table.sized;
   within = omega (arith, table.within, length-append leaves more);
   counted = table.counted;
   taken = table.taken;
   apart = table.apart;
   full = λ i lt. elim (cases_lt i (length leaves)) [
-    inl h ↦ ap length (get_or_append_left leaves more [] i h) ∙ table.full i h
-  | inr h ↦ ap length (get_or-append_right leaves more (length leaves) i [] refl h) ∙ (blank (i - length leaves) [] (omega (arith, length-append leaves more))).0
+    | inl h ↦ ap length (get_or_append_left leaves more [] i h) ∙ table.full i h
+    | inr h ↦ ap length (get_or-append_right leaves more (length leaves) i [] refl h) ∙ (blank (i - length leaves) [] (omega (arith, length-append leaves more))).0
   ];
   blank = λ i place le. elim (cases_lt i (length leaves)) [
-    inl h ↦ ap (λ l. get_or l place None) (get_or_append_left leaves more [] i h) ∙ table.blank i place le
-  | inr h ↦ ap (λ l. get_or l place None) (get_or-append_right leaves more (length leaves) i [] refl h) ∙ blank_or_past more (i - length leaves) place blank
+    | inl h ↦ ap (λ l. get_or l place None) (get_or_append_left leaves more [] i h) ∙ table.blank i place le
+    | inr h ↦ ap (λ l. get_or l place None) (get_or-append_right leaves more (length leaves) i [] refl h) ∙ blank_or_past more (i - length leaves) place blank
   ];
 }
 
@@ -351,11 +365,11 @@ pub chunk_in_root : (root : List (Option ℕ)) (leaves : List (List (Option ℕ)
     → (set.contains pages.chunks (page / 512) ≡ false → 0 < pages.spare) → page / 512 < length root
 chunk_in_root root leaves used page pages table is small room =
     elim (cases_lt (page / 512) (length root)) [
-      inl h ↦ h
-    | inr h ↦
-        let spare = room (contains_leaf root leaves used (page / 512) pages is ∙ ap is_some (get_or_past root (page / 512) None h)) in
-        let count : length leaves - used ≡ pages.spare = ap (λ p. p.spare) is in
-        omega (arith, table.rooted (omega arith))
+      | inl h ↦ h
+      | inr h ↦
+          let spare = room (contains_leaf root leaves used (page / 512) pages is ∙ ap is_some (get_or_past root (page / 512) None h)) in
+          let count : length leaves - used ≡ pages.spare = ap (λ p. p.spare) is in
+          omega (arith, table.rooted (omega arith))
     ]
 
 -- where the chunk has no leaf, one is spare
@@ -390,7 +404,7 @@ pages_in-written root leaves used leaf page number pages table has is =
     let numbers = numbers_in-written root leaves used leaf page number table has in
     let spare = ap (λ n. n - used) (length-set leaves leaf (put_at (get_or leaves leaf []) (page % 512) number)) in
     let step : pages_in root (written leaves leaf (page % 512) number) used ≡ record (pages_in root leaves used) { numbers = put (numbers_in root leaves) page number } =
-        λ i. record { numbers = numbers i; chunks = chunks_in root; spare = spare i } in
+    λ i. record { numbers = numbers i; chunks = chunks_in root; spare = spare i } in
     step ∙ ap {A = Pages} (λ p. record p { numbers = put p.numbers page number }) is
 
 -- a chunk that was inserted is there
@@ -402,11 +416,22 @@ pub without_page : (root : List (Option ℕ)) (leaves : List (List (Option ℕ))
     → pages ≡ record pages { numbers = map.remove pages.numbers page }
 without_page root leaves used page pages is free =
     let none : map.get pages.numbers page ≡ None =
-        sym (ap (λ p. map.get p.numbers page) is) ∙ get-numbers_in root leaves page ∙ number_without_leaf root leaves page free in
+    sym (ap (λ p. map.get p.numbers page) is) ∙ get-numbers_in root leaves page ∙ number_without_leaf root leaves page free in
     let same : pages.numbers ≡ map.remove pages.numbers page =
-        map.same_map nat_cmp_total map.nat_cmp-IsAntisymmetric pages.numbers (map.remove pages.numbers page)
-        (λ q. elim (cases_eq q page) [
-          inl e ↦ ap (map.get pages.numbers) e ∙ none ∙ ap (λ b. cond b None (map.get pages.numbers q)) (sym (eq-eqb q page e)) ∙ sym (get-put pages.numbers page None q)
-        | inr ne ↦ ap (λ b. cond b None (map.get pages.numbers q)) (sym (ne_eqb q page ne)) ∙ sym (get-put pages.numbers page None q)
-        ]) in
+    map.same_map nat_cmp_total map.nat_cmp-IsAntisymmetric pages.numbers (map.remove pages.numbers page)
+    (λ q. elim (cases_eq q page) [
+      | inl e ↦ ap (map.get pages.numbers) e ∙ none ∙ ap (λ b. cond b None (map.get pages.numbers q)) (sym (eq-eqb q page e)) ∙ sym (get-put pages.numbers page None q)
+      | inr ne ↦ ap (λ b. cond b None (map.get pages.numbers q)) (sym (ne_eqb q page ne)) ∙ sym (get-put pages.numbers page None q)
+    ]) in
     λ i. record { numbers = same i; chunks = pages.chunks; spare = pages.spare }
+
+-- what a table holds with more leaves, where they fill the spare ones up to a number
+pub pages_in-append : (root : List (Option ℕ)) (leaves more : List (List (Option ℕ))) (used n : ℕ) (pages : Pages) → IsTable root leaves used → pages_in root leaves used ≡ pages
+    → length more ≡ n - pages.spare → pages_in root (leaves ++ more) used ≡ record pages { spare = max pages.spare n }
+pages_in-append root leaves more used n pages table is filled =
+    let numbers = numbers_in-append root leaves more used table in
+    let count : length leaves - used ≡ pages.spare = ap (λ p. p.spare) is in
+    let spare : length (leaves ++ more) - used ≡ max pages.spare n = omega (arith, length-append leaves more, table.within) in
+    let step : pages_in root (leaves ++ more) used ≡ record (pages_in root leaves used) { spare = max pages.spare n } =
+    λ i. record { numbers = numbers i; chunks = chunks_in root; spare = spare i } in
+    step ∙ ap {A = Pages} (λ p. record p { spare = max pages.spare n }) is

@@ -1,5 +1,5 @@
 -- A table of two levels: a root with a place for each chunk, and leaves with a place for each page of a chunk.
-use Rattle.std.specs.Prelude.{◌≡◌, ℕ, ◌+◌, ◌-◌, ◌*◌, ◌/◌, ◌%◌, ◌<◌, ◌≤◌, Option, Some, None, List, [], length, slice_index_or, count_by, is_some, option_map, option_and_then}
+use Rattle.std.specs.Prelude.{◌≡◌, ℕ, ◌-◌, ◌*◌, ◌/◌, ◌%◌, ◌<◌, ◌≤◌, Option, Some, None, List, [], length, slice_index_or, count_by, is_some, option_map, option_and_then}
 use Rattle.std.specs.List.{filter, filter_map, range_with_len}
 use Rattle.std.specs.Ordering.{nat_cmp}
 use Rattle.std.specs.FinMap as map
@@ -40,10 +40,16 @@ pages_in root leaves used = record {
 abbrev pub IsBlankLeaf : List (Option ℕ) → Type 0
 IsBlankLeaf leaf = (length leaf ≡ 512) × ((place : ℕ) → slice_index_or leaf place None ≡ None)
 
+-- a root that was there is kept, and else one with no leaf in it is made
+pub record IsRootAfter (old new : List (Option ℕ)) : Type 0 where
+  pub kept : 0 < length old → new ≡ old
+  pub made : length old ≡ 0 → length new ≡ CHUNKS
+  pub bare : length old ≡ 0 → (chunk : ℕ) → leaf_of new chunk ≡ None
+
 -- the first leaves have one chunk each, and the others are spare and blank
 pub record IsTable (root : List (Option ℕ)) (leaves : List (List (Option ℕ))) (used : ℕ) : Type 0 where
   pub rooted : 0 < length leaves → length root ≡ CHUNKS
-  pub small : length root ≤ CHUNKS
+  pub sized : 0 < length root → length root ≡ CHUNKS
   pub within : used ≤ length leaves
   pub counted : used ≡ count_by is_some root
   pub taken : (chunk leaf : ℕ) → leaf_of root chunk ≡ Some leaf → leaf < used

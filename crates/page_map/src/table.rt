@@ -1,6 +1,6 @@
 //! A root with a place for each chunk of pages, and a leaf with a place for each page of one chunk.
 ghost use Rattle.std.specs.Prelude.{true, ◌≡◌, ◌+◌, ◌-◌, ◌/◌, ◌%◌, ◌<◌, ◌≤◌, ℕ, false, None, if◌then◌else◌, length, slice_index_or, vec_len, IfOk, IsOkAnd, OnOk, OnErr, All, max};
-ghost use Rattle.page_map.specs.Table.{IsBlankLeaf};
+ghost use Rattle.page_map.specs.Table.{IsBlankLeaf, IsRootAfter};
 ghost use Rattle.std.specs.FinMap as map;
 ghost use Rattle.std.specs.FinSet as set;
 
@@ -64,9 +64,7 @@ impl PageMap {
     {
         let spare = (self.leaves.len() - self.used) as u64;
         let mut fresh = blank_leaves(self.alloc, leaves.saturating_sub(spare))?;
-        if self.root.is_empty() {
-            self.root = blank_places(self.alloc, CHUNKS)?;
-        }
+        make_root(&mut self.root, self.alloc)?;
         self.leaves.append(&mut fresh)?;
         Ok(())
     }
@@ -163,6 +161,17 @@ fn place_at(page: u64) -> usize
     (page % CHUNK_PAGES) as usize
 }
 
+// Makes the root, if there is none.
+fn make_root(root: &mut Vec<Option<u32>>, alloc: Global) -> Result<(), NoMemory>
+    ensures ok { OnOk result (IsRootAfter root.old.items root.new.items) }
+    ensures err { OnErr result (root.new.items ≡ root.old.items) }
+{
+    if root.is_empty() {
+        *root = blank_places(alloc, CHUNKS)?;
+    }
+    Ok(())
+}
+
 // Places with nothing in them.
 fn blank_places(alloc: Global, len: usize) -> Result<Vec<Option<u32>>, NoMemory>
     ensures len { IfOk result (λ places. vec_len places ≡ len) }
@@ -181,4 +190,43 @@ fn blank_leaves(alloc: Global, count: u64) -> Result<Vec<Leaf>, NoMemory>
         leaves.push(blank_places(alloc, CHUNK_PAGES as usize)?)?;
     }
     Ok(leaves)
+}
+
+#[cfg(test)]
+mod tests {
+    use super::*;
+    use std::test::Fail;
+
+    #[test]
+    fn pages_keep_their_numbers(rt: HostRuntime) -> Result<(), Fail> {
+        let mut pages = PageMap::new(rt.alloc())?;
+        assert_eq!(rt; pages.spare(), 0);
+        pages.reserve(3)?;
+        assert_eq!(rt; pages.spare(), 3);
+        for (page, number) in [(512, 7), (1023, 8), (PAGES - 1, 9), (512, 6)] {
+            assert!(rt; page < PAGES && pages.spare() > 0);
+            pages.set(page, number);
+        }
+        assert_eq!(rt; pages.spare(), 1);
+        pages.clear(1023);
+        pages.clear(2048);
+        let table = [
+            (0, None),
+            (511, None),
+            (512, Some(6)),
+            (513, None),
+            (1023, None),
+            (1024, None),
+            (PAGES - 1, Some(9)),
+            (PAGES, None),
+            (u64::MAX, None),
+        ];
+        for (page, number) in table {
+            assert_eq!(rt; pages.get(page), number);
+        }
+        pages.reserve(2)?;
+        assert_eq!(rt; pages.spare(), 2);
+        assert_eq!(rt; pages.get(512), Some(6));
+        Ok(())
+    }
 }

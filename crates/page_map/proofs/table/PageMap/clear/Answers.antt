@@ -1,4 +1,4 @@
-use Rattle.std.proofs.Common.{◌≡◌, ◌/◌, None, is_some, false, get_or, map as each, sym, ap, ◌∙◌}
+use Rattle.std.proofs.Common.{◌≡◌, ◌/◌, None, is_some, get_or, map as each, sym, ap, ◌∙◌}
 use Rattle.page_map.specs.Table.{leaf_of}
 use Rattle.page_map.proofs.TableLemmas.{contains_leaf, none_of, without_page}
 use Rattle.page_map.proofs.table.PageMap.clear.Goals as goal
@@ -17,5 +17,5 @@ returns-else-is_some c =
     let a = c.self.inside in
     let chunk = c.args.page / 512 in
     let free : leaf_of a.root.items chunk ≡ None =
-        sym (c.leaf_at.ensures ∙ ap (λ r. get_or r chunk None) c.deref.ensures.value) ∙ none_of c.leaf_at.result (sym c.is_some.ensures ∙ c.if-is_some.false) in
+    sym (c.leaf_at.ensures ∙ ap (λ r. get_or r chunk None) c.deref.ensures.value) ∙ none_of c.leaf_at.result (sym c.is_some.ensures ∙ c.if-is_some.false) in
     without_page a.root.items (each (λ v. v.items) a.leaves.items) a.used c.args.page c.args.self.now c.self.view_is free

@@ -17,7 +17,7 @@ returns-in-Some c =
     let page = c.args.page in
     let has : leaf_of table.root.items (page / 512) ≡ Some c.in-Some.leaf = sym (c.in-Some.ensures ∙ ap (λ r. get_or r (page / 512) None) c.deref.ensures.value) in
     number_read table.leaves.items (λ v. v.items) table.root.items table.used page c.in-Some.leaf c.place_at.result c.index.result.now c.index-in-Some.result.now c.self.invariant has c.index.ensures
-      c.place_at.ensures c.index-in-Some.ensures
+    c.place_at.ensures c.index-in-Some.ensures
     ∙ ap (λ p. map.get p.numbers page) c.self.view_is
 
 pub returns-in-None : goal.returns-in-None

@@ -1,6 +1,5 @@
-use Rattle.std.proofs.Common.{◌≡◌, ◌<◌, ◌/◌, ◌-◌, ◌+◌, None, is_some, true, false, cond, length, arith, map as each, sym, ap, ◌∙◌}
+use Rattle.std.proofs.Common.{◌≡◌, ◌/◌, ◌-◌, ◌+◌, is_some, false, cond, length, arith, map as each, sym, ap, ◌∙◌}
 use Rattle.std.specs.FinSet as set
-use Rattle.page_map.specs.Table.{leaf_of, numbers_in, chunks_in}
 use Rattle.page_map.proofs.TableLemmas.{chunk_in_root, spare_there, contains_leaf, read_free, read_taken, insert_again, IsTable-given, numbers_in-given, chunks_in-given}
 use Rattle.page_map.proofs.table.PageMap.give_leaf.Goals as goal
 

@@ -1,4 +1,4 @@
-use Rattle.std.proofs.Common.{◌≡◌, [], map as each, ap, ◌∙◌}
+use Rattle.std.proofs.Common.{[], map as each, ap, ◌∙◌}
 use Rattle.page_map.specs.Table.{numbers_in, chunks_in, pages_in}
 use Rattle.page_map.proofs.table.PageMap.new.Goals as goal
 
