@@ -1,5 +1,5 @@
 -- Lemmas on the table of two levels.
-use Rattle.std.proofs.Common.{◌≡◌, ◌≢◌, inl, inr, ℕ, zero, suc, ◌+◌, ◌-◌, ◌*◌, ◌/◌, ◌%◌, ◌^◌, ◌<◌, ◌≤◌, max, Bool, true, false, not, ◌&&◌, ◌||◌, cond, leb, ltb, eqb, nat_eq, Option, Some, None, is_some, List, [], ◌∷◌, ◌++◌, length, get_or, set as put_at, map as each, count_by, refl, sym, ap, subst, ◌∙◌, ◌⊎◌, arith, eq-eqb, ne_eqb}
+use Rattle.std.proofs.Common.{◌≡◌, ◌≢◌, inl, inr, ℕ, zero, suc, ◌+◌, ◌-◌, ◌*◌, ◌/◌, ◌%◌, ◌^◌, ◌<◌, ◌≤◌, max, Bool, true, false, ◌&&◌, ◌||◌, cond, leb, ltb, eqb, nat_eq, Option, Some, None, is_some, List, [], ◌∷◌, ◌++◌, length, get_or, set as put_at, map as each, count_by, refl, sym, ap, subst, ◌∙◌, ◌⊎◌, arith, eq-eqb, ne_eqb}
 use Rattle.std.specs.Option.{option_map, option_and_then}
 use Rattle.std.specs.List.{filter, filter_map, cons_option, range_with_len, list_any, All}
 use Rattle.std.specs.Ordering.{nat_cmp}
@@ -11,7 +11,7 @@ use Rattle.std.proofs.lemmas.List.Sums.{sum_by-set, sum_by-append}
 use Rattle.std.proofs.Math.Bool.{and-true, and-false, or-false}
 use Rattle.std.proofs.lemmas.Bool.Decides.{nat_tests}
 use Rattle.std.proofs.lemmas.List.{get_or_past, get_or-map, get_or_read, length-map, length-set, get_or-set_same, get_or-set_other, length-append, map-set, nil_from_length, get_or_append_left, get_or-append_right}
-use Rattle.page_map.specs.Pages.{Pages, put}
+use Rattle.page_map.specs.Pages.{Pages, put, with_leaf}
 use Rattle.page_map.specs.Table.{leaf_of, place_of, number_of, numbers_in, chunks_in, pages_in, IsTable, IsBlankLeaf, IsRootAfter}
 use Rattle.page_map.specs.declared.table.TheConstants.{CHUNKS}
 
@@ -380,16 +380,29 @@ spare_there root leaves used chunk pages is free room =
     let count : length leaves - used ≡ pages.spare = ap (λ p. p.spare) is in
     omega arith
 
+-- what a table holds after a chunk took a leaf
+pub pages_in-given : (root : List (Option ℕ)) (leaves : List (List (Option ℕ))) (used chunk : ℕ) (pages : Pages) → IsTable root leaves used → pages_in root leaves used ≡ pages → chunk < length root
+    → leaf_of root chunk ≡ None → pages_in (given root chunk used) leaves (used + 1) ≡ with_leaf pages chunk
+pages_in-given root leaves used chunk pages table is lt free =
+    let numbers = numbers_in-given root leaves used chunk table lt free in
+    let chunks = chunks_in-given root used chunk lt in
+    let fewer : length leaves - (used + 1) ≡ length leaves - used - 1 = omega arith in
+    let spare = fewer ∙ ap (λ b. cond b (length leaves - used) (length leaves - used - 1)) (sym (contains-chunks_in root chunk ∙ ap is_some free)) in
+    let step : pages_in (given root chunk used) leaves (used + 1) ≡ with_leaf (pages_in root leaves used) chunk = λ i. record { numbers = numbers i; chunks = chunks i; spare = spare i } in
+    step ∙ ap {A = Pages} (λ p. with_leaf p chunk) is
+
+-- nothing changes where the chunk has a leaf
+pub pages_with_leaf : (root : List (Option ℕ)) (leaves : List (List (Option ℕ))) (used chunk : ℕ) (pages : Pages) → pages_in root leaves used ≡ pages → is_some (leaf_of root chunk) ≡ true
+    → pages ≡ with_leaf pages chunk
+pages_with_leaf root leaves used chunk pages is taken =
+    let has = contains_leaf root leaves used chunk pages is ∙ taken in
+    let chunks = insert_again pages.chunks chunk has in
+    let spare = ap (λ b. cond b pages.spare (pages.spare - 1)) (sym has) in
+    λ i. record { numbers = pages.numbers; chunks = chunks i; spare = spare i }
+
 pub none_of : (o : Option ℕ) → is_some o ≡ false → o ≡ None
 none_of None e = refl
 none_of (Some n) e = absurd (false≢true (sym e))
-
--- what was read of a chunk tells whether it has a leaf
-pub read_free : (root : List (Option ℕ)) (chunk : ℕ) (o : Option ℕ) (b : Bool) → chunk < length root → o ≡ get_or root chunk o → is_some o ≡ not b → b ≡ true → leaf_of root chunk ≡ None
-read_free root chunk o b lt read tested passed = sym (get_or_read root chunk o lt read None) ∙ none_of o (tested ∙ ap not passed)
-
-pub read_taken : (root : List (Option ℕ)) (chunk : ℕ) (o : Option ℕ) (b : Bool) → chunk < length root → o ≡ get_or root chunk o → is_some o ≡ not b → b ≡ false → is_some (leaf_of root chunk) ≡ true
-read_taken root chunk o b lt read tested passed = ap is_some (sym (get_or_read root chunk o lt read None)) ∙ tested ∙ ap not passed
 
 -- a write to an element is a write to the lists of all
 pub each-written : {V : Type 0} (vs : List V) (f : V → List (Option ℕ)) (leaf place at : ℕ) (v w : V) (number : Option ℕ) → leaf < length vs → v ≡ get_or vs leaf v

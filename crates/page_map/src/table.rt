@@ -43,7 +43,7 @@ impl Model for PageMap {
 }
 
 impl PageMap {
-    ghost use Rattle.page_map.specs.Pages.{no_pages, put};
+    ghost use Rattle.page_map.specs.Pages.{no_pages, put, with_leaf};
 
     /// An empty map. It takes no memory yet, and keeps the allocator.
     pub fn new(alloc: Global) -> Result<PageMap, NoMemory>
@@ -62,8 +62,8 @@ impl PageMap {
         ensures ok { OnOk result (self.new ≡ record self.old { spare = max self.old.spare leaves }) }
         ensures err { OnErr result (self.new ≡ self.old) }
     {
-        let spare = (self.leaves.len() - self.used) as u64;
-        let mut fresh = blank_leaves(self.alloc, leaves.saturating_sub(spare))?;
+        let missing = leaves.saturating_sub(self.spare());
+        let mut fresh = blank_leaves(self.alloc, missing)?;
         make_root(&mut self.root, self.alloc)?;
         self.leaves.append(&mut fresh)?;
         Ok(())
@@ -116,12 +116,7 @@ impl PageMap {
         requires page { page < PAGES }
         requires room { set.contains self.old.chunks (page / CHUNK_PAGES) ≡ false
             → 0 < self.old.spare }
-        ensures numbers { self.new.numbers ≡ self.old.numbers }
-        ensures leaf { self.new.chunks ≡ set.insert self.old.chunks (page / CHUNK_PAGES) }
-        ensures spare { self.new.spare
-            ≡ (if set.contains self.old.chunks (page / CHUNK_PAGES)
-            then self.old.spare
-            else self.old.spare - 1) }
+        ensures { self.new ≡ with_leaf self.old (page / CHUNK_PAGES) }
     {
         let chunk = (page / CHUNK_PAGES) as usize;
         if self.root[chunk].is_none() {

@@ -39,8 +39,7 @@ returns-clause-ok c =
     let leaves = each (λ v. v.items) a.leaves.items in
     let more = each (λ v. v.items) c.in_ok-fresh.fresh.items in
     let rooted = IsTable-rooted a.root.items root leaves a.used c.self.invariant c.in_ok-make_root.ensures.ok in
-    let before : length leaves - a.used ≡ c.args.self.now.spare = ap (λ p. p.spare) c.self.view_is in
     let filled : length more ≡ c.args.leaves - c.args.self.now.spare =
-    omega (arith, length-map a.leaves.items (λ v. v.items), a.leaves.ok.0, length-map c.in_ok-fresh.fresh.items (λ v. v.items), c.in_ok-fresh.fresh.ok.0, c.in_ok-fresh.ensures.len, c.saturating_sub.ensures, c.len.ensures) in
+    omega (arith, length-map c.in_ok-fresh.fresh.items (λ v. v.items), c.in_ok-fresh.fresh.ok.0, c.in_ok-fresh.ensures.len, c.saturating_sub-missing.ensures, c.spare.ensures) in
     ap (λ ls. pages_in root ls a.used) (ap (each (λ v. v.items)) c.in_ok-append.ensures.items ∙ map-append (λ v. v.items) a.leaves.items c.in_ok-fresh.fresh.items)
     ∙ pages_in-append root leaves more a.used c.args.leaves c.args.self.now rooted.0 (rooted.2 ∙ c.self.view_is) filled
