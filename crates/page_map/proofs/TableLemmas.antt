@@ -1,5 +1,5 @@
 -- Lemmas on the table of two levels.
-use Rattle.std.proofs.Common.{◌≡◌, ◌≢◌, inl, inr, ℕ, zero, suc, ◌+◌, ◌-◌, ◌*◌, ◌/◌, ◌%◌, ◌^◌, ◌<◌, ◌≤◌, max, Bool, true, false, ◌&&◌, ◌||◌, cond, leb, ltb, eqb, nat_eq, Option, Some, None, is_some, List, [], ◌∷◌, ◌++◌, length, get_or, set as put_at, map as each, count_by, refl, sym, ap, subst, ◌∙◌, ◌⊎◌, arith, eq-eqb, ne_eqb}
+use Rattle.std.proofs.Common.{◌≡◌, ◌≢◌, inl, inr, ℕ, zero, suc, ◌+◌, ◌-◌, ◌*◌, ◌/◌, ◌%◌, ◌<◌, ◌≤◌, max, Bool, true, false, ◌&&◌, ◌||◌, cond, leb, ltb, eqb, nat_eq, Option, Some, None, is_some, List, [], ◌∷◌, ◌++◌, length, get_or, set as put_at, map as each, count_by, refl, sym, ap, subst, ◌∙◌, ◌⊎◌, arith, eq-eqb, ne_eqb}
 use Rattle.std.specs.Option.{option_map, option_and_then}
 use Rattle.std.specs.List.{filter, filter_map, cons_option, range_with_len, list_any, All}
 use Rattle.std.specs.Ordering.{nat_cmp}
@@ -13,7 +13,7 @@ use Rattle.std.proofs.lemmas.Bool.Decides.{nat_tests}
 use Rattle.std.proofs.lemmas.List.{get_or_past, get_or-map, get_or_read, length-map, length-set, get_or-set_same, get_or-set_other, length-append, map-set, nil_from_length, get_or_append_left, get_or-append_right}
 use Rattle.page_map.specs.Pages.{Pages, put, with_leaf}
 use Rattle.page_map.specs.Table.{leaf_of, place_of, number_of, numbers_in, chunks_in, pages_in, IsTable, IsBlankLeaf, IsRootAfter}
-use Rattle.page_map.specs.declared.table.TheConstants.{CHUNKS}
+use Rattle.page_map.specs.declared.table.TheConstants.{CHUNKS, PAGES}
 
 -- whether q is one of the n numbers from a on
 abbrev within_range : ℕ → ℕ → ℕ → Bool
@@ -361,7 +361,7 @@ pub contains_leaf : (root : List (Option ℕ)) (leaves : List (List (Option ℕ)
 contains_leaf root leaves used chunk pages is = sym (ap (λ p. set.contains p.chunks chunk) is) ∙ contains-chunks_in root chunk
 
 -- where a leaf is there or spare, the root has a place for the page's chunk
-pub chunk_in_root : (root : List (Option ℕ)) (leaves : List (List (Option ℕ))) (used page : ℕ) (pages : Pages) → IsTable root leaves used → pages_in root leaves used ≡ pages → page < 2 ^ 25
+pub chunk_in_root : (root : List (Option ℕ)) (leaves : List (List (Option ℕ))) (used page : ℕ) (pages : Pages) → IsTable root leaves used → pages_in root leaves used ≡ pages → page < PAGES
     → (set.contains pages.chunks (page / 512) ≡ false → 0 < pages.spare) → page / 512 < length root
 chunk_in_root root leaves used page pages table is small room =
     elim (cases_lt (page / 512) (length root)) [

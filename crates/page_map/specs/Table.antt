@@ -5,7 +5,7 @@ use Rattle.std.specs.Ordering.{nat_cmp}
 use Rattle.std.specs.FinMap as map
 use Rattle.std.specs.FinSet as set
 use Rattle.page_map.specs.Pages.{Pages}
-use Rattle.page_map.specs.declared.table.TheConstants.{CHUNKS}
+use Rattle.page_map.specs.declared.table.TheConstants.{CHUNKS, CHUNK_PAGES}
 
 -- which leaf a chunk has
 abbrev pub leaf_of : List (Option ℕ) → ℕ → Option ℕ
@@ -17,12 +17,12 @@ place_of leaves leaf place = slice_index_or (slice_index_or leaves leaf []) plac
 
 -- the number of a page
 abbrev pub number_of : List (Option ℕ) → List (List (Option ℕ)) → ℕ → Option ℕ
-number_of root leaves page = option_and_then (λ leaf. place_of leaves leaf (page % 512)) (leaf_of root (page / 512))
+number_of root leaves page = option_and_then (λ leaf. place_of leaves leaf (page % CHUNK_PAGES)) (leaf_of root (page / CHUNK_PAGES))
 
 -- the numbers of all pages
 unfoldable pub numbers_in : List (Option ℕ) → List (List (Option ℕ)) → map.FinMap nat_cmp ℕ
 numbers_in root leaves =
-    map.from_entries (filter_map (λ page. option_map (λ number. (page, number)) (number_of root leaves page)) (range_with_len 0 (512 * length root)))
+    map.from_entries (filter_map (λ page. option_map (λ number. (page, number)) (number_of root leaves page)) (range_with_len 0 (CHUNK_PAGES * length root)))
 
 -- the chunks that have a leaf
 unfoldable pub chunks_in : List (Option ℕ) → set.FinSet nat_cmp
@@ -38,7 +38,7 @@ pages_in root leaves used = record {
 
 -- a leaf with a place for each page of a chunk, and nothing in it
 abbrev pub IsBlankLeaf : List (Option ℕ) → Type 0
-IsBlankLeaf leaf = (length leaf ≡ 512) × ((place : ℕ) → slice_index_or leaf place None ≡ None)
+IsBlankLeaf leaf = (length leaf ≡ CHUNK_PAGES) × ((place : ℕ) → slice_index_or leaf place None ≡ None)
 
 -- a root that was there is kept, and else one with no leaf in it is made
 pub record IsRootAfter (old new : List (Option ℕ)) : Type 0 where
@@ -54,5 +54,5 @@ pub record IsTable (root : List (Option ℕ)) (leaves : List (List (Option ℕ))
   pub counted : used ≡ count_by is_some root
   pub taken : (chunk leaf : ℕ) → leaf_of root chunk ≡ Some leaf → leaf < used
   pub apart : (chunk other leaf : ℕ) → leaf_of root chunk ≡ Some leaf → leaf_of root other ≡ Some leaf → chunk ≡ other
-  pub full : (leaf : ℕ) → leaf < length leaves → length (slice_index_or leaves leaf []) ≡ 512
+  pub full : (leaf : ℕ) → leaf < length leaves → length (slice_index_or leaves leaf []) ≡ CHUNK_PAGES
   pub blank : (leaf place : ℕ) → used ≤ leaf → place_of leaves leaf place ≡ None

@@ -139,7 +139,7 @@ impl PageMap {
 
 // Which leaf the chunk of a page has.
 fn leaf_at(root: &[Option<u32>], page: u64) -> Option<usize>
-    ensures { result ≡ slice_index_or root.now (page / 512) None }
+    ensures { result ≡ slice_index_or root.now (page / CHUNK_PAGES) None }
 {
     let chunk = (page / CHUNK_PAGES) as usize;
     if chunk < root.len() {
@@ -151,7 +151,7 @@ fn leaf_at(root: &[Option<u32>], page: u64) -> Option<usize>
 
 // Where a page stands in the leaf of its chunk.
 fn place_at(page: u64) -> usize
-    ensures { result ≡ page % 512 }
+    ensures { result ≡ page % CHUNK_PAGES }
 {
     (page % CHUNK_PAGES) as usize
 }
