@@ -15,18 +15,22 @@ use lib.Count.{count_trailing_zeros}
 use lib.Lanes.{mask_l, Each1, fold_l, sum_l}
 use Rattle.lane_scan.specs.Bits.{word_bits, bits_of}
 
+-- a word has 64 bits
 pub length-word_bits : (w : ℕ) → length (word_bits w) ≡ 64
 unfolding word_bits
 length-word_bits w = length-map-range_with_len (λ k. eqb (bit_at w k) 1) 0 64
 
+-- bit k of a word
 pub get_or-word_bits : (w k : ℕ) → k < 64 → get_or (word_bits w) k false ≡ eqb (bit_at w k) 1
 unfolding word_bits
 get_or-word_bits w k lt = get_or-map-range_with_len (λ k. eqb (bit_at w k) 1) 0 64 k k false lt (omega arith)
 
+-- a test that was written as a number
 one_of : (b : Bool) → eqb (cond b 1 0) 1 ≡ b
 one_of true = refl
 one_of false = refl
 
+-- a bit that was read as a test
 bit_again : (n : ℕ) → n < 2 → cond (eqb n 1) 1 0 ≡ n
 bit_again zero h = refl
 bit_again (suc zero) h = refl
@@ -51,10 +55,12 @@ pub count-word_bits : (w : ℕ) → w < 2 ^ 64 → count_by (λ bit. bit) (word_
 count-word_bits w fits =
     sym (ones-mask_l (λ bit. bit) (word_bits w)) ∙ ap (λ ms. count_ones (mask_l ms)) (map-id (word_bits w)) ∙ ap count_ones (mask_l-word_bits w fits)
 
+-- the bits of two lists, one after the other
 pub bits_of-append : (ws vs : List ℕ) → bits_of (ws ++ vs) ≡ bits_of ws ++ bits_of vs
 unfolding bits_of
 bits_of-append ws vs = flat_map-append word_bits ws vs
 
+-- how many bits there are
 pub length-bits_of : (ws : List ℕ) → length (bits_of ws) ≡ 64 * length ws
 unfolding bits_of
 length-bits_of [] = refl
@@ -73,6 +79,7 @@ get_or-bits_of (w ∷ ws) (suc j) k lt =
     ∙ ap (λ i. get_or (bits_of ws) i false) (omega arith)
     ∙ get_or-bits_of ws j k lt
 
+-- the lanes' counts add up to the number of set bits
 ones_summed : (ws : List ℕ) → Each1 (Fits w64) ws → sum_l (map (λ x. x) (map count_ones ws)) ≡ count_by (λ bit. bit) (bits_of ws)
 unfolding bits_of
 ones_summed [] h = refl
@@ -89,6 +96,7 @@ lane_sum ws h = fold-sum 0 (map (λ x. x) (map count_ones ws)) ∙ zero-add (sum
 pub get_or-bits_of_at : (ws : List ℕ) (i : ℕ) → get_or (bits_of ws) i false ≡ eqb (bit_at (get_or ws (i / 64) 0) (i % 64)) 1
 get_or-bits_of_at ws i = ap (λ n. get_or (bits_of ws) n false) (omega arith) ∙ get_or-bits_of ws (i / 64) (i % 64) (omega arith)
 
+-- zero has no set bit
 bit_of_zero : (w k : ℕ) → w ≡ 0 → eqb (bit_at w k) 1 ≡ false
 bit_of_zero w k e = ap (λ v. eqb (bit_at v k) 1) e ∙ ap (λ n. eqb n 1) (bit_at-zero k)
 

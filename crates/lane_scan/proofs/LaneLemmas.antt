@@ -48,6 +48,7 @@ pub le-fold_or : (a : ℕ) (xs : List ℕ) → a ≤ fold_l bit_or a xs
 le-fold_or a [] = omega arith
 le-fold_or a (x ∷ xs) = omega (arith, le_or_l a x, le-fold_or (bit_or a x) xs)
 
+-- the same of any lane
 pub lane-le-fold_or : (a : ℕ) (xs : List ℕ) (i : ℕ) → get_or xs i 0 ≤ fold_l bit_or a xs
 lane-le-fold_or a [] i = omega arith
 lane-le-fold_or a (x ∷ xs) zero = omega (arith, le_or_r a x, le-fold_or (bit_or a x) xs)
@@ -57,6 +58,7 @@ lane-le-fold_or a (x ∷ xs) (suc i) = lane-le-fold_or (bit_or a x) xs i
 pub offset_inside : (x lo hi : ℕ) → x < 2 ^ 64 → lo < 2 ^ 64 → hi < 2 ^ 64 → ltb ((x + (2 ^ 64 - lo)) % 2 ^ 64) (hi - lo) ≡ (leb lo x && ltb x hi)
 offset_inside x lo hi hx hlo hhi = grind (arith, nat_tests)
 
+-- the complement has the top bit where the word has not
 complement_top : (b : ℕ) → b < 2 ^ 64 → leb (2 ^ 63) (2 ^ 64 - 1 - b) ≡ not (leb (2 ^ 63) b)
 complement_top b hb = grind (arith, nat_tests)
 

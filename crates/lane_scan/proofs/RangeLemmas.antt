@@ -26,6 +26,7 @@ offsets_below xs lo hi width n fits hlo hhi long wide =
     ∙ map_agree (λ x. ltb (offset x) width) (is_inside lo hi) xs
     (Each1-weaker (Fits w64) (λ x. ltb (offset x) width ≡ is_inside lo hi x) (λ x f. ap (ltb (offset x)) wide ∙ offset_inside x lo hi f.fits hlo hhi) xs fits)
 
+-- the mask of two lists, one after the other
 pub mask_l-append : (ms ns : List Bool) → mask_l (ms ++ ns) ≡ mask_l ns * 2 ^ length ms + mask_l ms
 mask_l-append [] ns = omega arith
 mask_l-append (m ∷ ms) ns =
@@ -57,6 +58,7 @@ clear_tops zs none i =
       | inr h ↦ get_or_past (map (leb (2 ^ 63)) zs) i false (omega (arith, length-map zs (leb (2 ^ 63))))
     ]
 
+-- what the two comparisons with bounds say of a pair
 meets_by_tests : (f e lo hi : ℕ) → (ltb f hi && not (ltb e (lo + 1))) ≡ false → meets lo hi (f, e) ≡ false
 meets_by_tests f e lo hi h = grind (arith, nat_tests)
 
@@ -94,6 +96,7 @@ list_any-zip-drop p (f ∷ fs) (e ∷ es) (suc at) none le paired =
     list_any-zip-drop p fs es at (λ k lt. none (suc k) (omega arith)) (omega arith) (omega arith)
     ∙ ap (λ t. t || list_any p (zip fs es)) (sym (none zero (omega arith)))
 
+-- a test as a number is its mask
 byte_of : (b : Bool) → bool_byte b ≡ mask_l (b ∷ [])
 byte_of true = refl
 byte_of false = refl
@@ -109,11 +112,13 @@ map_word f xs j k lt =
     ∙ get_or-take 64 (drop (64 * j) (map f xs)) k false lt
     ∙ get_or-drop (64 * j) (map f xs) k false
 
+-- no place of a list of falses is true
 of_falses : (n i : ℕ) → get_or (replicate n false) i false ≡ false
 of_falses zero i = refl
 of_falses (suc n) zero = refl
 of_falses (suc n) (suc i) = of_falses n i
 
+-- falses at the end change no place
 get_or-padded : (xs : List Bool) (n i : ℕ) → get_or (xs ++ replicate n false) i false ≡ get_or xs i false
 get_or-padded xs n i =
     elim (cases_lt i (length xs)) [

@@ -19,25 +19,32 @@ use Rattle.page_map.specs.declared.table.TheConstants.{CHUNKS, PAGES}
 abbrev within_range : ℕ → ℕ → ℕ → Bool
 within_range a n q = leb a q && ltb q (a + n)
 
+-- an empty range has no number
 range_none : (a q : ℕ) → within_range a 0 q ≡ false
 range_none a q = grind (arith, nat_tests)
 
+-- the first number of a range
 range_first : (a n q : ℕ) → q ≡ a → (within_range a (suc n) q ≡ true) × (within_range (a + 1) n q ≡ false) × (eqb q a ≡ true) × (eqb a q ≡ true)
 range_first a n q e = (grind (arith, nat_tests), grind (arith, nat_tests), grind (arith, nat_tests), grind (arith, nat_tests))
 
+-- the other numbers of a range
 range_later : (a n q : ℕ) → q ≢ a → (within_range a (suc n) q ≡ within_range (a + 1) n q) × (eqb q a ≡ false) × (eqb a q ≡ false)
 range_later a n q ne = (grind (arith, nat_tests), grind (arith, nat_tests), grind (arith, nat_tests))
 
+-- a number of the range
 range_inside : (a n q : ℕ) → a ≤ q → q < a + n → within_range a n q ≡ true
 range_inside a n q le lt = grind (arith, nat_tests)
 
+-- a number past the range
 range_outside : (a n q : ℕ) → a + n ≤ q → within_range a n q ≡ false
 range_outside a n q le = grind (arith, nat_tests)
 
+-- a value that is there, or none
 or_none : {X : Type 0} (o : Option X) → cond (is_some o) o None ≡ o
 or_none None = refl
 or_none (Some x) = refl
 
+-- what is found with one more entry, if it has a value
 find_cons : {X : Type 0} (o : Option X) (a q : ℕ) (es : List (ℕ × X))
     → map.find nat_cmp q (cons_option (option_map (λ value. (a, value)) o) es) ≡ cond (eqb q a) (cond (is_some o) o (map.find nat_cmp q es)) (map.find nat_cmp q es)
 find_cons None a q es = elim (eqb q a) as (λ b. map.find nat_cmp q es ≡ cond b (map.find nat_cmp q es) (map.find nat_cmp q es)) [ true ↦ refl | false ↦ refl ]
@@ -60,6 +67,7 @@ find-range f a (suc n) q =
           ∙ find-range f (a + 1) n q ∙ ap (λ b. cond b (f q) None) (sym (range_later a n q ne).0)
     ]
 
+-- what is found with one more number, if it passes
 any_cons : (b : Bool) (a q : ℕ) (ks : List ℕ) → list_any (λ y. nat_eq y q) (cond b (a ∷ ks) ks) ≡ (eqb a q && b || list_any (λ y. nat_eq y q) ks)
 any_cons true a q ks = ap (λ t. t || list_any (λ y. nat_eq y q) ks) (sym (and-true (eqb a q)))
 any_cons false a q ks = ap (λ t. t || list_any (λ y. nat_eq y q) ks) (sym (and-false (eqb a q)))
@@ -78,6 +86,7 @@ list_any-range p a (suc n) q =
           ap (λ b. b && p a || within_range (a + 1) n q && p q) later.2 ∙ ap (λ b. b && p q) (sym later.0)
     ]
 
+-- the range may be left out where nothing is past it
 in_root : {X : Type 0} (o : Option X) (a n q : ℕ) → (a + n ≤ q → o ≡ None) → a ≤ q → cond (within_range a n q) o None ≡ o
 in_root o a n q past le =
     elim (cases_lt q (a + n)) [ inl h ↦ ap (λ b. cond b o None) (range_inside a n q le h) | inr h ↦ ap (λ b. cond b o None) (range_outside a n q h) ∙ sym (past h) ]
@@ -136,6 +145,7 @@ same_numbers root other leaves others same =
     map.same_map nat_cmp_total map.nat_cmp-IsAntisymmetric (numbers_in root leaves) (numbers_in other others)
     (λ page. get-numbers_in root leaves page ∙ same page ∙ sym (get-numbers_in other others page))
 
+-- what a set of chunks has after an insertion
 contains-inserted : (chunks : set.FinSet nat_cmp) (chunk q : ℕ) → set.contains (set.insert chunks chunk) q ≡ (eqb q chunk || set.contains chunks q)
 contains-inserted chunks chunk q = set.contains-insert nat_cmp_total chunks chunk q ∙ ap (λ b. b || set.contains chunks q) (unsigned_tied q chunk)
 
@@ -151,6 +161,7 @@ insert_again chunks chunk has = set.same_set nat_cmp_total map.nat_cmp-IsAntisym
 abbrev given : List (Option ℕ) → ℕ → ℕ → List (Option ℕ)
 given root chunk leaf = put_at root chunk (Some leaf)
 
+-- the number in an option is one
 some_same : (a b : ℕ) → ◌≡◌ {A = Option ℕ} (Some a) (Some b) → a ≡ b
 some_same a b e = cc
 
@@ -163,6 +174,7 @@ given_cases root used chunk lt c leaf has =
       | inr ne ↦ inr (ne, sym (get_or-set_other root chunk c (Some used) None ne) ∙ has)
     ]
 
+-- the table stays one
 pub IsTable-given : (root : List (Option ℕ)) (leaves : List (List (Option ℕ))) (used chunk : ℕ) → IsTable root leaves used → chunk < length root → leaf_of root chunk ≡ None → used < length leaves
     → IsTable (given root chunk used) leaves (used + 1)
 IsTable-given root leaves used chunk table lt free spare = record {
@@ -179,6 +191,7 @@ IsTable-given root leaves used chunk table lt free spare = record {
   blank = λ leaf place le. table.blank leaf place (omega arith);
 }
 
+-- no page gets or loses a number
 pub numbers_in-given : (root : List (Option ℕ)) (leaves : List (List (Option ℕ))) (used chunk : ℕ) → IsTable root leaves used → chunk < length root → leaf_of root chunk ≡ None
     → numbers_in (given root chunk used) leaves ≡ numbers_in root leaves
 numbers_in-given root leaves used chunk table lt free =
@@ -191,6 +204,7 @@ numbers_in-given root leaves used chunk table lt free =
       | inr ne ↦ ap (option_and_then (λ leaf. place_of leaves leaf (page % 512))) (get_or-set_other root chunk (page / 512) (Some used) None ne)
     ])
 
+-- the chunk has a leaf then
 pub chunks_in-given : (root : List (Option ℕ)) (used chunk : ℕ) → chunk < length root → chunks_in (given root chunk used) ≡ set.insert (chunks_in root) chunk
 chunks_in-given root used chunk lt = set.same_set nat_cmp_total map.nat_cmp-IsAntisymmetric (chunks_in (given root chunk used)) (set.insert (chunks_in root) chunk)
     (λ q. contains-chunks_in (given root chunk used) q
@@ -205,6 +219,7 @@ chunks_in-given root used chunk lt = set.same_set nat_cmp_total map.nat_cmp-IsAn
 abbrev written : List (List (Option ℕ)) → ℕ → ℕ → Option ℕ → List (List (Option ℕ))
 written leaves leaf place number = put_at leaves leaf (put_at (get_or leaves leaf []) place number)
 
+-- the table stays one
 pub IsTable-written : (root : List (Option ℕ)) (leaves : List (List (Option ℕ))) (used leaf place : ℕ) (number : Option ℕ) → IsTable root leaves used → leaf < used
     → IsTable root (written leaves leaf place number) used
 IsTable-written root leaves used leaf place number table lt =
@@ -245,6 +260,7 @@ elsewhere root leaves used leaf page number table has q ne (Some i) is =
     ]
     ∙ sym (number_in_leaf root leaves q i is)
 
+-- the number of each page after a write
 number_of-written : (root : List (Option ℕ)) (leaves : List (List (Option ℕ))) (used leaf page : ℕ) (number : Option ℕ) → IsTable root leaves used → leaf_of root (page / 512) ≡ Some leaf
     → (q : ℕ) → number_of root (written leaves leaf (page % 512) number) q ≡ cond (eqb q page) number (number_of root leaves q)
 number_of-written root leaves used leaf page number table has q =
@@ -263,10 +279,12 @@ number_of-written root leaves used leaf page number table has q =
           ∙ ap (λ b. cond b number (number_of root leaves q)) (sym (ne_eqb q page ne))
     ]
 
+-- what stands at each page after a put
 get-put : (numbers : map.FinMap nat_cmp ℕ) (page : ℕ) (number : Option ℕ) (q : ℕ) → map.get (put numbers page number) q ≡ cond (eqb q page) number (map.get numbers q)
 get-put numbers page None q = map.get-remove nat_cmp_total numbers page q ∙ ap (λ b. cond b None (map.get numbers q)) (unsigned_tied q page)
 get-put numbers page (Some n) q = map.get-insert nat_cmp_total numbers page n q ∙ ap (λ b. cond b (Some n) (map.get numbers q)) (unsigned_tied q page)
 
+-- the numbers after a write
 pub numbers_in-written : (root : List (Option ℕ)) (leaves : List (List (Option ℕ))) (used leaf page : ℕ) (number : Option ℕ) → IsTable root leaves used → leaf_of root (page / 512) ≡ Some leaf
     → numbers_in root (written leaves leaf (page % 512) number) ≡ put (numbers_in root leaves) page number
 numbers_in-written root leaves used leaf page number table has =
@@ -276,9 +294,11 @@ numbers_in-written root leaves used leaf page number table has =
     ∙ ap (cond (eqb q page) number) (sym (get-numbers_in root leaves q))
     ∙ sym (get-put (numbers_in root leaves) page number q))
 
+-- nothing is no number
 none_is_some : (n : ℕ) → ◌≡◌ {A = Option ℕ} None (Some n) → ⊥
 none_is_some n e = cc
 
+-- a bare root has no leaf
 none_counted : (root : List (Option ℕ)) → ((chunk : ℕ) → leaf_of root chunk ≡ None) → count_by is_some root ≡ 0
 none_counted [] bare = refl
 none_counted (o ∷ root) bare =
@@ -308,6 +328,7 @@ pages_in-bare root new leaves used empty bare =
     (λ chunk. contains-chunks_in new chunk ∙ ap is_some (bare chunk ∙ sym (old chunk)) ∙ sym (contains-chunks_in root chunk)) in
     λ i. record { numbers = numbers i; chunks = chunks i; spare = length leaves - used }
 
+-- a blank leaf has nothing at any place
 blank_or_past : (more : List (List (Option ℕ))) (i place : ℕ) → All IsBlankLeaf more → place_of more i place ≡ None
 blank_or_past more i place blank = elim (cases_lt i (length more)) [ inl h ↦ (blank i [] h).1 place | inr h ↦ ap (λ l. get_or l place None) (get_or_past more i [] h) ]
 
@@ -344,16 +365,18 @@ IsTable-append root leaves more used table long blank = record {
   ];
 }
 
-elim_leaf : (root : List (Option ℕ)) (leaves more : List (List (Option ℕ))) (used : ℕ) → IsTable root leaves used → (page : ℕ) (o : Option ℕ) → leaf_of root (page / 512) ≡ o
+-- the number of a page with more leaves
+number_of-append : (root : List (Option ℕ)) (leaves more : List (List (Option ℕ))) (used : ℕ) → IsTable root leaves used → (page : ℕ) (o : Option ℕ) → leaf_of root (page / 512) ≡ o
     → number_of root (leaves ++ more) page ≡ number_of root leaves page
-elim_leaf root leaves more used table page None is = number_without_leaf root (leaves ++ more) page is ∙ sym (number_without_leaf root leaves page is)
-elim_leaf root leaves more used table page (Some i) is =
+number_of-append root leaves more used table page None is = number_without_leaf root (leaves ++ more) page is ∙ sym (number_without_leaf root leaves page is)
+number_of-append root leaves more used table page (Some i) is =
     number_in_leaf root (leaves ++ more) page i is
     ∙ ap (λ l. get_or l (page % 512) None) (get_or_append_left leaves more [] i (omega (arith, table.taken (page / 512) i is, table.within)))
     ∙ sym (number_in_leaf root leaves page i is)
 
+-- the numbers with more leaves
 pub numbers_in-append : (root : List (Option ℕ)) (leaves more : List (List (Option ℕ))) (used : ℕ) → IsTable root leaves used → numbers_in root (leaves ++ more) ≡ numbers_in root leaves
-numbers_in-append root leaves more used table = same_numbers root root (leaves ++ more) leaves (λ page. elim_leaf root leaves more used table page (leaf_of root (page / 512)) refl)
+numbers_in-append root leaves more used table = same_numbers root root (leaves ++ more) leaves (λ page. number_of-append root leaves more used table page (leaf_of root (page / 512)) refl)
 
 -- whether a chunk has a leaf, by what the table holds
 pub contains_leaf : (root : List (Option ℕ)) (leaves : List (List (Option ℕ))) (used chunk : ℕ) (pages : Pages) → pages_in root leaves used ≡ pages
@@ -400,6 +423,7 @@ pages_with_leaf root leaves used chunk pages is taken =
     let spare = ap (λ b. cond b pages.spare (pages.spare - 1)) (sym has) in
     λ i. record { numbers = pages.numbers; chunks = chunks i; spare = spare i }
 
+-- what is not there is nothing
 pub none_of : (o : Option ℕ) → is_some o ≡ false → o ≡ None
 none_of None e = refl
 none_of (Some n) e = absurd (false≢true (sym e))

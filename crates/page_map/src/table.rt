@@ -1,5 +1,5 @@
 //! A root with a place for each chunk of pages, and a leaf with a place for each page of one chunk.
-ghost use Rattle.std.specs.Prelude.{true, ◌≡◌, ◌+◌, ◌-◌, ◌/◌, ◌%◌, ◌<◌, ◌≤◌, ℕ, false, None, if◌then◌else◌, length, slice_index_or, vec_len, IfOk, IsOkAnd, OnOk, OnErr, All, max};
+ghost use Rattle.std.specs.Prelude.{true, ◌≡◌, ◌+◌, ◌-◌, ◌/◌, ◌%◌, ◌<◌, ◌≤◌, ℕ, false, None, if◌then◌else◌, length, slice_index_or, vec_len, IfOk, IsOkAnd, IsSome, OnOk, OnErr, All, max};
 ghost use Rattle.page_map.specs.Table.{IsBlankLeaf, IsRootAfter};
 ghost use Rattle.std.specs.FinMap as map;
 ghost use Rattle.std.specs.FinSet as set;
@@ -101,9 +101,11 @@ impl PageMap {
         }
     }
 
-    /// The number of a page.
+    /// The number of a page. The chunk of a page that has one has a leaf.
     pub fn get(&self, page: u64) -> Option<u32>
-        ensures { result ≡ map.get self.now.numbers page }
+        ensures number { result ≡ map.get self.now.numbers page }
+        ensures leaf { IsSome result
+            → set.contains self.now.chunks (page / CHUNK_PAGES) ≡ true }
     {
         match leaf_at(&self.root, page) {
             Some(leaf) => self.leaves[leaf][place_at(page)],
