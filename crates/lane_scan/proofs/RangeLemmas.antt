@@ -1,0 +1,142 @@
+-- Lemmas on ranges, over lists.
+use Rattle.std.proofs.Common.{◌≡◌, inl, inr, ℕ, zero, suc, ◌+◌, ◌-◌, ◌*◌, ◌/◌, ◌%◌, ◌^◌, ◌<◌, ◌≤◌, Bool, true, false, not, ◌&&◌, ◌||◌, leb, ltb, eqb, List, [], ◌∷◌, ◌++◌, length, get_or, map, take, take-add, drop, replicate, refl, sym, ap, subst, ◌∙◌, arith, Fits, w64, bit_and, bit_or}
+use Rattle.std.specs.Int.{bit_at}
+use Rattle.std.specs.List.{list_any, zip}
+use Rattle.std.proofs.lemmas.Bool.{cases_lt, lt-leb, leb-false}
+use Rattle.std.proofs.lemmas.Bool.Decides.{nat_tests}
+use Rattle.std.proofs.lemmas.List.{length-map, map-append, drop_more, get_or-map, length-take-le, get_or_append_left, get_or_past, take-map, drop-map, get_or-take, get_or-drop, get_or-append_right, ext_get_or, length-append, length-replicate}
+use Rattle.std.proofs.lemmas.Simd.{mask_l-lt, zip2_splat, Each1-weaker, map-map, get_or-zip2, get_or-chunk}
+use native.Mathlib.Nat.{pow-suc, lt_of_lt_of_le}
+use lib.Pow.{pow_mono}
+use lib.Bits.{or_shifted_r}
+use mir.Val.{bool_byte}
+use lib.Lanes.{zip2, Each1, mask_l, chunk, fold_l}
+use Rattle.lane_scan.specs.Bits.{bits_of}
+use Rattle.lane_scan.specs.Ranges.{is_inside, meets}
+use Rattle.lane_scan.proofs.BitLemmas.{bit_of_mask, length-bits_of, get_or-bits_of_at}
+use Rattle.lane_scan.proofs.LaneLemmas.{map_agree, offset_inside, tops_without, lane-le-fold_or}
+
+-- the values whose offset is below the width of the range are those inside
+pub offsets_below : (xs : List ℕ) (lo hi width n : ℕ) → Each1 (Fits w64) xs → lo < 2 ^ 64 → hi < 2 ^ 64 → length xs ≡ n → width ≡ hi - lo
+    → map (λ x. ltb x width) (zip2 (λ x y. (x + (2 ^ 64 - y)) % 2 ^ 64) xs (replicate n lo)) ≡ map (is_inside lo hi) xs
+offsets_below xs lo hi width n fits hlo hhi long wide =
+    let offset : ℕ → ℕ = λ x. (x + (2 ^ 64 - lo)) % 2 ^ 64 in
+    ap (map (λ x. ltb x width)) (zip2_splat (λ x y. (x + (2 ^ 64 - y)) % 2 ^ 64) xs n lo long)
+    ∙ map-map (λ x. ltb x width) offset xs
+    ∙ map_agree (λ x. ltb (offset x) width) (is_inside lo hi) xs
+    (Each1-weaker (Fits w64) (λ x. ltb (offset x) width ≡ is_inside lo hi x) (λ x f. ap (ltb (offset x)) wide ∙ offset_inside x lo hi f.fits hlo hhi) xs fits)
+
+-- the mask of two lists, one after the other
+pub mask_l-append : (ms ns : List Bool) → mask_l (ms ++ ns) ≡ mask_l ns * 2 ^ length ms + mask_l ms
+mask_l-append [] ns = omega arith
+mask_l-append (m ∷ ms) ns =
+    omega (arith, mask_l-append ms ns, ap (λ p. mask_l ns * p) (pow-suc 2 (length ms)))
+
+-- the mask of the values up to the end of one more block
+pub mask_more : (f : ℕ → Bool) (xs : List ℕ) (at n word block : ℕ) → at + n ≤ length xs → at + n ≤ 64
+    → word ≡ mask_l (map f (take at xs)) → block ≡ mask_l (map f (take n (drop at xs)))
+    → bit_or word (block * 2 ^ at % 2 ^ 64) ≡ mask_l (map f (take (at + n) xs))
+mask_more f xs at n word block room small before here =
+    let front = map f (take at xs) in
+    let back = map f (take n (drop at xs)) in
+    let long : length front ≡ at = length-map (take at xs) f ∙ length-take-le at xs (omega arith) in
+    let all : length (map f (take (at + n) xs)) ≡ at + n = length-map (take (at + n) xs) f ∙ length-take-le (at + n) xs room in
+    let whole : mask_l (map f (take (at + n) xs)) ≡ block * 2 ^ at + word =
+    ap (λ vs. mask_l (map f vs)) (take-add at n xs) ∙ ap mask_l (map-append f (take at xs) (take n (drop at xs))) ∙ mask_l-append front back
+    ∙ ap (λ k. mask_l back * 2 ^ k + mask_l front) long ∙ ap (λ b. b * 2 ^ at + mask_l front) (sym here) ∙ ap (λ w. block * 2 ^ at + w) (sym before) in
+    let below : mask_l (map f (take (at + n) xs)) < 2 ^ 64 =
+    lt_of_lt_of_le (mask_l-lt (map f (take (at + n) xs))) (pow_mono {i = length (map f (take (at + n) xs))} {j = 64} (omega arith)) in
+    let short : mask_l front < 2 ^ at = let P : ℕ → Type 0 = λ k. mask_l front < 2 ^ k in subst P long (mask_l-lt front) in
+    let fits : word < 2 ^ at = omega arith in
+    ap (bit_or word) (omega arith) ∙ or_shifted_r block at word fits ∙ sym whole
+
+-- where the disjunction of all lanes has no top bit, no lane has
+clear_tops : (zs : List ℕ) → leb (2 ^ 63) (fold_l bit_or 0 zs) ≡ false → (i : ℕ) → get_or (map (leb (2 ^ 63)) zs) i false ≡ false
+clear_tops zs none i =
+    elim (cases_lt i (length zs)) [
+      | inl h ↦ get_or-map (leb (2 ^ 63)) zs i 0 false h ∙ lt-leb (2 ^ 63) (get_or zs i 0) (omega (arith, leb-false (2 ^ 63) (fold_l bit_or 0 zs) none, lane-le-fold_or 0 zs i))
+      | inr h ↦ get_or_past (map (leb (2 ^ 63)) zs) i false (omega (arith, length-map zs (leb (2 ^ 63))))
+    ]
+
+-- what the two comparisons with bounds say of a pair
+meets_by_tests : (f e lo hi : ℕ) → (ltb f hi && not (ltb e (lo + 1))) ≡ false → meets lo hi (f, e) ≡ false
+meets_by_tests f e lo hi h = grind (arith, nat_tests)
+
+-- where no top bit is set, no pair of a block meets
+pub none_meets : (fs es : List ℕ) (lo hi : ℕ) (xs ys : List ℕ) → length fs ≡ length es → Each1 (λ lane. lane < 2 ^ 64) xs → Each1 (λ lane. lane < 2 ^ 64) ys
+    → map (leb (2 ^ 63)) xs ≡ map (λ x. ltb x hi) fs → map (leb (2 ^ 63)) ys ≡ map (λ y. ltb y (lo + 1)) es
+    → leb (2 ^ 63) (fold_l bit_or 0 (zip2 bit_and xs (map (λ y. 2 ^ 64 - 1 - y) ys))) ≡ false
+    → (i : ℕ) → i < length fs → meets lo hi (get_or fs i 0, get_or es i 0) ≡ false
+none_meets fs es lo hi xs ys paired hx hy begins ended none i lt =
+    let below_hi : ℕ → Bool = λ x. ltb x hi in
+    let to_lo : ℕ → Bool = λ y. ltb y (lo + 1) in
+    let zs = zip2 bit_and xs (map (λ y. 2 ^ 64 - 1 - y) ys) in
+    let same : length xs ≡ length ys =
+    sym (length-map xs (leb (2 ^ 63))) ∙ ap length begins ∙ length-map fs below_hi ∙ paired ∙ sym (length-map es to_lo) ∙ sym (ap length ended) ∙ length-map ys (leb (2 ^ 63)) in
+    let tops : map (leb (2 ^ 63)) zs ≡ zip2 (λ a b. a && not b) (map below_hi fs) (map to_lo es) =
+    tops_without xs ys same hx hy ∙ ap (λ ts. zip2 (λ a b. a && not b) ts (map (leb (2 ^ 63)) ys)) begins ∙ ap (zip2 (λ a b. a && not b) (map below_hi fs)) ended in
+    let clear : get_or (map (leb (2 ^ 63)) zs) i false ≡ false = clear_tops zs none i in
+    let here : get_or (zip2 (λ a b. a && not b) (map below_hi fs) (map to_lo es)) i false ≡ (below_hi (get_or fs i 0) && not (to_lo (get_or es i 0))) =
+    get_or-zip2 (λ a b. a && not b) (map below_hi fs) (map to_lo es) i false false false (omega (arith, length-map fs below_hi)) (omega (arith, length-map es to_lo))
+    ∙ ap (λ t. t && not (get_or (map to_lo es) i false)) (get_or-map below_hi fs i 0 false lt)
+    ∙ ap (λ t. below_hi (get_or fs i 0) && not t) (get_or-map to_lo es i 0 false (omega arith)) in
+    meets_by_tests (get_or fs i 0) (get_or es i 0) lo hi (sym here ∙ ap (λ ts. get_or ts i false) (sym tops) ∙ clear)
+
+-- the element of a list that a block has
+pub get_or-in_chunk : (at n : ℕ) (xs : List ℕ) (k : ℕ) → at ≤ k → k < at + n → get_or xs k 0 ≡ get_or (chunk at n xs) (k - at) 0
+get_or-in_chunk at n xs k above below = ap (λ i. get_or xs i 0) (omega arith) ∙ sym (get_or-chunk at n xs (k - at) 0 (omega arith))
+
+-- where the first pairs don't meet, the search may begin after them
+pub list_any-zip-drop : (p : ℕ × ℕ → Bool) (fs es : List ℕ) (at : ℕ) → ((k : ℕ) → k < at → p (get_or fs k 0, get_or es k 0) ≡ false) → at ≤ length fs → length fs ≡ length es
+    → list_any p (zip (drop at fs) (drop at es)) ≡ list_any p (zip fs es)
+list_any-zip-drop p fs es zero none le paired = refl
+list_any-zip-drop p [] es (suc at) none le paired = absurd (omega arith)
+list_any-zip-drop p (f ∷ fs) [] (suc at) none le paired = absurd (omega arith)
+list_any-zip-drop p (f ∷ fs) (e ∷ es) (suc at) none le paired =
+    list_any-zip-drop p fs es at (λ k lt. none (suc k) (omega arith)) (omega arith) (omega arith)
+    ∙ ap (λ t. t || list_any p (zip fs es)) (sym (none zero (omega arith)))
+
+-- a test as a number is its mask
+byte_of : (b : Bool) → bool_byte b ≡ mask_l (b ∷ [])
+byte_of true = refl
+byte_of false = refl
+
+-- the mask of one value
+pub mask_one : (f : ℕ → Bool) (xs : List ℕ) (at : ℕ) → at < length xs → bool_byte (f (get_or xs at 0)) ≡ mask_l (map f (take 1 (drop at xs)))
+mask_one f xs at lt = byte_of (f (get_or xs at 0)) ∙ ap (λ vs. mask_l (map f (take 1 vs))) (sym (drop_more xs at 0 lt))
+
+-- the answers for the values of one word
+pub map_word : (f : ℕ → Bool) (xs : List ℕ) (j k : ℕ) → k < 64 → get_or (map f (take 64 (drop (64 * j) xs))) k false ≡ get_or (map f xs) (64 * j + k) false
+map_word f xs j k lt =
+    ap (λ l. get_or l k false) (sym (take-map f 64 (drop (64 * j) xs)) ∙ ap (take 64) (sym (drop-map f (64 * j) xs)))
+    ∙ get_or-take 64 (drop (64 * j) (map f xs)) k false lt
+    ∙ get_or-drop (64 * j) (map f xs) k false
+
+-- no place of a list of falses is true
+of_falses : (n i : ℕ) → get_or (replicate n false) i false ≡ false
+of_falses zero i = refl
+of_falses (suc n) zero = refl
+of_falses (suc n) (suc i) = of_falses n i
+
+-- falses at the end change no place
+get_or-padded : (xs : List Bool) (n i : ℕ) → get_or (xs ++ replicate n false) i false ≡ get_or xs i false
+get_or-padded xs n i =
+    elim (cases_lt i (length xs)) [
+      | inl h ↦ get_or_append_left xs (replicate n false) false i h
+      | inr h ↦ get_or-append_right xs (replicate n false) (length xs) i false refl h ∙ of_falses n (i - length xs) ∙ sym (get_or_past xs i false h)
+    ]
+
+-- words that mask the values, 64 at a time, have the answers for bits and then no others
+pub bits_of_marked : (f : ℕ → Bool) (xs out : List ℕ) → length xs ≤ 64 * length out
+    → ((j : ℕ) → j < length out → get_or out j 0 ≡ mask_l (map f (take 64 (drop (64 * j) xs))))
+    → bits_of out ≡ map f xs ++ replicate (64 * length out - length xs) false
+bits_of_marked f xs out room marked =
+    let pad = replicate (64 * length out - length xs) false in
+    ext_get_or false (bits_of out) (map f xs ++ pad)
+    (omega (arith, length-bits_of out, length-append (map f xs) pad, length-map xs f, length-replicate (64 * length out - length xs) false))
+    (λ i lt. get_or-bits_of_at out i
+    ∙ ap (λ w. eqb (bit_at w (i % 64)) 1) (marked (i / 64) (omega (arith, length-bits_of out)))
+    ∙ bit_of_mask (map f (take 64 (drop (64 * (i / 64)) xs))) (i % 64)
+    ∙ map_word f xs (i / 64) (i % 64) (omega arith)
+    ∙ ap (λ n. get_or (map f xs) n false) (omega arith)
+    ∙ sym (get_or-padded (map f xs) (64 * length out - length xs) i))
