@@ -27,17 +27,17 @@ commit_reads wish span false = refl
 grant_reads : (wish : Wish) (span : Span) (b : Bool) → grant wish span b ≡ rest_of_get wish (grant_point wish span b)
 grant_reads wish span b =
     elim (nat_lt wish.pages span.pages) as (λ x. cond x (ask wish.arena (Split span wish.pages) (grant_cut_done wish b)) (commit wish span b)
-        ≡ rest_of_get wish (cond x (GrantAsked span b) (commit_point span b))) [ true ↦ refl | false ↦ commit_reads wish span b ]
+    ≡ rest_of_get wish (cond x (GrantAsked span b) (commit_point span b))) [ true ↦ refl | false ↦ commit_reads wish span b ]
 
 trim_reads : (wish : Wish) (span : Span) (b : Bool) → trim wish span b ≡ rest_of_get wish (trim_point wish span b)
 trim_reads wish span b =
     elim (nat_lt wish.pages span.pages) as (λ x. cond x (ask wish.arena (Split span wish.pages) (trim_cut_done wish b)) (commit wish span b)
-        ≡ rest_of_get wish (cond x (TrimAsked span b) (commit_point span b))) [ true ↦ refl | false ↦ commit_reads wish span b ]
+    ≡ rest_of_get wish (cond x (TrimAsked span b) (commit_point span b))) [ true ↦ refl | false ↦ commit_reads wish span b ]
 
 skip_reads : (wish : Wish) (span : Span) (b : Bool) (skip : ℕ) → skip_to wish span b skip ≡ rest_of_get wish (skip_point wish span b skip)
 skip_reads wish span b skip =
     elim (nat_lt 0 skip) as (λ x. cond x (ask wish.arena (Split span skip) (skip_cut_done wish b)) (trim wish span b)
-        ≡ rest_of_get wish (cond x (SkipAsked span b skip) (trim_point wish span b))) [ true ↦ refl | false ↦ trim_reads wish span b ]
+    ≡ rest_of_get wish (cond x (SkipAsked span b skip) (trim_point wish span b))) [ true ↦ refl | false ↦ trim_reads wish span b ]
 
 looked_reads : (wish : Wish) (reply : Reply) → IsFitting (looked wish reply []) → looked wish reply ≡ rest_after wish (looked_point wish reply)
 looked_reads wish (Took span b skip) h = skip_reads wish span b skip

@@ -1,5 +1,5 @@
 pub mod World
-
 pub mod Sane
 pub mod Carried
 pub mod Input
+pub mod Replays

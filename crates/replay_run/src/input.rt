@@ -82,6 +82,7 @@ pub fn find_line<S: Source>(source: &mut S, pending: &mut Vec<u8>) -> Result<Fou
 }
 
 /// A line that is carried out so far: a malloc of client 0, of a size whose class is large.
+#[derive(Drop)]
 pub struct Wanted {
     /// The name in the line.
     pub name: Name,

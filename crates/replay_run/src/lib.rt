@@ -6,4 +6,7 @@
 
 mod calls;
 mod input;
+mod lines;
 mod state;
+
+pub use lines::{Replayed, replay};

@@ -2,6 +2,7 @@
 
 ghost use Rattle.std.specs.Prelude.{◌≡◌, ◌<◌, ◌++◌, ◌∷◌, [], ℕ, IsTrue, IfOk, OnOk, OnErr};
 ghost use Rattle.space_model.specs.Step.{stands, space_after, reply_to};
+ghost use Rattle.space_model.specs.Opening.{first_space};
 ghost use Rattle.space_model.specs.Sound.{Sound};
 ghost use Rattle.hook_api.specs.Kept.{IsKept};
 ghost use Rattle.hook_api.specs.Shelf.{AskStep};
@@ -9,7 +10,7 @@ ghost use Rattle.hook_api.specs.ShelfOf.{shelf_of};
 
 use hook_api::{Asked, HookShelf, Kept};
 use space_model::{Ask, Entry, Op, Reply, Space, plain_step};
-use std::alloc::AllocError as NoMemory;
+use std::alloc::{AllocError as NoMemory, Global};
 
 /// What a replay keeps while it runs.
 #[derive(Drop)]
@@ -23,6 +24,19 @@ pub struct State {
 }
 
 impl State {
+    /// The opening state of a replay. Takes no memory.
+    pub fn new(alloc: Global) -> State
+        ensures space { result.space ≡ first_space }
+        ensures kept { result.kept.items ≡ [] }
+        ensures heard { result.heard.items ≡ [] }
+    {
+        State {
+            space: Space::first(alloc),
+            kept: Vec::new(alloc),
+            heard: Vec::new(alloc),
+        }
+    }
+
     /// One turn of a client. The entry joins the journal.
     pub fn turn(&mut self, client: u32, op: Op, asked: Option<Asked>) -> Result<Reply, NoMemory>
         requires stands { IsTrue (stands self.old.space (record { client = client; op = op })) }

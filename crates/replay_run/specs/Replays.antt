@@ -1,0 +1,38 @@
+-- A replay, as a play from the opening world of the lines that were carried out.
+use Rattle.std.specs.Prelude.{◌≡◌, ℕ, List, ◌∷◌, ◌++◌, Option, Result, Ok, Err, All}
+use Rattle.std.specs.Io.KnownBytes.{Appends}
+use Rattle.hook_api.specs.Asked.{AskFacts}
+use Rattle.hook_api.specs.Chain.{AskChain}
+use Rattle.hook_api.specs.Kept.{KeptFacts}
+use Rattle.hook_api.specs.Shelf.{Shelf}
+use Rattle.hook_api.specs.declared.kept.Journal.{Journal}
+use Rattle.trace_text.specs.declared.lines.Line.{Line}
+use Rattle.replay_run.specs.World.{World, Move, IsPlay, IsSound, IsCarried, IsComplete, AllWorlds, opening, closing, world_after, asks_in}
+
+-- every line was carried out
+abbrev pub HasEnded : {E : Type 0} → Result ℕ E → Type 0
+HasEnded (Ok status) = status ≡ 0
+HasEnded (Err error) = ⊥
+
+-- the report of a play that is complete: the answers of its calls, and the closing lines
+abbrev pub Reports : World → Option (List ℕ) → Option (List ℕ) → Type 0
+Reports w before after = IsComplete w × Appends before after (w.text ++ closing w)
+
+-- What was carried out is a play from the opening world of some lines on, each world of which is sound: the journal is that
+-- of its last world, the asks are those of its moves, and they are a chain of the shelf. Where the replay is whole, the
+-- play is complete, and the report of its last world is what was printed.
+pub record ReplayOf (whole : Type 0) (kept : List KeptFacts) (heard : List AskFacts) (shelf_before shelf_after : Shelf)
+    (before after : Option (List ℕ)) : Type 0 where
+  pub lines : List Line
+  pub carried : All IsCarried lines
+  pub moves : List Move
+  pub play : IsPlay (opening lines) moves
+  pub sound : AllWorlds IsSound (opening lines) moves
+  pub in_journal : (world_after (opening lines) moves).kept ≡ kept
+  pub hears : asks_in moves ≡ heard
+  pub chain : AskChain shelf_before heard shelf_after
+  pub report : whole → Reports (world_after (opening lines) moves) before after
+
+-- the first of the journals is that of arena 0, with these entries
+abbrev pub JournalsOf : List KeptFacts → List Journal → Type 0
+JournalsOf kept journals = (rest : List Journal) × (journals ≡ (record { index = 0; kept = kept }) ∷ rest)

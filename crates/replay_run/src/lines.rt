@@ -1,0 +1,242 @@
+//! The replay of a trace: its lines are carried out, and what they answer is printed.
+
+ghost use Rattle.std.specs.Prelude.{◌≡◌, ◌≢◌, ◌≤◌, ◌⊎◌, List, [], ◌∷◌, IfOk, OnOk, map};
+ghost use Rattle.std.specs.List.{range_with_len};
+ghost use Rattle.std.specs.Io.KnownBytes.{Appends};
+ghost use Rattle.space_model.specs.Counts.{counts_of};
+ghost use Rattle.space_model.specs.Opening.{first_space};
+ghost use Rattle.space_model.specs.Sound.{Sound};
+ghost use Rattle.hook_api.specs.Kept.{KeptFacts};
+ghost use Rattle.hook_api.specs.ShelfOf.{shelf_of};
+ghost use Rattle.hook_api.specs.declared.kept.Journal.{Journal};
+ghost use Rattle.report_text.specs.Lines.{counts_line};
+ghost use Rattle.replay_run.specs.Replays.{ReplayOf, HasEnded, JournalsOf};
+
+use crate::calls::carry_call;
+use crate::input::{Found, READ_BYTES, Stop, Wanted, find_line, read_wanted};
+use crate::state::State;
+use edge_io::{Failed, Sink, Source, write_all};
+use hook_api::{Askeds, HookShelf, Journal, Journals, Kept, Kepts};
+use report_text::{bad_line, counts_line, malloc_line};
+use space_model::{Space, plain_counts};
+use std::alloc::{AllocError as NoMemory, Global};
+
+/// Every line was carried out.
+const DONE: u8 = 0;
+
+/// A line can't be carried out.
+const BAD_LINE: u8 = 3;
+
+/// A read failed.
+const SOURCE_FAILED: u8 = 4;
+
+/// A write failed.
+const SINK_FAILED: u8 = 5;
+
+/// Memory was wanting.
+const NO_MEMORY: u8 = 6;
+
+/// The client whose mallocs are carried out so far.
+const CLIENT: u32 = 0;
+
+/// The arena whose counts are printed.
+const ARENA: u32 = 0;
+
+/// How many arenas have a journal.
+const ARENAS: u32 = 32;
+
+/// What stands in the report where a line can't be carried out yet.
+const UNBUILT: &str = "unbuilt";
+
+/// What a replay leaves.
+#[derive(Drop)]
+pub struct Replayed {
+    /// The status: 0, or 3 where a line can't be carried out, 4 where a read failed, 5 where a write failed, and 6 where
+    /// memory was wanting.
+    pub status: u8,
+    /// The shelf that was handed in, after the asks of the run.
+    pub shelf: HookShelf,
+    /// The journals of the 32 arenas, or none where memory for them was wanting.
+    pub journals: Journals,
+    /// Every ask of the run, in order.
+    pub heard: Askeds,
+}
+
+/// Writes all of a text.
+fn print<K: Sink>(sink: &mut K, text: &[u8]) -> Result<(), Stop>
+    ensures { OnOk result (Appends (K.held sink.old) (K.held sink.new) text.now) }
+{
+    match write_all(sink, text) {
+        Ok(()) => Ok(()),
+        Err(Failed) => Err(Stop::WriteFault),
+    }
+}
+
+/// Prints that a line can't be carried out.
+fn refuse_line<K: Sink>(alloc: Global, sink: &mut K, number: u64) -> Result<u8, Stop>
+    ensures { IfOk result (λ status. status ≡ 3) }
+{
+    print(sink, &bad_line(alloc, number, UNBUILT)?)?;
+    Ok(BAD_LINE)
+}
+
+/// Prints the closing lines: the counts of arena 0.
+fn close<K: Sink>(alloc: Global, sink: &mut K, space: &Space) -> Result<u8, Stop>
+    requires { Sound space.now }
+    ensures counts { IfOk result (λ status. Appends (K.held sink.old) (K.held sink.new) (counts_line 0 (counts_of space.now))) }
+    ensures status { IfOk result (λ status. status ≡ 0) }
+{
+    print(sink, &counts_line(alloc, ARENA, &plain_counts(space))?)?;
+    Ok(DONE)
+}
+
+/// Whether bytes are left, of those that were read or of the source.
+fn has_more<S: Source>(source: &mut S, pending: &[u8]) -> Result<bool, Stop> {
+    let mut buf = [0u8; READ_BYTES];
+    if !pending.is_empty() {
+        return Ok(true);
+    }
+    match source.read(&mut buf) {
+        Ok(count) => Ok(count > 0),
+        Err(_) => Err(Stop::ReadFault),
+    }
+}
+
+/// What stands behind the first line: nothing, and the closing lines are printed, or a line that can't be carried out yet.
+fn go_behind<S: Source, K: Sink>(
+    alloc: Global,
+    source: &mut S,
+    sink: &mut K,
+    pending: &[u8],
+    space: &Space,
+) -> Result<u8, Stop>
+    requires { Sound space.now }
+    ensures counts { IfOk result (λ status. status ≡ 0 → Appends (K.held sink.old) (K.held sink.new) (counts_line 0 (counts_of space.now))) }
+    ensures status { IfOk result (λ status. (status ≡ 0) ⊎ (status ≡ 3)) }
+{
+    if has_more(source, pending)? {
+        return refuse_line(alloc, sink, 2);
+    }
+    close(alloc, sink, space)
+}
+
+/// Carries out the malloc of the first line, prints its answer, and looks behind the line.
+fn carry_line<S: Source, K: Sink>(
+    alloc: Global,
+    source: &mut S,
+    sink: &mut K,
+    shelf: &mut HookShelf,
+    state: &mut State,
+    wanted: &Wanted,
+    behind: &[u8],
+) -> Result<u8, Stop>
+    requires space { state.old.space ≡ first_space }
+    requires kept { state.old.kept.items ≡ [] }
+    requires heard { state.old.heard.items ≡ [] }
+    ensures replay {
+        ReplayOf (HasEnded result) state.new.kept.items state.new.heard.items (shelf_of ExtentHooks-dyn shelf.old)
+            (shelf_of ExtentHooks-dyn shelf.new) (K.held sink.old) (K.held sink.new)
+    }
+    ensures status { IfOk result (λ status. (status ≡ 0) ⊎ (status ≡ 3)) }
+{
+    let answered = carry_call(state, shelf, CLIENT, wanted.size)?;
+    let line = malloc_line(alloc, CLIENT, wanted.name.as_bytes(), &answered)?;
+    print(sink, &line)?;
+    go_behind(alloc, source, sink, behind, &state.space)
+}
+
+/// Carries out the lines of the source, and gives the status: 0, or 3 where a line can't be carried out.
+fn run_lines<S: Source, K: Sink>(
+    alloc: Global,
+    source: &mut S,
+    sink: &mut K,
+    shelf: &mut HookShelf,
+    state: &mut State,
+) -> Result<u8, Stop>
+    requires space { state.old.space ≡ first_space }
+    requires kept { state.old.kept.items ≡ [] }
+    requires heard { state.old.heard.items ≡ [] }
+    ensures replay {
+        ReplayOf (HasEnded result) state.new.kept.items state.new.heard.items (shelf_of ExtentHooks-dyn shelf.old)
+            (shelf_of ExtentHooks-dyn shelf.new) (K.held sink.old) (K.held sink.new)
+    }
+    ensures status { IfOk result (λ status. (status ≡ 0) ⊎ (status ≡ 3)) }
+{
+    let mut pending = Vec::new(alloc);
+    let Found::Line(end) = find_line(source, &mut pending)? else {
+        if pending.is_empty() {
+            return close(alloc, sink, &state.space);
+        }
+        return refuse_line(alloc, sink, 1);
+    };
+    let Some(wanted) = read_wanted(alloc, &pending[..end])? else {
+        return refuse_line(alloc, sink, 1);
+    };
+    carry_line(alloc, source, sink, shelf, state, &wanted, &pending[end + 1..])
+}
+
+/// The journals of the arenas, of which only arena 0 has entries so far.
+fn journals_of(alloc: Global, kept: Vec<Kept>) -> Result<Journals, NoMemory>
+    ensures { IfOk result (λ journals. JournalsOf kept.items journals) }
+{
+    let mut journals = Vec::new(alloc);
+    journals.push(Journal {
+        index: ARENA,
+        kept: Kepts::from_vec(kept),
+    })?;
+    let mut index = 1;
+    while index < ARENAS {
+        journals.push(Journal {
+            index,
+            kept: Kepts::new(alloc),
+        })?;
+        index += 1;
+    }
+    Ok(Journals::from_vec(journals))
+}
+
+/// The status that a replay gives where it stopped.
+fn status_of(stop: Stop) -> u8
+    ensures status { (result ≡ 4) ⊎ (result ≡ 5) ⊎ (result ≡ 6) }
+{
+    match stop {
+        Stop::ReadFault => SOURCE_FAILED,
+        Stop::WriteFault => SINK_FAILED,
+        Stop::NoMemory => NO_MEMORY,
+    }
+}
+
+/// Carries out the lines of a source, asks the hooks of the shelf, and prints what the calls answer and the closing counts.
+///
+/// So far the first line may be a malloc of a large class by client 0; any other line is answered by `line N: unbuilt`, and
+/// ends the replay with status 3. After a read that failed the status is 4, after a write that failed 5, and 6 where memory
+/// was wanting; the journals and the asks stay.
+pub fn replay<S: Source, K: Sink>(
+    alloc: Global,
+    source: &mut S,
+    sink: &mut K,
+    shelf: HookShelf,
+) -> Replayed
+    ensures replay {
+        (kept : List KeptFacts) × ReplayOf (result.status ≡ 0) kept result.heard (shelf_of ExtentHooks-dyn shelf)
+            (shelf_of ExtentHooks-dyn result.shelf) (K.held sink.old) (K.held sink.new)
+            × (result.status ≢ 6 → JournalsOf kept result.journals)
+    }
+    ensures status { result.status ≢ 2 }
+{
+    let mut shelf = shelf;
+    let mut state = State::new(alloc);
+    let ended = run_lines(alloc, source, sink, &mut shelf, &mut state);
+    let State { space: _, kept, heard } = state;
+    let (journals, status) = match (journals_of(alloc, kept), ended) {
+        (Err(NoMemory), _) => (Journals::none(alloc), NO_MEMORY),
+        (Ok(journals), Ok(status)) => (journals, status),
+        (Ok(journals), Err(stop)) => (journals, status_of(stop)),
+    };
+    Replayed {
+        status,
+        shelf,
+        journals,
+        heard: Askeds::from_vec(heard),
+    }
+}
