@@ -3,3 +3,4 @@ pub mod Wants
 pub mod Plays
 pub mod Ways
 pub mod Runs
+pub mod Replays

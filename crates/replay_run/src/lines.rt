@@ -1,6 +1,6 @@
 //! The replay of a trace: its lines are carried out, and what they answer is printed.
 
-ghost use Rattle.std.specs.Prelude.{◌≡◌, ◌≢◌, ◌≤◌, ◌⊎◌, List, [], ◌∷◌, IfOk, OnOk, map};
+ghost use Rattle.std.specs.Prelude.{⊤, ◌≡◌, ◌≢◌, ◌≤◌, ◌⊎◌, List, [], ◌∷◌, IfOk, OnOk, map};
 ghost use Rattle.std.specs.List.{range_with_len};
 ghost use Rattle.std.specs.Io.KnownBytes.{Appends};
 ghost use Rattle.space_model.specs.Counts.{counts_of};
@@ -206,6 +206,35 @@ fn status_of(stop: Stop) -> u8
     }
 }
 
+/// The status and the journals that a replay leaves.
+#[derive(Drop)]
+struct Ending {
+    status: u8,
+    journals: Journals,
+}
+
+/// The status and the journals after the lines: without memory for the journals, none and status 6.
+fn ending(alloc: Global, kept: Vec<Kept>, ended: Result<u8, Stop>) -> Ending
+    requires { IfOk ended (λ status. (status ≡ 0) ⊎ (status ≡ 3)) }
+    ensures whole { result.status ≡ 0 → HasEnded ended }
+    ensures journals { result.status ≢ 6 → JournalsOf kept.items result.journals }
+    ensures status { result.status ≢ 2 }
+{
+    let Ok(journals) = journals_of(alloc, kept) else {
+        return Ending {
+            status: NO_MEMORY,
+            journals: Journals::none(alloc),
+        };
+    };
+    match ended {
+        Ok(status) => Ending { status, journals },
+        Err(stop) => Ending {
+            status: status_of(stop),
+            journals,
+        },
+    }
+}
+
 /// Carries out the lines of a source, asks the hooks of the shelf, and prints what the calls answer and the closing counts.
 ///
 /// So far the first line may be a malloc of a large class by client 0; any other line is answered by `line N: unbuilt`, and
@@ -217,6 +246,9 @@ pub fn replay<S: Source, K: Sink>(
     sink: &mut K,
     shelf: HookShelf,
 ) -> Replayed
+    // This clause asks nothing. By it callers in other crates know that no hooks are made in here: those that come back
+    // are those that were handed in.
+    requires { ⊤ }
     ensures replay {
         (kept : List KeptFacts) × ReplayOf (result.status ≡ 0) kept result.heard (shelf_of ExtentHooks-dyn shelf)
             (shelf_of ExtentHooks-dyn result.shelf) (K.held sink.old) (K.held sink.new)
@@ -228,11 +260,7 @@ pub fn replay<S: Source, K: Sink>(
     let mut state = State::new(alloc);
     let ended = run_lines(alloc, source, sink, &mut shelf, &mut state);
     let State { space: _, kept, heard } = state;
-    let (journals, status) = match (journals_of(alloc, kept), ended) {
-        (Err(NoMemory), _) => (Journals::none(alloc), NO_MEMORY),
-        (Ok(journals), Ok(status)) => (journals, status),
-        (Ok(journals), Err(stop)) => (journals, status_of(stop)),
-    };
+    let Ending { status, journals } = ending(alloc, kept, ended);
     Replayed {
         status,
         shelf,

@@ -1,0 +1,38 @@
+use Rattle.std.proofs.Common.{arith, ◌≡◌, ℕ, List, [], ◌++◌, subst, sym, ◌∙◌, ap, refl}
+use Rattle.std.specs.Io.KnownBytes.{Appends}
+use Rattle.space_model.specs.declared.Space.{Space}
+use Rattle.space_model.specs.Counts.{counts_of}
+use Rattle.report_text.specs.Lines.{counts_line}
+use Rattle.replay_run.specs.Replays.{HasEnded}
+use Rattle.replay_run.proofs.Replays.{replay_of_none, not_ended, at_end, at_zero, not_refused, one_of_two, other_of_two}
+use Rattle.replay_run.proofs.lines.run_lines.Goals as goal
+
+pub returns-in_err-end-clause-replay : goal.returns-in_err-end-clause-replay
+returns-in_err-end-clause-replay g c =
+    replay_of_none (HasEnded c.from_residual.result) c.args.state.now.kept.items c.args.state.now.heard.items _ _ _ c.requires.kept c.requires.heard
+        (λ done. absurd (not_ended c.from_residual.result c.from_residual.ensures.0 done))
+
+pub returns-then-is_empty : goal.returns-then-is_empty
+returns-then-is_empty g c = record {
+  replay = replay_of_none (HasEnded c.close.result) c.args.state.now.kept.items c.args.state.now.heard.items _ _ _ c.requires.kept c.requires.heard
+      (λ done. subst (λ (s : Space). Appends (g.K.Sink.held c.args.sink.now) (g.K.Sink.held c.close.new.sink) (counts_line 0 (counts_of s))) c.requires.space
+          (at_end _ c.close.result done (at_zero _ c.close.result c.close.ensures.counts)));
+  status = one_of_two c.close.result c.close.ensures.status;
+}
+
+pub returns-in_default : goal.returns-in_default
+returns-in_default g c = record {
+  replay = replay_of_none (HasEnded c.refuse_line.result) c.args.state.now.kept.items c.args.state.now.heard.items _ _ _ c.requires.kept c.requires.heard
+      (λ done. absurd (not_refused c.refuse_line.result done c.refuse_line.ensures));
+  status = other_of_two c.refuse_line.result c.refuse_line.ensures;
+}
+
+pub returns-in_err-wanted-clause-replay : goal.returns-in_err-wanted-clause-replay
+returns-in_err-wanted-clause-replay g c =
+    replay_of_none (HasEnded c.from_residual-in_err-wanted.result) c.args.state.now.kept.items c.args.state.now.heard.items _ _ _ c.requires.kept c.requires.heard
+        (λ done. absurd (not_ended c.from_residual-in_err-wanted.result c.from_residual-in_err-wanted.ensures.0 done))
+
+pub returns-in_default-2-clause-replay : goal.returns-in_default-2-clause-replay
+returns-in_default-2-clause-replay g c =
+    replay_of_none (HasEnded c.refuse_line-in_default-2.result) c.args.state.now.kept.items c.args.state.now.heard.items _ _ _ c.requires.kept c.requires.heard
+        (λ done. absurd (not_refused c.refuse_line-in_default-2.result done c.refuse_line-in_default-2.ensures))
