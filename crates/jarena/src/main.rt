@@ -4,10 +4,9 @@
 
 mod runs;
 mod status;
-mod words;
-
 #[cfg(test)]
 mod tests;
+mod words;
 
 use edge_io::{ReadEdge, WriteEdge};
 use hook_api::{Boxes, HookShelf, RisingHooks};
