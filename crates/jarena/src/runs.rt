@@ -1,0 +1,64 @@
+//! The top call: all that the program does, over a source, a sink and a shelf of hooks.
+
+ghost use Rattle.std.specs.Prelude.{◌≡◌, [], map, string_bytes};
+ghost use Rattle.hook_api.specs.ShelfOf.{shelf_of};
+ghost use Rattle.jarena.specs.Words.{TellsUsage, IsInNoList};
+
+use crate::words::{is_replay, tell_usage};
+use edge_io::{Sink, Source};
+use hook_api::{Askeds, HookShelf, Journals};
+use replay_run::{Replayed, replay};
+use std::alloc::Global;
+
+/// What a run of the program leaves.
+#[derive(Drop)]
+pub struct Outcome {
+    /// The status that the program exits with.
+    pub status: u8,
+    /// The shelf that was handed in, after the asks of the run.
+    pub shelf: HookShelf,
+    /// The journals of the arenas, also after an early end.
+    pub journals: Journals,
+    /// Every ask of the run, in order.
+    pub heard: Askeds,
+}
+
+/// Does all that the program does, given its words without its own name.
+///
+/// Where the words are exactly `replay`, it carries out the lines of the source and prints what they answer. Where they
+/// are in no list, it writes the usage line and gives status 2, or 5 where the sink failed, and does nothing else.
+pub fn run<S: Source, K: Sink>(
+    alloc: Global,
+    words: &[String],
+    source: &mut S,
+    sink: &mut K,
+    shelf: HookShelf,
+) -> Outcome
+    ensures usage { IsInNoList (map string_bytes words.now) → TellsUsage result.status (record { held = K.held sink.old; faults = K.faults sink.old }) (record { held = K.held sink.new; faults = K.faults sink.new }) }
+    ensures status_2 { result.status ≡ 2 → IsInNoList (map string_bytes words.now) }
+    ensures unread { IsInNoList (map string_bytes words.now) → source.new ≡ source.old }
+    ensures unasked { IsInNoList (map string_bytes words.now) → result.heard ≡ [] }
+    ensures no_journals { IsInNoList (map string_bytes words.now) → result.journals ≡ [] }
+    ensures same_shelf { IsInNoList (map string_bytes words.now) → shelf_of ExtentHooks-dyn result.shelf ≡ shelf_of ExtentHooks-dyn shelf }
+{
+    if !is_replay(words) {
+        return Outcome {
+            status: tell_usage(sink),
+            shelf,
+            journals: Journals::none(alloc),
+            heard: Askeds::new(alloc),
+        };
+    }
+    let Replayed {
+        status,
+        shelf,
+        journals,
+        heard,
+    } = replay(alloc, source, sink, shelf);
+    Outcome {
+        status,
+        shelf,
+        journals,
+        heard,
+    }
+}
