@@ -1,5 +1,5 @@
 -- What is left to read at the point after an item is what the item leaves to read.
-use Rattle.std.proofs.Common.{◌≡◌, ℕ, Bool, true, false, cond, List, [], ◌∷◌, refl, sym, ◌∙◌, ap, subst, ltb as nat_lt}
+use Rattle.std.proofs.Common.{◌≡◌, ℕ, Bool, true, false, cond, List, [], ◌∷◌, refl, ◌∙◌, ap, ltb as nat_lt}
 use Rattle.std.specs.declared.ops.ControlFlow.{ControlFlow}
 use Rattle.call_plan.specs.declared.needs.Answered.{Answered}
 use Rattle.std.specs.declared.ops.ControlFlow.TheVariants.{Continue, Break}
@@ -14,10 +14,10 @@ use Rattle.call_plan.specs.declared.stages.Stage.TheVariants.{Get, Ended}
 use Rattle.call_plan.specs.declared.wishes.Getting.{Getting}
 use Rattle.call_plan.specs.declared.wishes.Getting.TheVariants.{Looking, SkipAsked, SkipCut, TrimAsked, TrimCut, GrowAsked, Growing, GrantAsked, GrantCut, CommitAsked, Committing, Landing}
 use Rattle.call_plan.specs.declared.wishes.Wish.{Wish}
-use Rattle.call_plan.specs.Reading.{Item, Replied, Told, Want, WantTurn, WantAsk, Outcome, Ends, Waits, Astray, ask}
-use Rattle.call_plan.specs.Malloc.{commit, grant, trim, skip_to, grow, looked, skip_cut, trim_cut, grown, grant_cut, committed, landed, skip_cut_done, trim_cut_done, grant_cut_done}
+use Rattle.call_plan.specs.Reading.{Item, Replied, Told, Want, Waits, ask}
+use Rattle.call_plan.specs.Malloc.{commit, grant, trim, skip_to, looked, skip_cut, trim_cut, grown, grant_cut, committed, landed, skip_cut_done, trim_cut_done, grant_cut_done}
 use Rattle.call_plan.specs.Rest.{rest_of, rest_of_get, rest_after, IsFitting}
-use Rattle.call_plan.specs.Stages.{commit_point, grant_point, trim_point, skip_point, looked_point, skip_cut_point, trim_cut_point, grown_point, grant_cut_point, commit_done_point, landed_point, after_reply_point, after_answer_point}
+use Rattle.call_plan.specs.Stages.{commit_point, grant_point, trim_point, skip_point, looked_point, skip_cut_point, trim_cut_point, grown_point, grant_cut_point, commit_done_point, landed_point, after_reply_point}
 use Rattle.call_plan.specs.Calls.{stage_of, stage_after}
 
 commit_reads : (wish : Wish) (span : Span) (b : Bool) → commit wish span b ≡ rest_of_get wish (commit_point span b)

@@ -1,20 +1,13 @@
 -- Each point of a malloc leads to one that is nearer to the end.
-use Rattle.std.proofs.Common.{◌≡◌, ℕ, ◌<◌, ◌≤◌, Bool, true, false, cond, Option, List, [], arith, ltb as nat_lt, refl, lit<}
-use Rattle.std.specs.declared.ops.ControlFlow.{ControlFlow}
-use Rattle.std.specs.declared.ops.ControlFlow.TheVariants.{Continue, Break}
-use Rattle.space_model.specs.declared.Op.{Op}
+use Rattle.std.proofs.Common.{ℕ, ◌<◌, ◌≤◌, Bool, true, false, cond, arith, ltb as nat_lt}
 use Rattle.space_model.specs.declared.Reply.{Reply}
-use Rattle.space_model.specs.declared.Reply.TheVariants.{NoArena, Noted, Took, Grow, Cut, Whole, Refused, Bad, Grown, Landed}
+use Rattle.space_model.specs.declared.Reply.TheVariants.{NoArena, Noted, Took, Cut, Bad, Grown, Landed}
 use Rattle.space_model.specs.declared.Span.{Span}
 use Rattle.hook_api.specs.Asked.{AskFacts}
-use Rattle.call_plan.specs.declared.needs.Answered.{Answered}
-use Rattle.call_plan.specs.declared.stages.Stage.TheVariants.{Get, Ended}
-use Rattle.call_plan.specs.declared.wishes.Getting.{Getting}
+use Rattle.call_plan.specs.declared.stages.Stage.TheVariants.{Get}
 use Rattle.call_plan.specs.declared.wishes.Getting.TheVariants.{Looking, SkipAsked, SkipCut, TrimAsked, TrimCut, GrowAsked, Growing, GrantAsked, GrantCut, CommitAsked, Committing, Landing}
 use Rattle.call_plan.specs.declared.wishes.Wish.{Wish}
-use Rattle.call_plan.specs.Reading.{WantTurn, WantAsk, Waits}
-use Rattle.call_plan.specs.Stages.{commit_point, grant_point, trim_point, skip_point, looked_point, skip_cut_point, trim_cut_point, grown_point, grant_cut_point, commit_done_point, landed_point, after_reply_point}
-use Rattle.call_plan.specs.Rest.{rest_of, rest_of_get}
+use Rattle.call_plan.specs.Stages.{commit_point, grant_point, trim_point, skip_point, looked_point, skip_cut_point, trim_cut_point, grown_point, grant_cut_point, commit_done_point, landed_point}
 use Rattle.call_plan.specs.Calls.{stage_of}
 use Rattle.call_plan.specs.Left.{points_left, steps_left, TurnsShorten, AsksShorten}
 

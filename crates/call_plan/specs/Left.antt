@@ -1,5 +1,5 @@
 -- How many more turns and asks a call can need.
-use Rattle.std.specs.Prelude.{◌≡◌, ℕ, ◌<◌, List, [], Option}
+use Rattle.std.specs.Prelude.{◌≡◌, ℕ, ◌<◌, [], Option}
 use Rattle.space_model.specs.declared.Ask.{Ask}
 use Rattle.space_model.specs.declared.Op.{Op}
 use Rattle.space_model.specs.declared.Reply.{Reply}

@@ -13,7 +13,7 @@ use Rattle.space_model.specs.declared.Span.{Span}
 use Rattle.space_model.specs.declared.Why.{Why}
 use Rattle.space_model.specs.Fit.{fit}
 use Rattle.space_model.specs.Part.{is_flight_at}
-use Rattle.space_model.specs.Step.{step_of, is_live, stays, look_at, after_look, cut_at, whole_at, after_cut, grow_unless, why_not, after_grow, commit_at, after_commit, land_at}
+use Rattle.space_model.specs.Step.{step_of, is_live, stays, look_at, cut_at, whole_at, after_cut, grow_unless, why_not, after_grow, commit_at, after_commit, land_at}
 
 -- Two spaces with the same life, clients and box.
 pub record SameFrame (s t : Space) : Type 0 where
@@ -68,7 +68,7 @@ commit_done_frame s c ask answer = same s
 pub step_frame : (s : Space) (c : ℕ) (op : Op) → SameFrame s (step_of s c op).after
 step_frame s c (Look pages align) =
     elim (is_live s.life) as (λ b. SameFrame s (cond b (look_at s c align (fit pages align s.parts)) (stays s NoArena)).after)
-        [ true ↦ look_frame s c align (fit pages align s.parts) | false ↦ same s ]
+    [ true ↦ look_frame s c align (fit pages align s.parts) | false ↦ same s ]
 step_frame s c (CutDone heard keep_low) = cut_done_frame s c keep_low heard.ask heard.answer
 step_frame s c (GrowDone heard found) = grow_done_frame s c found heard.ask heard.answer
 step_frame s c (CommitDone heard) = commit_done_frame s c heard.ask heard.answer

@@ -1,18 +1,18 @@
 -- Each world of a play is sound.
-use Rattle.std.proofs.Common.{◌≡◌, ℕ, ◌+◌, ◌<◌, ◌≤◌, ◌^◌, Bool, true, false, cond, IsTrue, List, [], ◌∷◌, ◌++◌, Option, Some, None, IfSome, refl, sym, ◌∙◌, ap, subst, arith, All, map, fold, ◌&&◌, ◌||◌, ◌==◌, eqb, ltb as nat_lt, leb as nat_le, lt-ltb, append-nil, append_assoc}
+use Rattle.std.proofs.Common.{◌≡◌, ℕ, ◌<◌, ◌≤◌, ◌^◌, true, false, cond, List, [], ◌∷◌, ◌++◌, Option, Some, None, IfSome, refl, sym, ◌∙◌, ap, subst, arith, All, map, ◌&&◌, ◌||◌, ◌==◌, ltb as nat_lt, lt-ltb, append-nil, append_assoc}
 use Rattle.std.specs.List.{list_any, range_with_len}
 use Rattle.std.proofs.lemmas.List.Sums.{fold_push}
 use Rattle.std.proofs.lemmas.List.Elements.{All-nil, All-head, All-tail}
 use Rattle.std.proofs.lemmas.Bool.Decides.{nat_tests}
 use Rattle.size_classes.specs.Classes.{class_for, pages_at}
-use Rattle.size_classes.proofs.Least.{large_class, class_for_exists}
+use Rattle.size_classes.proofs.Least.{class_for_exists}
 use Rattle.space_model.specs.declared.Entry.{Entry}
 use Rattle.space_model.specs.declared.Op.{Op}
 use Rattle.space_model.specs.declared.Reply.{Reply}
 use Rattle.space_model.specs.declared.Space.{Space}
 use Rattle.space_model.specs.Opening.{first_space}
 use Rattle.space_model.specs.Journal.{replay, all_stand, turns_of, Good}
-use Rattle.space_model.specs.Step.{space_after, reply_to, stands, step_of, op_stands, is_live, is_customer}
+use Rattle.space_model.specs.Step.{space_after, reply_to, stands, step_of, op_stands, is_live}
 use Rattle.space_model.specs.Region.{is_held_by}
 use Rattle.space_model.proofs.Steps.{Good-step}
 use Rattle.hook_api.specs.Asked.{AskFacts}
@@ -20,18 +20,17 @@ use Rattle.hook_api.specs.Hooks.{Answers}
 use Rattle.hook_api.specs.Kept.{KeptFacts}
 use Rattle.call_plan.specs.declared.needs.Answered.{Answered}
 use Rattle.call_plan.specs.declared.needs.Answered.TheVariants.{TooLarge}
-use Rattle.call_plan.specs.declared.needs.Request.TheVariants.{Malloc}
 use Rattle.call_plan.specs.declared.needs.Fed.TheVariants.{Replied as FedReply, Answer}
 use Rattle.call_plan.specs.declared.stages.Stage.{Stage}
 use Rattle.call_plan.specs.declared.stages.Stage.TheVariants.{Get, Ended}
 use Rattle.call_plan.specs.declared.wishes.Getting.TheVariants.{Looking}
 use Rattle.call_plan.specs.declared.wishes.Wish.{Wish}
-use Rattle.call_plan.specs.Reading.{Item, Replied, Told, Want, WantTurn, WantAsk, Outcome, Ends, Waits, Astray, ends}
-use Rattle.call_plan.specs.Malloc.{malloc, look, wish_for}
+use Rattle.call_plan.specs.Reading.{Item, Replied, Told, WantTurn, WantAsk, Outcome, Ends, Waits, Astray, ends}
+use Rattle.call_plan.specs.Malloc.{look, wish_for}
 use Rattle.hook_api.specs.Kept.{IsKept}
 use Rattle.call_plan.specs.Rest.{rest_of, IsFitting}
 use Rattle.call_plan.specs.Calls.{reading, IsPlanned, IsWish, stage_after, stage_of}
-use Rattle.call_plan.specs.Knows.{Knows, Ground}
+use Rattle.call_plan.specs.Knows.{Ground}
 use Rattle.call_plan.specs.Laws.{GoesOn}
 use Rattle.replay_run.proofs.Wants.{needed_turn}
 use Rattle.call_plan.proofs.Starts.{malloc-wishes}
@@ -45,9 +44,9 @@ use Rattle.space_model.specs.declared.Ask.{Ask}
 use Rattle.trace_text.specs.declared.lines.Line.{Line}
 use Rattle.trace_text.specs.declared.lines.Line.TheVariants.{Call}
 use Rattle.trace_text.specs.declared.lines.Verb.TheVariants.{Malloc as MallocVerb, Free}
-use Rattle.replay_run.specs.World.{Open, World, outcome_of, on_end, idle, printed, opened, begun, fed, Move, Turned, Heard_, turned, moved, after_in, after_move, Fits, NextIn, IsNext, IsPlay, world_after, asks_in, empty_world, opening, AllWorlds, entries_of, IsSound, IsCarried}
+use Rattle.replay_run.specs.World.{Open, World, outcome_of, on_end, printed, opened, begun, fed, Move, Turned, Heard_, turned, moved, after_in, after_move, Fits, NextIn, IsNext, IsPlay, world_after, empty_world, opening, AllWorlds, entries_of, IsSound, IsCarried}
 use Rattle.replay_run.specs.Sane.{Kept, Going, Sane}
-use Rattle.replay_run.proofs.Frames.{SameFrame, step_frame}
+use Rattle.replay_run.proofs.Frames.{step_frame}
 
 -- ---- journals that grow by an entry
 
@@ -59,7 +58,7 @@ all_stand-push : (s : Space) (es : List Entry) (e : Entry) → all_stand s es �
 all_stand-push s [] e all here = ap (λ b. b && true) here
 all_stand-push s (x ∷ es) e all here =
     elim (stands s x) as (λ b. (b && all_stand (space_after s x) es) ≡ true → (b && all_stand (space_after s x) (es ++ e ∷ [])) ≡ true)
-        [ true ↦ λ h. all_stand-push (space_after s x) es e h here | false ↦ λ h. absurd (cc) ] all
+    [ true ↦ λ h. all_stand-push (space_after s x) es e h here | false ↦ λ h. absurd (cc) ] all
 
 map-push : {X Y : Type 0} (f : X → Y) (xs : List X) (x : X) → map f (xs ++ x ∷ []) ≡ map f xs ++ f x ∷ []
 map-push f [] x = refl
@@ -89,21 +88,22 @@ not_above a b h = grind (arith, nat_tests)
 -- the call that a carried line opens is going
 pub opened_going : (s : Space) (client : ℕ) (name : List ℕ) (size : ℕ) → client < 32 → 14336 < size → Going s (opened client name size)
 opened_going s client name size own large =
-    elim (nat_lt (2 ^ 35) size) as (λ b. nat_lt (2 ^ 35) size ≡ b → Going s (opened client name size))
-      [ true ↦ λ h. record {
-          client = own;
-          stage = Ended TooLarge;
-          reads = λ more. ap (λ b. cond b (ends TooLarge) (look (wish_for 0 (class_for size))) more) h;
-          planned = tt;
-          knows = tt;
-        }
+    elim (nat_lt (2 ^ 35) size) as (λ b. nat_lt (2 ^ 35) size ≡ b → Going s (opened client name size)) [
+      | true ↦ λ h. record {
+        client = own;
+        stage = Ended TooLarge;
+        reads = λ more. ap (λ b. cond b (ends TooLarge) (look (wish_for 0 (class_for size))) more) h;
+        planned = tt;
+        knows = tt;
+      }
       | false ↦ λ h. record {
-          client = own;
-          stage = Get (wish_for 0 (class_for size)) Looking;
-          reads = λ more. ap (λ b. cond b (ends TooLarge) (look (wish_for 0 (class_for size))) more) h;
-          planned = malloc-wishes 0 size (class_for size) (pages_at (class_for size)) refl refl (class_for_exists size (not_above _ _ h)) large;
-          knows = tt;
-        } ] refl
+        client = own;
+        stage = Get (wish_for 0 (class_for size)) Looking;
+        reads = λ more. ap (λ b. cond b (ends TooLarge) (look (wish_for 0 (class_for size))) more) h;
+        planned = malloc-wishes 0 size (class_for size) (pages_at (class_for size)) refl refl (class_for_exists size (not_above _ _ h)) large;
+        knows = tt;
+      }
+    ] refl
 
 begun_sane : (lines : List Line) (w : World) → Kept w.space w.kept → All IsCarried lines → Sane (begun lines w)
 begun_sane [] w known carried = record { kept = known; call = tt; lines = All-nil IsCarried }
@@ -111,18 +111,20 @@ begun_sane (Call client (MallocVerb name size) ∷ lines) w known carried =
     let here = All-head IsCarried (Call client (MallocVerb name size)) lines carried in
     let later = All-tail IsCarried (Call client (MallocVerb name size)) lines carried in
     let call : Open = opened client name size in
-    elim (outcome_of call) as (λ o. Sane (on_end o (λ answer. begun lines (printed w call answer)) (record w { call = Some call; lines = lines })))
-      [ Ends answer items ↦ begun_sane lines (printed w call answer) known later
+    elim (outcome_of call) as (λ o. Sane (on_end o (λ answer. begun lines (printed w call answer)) (record w { call = Some call; lines = lines }))) [
+      | Ends answer items ↦ begun_sane lines (printed w call answer) known later
       | Waits want ↦ record { kept = known; call = opened_going w.space client name size here.0 here.1; lines = later }
-      | Astray ↦ record { kept = known; call = opened_going w.space client name size here.0 here.1; lines = later } ]
+      | Astray ↦ record { kept = known; call = opened_going w.space client name size here.0 here.1; lines = later }
+    ]
 begun_sane (Call client (Free target) ∷ lines) w known carried = absurd (All-head IsCarried (Call client (Free target)) lines carried)
 
 pub fed_sane : (w : World) (call : Open) (lines : List Line) → Kept w.space w.kept → Going w.space call → All IsCarried lines → Sane (fed w call lines)
 fed_sane w call lines known going carried =
-    elim (outcome_of call) as (λ o. Sane (on_end o (λ answer. begun lines (printed w call answer)) (record w { call = Some call; lines = lines })))
-      [ Ends answer items ↦ begun_sane lines (printed w call answer) known carried
+    elim (outcome_of call) as (λ o. Sane (on_end o (λ answer. begun lines (printed w call answer)) (record w { call = Some call; lines = lines }))) [
+      | Ends answer items ↦ begun_sane lines (printed w call answer) known carried
       | Waits want ↦ record { kept = known; call = going; lines = carried }
-      | Astray ↦ record { kept = known; call = going; lines = carried } ]
+      | Astray ↦ record { kept = known; call = going; lines = carried }
+    ]
 
 -- ---- moves
 
@@ -132,7 +134,7 @@ kept_after : (s : Space) (kept : List KeptFacts) (entry : Entry) (asked : Option
 kept_after s kept entry asked known may =
     let es : List Entry = entries_of kept in
     let grown : entries_of (kept ++ (record { entry = entry; asked = asked }) ∷ []) ≡ es ++ entry ∷ [] =
-        map-push (λ (k : KeptFacts). k.entry) kept (record { entry = entry; asked = asked }) in
+    map-push (λ (k : KeptFacts). k.entry) kept (record { entry = entry; asked = asked }) in
     let at_end : replay first_space (es ++ entry ∷ []) ≡ space_after (replay first_space es) entry = fold_push space_after first_space es entry in
     let here : space_after s entry ≡ replay first_space (es ++ entry ∷ []) = ap (λ (x : Space). space_after x entry) known.replayed ∙ sym at_end in
     let frame = step_frame s entry.client entry.op in record {
@@ -140,7 +142,7 @@ kept_after s kept entry asked known may =
       stand = ap (all_stand first_space) grown ∙ all_stand-push first_space es entry known.stand (subst (λ (x : Space). stands x entry ≡ true) known.replayed may);
       good = subst (λ (ts : List (Entry × Reply)). Good ts (space_after s entry))
           (sym (ap (turns_of first_space) grown ∙ turns_of-push first_space es entry
-              ∙ ap (λ (x : Space). turns_of first_space es ++ (entry, reply_to x entry) ∷ []) (sym known.replayed)))
+          ∙ ap (λ (x : Space). turns_of first_space es ++ (entry, reply_to x entry) ∷ []) (sym known.replayed)))
           (Good-step (turns_of first_space es) s entry known.good may);
       live = ap is_live frame.life ∙ known.live;
       bound = frame.bound ∙ known.bound;
@@ -177,7 +179,7 @@ turn_law : (s : Space) (kept : List KeptFacts) (call : Open) (arena : ℕ) (op :
     rest_of going.stage [] ≡ Waits (WantTurn arena op asked) → GoesOn call.client s going.stage op
 turn_law s kept call arena op asked known going here =
     subst (GoesOn call.client s going.stage) (needed_turn going.stage arena op asked here).found
-        (turns-go_on call.client s going.stage arena op asked None (ground s kept call.client known going.client) going.planned going.knows here)
+    (turns-go_on call.client s going.stage arena op asked None (ground s kept call.client known going.client) going.planned going.knows here)
 
 turned_sane : (w : World) (call : Open) (arena : ℕ) (op : Op) (asked : Option AskFacts) → Kept w.space w.kept → Going w.space call → All IsCarried w.lines →
     outcome_of call ≡ Waits (WantTurn arena op asked) → Sane (turned w call op asked)
@@ -190,16 +192,16 @@ turned_sane w call arena op asked known going carried e =
     let after : Stage = stage_after going.stage (FedReply step.reply) in
     let may : stands s entry ≡ true = ap (λ b. b && op_stands s call.client op) (lt-ltb _ _ going.client) ∙ law.stands in
     fed_sane (record w { space = step.after; kept = w.kept ++ (record { entry = entry; asked = asked }) ∷ [] })
-        (record call { items = call.items ++ Replied step.reply ∷ [] }) w.lines
-        (kept_after s w.kept entry asked known may)
-        (record {
-          client = going.client;
-          stage = after;
-          reads = reads_more call (Replied step.reply) going.stage after going.reads
-              (λ more. reply-reads going.stage (WantTurn arena op asked) step.reply here law.fitting more);
-          planned = planned-reply going.stage step.reply going.planned;
-          knows = law.knows;
-        }) carried
+    (record call { items = call.items ++ Replied step.reply ∷ [] }) w.lines
+    (kept_after s w.kept entry asked known may)
+    (record {
+      client = going.client;
+      stage = after;
+      reads = reads_more call (Replied step.reply) going.stage after going.reads
+          (λ more. reply-reads going.stage (WantTurn arena op asked) step.reply here law.fitting more);
+      planned = planned-reply going.stage step.reply going.planned;
+      knows = law.knows;
+    }) carried
 
 heard_sane : (w : World) (call : Open) (arena : ℕ) (wanted : Ask) (asked : AskFacts) → Kept w.space w.kept → Going w.space call → All IsCarried w.lines →
     outcome_of call ≡ Waits (WantAsk arena wanted) → asked.ask ≡ wanted → Answers wanted asked.answer →
@@ -209,14 +211,14 @@ heard_sane w call arena wanted asked known going carried e same answers =
     let law = asks-go_on call.client w.space going.stage arena wanted asked going.knows here same answers in
     let after : Stage = stage_after going.stage (Answer asked) in
     fed_sane w (record call { items = call.items ++ Told asked ∷ [] }) w.lines known
-        (record {
-          client = going.client;
-          stage = after;
-          reads = reads_more call (Told asked) going.stage after going.reads
-              (λ more. answer-reads going.stage (WantAsk arena wanted) asked here law.0 more);
-          planned = planned-answer going.stage asked going.planned;
-          knows = law.1;
-        }) carried
+    (record {
+      client = going.client;
+      stage = after;
+      reads = reads_more call (Told asked) going.stage after going.reads
+          (λ more. answer-reads going.stage (WantAsk arena wanted) asked here law.0 more);
+      planned = planned-answer going.stage asked going.planned;
+      knows = law.1;
+    }) carried
 
 moved_sane : (w : World) (call : Open) (o : Outcome) (move : Move) → Kept w.space w.kept → Going w.space call → All IsCarried w.lines →
     outcome_of call ≡ o → Fits w o move → Sane (moved w call o move)

@@ -1,5 +1,5 @@
 -- A replay in which nothing was carried out, and one of a single malloc.
-use Rattle.std.proofs.Common.{arith, map, ◌+◌, ◌⊎◌, inl, inr, ◌≡◌, ◌<◌, ℕ, List, [], ◌∷◌, ◌++◌, Option, None, Result, Ok, Err, IfOk, refl, sym, ◌∙◌, ap, subst, All}
+use Rattle.std.proofs.Common.{arith, map, ◌+◌, ◌⊎◌, inl, inr, ◌≡◌, ◌<◌, ℕ, List, [], ◌∷◌, ◌++◌, Option, Result, Ok, Err, IfOk, refl, sym, ◌∙◌, ap, subst}
 use Rattle.std.proofs.lemmas.List.Elements.{All-nil, All-cons}
 use mathlib.Core.List.{map-append}
 use Rattle.std.specs.Io.KnownBytes.{Appends}
@@ -18,12 +18,11 @@ use Rattle.hook_api.specs.Kept.{KeptFacts}
 use Rattle.hook_api.specs.Shelf.{Shelf}
 use Rattle.call_plan.specs.declared.needs.Answered.{Answered}
 use Rattle.report_text.specs.Lines.{malloc_line, counts_line}
-use Rattle.trace_text.specs.declared.lines.Line.{Line}
 use Rattle.trace_text.specs.declared.lines.Line.TheVariants.{Call}
 use Rattle.trace_text.specs.declared.lines.Verb.TheVariants.{Malloc as MallocVerb}
-use Rattle.replay_run.specs.World.{World, Open, idle, printed, fed, opened, opening, empty_world, world_after, closing, asks_in, IsCarried}
-use Rattle.replay_run.specs.Sane.{Kept, Sane}
-use Rattle.replay_run.specs.Carried.{world_of, Played, Carried}
+use Rattle.replay_run.specs.World.{World, Open, idle, printed, fed, opened, opening, world_after, IsCarried}
+use Rattle.replay_run.specs.Sane.{Kept}
+use Rattle.replay_run.specs.Carried.{world_of, Carried}
 use Rattle.replay_run.specs.Replays.{ReplayOf, Reports, HasEnded, JournalsOf}
 use Rattle.replay_run.proofs.Plays.{play_sound, opening_sane}
 use Rattle.replay_run.proofs.Runs.{start_sane}
@@ -36,7 +35,7 @@ first_good = first_replays_are_good [] refl
 pub first_kept : (s : Space) (kept : List KeptFacts) → s ≡ first_space → kept ≡ [] → Kept s kept
 first_kept s kept is none =
     subst (λ (t : Space). Kept t kept) (sym is) (subst (λ (k : List KeptFacts). Kept first_space k) (sym none)
-        (record { replayed = refl; stand = refl; good = first_good; live = refl; bound = refl }))
+    (record { replayed = refl; stand = refl; good = first_good; live = refl; bound = refl }))
 
 -- nothing was carried out
 pub replay_of_none : (whole : Type 0) (kept : List KeptFacts) (heard : List AskFacts) (shelf : Shelf) (before after : Option (List ℕ)) →
@@ -79,9 +78,9 @@ replay_of_malloc whole {E} client name size r space kept heard shelf_before shel
   chain = subst (λ (asks : List AskFacts). AskChain shelf_before asks shelf) (sym way.played.hears) way.played.chain;
   report = λ done. let told = prints done in
       last_report (world_after (fed (world_of first_space [] []) (opened client name size) []) way.played.moves) space kept (opened client name size) told.0 before after
-          (let ended = subst (λ (x : Result Answered E). IfOk x (λ answer. world_after (fed (world_of first_space [] []) (opened client name size) []) way.played.moves
-              ≡ idle (printed (world_of space kept []) (opened client name size) answer))) told.1 way.ended in ended)
-          told.2;
+      (let ended = subst (λ (x : Result Answered E). IfOk x (λ answer. world_after (fed (world_of first_space [] []) (opened client name size) []) way.played.moves
+      ≡ idle (printed (world_of space kept []) (opened client name size) answer))) told.1 way.ended in ended)
+      told.2;
 }
 
 -- a replay that stopped hasn't ended
@@ -123,10 +122,10 @@ pub replay_from : (whole : Type 0) {E : Type 0} (client : ℕ) (name : List ℕ)
     ReplayOf whole kept heard shelf_before shelf before after
 replay_from whole {E} client name size r first entries asks space kept heard shelf_before shelf before after a b d own large way prints =
     replay_of_malloc whole client name size r space kept heard shelf_before shelf before after own large
-        (subst (λ (s : Space). Carried (fed (world_of s [] []) (opened client name size) []) [] shelf_before space kept heard shelf [] (opened client name size) r) a
-            (subst (λ (k : List KeptFacts). Carried (fed (world_of first k []) (opened client name size) []) [] shelf_before space kept heard shelf [] (opened client name size) r) b
-                (subst (λ (h : List AskFacts). Carried (fed (world_of first entries []) (opened client name size) []) h shelf_before space kept heard shelf [] (opened client name size) r) d way)))
-        prints
+    (subst (λ (s : Space). Carried (fed (world_of s [] []) (opened client name size) []) [] shelf_before space kept heard shelf [] (opened client name size) r) a
+    (subst (λ (k : List KeptFacts). Carried (fed (world_of first k []) (opened client name size) []) [] shelf_before space kept heard shelf [] (opened client name size) r) b
+    (subst (λ (h : List AskFacts). Carried (fed (world_of first entries []) (opened client name size) []) h shelf_before space kept heard shelf [] (opened client name size) r) d way)))
+    prints
 
 -- the journals of the first arenas, with the next one
 pub indices_more : (journals : List Journal) (index : ℕ) (kept : List KeptFacts) → map (λ (j : Journal). j.index) journals ≡ range_with_len 0 index →
@@ -140,16 +139,16 @@ pub first_more : (kept : List KeptFacts) (journals more : List Journal) → Jour
 first_more kept journals more first = (first.0 ++ more, ap (λ (xs : List Journal). xs ++ more) first.1)
 
 -- a replay that is whole where less is asked for
-pub replay_weaker : (whole weaker : Type 0) (kept : List KeptFacts) (heard : List AskFacts) (shelf_before shelf : Shelf) (before after : Option (List ℕ)) →
-    (weaker → whole) → ReplayOf whole kept heard shelf_before shelf before after → ReplayOf weaker kept heard shelf_before shelf before after
-replay_weaker whole weaker kept heard shelf_before shelf before after leads way = record {
+pub replay_weaker : (whole weaker : Type 0) (kept : List KeptFacts) (heard asks : List AskFacts) (shelf_before shelf : Shelf) (before after : Option (List ℕ)) →
+    asks ≡ heard → (weaker → whole) → ReplayOf whole kept heard shelf_before shelf before after → ReplayOf weaker kept asks shelf_before shelf before after
+replay_weaker whole weaker kept heard asks shelf_before shelf before after same leads way = record {
   lines = way.lines;
   carried = way.carried;
   moves = way.moves;
   play = way.play;
   sound = way.sound;
   in_journal = way.in_journal;
-  hears = way.hears;
-  chain = way.chain;
+  hears = way.hears ∙ sym same;
+  chain = subst (λ (xs : List AskFacts). AskChain shelf_before xs shelf) (sym same) way.chain;
   report = λ done. way.report (leads done);
 }

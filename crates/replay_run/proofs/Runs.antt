@@ -1,9 +1,7 @@
 -- The turn, the ask or the answer of a call that is underway, from its need.
-use Rattle.std.proofs.Common.{◌≡◌, ◌<◌, ℕ, true, false, IsTrue, List, [], ◌∷◌, ◌++◌, Option, Some, None, IfOk, Result, Ok, Err, refl, sym, ◌∙◌, ap, subst}
+use Rattle.std.proofs.Common.{◌≡◌, ◌<◌, ℕ, true, List, [], ◌∷◌, ◌++◌, Result, Ok, Err, sym, ◌∙◌, ap, subst}
 use Rattle.std.proofs.lemmas.List.Elements.{All-nil}
 use Rattle.space_model.specs.declared.Ask.{Ask}
-use Rattle.space_model.specs.declared.Entry.{Entry}
-use Rattle.space_model.specs.declared.Op.{Op}
 use Rattle.space_model.specs.declared.Reply.{Reply}
 use Rattle.space_model.specs.declared.Space.{Space}
 use Rattle.space_model.specs.Step.{space_after, reply_to, step_of, stands}
@@ -14,18 +12,16 @@ use Rattle.hook_api.specs.Hooks.{Answers}
 use Rattle.hook_api.specs.Kept.{KeptFacts, IsKept}
 use Rattle.hook_api.specs.Shelf.{Shelf, AskStep}
 use Rattle.call_plan.specs.declared.needs.Answered.{Answered}
-use Rattle.call_plan.specs.declared.needs.Need.{Need}
 use Rattle.call_plan.specs.declared.needs.Need.TheVariants.{Turn as NeedsTurn, Ask as NeedsAsk, Done}
 use Rattle.call_plan.specs.declared.needs.Turn.{Turn}
 use Rattle.call_plan.specs.declared.stages.Stage.{Stage}
-use Rattle.call_plan.specs.Reading.{Item, Replied, Told, Want, WantTurn, WantAsk, Outcome, Ends, Waits, Astray}
+use Rattle.call_plan.specs.Reading.{Item, Replied, Told, WantTurn, WantAsk, Outcome, Ends, Waits, Astray}
 use Rattle.call_plan.specs.Rest.{rest_of, IsFitting, NeedIs}
-use Rattle.call_plan.specs.Calls.{reading}
 use Rattle.replay_run.specs.World.{Open, World, outcome_of, asks_in, fed, opened, world_after, IsCarried}
-use Rattle.replay_run.specs.Sane.{Kept, Going, Sane}
-use Rattle.replay_run.specs.Carried.{world_of, Played, Carried, Underway, IsUnderway, CarriedOn}
-use Rattle.replay_run.proofs.Plays.{play_sane, fed_sane, opened_going, NextTurn, next_turn, next_ask}
-use Rattle.replay_run.proofs.Ways.{Stop, outcome_now, way_stop, way_turn, way_ask, way_end}
+use Rattle.replay_run.specs.Sane.{Kept, Sane}
+use Rattle.replay_run.specs.Carried.{world_of, Carried, Underway, IsUnderway, CarriedOn}
+use Rattle.replay_run.proofs.Plays.{play_sane, fed_sane, opened_going, next_turn, next_ask}
+use Rattle.replay_run.proofs.Ways.{outcome_now, way_stop, way_turn, way_ask, way_end}
 
 -- a field of a needed turn
 turn_field : {A : Type 0} (f : Turn → A) (turn other : Turn) → NeedsTurn turn ≡ NeedsTurn other → f turn ≡ f other
@@ -76,8 +72,8 @@ pub turn_ready : {client : ℕ} {space : Space} {kept : List KeptFacts} {heard :
     IsUnderway client space kept heard shelf stage → (turn : Turn) → NeedIs client (rest_of stage []) (NeedsTurn turn) → TurnReady client space stage turn
 turn_ready {client} {space} {kept} {heard} {shelf} {stage} u turn need =
     subst (λ (c : ℕ). TurnReady c space stage turn) u.own
-        (turn_ready_own u.start u.heard_before u.shelf_before u.text u.call u.sane u.way turn
-            (subst (λ (c : ℕ). NeedIs c (rest_of stage []) (NeedsTurn turn)) (sym u.own) need))
+    (turn_ready_own u.start u.heard_before u.shelf_before u.text u.call u.sane u.way turn
+    (subst (λ (c : ℕ). NeedIs c (rest_of stage []) (NeedsTurn turn)) (sym u.own) need))
 
 -- What is known before a needed ask.
 pub record AskReady (space : Space) (stage : Stage) (arena : ℕ) (ask : Ask) : Type 0 where
@@ -108,7 +104,7 @@ pub carried_end : {client : ℕ} {space : Space} {kept : List KeptFacts} {heard 
 carried_end {client} {space} {kept} {heard} {shelf} {stage} {E} answer r need is start h0 sh0 text call own way =
     let ended = ends_with client (rest_of stage []) answer need in
     subst (λ (x : Result Answered E). Carried start h0 sh0 space kept heard shelf text call x) (sym is)
-        (record { played = way.played; ended = way_end way answer ended.0 ended.1 })
+    (record { played = way.played; ended = way_end way answer ended.0 ended.1 })
   where
     ends_with : (client : ℕ) (o : Outcome) (answer : Answered) → NeedIs client o (Done answer) → (items : List Item) × (o ≡ Ends answer items)
     ends_with client (Ends a items) answer need = let same : a ≡ answer = cc in (items, ap (λ x. Ends x items) same)
@@ -122,8 +118,17 @@ pub carried_stop : {client : ℕ} {space : Space} {kept : List KeptFacts} {heard
     space' ≡ space → kept' ≡ kept → heard' ≡ heard → shelf' ≡ shelf → CarriedOn client space kept heard shelf stage space' kept' heard' shelf' r
 carried_stop {client} {space} {kept} {heard} {shelf} {stage} {E} space' kept' heard' shelf' r e is a b c d start h0 sh0 text call own way =
     subst (λ (x : Result Answered E). Carried start h0 sh0 space' kept' heard' shelf' text call x) (sym is)
-        (record { played = record { moves = way.played.moves; play = way.played.play; in_space = way.played.in_space ∙ sym a; in_journal = way.played.in_journal ∙ sym b;
-                      hears = c ∙ way.played.hears; chain = subst (AskChain sh0 (asks_in way.played.moves)) (sym d) way.played.chain }; ended = tt })
+    (record {
+      played = record {
+        moves = way.played.moves;
+        play = way.played.play;
+        in_space = way.played.in_space ∙ sym a;
+        in_journal = way.played.in_journal ∙ sym b;
+        hears = c ∙ way.played.hears;
+        chain = subst (AskChain sh0 (asks_in way.played.moves)) (sym d) way.played.chain;
+      };
+      ended = tt;
+    })
 
 -- an underway call after its turn, from any start
 pub turned_way : {client : ℕ} {space : Space} {kept : List KeptFacts} {heard : List AskFacts} {shelf : Shelf} {stage : Stage} →
@@ -136,14 +141,14 @@ pub turned_way : {client : ℕ} {space : Space} {kept : List KeptFacts} {heard :
     Underway start h0 sh0 space' kept' heard' shelf text call after
 turned_way {client} {space} {kept} {heard} {shelf} {stage} start h0 sh0 text call own way turn waits space' kept' heard' reply after a b c d reads =
     let P : ℕ → Type 0 = λ n. ((more : List Item) → rest_of stage (Replied (reply_to space (record { client = n; op = turn.op })) ∷ more) ≡ rest_of after more) →
-            Underway start h0 sh0 (space_after space (record { client = n; op = turn.op })) (kept ++ (record { entry = record { client = n; op = turn.op }; asked = turn.asked }) ∷ []) heard shelf text call after in
+    Underway start h0 sh0 (space_after space (record { client = n; op = turn.op })) (kept ++ (record { entry = record { client = n; op = turn.op }; asked = turn.asked }) ∷ []) heard shelf text call after in
     let there = subst P own (λ r. way_turn way turn.arena turn.op turn.asked after waits r)
-            (λ more. ap (λ (x : Reply). rest_of stage (Replied x ∷ more)) (sym b) ∙ reads more) in
+    (λ more. ap (λ (x : Reply). rest_of stage (Replied x ∷ more)) (sym b) ∙ reads more) in
     let s1 : Space = space_after space (record { client = client; op = turn.op }) in
     let k1 : List KeptFacts = kept ++ (record { entry = record { client = client; op = turn.op }; asked = turn.asked }) ∷ [] in
     subst (λ (s : Space). Underway start h0 sh0 s kept' heard' shelf text call after) (sym a)
-        (subst (λ (k : List KeptFacts). Underway start h0 sh0 s1 k heard' shelf text call after) (sym c)
-            (subst (λ (h : List AskFacts). Underway start h0 sh0 s1 k1 h shelf text call after) (sym d) there))
+    (subst (λ (k : List KeptFacts). Underway start h0 sh0 s1 k heard' shelf text call after) (sym c)
+    (subst (λ (h : List AskFacts). Underway start h0 sh0 s1 k1 h shelf text call after) (sym d) there))
 
 -- a call after its turn
 pub underway_turn : {client : ℕ} {space : Space} {kept : List KeptFacts} {heard : List AskFacts} {shelf : Shelf} {stage : Stage} →
@@ -154,7 +159,13 @@ pub underway_turn : {client : ℕ} {space : Space} {kept : List KeptFacts} {hear
     ((more : List Item) → rest_of stage (Replied reply ∷ more) ≡ rest_of after more) →
     IsUnderway client space' kept' heard' shelf after
 underway_turn {client} {space} {kept} {heard} {shelf} {stage} u turn waits space' kept' heard' reply after a b c d reads = record {
-  start = u.start; heard_before = u.heard_before; shelf_before = u.shelf_before; text = u.text; call = u.call; sane = u.sane; own = u.own;
+  start = u.start;
+  heard_before = u.heard_before;
+  shelf_before = u.shelf_before;
+  text = u.text;
+  call = u.call;
+  sane = u.sane;
+  own = u.own;
   way = turned_way u.start u.heard_before u.shelf_before u.text u.call u.own u.way turn waits space' kept' heard' reply after a b c d reads;
 }
 
@@ -169,8 +180,8 @@ pub asked_way : {space : Space} {kept : List KeptFacts} {heard : List AskFacts} 
 asked_way {space} {kept} {heard} {shelf} {stage} start h0 sh0 text call way arena ask asked waits space' kept' heard' shelf' after same at answers step a b c reads =
     let there = way_ask way arena ask asked shelf' after waits same at answers step reads in
     subst (λ (s : Space). Underway start h0 sh0 s kept' heard' shelf' text call after) (sym a)
-        (subst (λ (k : List KeptFacts). Underway start h0 sh0 space k heard' shelf' text call after) (sym b)
-            (subst (λ (h : List AskFacts). Underway start h0 sh0 space kept h shelf' text call after) (sym c) there))
+    (subst (λ (k : List KeptFacts). Underway start h0 sh0 space k heard' shelf' text call after) (sym b)
+    (subst (λ (h : List AskFacts). Underway start h0 sh0 space kept h shelf' text call after) (sym c) there))
 
 -- a call after its ask
 pub underway_ask : {client : ℕ} {space : Space} {kept : List KeptFacts} {heard : List AskFacts} {shelf : Shelf} {stage : Stage} →
@@ -180,7 +191,13 @@ pub underway_ask : {client : ℕ} {space : Space} {kept : List KeptFacts} {heard
     space' ≡ space → kept' ≡ kept → heard' ≡ heard ++ asked ∷ [] → ((more : List Item) → rest_of stage (Told asked ∷ more) ≡ rest_of after more) →
     IsUnderway client space' kept' heard' shelf' after
 underway_ask {client} {space} {kept} {heard} {shelf} {stage} u arena ask asked waits space' kept' heard' shelf' after same at answers step a b c reads = record {
-  start = u.start; heard_before = u.heard_before; shelf_before = u.shelf_before; text = u.text; call = u.call; sane = u.sane; own = u.own;
+  start = u.start;
+  heard_before = u.heard_before;
+  shelf_before = u.shelf_before;
+  text = u.text;
+  call = u.call;
+  sane = u.sane;
+  own = u.own;
   way = asked_way u.start u.heard_before u.shelf_before u.text u.call u.way arena ask asked waits space' kept' heard' shelf' after same at answers step a b c reads;
 }
 

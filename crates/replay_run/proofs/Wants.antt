@@ -1,16 +1,13 @@
 -- The turns that a call needs: no chunk of another arena is found yet, and an operation carries the answer of its ask.
-use Rattle.std.proofs.Common.{◌≡◌, ℕ, true, false, List, [], ◌∷◌, Option, Some, None, IfSome, IsSomeAnd, refl, sym, ◌∙◌, ap, subst}
-use Rattle.space_model.specs.declared.Entry.{Entry}
+use Rattle.std.proofs.Common.{◌≡◌, ℕ, true, false, [], Option, Some, None, refl, subst}
 use Rattle.space_model.specs.declared.Op.{Op}
 use Rattle.space_model.specs.declared.Op.TheVariants.{Look, CutDone, GrowDone, CommitDone, Land}
 use Rattle.hook_api.specs.Asked.{AskFacts, heard_in}
 use Rattle.hook_api.specs.Kept.{IsKept}
 use Rattle.call_plan.specs.declared.stages.Stage.{Stage}
-use Rattle.call_plan.specs.declared.stages.Stage.TheVariants.{Get, Ended}
-use Rattle.call_plan.specs.declared.wishes.Getting.{Getting}
-use Rattle.call_plan.specs.declared.wishes.Getting.TheVariants.{Looking, SkipAsked, SkipCut, TrimAsked, TrimCut, GrowAsked, Growing, GrantAsked, GrantCut, CommitAsked, Committing, Landing}
-use Rattle.call_plan.specs.declared.wishes.Wish.{Wish}
-use Rattle.call_plan.specs.Reading.{WantTurn, WantAsk, Waits}
+use Rattle.call_plan.specs.declared.stages.Stage.TheVariants.{Get}
+use Rattle.call_plan.specs.declared.wishes.Getting.TheVariants.{Looking, SkipCut, TrimCut, Growing, GrantCut, Committing, Landing}
+use Rattle.call_plan.specs.Reading.{WantTurn, Waits}
 use Rattle.call_plan.specs.Rest.{rest_of}
 use Rattle.call_plan.specs.Knows.{with_found}
 

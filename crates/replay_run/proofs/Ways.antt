@@ -1,26 +1,24 @@
 -- A call that is underway goes on by a turn or an ask, and ends.
-use Rattle.std.proofs.Common.{◌≡◌, ℕ, true, false, List, [], ◌∷◌, ◌++◌, Option, Some, None, IfSome, IfOk, Result, Ok, Err, refl, sym, ◌∙◌, ap, subst, fold, append-nil, append_assoc}
+use Rattle.std.proofs.Common.{◌≡◌, ℕ, List, [], ◌∷◌, ◌++◌, Option, Some, refl, sym, ◌∙◌, ap, subst, append-nil, append_assoc}
 use Rattle.std.proofs.lemmas.List.Sums.{fold_push}
 use Rattle.space_model.specs.declared.Ask.{Ask}
-use Rattle.space_model.specs.declared.Entry.{Entry}
 use Rattle.space_model.specs.declared.Op.{Op}
-use Rattle.space_model.specs.declared.Reply.{Reply}
 use Rattle.space_model.specs.declared.Space.{Space}
-use Rattle.space_model.specs.Step.{space_after, reply_to, step_of, stands}
+use Rattle.space_model.specs.Step.{step_of}
 use Rattle.hook_api.specs.Asked.{AskFacts}
-use Rattle.hook_api.specs.Chain.{AskChain, Chain, Made}
+use Rattle.hook_api.specs.Chain.{AskChain}
 use Rattle.hook_api.specs.Hooks.{Answers}
-use Rattle.hook_api.specs.Kept.{KeptFacts, IsKept}
+use Rattle.hook_api.specs.Kept.{KeptFacts}
 use Rattle.hook_api.specs.Shelf.{Shelf, AskStep}
 use Rattle.call_plan.specs.declared.needs.Answered.{Answered}
 use Rattle.call_plan.specs.declared.stages.Stage.{Stage}
 use Rattle.call_plan.specs.Reading.{Item, Replied, Told, WantTurn, WantAsk, Outcome, Ends, Waits, Astray}
-use Rattle.call_plan.specs.Rest.{rest_of, IsFitting}
+use Rattle.call_plan.specs.Rest.{rest_of}
 use Rattle.call_plan.specs.Calls.{reading}
-use Rattle.replay_run.specs.World.{Open, World, outcome_of, on_end, idle, printed, begun, fed, Move, Turned, Heard_, turned, moved, after_in, after_move, Fits, NextIn, IsNext, IsPlay, world_after, asks_in}
+use Rattle.replay_run.specs.World.{Open, World, outcome_of, on_end, idle, printed, begun, fed, Move, Turned, Heard_, moved, after_move, Fits, IsNext, IsPlay, world_after, asks_in}
 use Rattle.replay_run.specs.Sane.{Kept, Going, Sane}
-use Rattle.replay_run.specs.Carried.{world_of, Played, Carried, Underway}
-use Rattle.replay_run.proofs.Plays.{play_sane, NextTurn, next_turn, next_ask}
+use Rattle.replay_run.specs.Carried.{world_of, Underway}
+use Rattle.replay_run.proofs.Plays.{play_sane}
 
 -- ---- plays that grow by a move
 
@@ -82,7 +80,7 @@ stop_at : (w : World) (space : Space) (kept : List KeptFacts) (text : List ℕ) 
     w ≡ fed (world_of space kept text) (now call items) [] → outcome_of (now call items) ≡ o → IfWaits o → Stop space kept call items
 stop_at w space kept text call items o sane here e waits =
     let there : Sane (record (world_of space kept text) { call = Some (now call items); lines = [] }) =
-        subst Sane (here ∙ waiting_world (world_of space kept text) (now call items) o e waits) sane in
+    subst Sane (here ∙ waiting_world (world_of space kept text) (now call items) o e waits) sane in
     record { arena = there.kept; going = there.call }
 
 pub way_stop : {start : World} {h0 : List AskFacts} {sh0 : Shelf} {space : Space} {kept : List KeptFacts} {heard : List AskFacts} {shelf : Shelf} {text : List ℕ} {call : Open} {stage : Stage} →
@@ -90,7 +88,7 @@ pub way_stop : {start : World} {h0 : List AskFacts} {sh0 : Shelf} {space : Space
     Stop space kept call way.items
 way_stop {start} {h0} {sh0} {space} {kept} {heard} {shelf} {text} {call} {stage} way sane o e waits =
     stop_at (world_after start way.played.moves) space kept text call way.items o (play_sane start way.played.moves sane way.played.play) way.here
-        (outcome_now call way.items stage way.reads ∙ e) waits
+    (outcome_now call way.items stage way.reads ∙ e) waits
 
 -- reading behind one more item
 reads_on : (call : Open) (items : List Item) (item : Item) (stage after : Stage) →
@@ -104,12 +102,13 @@ reads_on call items item stage after reads step more =
 turn_world : (w : World) (space : Space) (kept : List KeptFacts) (text : List ℕ) (call : Open) (items : List Item) (arena : ℕ) (op : Op) (asked : Option AskFacts) →
     w ≡ fed (world_of space kept text) (now call items) [] → outcome_of (now call items) ≡ Waits (WantTurn arena op asked) →
     IsNext w Turned × (after_move w Turned ≡ fed (world_of (step_of space call.client op).after
-        (kept ++ (record { entry = record { client = call.client; op = op }; asked = asked }) ∷ []) text) (now call (items ++ Replied (step_of space call.client op).reply ∷ [])) [])
+    (kept ++ (record { entry = record { client = call.client; op = op }; asked = asked }) ∷ []) text) (now call (items ++ Replied (step_of space call.client op).reply ∷ [])) [])
 turn_world w space kept text call items arena op asked here e =
     let open_world : World = record (world_of space kept text) { call = Some (now call items); lines = [] } in
-    let is : w ≡ open_world = here ∙ waiting_world (world_of space kept text) (now call items) (Waits (WantTurn arena op asked)) e tt in
-    (subst (λ (x : World). IsNext x Turned) (sym is) (subst (λ (o : Outcome). Fits open_world o Turned) (sym e) tt),
-     ap (λ (x : World). after_move x Turned) is ∙ ap (λ (o : Outcome). moved open_world (now call items) o Turned) e)
+    let is : w ≡ open_world = here ∙ waiting_world (world_of space kept text) (now call items) (Waits (WantTurn arena op asked)) e tt in (
+      subst (λ (x : World). IsNext x Turned) (sym is) (subst (λ (o : Outcome). Fits open_world o Turned) (sym e) tt),
+      ap (λ (x : World). after_move x Turned) is ∙ ap (λ (o : Outcome). moved open_world (now call items) o Turned) e,
+    )
 
 -- the world of a waiting call after its ask
 ask_world : (w : World) (space : Space) (kept : List KeptFacts) (text : List ℕ) (call : Open) (items : List Item) (arena : ℕ) (wanted : Ask) (asked : AskFacts) →
@@ -118,20 +117,21 @@ ask_world : (w : World) (space : Space) (kept : List KeptFacts) (text : List ℕ
     IsNext w (Heard_ asked) × (after_move w (Heard_ asked) ≡ fed (world_of space kept text) (now call (items ++ Told asked ∷ [])) [])
 ask_world w space kept text call items arena wanted asked here e same at answers =
     let open_world : World = record (world_of space kept text) { call = Some (now call items); lines = [] } in
-    let is : w ≡ open_world = here ∙ waiting_world (world_of space kept text) (now call items) (Waits (WantAsk arena wanted)) e tt in
-    (subst (λ (x : World). IsNext x (Heard_ asked)) (sym is) (subst (λ (o : Outcome). Fits open_world o (Heard_ asked)) (sym e) (same, at, answers)),
-     ap (λ (x : World). after_move x (Heard_ asked)) is ∙ ap (λ (o : Outcome). moved open_world (now call items) o (Heard_ asked)) e)
+    let is : w ≡ open_world = here ∙ waiting_world (world_of space kept text) (now call items) (Waits (WantAsk arena wanted)) e tt in (
+      subst (λ (x : World). IsNext x (Heard_ asked)) (sym is) (subst (λ (o : Outcome). Fits open_world o (Heard_ asked)) (sym e) (same, at, answers)),
+      ap (λ (x : World). after_move x (Heard_ asked)) is ∙ ap (λ (o : Outcome). moved open_world (now call items) o (Heard_ asked)) e,
+    )
 
 -- the space and the journal in the world of a call
 fed_space : (space : Space) (kept : List KeptFacts) (text : List ℕ) (call : Open) → (fed (world_of space kept text) call []).space ≡ space
 fed_space space kept text call =
     elim (outcome_of call) as (λ o. (on_end o (λ answer. begun [] (printed (world_of space kept text) call answer)) (record (world_of space kept text) { call = Some call; lines = [] })).space ≡ space)
-      [ Ends answer items ↦ refl | Waits want ↦ refl | Astray ↦ refl ]
+    [ Ends answer items ↦ refl | Waits want ↦ refl | Astray ↦ refl ]
 
 fed_kept : (space : Space) (kept : List KeptFacts) (text : List ℕ) (call : Open) → (fed (world_of space kept text) call []).kept ≡ kept
 fed_kept space kept text call =
     elim (outcome_of call) as (λ o. (on_end o (λ answer. begun [] (printed (world_of space kept text) call answer)) (record (world_of space kept text) { call = Some call; lines = [] })).kept ≡ kept)
-      [ Ends answer items ↦ refl | Waits want ↦ refl | Astray ↦ refl ]
+    [ Ends answer items ↦ refl | Waits want ↦ refl | Astray ↦ refl ]
 
 -- a call that is underway goes on by its turn
 pub way_turn : {start : World} {h0 : List AskFacts} {sh0 : Shelf} {space : Space} {kept : List KeptFacts} {heard : List AskFacts} {shelf : Shelf} {text : List ℕ} {call : Open} {stage : Stage} →

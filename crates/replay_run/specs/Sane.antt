@@ -1,5 +1,5 @@
 -- What is known of each world of a play.
-use Rattle.std.specs.Prelude.{◌≡◌, ℕ, ◌<◌, true, List, ◌++◌, IfSome, All}
+use Rattle.std.specs.Prelude.{◌≡◌, ◌<◌, true, List, ◌++◌, IfSome, All}
 use Rattle.std.specs.List.{range_with_len}
 use Rattle.space_model.specs.declared.Space.{Space}
 use Rattle.space_model.specs.Opening.{first_space}

@@ -1,34 +1,23 @@
 -- Worlds: everything that the rest of a replay can depend on, and how a turn or an ask leads from one to the next.
-use Rattle.std.specs.Prelude.{◌≡◌, ℕ, ◌%◌, Bool, true, false, ◌==◌, ◌&&◌, List, [], ◌∷◌, ◌++◌, Option, None, Some, map, ◌<◌, fold, find, if◌then◌else◌}
-use Rattle.std.specs.List.{list_any}
-use Rattle.space_model.specs.declared.Answer.{Answer}
-use Rattle.space_model.specs.declared.Answer.TheVariants.{Placed, Done, Refused}
-use Rattle.space_model.specs.declared.Ask.{Ask}
-use Rattle.space_model.specs.declared.Ask.TheVariants.{Alloc}
+use Rattle.std.specs.Prelude.{◌≡◌, ℕ, true, List, [], ◌∷◌, ◌++◌, Option, None, Some, map, ◌<◌, fold}
 use Rattle.space_model.specs.declared.Entry.{Entry}
-use Rattle.space_model.specs.declared.Heard.{Heard}
 use Rattle.space_model.specs.declared.Op.{Op}
-use Rattle.space_model.specs.declared.Op.TheVariants.{GrowDone}
-use Rattle.space_model.specs.declared.Part.{Part}
 use Rattle.space_model.specs.declared.Space.{Space}
-use Rattle.space_model.specs.declared.Span.{Span}
 use Rattle.space_model.specs.Opening.{first_space}
 use Rattle.space_model.specs.Counts.{counts_of}
 use Rattle.space_model.specs.Journal.{replay, all_stand, turns_of, Good}
-use Rattle.space_model.specs.Span.{meets, chunk_span, chunks_of}
-use Rattle.space_model.specs.Step.{step_of, is_in_space}
+use Rattle.space_model.specs.Step.{step_of}
 use Rattle.hook_api.specs.Asked.{AskFacts}
 use Rattle.hook_api.specs.Hooks.{Answers}
 use Rattle.hook_api.specs.Kept.{KeptFacts}
 use Rattle.call_plan.specs.declared.needs.Answered.{Answered}
 use Rattle.call_plan.specs.declared.needs.Request.{Request}
 use Rattle.call_plan.specs.declared.needs.Request.TheVariants.{Malloc}
-use Rattle.call_plan.specs.Reading.{Item, Replied, Told, Want, WantTurn, WantAsk, Outcome, Ends, Waits, Astray}
+use Rattle.call_plan.specs.Reading.{Item, Replied, Told, WantTurn, WantAsk, Outcome, Ends, Waits, Astray}
 use Rattle.call_plan.specs.Calls.{reading}
 use Rattle.report_text.specs.Lines.{malloc_line, counts_line}
 use Rattle.trace_text.specs.declared.lines.Line.{Line}
 use Rattle.trace_text.specs.declared.lines.Line.TheVariants.{Call}
-use Rattle.trace_text.specs.declared.lines.Verb.{Verb}
 use Rattle.trace_text.specs.declared.lines.Verb.TheVariants.{Malloc as MallocVerb, Free}
 
 -- An open call: its client, the name in its line, the arena from which the client allocates, the request, and what the
@@ -94,7 +83,7 @@ turned w call op asked =
     let entry : Entry = record { client = call.client; op = op } in
     let step = step_of w.space call.client op in
     fed (record w { space = step.after; kept = w.kept ++ (record { entry = entry; asked = asked }) ∷ [] })
-        (record call { items = call.items ++ Replied step.reply ∷ [] }) w.lines
+    (record call { items = call.items ++ Replied step.reply ∷ [] }) w.lines
 
 -- the world after a move that is needed, and the same world after any other
 abbrev pub moved : World → Open → Outcome → Move → World

@@ -25,10 +25,8 @@ fn go_on(
 ) -> Result<Answered, NoMemory>
     requires underway { IsUnderway call.client state.old.space state.old.kept.items state.old.heard.items (shelf_of ExtentHooks-dyn shelf.old) call.stage }
     requires need { NeedIs call.client (rest_of call.stage []) need }
-    ensures {
-        CarriedOn call.client state.old.space state.old.kept.items state.old.heard.items (shelf_of ExtentHooks-dyn shelf.old) call.stage
-            state.new.space state.new.kept.items state.new.heard.items (shelf_of ExtentHooks-dyn shelf.new) result
-    }
+    ensures { CarriedOn call.client state.old.space state.old.kept.items state.old.heard.items (shelf_of ExtentHooks-dyn shelf.old) call.stage
+        state.new.space state.new.kept.items state.new.heard.items (shelf_of ExtentHooks-dyn shelf.new) result }
 {
     match need {
         Need::Done(answered) => Ok(answered),
@@ -55,11 +53,9 @@ pub fn carry_call(
     requires client { client < 32 }
     requires large { 14336 < size }
     requires arena { KeptSane state.old.space state.old.kept.items }
-    ensures carried {
-        (text name : List ℕ) → Carried (fed (world_of state.old.space state.old.kept.items text) (opened client name size) [])
-            state.old.heard.items (shelf_of ExtentHooks-dyn shelf.old) state.new.space state.new.kept.items
-            state.new.heard.items (shelf_of ExtentHooks-dyn shelf.new) text (opened client name size) result
-    }
+    ensures carried { (text name : List ℕ) → Carried (fed (world_of state.old.space state.old.kept.items text) (opened client name size) [])
+        state.old.heard.items (shelf_of ExtentHooks-dyn shelf.old) state.new.space state.new.kept.items
+        state.new.heard.items (shelf_of ExtentHooks-dyn shelf.new) text (opened client name size) result }
     ensures arena { KeptSane state.new.space state.new.kept.items }
 {
     let mut desk = Desk {

@@ -1,7 +1,6 @@
 //! Lines from a source.
 
 ghost use Rattle.std.specs.Prelude.{◌<◌, IfOk, IfSome};
-
 ghost use Rattle.replay_run.specs.Input.{InBounds};
 
 use edge_io::Source;
@@ -94,10 +93,12 @@ pub struct Wanted {
 /// What a line asks for, or none where it can't be carried out yet.
 pub fn read_wanted(alloc: Global, line: &[u8]) -> Result<Option<Wanted>, NoMemory> {
     match trace_text::read(alloc, line) {
-        Ok(Line::Call {
-            client: 0,
-            verb: Verb::Malloc { name, size },
-        }) if size > LARGEST_SMALL => Ok(Some(Wanted { name, size })),
+        Ok(
+            Line::Call {
+                client: 0,
+                verb: Verb::Malloc { name, size },
+            },
+        ) if size > LARGEST_SMALL => Ok(Some(Wanted { name, size })),
         Err(LineFault::NoMemory) => Err(NoMemory),
         _ => Ok(None),
     }

@@ -133,10 +133,8 @@ fn carry_line<S: Source, K: Sink>(
     requires space { state.old.space ≡ first_space }
     requires kept { state.old.kept.items ≡ [] }
     requires heard { state.old.heard.items ≡ [] }
-    ensures replay {
-        ReplayOf (HasEnded result) state.new.kept.items state.new.heard.items (shelf_of ExtentHooks-dyn shelf.old)
-            (shelf_of ExtentHooks-dyn shelf.new) (K.held sink.old) (K.held sink.new)
-    }
+    ensures replay { ReplayOf (HasEnded result) state.new.kept.items state.new.heard.items (shelf_of ExtentHooks-dyn shelf.old)
+        (shelf_of ExtentHooks-dyn shelf.new) (K.held sink.old) (K.held sink.new) }
     ensures status { IfOk result (λ status. (status ≡ 0) ⊎ (status ≡ 3)) }
 {
     let answered = carry_call(state, shelf, CLIENT, wanted.size)?;
@@ -156,10 +154,8 @@ fn run_lines<S: Source, K: Sink>(
     requires space { state.old.space ≡ first_space }
     requires kept { state.old.kept.items ≡ [] }
     requires heard { state.old.heard.items ≡ [] }
-    ensures replay {
-        ReplayOf (HasEnded result) state.new.kept.items state.new.heard.items (shelf_of ExtentHooks-dyn shelf.old)
-            (shelf_of ExtentHooks-dyn shelf.new) (K.held sink.old) (K.held sink.new)
-    }
+    ensures replay { ReplayOf (HasEnded result) state.new.kept.items state.new.heard.items (shelf_of ExtentHooks-dyn shelf.old)
+        (shelf_of ExtentHooks-dyn shelf.new) (K.held sink.old) (K.held sink.new) }
     ensures status { IfOk result (λ status. (status ≡ 0) ⊎ (status ≡ 3)) }
 {
     let mut pending = Vec::new(alloc);
@@ -172,7 +168,15 @@ fn run_lines<S: Source, K: Sink>(
     let Some(wanted) = read_wanted(alloc, &pending[..end])? else {
         return refuse_line(alloc, sink, 1);
     };
-    carry_line(alloc, source, sink, shelf, state, &wanted, &pending[end + 1..])
+    carry_line(
+        alloc,
+        source,
+        sink,
+        shelf,
+        state,
+        &wanted,
+        &pending[end + 1..],
+    )
 }
 
 /// The journals of the arenas, of which only arena 0 has entries so far.
@@ -214,7 +218,7 @@ struct Ending {
 }
 
 /// The status and the journals after the lines: without memory for the journals, none and status 6.
-fn ending(alloc: Global, kept: Vec<Kept>, ended: Result<u8, Stop>) -> Ending
+fn end_of(alloc: Global, kept: Vec<Kept>, ended: Result<u8, Stop>) -> Ending
     requires { IfOk ended (λ status. (status ≡ 0) ⊎ (status ≡ 3)) }
     ensures whole { result.status ≡ 0 → HasEnded ended }
     ensures journals { result.status ≢ 6 → JournalsOf kept.items result.journals }
@@ -249,18 +253,20 @@ pub fn replay<S: Source, K: Sink>(
     // This clause asks nothing. By it callers in other crates know that no hooks are made in here: those that come back
     // are those that were handed in.
     requires { ⊤ }
-    ensures replay {
-        (kept : List KeptFacts) × ReplayOf (result.status ≡ 0) kept result.heard (shelf_of ExtentHooks-dyn shelf)
-            (shelf_of ExtentHooks-dyn result.shelf) (K.held sink.old) (K.held sink.new)
-            × (result.status ≢ 6 → JournalsOf kept result.journals)
-    }
+    ensures replay { (kept : List KeptFacts) × ReplayOf (result.status ≡ 0) kept result.heard (shelf_of ExtentHooks-dyn shelf)
+        (shelf_of ExtentHooks-dyn result.shelf) (K.held sink.old) (K.held sink.new)
+        × (result.status ≢ 6 → JournalsOf kept result.journals) }
     ensures status { result.status ≢ 2 }
 {
     let mut shelf = shelf;
     let mut state = State::new(alloc);
     let ended = run_lines(alloc, source, sink, &mut shelf, &mut state);
-    let State { space: _, kept, heard } = state;
-    let Ending { status, journals } = ending(alloc, kept, ended);
+    let State {
+        space: _,
+        kept,
+        heard,
+    } = state;
+    let Ending { status, journals } = end_of(alloc, kept, ended);
     Replayed {
         status,
         shelf,

@@ -1,4 +1,4 @@
-use Rattle.std.proofs.Common.{◌≡◌, ℕ, List, [], sym, ◌∙◌, ap, refl}
+use Rattle.std.proofs.Common.{[], sym, ◌∙◌, ap, refl}
 use Rattle.replay_run.specs.World.{fed, opened}
 use Rattle.replay_run.specs.Carried.{world_of}
 use Rattle.replay_run.proofs.Ways.{way_start}
@@ -21,15 +21,15 @@ go_on-requires-clause-underway g c = record {
 pub returns-clause-carried : goal.returns-clause-carried
 returns-clause-carried g c = λ text name.
     c.go_on.ensures (fed (world_of c.args.state.now.space c.args.state.now.kept.items text) (opened c.args.client name c.args.size) []) c.args.state.now.heard.items _ text
-        (opened c.args.client name c.args.size) (sym (c.next-need.ensures.client ∙ c.in_ok-call.ensures.client))
-        (way_start c.args.state.now.space c.args.state.now.kept.items c.args.state.now.heard.items _ text (opened c.args.client name c.args.size) c.next-need.new.self.stage refl
-            (λ more. ap (λ f. f more) (sym c.in_ok-call.ensures.reads) ∙ c.next-need.ensures.reads more))
+    (opened c.args.client name c.args.size) (sym (c.next-need.ensures.client ∙ c.in_ok-call.ensures.client))
+    (way_start c.args.state.now.space c.args.state.now.kept.items c.args.state.now.heard.items _ text (opened c.args.client name c.args.size) c.next-need.new.self.stage refl
+    (λ more. ap (λ f. f more) (sym c.in_ok-call.ensures.reads) ∙ c.next-need.ensures.reads more))
 
 pub returns-clause-arena : goal.returns-clause-arena
 returns-clause-arena g c =
     carried_arena
-        (c.go_on.ensures (fed (world_of c.args.state.now.space c.args.state.now.kept.items []) (opened c.args.client [] c.args.size) []) c.args.state.now.heard.items _ []
-            (opened c.args.client [] c.args.size) (sym (c.next-need.ensures.client ∙ c.in_ok-call.ensures.client))
-            (way_start c.args.state.now.space c.args.state.now.kept.items c.args.state.now.heard.items _ [] (opened c.args.client [] c.args.size) c.next-need.new.self.stage refl
-                (λ more. ap (λ f. f more) (sym c.in_ok-call.ensures.reads) ∙ c.next-need.ensures.reads more)))
-        (start_sane c.args.client c.args.size c.args.state.now.space c.args.state.now.kept.items [] [] c.requires.arena c.requires.client c.requires.large)
+    (c.go_on.ensures (fed (world_of c.args.state.now.space c.args.state.now.kept.items []) (opened c.args.client [] c.args.size) []) c.args.state.now.heard.items _ []
+    (opened c.args.client [] c.args.size) (sym (c.next-need.ensures.client ∙ c.in_ok-call.ensures.client))
+    (way_start c.args.state.now.space c.args.state.now.kept.items c.args.state.now.heard.items _ [] (opened c.args.client [] c.args.size) c.next-need.new.self.stage refl
+    (λ more. ap (λ f. f more) (sym c.in_ok-call.ensures.reads) ∙ c.next-need.ensures.reads more)))
+    (start_sane c.args.client c.args.size c.args.state.now.space c.args.state.now.kept.items [] [] c.requires.arena c.requires.client c.requires.large)

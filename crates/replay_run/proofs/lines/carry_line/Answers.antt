@@ -1,4 +1,4 @@
-use Rattle.std.proofs.Common.{arith, ◌≡◌, ℕ, List, [], ◌++◌, subst, Option, Result, Ok, Err, sym, ◌∙◌, ap, refl}
+use Rattle.std.proofs.Common.{arith, ◌≡◌, ℕ, List, [], ◌++◌, subst}
 use Rattle.std.specs.Io.KnownBytes.{Appends}
 use Rattle.std.proofs.KnownBytes.{Appends-trans}
 use Rattle.space_model.specs.Counts.{counts_of}
@@ -10,32 +10,34 @@ use Rattle.replay_run.proofs.lines.carry_line.Goals as goal
 pub returns-in_err-answered-clause-replay : goal.returns-in_err-answered-clause-replay
 returns-in_err-answered-clause-replay g c =
     replay_from (HasEnded c.from_residual.result) 0 [] c.args.wanted.now.size _ c.args.state.now.space c.args.state.now.kept.items c.args.state.now.heard.items
-        c.carry_call.new.state.space c.carry_call.new.state.kept.items c.carry_call.new.state.heard.items _ _ _ _
-        c.requires.space c.requires.kept c.requires.heard (omega (arith)) c.args.wanted.now.large (c.carry_call.ensures.carried [] [])
-        (λ done. absurd (not_ended c.from_residual.result c.from_residual.ensures.0 done))
+    c.carry_call.new.state.space c.carry_call.new.state.kept.items c.carry_call.new.state.heard.items _ _ _ _
+    c.requires.space c.requires.kept c.requires.heard (omega (arith)) c.args.wanted.now.large (c.carry_call.ensures.carried [] [])
+    (λ done. absurd (not_ended c.from_residual.result c.from_residual.ensures.0 done))
 
 pub returns-in_err-line-clause-replay : goal.returns-in_err-line-clause-replay
 returns-in_err-line-clause-replay g c =
     replay_from (HasEnded c.from_residual-in_err-line.result) 0 [] c.args.wanted.now.size _ c.args.state.now.space c.args.state.now.kept.items c.args.state.now.heard.items
-        c.carry_call.new.state.space c.carry_call.new.state.kept.items c.carry_call.new.state.heard.items _ _ _ _
-        c.requires.space c.requires.kept c.requires.heard (omega (arith)) c.args.wanted.now.large (c.carry_call.ensures.carried [] [])
-        (λ done. absurd (not_ended c.from_residual-in_err-line.result c.from_residual-in_err-line.ensures.0 done))
+    c.carry_call.new.state.space c.carry_call.new.state.kept.items c.carry_call.new.state.heard.items _ _ _ _
+    c.requires.space c.requires.kept c.requires.heard (omega (arith)) c.args.wanted.now.large (c.carry_call.ensures.carried [] [])
+    (λ done. absurd (not_ended c.from_residual-in_err-line.result c.from_residual-in_err-line.ensures.0 done))
 
 pub returns-in_err-print-clause-replay : goal.returns-in_err-print-clause-replay
 returns-in_err-print-clause-replay g c =
     replay_from (HasEnded c.from_residual-in_err-print.result) 0 [] c.args.wanted.now.size _ c.args.state.now.space c.args.state.now.kept.items c.args.state.now.heard.items
-        c.carry_call.new.state.space c.carry_call.new.state.kept.items c.carry_call.new.state.heard.items _ _ _ _
-        c.requires.space c.requires.kept c.requires.heard (omega (arith)) c.args.wanted.now.large (c.carry_call.ensures.carried [] [])
-        (λ done. absurd (not_ended c.from_residual-in_err-print.result c.from_residual-in_err-print.ensures.0 done))
+    c.carry_call.new.state.space c.carry_call.new.state.kept.items c.carry_call.new.state.heard.items _ _ _ _
+    c.requires.space c.requires.kept c.requires.heard (omega (arith)) c.args.wanted.now.large (c.carry_call.ensures.carried [] [])
+    (λ done. absurd (not_ended c.from_residual-in_err-print.result c.from_residual-in_err-print.ensures.0 done))
 
 pub returns-clause-replay : goal.returns-clause-replay
 returns-clause-replay g c =
     replay_from (HasEnded c.go_behind.result) 0 _ c.args.wanted.now.size _ c.args.state.now.space c.args.state.now.kept.items c.args.state.now.heard.items
-        c.carry_call.new.state.space c.carry_call.new.state.kept.items c.carry_call.new.state.heard.items _ _ _ _
-        c.requires.space c.requires.kept c.requires.heard (omega (arith)) c.args.wanted.now.large (c.carry_call.ensures.carried [] c.args.wanted.now.name)
-        (λ done.
-            let printed : c.deref.result.now ≡ malloc_line 0 c.args.wanted.now.name c.in_ok-answered.answered = cc (c.deref.ensures.value, c.in_ok-line.ensures, c.as_bytes.ensures.bytes) in
-            (c.in_ok-answered.answered, c.in_ok-answered.was,
-             subst (λ (text : List ℕ). Appends (g.K.Sink.held c.args.sink.now) (g.K.Sink.held c.go_behind.new.sink) (text ++ counts_line 0 (counts_of c.carry_call.new.state.space))) printed
-                 (Appends-trans (g.K.Sink.held c.args.sink.now) (g.K.Sink.held c.print.new.sink) (g.K.Sink.held c.go_behind.new.sink) c.deref.result.now
-                     (counts_line 0 (counts_of c.carry_call.new.state.space)) c.in_ok-print.ensures (at_end _ c.go_behind.result done c.go_behind.ensures.counts))))
+    c.carry_call.new.state.space c.carry_call.new.state.kept.items c.carry_call.new.state.heard.items _ _ _ _
+    c.requires.space c.requires.kept c.requires.heard (omega (arith)) c.args.wanted.now.large (c.carry_call.ensures.carried [] c.args.wanted.now.name)
+    (λ done.
+    let printed : c.deref.result.now ≡ malloc_line 0 c.args.wanted.now.name c.in_ok-answered.answered = cc (c.deref.ensures.value, c.in_ok-line.ensures, c.as_bytes.ensures.bytes) in (
+      c.in_ok-answered.answered,
+      c.in_ok-answered.was,
+      subst (λ (text : List ℕ). Appends (g.K.Sink.held c.args.sink.now) (g.K.Sink.held c.go_behind.new.sink) (text ++ counts_line 0 (counts_of c.carry_call.new.state.space))) printed
+          (Appends-trans (g.K.Sink.held c.args.sink.now) (g.K.Sink.held c.print.new.sink) (g.K.Sink.held c.go_behind.new.sink) c.deref.result.now
+          (counts_line 0 (counts_of c.carry_call.new.state.space)) c.in_ok-print.ensures (at_end _ c.go_behind.result done c.go_behind.ensures.counts)),
+    ))

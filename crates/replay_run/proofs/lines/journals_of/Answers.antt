@@ -1,4 +1,4 @@
-use Rattle.std.proofs.Common.{arith, map, ◌++◌, ◌≡◌, ◌⊎◌, inl, inr, ℕ, List, [], ◌∷◌, subst, sym, ◌∙◌, ap, refl}
+use Rattle.std.proofs.Common.{arith, map, ◌++◌, ◌≡◌, inr, ℕ, [], ◌∷◌, subst, sym, ◌∙◌, ap}
 use Rattle.std.specs.List.{range_with_len}
 use Rattle.hook_api.specs.declared.kept.Journal.{Journal}
 use Rattle.replay_run.specs.Replays.{JournalsOf}
@@ -8,13 +8,13 @@ use Rattle.replay_run.proofs.lines.journals_of.Goals as goal
 pub loop-index-init : goal.loop-index-init
 loop-index-init c =
     let only : c.push.new.self.items ≡ (record { index = 0; kept = c.args.kept.items }) ∷ [] =
-        cc (c.in_ok-push.ensures.items, c.new-journals.ensures.items, c.from_vec.ensures) in
+    cc (c.in_ok-push.ensures.items, c.new-journals.ensures.items, c.from_vec.ensures) in
     record { bound = omega (arith); indices = ap (map (λ (j : Journal). j.index)) only; first = ([], only) }
 
 pub loop-index-preserved : goal.loop-index-preserved
 loop-index-preserved c =
     let more : c.push-in-loop-index.new.self.items ≡ c.loop-index.journals.items ++ (record { index = c.loop-index.index; kept = [] }) ∷ [] =
-        cc (c.in_ok-push-2.ensures.items, c.new.ensures) in
+    cc (c.in_ok-push-2.ensures.items, c.new.ensures) in
     record {
       bound = omega (arith, c.loop-index-test.true);
       indices = ap (map (λ (j : Journal). j.index)) more ∙ indices_more c.loop-index.journals.items c.loop-index.index [] c.loop-index.invariant.indices;

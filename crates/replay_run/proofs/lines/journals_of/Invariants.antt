@@ -1,4 +1,4 @@
-use Rattle.std.proofs.Common.{◌≡◌, ◌≤◌, ◌-◌, ℕ, map}
+use Rattle.std.proofs.Common.{◌≡◌, ◌≤◌, ◌-◌, map}
 use Rattle.std.specs.List.{range_with_len}
 use Rattle.hook_api.specs.declared.kept.Journal.{Journal}
 use Rattle.replay_run.specs.Replays.{JournalsOf}

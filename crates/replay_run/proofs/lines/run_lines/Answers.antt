@@ -1,4 +1,4 @@
-use Rattle.std.proofs.Common.{arith, ◌≡◌, ℕ, List, [], ◌++◌, subst, sym, ◌∙◌, ap, refl}
+use Rattle.std.proofs.Common.{subst}
 use Rattle.std.specs.Io.KnownBytes.{Appends}
 use Rattle.space_model.specs.declared.Space.{Space}
 use Rattle.space_model.specs.Counts.{counts_of}
@@ -10,13 +10,13 @@ use Rattle.replay_run.proofs.lines.run_lines.Goals as goal
 pub returns-in_err-end-clause-replay : goal.returns-in_err-end-clause-replay
 returns-in_err-end-clause-replay g c =
     replay_of_none (HasEnded c.from_residual.result) c.args.state.now.kept.items c.args.state.now.heard.items _ _ _ c.requires.kept c.requires.heard
-        (λ done. absurd (not_ended c.from_residual.result c.from_residual.ensures.0 done))
+    (λ done. absurd (not_ended c.from_residual.result c.from_residual.ensures.0 done))
 
 pub returns-then-is_empty : goal.returns-then-is_empty
 returns-then-is_empty g c = record {
   replay = replay_of_none (HasEnded c.close.result) c.args.state.now.kept.items c.args.state.now.heard.items _ _ _ c.requires.kept c.requires.heard
       (λ done. subst (λ (s : Space). Appends (g.K.Sink.held c.args.sink.now) (g.K.Sink.held c.close.new.sink) (counts_line 0 (counts_of s))) c.requires.space
-          (at_end _ c.close.result done (at_zero _ c.close.result c.close.ensures.counts)));
+      (at_end _ c.close.result done (at_zero _ c.close.result c.close.ensures.counts)));
   status = one_of_two c.close.result c.close.ensures.status;
 }
 
@@ -30,9 +30,9 @@ returns-in_default g c = record {
 pub returns-in_err-wanted-clause-replay : goal.returns-in_err-wanted-clause-replay
 returns-in_err-wanted-clause-replay g c =
     replay_of_none (HasEnded c.from_residual-in_err-wanted.result) c.args.state.now.kept.items c.args.state.now.heard.items _ _ _ c.requires.kept c.requires.heard
-        (λ done. absurd (not_ended c.from_residual-in_err-wanted.result c.from_residual-in_err-wanted.ensures.0 done))
+    (λ done. absurd (not_ended c.from_residual-in_err-wanted.result c.from_residual-in_err-wanted.ensures.0 done))
 
 pub returns-in_default-2-clause-replay : goal.returns-in_default-2-clause-replay
 returns-in_default-2-clause-replay g c =
     replay_of_none (HasEnded c.refuse_line-in_default-2.result) c.args.state.now.kept.items c.args.state.now.heard.items _ _ _ c.requires.kept c.requires.heard
-        (λ done. absurd (not_refused c.refuse_line-in_default-2.result done c.refuse_line-in_default-2.ensures))
+    (λ done. absurd (not_refused c.refuse_line-in_default-2.result done c.refuse_line-in_default-2.ensures))
