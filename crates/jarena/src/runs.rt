@@ -1,8 +1,10 @@
 //! The top call: all that the program does, over a source, a sink and a shelf of hooks.
 
-ghost use Rattle.std.specs.Prelude.{◌≡◌, [], map, string_bytes};
+ghost use Rattle.std.specs.Prelude.{◌≡◌, ◌≢◌, List, [], map, string_bytes};
+ghost use Rattle.hook_api.specs.Kept.{KeptFacts};
 ghost use Rattle.hook_api.specs.ShelfOf.{shelf_of};
-ghost use Rattle.jarena.specs.Words.{TellsUsage, IsInNoList};
+ghost use Rattle.jarena.specs.Words.{TellsUsage, IsReplay, IsInNoList};
+ghost use Rattle.replay_run.specs.Replays.{ReplayOf, JournalsOf};
 
 use crate::words::{is_replay, tell_usage};
 use edge_io::{Sink, Source};
@@ -39,6 +41,8 @@ pub fn run<S: Source, K: Sink>(
     ensures unread { IsInNoList (map string_bytes words.now) → source.new ≡ source.old }
     ensures unasked { IsInNoList (map string_bytes words.now) → result.heard ≡ [] }
     ensures no_journals { IsInNoList (map string_bytes words.now) → result.journals ≡ [] }
+    ensures replay { IsReplay (map string_bytes words.now) → (kept : List KeptFacts) × ReplayOf (result.status ≡ 0) kept result.heard (shelf_of ExtentHooks-dyn shelf)
+        (shelf_of ExtentHooks-dyn result.shelf) (K.held sink.old) (K.held sink.new) × (result.status ≢ 6 → JournalsOf kept result.journals) }
     ensures same_shelf { IsInNoList (map string_bytes words.now) → shelf_of ExtentHooks-dyn result.shelf ≡ shelf_of ExtentHooks-dyn shelf }
 {
     if !is_replay(words) {
