@@ -4,3 +4,4 @@ pub mod Plays
 pub mod Ways
 pub mod Runs
 pub mod Replays
+pub mod Causes

@@ -3,3 +3,4 @@ pub mod Sane
 pub mod Carried
 pub mod Input
 pub mod Replays
+pub mod Causes

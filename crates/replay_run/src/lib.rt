@@ -6,7 +6,9 @@
 
 mod calls;
 mod input;
+mod laws;
 mod lines;
 mod state;
 
+pub use laws::answers_have_causes;
 pub use lines::{Replayed, replay};

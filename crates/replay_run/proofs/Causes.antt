@@ -1,0 +1,94 @@
+-- Each answer in a play has its cause.
+use Rattle.std.proofs.Common.{nat_lt, ◌≡◌, ℕ, List, [], ◌∷◌, ◌++◌, Option, Some, None, IfSome, refl, sym, subst}
+use Rattle.space_model.specs.Step.{step_of, op_stands}
+use Rattle.space_model.proofs.Pieces.{both_true}
+use Rattle.call_plan.specs.declared.needs.Request.{Request}
+use Rattle.call_plan.specs.declared.needs.Request.TheVariants.{Malloc}
+use Rattle.call_plan.specs.Reading.{Item, Replied, Told, WantTurn, WantAsk, Outcome, Ends, Waits, Astray}
+use Rattle.call_plan.specs.Calls.{reading}
+use Rattle.call_plan.specs.Causes.{ItemFits, AreReplies}
+use Rattle.call_plan.proofs.Causes.{replies-fit, items_fit-push, mallocs-have_causes}
+use Rattle.trace_text.specs.declared.lines.Line.{Line}
+use Rattle.trace_text.specs.declared.lines.Line.TheVariants.{Call}
+use Rattle.trace_text.specs.declared.lines.Verb.TheVariants.{Malloc as MallocVerb, Free}
+use Rattle.replay_run.specs.World.{Open, World, Move, Turned, Heard_, outcome_of, on_end, printed, begun, fed, opened, opening, moved, after_in, after_move, Fits, NextIn, IsNext, IsPlay}
+use Rattle.replay_run.specs.Sane.{Kept, Going, Sane}
+use Rattle.replay_run.specs.Causes.{items_in, IsExplained, EndsExplained, AllMoves, PlaysHaveCauses}
+use Rattle.replay_run.proofs.Plays.{after_sane, opening_sane, next_turn}
+use Rattle.replay_run.proofs.Replays.{first_good}
+
+-- what the open call was fed are replies to its turns and answers to its asks
+abbrev IsFed : World → Type 0
+IsFed w = IfSome w.call (λ call. AreReplies call.arena call.request call.items)
+
+-- a line opens a call that was fed nothing
+begun_fed : (lines : List Line) (w : World) → IsFed (begun lines w)
+begun_fed [] w = tt
+begun_fed (Call client (MallocVerb name size) ∷ lines) w =
+    let call : Open = opened client name size in
+    elim (outcome_of call) as (λ o. IsFed (on_end o (λ answer. begun lines (printed w call answer)) (record w { call = Some call; lines = lines }))) [
+      | Ends answer items ↦ begun_fed lines (printed w call answer)
+      | Waits want ↦ tt
+      | Astray ↦ tt
+    ]
+begun_fed (Call client (Free target) ∷ lines) w = begun_fed lines w
+
+-- a call that was fed one more
+fed_fed : (w : World) (call : Open) (lines : List Line) → AreReplies call.arena call.request call.items → IsFed (fed w call lines)
+fed_fed w call lines are =
+    elim (outcome_of call) as (λ o. IsFed (on_end o (λ answer. begun lines (printed w call answer)) (record w { call = Some call; lines = lines }))) [
+      | Ends answer items ↦ begun_fed lines (printed w call answer)
+      | Waits want ↦ are
+      | Astray ↦ are
+    ]
+
+-- a move that is needed feeds an item that fits
+fits_more : (w : World) (call : Open) (o : Outcome) (move : Move) → Kept w.space w.kept → Going w.space call → outcome_of call ≡ o → Fits w o move →
+    AreReplies call.arena call.request call.items → AreReplies call.arena call.request (call.items ++ items_in w call o move)
+fits_more w call (Waits (WantTurn arena op asked)) Turned known going e fits are =
+    items_fit-push (reading call.arena call.request) call.items (Replied (step_of w.space call.client op).reply) are
+    (subst (λ (o : Outcome). ItemFits o (Replied (step_of w.space call.client op).reply)) (sym e) (replies-fit w.space call.client op
+    (both_true (nat_lt call.client 32) (op_stands w.space call.client op) (next_turn w.space w.kept call arena op asked known going e).may).1))
+fits_more w call (Waits (WantAsk arena wanted)) (Heard_ asked) known going e fits are =
+    items_fit-push (reading call.arena call.request) call.items (Told asked) are
+    (subst (λ (o : Outcome). ItemFits o (Told asked)) (sym e) fits.0)
+fits_more w call (Waits (WantTurn arena op asked)) (Heard_ told) known going e fits are = absurd fits
+fits_more w call (Waits (WantAsk arena wanted)) Turned known going e fits are = absurd fits
+fits_more w call (Ends answer items) move known going e fits are = absurd fits
+fits_more w call Astray move known going e fits are = absurd fits
+
+-- so the next world's call is fed such items too
+moved_fed : (w : World) (call : Open) (o : Outcome) (move : Move) → Fits w o move →
+    AreReplies call.arena call.request (call.items ++ items_in w call o move) → IsFed (moved w call o move)
+moved_fed w call (Waits (WantTurn arena op asked)) Turned fits are =
+    fed_fed _ (record call { items = call.items ++ Replied (step_of w.space call.client op).reply ∷ [] }) w.lines are
+moved_fed w call (Waits (WantAsk arena wanted)) (Heard_ asked) fits are = fed_fed w (record call { items = call.items ++ Told asked ∷ [] }) w.lines are
+moved_fed w call (Waits (WantTurn arena op asked)) (Heard_ told) fits are = absurd fits
+moved_fed w call (Waits (WantAsk arena wanted)) Turned fits are = absurd fits
+moved_fed w call (Ends answer items) move fits are = absurd fits
+moved_fed w call Astray move fits are = absurd fits
+
+-- an answer after such items has its cause
+explained : (arena : ℕ) (request : Request) (items : List Item) → AreReplies arena request items → IsExplained arena request items
+explained arena (Malloc size) items are = λ answer run. mallocs-have_causes arena size items answer run are
+
+-- a move, by the open call
+move_at : (w : World) (o : Option Open) (move : Move) → w.call ≡ o → Sane w → IsFed w → IsNext w move →
+    IfSome o (λ call. IsExplained call.arena call.request (call.items ++ items_in w call (outcome_of call) move)) × IsFed (after_in w move o)
+move_at w None move e sane is next = absurd (subst (NextIn w move) e next)
+move_at w (Some call) move e sane is next =
+    let going : Going w.space call = subst (λ (o : Option Open). IfSome o (Going w.space)) e sane.call in
+    let fits : Fits w (outcome_of call) move = subst (NextIn w move) e next in
+    let are : AreReplies call.arena call.request call.items = subst (λ (o : Option Open). IfSome o (λ call. AreReplies call.arena call.request call.items)) e is in
+    let more = fits_more w call (outcome_of call) move sane.kept going refl fits are in
+    (explained call.arena call.request (call.items ++ items_in w call (outcome_of call) move) more, moved_fed w call (outcome_of call) move fits more)
+
+-- the moves of a play
+moves_explained : (w : World) (moves : List Move) → Sane w → IsFed w → IsPlay w moves → AllMoves EndsExplained w moves
+moves_explained w [] sane is play = tt
+moves_explained w (move ∷ moves) sane is play =
+    let here = move_at w w.call move refl sane is play.0 in
+    (here.0, moves_explained (after_move w move) moves (after_sane w move sane play.0) here.1 play.1)
+
+pub plays-have_causes : PlaysHaveCauses
+plays-have_causes lines moves carried play = moves_explained (opening lines) moves (opening_sane lines first_good carried) (begun_fed lines _) play

@@ -1,0 +1,9 @@
+//! Laws: what is true of the definitions, as contracts of functions that do nothing.
+
+ghost use Rattle.replay_run.specs.Causes.{PlaysHaveCauses};
+
+/// Whenever a move of a play ends a call, the call's answer has its cause in what that very call was fed: in the replies of
+/// its arena, and in the answers of its hooks.
+pub fn answers_have_causes()
+    ensures { PlaysHaveCauses }
+{}
