@@ -1,11 +1,18 @@
 -- Each answer in a play has its cause.
-use Rattle.std.proofs.Common.{nat_lt, ◌≡◌, ℕ, List, [], ◌∷◌, ◌++◌, Option, Some, None, IfSome, refl, sym, subst}
+use Rattle.std.proofs.Common.{nat_lt, ◌≡◌, List, [], ◌∷◌, ◌++◌, Option, Some, None, IfSome, refl, sym, ap, ◌∙◌, subst}
+use mathlib.Core.List.{append-nil}
 use Rattle.space_model.specs.Step.{step_of, op_stands}
 use Rattle.space_model.proofs.Pieces.{both_true}
 use Rattle.call_plan.specs.declared.needs.Request.{Request}
 use Rattle.call_plan.specs.declared.needs.Request.TheVariants.{Malloc}
 use Rattle.call_plan.specs.Reading.{Item, Replied, Told, WantTurn, WantAsk, Outcome, Ends, Waits, Astray}
+use Rattle.call_plan.specs.declared.stages.Stage.{Stage}
+use Rattle.call_plan.specs.declared.stages.Stage.TheVariants.{Get, Ended}
+use Rattle.call_plan.specs.declared.wishes.Getting.TheVariants.{Looking, SkipAsked, SkipCut, TrimAsked, TrimCut, GrowAsked, Growing, GrantAsked, GrantCut, CommitAsked, Committing, Landing}
+use Rattle.call_plan.specs.declared.needs.Answered.{Answered}
+use Rattle.call_plan.specs.Rest.{rest_of}
 use Rattle.call_plan.specs.Calls.{reading}
+use Rattle.space_model.specs.declared.Space.{Space}
 use Rattle.call_plan.specs.Causes.{ItemFits, AreReplies}
 use Rattle.call_plan.proofs.Causes.{replies-fit, items_fit-push, mallocs-have_causes}
 use Rattle.trace_text.specs.declared.lines.Line.{Line}
@@ -13,9 +20,9 @@ use Rattle.trace_text.specs.declared.lines.Line.TheVariants.{Call}
 use Rattle.trace_text.specs.declared.lines.Verb.TheVariants.{Malloc as MallocVerb, Free}
 use Rattle.replay_run.specs.World.{Open, World, Move, Turned, Heard_, outcome_of, on_end, printed, begun, fed, opened, opening, moved, after_in, after_move, Fits, NextIn, IsNext, IsPlay}
 use Rattle.replay_run.specs.Sane.{Kept, Going, Sane}
-use Rattle.replay_run.specs.Causes.{items_in, IsExplained, EndsExplained, AllMoves, PlaysHaveCauses}
-use Rattle.replay_run.proofs.Plays.{after_sane, opening_sane, next_turn}
-use Rattle.replay_run.proofs.Replays.{first_good}
+use Rattle.replay_run.specs.Causes.{items_in, IsExplained, EndsExplained, AllMoves, PlaysHaveCauses, AnswersAtOnceHaveCauses}
+use Rattle.replay_run.proofs.Plays.{after_sane, opened_going, opening_sane, first_good, next_turn, turned_going, heard_going}
+use Rattle.space_model.specs.Opening.{first_space}
 
 -- what the open call was fed are replies to its turns and answers to its asks
 abbrev IsFed : World → Type 0
@@ -68,9 +75,40 @@ moved_fed w call (Waits (WantAsk arena wanted)) Turned fits are = absurd fits
 moved_fed w call (Ends answer items) move fits are = absurd fits
 moved_fed w call Astray move fits are = absurd fits
 
+-- a call that ended leaves nothing of what it was fed
+nothing_left : (stage : Stage) (answer : Answered) (left : List Item) → rest_of stage [] ≡ Ends answer left → left ≡ []
+nothing_left (Ended other) answer left e = cc
+nothing_left (Get wish Looking) answer left e = absurd (cc)
+nothing_left (Get wish (SkipAsked span is_committed skip)) answer left e = absurd (cc)
+nothing_left (Get wish (SkipCut is_committed asked)) answer left e = absurd (cc)
+nothing_left (Get wish (TrimAsked span is_committed)) answer left e = absurd (cc)
+nothing_left (Get wish (TrimCut is_committed asked)) answer left e = absurd (cc)
+nothing_left (Get wish GrowAsked) answer left e = absurd (cc)
+nothing_left (Get wish (Growing asked)) answer left e = absurd (cc)
+nothing_left (Get wish (GrantAsked span is_committed)) answer left e = absurd (cc)
+nothing_left (Get wish (GrantCut is_committed asked)) answer left e = absurd (cc)
+nothing_left (Get wish (CommitAsked span)) answer left e = absurd (cc)
+nothing_left (Get wish (Committing span asked)) answer left e = absurd (cc)
+nothing_left (Get wish (Landing span)) answer left e = absurd (cc)
+
 -- an answer after such items has its cause
-explained : (arena : ℕ) (request : Request) (items : List Item) → AreReplies arena request items → IsExplained arena request items
-explained arena (Malloc size) items are = λ answer run. mallocs-have_causes arena size items answer run are
+explained : (s : Space) (call : Open) (request : Request) → call.request ≡ request → Going s call → AreReplies call.arena request call.items →
+    IsExplained call.arena request call.items
+explained s call (Malloc size) is going are = λ answer left ends.
+    let here : rest_of going.stage [] ≡ Ends answer left =
+    sym (going.reads []) ∙ ap (reading call.arena call.request) (append-nil call.items) ∙ ap (λ r. reading call.arena r call.items) is ∙ ends in
+    mallocs-have_causes call.arena size call.items answer
+    (subst (λ (xs : List Item). reading call.arena (Malloc size) call.items ≡ Ends answer xs) (nothing_left going.stage answer left here) ends) are
+
+-- the call that a needed move leads on
+going_after : (w : World) (call : Open) (o : Outcome) (move : Move) → Kept w.space w.kept → Going w.space call → outcome_of call ≡ o → Fits w o move →
+    (s : Space) × Going s (record call { items = call.items ++ items_in w call o move })
+going_after w call (Waits (WantTurn arena op asked)) Turned known going e fits = (_, turned_going w call arena op asked known going e)
+going_after w call (Waits (WantAsk arena wanted)) (Heard_ asked) known going e fits = (_, heard_going w call arena wanted asked going e fits.0 fits.2)
+going_after w call (Waits (WantTurn arena op asked)) (Heard_ told) known going e fits = absurd fits
+going_after w call (Waits (WantAsk arena wanted)) Turned known going e fits = absurd fits
+going_after w call (Ends answer items) move known going e fits = absurd fits
+going_after w call Astray move known going e fits = absurd fits
 
 -- a move, by the open call
 move_at : (w : World) (o : Option Open) (move : Move) → w.call ≡ o → Sane w → IsFed w → IsNext w move →
@@ -80,8 +118,9 @@ move_at w (Some call) move e sane is next =
     let going : Going w.space call = subst (λ (o : Option Open). IfSome o (Going w.space)) e sane.call in
     let fits : Fits w (outcome_of call) move = subst (NextIn w move) e next in
     let are : AreReplies call.arena call.request call.items = subst (λ (o : Option Open). IfSome o (λ call. AreReplies call.arena call.request call.items)) e is in
+    let after = going_after w call (outcome_of call) move sane.kept going refl fits in
     let more = fits_more w call (outcome_of call) move sane.kept going refl fits are in
-    (explained call.arena call.request (call.items ++ items_in w call (outcome_of call) move) more, moved_fed w call (outcome_of call) move fits more)
+    (explained after.0 (record call { items = call.items ++ items_in w call (outcome_of call) move }) call.request refl after.1 more, moved_fed w call (outcome_of call) move fits more)
 
 -- the moves of a play
 moves_explained : (w : World) (moves : List Move) → Sane w → IsFed w → IsPlay w moves → AllMoves EndsExplained w moves
@@ -92,3 +131,7 @@ moves_explained w (move ∷ moves) sane is play =
 
 pub plays-have_causes : PlaysHaveCauses
 plays-have_causes lines moves carried play = moves_explained (opening lines) moves (opening_sane lines first_good carried) (begun_fed lines _) play
+
+pub answers-at_once_have_causes : AnswersAtOnceHaveCauses
+answers-at_once_have_causes client size own large =
+    explained first_space (opened client [] size) (Malloc size) refl (opened_going first_space client [] size own large) tt

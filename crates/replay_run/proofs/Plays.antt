@@ -44,6 +44,7 @@ use Rattle.space_model.specs.declared.Ask.{Ask}
 use Rattle.trace_text.specs.declared.lines.Line.{Line}
 use Rattle.trace_text.specs.declared.lines.Line.TheVariants.{Call}
 use Rattle.trace_text.specs.declared.lines.Verb.TheVariants.{Malloc as MallocVerb, Free}
+use Rattle.space_model.proofs.LawLemmas.{first_replays_are_good}
 use Rattle.replay_run.specs.World.{Open, World, outcome_of, on_end, printed, opened, begun, fed, Move, Turned, Heard_, turned, moved, after_in, after_move, Fits, NextIn, IsNext, IsPlay, world_after, empty_world, opening, AllWorlds, entries_of, IsSound, IsCarried}
 use Rattle.replay_run.specs.Sane.{Kept, Going, Sane}
 use Rattle.replay_run.proofs.Frames.{step_frame}
@@ -181,6 +182,23 @@ turn_law s kept call arena op asked known going here =
     subst (GoesOn call.client s going.stage) (needed_turn going.stage arena op asked here).found
     (turns-go_on call.client s going.stage arena op asked None (ground s kept call.client known going.client) going.planned going.knows here)
 
+-- an open call after its turn
+pub turned_going : (w : World) (call : Open) (arena : ℕ) (op : Op) (asked : Option AskFacts) → Kept w.space w.kept → Going w.space call →
+    outcome_of call ≡ Waits (WantTurn arena op asked) →
+    Going (step_of w.space call.client op).after (record call { items = call.items ++ Replied (step_of w.space call.client op).reply ∷ [] })
+turned_going w call arena op asked known going e =
+    let here = waits_there call going.stage (Waits (WantTurn arena op asked)) going.reads e in
+    let law = turn_law w.space w.kept call arena op asked known going here in
+    let step = step_of w.space call.client op in
+    let after : Stage = stage_after going.stage (FedReply step.reply) in record {
+      client = going.client;
+      stage = after;
+      reads = reads_more call (Replied step.reply) going.stage after going.reads
+          (λ more. reply-reads going.stage (WantTurn arena op asked) step.reply here law.fitting more);
+      planned = planned-reply going.stage step.reply going.planned;
+      knows = law.knows;
+    }
+
 turned_sane : (w : World) (call : Open) (arena : ℕ) (op : Op) (asked : Option AskFacts) → Kept w.space w.kept → Going w.space call → All IsCarried w.lines →
     outcome_of call ≡ Waits (WantTurn arena op asked) → Sane (turned w call op asked)
 turned_sane w call arena op asked known going carried e =
@@ -189,36 +207,32 @@ turned_sane w call arena op asked known going carried e =
     let law = turn_law s w.kept call arena op asked known going here in
     let step = step_of s call.client op in
     let entry : Entry = record { client = call.client; op = op } in
-    let after : Stage = stage_after going.stage (FedReply step.reply) in
     let may : stands s entry ≡ true = ap (λ b. b && op_stands s call.client op) (lt-ltb _ _ going.client) ∙ law.stands in
     fed_sane (record w { space = step.after; kept = w.kept ++ (record { entry = entry; asked = asked }) ∷ [] })
     (record call { items = call.items ++ Replied step.reply ∷ [] }) w.lines
-    (kept_after s w.kept entry asked known may)
-    (record {
-      client = going.client;
-      stage = after;
-      reads = reads_more call (Replied step.reply) going.stage after going.reads
-          (λ more. reply-reads going.stage (WantTurn arena op asked) step.reply here law.fitting more);
-      planned = planned-reply going.stage step.reply going.planned;
-      knows = law.knows;
-    }) carried
+    (kept_after s w.kept entry asked known may) (turned_going w call arena op asked known going e) carried
 
-heard_sane : (w : World) (call : Open) (arena : ℕ) (wanted : Ask) (asked : AskFacts) → Kept w.space w.kept → Going w.space call → All IsCarried w.lines →
+-- an open call after its ask
+pub heard_going : (w : World) (call : Open) (arena : ℕ) (wanted : Ask) (asked : AskFacts) → Going w.space call →
     outcome_of call ≡ Waits (WantAsk arena wanted) → asked.ask ≡ wanted → Answers wanted asked.answer →
-    Sane (fed w (record call { items = call.items ++ Told asked ∷ [] }) w.lines)
-heard_sane w call arena wanted asked known going carried e same answers =
+    Going w.space (record call { items = call.items ++ Told asked ∷ [] })
+heard_going w call arena wanted asked going e same answers =
     let here = waits_there call going.stage (Waits (WantAsk arena wanted)) going.reads e in
     let law = asks-go_on call.client w.space going.stage arena wanted asked going.knows here same answers in
-    let after : Stage = stage_after going.stage (Answer asked) in
-    fed_sane w (record call { items = call.items ++ Told asked ∷ [] }) w.lines known
-    (record {
+    let after : Stage = stage_after going.stage (Answer asked) in record {
       client = going.client;
       stage = after;
       reads = reads_more call (Told asked) going.stage after going.reads
           (λ more. answer-reads going.stage (WantAsk arena wanted) asked here law.0 more);
       planned = planned-answer going.stage asked going.planned;
       knows = law.1;
-    }) carried
+    }
+
+heard_sane : (w : World) (call : Open) (arena : ℕ) (wanted : Ask) (asked : AskFacts) → Kept w.space w.kept → Going w.space call → All IsCarried w.lines →
+    outcome_of call ≡ Waits (WantAsk arena wanted) → asked.ask ≡ wanted → Answers wanted asked.answer →
+    Sane (fed w (record call { items = call.items ++ Told asked ∷ [] }) w.lines)
+heard_sane w call arena wanted asked known going carried e same answers =
+    fed_sane w (record call { items = call.items ++ Told asked ∷ [] }) w.lines known (heard_going w call arena wanted asked going e same answers) carried
 
 moved_sane : (w : World) (call : Open) (o : Outcome) (move : Move) → Kept w.space w.kept → Going w.space call → All IsCarried w.lines →
     outcome_of call ≡ o → Fits w o move → Sane (moved w call o move)
@@ -253,6 +267,10 @@ sane-sound w sane = record { replayed = sane.kept.replayed; stand = sane.kept.st
 pub play_sound : (w : World) (moves : List Move) → Sane w → IsPlay w moves → AllWorlds IsSound w moves
 play_sound w [] sane play = sane-sound w sane
 play_sound w (move ∷ moves) sane play = (sane-sound w sane, play_sound (after_move w move) moves (after_sane w move sane play.0) play.1)
+
+-- the first space is good
+pub first_good : Good [] first_space
+first_good = first_replays_are_good [] refl
 
 -- the opening world
 pub opening_sane : (lines : List Line) → Good [] first_space → All IsCarried lines → Sane (opening lines)

@@ -6,12 +6,10 @@ use Rattle.std.specs.Io.KnownBytes.{Appends}
 use Rattle.std.specs.Result.{IsErr}
 use Rattle.space_model.specs.declared.Space.{Space}
 use Rattle.space_model.specs.Opening.{first_space}
-use Rattle.space_model.specs.Journal.{Good}
 use Rattle.space_model.specs.Counts.{counts_of}
 use Rattle.std.specs.List.{range_with_len}
 use Rattle.space_model.proofs.Ranges.{range_with_len_more}
 use Rattle.hook_api.specs.declared.kept.Journal.{Journal}
-use Rattle.space_model.proofs.LawLemmas.{first_replays_are_good}
 use Rattle.hook_api.specs.Asked.{AskFacts}
 use Rattle.hook_api.specs.Chain.{AskChain}
 use Rattle.hook_api.specs.Kept.{KeptFacts}
@@ -24,12 +22,9 @@ use Rattle.replay_run.specs.World.{World, Open, idle, printed, fed, opened, open
 use Rattle.replay_run.specs.Sane.{Kept}
 use Rattle.replay_run.specs.Carried.{world_of, Carried}
 use Rattle.replay_run.specs.Replays.{ReplayOf, Reports, HasEnded, JournalsOf}
-use Rattle.replay_run.proofs.Plays.{play_sound, opening_sane}
+use Rattle.replay_run.proofs.Plays.{play_sound, opening_sane, first_good}
+use Rattle.replay_run.proofs.Causes.{plays-have_causes}
 use Rattle.replay_run.proofs.Runs.{start_sane}
-
--- the first space is good
-pub first_good : Good [] first_space
-first_good = first_replays_are_good [] refl
 
 -- what is known of an arena at the start
 pub first_kept : (s : Space) (kept : List KeptFacts) → s ≡ first_space → kept ≡ [] → Kept s kept
@@ -47,6 +42,7 @@ replay_of_none whole kept heard shelf before after no_entries no_asks prints = r
   moves = [];
   play = tt;
   sound = play_sound (opening []) [] (opening_sane [] first_good (All-nil IsCarried)) tt;
+  causes = tt;
   in_journal = sym no_entries;
   hears = sym no_asks;
   chain = subst (λ (asks : List AskFacts). AskChain shelf asks shelf) (sym no_asks) (refl);
@@ -73,6 +69,8 @@ replay_of_malloc whole {E} client name size r space kept heard shelf_before shel
   play = way.played.play;
   sound = play_sound (fed (world_of first_space [] []) (opened client name size) []) way.played.moves
       (start_sane client size first_space [] [] name (first_kept first_space [] refl refl) own large) way.played.play;
+  causes = plays-have_causes (Call client (MallocVerb name size) ∷ []) way.played.moves
+      (All-cons IsCarried (Call client (MallocVerb name size)) [] (own, large) (All-nil IsCarried)) way.played.play;
   in_journal = way.played.in_journal;
   hears = sym way.played.hears;
   chain = subst (λ (asks : List AskFacts). AskChain shelf_before asks shelf) (sym way.played.hears) way.played.chain;
@@ -147,6 +145,7 @@ replay_weaker whole weaker kept heard asks shelf_before shelf before after same 
   moves = way.moves;
   play = way.play;
   sound = way.sound;
+  causes = way.causes;
   in_journal = way.in_journal;
   hears = way.hears ∙ sym same;
   chain = subst (λ (xs : List AskFacts). AskChain shelf_before xs shelf) (sym same) way.chain;

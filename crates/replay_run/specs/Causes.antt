@@ -1,11 +1,11 @@
 -- Why each call of a play has its answer.
-use Rattle.std.specs.Prelude.{ℕ, List, [], ◌∷◌, ◌++◌, IfSome, All}
+use Rattle.std.specs.Prelude.{◌≡◌, ◌<◌, ℕ, List, [], ◌∷◌, ◌++◌, IfSome, All}
 use Rattle.space_model.specs.Step.{step_of}
 use Rattle.call_plan.specs.declared.needs.Answered.{Answered}
 use Rattle.call_plan.specs.declared.needs.Request.{Request}
 use Rattle.call_plan.specs.declared.needs.Request.TheVariants.{Malloc}
-use Rattle.call_plan.specs.Reading.{Item, Replied, Told, WantTurn, WantAsk, Outcome, Waits}
-use Rattle.call_plan.specs.Calls.{Run}
+use Rattle.call_plan.specs.Reading.{Item, Replied, Told, WantTurn, WantAsk, Outcome, Waits, Ends}
+use Rattle.call_plan.specs.Calls.{reading}
 use Rattle.call_plan.specs.Causes.{Explained}
 use Rattle.trace_text.specs.declared.lines.Line.{Line}
 use Rattle.replay_run.specs.World.{Open, World, Move, Turned, Heard_, outcome_of, opening, after_move, IsPlay, IsCarried}
@@ -18,7 +18,7 @@ items_in w call outcome move = []
 
 -- where a call ends with these items, its answer has its cause among them
 abbrev pub IsExplained : ℕ → Request → List Item → Type 0
-IsExplained arena (Malloc size) items = (answer : Answered) → Run arena (Malloc size) items answer → Explained arena size items answer
+IsExplained arena (Malloc size) items = (answer : Answered) (left : List Item) → reading arena (Malloc size) items ≡ Ends answer left → Explained arena size items answer
 
 -- where a move ends the open call, the answer has its cause in what that very call was fed
 abbrev pub EndsExplained : World → Move → Type 0
@@ -32,3 +32,7 @@ AllMoves P w (move ∷ moves) = P w move × AllMoves P (after_move w move) moves
 -- each answer in each play of lines that can be carried out has its cause
 abbrev pub PlaysHaveCauses : Type 0
 PlaysHaveCauses = (lines : List Line) (moves : List Move) → All IsCarried lines → IsPlay (opening lines) moves → AllMoves EndsExplained (opening lines) moves
+
+-- a malloc that ends at once, before it is fed anything, has its cause too
+abbrev pub AnswersAtOnceHaveCauses : Type 0
+AnswersAtOnceHaveCauses = (client size : ℕ) → client < 32 → 14336 < size → IsExplained 0 (Malloc size) []

@@ -7,6 +7,7 @@ use Rattle.hook_api.specs.Kept.{KeptFacts}
 use Rattle.hook_api.specs.Shelf.{Shelf}
 use Rattle.hook_api.specs.declared.kept.Journal.{Journal}
 use Rattle.trace_text.specs.declared.lines.Line.{Line}
+use Rattle.replay_run.specs.Causes.{AllMoves, EndsExplained}
 use Rattle.replay_run.specs.World.{World, Move, IsPlay, IsSound, IsCarried, IsComplete, AllWorlds, opening, closing, world_after, asks_in}
 
 -- every line was carried out
@@ -18,8 +19,8 @@ HasEnded (Err error) = ⊥
 abbrev pub Reports : World → Option (List ℕ) → Option (List ℕ) → Type 0
 Reports w before after = IsComplete w × Appends before after (w.text ++ closing w)
 
--- What was carried out is a play from the opening world of some lines on, each world of which is sound: the journal is that
--- of its last world, the asks are those of its moves, and they are a chain of the shelf. Where the replay is whole, the
+-- What was carried out is a play from the opening world of some lines on, each world of which is sound, and each answer of
+-- which has its cause: the journal is that of its last world, the asks are those of its moves, and they are a chain of the shelf. Where the replay is whole, the
 -- play is complete, and the report of its last world is what was printed.
 pub record ReplayOf (whole : Type 0) (kept : List KeptFacts) (heard : List AskFacts) (shelf_before shelf_after : Shelf)
     (before after : Option (List ℕ)) : Type 0 where
@@ -28,6 +29,7 @@ pub record ReplayOf (whole : Type 0) (kept : List KeptFacts) (heard : List AskFa
   pub moves : List Move
   pub play : IsPlay (opening lines) moves
   pub sound : AllWorlds IsSound (opening lines) moves
+  pub causes : AllMoves EndsExplained (opening lines) moves
   pub in_journal : (world_after (opening lines) moves).kept ≡ kept
   pub hears : asks_in moves ≡ heard
   pub chain : AskChain shelf_before heard shelf_after
