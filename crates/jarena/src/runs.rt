@@ -1,6 +1,6 @@
 //! The top call: all that the program does, over a source, a sink and a shelf of hooks.
 
-ghost use Rattle.std.specs.Prelude.{◌≡◌, ◌≢◌, List, [], map, string_bytes};
+ghost use Rattle.std.specs.Prelude.{◌≡◌, ◌≢◌, true, List, [], map, string_bytes};
 ghost use Rattle.hook_api.specs.Kept.{KeptFacts};
 ghost use Rattle.hook_api.specs.ShelfOf.{shelf_of};
 ghost use Rattle.jarena.specs.Words.{TellsUsage, IsReplay, IsInNoList};
@@ -42,7 +42,8 @@ pub fn run<S: Source, K: Sink>(
     ensures unasked { IsInNoList (map string_bytes words.now) → result.heard ≡ [] }
     ensures no_journals { IsInNoList (map string_bytes words.now) → result.journals ≡ [] }
     ensures replay { IsReplay (map string_bytes words.now) → (kept : List KeptFacts) × ReplayOf (result.status ≡ 0) kept result.heard (shelf_of ExtentHooks-dyn shelf)
-        (shelf_of ExtentHooks-dyn result.shelf) (K.held sink.old) (K.held sink.new) × (result.status ≢ 6 → JournalsOf kept result.journals) }
+        (shelf_of ExtentHooks-dyn result.shelf) (S.left source.old) (K.held sink.old) (K.held sink.new) × (result.status ≢ 6 → JournalsOf kept result.journals) }
+    ensures ended { IsReplay (map string_bytes words.now) → result.status ≡ 0 → S.ended source.new ≡ true }
     ensures same_shelf { IsInNoList (map string_bytes words.now) → shelf_of ExtentHooks-dyn result.shelf ≡ shelf_of ExtentHooks-dyn shelf }
 {
     if !is_replay(words) {

@@ -5,3 +5,4 @@ pub mod Ways
 pub mod Runs
 pub mod Replays
 pub mod Causes
+pub mod LinesRead

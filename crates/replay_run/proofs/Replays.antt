@@ -21,7 +21,7 @@ use Rattle.trace_text.specs.declared.lines.Verb.TheVariants.{Malloc as MallocVer
 use Rattle.replay_run.specs.World.{World, Open, idle, printed, fed, opened, opening, world_after, IsCarried}
 use Rattle.replay_run.specs.Sane.{Kept}
 use Rattle.replay_run.specs.Carried.{world_of, Carried}
-use Rattle.replay_run.specs.Replays.{ReplayOf, Reports, HasEnded, JournalsOf}
+use Rattle.replay_run.specs.Replays.{ReplayOf, ReadsWhole, Reports, HasEnded, JournalsOf}
 use Rattle.replay_run.proofs.Plays.{play_sound, opening_sane, first_good}
 use Rattle.replay_run.proofs.Causes.{plays-have_causes}
 use Rattle.replay_run.proofs.Runs.{start_sane}
@@ -33,10 +33,10 @@ first_kept s kept is none =
     (record { replayed = refl; stand = refl; good = first_good; live = refl; bound = refl }))
 
 -- nothing was carried out
-pub replay_of_none : (whole : Type 0) (kept : List KeptFacts) (heard : List AskFacts) (shelf : Shelf) (before after : Option (List ℕ)) →
-    kept ≡ [] → heard ≡ [] → (whole → Appends before after (counts_line 0 (counts_of first_space))) →
-    ReplayOf whole kept heard shelf shelf before after
-replay_of_none whole kept heard shelf before after no_entries no_asks prints = record {
+pub replay_of_none : (whole : Type 0) (kept : List KeptFacts) (heard : List AskFacts) (shelf : Shelf) (left before after : Option (List ℕ)) →
+    kept ≡ [] → heard ≡ [] → (whole → Appends before after (counts_line 0 (counts_of first_space))) → (whole → ReadsWhole [] left) →
+    ReplayOf whole kept heard shelf shelf left before after
+replay_of_none whole kept heard shelf left before after no_entries no_asks prints reads = record {
   lines = [];
   carried = All-nil IsCarried;
   moves = [];
@@ -47,6 +47,7 @@ replay_of_none whole kept heard shelf before after no_entries no_asks prints = r
   hears = sym no_asks;
   chain = subst (λ (asks : List AskFacts). AskChain shelf asks shelf) (sym no_asks) (refl);
   report = λ done. (refl, prints done);
+  reads = reads;
 }
 
 -- a world in which the answer of a call is printed, behind nothing
@@ -57,12 +58,13 @@ last_report w space kept call answer before after is prints = subst (λ (x : Wor
 
 -- a single malloc was carried out
 pub replay_of_malloc : (whole : Type 0) {E : Type 0} (client : ℕ) (name : List ℕ) (size : ℕ) (r : Result Answered E) (space : Space) (kept : List KeptFacts)
-    (heard : List AskFacts) (shelf_before shelf : Shelf) (before after : Option (List ℕ)) →
+    (heard : List AskFacts) (shelf_before shelf : Shelf) (left before after : Option (List ℕ)) →
     client < 32 → 14336 < size →
     Carried (fed (world_of first_space [] []) (opened client name size) []) [] shelf_before space kept heard shelf [] (opened client name size) r →
     (whole → (answer : Answered) × (r ≡ Ok answer) × Appends before after (malloc_line client name answer ++ counts_line 0 (counts_of space))) →
-    ReplayOf whole kept heard shelf_before shelf before after
-replay_of_malloc whole {E} client name size r space kept heard shelf_before shelf before after own large way prints = record {
+    (whole → ReadsWhole (Call client (MallocVerb name size) ∷ []) left) →
+    ReplayOf whole kept heard shelf_before shelf left before after
+replay_of_malloc whole {E} client name size r space kept heard shelf_before shelf left before after own large way prints reads = record {
   lines = Call client (MallocVerb name size) ∷ [];
   carried = All-cons IsCarried (Call client (MallocVerb name size)) [] (own, large) (All-nil IsCarried);
   moves = way.played.moves;
@@ -79,6 +81,7 @@ replay_of_malloc whole {E} client name size r space kept heard shelf_before shel
       (let ended = subst (λ (x : Result Answered E). IfOk x (λ answer. world_after (fed (world_of first_space [] []) (opened client name size) []) way.played.moves
       ≡ idle (printed (world_of space kept []) (opened client name size) answer))) told.1 way.ended in ended)
       told.2;
+  reads = reads;
 }
 
 -- a replay that stopped hasn't ended
@@ -111,19 +114,30 @@ pub at_zero : {E : Type 0} (P : Type 0) (r : Result ℕ E) → IfOk r (λ _. P) 
 at_zero P (Ok status) is = λ _. is
 at_zero P (Err error) is = tt
 
+-- what is true is true at status 0
+pub always : {E : Type 0} (P : Type 0) (r : Result ℕ E) → P → IfOk r (λ status. status ≡ 0 → P)
+always P (Ok status) is = λ _. is
+always P (Err error) is = tt
+
+-- status 3 isn't status 0
+pub never_zero : {E : Type 0} (P : Type 0) (r : Result ℕ E) → IfOk r (λ status. status ≡ 3) → IfOk r (λ status. status ≡ 0 → P)
+never_zero P (Ok status) is = λ zero. absurd (cc (is, zero))
+never_zero P (Err error) is = tt
+
 -- a single malloc was carried out, from an arena that is the first one
 pub replay_from : (whole : Type 0) {E : Type 0} (client : ℕ) (name : List ℕ) (size : ℕ) (r : Result Answered E) (first : Space) (entries : List KeptFacts) (asks : List AskFacts)
-    (space : Space) (kept : List KeptFacts) (heard : List AskFacts) (shelf_before shelf : Shelf) (before after : Option (List ℕ)) →
+    (space : Space) (kept : List KeptFacts) (heard : List AskFacts) (shelf_before shelf : Shelf) (left before after : Option (List ℕ)) →
     first ≡ first_space → entries ≡ [] → asks ≡ [] → client < 32 → 14336 < size →
     Carried (fed (world_of first entries []) (opened client name size) []) asks shelf_before space kept heard shelf [] (opened client name size) r →
     (whole → (answer : Answered) × (r ≡ Ok answer) × Appends before after (malloc_line client name answer ++ counts_line 0 (counts_of space))) →
-    ReplayOf whole kept heard shelf_before shelf before after
-replay_from whole {E} client name size r first entries asks space kept heard shelf_before shelf before after a b d own large way prints =
-    replay_of_malloc whole client name size r space kept heard shelf_before shelf before after own large
+    (whole → ReadsWhole (Call client (MallocVerb name size) ∷ []) left) →
+    ReplayOf whole kept heard shelf_before shelf left before after
+replay_from whole {E} client name size r first entries asks space kept heard shelf_before shelf left before after a b d own large way prints reads =
+    replay_of_malloc whole client name size r space kept heard shelf_before shelf left before after own large
     (subst (λ (s : Space). Carried (fed (world_of s [] []) (opened client name size) []) [] shelf_before space kept heard shelf [] (opened client name size) r) a
     (subst (λ (k : List KeptFacts). Carried (fed (world_of first k []) (opened client name size) []) [] shelf_before space kept heard shelf [] (opened client name size) r) b
     (subst (λ (h : List AskFacts). Carried (fed (world_of first entries []) (opened client name size) []) h shelf_before space kept heard shelf [] (opened client name size) r) d way)))
-    prints
+    prints reads
 
 -- the journals of the first arenas, with the next one
 pub indices_more : (journals : List Journal) (index : ℕ) (kept : List KeptFacts) → map (λ (j : Journal). j.index) journals ≡ range_with_len 0 index →
@@ -137,9 +151,9 @@ pub first_more : (kept : List KeptFacts) (journals more : List Journal) → Jour
 first_more kept journals more first = (first.0 ++ more, ap (λ (xs : List Journal). xs ++ more) first.1)
 
 -- a replay that is whole where less is asked for
-pub replay_weaker : (whole weaker : Type 0) (kept : List KeptFacts) (heard asks : List AskFacts) (shelf_before shelf : Shelf) (before after : Option (List ℕ)) →
-    asks ≡ heard → (weaker → whole) → ReplayOf whole kept heard shelf_before shelf before after → ReplayOf weaker kept asks shelf_before shelf before after
-replay_weaker whole weaker kept heard asks shelf_before shelf before after same leads way = record {
+pub replay_weaker : (whole weaker : Type 0) (kept : List KeptFacts) (heard asks : List AskFacts) (shelf_before shelf : Shelf) (left before after : Option (List ℕ)) →
+    asks ≡ heard → (weaker → whole) → ReplayOf whole kept heard shelf_before shelf left before after → ReplayOf weaker kept asks shelf_before shelf left before after
+replay_weaker whole weaker kept heard asks shelf_before shelf left before after same leads way = record {
   lines = way.lines;
   carried = way.carried;
   moves = way.moves;
@@ -150,4 +164,5 @@ replay_weaker whole weaker kept heard asks shelf_before shelf before after same 
   hears = way.hears ∙ sym same;
   chain = subst (λ (xs : List AskFacts). AskChain shelf_before xs shelf) (sym same) way.chain;
   report = λ done. way.report (leads done);
+  reads = λ done. way.reads (leads done);
 }

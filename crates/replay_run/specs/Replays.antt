@@ -1,5 +1,5 @@
 -- A replay, as a play from the opening world of the lines that were carried out.
-use Rattle.std.specs.Prelude.{◌≡◌, ℕ, List, ◌∷◌, ◌++◌, Option, Result, Ok, Err, All}
+use Rattle.std.specs.Prelude.{◌≡◌, ℕ, List, [], ◌∷◌, ◌++◌, Option, Result, Ok, Err, All, IfSome, map}
 use Rattle.std.specs.Io.KnownBytes.{Appends}
 use Rattle.hook_api.specs.Asked.{AskFacts}
 use Rattle.hook_api.specs.Chain.{AskChain}
@@ -8,6 +8,8 @@ use Rattle.hook_api.specs.Shelf.{Shelf}
 use Rattle.hook_api.specs.declared.kept.Journal.{Journal}
 use Rattle.trace_text.specs.declared.lines.Line.{Line}
 use Rattle.replay_run.specs.Causes.{AllMoves, EndsExplained}
+use Rattle.trace_text.specs.Grammar.{line_of}
+use Rattle.trace_text.specs.Lines.{lines_of, rest_of_lines}
 use Rattle.replay_run.specs.World.{World, Move, IsPlay, IsSound, IsCarried, IsComplete, AllWorlds, opening, closing, world_after, asks_in}
 
 -- every line was carried out
@@ -19,11 +21,17 @@ HasEnded (Err error) = ⊥
 abbrev pub Reports : World → Option (List ℕ) → Option (List ℕ) → Type 0
 Reports w before after = IsComplete w × Appends before after (w.text ++ closing w)
 
--- What was carried out is a play from the opening world of some lines on, each world of which is sound, and each answer of
--- which has its cause: the journal is that of its last world, the asks are those of its moves, and they are a chain of the shelf. Where the replay is whole, the
--- play is complete, and the report of its last world is what was printed.
+-- the lines of the bytes are those that were carried out, and nothing is left behind the last newline
+abbrev pub ReadsWhole : List Line → Option (List ℕ) → Type 0
+ReadsWhole lines left =
+    IfSome left (λ (bytes : List ℕ). (map line_of (lines_of bytes) ≡ map (λ (line : Line). Ok line) lines) × (rest_of_lines bytes ≡ []))
+
+-- What was carried out is a play from the opening world of some lines on, each world of which is sound and each answer of
+-- which has its cause: the journal is that of its last world, the asks are those of its moves, and they are a chain of the
+-- shelf. Where the replay is whole, the play is complete, the report of its last world is what was printed, and the lines
+-- are those of the bytes that were left.
 pub record ReplayOf (whole : Type 0) (kept : List KeptFacts) (heard : List AskFacts) (shelf_before shelf_after : Shelf)
-    (before after : Option (List ℕ)) : Type 0 where
+    (left before after : Option (List ℕ)) : Type 0 where
   pub lines : List Line
   pub carried : All IsCarried lines
   pub moves : List Move
@@ -34,6 +42,7 @@ pub record ReplayOf (whole : Type 0) (kept : List KeptFacts) (heard : List AskFa
   pub hears : asks_in moves ≡ heard
   pub chain : AskChain shelf_before heard shelf_after
   pub report : whole → Reports (world_after (opening lines) moves) before after
+  pub reads : whole → ReadsWhole lines left
 
 -- the first of the journals is that of arena 0, with these entries
 abbrev pub JournalsOf : List KeptFacts → List Journal → Type 0

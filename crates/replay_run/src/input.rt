@@ -1,7 +1,9 @@
 //! Lines from a source.
 
-ghost use Rattle.std.specs.Prelude.{◌<◌, IfOk, IfSome};
-ghost use Rattle.replay_run.specs.Input.{InBounds};
+ghost use Rattle.std.specs.Prelude.{◌≡◌, ◌==◌, ◌<◌, ℕ, List, [], Option, Bool, IfOk, IfSome};
+ghost use Rattle.std.specs.List.{position};
+ghost use Rattle.edge_io.specs.Bytes.{Consumes};
+ghost use Rattle.replay_run.specs.Input.{InBounds, IsFirst, MetEnd, SaysMalloc};
 
 use edge_io::Source;
 use std::alloc::{AllocError as NoMemory, Global};
@@ -44,27 +46,33 @@ pub enum Found {
     End,
 }
 
+/// Where the first newline stands.
+fn newline_in(pending: &[u8]) -> Option<usize>
+    ensures { result ≡ position (λ b. b == 10) pending.now }
+{
+    pending.iter().position(|byte| *byte == b'\n')
+}
+
 /// Where the first newline stands among the bytes of a line, or that they are too many for one.
 fn line_in(pending: &[u8]) -> Option<Found>
-    ensures { IfSome result (λ found. InBounds found pending.now) }
+    ensures bounds { IfSome result (λ found. InBounds found pending.now) }
+    ensures first { IfSome result (λ found. IsFirst found pending.now) }
+    ensures not_end { IfSome result (λ found. (left : Option (List ℕ)) (met : Bool) → MetEnd found left met) }
 {
-    for (place, byte) in pending.iter().enumerate() {
-        if place > LINE_BYTES {
-            return Some(Found::TooLong);
-        }
-        if *byte == b'\n' {
-            return Some(Found::Line(place));
-        }
+    match newline_in(pending) {
+        Some(place) if place <= LINE_BYTES => Some(Found::Line(place)),
+        _ if pending.len() > LINE_BYTES => Some(Found::TooLong),
+        _ => None,
     }
-    if pending.len() > LINE_BYTES {
-        return Some(Found::TooLong);
-    }
-    None
 }
 
 /// Reads until the pending bytes begin with a line, or can't.
 pub fn find_line<S: Source>(source: &mut S, pending: &mut Vec<u8>) -> Result<Found, Stop>
-    ensures { IfOk result (λ found. InBounds found pending.new.items) }
+    requires { pending.old.items ≡ [] }
+    ensures bounds { IfOk result (λ found. InBounds found pending.new.items) }
+    ensures first { IfOk result (λ found. IsFirst found pending.new.items) }
+    ensures moved { IfOk result (λ _. Consumes (S.left source.old) (S.left source.new) pending.new.items) }
+    ensures end { IfOk result (λ found. MetEnd found (S.left source.new) (S.ended source.new)) }
 {
     let mut buf = [0u8; READ_BYTES];
     for _ in 0..LINE_BYTES + 2 {
@@ -91,7 +99,9 @@ pub struct Wanted {
 }
 
 /// What a line asks for, or none where it can't be carried out yet.
-pub fn read_wanted(alloc: Global, line: &[u8]) -> Result<Option<Wanted>, NoMemory> {
+pub fn read_wanted(alloc: Global, line: &[u8]) -> Result<Option<Wanted>, NoMemory>
+    ensures { IfOk result (λ found. IfSome found (λ wanted. SaysMalloc line.now wanted.name wanted.size)) }
+{
     match trace_text::read(alloc, line) {
         Ok(
             Line::Call {

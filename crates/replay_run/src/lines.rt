@@ -1,6 +1,6 @@
 //! The replay of a trace: its lines are carried out, and what they answer is printed.
 
-ghost use Rattle.std.specs.Prelude.{⊤, ◌≡◌, ◌≢◌, ◌≤◌, ◌⊎◌, List, [], ◌∷◌, IfOk, OnOk, map};
+ghost use Rattle.std.specs.Prelude.{⊤, ◌≡◌, ◌≢◌, ◌≤◌, ◌⊎◌, ℕ, true, false, List, [], ◌∷◌, Option, IfOk, OnOk, map};
 ghost use Rattle.std.specs.List.{range_with_len};
 ghost use Rattle.std.specs.Io.KnownBytes.{Appends};
 ghost use Rattle.space_model.specs.Counts.{counts_of};
@@ -10,6 +10,7 @@ ghost use Rattle.hook_api.specs.Kept.{KeptFacts};
 ghost use Rattle.hook_api.specs.ShelfOf.{shelf_of};
 ghost use Rattle.hook_api.specs.declared.kept.Journal.{Journal};
 ghost use Rattle.report_text.specs.Lines.{counts_line};
+ghost use Rattle.replay_run.specs.Input.{HasNoMore, SaysMalloc, TakesLine};
 ghost use Rattle.replay_run.specs.Replays.{ReplayOf, HasEnded, JournalsOf};
 
 use crate::calls::carry_call;
@@ -91,7 +92,10 @@ fn close<K: Sink>(alloc: Global, sink: &mut K, space: &Space) -> Result<u8, Stop
 }
 
 /// Whether bytes are left, of those that were read or of the source.
-fn has_more<S: Source>(source: &mut S, pending: &[u8]) -> Result<bool, Stop> {
+fn has_more<S: Source>(source: &mut S, pending: &[u8]) -> Result<bool, Stop>
+    ensures none { IfOk result (λ more. more ≡ false → pending.now ≡ []) }
+    ensures end { IfOk result (λ more. more ≡ false → HasNoMore (S.left source.old) (S.left source.new) (S.ended source.new)) }
+{
     let mut buf = [0u8; READ_BYTES];
     if !pending.is_empty() {
         return Ok(true);
@@ -112,6 +116,8 @@ fn go_behind<S: Source, K: Sink>(
 ) -> Result<u8, Stop>
     requires { Sound space.now }
     ensures counts { IfOk result (λ status. status ≡ 0 → Appends (K.held sink.old) (K.held sink.new) (counts_line 0 (counts_of space.now))) }
+    ensures none { IfOk result (λ status. status ≡ 0 → pending.now ≡ []) }
+    ensures end { IfOk result (λ status. status ≡ 0 → HasNoMore (S.left source.old) (S.left source.new) (S.ended source.new)) }
     ensures status { IfOk result (λ status. (status ≡ 0) ⊎ (status ≡ 3)) }
 {
     if has_more(source, pending)? {
@@ -133,8 +139,11 @@ fn carry_line<S: Source, K: Sink>(
     requires space { state.old.space ≡ first_space }
     requires kept { state.old.kept.items ≡ [] }
     requires heard { state.old.heard.items ≡ [] }
-    ensures replay { ReplayOf (HasEnded result) state.new.kept.items state.new.heard.items (shelf_of ExtentHooks-dyn shelf.old)
-        (shelf_of ExtentHooks-dyn shelf.new) (K.held sink.old) (K.held sink.new) }
+    ensures replay { (line : List ℕ) (left : Option (List ℕ)) → SaysMalloc line wanted.now.name wanted.now.size →
+        TakesLine line behind.now left (S.left source.old) →
+        ReplayOf (HasEnded result) state.new.kept.items state.new.heard.items (shelf_of ExtentHooks-dyn shelf.old)
+        (shelf_of ExtentHooks-dyn shelf.new) left (K.held sink.old) (K.held sink.new) }
+    ensures ended { IfOk result (λ status. status ≡ 0 → S.ended source.new ≡ true) }
     ensures status { IfOk result (λ status. (status ≡ 0) ⊎ (status ≡ 3)) }
 {
     let answered = carry_call(state, shelf, CLIENT, wanted.size)?;
@@ -155,7 +164,8 @@ fn run_lines<S: Source, K: Sink>(
     requires kept { state.old.kept.items ≡ [] }
     requires heard { state.old.heard.items ≡ [] }
     ensures replay { ReplayOf (HasEnded result) state.new.kept.items state.new.heard.items (shelf_of ExtentHooks-dyn shelf.old)
-        (shelf_of ExtentHooks-dyn shelf.new) (K.held sink.old) (K.held sink.new) }
+        (shelf_of ExtentHooks-dyn shelf.new) (S.left source.old) (K.held sink.old) (K.held sink.new) }
+    ensures ended { IfOk result (λ status. status ≡ 0 → S.ended source.new ≡ true) }
     ensures status { IfOk result (λ status. (status ≡ 0) ⊎ (status ≡ 3)) }
 {
     let mut pending = Vec::new(alloc);
@@ -254,8 +264,9 @@ pub fn replay<S: Source, K: Sink>(
     // are those that were handed in.
     requires { ⊤ }
     ensures replay { (kept : List KeptFacts) × ReplayOf (result.status ≡ 0) kept result.heard (shelf_of ExtentHooks-dyn shelf)
-        (shelf_of ExtentHooks-dyn result.shelf) (K.held sink.old) (K.held sink.new)
+        (shelf_of ExtentHooks-dyn result.shelf) (S.left source.old) (K.held sink.old) (K.held sink.new)
         × (result.status ≢ 6 → JournalsOf kept result.journals) }
+    ensures ended { result.status ≡ 0 → S.ended source.new ≡ true }
     ensures status { result.status ≢ 2 }
 {
     let mut shelf = shelf;
