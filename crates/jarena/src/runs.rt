@@ -4,6 +4,7 @@ ghost use Rattle.std.specs.Prelude.{◌≡◌, ◌≢◌, true, List, [], map, s
 ghost use Rattle.hook_api.specs.Kept.{KeptFacts};
 ghost use Rattle.hook_api.specs.ShelfOf.{shelf_of};
 ghost use Rattle.jarena.specs.Words.{TellsUsage, IsReplay, IsInNoList};
+ghost use Rattle.edge_io.specs.Bytes.{Rose};
 ghost use Rattle.replay_run.specs.Replays.{ReplayOf, JournalsOf};
 
 use crate::words::{is_replay, tell_usage};
@@ -43,6 +44,8 @@ pub fn run<S: Source, K: Sink>(
     ensures no_journals { IsInNoList (map string_bytes words.now) → result.journals ≡ [] }
     ensures replay { IsReplay (map string_bytes words.now) → (kept : List KeptFacts) × ReplayOf (result.status ≡ 0) kept result.heard (shelf_of ExtentHooks-dyn shelf)
         (shelf_of ExtentHooks-dyn result.shelf) (S.left source.old) (K.held sink.old) (K.held sink.new) × (result.status ≢ 6 → JournalsOf kept result.journals) }
+    ensures read_fault { IsReplay (map string_bytes words.now) → result.status ≡ 4 → Rose (S.faults source.old) (S.faults source.new) }
+    ensures write_fault { IsReplay (map string_bytes words.now) → result.status ≡ 5 → Rose (K.faults sink.old) (K.faults sink.new) }
     ensures ended { IsReplay (map string_bytes words.now) → result.status ≡ 0 → S.ended source.new ≡ true }
     ensures same_shelf { IsInNoList (map string_bytes words.now) → shelf_of ExtentHooks-dyn result.shelf ≡ shelf_of ExtentHooks-dyn shelf }
 {

@@ -6,3 +6,4 @@ pub mod Runs
 pub mod Replays
 pub mod Causes
 pub mod LinesRead
+pub mod Stops

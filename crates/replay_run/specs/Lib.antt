@@ -4,3 +4,4 @@ pub mod Carried
 pub mod Input
 pub mod Replays
 pub mod Causes
+pub mod Stops

@@ -1,8 +1,9 @@
 //! Lines from a source.
 
-ghost use Rattle.std.specs.Prelude.{◌≡◌, ◌==◌, ◌<◌, ℕ, List, [], Option, Bool, IfOk, IfSome};
+ghost use Rattle.std.specs.Prelude.{◌≤◌, ◌≡◌, ◌==◌, ◌<◌, ℕ, List, [], Option, Bool, IfOk, IfErr, IfSome};
 ghost use Rattle.std.specs.List.{position};
 ghost use Rattle.edge_io.specs.Bytes.{Consumes};
+ghost use Rattle.replay_run.specs.Stops.{HasStopCause};
 ghost use Rattle.replay_run.specs.Input.{InBounds, IsFirst, MetEnd, SaysMalloc};
 
 use edge_io::Source;
@@ -30,6 +31,11 @@ pub enum Stop {
 }
 
 impl From<NoMemory> for Stop {
+    ghost use Rattle.std.specs.Prelude.{◌≡◌};
+    ghost use Rattle.replay_run.specs.declared.input.Stop.TheVariants.{NoMemory};
+
+    ghost from_gives = { λ _ stop. stop ≡ NoMemory };
+
     fn from(_: NoMemory) -> Stop {
         Stop::NoMemory
     }
@@ -73,6 +79,8 @@ pub fn find_line<S: Source>(source: &mut S, pending: &mut Vec<u8>) -> Result<Fou
     ensures first { IfOk result (λ found. IsFirst found pending.new.items) }
     ensures moved { IfOk result (λ _. Consumes (S.left source.old) (S.left source.new) pending.new.items) }
     ensures end { IfOk result (λ found. MetEnd found (S.left source.new) (S.ended source.new)) }
+    ensures cause { IfErr result (λ stop. HasStopCause stop (S.faults source.old) (S.faults source.new) 0 0) }
+    ensures counts { S.faults source.old ≤ S.faults source.new }
 {
     let mut buf = [0u8; READ_BYTES];
     for _ in 0..LINE_BYTES + 2 {

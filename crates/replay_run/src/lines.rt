@@ -1,6 +1,6 @@
 //! The replay of a trace: its lines are carried out, and what they answer is printed.
 
-ghost use Rattle.std.specs.Prelude.{⊤, ◌≡◌, ◌≢◌, ◌≤◌, ◌⊎◌, ℕ, true, false, List, [], ◌∷◌, Option, IfOk, OnOk, map};
+ghost use Rattle.std.specs.Prelude.{⊤, ◌≡◌, ◌≢◌, ◌≤◌, ◌⊎◌, ℕ, true, false, List, [], ◌∷◌, Option, IfOk, IfErr, OnOk, map};
 ghost use Rattle.std.specs.List.{range_with_len};
 ghost use Rattle.std.specs.Io.KnownBytes.{Appends};
 ghost use Rattle.space_model.specs.Counts.{counts_of};
@@ -11,6 +11,9 @@ ghost use Rattle.hook_api.specs.ShelfOf.{shelf_of};
 ghost use Rattle.hook_api.specs.declared.kept.Journal.{Journal};
 ghost use Rattle.report_text.specs.Lines.{counts_line};
 ghost use Rattle.replay_run.specs.Input.{HasNoMore, SaysMalloc, TakesLine};
+ghost use Rattle.edge_io.specs.Bytes.{Rose};
+ghost use Rattle.replay_run.specs.Stops.{HasStopCause, status_for};
+ghost use Rattle.replay_run.specs.declared.input.Stop.TheVariants.{ReadFault, WriteFault};
 ghost use Rattle.replay_run.specs.Replays.{ReplayOf, HasEnded, JournalsOf};
 
 use crate::calls::carry_call;
@@ -65,7 +68,9 @@ pub struct Replayed {
 
 /// Writes all of a text.
 fn print<K: Sink>(sink: &mut K, text: &[u8]) -> Result<(), Stop>
-    ensures { OnOk result (Appends (K.held sink.old) (K.held sink.new) text.now) }
+    ensures text { OnOk result (Appends (K.held sink.old) (K.held sink.new) text.now) }
+    ensures cause { IfErr result (λ stop. HasStopCause stop 0 0 (K.faults sink.old) (K.faults sink.new)) }
+    ensures counts { K.faults sink.old ≤ K.faults sink.new }
 {
     match write_all(sink, text) {
         Ok(()) => Ok(()),
@@ -75,7 +80,9 @@ fn print<K: Sink>(sink: &mut K, text: &[u8]) -> Result<(), Stop>
 
 /// Prints that a line can't be carried out.
 fn refuse_line<K: Sink>(alloc: Global, sink: &mut K, number: u64) -> Result<u8, Stop>
-    ensures { IfOk result (λ status. status ≡ 3) }
+    ensures status { IfOk result (λ status. status ≡ 3) }
+    ensures cause { IfErr result (λ stop. HasStopCause stop 0 0 (K.faults sink.old) (K.faults sink.new)) }
+    ensures sink_counts { K.faults sink.old ≤ K.faults sink.new }
 {
     print(sink, &bad_line(alloc, number, UNBUILT)?)?;
     Ok(BAD_LINE)
@@ -86,6 +93,8 @@ fn close<K: Sink>(alloc: Global, sink: &mut K, space: &Space) -> Result<u8, Stop
     requires { Sound space.now }
     ensures counts { IfOk result (λ status. Appends (K.held sink.old) (K.held sink.new) (counts_line 0 (counts_of space.now))) }
     ensures status { IfOk result (λ status. status ≡ 0) }
+    ensures cause { IfErr result (λ stop. HasStopCause stop 0 0 (K.faults sink.old) (K.faults sink.new)) }
+    ensures sink_counts { K.faults sink.old ≤ K.faults sink.new }
 {
     print(sink, &counts_line(alloc, ARENA, &plain_counts(space))?)?;
     Ok(DONE)
@@ -95,6 +104,8 @@ fn close<K: Sink>(alloc: Global, sink: &mut K, space: &Space) -> Result<u8, Stop
 fn has_more<S: Source>(source: &mut S, pending: &[u8]) -> Result<bool, Stop>
     ensures none { IfOk result (λ more. more ≡ false → pending.now ≡ []) }
     ensures end { IfOk result (λ more. more ≡ false → HasNoMore (S.left source.old) (S.left source.new) (S.ended source.new)) }
+    ensures cause { IfErr result (λ stop. HasStopCause stop (S.faults source.old) (S.faults source.new) 0 0) }
+    ensures source_counts { S.faults source.old ≤ S.faults source.new }
 {
     let mut buf = [0u8; READ_BYTES];
     if !pending.is_empty() {
@@ -119,6 +130,9 @@ fn go_behind<S: Source, K: Sink>(
     ensures none { IfOk result (λ status. status ≡ 0 → pending.now ≡ []) }
     ensures end { IfOk result (λ status. status ≡ 0 → HasNoMore (S.left source.old) (S.left source.new) (S.ended source.new)) }
     ensures status { IfOk result (λ status. (status ≡ 0) ⊎ (status ≡ 3)) }
+    ensures cause { IfErr result (λ stop. HasStopCause stop (S.faults source.old) (S.faults source.new) (K.faults sink.old) (K.faults sink.new)) }
+    ensures source_counts { S.faults source.old ≤ S.faults source.new }
+    ensures sink_counts { K.faults sink.old ≤ K.faults sink.new }
 {
     if has_more(source, pending)? {
         return refuse_line(alloc, sink, 2);
@@ -145,6 +159,9 @@ fn carry_line<S: Source, K: Sink>(
         (shelf_of ExtentHooks-dyn shelf.new) left (K.held sink.old) (K.held sink.new) }
     ensures ended { IfOk result (λ status. status ≡ 0 → S.ended source.new ≡ true) }
     ensures status { IfOk result (λ status. (status ≡ 0) ⊎ (status ≡ 3)) }
+    ensures cause { IfErr result (λ stop. HasStopCause stop (S.faults source.old) (S.faults source.new) (K.faults sink.old) (K.faults sink.new)) }
+    ensures source_counts { S.faults source.old ≤ S.faults source.new }
+    ensures sink_counts { K.faults sink.old ≤ K.faults sink.new }
 {
     let answered = carry_call(state, shelf, CLIENT, wanted.size)?;
     let line = malloc_line(alloc, CLIENT, wanted.name.as_bytes(), &answered)?;
@@ -167,6 +184,9 @@ fn run_lines<S: Source, K: Sink>(
         (shelf_of ExtentHooks-dyn shelf.new) (S.left source.old) (K.held sink.old) (K.held sink.new) }
     ensures ended { IfOk result (λ status. status ≡ 0 → S.ended source.new ≡ true) }
     ensures status { IfOk result (λ status. (status ≡ 0) ⊎ (status ≡ 3)) }
+    ensures cause { IfErr result (λ stop. HasStopCause stop (S.faults source.old) (S.faults source.new) (K.faults sink.old) (K.faults sink.new)) }
+    ensures source_counts { S.faults source.old ≤ S.faults source.new }
+    ensures sink_counts { K.faults sink.old ≤ K.faults sink.new }
 {
     let mut pending = Vec::new(alloc);
     let Found::Line(end) = find_line(source, &mut pending)? else {
@@ -211,7 +231,7 @@ fn journals_of(alloc: Global, kept: Vec<Kept>) -> Result<Journals, NoMemory>
 
 /// The status that a replay gives where it stopped.
 fn status_of(stop: Stop) -> u8
-    ensures status { (result ≡ 4) ⊎ (result ≡ 5) ⊎ (result ≡ 6) }
+    ensures { result ≡ status_for stop }
 {
     match stop {
         Stop::ReadFault => SOURCE_FAILED,
@@ -232,6 +252,8 @@ fn end_of(alloc: Global, kept: Vec<Kept>, ended: Result<u8, Stop>) -> Ending
     requires { IfOk ended (λ status. (status ≡ 0) ⊎ (status ≡ 3)) }
     ensures whole { result.status ≡ 0 → HasEnded ended }
     ensures journals { result.status ≢ 6 → JournalsOf kept.items result.journals }
+    ensures read_fault { result.status ≡ 4 → ended ≡ Err ReadFault }
+    ensures write_fault { result.status ≡ 5 → ended ≡ Err WriteFault }
     ensures status { result.status ≢ 2 }
 {
     let Ok(journals) = journals_of(alloc, kept) else {
@@ -267,6 +289,8 @@ pub fn replay<S: Source, K: Sink>(
         (shelf_of ExtentHooks-dyn result.shelf) (S.left source.old) (K.held sink.old) (K.held sink.new)
         × (result.status ≢ 6 → JournalsOf kept result.journals) }
     ensures ended { result.status ≡ 0 → S.ended source.new ≡ true }
+    ensures read_fault { result.status ≡ 4 → Rose (S.faults source.old) (S.faults source.new) }
+    ensures write_fault { result.status ≡ 5 → Rose (K.faults sink.old) (K.faults sink.new) }
     ensures status { result.status ≢ 2 }
 {
     let mut shelf = shelf;

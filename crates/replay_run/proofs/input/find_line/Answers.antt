@@ -7,6 +7,7 @@ pub loop-init : goal.loop-init
 loop-init g c = record {
   taken = subst (λ (xs : List ℕ). Consumes (g.S.Source.left c.args.source.now) (g.S.Source.left c.args.source.now) xs) (sym c.requires)
       (Consumes-nil (g.S.Source.left c.args.source.now));
+  faults = omega (arith);
   grew = omega (arith);
 }
 
@@ -31,6 +32,7 @@ loop-preserved g c =
       taken = subst (λ (xs : List ℕ). Consumes (g.S.Source.left c.args.source.now) (g.S.Source.left c.read.new.self) xs) (sym more)
           (Consumes-trans (g.S.Source.left c.args.source.now) (g.S.Source.left c.loop.source) (g.S.Source.left c.read.new.self) c.loop.pending.items
           piece c.loop.invariant.taken c.in-Ok.ensures.moved);
+      faults = omega (arith, c.loop.invariant.faults, c.read.ensures.counts);
       grew = omega (arith, ap length more, long, c.loop.invariant.grew, c.in-Ok.count-test);
     }
 

@@ -45,7 +45,7 @@ returns-clause-replay g c line left says takes =
       c.in_ok-answered.was,
       subst (λ (text : List ℕ). Appends (g.K.Sink.held c.args.sink.now) (g.K.Sink.held c.go_behind.new.sink) (text ++ counts_line 0 (counts_of c.carry_call.new.state.space))) printed
           (Appends-trans (g.K.Sink.held c.args.sink.now) (g.K.Sink.held c.print.new.sink) (g.K.Sink.held c.go_behind.new.sink) c.deref.result.now
-          (counts_line 0 (counts_of c.carry_call.new.state.space)) c.in_ok-print.ensures (at_end _ c.go_behind.result done c.go_behind.ensures.counts)),
+          (counts_line 0 (counts_of c.carry_call.new.state.space)) c.in_ok-print.ensures.text (at_end _ c.go_behind.result done c.go_behind.ensures.counts)),
     ))
     (λ done.
     let over = at_end _ c.go_behind.result done c.go_behind.ensures.end in

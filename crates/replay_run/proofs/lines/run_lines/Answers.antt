@@ -5,6 +5,7 @@ use Rattle.space_model.specs.Counts.{counts_of}
 use Rattle.report_text.specs.Lines.{counts_line}
 use Rattle.replay_run.specs.Replays.{HasEnded}
 use Rattle.replay_run.proofs.Replays.{replay_of_none, not_ended, at_end, at_zero, not_refused, always, never_zero, one_of_two, other_of_two}
+use Rattle.replay_run.proofs.Stops.{stop_of_sink}
 use Rattle.replay_run.proofs.LinesRead.{empty_of, end_of_none, reads_none}
 use Rattle.replay_run.proofs.lines.run_lines.Goals as goal
 
@@ -26,15 +27,21 @@ returns-then-is_empty g c =
           (λ done. reads_none (g.S.Source.left c.args.source.now) (g.S.Source.left c.find_line.new.source) c.find_line.new.pending.items none c.in_ok-end.ensures.moved over.0);
       ended = always _ c.close.result over.1;
       status = one_of_two c.close.result c.close.ensures.status;
+      cause = stop_of_sink c.close.result _ _ _ _ c.close.ensures.cause;
+      source_counts = c.find_line.ensures.counts;
+      sink_counts = c.close.ensures.sink_counts;
     }
 
 pub returns-in_default : goal.returns-in_default
 returns-in_default g c = record {
   replay = replay_of_none (HasEnded c.refuse_line.result) c.args.state.now.kept.items c.args.state.now.heard.items _ _ _ _ c.requires.kept c.requires.heard
-      (λ done. absurd (not_refused c.refuse_line.result done c.refuse_line.ensures))
-      (λ done. absurd (not_refused c.refuse_line.result done c.refuse_line.ensures));
-  ended = never_zero _ c.refuse_line.result c.refuse_line.ensures;
-  status = other_of_two c.refuse_line.result c.refuse_line.ensures;
+      (λ done. absurd (not_refused c.refuse_line.result done c.refuse_line.ensures.status))
+      (λ done. absurd (not_refused c.refuse_line.result done c.refuse_line.ensures.status));
+  ended = never_zero _ c.refuse_line.result c.refuse_line.ensures.status;
+  status = other_of_two c.refuse_line.result c.refuse_line.ensures.status;
+  cause = stop_of_sink c.refuse_line.result _ _ _ _ c.refuse_line.ensures.cause;
+  source_counts = c.find_line.ensures.counts;
+  sink_counts = c.refuse_line.ensures.sink_counts;
 }
 
 pub returns-in_err-wanted-clause-replay : goal.returns-in_err-wanted-clause-replay
@@ -46,5 +53,5 @@ returns-in_err-wanted-clause-replay g c =
 pub returns-in_default-2-clause-replay : goal.returns-in_default-2-clause-replay
 returns-in_default-2-clause-replay g c =
     replay_of_none (HasEnded c.refuse_line-in_default-2.result) c.args.state.now.kept.items c.args.state.now.heard.items _ _ _ _ c.requires.kept c.requires.heard
-    (λ done. absurd (not_refused c.refuse_line-in_default-2.result done c.refuse_line-in_default-2.ensures))
-    (λ done. absurd (not_refused c.refuse_line-in_default-2.result done c.refuse_line-in_default-2.ensures))
+    (λ done. absurd (not_refused c.refuse_line-in_default-2.result done c.refuse_line-in_default-2.ensures.status))
+    (λ done. absurd (not_refused c.refuse_line-in_default-2.result done c.refuse_line-in_default-2.ensures.status))

@@ -1,0 +1,18 @@
+-- Why a replay stops.
+use Rattle.std.specs.Prelude.{ℕ}
+use Rattle.edge_io.specs.Bytes.{Rose}
+use Rattle.replay_run.specs.declared.input.Stop.{Stop}
+use Rattle.replay_run.specs.declared.input.Stop.TheVariants.{ReadFault, WriteFault, NoMemory}
+
+-- a read failed, and the count of faults of the source rose; or a write failed, and that of the sink rose; or memory was
+-- wanting
+abbrev pub HasStopCause : Stop → ℕ → ℕ → ℕ → ℕ → Type 0
+HasStopCause ReadFault source source_after sink sink_after = Rose source source_after
+HasStopCause WriteFault source source_after sink sink_after = Rose sink sink_after
+HasStopCause NoMemory source source_after sink sink_after = Unit {0}
+
+-- the status that a stop gives
+abbrev pub status_for : Stop → ℕ
+status_for ReadFault = 4
+status_for WriteFault = 5
+status_for NoMemory = 6
