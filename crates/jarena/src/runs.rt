@@ -42,7 +42,7 @@ pub fn run<S: Source, K: Sink>(
     ensures unread { IsInNoList (map string_bytes words.now) → source.new ≡ source.old }
     ensures unasked { IsInNoList (map string_bytes words.now) → result.heard ≡ [] }
     ensures no_journals { IsInNoList (map string_bytes words.now) → result.journals ≡ [] }
-    ensures replay { IsReplay (map string_bytes words.now) → (kept : List KeptFacts) × ReplayOf (result.status ≡ 0) kept result.heard (shelf_of ExtentHooks-dyn shelf)
+    ensures replay { IsReplay (map string_bytes words.now) → (kept : List KeptFacts) × ReplayOf (result.status ≡ 0) (result.status ≡ 3) kept result.heard (shelf_of ExtentHooks-dyn shelf)
         (shelf_of ExtentHooks-dyn result.shelf) (S.left source.old) (K.held sink.old) (K.held sink.new) × (result.status ≢ 6 → JournalsOf kept result.journals) }
     ensures read_fault { IsReplay (map string_bytes words.now) → result.status ≡ 4 → Rose (S.faults source.old) (S.faults source.new) }
     ensures write_fault { IsReplay (map string_bytes words.now) → result.status ≡ 5 → Rose (K.faults sink.old) (K.faults sink.new) }

@@ -9,12 +9,12 @@ ghost use Rattle.space_model.specs.Sound.{Sound};
 ghost use Rattle.hook_api.specs.Kept.{KeptFacts};
 ghost use Rattle.hook_api.specs.ShelfOf.{shelf_of};
 ghost use Rattle.hook_api.specs.declared.kept.Journal.{Journal};
-ghost use Rattle.report_text.specs.Lines.{counts_line};
+ghost use Rattle.report_text.specs.Lines.{counts_line, bad_line, unbuilt};
 ghost use Rattle.replay_run.specs.Input.{HasNoMore, SaysMalloc, TakesLine};
 ghost use Rattle.edge_io.specs.Bytes.{Rose};
 ghost use Rattle.replay_run.specs.Stops.{HasStopCause, status_for};
 ghost use Rattle.replay_run.specs.declared.input.Stop.TheVariants.{ReadFault, WriteFault};
-ghost use Rattle.replay_run.specs.Replays.{ReplayOf, HasEnded, JournalsOf};
+ghost use Rattle.replay_run.specs.Replays.{ReplayOf, HasEnded, HasRefused, JournalsOf};
 
 use crate::calls::carry_call;
 use crate::input::{Found, READ_BYTES, Stop, Wanted, find_line, read_wanted};
@@ -81,6 +81,7 @@ fn print<K: Sink>(sink: &mut K, text: &[u8]) -> Result<(), Stop>
 /// Prints that a line can't be carried out.
 fn refuse_line<K: Sink>(alloc: Global, sink: &mut K, number: u64) -> Result<u8, Stop>
     ensures status { IfOk result (λ status. status ≡ 3) }
+    ensures text { OnOk result (Appends (K.held sink.old) (K.held sink.new) (bad_line number unbuilt)) }
     ensures cause { IfErr result (λ stop. HasStopCause stop 0 0 (K.faults sink.old) (K.faults sink.new)) }
     ensures sink_counts { K.faults sink.old ≤ K.faults sink.new }
 {
@@ -127,6 +128,7 @@ fn go_behind<S: Source, K: Sink>(
 ) -> Result<u8, Stop>
     requires { Sound space.now }
     ensures counts { IfOk result (λ status. status ≡ 0 → Appends (K.held sink.old) (K.held sink.new) (counts_line 0 (counts_of space.now))) }
+    ensures refused { IfOk result (λ status. status ≡ 3 → Appends (K.held sink.old) (K.held sink.new) (bad_line 2 unbuilt)) }
     ensures none { IfOk result (λ status. status ≡ 0 → pending.now ≡ []) }
     ensures end { IfOk result (λ status. status ≡ 0 → HasNoMore (S.left source.old) (S.left source.new) (S.ended source.new)) }
     ensures status { IfOk result (λ status. (status ≡ 0) ⊎ (status ≡ 3)) }
@@ -155,7 +157,7 @@ fn carry_line<S: Source, K: Sink>(
     requires heard { state.old.heard.items ≡ [] }
     ensures replay { (line : List ℕ) (left : Option (List ℕ)) → SaysMalloc line wanted.now.name wanted.now.size →
         TakesLine line behind.now left (S.left source.old) →
-        ReplayOf (HasEnded result) state.new.kept.items state.new.heard.items (shelf_of ExtentHooks-dyn shelf.old)
+        ReplayOf (HasEnded result) (HasRefused result) state.new.kept.items state.new.heard.items (shelf_of ExtentHooks-dyn shelf.old)
         (shelf_of ExtentHooks-dyn shelf.new) left (K.held sink.old) (K.held sink.new) }
     ensures ended { IfOk result (λ status. status ≡ 0 → S.ended source.new ≡ true) }
     ensures status { IfOk result (λ status. (status ≡ 0) ⊎ (status ≡ 3)) }
@@ -180,7 +182,7 @@ fn run_lines<S: Source, K: Sink>(
     requires space { state.old.space ≡ first_space }
     requires kept { state.old.kept.items ≡ [] }
     requires heard { state.old.heard.items ≡ [] }
-    ensures replay { ReplayOf (HasEnded result) state.new.kept.items state.new.heard.items (shelf_of ExtentHooks-dyn shelf.old)
+    ensures replay { ReplayOf (HasEnded result) (HasRefused result) state.new.kept.items state.new.heard.items (shelf_of ExtentHooks-dyn shelf.old)
         (shelf_of ExtentHooks-dyn shelf.new) (S.left source.old) (K.held sink.old) (K.held sink.new) }
     ensures ended { IfOk result (λ status. status ≡ 0 → S.ended source.new ≡ true) }
     ensures status { IfOk result (λ status. (status ≡ 0) ⊎ (status ≡ 3)) }
@@ -251,6 +253,7 @@ struct Ending {
 fn end_of(alloc: Global, kept: Vec<Kept>, ended: Result<u8, Stop>) -> Ending
     requires { IfOk ended (λ status. (status ≡ 0) ⊎ (status ≡ 3)) }
     ensures whole { result.status ≡ 0 → HasEnded ended }
+    ensures refused { result.status ≡ 3 → HasRefused ended }
     ensures journals { result.status ≢ 6 → JournalsOf kept.items result.journals }
     ensures read_fault { result.status ≡ 4 → ended ≡ Err ReadFault }
     ensures write_fault { result.status ≡ 5 → ended ≡ Err WriteFault }
@@ -285,7 +288,7 @@ pub fn replay<S: Source, K: Sink>(
     // This clause asks nothing. By it callers in other crates know that no hooks are made in here: those that come back
     // are those that were handed in.
     requires { ⊤ }
-    ensures replay { (kept : List KeptFacts) × ReplayOf (result.status ≡ 0) kept result.heard (shelf_of ExtentHooks-dyn shelf)
+    ensures replay { (kept : List KeptFacts) × ReplayOf (result.status ≡ 0) (result.status ≡ 3) kept result.heard (shelf_of ExtentHooks-dyn shelf)
         (shelf_of ExtentHooks-dyn result.shelf) (S.left source.old) (K.held sink.old) (K.held sink.new)
         × (result.status ≢ 6 → JournalsOf kept result.journals) }
     ensures ended { result.status ≡ 0 → S.ended source.new ≡ true }
