@@ -3,7 +3,7 @@ use Rattle.std.specs.Prelude.{◌≡◌, Option, Some, None, IfSome, IsSomeAnd}
 use Rattle.space_model.specs.declared.Entry.{Entry}
 use Rattle.space_model.specs.declared.Heard.{Heard}
 use Rattle.space_model.specs.declared.Op.{Op}
-use Rattle.space_model.specs.declared.Op.TheVariants.{CutDone, GrowDone, CommitDone}
+use Rattle.space_model.specs.declared.Op.TheVariants.{CutDone, GrowDone, CommitDone, MergeDone}
 use Rattle.hook_api.specs.Asked.{AskFacts, heard_in}
 
 -- the ask and answer that an operation carries, if it carries one
@@ -11,6 +11,7 @@ abbrev pub heard_of : Op → Option Heard
 heard_of (CutDone heard keep_low) = Some heard
 heard_of (GrowDone heard found) = Some heard
 heard_of (CommitDone heard) = Some heard
+heard_of (MergeDone heard own_low) = Some heard
 heard_of _ = None
 
 -- an entry, and the ask that was made for it

@@ -1,7 +1,8 @@
 -- What an exchange of extents does to sums, facts and filters, and that one extent alone begins at a page.
-use Rattle.std.proofs.Common.{◌≡◌, ℕ, ◌+◌, ◌<◌, ◌≤◌, Bool, true, false, not, cond, List, [], ◌∷◌, ◌++◌, Some, refl, sym, ◌∙◌, ap, subst, arith, All, append-nil, filter, find}
-use Rattle.std.specs.List.{sum_by}
-use Rattle.std.proofs.lemmas.List.Sums.{sum_by-append, sum_by-cons}
+use Rattle.std.proofs.Common.{◌≡◌, ℕ, ◌+◌, ◌<◌, ◌≤◌, Bool, true, false, not, cond, List, [], ◌∷◌, ◌++◌, Some, refl, sym, ◌∙◌, ap, subst, arith, All, append-nil, filter, find, ◌||◌}
+use Rattle.std.specs.List.{sum_by, count_by}
+use Rattle.std.proofs.lemmas.List.{nil_from_length}
+use Rattle.std.proofs.lemmas.List.Sums.{sum_by-append, sum_by-cons, length-filter}
 use Rattle.std.proofs.lemmas.List.Filters.{sum_by-filter_both}
 use Rattle.std.proofs.lemmas.List.Elements.{All-append, All-filter, All-head, All-tail, filter-append}
 use Rattle.std.proofs.lemmas.Bool.Decides.{nat_tests}
@@ -115,7 +116,7 @@ sum_by-replaced f test parts pieces p some most e =
     omega (arith, sum_by-exchanged f gone parts pieces, one, sum_by-cons f p [])
 
 -- a filter that keeps none of what another filter takes keeps the same without it
-filter-without : {X : Type 0} (f gone : X → Bool) (xs : List X) → filter f (filter gone xs) ≡ [] →
+pub filter-without : {X : Type 0} (f gone : X → Bool) (xs : List X) → filter f (filter gone xs) ≡ [] →
     filter f (filter (λ x. not (gone x)) xs) ≡ filter f xs
 filter-without f gone [] none = refl
 filter-without f gone (x ∷ xs) none =
@@ -141,3 +142,20 @@ filter-replaced f test parts pieces p some most e fails none =
     ∙ ap (λ ys. filter f (filter (λ q. not (gone q)) parts) ++ ys) none
     ∙ append-nil _
     ∙ filter-without f gone parts (alone ∙ empty)
+
+-- what no element passes keeps nothing
+pub filter_nothing : {X : Type 0} (f : X → Bool) (xs : List X) → count_by f xs ≡ 0 → filter f xs ≡ []
+filter_nothing f xs none = nil_from_length (filter f xs) (length-filter f xs ∙ none)
+
+-- a sum over what passes either of two tests, where nothing passes both
+pub sum_by-either : {X : Type 0} (f : X → ℕ) (a b : X → Bool) → ((x : X) → a x ≡ true → b x ≡ false) → (xs : List X) →
+    sum_by f (filter (λ x. a x || b x) xs) ≡ sum_by f (filter a xs) + sum_by f (filter b xs)
+sum_by-either f a b apart [] = refl
+sum_by-either f a b apart (x ∷ xs) =
+    let either = filter (λ y. a y || b y) xs in
+    let rest = sum_by-either f a b apart xs in
+    elim (a x) as (λ g. a x ≡ g → sum_by f (cond (g || b x) (x ∷ either) either) ≡ sum_by f (cond g (x ∷ filter a xs) (filter a xs)) + sum_by f (cond (b x) (x ∷ filter b xs) (filter b xs))) [
+      | true ↦ λ h. rw (apart x h) (omega (arith, sum_by-cons f x either, sum_by-cons f x (filter a xs), rest))
+      | false ↦ λ h. elim (b x) as (λ k. sum_by f (cond k (x ∷ either) either) ≡ sum_by f (filter a xs) + sum_by f (cond k (x ∷ filter b xs) (filter b xs)))
+          [ true ↦ omega (arith, sum_by-cons f x either, sum_by-cons f x (filter b xs), rest) | false ↦ rest ]
+    ] refl

@@ -1,7 +1,7 @@
 -- An exchange of extents that serve no region keeps a space sound.
-use Rattle.std.proofs.Common.{◌≡◌, ℕ, ◌+◌, ◌<◌, ◌≤◌, ◌≢◌, Bool, true, false, cond, IsTrue, List, [], ◌∷◌, ◌++◌, Some, refl, sym, ◌∙◌, ap, subst, arith, All, filter, find, ◌&&◌}
+use Rattle.std.proofs.Common.{◌≡◌, ℕ, ◌+◌, ◌<◌, ◌≤◌, ◌≢◌, Bool, true, false, cond, IsTrue, List, [], ◌∷◌, ◌++◌, Some, refl, sym, ◌∙◌, ap, subst, arith, All, filter, find, ◌&&◌, not, append-nil}
 use Rattle.std.proofs.lemmas.List.Sums.{sum_by-append, sum_by-cons}
-use Rattle.std.proofs.lemmas.List.Elements.{All-weaker, All-head, All-tail, All-append}
+use Rattle.std.proofs.lemmas.List.Elements.{All-weaker, All-head, All-tail, All-append, filter-append}
 use Rattle.space_model.specs.declared.parts.Part.{Part}
 use Rattle.space_model.specs.declared.parts.Region.{Region}
 use Rattle.space_model.specs.declared.spaces.Space.{Space}
@@ -11,8 +11,8 @@ use Rattle.space_model.specs.Span.{IsPlaced}
 use Rattle.space_model.specs.Part.{exchanged, begins_at, holders, is_active, is_flight, is_backed, rest_of}
 use Rattle.space_model.specs.Region.{houses, homes, residents, fills, lies_in}
 use Rattle.space_model.specs.Own.{mine}
-use Rattle.space_model.specs.Sound.{Sound, IsQuiet}
-use Rattle.space_model.proofs.Exchange.{share, All-exchanged, sum_by-replaced, filter-replaced}
+use Rattle.space_model.specs.Sound.{Sound, IsQuiet, IsInSlab}
+use Rattle.space_model.proofs.Exchange.{share, All-exchanged, sum_by-exchanged, sum_by-replaced, filter-replaced, filter-without}
 
 -- what is false isn't true
 pub false_true : IsTrue false → ⊥
@@ -68,6 +68,11 @@ sound_with s parts sound live owners all homes_stay = record {
       (λ r h. all (λ p. IsTrue (houses p r) → 36 ≤ r.class → IsTrue (fills p r) × (residents p s.regions ≡ 1)) h
       (λ p idle placed backed home big. absurd (false_true (subst IsTrue (idle-houses p r idle) home))))
       s.regions sound.large;
+  small = All-weaker (λ r. All (λ p. IsTrue (houses p r) → r.class < 36 → IsInSlab s.regions p r) s.parts)
+      (λ r. All (λ p. IsTrue (houses p r) → r.class < 36 → IsInSlab s.regions p r) parts)
+      (λ r h. all (λ p. IsTrue (houses p r) → r.class < 36 → IsInSlab s.regions p r) h
+      (λ p idle placed backed home little. absurd (false_true (subst IsTrue (idle-houses p r idle) home))))
+      s.regions sound.small;
   classes = sound.classes;
   aligned = sound.aligned;
   apart = sound.apart;
@@ -117,6 +122,32 @@ replaced_keeps c s test p pieces sound live found idle own new =
       pages = pages;
       others = λ d other. mine_with d s parts
           (filter-replaced (λ q. is_flight d q.state) test s.parts pieces p some (sound.owners p.span.first) found (own d other) (new.others d other));
+    }
+
+-- what a filter keeps after an exchange of extents, of which it keeps none, for pieces of which it keeps none
+pub filter-exchanged : (f gone : Part → Bool) (parts pieces : List Part) → filter f (filter gone parts) ≡ [] → filter f pieces ≡ [] →
+    filter f (exchanged gone parts pieces) ≡ filter f parts
+filter-exchanged f gone parts pieces old new =
+    filter-append f (filter (λ q. not (gone q)) parts) pieces
+    ∙ ap (λ ys. filter f (filter (λ q. not (gone q)) parts) ++ ys) new
+    ∙ append-nil _
+    ∙ filter-without f gone parts old
+
+-- idle extents of a client are exchanged for idle ones with the same pages
+pub exchanged_keeps : (c : ℕ) (s : Space) (gone : Part → Bool) (pieces : List Part) → Sound s → s.life ≡ Live → Idle pieces →
+    ((r : Region) → homes r (filter gone s.parts) ≡ 0) → ((page : ℕ) → holders page pieces ≡ holders page (filter gone s.parts)) →
+    ((d : ℕ) → d ≢ c → filter (λ q. is_flight d q.state) (filter gone s.parts) ≡ []) →
+    ((d : ℕ) → d ≢ c → filter (λ q. is_flight d q.state) pieces ≡ []) → Keeps c s (record s { parts = exchanged gone s.parts pieces })
+exchanged_keeps c s gone pieces sound live new nowhere same own others =
+    let parts : List Part = exchanged gone s.parts pieces in
+    let pages : (page : ℕ) → holders page parts ≡ holders page s.parts =
+    λ page. omega (arith, sum_by-exchanged (share page) gone s.parts pieces, same page) in record {
+      sound = sound_with s parts sound live
+          (λ page. omega (arith, pages page, sound.owners page))
+          (λ P old make. All-exchanged P gone s.parts pieces old (idle_pieces P pieces new make))
+          (λ r. omega (arith, sum_by-exchanged (serves r) gone s.parts pieces, nowhere r, idle-homes r pieces new.idle));
+      pages = pages;
+      others = λ d other. mine_with d s parts (filter-exchanged (λ q. is_flight d q.state) gone s.parts pieces (own d other) (others d other));
     }
 
 -- an idle extent joins, where no extent has a page of it

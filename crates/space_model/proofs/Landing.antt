@@ -19,13 +19,13 @@ use Rattle.space_model.specs.Span.{IsPlaced, has_page}
 use Rattle.space_model.specs.Part.{exchanged, begins_at, holders, is_active, is_flight, is_backed, rest_of}
 use Rattle.space_model.specs.Region.{address_of, covers, sharers, lies_in, houses, homes, residents, fills, inserted, is_held_by}
 use Rattle.space_model.specs.Own.{mine}
-use Rattle.space_model.specs.Sound.{Sound, IsQuiet}
+use Rattle.space_model.specs.Sound.{Sound, IsQuiet, IsInSlab}
 use Rattle.space_model.proofs.Exchange.{share, All-exchanged, sum_by-replaced, filter-replaced, find_has}
 use Rattle.space_model.proofs.Idle.{serves, idle-serves, some_pages, false_true, Keeps}
 use Rattle.space_model.proofs.Pieces.{different, others-flight}
 
 -- 1 for true, 0 for false
-abbrev ones : Bool → ℕ
+abbrev pub ones : Bool → ℕ
 ones b = cond b 1 0
 
 -- what is true of each element and of one more is true when that is inserted
@@ -41,11 +41,11 @@ filter-insert f xs i x fails =
     ∙ ap (filter f) (take-append-drop i xs)
 
 -- where a sum is nothing, each term is
-sum_nothing : {X : Type 0} (f : X → ℕ) (xs : List X) → sum_by f xs ≡ 0 → All (λ x. f x ≡ 0) xs
+pub sum_nothing : {X : Type 0} (f : X → ℕ) (xs : List X) → sum_by f xs ≡ 0 → All (λ x. f x ≡ 0) xs
 sum_nothing f xs none = λ k d h. omega (arith, get_or-le-sum_by f xs k d h)
 
 -- where each term is nothing, the sum is
-nothing_sum : {X : Type 0} (f : X → ℕ) (xs : List X) → All (λ x. f x ≡ 0) xs → sum_by f xs ≡ 0
+pub nothing_sum : {X : Type 0} (f : X → ℕ) (xs : List X) → All (λ x. f x ≡ 0) xs → sum_by f xs ≡ 0
 nothing_sum f [] none = refl
 nothing_sum f (x ∷ xs) none =
     omega (arith, sum_by-cons f x xs, All-head (λ y. f y ≡ 0) x xs none, nothing_sum f xs (All-tail (λ y. f y ≡ 0) x xs none))
@@ -64,7 +64,7 @@ divides_product n a some whole =
     sym (mul-mod_first 4096 n a) ∙ ap times whole ∙ nothing
 
 -- a number is itself
-eqb_itself : (n : ℕ) → eqb n n ≡ true
+pub eqb_itself : (n : ℕ) → eqb n n ≡ true
 eqb_itself n = grind (arith, nat_tests)
 
 -- a region that starts a span and is as large lies in it
@@ -164,15 +164,28 @@ none_other {c} {s} {p} {r} site =
     )
 
 -- the large regions of a sound space, as its fact says it of one region and one extent
-abbrev LargeAt : List Region → Region → Part → Type 0
+abbrev pub LargeAt : List Region → Region → Part → Type 0
 LargeAt regions r p = IsTrue (houses p r) → 36 ≤ r.class → IsTrue (fills p r) × (residents p regions ≡ 1)
 
+-- and its small ones
+abbrev pub SmallAt : List Region → Region → Part → Type 0
+SmallAt regions r p = IsTrue (houses p r) → r.class < 36 → IsInSlab regions p r
+
+-- a slab stays one where a region lands that it doesn't serve
+slab_more : (regions : List Region) (p : Part) (r : Region) (place : ℕ) (new : Region) → IsInSlab regions p r → (IsTrue (houses p new) → ⊥) →
+    IsInSlab (insert regions place new) p r
+slab_more regions p r place new slab apart = record {
+  pages = slab.pages;
+  alike = All-insert (λ q. IsTrue (houses p q) → q.class ≡ r.class) regions place new slab.alike (λ home. absurd (apart home));
+  place = slab.place;
+}
+
 -- 1 where the region is served by the extent, as a sum over regions takes it
-abbrev serves_by : Part → Region → ℕ
+abbrev pub serves_by : Part → Region → ℕ
 serves_by p r = cond (houses p r) 1 0
 
 -- 1 where the region has the byte
-abbrev covered : ℕ → Region → ℕ
+abbrev pub covered : ℕ → Region → ℕ
 covered byte r = cond (covers byte r) 1 0
 
 -- an extent with no term for a region doesn't serve it
@@ -259,6 +272,15 @@ landed_keeps {c} {s} {p} {r} site =
             (All-append (LargeAt regions r) kept (settled p ∷ [])
             (λ j e i. λ home big. absurd (serves_none r (get_or kept j e) (none_kept j e i) home))
             (All-cons (LargeAt regions r) (settled p) [] (λ home big. (fills_start (settled p) r site.start site.pages, alone)) (All-nil (LargeAt regions r))));
+        small = All-insert (λ q. All (SmallAt regions q) parts) s.regions place r
+            (λ k d h. let old = get_or s.regions k d in
+            All-append (SmallAt regions old) kept (settled p ∷ [])
+            (λ j e i. let q = get_or kept j e in λ home little.
+            let was = All-filter (λ x. not (gone x)) (SmallAt s.regions old) s.parts (sound.small k d h) j e i home little in
+            slab_more s.regions q old place r was (serves_none r q (none_kept j e i)))
+            (All-cons (SmallAt regions old) (settled p) []
+            (λ home little. absurd (false_true (subst IsTrue (not_settled k d h) home))) (All-nil (SmallAt regions old))))
+            (λ j e i. λ home little. absurd (omega (arith, little, site.large)));
         classes = All-insert (λ q. q.class < 121) s.regions place r sound.classes site.class;
         aligned = All-insert (λ q. q.addr % align_at q.class ≡ 0) s.regions place r sound.aligned (start_aligned p.span.first r site.start site.class);
         apart = λ byte. elim (covers byte r) as (λ b. covers byte r ≡ b → sharers byte regions ≤ 1) [

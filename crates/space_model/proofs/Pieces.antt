@@ -65,6 +65,10 @@ listed-nobody d rest (Flight c r) h = elim rest as (λ x. is_listed x (Flight c 
 pub different : (e c d : ℕ) → eqb e c ≡ true → d ≢ c → eqb e d ≡ false
 different e c d h other = grind (arith, nat_tests)
 
+-- two clients that differ are told apart
+pub not_both : (d c : ℕ) → d ≢ c → eqb c d ≡ false
+not_both d c other = grind (arith, nat_tests)
+
 -- two clients that differ have no flight in common
 pub others-flight : (c d : ℕ) (state : State) → d ≢ c → is_flight c state ≡ true → is_flight d state ≡ false
 others-flight c d Active other h = absurd (cc)

@@ -1,21 +1,22 @@
 -- Each operation keeps a sound space sound, accounts for its pages, and leaves what other clients own as it was.
-use Rattle.std.proofs.Common.{◌≡◌, ℕ, ◌+◌, ◌*◌, ◌^◌, ◌<◌, ◌≤◌, ◌≢◌, Bool, true, false, cond, IsTrue, List, [], ◌∷◌, ◌++◌, Option, Some, None, refl, sym, ◌∙◌, ap, subst, arith, filter, find, ◌&&◌, ◌||◌, ◌==◌, Result, Ok, Err, IfOk, OnOk, OnErr, ltb as nat_lt, leb as nat_le, append-nil}
+use Rattle.std.proofs.Common.{◌≡◌, ℕ, ◌+◌, ◌*◌, ◌^◌, ◌<◌, ◌≤◌, ◌≢◌, Bool, true, false, cond, IsTrue, List, [], ◌∷◌, ◌++◌, Option, Some, None, refl, sym, ◌∙◌, ap, subst, arith, filter, find, ◌&&◌, ◌||◌, ◌==◌, Result, Ok, Err, IfOk, OnOk, OnErr, ltb as nat_lt, leb as nat_le, append-nil, not, pos}
 use Rattle.std.specs.Int.{is_power_of_two}
+use Rattle.std.specs.Option.{option_or}
+use Rattle.std.specs.Ordering.{int_eq}
 use Rattle.std.proofs.lemmas.List.Sums.{fold_push, sum_by-append, sum_by-cons}
 use Rattle.std.proofs.lemmas.List.Elements.{filter-append}
-use Rattle.std.proofs.lemmas.Bool.Decides.{nat_tests}
 use Rattle.std.proofs.lemmas.Bool.{eqb-true, ltb-true, leb-true}
 use Rattle.size_classes.specs.Classes.{size_at, pages_at}
 use Rattle.space_model.specs.declared.asks.Ask.{Ask}
-use Rattle.space_model.specs.declared.asks.Ask.TheVariants.{Alloc, Commit, Split}
+use Rattle.space_model.specs.declared.asks.Ask.TheVariants.{Alloc, Commit, Split, Merge}
 use Rattle.space_model.specs.declared.asks.Answer.{Answer}
 use Rattle.space_model.specs.declared.asks.Answer.TheVariants.{Done, Refused as Refuses, Placed}
 use Rattle.space_model.specs.declared.asks.Heard.{Heard}
 use Rattle.space_model.specs.declared.entries.Entry.{Entry}
 use Rattle.space_model.specs.declared.entries.Op.{Op}
-use Rattle.space_model.specs.declared.entries.Op.TheVariants.{Look, CutDone, GrowDone, CommitDone, Land}
+use Rattle.space_model.specs.declared.entries.Op.TheVariants.{Look, CutDone, GrowDone, CommitDone, Land, Back, PutLook, MergeDone}
 use Rattle.space_model.specs.declared.entries.Reply.{Reply}
-use Rattle.space_model.specs.declared.entries.Reply.TheVariants.{NoArena, Noted, Refused, Bad}
+use Rattle.space_model.specs.declared.entries.Reply.TheVariants.{NoArena, Noted, Refused, Bad, Purge}
 use Rattle.space_model.specs.declared.entries.Why.{Why}
 use Rattle.space_model.specs.declared.parts.Part.{Part}
 use Rattle.space_model.specs.declared.parts.Region.{Region}
@@ -24,18 +25,20 @@ use Rattle.space_model.specs.declared.spaces.Life.{Life}
 use Rattle.space_model.specs.declared.spaces.Life.TheVariants.{Live, Absent, Dying}
 use Rattle.space_model.specs.declared.spaces.Space.{Space}
 use Rattle.space_model.specs.Span.{IsPlaced, same_span, has_page, end_of, pages_end}
-use Rattle.space_model.specs.Part.{holders, is_active, is_flight, is_flight_at, is_backed, rest_of, taken_out, put_down}
+use Rattle.space_model.specs.Part.{holders, is_active, is_listed, is_flight, is_flight_at, is_backed, rest_of, taken_out, put_down}
 use Rattle.space_model.specs.Region.{address_of}
 use Rattle.space_model.specs.Fit.{fit}
-use Rattle.space_model.specs.Step.{is_live, stays, after_look, look_at, after_cut, cut_at, whole_at, low_piece, high_piece, after_grow, grow_unless, new_part, why_not, after_commit, commit_at, land_at, step_of, space_after, reply_to, cut_stands, grow_stands, land_stands, found_passes, is_yes_or_no, op_stands, stands}
+use Rattle.space_model.specs.Step.{is_live, stays, after_look, look_at, after_cut, cut_at, whole_at, low_piece, high_piece, after_grow, grow_unless, new_part, why_not, after_commit, commit_at, land_at, step_of, space_after, reply_to, is_like, is_right_of, is_left_of, neighbour, is_purged, put_at_rest, put_beside, put_at, join_at, apart_at, after_merge, cut_stands, grow_stands, land_stands, merge_stands, found_passes, is_yes_or_no, op_stands, stands}
 use Rattle.space_model.specs.Sound.{Sound}
 use Rattle.space_model.specs.Journal.{granted_by, granted, Good}
 use Rattle.space_model.specs.Own.{mine}
 use Rattle.space_model.proofs.Exchange.{share, find_has, find_passes}
 use Rattle.space_model.proofs.Idle.{Keeps, replaced_keeps, Sound-joined, mine_with, false_true}
-use Rattle.space_model.proofs.Pieces.{both_true, listed-idle, flight-idle, put_down-rest, put_down-idle, put_down-nobody, listed-nobody, others-flight, Listed, fit-listed, one_replaces, two_replace}
+use Rattle.space_model.proofs.Pieces.{both_true, not_both, listed-idle, flight-idle, put_down-rest, put_down-idle, put_down-nobody, listed-nobody, others-flight, Listed, fit-listed, one_replaces, two_replace}
 use Rattle.space_model.proofs.Growth.{why_not-free, free-holders}
 use Rattle.space_model.proofs.Landing.{Site, landed_keeps}
+use Rattle.space_model.proofs.Merges.{Pair, found_placed, joined_keeps}
+use Rattle.space_model.proofs.Giving.{back_keeps}
 
 -- a space that stays as it was keeps everything
 pub stays_keeps : (c : ℕ) (s : Space) → Sound s → Keeps c s s
@@ -46,10 +49,6 @@ live_is : (life : Life) → is_live life ≡ true → life ≡ Live
 live_is Live h = refl
 live_is Absent h = absurd (cc)
 live_is (Dying c) h = absurd (cc)
-
--- two clients that differ are told apart
-not_both : (d c : ℕ) → d ≢ c → (c == d) ≡ false
-not_both d c other = grind (arith, nat_tests)
 
 -- ---- Look
 
@@ -214,6 +213,94 @@ grow_done_keeps c s heard found (Alloc at pages align commit) (Placed first comm
 grow_done_keeps c s heard found ask answer sound live h =
     kept_step c s (GrowDone heard found) s Noted (λ page before. refl) (stays_keeps c s sound)
 
+-- ---- PutLook
+
+-- what a conditional search found, it found
+if_found : {X : Type 0} (b : Bool) (o : Option X) (x : X) → cond b o None ≡ Some x → o ≡ Some x
+if_found true o x e = e
+if_found false o x e = absurd (cc)
+
+-- what one of two searches found, one of them found
+either_found : {X : Type 0} (P : X → Type 0) (a b : Option X) (x : X) → (a ≡ Some x → P x) → (b ≡ Some x → P x) → option_or a b ≡ Some x → P x
+either_found P None b x first second e = second e
+either_found P (Some y) b x first second e = first e
+
+-- a neighbour is a listed extent
+neighbour-listed : (tries : ℕ) (p : Part) (parts : List Part) (other : Part) → neighbour tries p parts ≡ Some other → Listed parts other
+neighbour-listed tries p parts other e =
+    either_found (Listed parts) (cond (tries == 0) (find (is_right_of p) parts) None) (cond (nat_lt tries 2) (find (is_left_of p) parts) None) other
+    (λ k. let found = if_found (tries == 0) (find (is_right_of p) parts) other k in
+    let like = (both_true (is_like p other) _ (find_passes (is_right_of p) parts other found)).0 in
+    record { test = is_right_of p; found = found; rest = rest_of p.state; is_in = (both_true (is_listed (rest_of p.state) other.state) _ like).0 })
+    (λ k. let found = if_found (nat_lt tries 2) (find (is_left_of p) parts) other k in
+    let like = (both_true (is_like p other) _ (find_passes (is_left_of p) parts other found)).0 in
+    record { test = is_left_of p; found = found; rest = rest_of p.state; is_in = (both_true (is_listed (rest_of p.state) other.state) _ like).0 })
+    e
+
+beside_keeps : (c : ℕ) (s : Space) (span : Span) (tries : ℕ) (p : Part) (o : Option Part) → find (is_flight_at c span) s.parts ≡ Some p →
+    neighbour tries p s.parts ≡ o → Sound s → is_live s.life ≡ true → Keeps c s (put_beside s c p o).after
+beside_keeps c s span tries p (Some other) e near sound live =
+    taken_keeps c s other sound (live_is s.life live) (neighbour-listed tries p s.parts other near)
+beside_keeps c s span tries p None e near sound live =
+    elim (is_purged s p) as (λ b. Keeps c s (cond b (stays s (Purge (not (int_eq s.muzzy.ms (pos 0))))) (put_at_rest s c p)).after)
+    [ true ↦ stays_keeps c s sound | false ↦ whole_keeps c s span (Some p) e sound live ]
+
+put_keeps : (c : ℕ) (s : Space) (span : Span) (tries : ℕ) (o : Option Part) → find (is_flight_at c span) s.parts ≡ o → Sound s → is_live s.life ≡ true →
+    Keeps c s (put_at s c tries o).after
+put_keeps c s span tries None e sound live = stays_keeps c s sound
+put_keeps c s span tries (Some p) e sound live = beside_keeps c s span tries p (neighbour tries p s.parts) e refl sound live
+
+-- ---- MergeDone
+
+-- two extents in flight that were found side by side
+pair_at : (c : ℕ) (s : Space) (low high : Span) (p q : Part) → Flight c s low p → Flight c s high q → Sound s → end_of low ≡ high.first → Pair c s p q
+pair_at c s low high p q at to sound side = record {
+  sound = sound;
+  live = at.live;
+  low_test = is_flight_at c low;
+  low = at.found;
+  high_test = is_flight_at c high;
+  high = to.found;
+  low_flight = at.own;
+  high_flight = to.own;
+  low_idle = at.idle;
+  high_idle = to.idle;
+  side = omega (arith, at.first, at.pages, to.first, side);
+}
+
+join_keeps : (c : ℕ) (s : Space) (low high : Span) (o u : Option Part) → find (is_flight_at c low) s.parts ≡ o → find (is_flight_at c high) s.parts ≡ u →
+    Sound s → is_live s.life ≡ true → end_of low ≡ high.first → Keeps c s (join_at s o u).after
+join_keeps c s low high (Some p) (Some q) e f sound live side =
+    joined_keeps (pair_at c s low high p q (flight_at c s low p sound live e) (flight_at c s high q sound live f) sound side)
+join_keeps c s low high None u e f sound live side = stays_keeps c s sound
+join_keeps c s low high (Some p) None e f sound live side = stays_keeps c s sound
+
+apart_keeps : (c : ℕ) (s : Space) (own_low : Bool) (low high : Span) (o u : Option Part) → find (is_flight_at c low) s.parts ≡ o →
+    find (is_flight_at c high) s.parts ≡ u → Sound s → is_live s.life ≡ true → Keeps c s (apart_at s own_low o u).after
+apart_keeps c s true low high (Some p) (Some q) e f sound live = whole_keeps c s high (Some q) f sound live
+apart_keeps c s false low high (Some p) (Some q) e f sound live = whole_keeps c s low (Some p) e sound live
+apart_keeps c s true low high None u e f sound live = stays_keeps c s sound
+apart_keeps c s false low high None u e f sound live = stays_keeps c s sound
+apart_keeps c s true low high (Some p) None e f sound live = stays_keeps c s sound
+apart_keeps c s false low high (Some p) None e f sound live = stays_keeps c s sound
+
+merge_done_keeps : (c : ℕ) (s : Space) (own_low : Bool) (ask : Ask) (answer : Answer) → Sound s → is_live s.life ≡ true →
+    merge_stands s c ask answer ≡ true → Keeps c s (after_merge s c own_low ask answer).after
+merge_done_keeps c s own_low (Merge low high) Done sound live h =
+    let first = both_true (end_of low == high.first) _ h in
+    join_keeps c s low high (find (is_flight_at c low) s.parts) (find (is_flight_at c high) s.parts) refl refl sound live (eqb-true _ _ first.0)
+merge_done_keeps c s own_low (Merge low high) Refuses sound live h =
+    apart_keeps c s own_low low high (find (is_flight_at c low) s.parts) (find (is_flight_at c high) s.parts) refl refl sound live
+merge_done_keeps c s own_low ask answer sound live h = stays_keeps c s sound
+
+-- two extents in flight have no more pages than a number can be
+pub joined_fits : (c : ℕ) (s : Space) (low high : Span) (p q : Part) → Sound s → find (is_flight_at c low) s.parts ≡ Some p →
+    find (is_flight_at c high) s.parts ≡ Some q → p.span.pages + q.span.pages < 2 ^ 64
+joined_fits c s low high p q sound e f =
+    let at = found_placed s (is_flight_at c low) p sound e in
+    let to = found_placed s (is_flight_at c high) q sound f in
+    omega (arith, at.2, to.2)
+
 -- ---- Land
 
 -- the first region of an extent stands at its start
@@ -272,6 +359,16 @@ op_keeps c s (CommitDone heard) sound h =
 op_keeps c s (Land span class count) sound h =
     let live = live_and s _ h in
     kept_step c s (Land span class count) _ _ (λ page before. refl) (land_done_keeps c s span class count sound live.0 live.1)
+op_keeps c s (Back addrs) sound h =
+    let live = live_and s _ h in
+    kept_step c s (Back addrs) _ _ (λ page before. refl) (back_keeps c s addrs sound (live_is s.life live.0))
+op_keeps c s (PutLook span tries) sound h =
+    let may = both_true (is_live s.life && nat_lt tries 3) _ h in
+    let live = live_and s _ may.0 in
+    kept_step c s (PutLook span tries) _ _ (λ page before. refl) (put_keeps c s span tries (find (is_flight_at c span) s.parts) refl sound live.0)
+op_keeps c s (MergeDone heard own_low) sound h =
+    let live = live_and s _ h in
+    kept_step c s (MergeDone heard own_low) _ _ (λ page before. refl) (merge_done_keeps c s own_low heard.ask heard.answer sound live.0 live.1)
 
 -- ---- any entry
 

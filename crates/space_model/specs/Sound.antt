@@ -1,6 +1,8 @@
 -- What is always true of an arena.
-use Rattle.std.specs.Prelude.{◌≡◌, ℕ, ◌*◌, ◌%◌, ◌<◌, ◌≤◌, pos, negsuc, ◌≤ℤ◌, Bool, true, false, IsTrue, [], All, AllPairs}
-use Rattle.size_classes.specs.Classes.{align_at}
+use Rattle.std.specs.Prelude.{◌≡◌, ℕ, ◌+◌, ◌*◌, ◌%◌, ◌-◌, ◌<◌, ◌≤◌, pos, negsuc, ◌≤ℤ◌, Bool, true, false, IsTrue, List, [], All, AllPairs}
+use Rattle.size_classes.specs.Classes.{size_at, pages_at, regions_at, align_at}
+use Rattle.space_model.specs.declared.parts.Part.{Part}
+use Rattle.space_model.specs.declared.parts.Region.{Region}
 use Rattle.space_model.specs.declared.parts.State.{State}
 use Rattle.space_model.specs.declared.parts.State.TheVariants.{Active, Dirty, Muzzy, Retained, Flight}
 use Rattle.space_model.specs.declared.spaces.Pace.{Pace}
@@ -9,7 +11,7 @@ use Rattle.space_model.specs.declared.spaces.Life.{Life}
 use Rattle.space_model.specs.declared.spaces.Life.TheVariants.{Live, Absent, Dying}
 use Rattle.space_model.specs.Span.{IsPlaced, pages_end}
 use Rattle.space_model.specs.Part.{is_active, is_backed, rest_of, holders}
-use Rattle.space_model.specs.Region.{houses, homes, residents, fills, sharers}
+use Rattle.space_model.specs.Region.{address_of, houses, homes, residents, fills, sharers}
 
 -- whether the state is that of an extent out of its list
 abbrev pub is_in_flight : State → Bool
@@ -27,8 +29,8 @@ pub record IsPaced (pace : Pace) : Type 0 where
   pub started : (ms : ℕ) → pace.ms ≡ pos ms → pace.epoch * ms * 5000 ≤ pace.start
   pub rising : AllPairs (λ a b. a.epoch < b.epoch) pace.added
   pub past : All (λ a. a.epoch ≤ pace.epoch) pace.added
-  pub pages : All (λ a. a.pages ≤ pages_end) pace.added
-  pub left : pace.left ≤ pages_end
+  pub pages : All (λ a. a.pages ≤ pages_end - 512) pace.added
+  pub left : pace.left ≤ pages_end - 512
 
 -- an arena that is absent or being destroyed has no region, extent in flight, offer or client, and an absent one no extent
 abbrev pub IsQuiet : Life → Space → Type 0
@@ -36,6 +38,13 @@ IsQuiet Live s = Unit {0}
 IsQuiet (Dying c) s =
     (s.regions ≡ []) × (s.offers ≡ []) × (s.bound ≡ []) × All (λ p. is_in_flight p.state ≡ false) s.parts
 IsQuiet Absent s = (s.regions ≡ []) × (s.offers ≡ []) × (s.bound ≡ []) × (s.parts ≡ [])
+
+-- The region stands in a slab: the extent has the pages of its class, each region of the extent is of that class, and the
+-- region begins a multiple of the class's size behind the extent's start, at one of the slab's places.
+pub record IsInSlab (all : List Region) (p : Part) (r : Region) : Type 0 where
+  pub pages : p.span.pages ≡ pages_at r.class
+  pub alike : All (λ q. IsTrue (houses p q) → q.class ≡ r.class) all
+  pub place : (i : ℕ) × (i < regions_at r.class) × (r.addr ≡ address_of p.span.first + i * size_at r.class)
 
 -- The extents of an arena don't meet, and each region has its home in one of them.
 pub record Sound (s : Space) : Type 0 where
@@ -51,6 +60,8 @@ pub record Sound (s : Space) : Type 0 where
   pub used : All (λ p. IsTrue (is_active p.state) → 0 < residents p s.regions) s.parts
   -- a large region starts its extent, which has the pages of its class and no other region
   pub large : All (λ r. All (λ p. IsTrue (houses p r) → 36 ≤ r.class → IsTrue (fills p r) × (residents p s.regions ≡ 1)) s.parts) s.regions
+  -- a small region stands in a slab of its class
+  pub small : All (λ r. All (λ p. IsTrue (houses p r) → r.class < 36 → IsInSlab s.regions p r) s.parts) s.regions
   -- each region is of a class and aligned as the class wants it, and no byte is in two regions
   pub classes : All (λ r. r.class < 121) s.regions
   pub aligned : All (λ r. r.addr % align_at r.class ≡ 0) s.regions

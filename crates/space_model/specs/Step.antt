@@ -1,31 +1,33 @@
 -- What one entry does to an arena, and the reply to it: a total function, by cases on the operation.
-use Rattle.std.specs.Prelude.{ℕ, ◌+◌, ◌-◌, ◌*◌, ◌%◌, Bool, true, false, ◌==◌, ◌&&◌, ◌||◌, not, nat_le, nat_lt, List, [], ◌∷◌, ◌++◌, map, fold, find, Option, None, Some, if◌then◌else◌}
+use Rattle.std.specs.Prelude.{ℕ, ◌+◌, ◌-◌, ◌*◌, ◌%◌, Bool, true, false, ◌==◌, ◌&&◌, ◌||◌, not, nat_le, nat_lt, List, [], ◌∷◌, ◌++◌, length, map, fold, filter, find, pos, Option, None, Some, if◌then◌else◌}
+use Rattle.std.specs.Bool.{beq}
 use Rattle.std.specs.Int.{is_power_of_two}
-use Rattle.std.specs.List.{list_any, range_with_len}
-use Rattle.std.specs.Option.{option_map}
+use Rattle.std.specs.List.{list_any, list_all, insert, position_or_len, range_with_len}
+use Rattle.std.specs.Ordering.{int_eq}
+use Rattle.std.specs.Option.{option_map, option_or}
 use Rattle.size_classes.specs.Classes.{size_at, pages_at}
 use Rattle.space_model.specs.declared.asks.Ask.{Ask}
-use Rattle.space_model.specs.declared.asks.Ask.TheVariants.{Alloc, Commit, Split}
+use Rattle.space_model.specs.declared.asks.Ask.TheVariants.{Alloc, Commit, Split, Merge}
 use Rattle.space_model.specs.declared.asks.Answer.{Answer}
 use Rattle.space_model.specs.declared.asks.Answer.TheVariants.{Done, Refused as Refuses, Placed}
 use Rattle.space_model.specs.declared.entries.Entry.{Entry}
 use Rattle.space_model.specs.declared.entries.Op.{Op}
-use Rattle.space_model.specs.declared.entries.Op.TheVariants.{Look, CutDone, GrowDone, CommitDone, Land}
+use Rattle.space_model.specs.declared.entries.Op.TheVariants.{Look, CutDone, GrowDone, CommitDone, Land, Back, PutLook, MergeDone}
 use Rattle.space_model.specs.declared.entries.Reply.{Reply}
-use Rattle.space_model.specs.declared.entries.Reply.TheVariants.{NoArena, Noted, Took, Grow, Cut, Whole, Refused, Bad, Grown, Landed}
+use Rattle.space_model.specs.declared.entries.Reply.TheVariants.{NoArena, Noted, Took, Grow, Cut, Whole, Refused, Bad, Grown, Landed, Next, Beside, Purge, Joined}
 use Rattle.space_model.specs.declared.entries.Why.{Why}
 use Rattle.space_model.specs.declared.entries.Why.TheVariants.{OffSpace, Unaligned, Meets}
 use Rattle.space_model.specs.declared.parts.Part.{Part}
 use Rattle.space_model.specs.declared.parts.Region.{Region}
 use Rattle.space_model.specs.declared.parts.Span.{Span}
 use Rattle.space_model.specs.declared.parts.Rest.TheVariants.{Retained as ToRetained}
-use Rattle.space_model.specs.declared.parts.State.TheVariants.{Active, Flight}
+use Rattle.space_model.specs.declared.parts.State.TheVariants.{Active, Dirty, Flight}
 use Rattle.space_model.specs.declared.spaces.Life.{Life}
 use Rattle.space_model.specs.declared.spaces.Life.TheVariants.{Live, Absent, Dying}
 use Rattle.space_model.specs.declared.spaces.Space.{Space}
 use Rattle.space_model.specs.Span.{pages_end, end_of, chunk_span, chunks_of, meets, run_start}
-use Rattle.space_model.specs.Part.{exchanged, begins_at, is_flight_at, put_down, taken_out}
-use Rattle.space_model.specs.Region.{address_of, inserted, is_held_by}
+use Rattle.space_model.specs.Part.{exchanged, begins_at, is_active, is_listed, is_flight, is_flight_at, rest_of, listed, put_down, taken_out}
+use Rattle.space_model.specs.Region.{address_of, houses, inserted, is_held_by}
 use Rattle.space_model.specs.Fit.{fit}
 
 -- The space after an entry, and the reply to it.
@@ -164,6 +166,117 @@ land_at space c class count (Some p) =
       reply = Landed addr count;
     }
 
+-- ---- Back
+
+-- whether the client gives the region back: it holds the region, and names its address
+abbrev pub is_given_back : ℕ → List ℕ → Region → Bool
+is_given_back c addrs r = is_held_by c r && list_any (λ addr. addr == r.addr) addrs
+
+-- the regions that stay
+abbrev pub staying : ℕ → List ℕ → List Region → List Region
+staying c addrs regions = filter (λ r. not (is_given_back c addrs r)) regions
+
+-- whether the extent is active and serves none of the regions
+abbrev pub is_emptied : List Region → Part → Bool
+is_emptied regions p = is_active p.state && not (list_any (houses p) regions)
+
+-- the extents with one more, which stands before the first at a higher page
+abbrev pub placed : Part → List Part → List Part
+placed p parts = insert parts (position_or_len (λ q. nat_lt p.span.first q.span.first) parts) p
+
+-- the extents as the client takes them out, in order of address
+abbrev pub taken_in_order : ℕ → List Part → List Part
+taken_in_order c parts = fold (λ taken p. placed (taken_out c p) taken) [] parts
+
+-- the first extent that the client has in flight
+abbrev pub next_flight : ℕ → List Part → Option Span
+next_flight c parts = option_map (λ p. p.span) (find (λ p. is_flight c p.state) parts)
+
+-- these regions alone stay, and each extent that is emptied is in flight to the dirty ones
+abbrev pub with_regions : Space → ℕ → List Region → Stepped
+with_regions space c regions =
+    let emptied = filter (is_emptied regions) space.parts in
+    let parts = exchanged (is_emptied regions) space.parts (taken_in_order c emptied) in record {
+      after = record space { parts = parts; regions = regions };
+      reply = Next (next_flight c parts);
+    }
+
+-- the regions at the addresses go
+abbrev pub after_back : Space → ℕ → List ℕ → Stepped
+after_back space c addrs = with_regions space c (staying c addrs space.regions)
+
+-- ---- PutLook
+
+-- whether another extent is listed where the extent in flight belongs, and as committed
+abbrev pub is_like : Part → Part → Bool
+is_like p other = is_listed (rest_of p.state) other.state && beq other.committed p.committed
+
+-- whether it begins where the extent in flight ends
+abbrev pub is_right_of : Part → Part → Bool
+is_right_of p other = is_like p other && other.span.first == end_of p.span
+
+-- whether it ends where the extent in flight begins
+abbrev pub is_left_of : Part → Part → Bool
+is_left_of p other = is_like p other && end_of other.span == p.span.first
+
+-- the neighbour that a merge may join to the extent: the right one at the first try, and the left one at the first two
+abbrev pub neighbour : ℕ → Part → List Part → Option Part
+neighbour tries p parts =
+    option_or (if tries == 0 then find (is_right_of p) parts else None) (if nat_lt tries 2 then find (is_left_of p) parts else None)
+
+-- whether the extent belongs to the dirty ones, and none of these may stay
+abbrev pub is_purged : Space → Part → Bool
+is_purged space p = is_listed (rest_of p.state) Dirty && int_eq space.dirty.ms (pos 0)
+
+-- one extent in flight is put down, and the next one is told
+abbrev pub put_at_rest : Space → ℕ → Part → Stepped
+put_at_rest space c p =
+    let parts = exchanged (begins_at p.span.first) space.parts (put_down p ∷ []) in
+    record { after = record space { parts = parts }; reply = Next (next_flight c parts) }
+
+-- the neighbour leaves its list; where there is none, the extent waits for its purge or is put down
+abbrev pub put_beside : Space → ℕ → Part → Option Part → Stepped
+put_beside space c p (Some other) = replaced space other (taken_out c other ∷ []) (Beside other.span)
+put_beside space c p None =
+    if is_purged space p then stays space (Purge (not (int_eq space.muzzy.ms (pos 0)))) else put_at_rest space c p
+
+-- looks for a neighbour of an extent in flight
+abbrev pub put_at : Space → ℕ → ℕ → Option Part → Stepped
+put_at space c tries None = stays space Noted
+put_at space c tries (Some p) = put_beside space c p (neighbour tries p space.parts)
+
+-- ---- MergeDone
+
+-- the pages of two extents side by side, as one
+abbrev pub joined : Part → Part → Part
+joined low high = record low { span = record { first = low.span.first; pages = low.span.pages + high.span.pages } }
+
+-- whether the extent begins where one of the two does
+abbrev pub begins_either : Part → Part → Part → Bool
+begins_either low high p = begins_at low.span.first p || begins_at high.span.first p
+
+-- two extents in flight are one from now on
+abbrev pub join_at : Space → Option Part → Option Part → Stepped
+join_at space (Some low) (Some high) = record {
+  after = record space { parts = exchanged (begins_either low high) space.parts (joined low high ∷ []) };
+  reply = Joined (joined low high).span;
+}
+join_at space low high = stays space Noted
+
+-- the neighbour is put down again, and the extent that looked stays in flight
+abbrev pub apart_at : Space → Bool → Option Part → Option Part → Stepped
+apart_at space true (Some low) (Some high) = replaced space high (put_down high ∷ []) (Joined low.span)
+apart_at space false (Some low) (Some high) = replaced space low (put_down low ∷ []) (Joined high.span)
+apart_at space own_low low high = stays space Noted
+
+-- takes in the answer to a merge
+abbrev pub after_merge : Space → ℕ → Bool → Ask → Answer → Stepped
+after_merge space c own_low (Merge low high) Done =
+    join_at space (find (is_flight_at c low) space.parts) (find (is_flight_at c high) space.parts)
+after_merge space c own_low (Merge low high) Refuses =
+    apart_at space own_low (find (is_flight_at c low) space.parts) (find (is_flight_at c high) space.parts)
+after_merge space c own_low ask answer = stays space Noted
+
 -- ---- the step
 
 -- what one entry does, by cases on its operation
@@ -173,6 +286,9 @@ step_of space c (CutDone heard keep_low) = after_cut space c keep_low heard.ask 
 step_of space c (GrowDone heard found) = after_grow space c found heard.ask heard.answer
 step_of space c (CommitDone heard) = after_commit space c heard.ask heard.answer
 step_of space c (Land span class count) = land_at space c class count (find (is_flight_at c span) space.parts)
+step_of space c (Back addrs) = after_back space c addrs
+step_of space c (PutLook span tries) = put_at space c tries (find (is_flight_at c span) space.parts)
+step_of space c (MergeDone heard own_low) = after_merge space c own_low heard.ask heard.answer
 
 -- the space after an entry
 abbrev pub space_after : Space → Entry → Space
@@ -232,6 +348,35 @@ land_stands space c span class count =
     nat_le 36 class && nat_lt class 121 && count == 1 && span.pages == pages_at class
     && has_flight space c span (λ p. p.committed)
 
+-- whether the addresses rise, from the least that the first may have on
+abbrev pub rises_from : ℕ → List ℕ → Bool
+rises_from least [] = true
+rises_from least (addr ∷ addrs) = nat_le least addr && rises_from (addr + 1) addrs
+
+-- whether the client holds a region at the address
+abbrev pub holds_at : ℕ → List Region → ℕ → Bool
+holds_at c regions addr = list_any (λ r. is_held_by c r && r.addr == addr) regions
+
+-- whether regions may be given back: at least one, by rising addresses, and each is one that the client holds
+abbrev pub back_stands : Space → ℕ → List ℕ → Bool
+back_stands space c addrs = nat_lt 0 (length addrs) && rises_from 0 addrs && list_all (holds_at c space.regions) addrs
+
+-- whether two extents may be merged: they belong to the same list, and are committed alike
+abbrev pub may_merge : Part → Part → Bool
+may_merge low high = is_listed (rest_of low.state) (listed (rest_of high.state)) && beq low.committed high.committed
+
+-- whether both were found, and may be merged
+abbrev pub both_merge : Option Part → Option Part → Bool
+both_merge (Some low) (Some high) = may_merge low high
+both_merge low high = false
+
+-- whether the answer to a merge may be taken in
+abbrev pub merge_stands : Space → ℕ → Ask → Answer → Bool
+merge_stands space c (Merge low high) answer =
+    is_yes_or_no answer && end_of low == high.first
+    && both_merge (find (is_flight_at c low) space.parts) (find (is_flight_at c high) space.parts)
+merge_stands space c ask answer = false
+
 -- whether the operation may come next: in a space that isn't live only a look may, which then finds no arena
 abbrev pub op_stands : Space → ℕ → Op → Bool
 op_stands space c (Look pages align) = nat_lt 0 pages && is_power_of_two align
@@ -239,6 +384,9 @@ op_stands space c (CutDone heard keep_low) = is_live space.life && cut_stands sp
 op_stands space c (GrowDone heard found) = is_live space.life && grow_stands space c heard.ask heard.answer
 op_stands space c (CommitDone heard) = is_live space.life && commit_stands space c heard.ask heard.answer
 op_stands space c (Land span class count) = is_live space.life && land_stands space c span class count
+op_stands space c (Back addrs) = is_live space.life && back_stands space c addrs
+op_stands space c (PutLook span tries) = is_live space.life && nat_lt tries 3 && has_flight space c span (λ _. true)
+op_stands space c (MergeDone heard own_low) = is_live space.life && merge_stands space c heard.ask heard.answer
 
 -- whether the entry may come next
 abbrev pub stands : Space → Entry → Bool

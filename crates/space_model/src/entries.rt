@@ -1,9 +1,9 @@
 //! The entries of an arena's journal: operations of clients, and the replies to them.
 
-use crate::{Heard, Span};
+use crate::{Addresses, Heard, Span};
 
 /// An operation on an arena. It is plain data, and no hook is called in it.
-#[derive(Clone, Copy, Debug, PartialEq, Eq)]
+#[derive(Debug, PartialEq, Drop)]
 pub enum Op {
     /// Looks for an unused extent with a run of `pages` at a multiple of `align` pages, and takes it out of its list.
     Look {
@@ -40,10 +40,30 @@ pub enum Op {
         /// How many regions.
         count: u32,
     },
+    /// Gives regions of the client back. Each extent that then serves none is in flight to the dirty ones.
+    Back {
+        /// Their addresses, rising.
+        addrs: Addresses,
+    },
+    /// Looks for a neighbour of an extent in flight that may be merged with it, and puts the extent down where there is
+    /// none.
+    PutLook {
+        /// The extent.
+        span: Span,
+        /// Where to look: 0 for the right and then the left, 1 for the left alone, 2 for neither.
+        tries: u8,
+    },
+    /// Takes in the answer to a merge of two extents in flight.
+    MergeDone {
+        /// The merge.
+        heard: Heard,
+        /// Whether the lower one is the extent that looked, and the higher one its neighbour.
+        own_low: bool,
+    },
 }
 
 /// One entry of a journal.
-#[derive(Clone, Copy, Debug, PartialEq, Eq)]
+#[derive(Debug, PartialEq, Drop)]
 pub struct Entry {
     /// The client that made it, below 32.
     pub client: u32,
@@ -102,4 +122,15 @@ pub enum Reply {
         /// How many regions.
         count: u32,
     },
+    /// The first extent that the client has in flight, if it has one.
+    Next(Option<Span>),
+    /// A neighbour, in flight from now on, which a merge may join to the extent.
+    Beside(Span),
+    /// The extent is still in flight and is to be purged, since no dirty one may stay.
+    Purge {
+        /// Whether lazily first, since muzzy ones may stay.
+        lazy: bool,
+    },
+    /// The extent that stays in flight: both as one where they were merged, and else the one that looked.
+    Joined(Span),
 }

@@ -5,6 +5,7 @@
 //! is the slow program that computes them.
 #![tactic(auto)]
 
+mod addresses;
 mod asks;
 mod clients;
 mod counts;
@@ -15,6 +16,7 @@ mod plain;
 mod seq;
 mod spaces;
 
+pub use addresses::Addresses;
 pub use asks::{Answer, Ask, Heard};
 pub use clients::Clients;
 pub use counts::Counts;

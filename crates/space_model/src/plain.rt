@@ -4,6 +4,7 @@
 //! candidate with each other one.
 
 mod finds;
+mod frees;
 mod moves;
 mod stands;
 mod sums;

@@ -5,7 +5,7 @@ ghost use Rattle.std.specs.List.{list_any};
 ghost use Rattle.space_model.specs.Span.{IsPlaced, pages_end, end_of, run_start, holds_run, meets, chunk_span, chunks_of};
 ghost use Rattle.space_model.specs.Part.{is_active, is_listed, is_flight, is_flight_at, rest_of, listed};
 ghost use Rattle.space_model.specs.Fit.{is_candidate, is_better, is_best, fit_of, fit};
-ghost use Rattle.space_model.specs.Step.{is_found, is_owned, is_in_space, why_not};
+ghost use Rattle.space_model.specs.Step.{is_found, is_owned, is_in_space, next_flight, is_like, is_right_of, is_left_of, neighbour, why_not};
 
 use crate::{CHUNK_PAGES, CHUNKS, Part, Rest, Span, State, Why};
 
@@ -67,10 +67,92 @@ pub fn flight(parts: &[Part], client: u32, span: Span) -> Option<Part>
 }
 
 /// The page after a span's last one. In 128 bits, so that no answer of a hook wraps.
-fn end_of(span: Span) -> u128
+pub fn end_of(span: Span) -> u128
     ensures { result ≡ end_of span }
 {
     u128::from(span.first) + u128::from(span.pages)
+}
+
+/// Whether the client has an extent in this state out of its list.
+fn is_flight(client: u32, state: State) -> bool
+    ensures { result ≡ is_flight client state }
+{
+    match state {
+        State::Flight(owner, _) => owner == client,
+        _ => false,
+    }
+}
+
+/// The first extent that the client has in flight.
+fn first_flight(client: u32, parts: &[Part]) -> Option<Part>
+    ensures { result ≡ find (λ p. is_flight client p.state) parts.now }
+{
+    parts
+        .iter()
+        .copied()
+        .find(|part| is_flight(client, part.state))
+}
+
+/// The span of the first extent that the client has in flight.
+pub fn next_flight(client: u32, parts: &[Part]) -> Option<Span>
+    ensures { result ≡ next_flight client parts.now }
+{
+    match first_flight(client, parts) {
+        Some(part) => Some(part.span),
+        None => None,
+    }
+}
+
+/// Whether another extent is listed where the extent in flight belongs, and as committed.
+fn is_like(part: &Part, other: &Part) -> bool
+    ensures { result ≡ is_like part.now other.now }
+{
+    is_listed(rest_of(part.state), other.state) && other.committed == part.committed
+}
+
+/// Whether it begins where the extent in flight ends.
+fn is_right_of(part: &Part, other: &Part) -> bool
+    ensures { result ≡ is_right_of part.now other.now }
+{
+    is_like(part, other) && u128::from(other.span.first) == end_of(part.span)
+}
+
+/// Whether it ends where the extent in flight begins.
+fn is_left_of(part: &Part, other: &Part) -> bool
+    ensures { result ≡ is_left_of part.now other.now }
+{
+    is_like(part, other) && end_of(other.span) == u128::from(part.span.first)
+}
+
+/// The right neighbour that a merge may join to the extent.
+fn right_of(part: &Part, parts: &[Part]) -> Option<Part>
+    ensures { result ≡ find (is_right_of part.now) parts.now }
+{
+    parts.iter().copied().find(|other| is_right_of(part, other))
+}
+
+/// The left neighbour that a merge may join to the extent.
+fn left_of(part: &Part, parts: &[Part]) -> Option<Part>
+    ensures { result ≡ find (is_left_of part.now) parts.now }
+{
+    parts.iter().copied().find(|other| is_left_of(part, other))
+}
+
+/// The neighbour that a merge may join to the extent: the right one at the first try, and the left one at the first two.
+pub fn neighbour(tries: u8, part: &Part, parts: &[Part]) -> Option<Part>
+    ensures { result ≡ neighbour tries part.now parts.now }
+{
+    let right = if tries == 0 {
+        right_of(part, parts)
+    } else {
+        None
+    };
+    let left = if tries < 2 {
+        left_of(part, parts)
+    } else {
+        None
+    };
+    right.or(left)
 }
 
 /// The first page at or above the span's start that is a multiple of the alignment.

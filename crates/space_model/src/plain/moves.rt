@@ -12,6 +12,7 @@ ghost use Rattle.space_model.specs.Journal.{Good};
 ghost use Rattle.space_model.specs.Own.{mine};
 
 use super::finds::{fit, flight, listed, rest_of, run_start, why_not};
+use super::frees::{give_back, merge_done, put_look};
 use super::stands::is_live;
 use crate::{
     Answer, Ask, Entry, Heard, Op, Part, Parts, Region, Reply, Rest, Space, Span, State, Why,
@@ -39,7 +40,7 @@ fn exchange_items(items: &mut Vec<Part>, first: u64, pieces: &[Part]) -> Result<
 }
 
 /// The same of the extents of an arena.
-fn exchange(parts: &mut Parts, first: u64, pieces: &[Part]) -> Result<(), NoMemory>
+pub fn exchange(parts: &mut Parts, first: u64, pieces: &[Part]) -> Result<(), NoMemory>
     ensures ok { OnOk result (parts.new ≡ exchanged (begins_at first) parts.old pieces.now) }
     ensures err { OnErr result (parts.new ≡ parts.old) }
 {
@@ -47,7 +48,12 @@ fn exchange(parts: &mut Parts, first: u64, pieces: &[Part]) -> Result<(), NoMemo
 }
 
 /// One extent goes, and pieces come last.
-fn replace(space: &mut Space, part: &Part, pieces: &[Part], reply: Reply) -> Result<Reply, NoMemory>
+pub fn replace(
+    space: &mut Space,
+    part: &Part,
+    pieces: &[Part],
+    reply: Reply,
+) -> Result<Reply, NoMemory>
     ensures after { OnOk result (space.new ≡ (replaced space.old part.now pieces.now reply).after) }
     ensures reply { IfOk result (λ told. told ≡ reply) }
     ensures err { OnErr result (space.new ≡ space.old) }
@@ -57,7 +63,7 @@ fn replace(space: &mut Space, part: &Part, pieces: &[Part], reply: Reply) -> Res
 }
 
 /// The extent as the client takes it out of its list.
-fn taken_out(client: u32, part: Part) -> Part
+pub fn taken_out(client: u32, part: Part) -> Part
     ensures { result ≡ taken_out client part }
 {
     Part {
@@ -67,7 +73,7 @@ fn taken_out(client: u32, part: Part) -> Part
 }
 
 /// The extent as it is put down.
-fn put_down(part: Part) -> Part
+pub fn put_down(part: Part) -> Part
     ensures { result ≡ put_down part }
 {
     Part {
@@ -343,12 +349,15 @@ fn step(space: &mut Space, client: u32, op: &Op) -> Result<Reply, NoMemory>
     ensures reply { IfOk result (λ told. told ≡ (step_of space.old client op.now).reply) }
     ensures err { OnErr result (space.new ≡ space.old) }
 {
-    match *op {
-        Op::Look { pages, align } => look(space, client, pages, align),
-        Op::CutDone { heard, keep_low } => cut_done(space, client, heard, keep_low),
-        Op::GrowDone { heard, found } => grow_done(space, client, heard, found),
-        Op::CommitDone { heard } => commit_done(space, client, heard),
-        Op::Land { span, class, count } => land_done(space, client, span, class, count),
+    match op {
+        Op::Look { pages, align } => look(space, client, *pages, *align),
+        Op::CutDone { heard, keep_low } => cut_done(space, client, *heard, *keep_low),
+        Op::GrowDone { heard, found } => grow_done(space, client, *heard, *found),
+        Op::CommitDone { heard } => commit_done(space, client, *heard),
+        Op::Land { span, class, count } => land_done(space, client, *span, *class, *count),
+        Op::Back { addrs } => give_back(space, client, addrs),
+        Op::PutLook { span, tries } => put_look(space, client, *span, *tries),
+        Op::MergeDone { heard, own_low } => merge_done(space, client, *heard, *own_low),
     }
 }
 

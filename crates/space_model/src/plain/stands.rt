@@ -1,13 +1,13 @@
 //! Which entries may stand.
 
-ghost use Rattle.std.specs.Prelude.{◌≡◌, ◌==◌};
-ghost use Rattle.std.specs.List.{list_any};
+ghost use Rattle.std.specs.Prelude.{◌≡◌, ◌==◌, ◌&&◌};
+ghost use Rattle.std.specs.List.{list_any, list_all};
 ghost use Rattle.space_model.specs.Part.{is_flight_at};
 ghost use Rattle.space_model.specs.Region.{is_held_by};
-ghost use Rattle.space_model.specs.Step.{is_live, is_yes_or_no, is_range_or_no, is_customer, cut_stands, grow_stands, commit_stands, land_stands, op_stands, stands};
+ghost use Rattle.space_model.specs.Step.{is_live, is_yes_or_no, is_range_or_no, is_customer, cut_stands, grow_stands, commit_stands, land_stands, rises_from, holds_at, back_stands, may_merge, merge_stands, op_stands, stands};
 
-use super::finds::flight;
-use crate::{Answer, Ask, CLIENTS, Clients, Entry, Heard, Life, Op, Region, Space, Span};
+use super::finds::{end_of, flight, is_listed, listed, rest_of};
+use crate::{Answer, Ask, CLIENTS, Clients, Entry, Heard, Life, Op, Part, Region, Space, Span};
 use size_classes::{CLASSES, SMALL_CLASSES, class_pages};
 
 /// Whether the arena serves requests.
@@ -48,7 +48,7 @@ fn is_bound(bound: &Clients, client: u32) -> bool
 }
 
 /// Whether the client holds the region.
-fn is_held_by(client: u32, region: &Region) -> bool
+pub fn is_held_by(client: u32, region: &Region) -> bool
     ensures { result ≡ is_held_by client region.now }
 {
     match region.holder {
@@ -131,18 +131,92 @@ fn land_stands(space: &Space, client: u32, span: Span, class: u8, count: u32) ->
         }
 }
 
+/// Whether each address is above the one before it.
+fn rises(addrs: &[u64]) -> bool
+    ensures { result ≡ rises_from 0 addrs.now }
+{
+    let mut least = 0;
+    for addr in addrs {
+        if u128::from(*addr) < least {
+            return false;
+        }
+        least = u128::from(*addr) + 1;
+    }
+    true
+}
+
+/// Whether the client holds this region at the address.
+fn is_held_at(client: u32, addr: u64, region: &Region) -> bool
+    ensures { result ≡ (is_held_by client region.now && region.now.addr == addr) }
+{
+    is_held_by(client, region) && region.addr == addr
+}
+
+/// Whether the client holds a region at the address.
+fn holds_at(client: u32, regions: &[Region], addr: u64) -> bool
+    ensures { result ≡ holds_at client regions.now addr }
+{
+    regions
+        .iter()
+        .any(|region| is_held_at(client, addr, region))
+}
+
+/// Whether the client holds a region at each of the addresses.
+fn holds_all(client: u32, regions: &[Region], addrs: &[u64]) -> bool
+    ensures { result ≡ list_all (holds_at client regions.now) addrs.now }
+{
+    addrs.iter().all(|addr| holds_at(client, regions, *addr))
+}
+
+/// Whether regions may be given back: at least one, by rising addresses, and each is one that the client holds.
+fn back_stands(space: &Space, client: u32, addrs: &[u64]) -> bool
+    ensures { result ≡ back_stands space.now client addrs.now }
+{
+    0 < addrs.len() && rises(addrs) && holds_all(client, space.regions.as_slice(), addrs)
+}
+
+/// Whether two extents may be merged: they belong to the same list, and are committed alike.
+fn may_merge(low: &Part, high: &Part) -> bool
+    ensures { result ≡ may_merge low.now high.now }
+{
+    is_listed(rest_of(low.state), listed(rest_of(high.state))) && low.committed == high.committed
+}
+
+/// Whether the answer to a merge may be taken in.
+fn merge_stands(space: &Space, client: u32, heard: Heard) -> bool
+    ensures { result ≡ merge_stands space.now client heard.ask heard.answer }
+{
+    let Ask::Merge { low, high } = heard.ask else {
+        return false;
+    };
+    let parts = space.parts.as_slice();
+    is_yes_or_no(heard.answer)
+        && end_of(low) == u128::from(high.first)
+        && match (flight(parts, client, low), flight(parts, client, high)) {
+            (Some(low), Some(high)) => may_merge(&low, &high),
+            _ => false,
+        }
+}
+
 /// Whether the operation may come next.
 fn op_stands(space: &Space, client: u32, op: &Op) -> bool
     ensures { result ≡ op_stands space.now client op.now }
 {
-    match *op {
-        Op::Look { pages, align } => 0 < pages && align.is_power_of_two(),
-        Op::CutDone { heard, .. } => is_live(space.life) && cut_stands(space, client, heard),
-        Op::GrowDone { heard, .. } => is_live(space.life) && grow_stands(space, client, heard),
-        Op::CommitDone { heard } => is_live(space.life) && commit_stands(space, client, heard),
+    match op {
+        Op::Look { pages, align } => 0 < *pages && align.is_power_of_two(),
+        Op::CutDone { heard, .. } => is_live(space.life) && cut_stands(space, client, *heard),
+        Op::GrowDone { heard, .. } => is_live(space.life) && grow_stands(space, client, *heard),
+        Op::CommitDone { heard } => is_live(space.life) && commit_stands(space, client, *heard),
         Op::Land { span, class, count } => {
-            is_live(space.life) && land_stands(space, client, span, class, count)
+            is_live(space.life) && land_stands(space, client, *span, *class, *count)
         }
+        Op::Back { addrs } => is_live(space.life) && back_stands(space, client, addrs.as_slice()),
+        Op::PutLook { span, tries } => {
+            is_live(space.life)
+                && *tries < 3
+                && flight(space.parts.as_slice(), client, *span).is_some()
+        }
+        Op::MergeDone { heard, .. } => is_live(space.life) && merge_stands(space, client, *heard),
     }
 }
 

@@ -1,7 +1,7 @@
 use Rattle.std.proofs.Common.{sym, subst}
 use Rattle.space_model.specs.Sound.{Sound}
-use Rattle.space_model.proofs.tests.the_script_is_carried_out_as_written.Goals as goal
-use Rattle.space_model.proofs.tests.the_script_is_carried_out_as_written.Goals.{then-matches, else-matches}
+use Rattle.space_model.proofs.tests.carry_out.Goals as goal
+use Rattle.space_model.proofs.tests.carry_out.Goals.{then-matches, else-matches}
 
 pub follow-requires : goal.follow-requires
 follow-requires g c =
