@@ -1,0 +1,110 @@
+-- The extents of a book after a cut and after a join.
+use Rattle.std.proofs.Common.{◌≡◌, ℕ, ◌+◌, ◌-◌, ◌/◌, ◌<◌, ◌≤◌, Bool, true, false, not, cond, ◌||◌, List, [], ◌∷◌, ◌++◌, filter, find, Option, Some, None, inl, inr, refl, sym, ap, ◌∙◌, subst, arith, All, append_assoc}
+use Rattle.std.specs.Option.{IfSome, IsSome}
+use Rattle.std.specs.FinSet as set
+use Rattle.std.proofs.lemmas.Bool.{cases_Bool, eqb-true, not_from_false}
+use Rattle.std.proofs.lemmas.Bool.Decides.{nat_tests}
+use Rattle.std.proofs.lemmas.List.Elements.{All-contains, All-filter, All-from_recursion}
+use Rattle.fit_lists.proofs.Members.{every_from}
+use Rattle.page_map.specs.Pages.{Pages}
+use Rattle.space_model.specs.declared.parts.Part.{Part}
+use Rattle.space_model.specs.declared.parts.Span.{Span}
+use Rattle.space_model.specs.Span.{IsPlaced, end_of, meets}
+use Rattle.space_model.specs.Part.{begins_at, exchanged}
+use Rattle.space_model.specs.Step.{low_piece, high_piece}
+use Rattle.part_book.specs.declared.table.Table.{Table}
+use Rattle.part_book.specs.Books.{AreAlike, joined}
+use Rattle.part_book.specs.Leaves.{leaves_for}
+use Rattle.part_book.specs.Rows.{IsApart}
+use Rattle.part_book.specs.Tables.{parts_of}
+use Rattle.part_book.proofs.Chunks.{leaves_both, leaves_none}
+use Rattle.part_book.proofs.Lists.{find_kept, found}
+use Rattle.part_book.proofs.Parts.{placed}
+
+-- ---- a cut
+
+-- the cut lies inside of the extent that is found
+pub within : (t : Table) (now : List Part) (first left : ℕ) (p : Part) → parts_of t ≡ now → find (begins_at first) (parts_of t) ≡ Some p → IfSome (find (begins_at first) now) (λ q. left < q.span.pages) → left < p.span.pages
+within t now first left p same e fewer = subst (λ o. IfSome o (λ q. left < q.span.pages)) (ap (find (begins_at first)) (sym same) ∙ e) fewer
+
+-- the high piece ends where the extent ended
+pub high_end : (left : ℕ) (p : Part) → left < p.span.pages → end_of (high_piece left p).span ≡ end_of p.span
+high_end left p l = omega arith
+
+pub cut_parts : (old now t u v : List Part) (first left : ℕ) (p low high : Part) → old ≡ now → find (begins_at first) old ≡ Some p → t ≡ filter (λ q. not (begins_at first q)) old → u ≡ t ++ low ∷ [] → v ≡ u ++ high ∷ [] → low ≡ low_piece left p → high ≡ high_piece left p →
+    IfSome (find (begins_at first) now) (λ q. v ≡ exchanged (begins_at first) now (low_piece left q ∷ high_piece left q ∷ []))
+cut_parts old now t u v first left p low high same e less more last low_is high_is =
+    let whole : v ≡ exchanged (begins_at first) now (low_piece left p ∷ high_piece left p ∷ []) =
+    last ∙ ap (λ xs. xs ++ high ∷ []) more ∙ append_assoc t (low ∷ []) (high ∷ []) ∙ ap (λ xs. xs ++ low ∷ high ∷ []) (less ∙ ap (filter (λ q. not (begins_at first q))) same)
+    ∙ ap (λ x. filter (λ q. not (begins_at first q)) now ++ x ∷ high ∷ []) low_is ∙ ap (λ x. filter (λ q. not (begins_at first q)) now ++ low_piece left p ∷ x ∷ []) high_is in
+    subst (λ o. IfSome o (λ q. v ≡ exchanged (begins_at first) now (low_piece left q ∷ high_piece left q ∷ []))) (sym e ∙ ap (find (begins_at first)) same) whole
+
+-- ---- a join
+
+-- the second of two extents that are joined is still found when the first one is gone
+pub record IsNext (low high : ℕ) (old : List Part) (p : Part) : Type 0 where
+  pub part : Part
+  pub found : find (begins_at high) old ≡ Some part
+  pub alike : AreAlike p part
+  pub later : find (begins_at high) (filter (λ q. not (begins_at low q)) old) ≡ Some part
+
+elsewhere : (low high : ℕ) (x : Part) → begins_at high x ≡ true → low < high → begins_at low x ≡ false
+elsewhere low high x t l = grind (arith, nat_tests)
+
+pub both : (low high : ℕ) (old now : List Part) (p : Part) → old ≡ now → IsSome (find (begins_at high) now) → IfSome (find (begins_at low) now) (λ x. IfSome (find (begins_at high) now) (λ y. AreAlike x y)) → find (begins_at low) old ≡ Some p → IsPlaced p.span → IsNext low high old p
+both low high old now p same some alike e placed = by (find (begins_at high) old) refl
+  where
+    by : (o : Option Part) → find (begins_at high) old ≡ o → IsNext low high old p
+    by None f = absurd (let no = subst IsSome (ap (find (begins_at high)) (sym same) ∙ f) some in cc)
+    by (Some q) f =
+        let a : IfSome (find (begins_at high) now) (λ y. AreAlike p y) = subst (λ o. IfSome o (λ x. IfSome (find (begins_at high) now) (λ y. AreAlike x y))) (ap (find (begins_at low)) (sym same) ∙ e) alike in
+        let b : AreAlike p q = subst (λ o. IfSome o (λ y. AreAlike p y)) (ap (find (begins_at high)) (sym same) ∙ f) a in
+        let q_is = eqb-true q.span.first high (found (begins_at high) old q f).1 in
+        let p_is = eqb-true p.span.first low (found (begins_at low) old p e).1 in
+        let pages = placed.0 in
+        let next = b.beside in
+        let apart : low < high = omega arith in
+        record { part = q; found = f; alike = b; later = find_kept (begins_at high) (λ x. not (begins_at low x)) old (λ x m t. not_from_false (begins_at low x) (elsewhere low high x t apart)) ∙ f }
+
+pub same_found : (p q : Part) → Some p ≡ Some q → p ≡ q
+same_found p q e = cc
+
+pub joined_placed : (p q : Part) → IsPlaced p.span → IsPlaced q.span → AreAlike p q → IsPlaced (joined p q).span
+joined_placed p q placed_p placed_q alike = let some = placed_p.0 in let low = placed_p.1 in let high = placed_q.2 in let next = alike.beside in (omega arith, low, omega arith)
+
+apart_from_spans : (x s t : Span) → 0 < x.pages → end_of s ≡ t.first → meets x s ≡ false → meets x t ≡ false → meets x (record { first = s.first; pages = s.pages + t.pages }) ≡ false
+apart_from_spans x s t some next a b = grind (arith, nat_tests)
+
+apart_from_both : (x p q : Part) → IsPlaced x.span → AreAlike p q → meets x.span p.span ≡ false → meets x.span q.span ≡ false → meets x.span (joined p q).span ≡ false
+apart_from_both x p q placed alike a b = apart_from_spans x.span p.span q.span placed.0 alike.beside a b
+
+pub joined_apart : (t u : List Part) (high : ℕ) (p q : Part) → IsApart u → AreAlike p q → u ≡ filter (λ x. not (begins_at high x)) t → All (λ x. meets x.span p.span ≡ false) t → All (λ x. meets x.span q.span ≡ false) u → All (λ x. meets x.span (joined p q).span ≡ false) u
+joined_apart t u high p q sound alike less from_p from_q =
+    let a = subst (λ xs. All (λ x. meets x.span p.span ≡ false) xs) (sym less) (All-filter (λ x. not (begins_at high x)) (λ x. meets x.span p.span ≡ false) t from_p) in
+    All-from_recursion (λ x. meets x.span (joined p q).span ≡ false) u (every_from (λ x. meets x.span (joined p q).span ≡ false) u (λ x m.
+    apart_from_both x p q (placed u x sound m) alike (All-contains (λ y. meets y.span p.span ≡ false) u x a m) (All-contains (λ y. meets y.span q.span ≡ false) u x from_q m)))
+
+-- its first and its last page have leaves
+pub joined_leaves : (t u : Pages) (p q : Part) → AreAlike p q → u.chunks ≡ t.chunks → leaves_for t p.span ≡ 0 → leaves_for u q.span ≡ 0 → leaves_for u (joined p q).span ≡ 0
+joined_leaves t u p q alike chunks of_p of_q =
+    let low = leaves_none t p.span of_p in
+    let high = leaves_none u q.span of_q in
+    let next = alike.beside in
+    let end : end_of (joined p q).span ≡ end_of q.span = omega arith in
+    leaves_both u (joined p q).span (ap (λ s. set.contains s (p.span.first / 512)) chunks ∙ low.0) (ap (λ n. set.contains u.chunks ((n - 1) / 512)) end ∙ high.1)
+
+filter_both : (a b : Part → Bool) (xs : List Part) → filter (λ x. not (b x)) (filter (λ x. not (a x)) xs) ≡ filter (λ x. not (a x || b x)) xs
+filter_both a b [] = refl
+filter_both a b (x ∷ xs) = elim (cases_Bool (a x)) [
+  | inl t ↦ rw t (filter_both a b xs)
+  | inr f ↦ elim (cases_Bool (b x)) [ inl t ↦ rw (f, t) (filter_both a b xs) | inr g ↦ rw (f, g) (ap (λ ys. x ∷ ys) (filter_both a b xs)) ]
+]
+
+pub join_parts : (old now t u v : List Part) (low high : ℕ) (p q : Part) → old ≡ now → find (begins_at low) old ≡ Some p → find (begins_at high) old ≡ Some q → t ≡ filter (λ x. not (begins_at low x)) old → u ≡ filter (λ x. not (begins_at high x)) t → v ≡ u ++ joined p q ∷ [] →
+    IfSome (find (begins_at low) now) (λ x. IfSome (find (begins_at high) now) (λ y. v ≡ exchanged (λ r. begins_at low r || begins_at high r) now (joined x y ∷ [])))
+join_parts old now t u v low high p q same e f less fewer more =
+    let whole : v ≡ exchanged (λ r. begins_at low r || begins_at high r) now (joined p q ∷ []) =
+    more ∙ ap (λ xs. xs ++ joined p q ∷ []) (fewer ∙ ap (filter (λ x. not (begins_at high x))) less ∙ filter_both (begins_at low) (begins_at high) old ∙ ap (filter (λ x. not (begins_at low x || begins_at high x))) same) in
+    let inner : IfSome (find (begins_at high) now) (λ y. v ≡ exchanged (λ r. begins_at low r || begins_at high r) now (joined p y ∷ [])) =
+    subst (λ o. IfSome o (λ y. v ≡ exchanged (λ r. begins_at low r || begins_at high r) now (joined p y ∷ []))) (sym f ∙ ap (find (begins_at high)) same) whole in
+    subst (λ o. IfSome o (λ x. IfSome (find (begins_at high) now) (λ y. v ≡ exchanged (λ r. begins_at low r || begins_at high r) now (joined x y ∷ [])))) (sym e ∙ ap (find (begins_at low)) same) inner

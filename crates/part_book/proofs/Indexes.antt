@@ -1,0 +1,202 @@
+-- What the indexes of a table say of its extents.
+use Rattle.std.proofs.Common.{◌≡◌, ℕ, zero, suc, ◌+◌, ◌-◌, ◌/◌, ◌<◌, ◌≤◌, Bool, true, false, not, eqb, List, [], ◌∷◌, length, map, filter, find, get_or, slice_get, Some, None, option_map, vec_len, inl, inr, refl, sym, ap, ◌∙◌, subst, arith, All}
+use Rattle.std.specs.List.{Contains}
+use Rattle.std.proofs.lemmas.Bool.{cases_Bool, cases_lt}
+use Rattle.std.specs.FinMap as map_of
+use Rattle.std.specs.FinSet as set
+use Rattle.std.specs.Ordering.{nat_cmp}
+use Rattle.space_model.specs.Span.{IsPlaced, end_of}
+use Rattle.std.proofs.lemmas.Bool.Decides.{nat_tests}
+use Rattle.std.proofs.lemmas.List.Elements.{All-contains, All-from_recursion, All-head, All-nil, All-tail, Contains-get_or}
+use Rattle.std.proofs.lemmas.Grind.{get_or_default_zero}
+use Rattle.std.proofs.lemmas.List.Kept.{IsStrictlySortedBy-filter}
+use Rattle.std.proofs.lemmas.Option.{slice_get-get_or}
+use Rattle.ordered_set.specs.declared.key.Key.{Key}
+use Rattle.ordered_set.specs.Keys.{IsAscending, is_below, key_cmp, last_of}
+use Rattle.ordered_set.proofs.Sorted.{every_member}
+use Rattle.fit_lists.proofs.Members.{contains_later, every_from, filter_from, filter_has}
+use Rattle.fit_lists.proofs.Orders.{from_start, last_greatest, start, start_from}
+use Rattle.space_model.specs.declared.parts.Part.{Part}
+use Rattle.space_model.specs.declared.parts.State.{State}
+use Rattle.space_model.specs.declared.parts.State.TheVariants.{Active, Dirty, Muzzy, Retained, Flight}
+use Rattle.space_model.specs.Part.{is_flight}
+use Rattle.space_model.specs.Sound.{is_in_flight}
+use Rattle.part_book.specs.declared.table.Table.{Table}
+use Rattle.part_book.specs.Rows.{IsFirsts, IsLastBelow, Row, flights_in, is_edge, key_of, part_at, row_at}
+use Rattle.part_book.specs.Tables.{IsTable, rows_of}
+use Rattle.part_book.proofs.Lists.{count_some, find_map, find_none, found, map_from, map_has, mapped_none, mapped_some}
+
+-- the extents of some rows
+abbrev pub parts_in : List Row → List Part
+parts_in rows = map (λ row. row.part) rows
+
+-- a number is that of a slot
+pub in_slots : (t : Table) (rows : List Row) (r : Row) → IsTable t rows → Contains rows r → r.number < vec_len t.slots
+in_slots t rows r i m =
+    let some = count_some (λ row. eqb row.number r.number) rows r m (grind (arith, nat_tests)) in
+    let all = i.free r.number in
+    grind (arith, nat_tests)
+
+pub in_slot : (t : Table) (rows : List Row) (r : Row) → IsTable t rows → Contains rows r → part_at t.slots.items r.number ≡ r.part
+in_slot t rows r i m = All-contains (λ row. part_at t.slots.items row.number ≡ row.part) rows r i.slots m
+
+-- the row of a number that the map gives for a page
+pub edge_row : (t : Table) (rows : List Row) (page number : ℕ) → IsTable t rows → map_of.get t.edges.numbers page ≡ Some number → (r : Row) × (find (λ row. is_edge page row.part) rows ≡ Some r) × Contains rows r × (r.number ≡ number)
+edge_row t rows page number i e =
+    let p = mapped_some (λ row. row.number) (find (λ row. is_edge page row.part) rows) number (sym (i.edges page) ∙ e) in
+    (p.0, p.1, (found (λ row. is_edge page row.part) rows p.0 p.1).0, p.2)
+
+pub edge_part : (t : Table) (rows : List Row) (page number : ℕ) → IsTable t rows → map_of.get t.edges.numbers page ≡ Some number → find (is_edge page) (parts_in rows) ≡ Some (part_at t.slots.items number)
+edge_part t rows page number i e =
+    let p = edge_row t rows page number i e in
+    let part : part_at t.slots.items number ≡ p.0.part = ap (part_at t.slots.items) (sym p.3) ∙ in_slot t rows p.0 i p.2 in
+    find_map (λ row. row.part) (is_edge page) rows ∙ ap (option_map (λ row. row.part)) p.1 ∙ ap (λ q. Some q) (sym part)
+
+pub edge_none : (t : Table) (rows : List Row) (page : ℕ) → IsTable t rows → map_of.get t.edges.numbers page ≡ None → find (is_edge page) (parts_in rows) ≡ None
+edge_none t rows page i e =
+    let none = mapped_none (λ row. row.number) (find (λ row. is_edge page row.part) rows) (sym (i.edges page) ∙ e) in
+    find_map (λ row. row.part) (is_edge page) rows ∙ ap (option_map (λ row. row.part)) none
+
+-- ---- the first pages
+
+has_slice : {X : Type 0} (xs : List X) (k : ℕ) (x : X) → slice_get xs k ≡ Some x → Contains xs x
+has_slice [] k x e = absurd (cc)
+has_slice (y ∷ ys) zero x e = (zero, omega arith, (let same : y ≡ x = cc in same))
+has_slice (y ∷ ys) (suc k) x e = contains_later y ys x (has_slice ys k x e)
+
+no_last : (ks : List Key) (k : Key) → last_of ks ≡ None → Contains ks k → ⊥
+no_last ks k e m =
+    let l = m.1 in
+    let some : slice_get ks (length ks - 1) ≡ Some (get_or ks (length ks - 1) k) = slice_get-get_or ks (length ks - 1) k (omega arith) in
+    let f : None ≡ Some (get_or ks (length ks - 1) k) = sym e ∙ some in cc
+
+is_below_from : (k : Key) (page : ℕ) → k.major < page → is_below (start page) k ≡ true
+is_below_from k page l = elim (cases_Bool (is_below (start page) k)) [
+  | inl t ↦ t
+  | inr f ↦ absurd (let g = from_start k page (rw f refl) in omega arith)
+]
+
+below_from : (k : Key) (page : ℕ) → is_below (start page) k ≡ true → k.major < page
+below_from k page t = elim (cases_lt k.major page) [
+  | inl l ↦ l
+  | inr g ↦ absurd (let u : not (is_below (start page) k) ≡ true = start_from k page g in let v : false ≡ true = rw t at u in cc)
+]
+
+-- the row of the last key below a page
+pub last_row : (rows : List Row) (keys : List Key) (page : ℕ) (key : Key) → IsFirsts rows keys → IsAscending keys → last_of (filter (is_below (start page)) keys) ≡ Some key → (r : Row) × Contains rows r × (r.number ≡ key.minor) × IsLastBelow page (parts_in rows) r.part
+last_row rows keys page key firsts ascending e =
+    let ks = filter (is_below (start page)) keys in
+    let m = filter_from (is_below (start page)) keys key (has_slice ks (length ks - 1) key e) in
+    let p = firsts.from key m.0 in
+    let first : p.0.part.span.first ≡ key.major = ap (λ k. k.major) p.2 in
+    let below = below_from key page m.1 in
+    let greatest = last_greatest ks key (IsStrictlySortedBy-filter key_cmp (is_below (start page)) keys ascending) (sym e) in (
+      p.0,
+      p.1,
+      ap (λ k. k.minor) p.2,
+      record {
+        listed = map_has (λ row. row.part) rows p.0 p.1;
+        below = omega arith;
+        last = All-from_recursion (λ q. q.span.first < page → q.span.first ≤ p.0.part.span.first) (parts_in rows) (every_from (λ q. q.span.first < page → q.span.first ≤ p.0.part.span.first) (parts_in rows) (λ q n l.
+            let r = map_from (λ row. row.part) rows q n in
+            let same : r.0.part.span.first ≡ q.span.first = ap (λ (x : Part). x.span.first) r.2 in
+            let up = every_member (λ k. k.major ≤ key.major) ks greatest (key_of r.0) (filter_has (is_below (start page)) keys (key_of r.0) (firsts.has r.0 r.1) (is_below_from (key_of r.0) page (omega arith))) in
+            omega arith));
+      },
+    )
+
+pub no_row : (rows : List Row) (keys : List Key) (page : ℕ) → IsFirsts rows keys → last_of (filter (is_below (start page)) keys) ≡ None → All (λ p. page ≤ p.span.first) (parts_in rows)
+no_row rows keys page firsts e = All-from_recursion (λ p. page ≤ p.span.first) (parts_in rows) (every_from (λ p. page ≤ p.span.first) (parts_in rows) (λ q n.
+    let r = map_from (λ row. row.part) rows q n in
+    let same : r.0.part.span.first ≡ q.span.first = ap (λ (x : Part). x.span.first) r.2 in
+    elim (cases_lt r.0.part.span.first page) [
+      | inl l ↦ absurd (no_last (filter (is_below (start page)) keys) (key_of r.0) e (filter_has (is_below (start page)) keys (key_of r.0) (firsts.has r.0 r.1) (is_below_from (key_of r.0) page l)))
+      | inr g ↦ omega arith
+    ]))
+
+-- ---- the flights
+
+grounded : (client : ℕ) (state : State) → is_in_flight state ≡ false → is_flight client state ≡ false
+grounded client Active e = refl
+grounded client Dirty e = refl
+grounded client Muzzy e = refl
+grounded client Retained e = refl
+grounded client (Flight c rest) e = absurd (cc)
+
+-- whether the extent in a slot is the client's, in flight
+abbrev pub is_flown : List Part → ℕ → ℕ → Bool
+is_flown slots client number = is_flight client (part_at slots number).state
+
+-- the first of the flights that is the client's is the first extent that the client has in flight
+pub first_flight : (slots : List Part) (client : ℕ) (rows : List Row) → All (λ row. part_at slots row.number ≡ row.part) rows → (i : ℕ) → i < length (flights_in rows) → ((k : ℕ) → k < i → is_flown slots client (get_or (flights_in rows) k 0) ≡ false) → is_flown slots client (get_or (flights_in rows) i 0) ≡ true → find (λ p. is_flight client p.state) (parts_in rows) ≡ Some (part_at slots (get_or (flights_in rows) i 0))
+first_flight slots client [] all i l earlier here = absurd (omega arith)
+first_flight slots client (r ∷ rows) all i l earlier here =
+    let slot : part_at slots r.number ≡ r.part = All-head (λ row. part_at slots row.number ≡ row.part) r rows all in
+    let rest = All-tail (λ row. part_at slots row.number ≡ row.part) r rows all in
+    elim (cases_Bool (is_in_flight r.part.state)) [
+      | inl t ↦ flying slot t i (rw t at l) (λ k o. rw t at (earlier k o)) (rw t at here) (first_flight slots client rows rest)
+      | inr f ↦ rw (f, grounded client r.part.state f) (first_flight slots client rows rest i (rw f at l) (λ k o. rw f at (earlier k o)) (rw f at here))
+    ]
+  where
+    Goes : List ℕ → ℕ → Type 0
+    Goes ns i = (i < length ns) × ((k : ℕ) → k < i → is_flown slots client (get_or ns k 0) ≡ false) × (is_flown slots client (get_or ns i 0) ≡ true)
+
+    flying : part_at slots r.number ≡ r.part → is_in_flight r.part.state ≡ true → (i : ℕ) → i < length (r.number ∷ flights_in rows) → ((k : ℕ) → k < i → is_flown slots client (get_or (r.number ∷ flights_in rows) k 0) ≡ false) → is_flown slots client (get_or (r.number ∷ flights_in rows) i 0) ≡ true →
+        ((i : ℕ) → i < length (flights_in rows) → ((k : ℕ) → k < i → is_flown slots client (get_or (flights_in rows) k 0) ≡ false) → is_flown slots client (get_or (flights_in rows) i 0) ≡ true → find (λ p. is_flight client p.state) (parts_in rows) ≡ Some (part_at slots (get_or (flights_in rows) i 0))) →
+        find (λ p. is_flight client p.state) (parts_in (r ∷ rows)) ≡ Some (part_at slots (get_or (flights_in (r ∷ rows)) i 0))
+    flying slot t zero l earlier here deep = rw t (let own : is_flight client r.part.state ≡ true = ap (λ (p : Part). is_flight client p.state) (sym slot) ∙ here in rw own (ap (λ p. Some p) (sym slot)))
+    flying slot t (suc i) l earlier here deep = rw t (let own : is_flight client r.part.state ≡ false = ap (λ (p : Part). is_flight client p.state) (sym slot) ∙ earlier zero (omega arith) in rw own (deep i (omega arith) (λ k o. earlier (suc k) (omega arith)) here))
+
+pub no_flight : (slots : List Part) (client : ℕ) (rows : List Row) → All (λ row. part_at slots row.number ≡ row.part) rows → ((k : ℕ) → k < length (flights_in rows) → is_flown slots client (get_or (flights_in rows) k 0) ≡ false) → find (λ p. is_flight client p.state) (parts_in rows) ≡ None
+no_flight slots client rows all none = find_none (λ p. is_flight client p.state) (parts_in rows) (λ p m.
+    let r = map_from (λ row. row.part) rows p m in
+    ap (λ (q : Part). is_flight client q.state) (sym r.2) ∙ elim (cases_Bool (is_in_flight r.0.part.state)) [
+      | inl t ↦
+          let n = map_has (λ row. row.number) (filter (λ row. is_in_flight row.part.state) rows) r.0 (filter_has (λ row. is_in_flight row.part.state) rows r.0 r.1 t) in
+          let slot = All-contains (λ row. part_at slots row.number ≡ row.part) rows r.0 all r.1 in
+          let same : r.0.number ≡ get_or (flights_in rows) n.0 0 = sym (n.2) ∙ get_or_default_zero (flights_in rows) n.0 r.0.number n.1 in
+          ap (λ (q : Part). is_flight client q.state) (sym slot) ∙ subst (λ x. is_flown slots client x ≡ false) (sym same) (none n.0 n.1)
+      | inr f ↦ grounded client r.0.part.state f
+    ])
+
+-- the flights are numbers of slots
+pub flights_in_slots : (t : Table) (rows : List Row) → IsTable t rows → (k : ℕ) → k < length t.flights.items → get_or t.flights.items k 0 < vec_len t.slots
+flights_in_slots t rows i k l =
+    let m : Contains t.flights.items (get_or t.flights.items k 0) = Contains-get_or t.flights.items k 0 l in
+    let n = map_from (λ row. row.number) (filter (λ row. is_in_flight row.part.state) rows) (get_or t.flights.items k 0) (subst (λ ns. Contains ns (get_or t.flights.items k 0)) i.flights m) in
+    let r = filter_from (λ row. is_in_flight row.part.state) rows n.0 n.1 in
+    subst (λ x. x < vec_len t.slots) n.2 (in_slots t rows n.0 i r.0)
+
+-- what holds of each number below one and of it
+pub below_next : (P : ℕ → Type 0) (i : ℕ) → ((k : ℕ) → k < i → P k) → P i → (k : ℕ) → k < i + 1 → P k
+below_next P i below here k l = elim (cases_lt k i) [ inl m ↦ below k m | inr g ↦ (let same : i ≡ k = omega arith in subst P same here) ]
+
+-- ---- a table without extents
+
+pub empty_rows : (t : Table) → t.order.spans ≡ [] → rows_of t ≡ []
+unfolding rows_of
+empty_rows t e = ap (map (row_at t.slots.items)) e
+
+bare : (t : Table) → t.order.spans ≡ [] → t.dirty.spans ≡ [] → t.muzzy.spans ≡ [] → t.retained.spans ≡ [] → t.flights.items ≡ [] → t.firsts.keys ≡ [] → t.edges.numbers ≡ map_of.empty → vec_len t.slots ≡ 0 → t.free.items ≡ [] → vec_len t.free ≡ 0 → IsTable t []
+bare t order dirty muzzy retained flights firsts numbers slots free free_len = record {
+  apart = record { placed = All-nil (λ p. IsPlaced p.span); owners = λ page. omega arith };
+  order = order;
+  dirty = dirty;
+  muzzy = muzzy;
+  retained = retained;
+  flights = flights;
+  firsts = record {
+    has = λ r m. absurd (let l = m.1 in omega arith);
+    from = λ k m. absurd (let n : Contains {X = Key} [] k = subst (λ ks. Contains ks k) firsts m in let l = n.1 in omega arith);
+  };
+  edges = λ page. ap (λ m. map_of.get m page) numbers ∙ map_of.get-empty nat_cmp page;
+  leaves = All-nil (λ (r : Row). (set.contains t.edges.chunks (r.part.span.first / 512) ≡ true) × (set.contains t.edges.chunks ((end_of r.part.span - 1) / 512) ≡ true));
+  slots = All-nil (λ (r : Row). part_at t.slots.items r.number ≡ r.part);
+  free = λ number. rw (free, slots) (grind (arith, nat_tests));
+  places = omega arith;
+  small = omega arith;
+  room = omega arith;
+}
+
+pub empty_table : (t : Table) → t.order.spans ≡ [] → t.dirty.spans ≡ [] → t.muzzy.spans ≡ [] → t.retained.spans ≡ [] → t.flights.items ≡ [] → t.firsts.keys ≡ [] → t.edges.numbers ≡ map_of.empty → vec_len t.slots ≡ 0 → t.free.items ≡ [] → vec_len t.free ≡ 0 → IsTable t (rows_of t)
+empty_table t order dirty muzzy retained flights firsts numbers slots free free_len = subst (IsTable t) (sym (empty_rows t order)) (bare t order dirty muzzy retained flights firsts numbers slots free free_len)

@@ -1,0 +1,10 @@
+pub mod Additions
+pub mod Changed
+pub mod Chunks
+pub mod Fitting
+pub mod Indexes
+pub mod Lists
+pub mod Parts
+pub mod Removals
+pub mod Rooms
+pub mod Rowed

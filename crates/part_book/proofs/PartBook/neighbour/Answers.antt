@@ -1,0 +1,15 @@
+use Rattle.std.proofs.Common.{◌≡◌, ◌^◌, ◌≤◌, sym, ap, subst, ◌∙◌, arith, find, None}
+use Rattle.space_model.specs.Part.{begins_at}
+use Rattle.space_model.specs.Span.{end_of}
+use Rattle.part_book.specs.Books.{is_beside}
+use Rattle.part_book.specs.Tables.{parts_of}
+use Rattle.part_book.proofs.Parts.{none_begins}
+use Rattle.part_book.proofs.PartBook.neighbour.Goals as goal
+
+pub returns-in_err-checked_add : goal.returns-in_err-checked_add
+returns-in_err-checked_add c =
+    let t = c.self.inside.table in
+    let far : 33554432 ≤ end_of c.args.span = let h = c.in_err-checked_add.ensures in omega arith in
+    let none = none_begins (parts_of t) (end_of c.args.span) c.self.invariant.table.apart far in
+    let seen = ap (λ b. find (begins_at (end_of c.args.span)) b.parts) (sym c.self.view_is) ∙ none in
+    c.from_residual.ensures ∙ sym (rw c.if-right.true seen)

@@ -1,0 +1,131 @@
+-- The extents of a table and their numbers: which are the same, and which share no page.
+use Rattle.std.proofs.Common.{◌≡◌, ℕ, ◌+◌, ◌-◌, ◌<◌, ◌≤◌, Bool, true, false, not, cond, eqb, ltb, List, [], ◌∷◌, ◌++◌, filter, count_by, map, vec_len, inl, inr, refl, sym, ap, ◌∙◌, subst, arith, All}
+use Rattle.std.specs.List.{Contains}
+use Rattle.std.proofs.lemmas.Bool.{cases_Bool, cases_lt, eq-eqb, eqb-true}
+use Rattle.std.proofs.lemmas.Bool.Decides.{nat_tests}
+use Rattle.std.proofs.lemmas.List.Elements.{All-append, All-contains, All-cons, All-filter, All-from_recursion, All-nil}
+use Rattle.std.proofs.lemmas.List.Sums.{sum_by-append, sum_by-cons}
+use Rattle.fit_lists.proofs.Members.{every_from, filter_from}
+use Rattle.space_model.specs.declared.parts.Part.{Part}
+use Rattle.space_model.specs.Span.{IsPlaced, end_of, has_page, meets}
+use Rattle.space_model.specs.Part.{begins_at, holders}
+use Rattle.part_book.specs.declared.table.Table.{Table}
+use Rattle.part_book.specs.Rows.{IsApart, Row}
+use Rattle.part_book.specs.Tables.{IsTable}
+use Rattle.part_book.proofs.Indexes.{parts_in}
+use Rattle.part_book.proofs.Lists.{count_kept, count_map, count_none, filter_map_is, filter_same, map_from, map_has, only_one}
+use Rattle.part_book.proofs.Parts.{begins_has, placed}
+
+pub row_placed : (rows : List Row) (r : Row) → IsApart (parts_in rows) → Contains rows r → IsPlaced r.part.span
+row_placed rows r apart m = placed (parts_in rows) r.part apart (map_has (λ row. row.part) rows r m)
+
+-- a page is that of one extent
+pub one_row : (rows : List Row) → IsApart (parts_in rows) → (page : ℕ) (x y : Row) → Contains rows x → Contains rows y → has_page page x.part.span ≡ true → has_page page y.part.span ≡ true → y ≡ x
+one_row rows apart page x y m n t u =
+    let most = apart.owners page in
+    let same = count_map (λ row. row.part) (λ p. has_page page p.span) rows in
+    only_one (λ row. has_page page row.part.span) rows x y (omega arith) m n t u
+
+-- a number is that of one extent
+pub numbers_most : (t : Table) (rows : List Row) (number : ℕ) → IsTable t rows → count_by (λ row. eqb row.number number) rows ≤ 1
+numbers_most t rows number i =
+    let all = i.free number in
+    let bit_le : (b : Bool) → let n : ℕ = cond b 1 0 in n ≤ 1 = λ b. elim b as (λ c. let n : ℕ = cond c 1 0 in n ≤ 1) [ true ↦ omega arith | false ↦ omega arith ] in
+    let most = bit_le (ltb number (vec_len t.slots)) in
+    omega arith
+
+pub one_number : (t : Table) (rows : List Row) (x y : Row) → IsTable t rows → Contains rows x → Contains rows y → y.number ≡ x.number → y ≡ x
+one_number t rows x y i m n e = only_one (λ row. eqb row.number x.number) rows x y (numbers_most t rows x.number i) m n (eq-eqb x.number x.number refl) (eq-eqb y.number x.number e)
+
+-- all extents but the one with a number
+abbrev pub others : ℕ → List Row → List Row
+others number rows = filter (λ row. not (eqb row.number number)) rows
+
+pub other_row : (number : ℕ) (rows : List Row) (x : Row) → Contains (others number rows) x → Contains rows x × (eqb x.number number ≡ false)
+other_row number rows x m = let p = filter_from (λ row. not (eqb row.number number)) rows x m in (p.0, not_true (eqb x.number number) p.1)
+  where
+    not_true : (b : Bool) → not b ≡ true → b ≡ false
+    not_true true e = absurd (cc)
+    not_true false e = refl
+
+-- spans that meet share a page
+pub share_page : (p q : Part) → IsPlaced p.span → IsPlaced q.span → meets p.span q.span ≡ true → (page : ℕ) × (has_page page p.span ≡ true) × (has_page page q.span ≡ true)
+share_page p q placed_p placed_q t =
+    let some_p = placed_p.0 in
+    let some_q = placed_q.0 in
+    elim (cases_lt p.span.first q.span.first) [
+      | inl l ↦ (q.span.first, grind (arith, nat_tests), grind (arith, nat_tests))
+      | inr g ↦ (p.span.first, grind (arith, nat_tests), grind (arith, nat_tests))
+    ]
+
+-- and the other way round
+pub page_meets : (p q : Part) (page : ℕ) → has_page page p.span ≡ true → has_page page q.span ≡ true → meets p.span q.span ≡ true
+page_meets p q page t u = grind (arith, nat_tests)
+
+-- ---- one more extent
+
+pub apart_more : (parts : List Part) (p : Part) → IsApart parts → IsPlaced p.span → All (λ q. meets q.span p.span ≡ false) parts → IsApart (parts ++ p ∷ [])
+apart_more parts p apart in_space none = record {
+  placed = All-append (λ q. IsPlaced q.span) parts (p ∷ []) apart.placed (All-cons (λ q. IsPlaced q.span) p [] in_space (All-nil (λ q. IsPlaced q.span)));
+  owners = λ page.
+      let sum = sum_by-append (λ q. cond (has_page page q.span) 1 0) parts (p ∷ []) in
+      let last = sum_by-cons (λ q. cond (has_page page q.span) 1 0) p [] in
+      let most = apart.owners page in
+      let bit : Bool → ℕ = λ b. cond b 1 0 in
+      elim (cases_Bool (has_page page p.span)) [
+        | inl t ↦
+            let one : bit (has_page page p.span) ≡ 1 = ap bit t in
+            let nobody = count_none (λ q. has_page page q.span) parts (λ q m. elim (cases_Bool (has_page page q.span)) [
+              | inl u ↦ absurd (let met = page_meets q p page u t in let f = All-contains (λ q. meets q.span p.span ≡ false) parts q none m in cc)
+              | inr f ↦ f
+            ]) in
+            omega arith
+        | inr f ↦ let no : bit (has_page page p.span) ≡ 0 = ap bit f in omega arith
+      ];
+}
+
+-- ---- one extent less
+
+pub apart_less : (number : ℕ) (rows : List Row) → IsApart (parts_in rows) → IsApart (parts_in (others number rows))
+apart_less number rows apart = record {
+  placed = All-from_recursion (λ p. IsPlaced p.span) (parts_in (others number rows)) (every_from (λ p. IsPlaced p.span) (parts_in (others number rows)) (λ p m.
+      let r = map_from (λ row. row.part) (others number rows) p m in
+      subst (λ q. IsPlaced q.span) r.2 (row_placed rows r.0 apart (other_row number rows r.0 r.1).0)));
+  owners = λ page.
+      let most = apart.owners page in
+      let all = count_map (λ row. row.part) (λ p. has_page page p.span) rows in
+      let rest = count_map (λ row. row.part) (λ p. has_page page p.span) (others number rows) in
+      let kept = count_kept (λ row. not (eqb row.number number)) (λ row. has_page page row.part.span) rows in
+      omega arith;
+}
+
+-- the extents but one are those that begin elsewhere
+pub others_begin : (t : Table) (rows : List Row) (r : Row) (first : ℕ) → IsTable t rows → Contains rows r → begins_at first r.part ≡ true → parts_in (others r.number rows) ≡ filter (λ p. not (begins_at first p)) (parts_in rows)
+others_begin t rows r first i m b =
+    ap parts_in (filter_same (λ row. not (eqb row.number r.number)) (λ row. not (begins_at first row.part)) rows (λ x n. ap not (same x n)))
+    ∙ sym (filter_map_is (λ row. row.part) (λ p. not (begins_at first p)) rows)
+  where
+    same : (x : Row) → Contains rows x → eqb x.number r.number ≡ begins_at first x.part
+    same x n = elim (cases_Bool (eqb x.number r.number)) [
+      | inl t' ↦ let e = one_number t rows r x i m n (eqb-true x.number r.number t') in t' ∙ sym (ap (λ (y : Row). begins_at first y.part) e ∙ b)
+      | inr f ↦ elim (cases_Bool (begins_at first x.part)) [
+        | inl u ↦ absurd (
+            let e = one_row rows i.apart first r x m n (begins_has r.part first (row_placed rows r i.apart m) b) (begins_has x.part first (row_placed rows x i.apart n) u) in
+            let g : eqb x.number r.number ≡ true = eq-eqb x.number r.number (ap (λ (y : Row). y.number) e) in cc)
+        | inr g ↦ f ∙ sym g
+      ]
+    ]
+
+-- the extents but one don't meet it
+pub others_apart : (t : Table) (rows : List Row) (r : Row) → IsTable t rows → Contains rows r → All (λ p. meets p.span r.part.span ≡ false) (parts_in (others r.number rows))
+others_apart t rows r i m = All-from_recursion (λ p. meets p.span r.part.span ≡ false) (parts_in (others r.number rows)) (every_from (λ p. meets p.span r.part.span ≡ false) (parts_in (others r.number rows)) (λ p n.
+    let x = map_from (λ row. row.part) (others r.number rows) p n in
+    let o = other_row r.number rows x.0 x.1 in
+    ap (λ (q : Part). meets q.span r.part.span) (sym x.2) ∙ elim (cases_Bool (meets x.0.part.span r.part.span)) [
+      | inl t' ↦ absurd (
+          let page = share_page x.0.part r.part (row_placed rows x.0 i.apart o.0) (row_placed rows r i.apart m) t' in
+          let e = one_row rows i.apart page.0 r x.0 m o.0 page.2 page.1 in
+          let g : eqb x.0.number r.number ≡ true = eq-eqb x.0.number r.number (ap (λ (y : Row). y.number) e) in
+          let f = o.1 in cc)
+      | inr f ↦ f
+    ]))

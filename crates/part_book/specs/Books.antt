@@ -1,0 +1,35 @@
+-- What callers see of a book of extents.
+use Rattle.std.specs.Prelude.{◌≡◌, ℕ, ◌+◌, Bool, true, false, ◌==◌, List, filter, sum_by}
+use Rattle.space_model.specs.declared.parts.Part.{Part}
+use Rattle.space_model.specs.declared.parts.Rest.{Rest}
+use Rattle.space_model.specs.declared.parts.Span.{Span}
+use Rattle.space_model.specs.Span.{end_of}
+use Rattle.space_model.specs.Part.{begins_at, is_listed}
+
+-- the extents, in the order in which each took its present span, state and commit state, and the places left
+pub record Book : Type 0 where
+  pub parts : List Part
+  pub spare : ℕ
+
+-- whether the extent ends before the page
+abbrev pub ends_at : ℕ → Part → Bool
+ends_at page p = end_of p.span == page
+
+-- whether the extent begins where the span ends (on the right), or ends where it begins (on the left)
+abbrev pub is_beside : Span → Bool → Part → Bool
+is_beside s true p = begins_at (end_of s) p
+is_beside s false p = ends_at s.first p
+
+-- the pages of the extents that are listed among those of a rest
+abbrev pub pages_of : Rest → List Part → ℕ
+pages_of rest parts = sum_by (λ p. p.span.pages) (filter (λ p. is_listed rest p.state) parts)
+
+-- the second extent begins where the first one ends, and both are of one use and one commit state
+pub record AreAlike (p q : Part) : Type 0 where
+  pub beside : end_of p.span ≡ q.span.first
+  pub state : p.state ≡ q.state
+  pub committed : p.committed ≡ q.committed
+
+-- the pages of two extents as one
+abbrev pub joined : Part → Part → Part
+joined p q = record p { span = record { first = p.span.first; pages = p.span.pages + q.span.pages } }

@@ -1,0 +1,5 @@
+pub mod Books
+pub mod Leaves
+pub mod Rows
+pub mod Shown
+pub mod Tables

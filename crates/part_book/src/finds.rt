@@ -1,0 +1,151 @@
+//! The searches for an extent.
+ghost use Rattle.std.specs.Prelude.{◌≡◌, ◌<◌, ◌≤◌, ◌^◌, find, option_map, sum_by, vec_len, All, IfSome, IsNone};
+ghost use Rattle.std.specs.List.{list_any};
+ghost use Rattle.space_model.specs.Span.{has_page, meets};
+ghost use Rattle.space_model.specs.Part.{begins_at, is_flight, is_listed};
+ghost use Rattle.space_model.specs.Fit.{fit_of};
+ghost use Rattle.part_book.specs.Books.{ends_at, pages_of};
+ghost use Rattle.part_book.specs.Rows.{IsLastBelow, is_edge, part_at, spans_in};
+ghost use Rattle.part_book.specs.Tables.{IsTable, parts_of, rows_of};
+
+use crate::rows::{end_of, is_flight};
+use crate::table::Table;
+use fit_lists::FitList;
+use ordered_set::Key;
+use space_model::{Part, Rest, Span};
+
+impl Table {
+    // The extent with a number.
+    fn part_at(&self, number: u32) -> Part
+        requires { number < vec_len self.now.slots }
+        ensures { result ≡ part_at self.now.slots.items number }
+    {
+        self.slots[number as usize]
+    }
+
+    // The extent whose first or last page this is.
+    fn at_edge(&self, page: u64) -> Option<Part>
+        requires table { IsTable self.now (rows_of self.now) }
+        ensures { result ≡ find (is_edge page) (parts_of self.now) }
+    {
+        let number = self.edges.get(page)?;
+        Some(self.part_at(number))
+    }
+
+    /// The extent that begins at a page.
+    pub fn look(&self, first: u64) -> Option<Part>
+        requires table { IsTable self.now (rows_of self.now) }
+        ensures { result ≡ find (begins_at first) (parts_of self.now) }
+    {
+        let part = self.at_edge(first)?;
+        if part.span.first == first {
+            Some(part)
+        } else {
+            None
+        }
+    }
+
+    /// The extent that ends before a page.
+    pub fn ending_at(&self, page: u64) -> Option<Part>
+        requires table { IsTable self.now (rows_of self.now) }
+        ensures { result ≡ find (ends_at page) (parts_of self.now) }
+    {
+        let part = self.at_edge(page.checked_sub(1)?)?;
+        if end_of(part.span) == page {
+            Some(part)
+        } else {
+            None
+        }
+    }
+
+    // The last extent that begins below a page.
+    fn last_below(&self, page: u64) -> Option<Part>
+        requires table { IsTable self.now (rows_of self.now) }
+        ensures none { IsNone result → All (λ p. page ≤ p.span.first) (parts_of self.now) }
+        ensures last { IfSome result (IsLastBelow page (parts_of self.now)) }
+    {
+        let key = self.firsts.before(Key {
+            major: page,
+            minor: 0,
+        })?;
+        Some(self.part_at(key.minor as u32))
+    }
+
+    /// The extent that has a page.
+    pub fn holding(&self, page: u64) -> Option<Part>
+        requires table { IsTable self.now (rows_of self.now) }
+        ensures { result ≡ find (λ p. has_page page p.span) (parts_of self.now) }
+    {
+        let part = self.last_below(page.saturating_add(1))?;
+        if page < end_of(part.span) {
+            Some(part)
+        } else {
+            None
+        }
+    }
+
+    /// Whether some extent shares a page with a span.
+    pub fn meets(&self, span: Span) -> bool
+        requires table { IsTable self.now (rows_of self.now) }
+        ensures { result ≡ list_any (λ p. meets p.span span) (parts_of self.now) }
+    {
+        match self.last_below(span.first.saturating_add(span.pages)) {
+            Some(part) => span.first < end_of(part.span),
+            None => false,
+        }
+    }
+
+    // The list of a rest.
+    fn list_of(&self, rest: Rest) -> &FitList
+        requires table { IsTable self.now (rows_of self.now) }
+        ensures { result.now.spans ≡ spans_in rest (rows_of self.now) }
+    {
+        match rest {
+            Rest::Dirty => &self.dirty,
+            Rest::Muzzy => &self.muzzy,
+            Rest::Retained => &self.retained,
+        }
+    }
+
+    /// The smallest extent of a rest that holds such a run, the lowest among equally small ones.
+    pub fn fit_of(&self, rest: Rest, pages: u64, align: u64) -> Option<Part>
+        requires table { IsTable self.now (rows_of self.now) }
+        requires some { 0 < pages }
+        requires aligned { 0 < align }
+        ensures { result ≡ fit_of rest pages align (parts_of self.now) }
+    {
+        let number = self.list_of(rest).first_fit(pages, align)?;
+        Some(self.part_at(number))
+    }
+
+    /// The extent that is longest among those of a rest.
+    pub fn oldest(&self, rest: Rest) -> Option<Part>
+        requires table { IsTable self.now (rows_of self.now) }
+        ensures { result ≡ find (λ p. is_listed rest p.state) (parts_of self.now) }
+    {
+        let number = self.list_of(rest).oldest()?;
+        Some(self.part_at(number))
+    }
+
+    /// How many pages the extents of a rest have together.
+    pub fn pages(&self, rest: Rest) -> u64
+        requires table { IsTable self.now (rows_of self.now) }
+        ensures { result ≡ pages_of rest (parts_of self.now) }
+    {
+        self.list_of(rest).pages()
+    }
+
+    /// The span of the first extent that the client has in flight.
+    pub fn next_flight(&self, client: u32) -> Option<Span>
+        requires table { IsTable self.now (rows_of self.now) }
+        ensures { result ≡ option_map (λ p. p.span) (find (λ p. is_flight client p.state) (parts_of self.now)) }
+    {
+        for number in &self.flights {
+            let part = self.part_at(*number);
+            if is_flight(client, part.state) {
+                return Some(part.span);
+            }
+        }
+        None
+    }
+}

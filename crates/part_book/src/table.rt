@@ -1,0 +1,141 @@
+//! The indexes over the extents of an arena, and the room in them.
+ghost use Rattle.std.specs.Prelude.{◌≡◌, ℕ, ◌==◌, ◌+◌, ◌*◌, ◌<◌, ◌≤◌, [], cond, count_by, nat_lt, OnOk, IfOk, vec_capacity, vec_len, length};
+ghost use Rattle.part_book.specs.Leaves.{HasLeaves};
+ghost use Rattle.part_book.specs.Rows.{part_at};
+ghost use Rattle.part_book.specs.Tables.{HasRoom, IsTable, rows_of};
+
+use fit_lists::FitList;
+use ordered_set::OrderedSet;
+use page_map::{CHUNK_PAGES, PAGES, PageMap};
+use space_model::{Part, Span, State};
+use std::alloc::{AllocError as NoMemory, Global};
+
+// No more extents than this are given numbers: each has a page.
+const NUMBERS: u64 = 1 << 32;
+
+const CHUNKS: u64 = PAGES / CHUNK_PAGES;
+
+const NO_PART: Part = Part {
+    span: Span { first: 0, pages: 0 },
+    state: State::Active,
+    committed: false,
+};
+
+/// Each extent has a number, the place of the slot that has it. The lists and sets have numbers:
+/// all of them in order, those of each rest, those in flight, those by first page, and the number of
+/// each page that is the first or the last one of an extent.
+#[derive(Drop)]
+pub struct Table {
+    pub order: FitList,
+    pub dirty: FitList,
+    pub muzzy: FitList,
+    pub retained: FitList,
+    pub flights: Vec<u32>,
+    pub firsts: OrderedSet,
+    pub edges: PageMap,
+    pub slots: Vec<Part>,
+    pub free: Vec<u32>,
+}
+
+impl Table {
+    pub fn new(alloc: Global) -> Result<Table, NoMemory>
+        ensures table { IfOk result (λ t. IsTable t (rows_of t)) }
+        ensures empty { IfOk result (λ t. rows_of t ≡ []) }
+        ensures room { IfOk result (λ t. HasRoom t 0) }
+        ensures leaves { IfOk result (λ t. HasLeaves t.edges 0) }
+    {
+        Ok(Table {
+            order: FitList::new(alloc),
+            dirty: FitList::new(alloc),
+            muzzy: FitList::new(alloc),
+            retained: FitList::new(alloc),
+            flights: Vec::new(alloc),
+            firsts: OrderedSet::new(alloc),
+            edges: PageMap::new(alloc)?,
+            slots: Vec::new(alloc),
+            free: Vec::new(alloc),
+        })
+    }
+
+    /// Makes room for so many further extents in each index. The extents stay.
+    pub fn reserve(&mut self, more: u64) -> Result<(), NoMemory>
+        requires { IsTable self.old (rows_of self.old) }
+        ensures table { IsTable self.new (rows_of self.new) }
+        ensures rows { rows_of self.new ≡ rows_of self.old }
+        ensures room { (n : ℕ) → HasRoom self.old n → HasRoom self.new n }
+        ensures leaves { (n : ℕ) → HasLeaves self.old.edges n → HasLeaves self.new.edges n }
+        ensures ok { OnOk result (HasRoom self.new more) }
+        ensures ok_leaves { OnOk result (HasLeaves self.new.edges (2 * more)) }
+    {
+        let all = self.order.len().checked_add(more).ok_or(NoMemory)?;
+        if all > NUMBERS {
+            return Err(NoMemory);
+        }
+        self.order.reserve(more)?;
+        reserve_lists(&mut self.dirty, &mut self.muzzy, &mut self.retained, all)?;
+        self.firsts.reserve(more)?;
+        self.edges.reserve(CHUNKS.min(more.saturating_mul(2)))?;
+        reserve_numbers(
+            &mut self.slots,
+            &mut self.free,
+            &mut self.flights,
+            all as usize,
+        )
+    }
+}
+
+// Makes room in each list for so many spans in all.
+fn reserve_lists(
+    dirty: &mut FitList,
+    muzzy: &mut FitList,
+    retained: &mut FitList,
+    all: u64,
+) -> Result<(), NoMemory>
+    ensures dirty { dirty.new.spans ≡ dirty.old.spans }
+    ensures muzzy { muzzy.new.spans ≡ muzzy.old.spans }
+    ensures retained { retained.new.spans ≡ retained.old.spans }
+    ensures dirty_places { dirty.old.spare ≤ dirty.new.spare }
+    ensures muzzy_places { muzzy.old.spare ≤ muzzy.new.spare }
+    ensures retained_places { retained.old.spare ≤ retained.new.spare }
+    ensures dirty_ok { OnOk result (all ≤ length dirty.new.spans + dirty.new.spare) }
+    ensures muzzy_ok { OnOk result (all ≤ length muzzy.new.spans + muzzy.new.spare) }
+    ensures retained_ok { OnOk result (all ≤ length retained.new.spans + retained.new.spare) }
+{
+    dirty.reserve(all.saturating_sub(dirty.len()))?;
+    muzzy.reserve(all.saturating_sub(muzzy.len()))?;
+    retained.reserve(all.saturating_sub(retained.len()))
+}
+
+// Makes the slots at least so many, and room for as many flights. The new slots are free.
+fn reserve_numbers(
+    slots: &mut Vec<Part>,
+    free: &mut Vec<u32>,
+    flights: &mut Vec<u32>,
+    all: usize,
+) -> Result<(), NoMemory>
+    requires all { all ≤ NUMBERS }
+    requires small { vec_len slots.old ≤ NUMBERS }
+    requires room { vec_len slots.old ≤ vec_capacity free.old }
+    requires fewer { vec_len free.old ≤ vec_len slots.old }
+    ensures kept { (number : ℕ) → number < vec_len slots.old
+        → part_at slots.new.items number ≡ part_at slots.old.items number }
+    ensures free { (number : ℕ) → count_by (λ n. n == number) free.new.items + cond (nat_lt number (vec_len slots.old)) 1 0
+        ≡ count_by (λ n. n == number) free.old.items + cond (nat_lt number (vec_len slots.new)) 1 0 }
+    ensures places { vec_len free.new + vec_len slots.old ≡ vec_len free.old + vec_len slots.new }
+    ensures more { vec_len slots.old ≤ vec_len slots.new }
+    ensures small { vec_len slots.new ≤ NUMBERS }
+    ensures room { vec_len slots.new ≤ vec_capacity free.new }
+    ensures flights { flights.new.items ≡ flights.old.items }
+    ensures flights_room { vec_capacity flights.old ≤ vec_capacity flights.new }
+    ensures ok { OnOk result (all ≤ vec_len slots.new) }
+    ensures flights_ok { OnOk result (all ≤ vec_capacity flights.new) }
+{
+    flights.reserve(all.saturating_sub(flights.len()))?;
+    free.reserve(all.saturating_sub(free.len()))?;
+    slots.reserve(all.saturating_sub(slots.len()))?;
+    for number in slots.len()..all {
+        free.push(number as u32).unwrap();
+        slots.push(NO_PART).unwrap();
+    }
+    Ok(())
+}

@@ -1,0 +1,120 @@
+//! A large book, in which each call is made.
+ghost use Rattle.std.specs.Prelude.{◌≡◌};
+
+use super::PartBook;
+use space_model::{Part, Rest, Span, State};
+use std::test::Fail;
+
+const MANY: u64 = 1 << 16;
+
+fn dirty(first: u64, pages: u64) -> Part
+    ensures { result.span ≡ record { first = first; pages = pages } }
+{
+    Part {
+        span: Span { first, pages },
+        state: State::Dirty,
+        committed: true,
+    }
+}
+
+// Adds a dirty extent of one page, where there is a place for it and no other has the page.
+fn add_page(book: &mut PartBook, page: u64) -> bool {
+    let part = dirty(page, 1);
+    let inside = 512 <= page && page < 512 + MANY;
+    if inside && book.spare() > 0 && !book.meets(part.span) {
+        book.add(part);
+        return true;
+    }
+    false
+}
+
+// Whether the extent of one page is found, and its neighbours.
+fn has_page(book: &PartBook, page: u64) -> bool {
+    let part = dirty(page, 1);
+    let left = book.neighbour(part.span, false);
+    let right = book.neighbour(part.span, true);
+    let ends = left.is_none() == (page == 512) && right.is_none() == (page == 511 + MANY);
+    ends && book.look(page) == Some(part) && book.holding(page) == Some(part)
+}
+
+fn lists_all(book: &PartBook) -> bool {
+    let oldest = book.oldest(Rest::Dirty) == Some(dirty(512, 1));
+    oldest && book.fit(2, 1).is_none() && book.pages(Rest::Dirty) == MANY
+}
+
+fn join(book: &mut PartBook, low: u64, high: u64) -> bool {
+    if let Some(part) = book.look(low)
+        && let Some(next) = book.look(high)
+        && part.span.first.checked_add(part.span.pages) == Some(next.span.first)
+        && part.state == next.state
+        && part.committed == next.committed
+    {
+        book.join(low, high);
+        return true;
+    }
+    false
+}
+
+// Whether the extent that begins at a page has so many pages.
+fn has_pages(book: &PartBook, first: u64, pages: u64) -> bool {
+    book.look(first) == Some(dirty(first, pages))
+}
+
+// Takes an extent into flight, and out of the book.
+fn flies_off(book: &mut PartBook, first: u64) -> bool {
+    let state = State::Flight(1, Rest::Retained);
+    if book.look(first).is_none() {
+        return false;
+    }
+    book.set_state(first, state, false);
+    let flown = book.next_flight(1).is_some();
+    if book.look(first).is_some() {
+        book.drop_part(first);
+    }
+    flown && book.next_flight(1).is_none()
+}
+
+#[test]
+fn a_large_book_is_not_scanned(rt: HostRuntime) -> Result<(), Fail> {
+    let mut book = PartBook::new(rt.alloc())?;
+    book.reserve(MANY)?;
+    for page in 512..512 + MANY {
+        assert!(rt; add_page(&mut book, page));
+    }
+    for page in 512..512 + MANY {
+        assert!(rt; has_page(&book, page) && lists_all(&book));
+    }
+    Ok(())
+}
+
+// Cuts the first page off an extent, where it has another one and there is a place.
+fn cut(book: &mut PartBook, first: u64) -> bool {
+    if let Some(part) = book.look(first)
+        && 1 < part.span.pages
+        && book.spare() > 0
+    {
+        book.cut(first, 1);
+        return true;
+    }
+    false
+}
+
+// Two extents of one page, from an even page on, are joined and cut, and the first one leaves.
+fn come_and_go(book: &mut PartBook, half: u64) -> bool {
+    let page = half.saturating_mul(2);
+    let next = page.saturating_add(1);
+    let added = add_page(book, page) && add_page(book, next);
+    let joined = join(book, page, next) && has_pages(book, page, 2);
+    let apart = cut(book, page) && has_pages(book, next, 1);
+    added && joined && apart && flies_off(book, page)
+}
+
+#[test]
+fn extents_come_and_go(rt: HostRuntime) -> Result<(), Fail> {
+    let mut book = PartBook::new(rt.alloc())?;
+    book.reserve(MANY)?;
+    for half in 512..612 {
+        assert!(rt; come_and_go(&mut book, half));
+    }
+    Ok(())
+}
