@@ -1,0 +1,300 @@
+-- One region is given back: its extent is the only one that can be emptied.
+use Rattle.std.proofs.Common.{◌≡◌, ℕ, ◌+◌, ◌*◌, ◌/◌, ◌<◌, ◌≤◌, Bool, true, false, not, cond, IsTrue, List, [], ◌∷◌, ◌++◌, append-nil, length, get_or, find, filter, Option, None, Some, refl, sym, ◌∙◌, ap, subst, arith, All, ◌&&◌, ◌||◌, eqb, leb as nat_le, ltb as nat_lt, inl, inr, ◌⊎◌}
+use Rattle.std.specs.List.{count_by, list_any, sum_by}
+use Rattle.std.proofs.lemmas.Bool.{cases_Bool, eqb-true, not-true}
+use Rattle.std.proofs.lemmas.Bool.Decides.{nat_tests}
+use Rattle.std.proofs.lemmas.List.Elements.{All-cons, All-filter, All-head, All-nil, All-tail, filter_passes}
+use Rattle.std.proofs.lemmas.List.Filters.{sum_by-filter_both}
+use Rattle.std.proofs.lemmas.List.Sums.{length-filter, sum_by-cons}
+use Rattle.size_classes.specs.Classes.{size_at}
+use Rattle.size_classes.proofs.Table.{size_bounds}
+use Rattle.space_model.specs.declared.parts.Part.{Part}
+use Rattle.space_model.specs.declared.parts.Region.{Region}
+use Rattle.space_model.specs.declared.spaces.Space.{Space}
+use Rattle.space_model.specs.Span.{IsPlaced, end_of, has_page}
+use Rattle.space_model.specs.Part.{begins_at, exchanged, holders, is_active, taken_out}
+use Rattle.space_model.specs.Region.{covers, homes, houses, is_held_by, residents, sharers}
+use Rattle.space_model.specs.Step.{after_back, holds_at, is_emptied, is_given_back, staying, taken_in_order}
+use Rattle.space_model.specs.Sound.{Sound}
+use Rattle.space_model.proofs.Exchange.{filter-begins_at, find_has, find_passes, share}
+use Rattle.space_model.proofs.Idle.{serves, some_pages}
+use Rattle.space_model.proofs.Landing.{serves-le-share, sum_nothing}
+use Rattle.space_model.proofs.Pieces.{both_true}
+use Rattle.arena_core.specs.RegionLists.{begins_within}
+use Rattle.arena_core.proofs.Finds.{fewer_pass}
+use Rattle.arena_core.proofs.Homes.{home_shares}
+use Rattle.arena_core.proofs.RegionKeys.{is_at}
+
+-- ---- lists
+
+-- 1 for true, 0 for false
+abbrev pub ones : Bool → ℕ
+ones b = cond b 1 0
+
+pub most_one : (b : Bool) → ones b ≤ 1
+most_one true = omega arith
+most_one false = omega arith
+
+pub ones_true : (b : Bool) → ones b ≡ 1 → b ≡ true
+ones_true true h = refl
+ones_true false h = absurd (omega (arith, h))
+
+pub ones_same : (a b : Bool) → ones a ≡ ones b → a ≡ b
+ones_same true true h = refl
+ones_same true false h = absurd (omega (arith, h))
+ones_same false true h = absurd (omega (arith, h))
+ones_same false false h = refl
+
+-- what passes at all is found, and counted
+pub some_found : {X : Type 0} (t : X → Bool) (xs : List X) → 0 < count_by t xs → (x : X) × (find t xs ≡ Some x)
+some_found t [] some = absurd (omega (arith, some))
+some_found t (x ∷ xs) some =
+    let sums = sum_by-cons (λ y. ones (t y)) x xs in
+    elim (cases_Bool (t x)) [
+      | inl h ↦ (x, rw h refl)
+      | inr h ↦ let none : ones (t x) ≡ 0 = ap ones h in let rest = some_found t xs (omega (arith, sums, none, some)) in (rest.0, subst (λ b. cond b (Some x) (find t xs) ≡ Some rest.0) (sym h) rest.1)
+    ]
+
+pub any_counts : {X : Type 0} (t : X → Bool) (xs : List X) → list_any t xs ≡ true → 0 < count_by t xs
+any_counts t [] h = absurd (cc)
+any_counts t (x ∷ xs) h =
+    let sums = sum_by-cons (λ y. ones (t y)) x xs in
+    elim (cases_Bool (t x)) [
+      | inl e ↦ let one : ones (t x) ≡ 1 = ap ones e in omega (arith, sums, one)
+      | inr e ↦ let rest = any_counts t xs (rw e at h) in omega (arith, sums, rest)
+    ]
+
+pub counts_any : {X : Type 0} (t : X → Bool) (xs : List X) → 0 < count_by t xs → list_any t xs ≡ true
+counts_any t [] some = absurd (omega (arith, some))
+counts_any t (x ∷ xs) some =
+    let sums = sum_by-cons (λ y. ones (t y)) x xs in
+    elim (cases_Bool (t x)) [
+      | inl h ↦ rw h refl
+      | inr h ↦ let none : ones (t x) ≡ 0 = ap ones h in rw h (counts_any t xs (omega (arith, sums, none, some)))
+    ]
+
+-- what passes just once is all that a filter keeps
+pub one_passes : {X : Type 0} (t : X → Bool) (xs : List X) → 0 < count_by t xs → count_by t xs ≤ 1 → (x : X) × (filter t xs ≡ x ∷ [])
+one_passes t xs some most = by (filter t xs) refl
+  where
+    by : (ys : List _) → filter t xs ≡ ys → (x : _) × (filter t xs ≡ x ∷ [])
+    by [] e = let n : length (filter t xs) ≡ 0 = ap length e in absurd (omega (arith, length-filter t xs, n, some))
+    by (x ∷ []) e = (x, e)
+    by (x ∷ y ∷ zs) e = let n : length (filter t xs) ≡ length (x ∷ y ∷ zs) = ap length e in absurd (omega (arith, length-filter t xs, n, most))
+
+-- tests that agree on each element keep the same and find the same
+pub filter_alike : {X : Type 0} (f g : X → Bool) (xs : List X) → All (λ x. f x ≡ g x) xs → filter f xs ≡ filter g xs
+filter_alike f g [] same = refl
+filter_alike f g (x ∷ xs) same =
+    let rest = filter_alike f g xs (All-tail (λ y. f y ≡ g y) x xs same) in
+    rw (All-head (λ y. f y ≡ g y) x xs same) (elim (g x) as (λ b. cond b (x ∷ filter f xs) (filter f xs) ≡ cond b (x ∷ filter g xs) (filter g xs)) [ true ↦ ap (λ ys. x ∷ ys) rest | false ↦ rest ])
+
+pub any_alike : {X : Type 0} (f g : X → Bool) (xs : List X) → All (λ x. f x ≡ g x) xs → list_any f xs ≡ list_any g xs
+any_alike f g [] same = refl
+any_alike f g (x ∷ xs) same = rw (All-head (λ y. f y ≡ g y) x xs same, any_alike f g xs (All-tail (λ y. f y ≡ g y) x xs same)) refl
+
+-- what is true of those that pass and of the others is true of all
+pub All-split : {X : Type 0} (P : X → Type 0) (t : X → Bool) (xs : List X) → All P (filter t xs) → All P (filter (λ x. not (t x)) xs) → All P xs
+All-split P t [] kept left = All-nil P
+All-split P t (x ∷ xs) kept left =
+    elim (t x) as (λ b. All P (cond b (x ∷ filter t xs) (filter t xs)) → All P (cond (not b) (x ∷ filter (λ y. not (t y)) xs) (filter (λ y. not (t y)) xs)) → All P (x ∷ xs)) [
+      | true ↦ λ h k. All-cons P x xs (All-head P x (filter t xs) h) (All-split P t xs (All-tail P x (filter t xs) h) k)
+      | false ↦ λ h k. All-cons P x xs (All-head P x (filter (λ y. not (t y)) xs) k) (All-split P t xs h (All-tail P x (filter (λ y. not (t y)) xs) k))
+    ] kept left
+
+-- ---- the region
+
+-- at most one region begins at an address
+pub begins_alone : (s : Space) (addr : ℕ) → Sound s → count_by (is_at addr) s.regions ≤ 1
+begins_alone s addr sound =
+    let has : (r : Region) → r.class < 121 → is_at addr r ≡ true → covers addr r ≡ true =
+    λ r class h. let size : 0 < size_at r.class = omega (arith, size_bounds r.class class) in grind (arith, nat_tests) in
+    omega (arith, sound.apart addr, fewer_pass (is_at addr) (covers addr) s.regions (λ k d h. has (get_or s.regions k d) (sound.classes k d h)))
+
+-- The region that a client gives back.
+pub record Given (c addr : ℕ) (regions : List Region) (r : Region) : Type 0 where
+  pub alone : filter (is_given_back c (addr ∷ [])) regions ≡ r ∷ []
+  pub at : r.addr ≡ addr
+
+pub given : (c addr : ℕ) (s : Space) → Sound s → holds_at c s.regions addr ≡ true → (r : Region) × Given c addr s.regions r
+given c addr s sound held =
+    let t = is_given_back c (addr ∷ []) in
+    let same : (r : Region) → (is_held_by c r && eqb r.addr addr) ≡ t r = λ r. both (is_held_by c r) r.addr in
+    let some : 0 < count_by t s.regions = any_counts t s.regions (sym (λ i. list_any (λ r. same r i) s.regions) ∙ held) in
+    let fewer = fewer_pass t (is_at addr) s.regions (λ k d h e. starts (get_or s.regions k d) e) in
+    let one = one_passes t s.regions some (omega (arith, fewer, begins_alone s addr sound)) in
+    let passes : All (λ r. t r ≡ true) (one.0 ∷ []) = subst (All (λ r. t r ≡ true)) one.1 (filter_passes t s.regions) in
+    (one.0, record { alone = one.1; at = eqb-true _ _ (starts one.0 (All-head (λ r. t r ≡ true) one.0 [] passes)) })
+  where
+    either : (m : ℕ) → eqb m addr ≡ (eqb addr m || false)
+    either m = elim (cases_Bool (eqb m addr)) [
+      | inl t ↦ let u : eqb addr m ≡ true = grind (arith, nat_tests) in rw (t, u) refl
+      | inr f ↦ let u : eqb addr m ≡ false = grind (arith, nat_tests) in rw (f, u) refl
+    ]
+
+    both : (b : Bool) (m : ℕ) → (b && eqb m addr) ≡ (b && (eqb addr m || false))
+    both true m = either m
+    both false m = refl
+
+    starts : (r : Region) → is_given_back c (addr ∷ []) r ≡ true → is_at addr r ≡ true
+    starts r h = either r.addr ∙ (both_true (is_held_by c r) (eqb addr r.addr || false) h).1
+
+-- ---- its extent
+
+-- The extent of a region: the one that has the page of its address.
+pub record Home (r : Region) (parts : List Part) (p : Part) : Type 0 where
+  pub found : find (λ q. has_page (r.addr / 4096) q.span) parts ≡ Some p
+  pub home : houses p r ≡ true
+
+pub home_of : (r : Region) (parts : List Part) → r.class < 121 → homes r parts ≡ 1 → holders (r.addr / 4096) parts ≤ 1 → (p : Part) × Home r parts p
+home_of r parts class home most =
+    let size : 0 < size_at r.class = omega (arith, size_bounds r.class class) in
+    let starts : covers r.addr r ≡ true = grind (arith, nat_tests) in
+    let has : (q : Part) → houses q r ≡ true → has_page (r.addr / 4096) q.span ≡ true = λ q h.
+    let one : serves r q ≡ 1 = ap ones h in ones_true (has_page (r.addr / 4096) q.span) (omega (arith, one, serves-le-share r.addr r q starts, most_one (has_page (r.addr / 4096) q.span))) in
+    let fewer = fewer_pass (λ q. houses q r) (λ q. has_page (r.addr / 4096) q.span) parts (λ k d h. has (get_or parts k d)) in
+    let p = some_found (λ q. has_page (r.addr / 4096) q.span) parts (omega (arith, fewer, home)) in
+    let whole : share (r.addr / 4096) p.0 ≡ 1 = ap ones (find_passes (λ q. has_page (r.addr / 4096) q.span) parts p.0 p.1) in
+    let same = home_shares r parts (λ q. has_page (r.addr / 4096) q.span) p.0 class home most p.1 in
+    (p.0, record { found = p.1; home = ones_true (houses p.0 r) (omega (arith, same, whole)) })
+
+-- an extent that serves a region serves those that begin in it
+serves_within : (p : Part) (r q : Region) (parts : List Part) (test : Part → Bool) → find test parts ≡ Some p → houses p r ≡ true → q.class < 121 → homes q parts ≡ 1 → holders (q.addr / 4096) parts ≤ 1 →
+    houses p q ≡ begins_within (4096 * p.span.first) (4096 * p.span.first + 4096 * p.span.pages) q
+serves_within p r q parts test found home class one most =
+    ones_same (houses p q) (has_page (q.addr / 4096) p.span) (home_shares q parts test p class one most found)
+    ∙ same (cases_Bool (has_page (q.addr / 4096) p.span))
+  where
+    same : (has_page (q.addr / 4096) p.span ≡ true) ⊎ (has_page (q.addr / 4096) p.span ≡ false) → has_page (q.addr / 4096) p.span ≡ begins_within (4096 * p.span.first) (4096 * p.span.first + 4096 * p.span.pages) q
+    same (inl t) = let here : begins_within (4096 * p.span.first) (4096 * p.span.first + 4096 * p.span.pages) q ≡ true = grind (arith, nat_tests) in t ∙ sym here
+    same (inr f) = let here : begins_within (4096 * p.span.first) (4096 * p.span.first + 4096 * p.span.pages) q ≡ false = grind (arith, nat_tests) in f ∙ sym here
+
+-- ---- what is emptied
+
+-- whether the extent is emptied
+abbrev pub is_left : List Region → Part → Bool
+is_left regions p = not (list_any (houses p) regions)
+
+-- an extent that doesn't serve the region that goes serves as many as before
+other_serves : (c addr : ℕ) (s : Space) (r : Region) (x : Part) → Given c addr s.regions r → serves r x ≡ 0 → (IsTrue (is_active x.state) → 0 < residents x s.regions) →
+    is_emptied (staying c (addr ∷ []) s.regions) x ≡ false
+other_serves c addr s r x given none used =
+    let t = is_given_back c (addr ∷ []) in
+    let gone : count_by (houses x) (filter t s.regions) ≡ count_by (houses x) (r ∷ []) = ap (count_by (houses x)) given.alone in
+    let sums = sum_by-filter_both t (λ q. not (t q)) (λ _. refl) (λ q. ones (houses x q)) s.regions in
+    elim (cases_Bool (is_active x.state)) [
+      | inr f ↦ ap (λ b. b && is_left (staying c (addr ∷ []) s.regions) x) f
+      | inl a ↦
+          let some : 0 < count_by (houses x) (staying c (addr ∷ []) s.regions) = omega (arith, gone, sums, none, sum_by-cons (λ q. ones (houses x q)) r [], used a) in
+          rw (a, counts_any (houses x) (staying c (addr ∷ []) s.regions) some) refl
+    ]
+
+-- What giving one region back leaves: its extent is emptied, if none of the regions that stay begins in it, and no other one is.
+pub record Empties (c addr : ℕ) (s : Space) (p : Part) : Type 0 where
+  pub found : find (λ q. has_page (addr / 4096) q.span) s.parts ≡ Some p
+  pub placed : IsPlaced p.span
+  pub within : list_any (houses p) (staying c (addr ∷ []) s.regions)
+      ≡ list_any (begins_within (4096 * p.span.first) (4096 * p.span.first + 4096 * p.span.pages)) (staying c (addr ∷ []) s.regions)
+  pub active : is_active p.state ≡ true
+  pub region : Region
+  pub given : Given c addr s.regions region
+  pub home : houses p region ≡ true
+  pub others : All (λ x. serves region x ≡ 0) (filter (λ x. not (begins_at p.span.first x)) s.parts)
+  pub each : All (λ x. is_emptied (staying c (addr ∷ []) s.regions) x ≡ (begins_at p.span.first x && is_left (staying c (addr ∷ []) s.regions) p)) s.parts
+  pub alone : filter (begins_at p.span.first) s.parts ≡ p ∷ []
+
+pub empties : (c addr : ℕ) (s : Space) → Sound s → holds_at c s.regions addr ≡ true → (p : Part) × Empties c addr s p
+empties c addr s sound held =
+    let region = given c addr s sound held in
+    let r : Region = region.0 in
+    let t = is_given_back c (addr ∷ []) in
+    let regions : List Region = staying c (addr ∷ []) s.regions in
+    let mine = λ (P : Region → Type 0) (all : All P s.regions). All-head P r [] (subst (All P) region.1.alone (All-filter t P s.regions all)) in
+    let class = mine (λ q. q.class < 121) sound.classes in
+    let one = mine (λ q. homes q s.parts ≡ 1) sound.homes in
+    let home = home_of r s.parts class one (sound.owners (r.addr / 4096)) in
+    let p : Part = home.0 in
+    let search : Part → Bool = λ q. has_page (r.addr / 4096) q.span in
+    let alone = filter-begins_at search s.parts p (some_pages s.parts sound.placed) (sound.owners p.span.first) home.1.found in
+    let active = (both_true (is_active p.state) p.committed (both_true (is_active p.state && p.committed) _ home.1.home).0).0 in
+    let begins = begins_at p.span.first in
+    let serving : serves r p ≡ 1 = ap ones home.1.home in
+    let served : sum_by (serves r) (filter begins s.parts) ≡ sum_by (serves r) (p ∷ []) = ap (sum_by (serves r)) alone in
+    let none = sum_nothing (serves r) (filter (λ x. not (begins x)) s.parts)
+    (omega (arith, one, serving, served, sum_by-cons (serves r) p [], sum_by-filter_both begins (λ x. not (begins x)) (λ _. refl) (serves r) s.parts)) in
+    let used = All-filter (λ x. not (begins x)) (λ x. IsTrue (is_active x.state) → 0 < residents x s.regions) s.parts sound.used in
+    let apart = filter_passes (λ x. not (begins x)) s.parts in
+    let P : Part → Type 0 = λ x. is_emptied regions x ≡ (begins x && is_left regions p) in
+    let itself : begins p ≡ true = grind (arith, nat_tests) in (
+      p,
+      record {
+        found = subst (λ a. find (λ q. has_page (a / 4096) q.span) s.parts ≡ Some p) region.1.at home.1.found;
+        placed = find_has (λ q. IsPlaced q.span) search s.parts p sound.placed home.1.found;
+        within = any_alike (houses p) (begins_within (4096 * p.span.first) (4096 * p.span.first + 4096 * p.span.pages)) regions
+            (λ k d h. let q : Region = get_or regions k d in
+            serves_within p r q s.parts search home.1.found home.1.home (All-filter (λ x. not (t x)) (λ q. q.class < 121) s.regions sound.classes k d h)
+            (All-filter (λ x. not (t x)) (λ q. homes q s.parts ≡ 1) s.regions sound.homes k d h) (sound.owners (q.addr / 4096)));
+        active = active;
+        region = r;
+        given = region.1;
+        home = home.1.home;
+        others = none;
+        each = All-split P begins s.parts
+            (subst (All P) (sym alone) (All-cons P p [] (rw (active, itself) refl) (All-nil P)))
+            (λ k d h. let x : Part = get_or (filter (λ x. not (begins x)) s.parts) k d in
+            let fails : begins x ≡ false = not-true (begins x) (apart k d h) in
+            other_serves c addr s r x region.1 (none k d h) (used k d h) ∙ sym (ap (λ b. b && is_left regions p) fails));
+        alone = alone;
+      },
+    )
+
+-- ---- the extents afterwards
+
+and_true : (b : Bool) → (b && true) ≡ b
+and_true true = refl
+and_true false = refl
+
+and_false : (b : Bool) → (b && false) ≡ false
+and_false true = refl
+and_false false = refl
+
+pub none_kept : {X : Type 0} (xs : List X) → filter (λ _. false) xs ≡ []
+none_kept [] = refl
+none_kept (x ∷ xs) = none_kept xs
+
+pub all_kept : {X : Type 0} (xs : List X) → filter (λ _. true) xs ≡ xs
+all_kept [] = refl
+all_kept (x ∷ xs) = ap (λ ys. x ∷ ys) (all_kept xs)
+
+-- where just one extent can pass, it alone is exchanged, or nothing is
+one_exchanged : (c : ℕ) (gone : Part → Bool) (parts : List Part) (p : Part) (b : Bool) → All (λ x. gone x ≡ (begins_at p.span.first x && b)) parts → filter (begins_at p.span.first) parts ≡ p ∷ [] →
+    (filter gone parts ≡ cond b (p ∷ []) []) × (exchanged gone parts (taken_in_order c (filter gone parts)) ≡ cond b (exchanged (begins_at p.span.first) parts (taken_out c p ∷ [])) parts)
+one_exchanged c gone parts p true each alone =
+    let same : filter gone parts ≡ p ∷ [] = filter_alike gone (begins_at p.span.first) parts (λ k d h. each k d h ∙ and_true _) ∙ alone in
+    let others : filter (λ x. not (gone x)) parts ≡ filter (λ x. not (begins_at p.span.first x)) parts =
+    filter_alike (λ x. not (gone x)) (λ x. not (begins_at p.span.first x)) parts (λ k d h. ap not (each k d h ∙ and_true _)) in
+    (same, ap (λ xs. xs ++ taken_in_order c (filter gone parts)) others ∙ ap (λ xs. filter (λ x. not (begins_at p.span.first x)) parts ++ taken_in_order c xs) same)
+one_exchanged c gone parts p false each alone =
+    let same : filter gone parts ≡ [] = filter_alike gone (λ _. false) parts (λ k d h. each k d h ∙ and_false _) ∙ none_kept parts in
+    let others : filter (λ x. not (gone x)) parts ≡ parts = filter_alike (λ x. not (gone x)) (λ _. true) parts (λ k d h. ap not (each k d h ∙ and_false _)) ∙ all_kept parts in
+    (same, ap (λ xs. xs ++ taken_in_order c (filter gone parts)) others ∙ ap (λ xs. parts ++ taken_in_order c xs) same ∙ append-nil parts)
+
+pub given_parts : (c addr : ℕ) (s : Space) (p : Part) → Empties c addr s p → (b : Bool) → is_left (staying c (addr ∷ []) s.regions) p ≡ b →
+    (filter (is_emptied (staying c (addr ∷ []) s.regions)) s.parts ≡ cond b (p ∷ []) []) × ((after_back s c (addr ∷ [])).after.parts ≡ cond b (exchanged (begins_at p.span.first) s.parts (taken_out c p ∷ [])) s.parts)
+given_parts c addr s p e b is =
+    let regions = staying c (addr ∷ []) s.regions in
+    one_exchanged c (is_emptied regions) s.parts p b (subst (λ x. All (λ q. is_emptied regions q ≡ (begins_at p.span.first q && x)) s.parts) is e.each) e.alone
+
+-- The same, as a program reads it: some extent was found at the address, and some region begins in it or none does.
+pub given_found : (c addr : ℕ) (s : Space) (p : Part) (o : Option Part) (within : Bool) → Sound s → holds_at c s.regions addr ≡ true →
+    o ≡ find (λ q. has_page (addr / 4096) q.span) s.parts → o ≡ Some p →
+    within ≡ list_any (begins_within (4096 * p.span.first) (4096 * p.span.first + 4096 * p.span.pages)) (staying c (addr ∷ []) s.regions) →
+    (length (filter (is_emptied (staying c (addr ∷ []) s.regions)) s.parts) ≡ ones (not within))
+    × ((after_back s c (addr ∷ [])).after.parts ≡ cond (not within) (exchanged (begins_at p.span.first) s.parts (taken_out c p ∷ [])) s.parts)
+given_found c addr s p o within sound held searched found answer =
+    let e = empties c addr s sound held in
+    let both : Some e.0 ≡ Some p = sym e.1.found ∙ sym searched ∙ found in
+    let same : e.0 ≡ p = cc in
+    let at : Empties c addr s p = subst (Empties c addr s) same e.1 in
+    let parts = given_parts c addr s p at (not within) (ap not (at.within ∙ sym answer)) in
+    (ap length parts.0 ∙ elim within as (λ b. length (cond (not b) (p ∷ []) []) ≡ ones (not b)) [ true ↦ refl | false ↦ refl ], parts.1)

@@ -1,0 +1,117 @@
+-- What searches find among extents that are apart.
+use Rattle.std.proofs.Common.{◌≡◌, ℕ, ◌+◌, ◌-◌, ◌<◌, ◌≤◌, Bool, true, false, cond, List, [], ◌∷◌, get_or, find, filter, Option, None, Some, IfSome, refl, sym, ◌∙◌, ap, subst, arith, All, ◌&&◌, eqb, ◌==◌, ltb as nat_lt}
+use Rattle.std.specs.List.{count_by, sum_by}
+use Rattle.std.specs.Option.{option_or}
+use Rattle.std.proofs.lemmas.Bool.Decides.{nat_tests}
+use Rattle.std.proofs.lemmas.List.Sums.{sum_by-cons}
+use Rattle.std.proofs.lemmas.List.Elements.{All-head, All-tail}
+use Rattle.space_model.specs.declared.parts.Part.{Part}
+use Rattle.space_model.specs.declared.parts.Span.{Span}
+use Rattle.space_model.specs.Span.{IsPlaced, end_of, has_page}
+use Rattle.space_model.specs.Part.{begins_at, holders, is_flight, is_flight_at}
+use Rattle.space_model.specs.Fit.{fit}
+use Rattle.space_model.specs.Step.{is_left_of, is_like, is_right_of, neighbour}
+use Rattle.space_model.proofs.Exchange.{filter-begins_at, share}
+use Rattle.space_model.proofs.Idle.{some_pages}
+use Rattle.space_model.proofs.Pieces.{fit-listed}
+use Rattle.part_book.specs.Books.{ends_at, is_beside}
+use Rattle.arena_core.specs.Extents.{IsApart, IsThere, kept}
+
+-- ---- what is found is there
+
+-- what a filter keeps alone is what a search finds
+find_alone : {X : Type 0} (test : X → Bool) (xs : List X) (x : X) → filter test xs ≡ x ∷ [] → find test xs ≡ Some x
+find_alone test [] x e = absurd (cc)
+find_alone test (y ∷ ys) x e =
+    elim (test y) as (λ b. cond b (y ∷ filter test ys) (filter test ys) ≡ x ∷ [] → cond b (Some y) (find test ys) ≡ Some x)
+    [ true ↦ λ h. cc | false ↦ λ h. find_alone test ys x h ] e
+
+pub found_there : (parts : List Part) (test : Part → Bool) (p : Part) → IsApart parts → find test parts ≡ Some p → IsThere parts p
+found_there parts test p apart found =
+    find_alone (begins_at p.span.first) parts p (filter-begins_at test parts p (some_pages parts apart.placed) (apart.owners p.span.first) found)
+
+pub search_there : (parts : List Part) (test : Part → Bool) (o : Option Part) → IsApart parts → o ≡ find test parts → IfSome o (IsThere parts)
+search_there parts test None apart e = tt
+search_there parts test (Some p) apart e = found_there parts test p apart (sym e)
+
+pub fit_there : (parts : List Part) (pages align : ℕ) (o : Option Part) → IsApart parts → o ≡ fit pages align parts → IfSome o (IsThere parts)
+fit_there parts pages align None apart e = tt
+fit_there parts pages align (Some p) apart e = let l = fit-listed pages align parts p (sym e) in found_there parts l.test p apart l.found
+
+-- what either of two searches finds is there
+pub either_there : (parts : List Part) (o u : Option Part) → IfSome o (IsThere parts) → IfSome u (IsThere parts) → IfSome (option_or o u) (IsThere parts)
+either_there parts None u h k = k
+either_there parts (Some p) u h k = h
+
+-- ---- a search for one page
+
+-- where nothing passes, nothing is found
+nothing_found : {X : Type 0} (a t : X → Bool) (xs : List X) → count_by t xs ≡ 0 → find (λ x. a x && t x) xs ≡ None
+nothing_found a t [] none = refl
+nothing_found a t (x ∷ xs) none =
+    let sums = sum_by-cons (λ y. cond (t y) 1 0) x xs in
+    let ones : Bool → ℕ = λ b. cond b 1 0 in
+    elim (t x) as (λ b. ones (t x) ≡ ones b → cond (a x && b) (Some x) (find (λ y. a y && t y) xs) ≡ None) [
+      | true ↦ λ one. absurd (omega (arith, one, sums, none))
+      | false ↦ λ one. elim (a x) as (λ b. cond (b && false) (Some x) (find (λ y. a y && t y) xs) ≡ None)
+          [ true ↦ nothing_found a t xs (omega (arith, sums, none)) | false ↦ nothing_found a t xs (omega (arith, sums, none)) ]
+    ] refl
+
+-- where at most one extent passes a test, what passes both is that one, if it passes the other
+pub only_find : (a t : Part → Bool) (xs : List Part) → count_by t xs ≤ 1 → find (λ x. a x && t x) xs ≡ kept a (find t xs)
+only_find a t [] once = refl
+only_find a t (x ∷ xs) once =
+    let sums = sum_by-cons (λ y. cond (t y) 1 0) x xs in
+    let ones : Bool → ℕ = λ b. cond b 1 0 in
+    elim (t x) as (λ b. ones (t x) ≡ ones b → cond (a x && b) (Some x) (find (λ y. a y && t y) xs) ≡ kept a (cond b (Some x) (find t xs))) [
+      | true ↦ λ one. elim (a x) as (λ b. cond (b && true) (Some x) (find (λ y. a y && t y) xs) ≡ cond b (Some x) None)
+          [ true ↦ refl | false ↦ nothing_found a t xs (omega (arith, one, sums, once)) ]
+      | false ↦ λ one. elim (a x) as (λ b. cond (b && false) (Some x) (find (λ y. a y && t y) xs) ≡ kept a (find t xs))
+          [ true ↦ only_find a t xs (omega (arith, sums, once)) | false ↦ only_find a t xs (omega (arith, sums, once)) ]
+    ] refl
+
+-- where what passes one test passes another, no more pass the first
+pub fewer_pass : {X : Type 0} (t u : X → Bool) (xs : List X) → All (λ x. t x ≡ true → u x ≡ true) xs → count_by t xs ≤ count_by u xs
+fewer_pass t u [] has = omega arith
+fewer_pass t u (x ∷ xs) has =
+    let ones : Bool → ℕ = λ b. cond b 1 0 in
+    let sums = sum_by-cons (λ y. ones (t y)) x xs in
+    let others = sum_by-cons (λ y. ones (u y)) x xs in
+    let rest = fewer_pass t u xs (All-tail (λ y. t y ≡ true → u y ≡ true) x xs has) in
+    elim (t x) as (λ b. (b ≡ true → u x ≡ true) → ones (t x) ≡ ones b → count_by t (x ∷ xs) ≤ count_by u (x ∷ xs)) [
+      | true ↦ λ h one. let whole : ones (u x) ≡ 1 = ap ones (h refl) in omega (arith, one, sums, others, rest, whole)
+      | false ↦ λ h one. omega (arith, one, sums, others, rest)
+    ] (All-head (λ y. t y ≡ true → u y ≡ true) x xs has) refl
+
+-- at most one extent begins at a page, and at most one ends before it
+pub begins_once : (page : ℕ) (parts : List Part) → IsApart parts → count_by (begins_at page) parts ≤ 1
+begins_once page parts apart =
+    let has : (p : Part) → IsPlaced p.span → begins_at page p ≡ true → has_page page p.span ≡ true = λ p placed h. let some = placed.0 in grind (arith, nat_tests) in
+    omega (arith, apart.owners page, fewer_pass (begins_at page) (λ p. has_page page p.span) parts (λ k d h. has (get_or parts k d) (apart.placed k d h)))
+
+pub ends_once : (page : ℕ) (parts : List Part) → IsApart parts → count_by (ends_at page) parts ≤ 1
+ends_once page parts apart =
+    let has : (p : Part) → IsPlaced p.span → ends_at page p ≡ true → has_page (page - 1) p.span ≡ true = λ p placed h. let some = placed.0 in grind (arith, nat_tests) in
+    omega (arith, apart.owners (page - 1), fewer_pass (ends_at page) (λ p. has_page (page - 1) p.span) parts (λ k d h. has (get_or parts k d) (apart.placed k d h)))
+
+-- a client's extent in flight is the one at its first page, if that is the client's and as long
+pub flight_is : (client : ℕ) (s : Span) (parts : List Part) → IsApart parts →
+    kept (λ p. is_flight client p.state && eqb p.span.pages s.pages) (find (begins_at s.first) parts) ≡ find (is_flight_at client s) parts
+flight_is client s parts apart =
+    let same : (p : Part) → ((is_flight client p.state && eqb p.span.pages s.pages) && begins_at s.first p) ≡ is_flight_at client s p =
+    λ p. three (is_flight client p.state) (eqb p.span.pages s.pages) (begins_at s.first p) in
+    sym (only_find (λ p. is_flight client p.state && eqb p.span.pages s.pages) (begins_at s.first) parts (begins_once s.first parts apart)) ∙ (λ i. find (λ p. same p i) parts)
+  where
+    three : (a b c : Bool) → ((a && b) && c) ≡ (a && (c && b))
+    three true true true = refl
+    three true true false = refl
+    three true false true = refl
+    three true false false = refl
+    three false b c = refl
+
+-- a neighbour that a merge may join is the extent beside, if it is alike
+pub right_is : (p : Part) (parts : List Part) → IsApart parts → kept (is_like p) (find (is_beside p.span true) parts) ≡ find (is_right_of p) parts
+right_is p parts apart = sym (only_find (is_like p) (begins_at (end_of p.span)) parts (begins_once (end_of p.span) parts apart))
+
+pub left_is : (p : Part) (parts : List Part) → IsApart parts → kept (is_like p) (find (is_beside p.span false) parts) ≡ find (is_left_of p) parts
+left_is p parts apart = sym (only_find (is_like p) (ends_at p.span.first) parts (ends_once p.span.first parts apart))

@@ -1,0 +1,127 @@
+-- The extent that serves a region is the one that has the page of its address.
+use Rattle.std.proofs.Common.{◌≡◌, ℕ, ◌+◌, ◌*◌, ◌/◌, ◌<◌, ◌≤◌, Bool, true, false, cond, IsTrue, List, [], ◌∷◌, get_or, find, Option, None, Some, refl, sym, ◌∙◌, ap, subst, arith, All, eqb, inl, inr, ◌&&◌}
+use Rattle.std.specs.List.{count_by, list_any, sum_by}
+use Rattle.std.specs.Bool.{beq}
+use Rattle.std.proofs.lemmas.Bool.{cases_Bool, eqb-true}
+use Rattle.std.proofs.lemmas.Bool.Decides.{nat_tests}
+use Rattle.std.proofs.lemmas.List.Folds.{list_any_none}
+use Rattle.std.proofs.lemmas.List.Sums.{sum_by-cons, sum_by-le-sum_by}
+use Rattle.size_classes.specs.Classes.{size_at}
+use Rattle.size_classes.proofs.Table.{size_bounds}
+use Rattle.space_model.specs.declared.parts.Part.{Part}
+use Rattle.space_model.specs.declared.asks.Answer.{Answer}
+use Rattle.space_model.specs.declared.asks.Ask.TheVariants.{Merge}
+use Rattle.space_model.specs.declared.parts.Region.{Region}
+use Rattle.space_model.specs.declared.parts.Rest.{Rest}
+use Rattle.space_model.specs.declared.parts.Rest.TheVariants.{Dirty as ToDirty, Muzzy as ToMuzzy, Retained as ToRetained}
+use Rattle.space_model.specs.declared.parts.State.{State}
+use Rattle.space_model.specs.declared.parts.State.TheVariants.{Active, Dirty, Muzzy, Retained, Flight}
+use Rattle.space_model.specs.declared.parts.Span.{Span}
+use Rattle.space_model.specs.declared.spaces.Space.{Space}
+use Rattle.space_model.specs.Span.{IsPlaced, end_of, has_page}
+use Rattle.space_model.specs.Part.{holders, is_active, is_flight, is_flight_at, is_listed, listed, rest_of}
+use Rattle.space_model.specs.Region.{covers, homes, houses}
+use Rattle.space_model.specs.Step.{both_merge, is_yes_or_no, may_merge, merge_stands}
+use Rattle.space_model.specs.Sound.{Sound}
+use Rattle.space_model.proofs.Exchange.{find_has, find_passes, share}
+use Rattle.space_model.proofs.Idle.{idle-serves, serves}
+use Rattle.space_model.proofs.Landing.{serves-le-share}
+use Rattle.space_model.proofs.Pieces.{both_true, flight-idle}
+use Rattle.part_book.specs.Books.{AreAlike}
+
+-- where a sum is no more than that of smaller terms, each term is no more than the smaller one
+exact_at : {X : Type 0} (f g : X → ℕ) (test : X → Bool) (xs : List X) (x : X) → ((y : X) → g y ≤ f y) → sum_by f xs ≤ sum_by g xs → find test xs ≡ Some x → f x ≤ g x
+exact_at f g test [] x less whole e = absurd (cc)
+exact_at f g test (y ∷ ys) x less whole e =
+    let sums = sum_by-cons f y ys in
+    let others = sum_by-cons g y ys in
+    elim (test y) as (λ b. cond b (Some y) (find test ys) ≡ Some x → f x ≤ g x) [
+      | true ↦ λ h. let same : y ≡ x = cc in let rest = sum_by-le-sum_by g f ys less in subst (λ z. f z ≤ g z) same (omega (arith, sums, others, rest, whole))
+      | false ↦ λ h. exact_at f g test ys x less (omega (arith, sums, others, less y, whole)) h
+    ] e
+
+-- a region that has one home is served by an extent just where that has the page of its address
+pub home_shares : (r : Region) (parts : List Part) (test : Part → Bool) (p : Part) → r.class < 121 → homes r parts ≡ 1 → holders (r.addr / 4096) parts ≤ 1 →
+    find test parts ≡ Some p → serves r p ≡ share (r.addr / 4096) p
+home_shares r parts test p class home most found =
+    let size : 0 < size_at r.class = omega (arith, size_bounds r.class class) in
+    let starts : covers r.addr r ≡ true = grind (arith, nat_tests) in
+    let less : (q : Part) → serves r q ≤ share (r.addr / 4096) q = λ q. serves-le-share r.addr r q starts in
+    omega (arith, less p, exact_at (share (r.addr / 4096)) (serves r) test parts p less (omega (arith, home, most)) found)
+
+-- no region begins where an extent does that serves none
+pub none_begins : (s : Space) (test : Part → Bool) (p : Part) → Sound s → find test s.parts ≡ Some p → is_active p.state ≡ false →
+    list_any (λ r. eqb r.addr (4096 * p.span.first)) s.regions ≡ false
+none_begins s test p sound found idle =
+    let placed : IsPlaced p.span = find_has (λ q. IsPlaced q.span) test s.parts p sound.placed found in
+    let ones : Bool → ℕ = λ b. cond b 1 0 in
+    list_any_none (λ r. eqb r.addr (4096 * p.span.first)) s.regions (λ k d h.
+    let r : Region = get_or s.regions k d in
+    elim (cases_Bool (eqb r.addr (4096 * p.span.first))) [
+      | inr f ↦ f
+      | inl t ↦
+          let at : r.addr ≡ 4096 * p.span.first = grind (arith, nat_tests) in
+          let page : r.addr / 4096 ≡ p.span.first = omega arith in
+          let some = placed.0 in
+          let has : has_page (r.addr / 4096) p.span ≡ true = grind (arith, nat_tests) in
+          let one : share (r.addr / 4096) p ≡ 1 = ap ones has in
+          let none = idle-serves p r idle in
+          let same = home_shares r s.parts test p (sound.classes k d h) (sound.homes k d h) (sound.owners (r.addr / 4096)) found in
+          absurd (omega (arith, one, none, same))
+    ])
+
+-- What is true of a client's extent in flight that was found.
+pub record InFlight (c : ℕ) (s : Space) (span : Span) (p : Part) : Type 0 where
+  pub own : is_flight c p.state ≡ true
+  pub idle : is_active p.state ≡ false
+  pub first : p.span.first ≡ span.first
+  pub pages : p.span.pages ≡ span.pages
+  pub placed : IsPlaced p.span
+
+pub in_flight : (c : ℕ) (s : Space) (span : Span) (p : Part) → Sound s → Some p ≡ find (is_flight_at c span) s.parts → InFlight c s span p
+in_flight c s span p sound found =
+    let passes = both_true (is_flight c p.state) (eqb p.span.first span.first && eqb p.span.pages span.pages) (find_passes (is_flight_at c span) s.parts p (sym found)) in
+    let same = both_true (eqb p.span.first span.first) (eqb p.span.pages span.pages) passes.1 in record {
+      own = passes.0;
+      idle = flight-idle c p.state passes.0;
+      first = eqb-true _ _ same.0;
+      pages = eqb-true _ _ same.1;
+      placed = find_has (λ q. IsPlaced q.span) (is_flight_at c span) s.parts p sound.placed (sym found);
+    }
+
+-- ---- merges
+
+-- what is the client's flight goes where it says
+flight_state : (c : ℕ) (state : State) → is_flight c state ≡ true → state ≡ Flight c (rest_of state)
+flight_state c (Flight d rest) h = let same : d ≡ c = eqb-true d c h in ap (λ e. Flight e rest) same
+flight_state c Active h = absurd (cc)
+flight_state c Dirty h = absurd (cc)
+flight_state c Muzzy h = absurd (cc)
+flight_state c Retained h = absurd (cc)
+
+-- what is listed among those of a rest belongs there
+listed_same : (rest other : Rest) → is_listed rest (listed other) ≡ true → rest ≡ other
+listed_same ToDirty other h = elim other as (λ o. is_listed ToDirty (listed o) ≡ true → ToDirty ≡ o) [ ToDirty ↦ λ e. refl | ToMuzzy ↦ λ e. absurd (cc) | ToRetained ↦ λ e. absurd (cc) ] h
+listed_same ToMuzzy other h = elim other as (λ o. is_listed ToMuzzy (listed o) ≡ true → ToMuzzy ≡ o) [ ToDirty ↦ λ e. absurd (cc) | ToMuzzy ↦ λ e. refl | ToRetained ↦ λ e. absurd (cc) ] h
+listed_same ToRetained other h = elim other as (λ o. is_listed ToRetained (listed o) ≡ true → ToRetained ≡ o) [ ToDirty ↦ λ e. absurd (cc) | ToMuzzy ↦ λ e. absurd (cc) | ToRetained ↦ λ e. refl ] h
+
+beq_same : (a b : Bool) → beq a b ≡ true → a ≡ b
+beq_same true true h = refl
+beq_same true false h = absurd (cc)
+beq_same false true h = absurd (cc)
+beq_same false false h = refl
+
+-- two extents in flight that may be merged are alike
+pub merged_alike : (c : ℕ) (s : Space) (low high : Span) (answer : Answer) (p q : Part) → Sound s → IsTrue (merge_stands s c (Merge low high) answer) →
+    Some p ≡ find (is_flight_at c low) s.parts → Some q ≡ find (is_flight_at c high) s.parts → AreAlike p q
+merged_alike c s low high answer p q sound stands e f =
+    let first = both_true (is_yes_or_no answer && eqb (end_of low) high.first) _ stands in
+    let side = both_true (is_yes_or_no answer) (eqb (end_of low) high.first) first.0 in
+    let merge : may_merge p q ≡ true = subst (λ o. both_merge o (Some q) ≡ true) (sym e) (subst (λ o. both_merge (find (is_flight_at c low) s.parts) o ≡ true) (sym f) first.1) in
+    let same = both_true (is_listed (rest_of p.state) (listed (rest_of q.state))) (beq p.committed q.committed) merge in
+    let at = in_flight c s low p sound e in
+    let to = in_flight c s high q sound f in record {
+      beside = omega (arith, at.first, at.pages, to.first, eqb-true _ _ side.1);
+      state = flight_state c p.state at.own ∙ ap (Flight c) (listed_same (rest_of p.state) (rest_of q.state) same.0) ∙ sym (flight_state c q.state to.own);
+      committed = beq_same p.committed q.committed same.1;
+    }

@@ -1,0 +1,283 @@
+-- What searches and changes of the keys do to the regions that they stand for.
+use Rattle.std.proofs.Common.{◌≡◌, ℕ, ◌+◌, ◌-◌, ◌*◌, ◌/◌, ◌%◌, ◌<◌, ◌≤◌, suc, Bool, true, false, not, cond, List, [], ◌∷◌, ◌++◌, map, filter, find, Option, None, Some, Less, Equal, Greater, is_gt, is_lt, is_eq, refl, sym, ◌∙◌, ap, subst, arith, ◌≢◌, nat_cmp, Ordering, ◌&&◌, ◌||◌, eqb, ltb as nat_lt, leb as nat_le, inl, inr, ◌⊎◌}
+use Rattle.std.specs.List.{All, AllByRecursion as Every, Contains, count_by, sum_by, list_any, insert, position_or_len}
+use Rattle.std.specs.List.Sorted.{IsStrictlySortedBy}
+use Rattle.std.proofs.lemmas.Bool.{cases_Bool, cases_order}
+use Rattle.std.specs.Ordering.{MatchOrdering, ordering_reverse}
+use Rattle.std.proofs.lemmas.Cmp.{ranked, tied_itself}
+use Rattle.std.proofs.lemmas.Bool.Decides.{nat_tests}
+use Rattle.std.proofs.lemmas.List.Sums.{sum_by-cons, sum_by-insert}
+use Rattle.std.proofs.lemmas.List.Filters.{sum_by-filter_both}
+use Rattle.std.proofs.lemmas.List.Elements.{All-filter, All-head}
+use Rattle.ordered_set.specs.declared.key.Key.{Key}
+use Rattle.ordered_set.specs.Keys.{key_cmp, IsAscending, is_above, is_below, is_from, is_other, with_key, without_key}
+use Rattle.ordered_set.proofs.Sorted.{every_map, every_member, filter_all, filter_none}
+use Rattle.ordered_set.proofs.KeyOrder.{key_total}
+use Rattle.fit_lists.proofs.Orders.{start, from_start, start_from, less_major, less_from_parts}
+use Rattle.fit_lists.proofs.Members.{contains_later}
+use Rattle.fit_lists.proofs.Tables.{major_less}
+use Rattle.size_classes.specs.Classes.{size_at}
+use Rattle.space_model.specs.declared.parts.Region.{Region}
+use Rattle.space_model.specs.Region.{inserted, is_held_by}
+use Rattle.space_model.specs.Step.{is_given_back, staying, holds_at}
+use Rattle.space_model.specs.Counts.{region_bytes}
+use Rattle.arena_core.specs.RegionLists.{RegionList, begins_within, code_of, holder_of, key_of, region_of}
+
+-- a region is that of its key
+pub region_is : (r : Region) → r.class < 121 → region_of (key_of r) ≡ r
+region_is r small = λ i. record { addr = r.addr; class = class_is i; holder = holder_is r.holder (code_is) i }
+  where
+    class_is : (r.class + 256 * code_of r.holder) % 256 ≡ r.class
+    class_is = omega (arith, small)
+
+    code_is : (r.class + 256 * code_of r.holder) / 256 ≡ code_of r.holder
+    code_is = omega (arith, small)
+
+    holder_is : (o : Option ℕ) → (r.class + 256 * code_of r.holder) / 256 ≡ code_of o → holder_of ((r.class + 256 * code_of r.holder) / 256) ≡ o
+    holder_is None e = rw e refl
+    holder_is (Some c) e =
+        let some : eqb (c + 1) 0 ≡ false = grind (arith, nat_tests) in
+        let same : c + 1 - 1 ≡ c = omega arith in
+        rw (e, some, same) refl
+
+-- a key is at an address or behind it just where its major number says so
+from_is : (k : Key) (major : ℕ) → is_from (start major) k ≡ nat_le major k.major
+from_is k major = elim (cases_Bool (is_from (start major) k)) [
+  | inl t ↦ let le = from_start k major t in rw t (grind (arith, nat_tests))
+  | inr f ↦ elim (cases_Bool (nat_le major k.major)) [
+    | inl l ↦ let t = start_from k major (grind (arith, nat_tests)) in absurd (cc)
+    | inr g ↦ rw (f, g) refl
+  ]
+]
+
+-- where all addresses are too high, none is in the range
+none_within : (low high : ℕ) (ks : List Key) → Every (λ k. high ≤ k.major) ks → list_any (begins_within low high) (map region_of ks) ≡ false
+none_within low high [] above = refl
+none_within low high (k ∷ ks) above =
+    let first : nat_lt k.major high ≡ false = let h = above.0 in grind (arith, nat_tests) in
+    let rest = none_within low high ks above.1 in
+    elim (nat_le low k.major) as (λ b. ((b && nat_lt k.major high) || list_any (begins_within low high) (map region_of ks)) ≡ false)
+    [ true ↦ rw (first, rest) refl | false ↦ rest ]
+
+-- whether the key that was found lies below an address
+abbrev pub lies_below : ℕ → Option Key → Bool
+lies_below high None = false
+lies_below high (Some k) = nat_lt k.major high
+
+-- the first key from an address on tells whether there is one in a range
+pub within_is : (low high : ℕ) (ks : List Key) → IsAscending ks → lies_below high (find (is_from (start low)) ks) ≡ list_any (begins_within low high) (map region_of ks)
+unfolding IsStrictlySortedBy
+within_is low high [] ascending = refl
+within_is low high (k ∷ ks) ascending =
+    let rest = within_is low high ks ascending.1 in
+    subst (λ b. lies_below high (cond b (Some k) (find (is_from (start low)) ks)) ≡ list_any (begins_within low high) (map region_of (k ∷ ks))) (sym (from_is k low))
+    (elim (nat_le low k.major) as (λ b. lies_below high (cond b (Some k) (find (is_from (start low)) ks)) ≡ ((b && nat_lt k.major high) || list_any (begins_within low high) (map region_of ks))) [
+      | true ↦ elim (cases_Bool (nat_lt k.major high)) [
+        | inl t ↦ rw t refl
+        | inr f ↦
+            let ge : high ≤ k.major = grind (arith, nat_tests) in
+            rw (f, none_within low high ks (every_map (λ x. key_cmp k x ≡ Less) (λ x. high ≤ x.major) (λ x e. let le = less_major k x e in omega arith) ks ascending.0)) refl
+      ]
+      | false ↦ rest
+    ])
+
+-- ---- a region more
+
+nat_greater : (m n : ℕ) → n < m → nat_cmp m n ≡ Greater
+nat_greater m n l = by (nat_cmp m n) (ranked m n (nat_cmp m n) refl)
+  where
+    by : (r : Ordering) → MatchOrdering r (m < n) (m ≡ n) (n < m) → r ≡ Greater
+    by Less h = absurd (omega (arith, l, h))
+    by Equal h = absurd (omega (arith, l, h))
+    by Greater h = refl
+
+-- a key with a greater major number comes after the other one
+greater_major : (a b : Key) → b.major < a.major → key_cmp a b ≡ Greater
+unfolding key_cmp
+greater_major a b l = rw (nat_greater a.major b.major l)
+
+-- the other way round
+greater_from_less : (a b : Key) → key_cmp a b ≡ Less → key_cmp b a ≡ Greater
+greater_from_less a b l = key_total.antisymm b a ∙ ap ordering_reverse l
+
+-- where all keys are behind an address, none is below it and all are above it
+none_below : (key : Key) (ks : List Key) → Every (λ k. key.major < k.major) ks → filter (is_below key) ks ≡ []
+none_below key ks later = filter_none (is_below key) ks (every_map (λ k. key.major < k.major) (λ k. is_below key k ≡ false) (λ k l. ap is_lt (greater_major k key l)) ks later)
+
+all_above : (key : Key) (ks : List Key) → Every (λ k. key.major < k.major) ks → filter (is_above key) ks ≡ ks
+all_above key ks later = filter_all (is_above key) ks (every_map (λ k. key.major < k.major) (λ k. is_above key k ≡ true) (λ k l. ap is_gt (greater_major k key l)) ks later)
+
+-- what is inserted behind the first element
+pub insert_later : {X : Type 0} (x y : X) (xs : List X) (n : ℕ) → insert (x ∷ xs) (1 + n) y ≡ x ∷ insert xs n y
+insert_later x y xs n = let e : 1 + n ≡ suc n = omega arith in rw e refl
+
+-- a region whose address is free is inserted where its key is
+pub insert_is : (r : Region) (ks : List Key) → IsAscending ks → Every (λ k. k.major ≢ r.addr) ks →
+    map region_of (with_key ks (key_of r)) ≡ inserted (region_of (key_of r)) (map region_of ks)
+unfolding IsStrictlySortedBy
+insert_is r [] ascending free = refl
+insert_is r (k ∷ ks) ascending free =
+    let key : Key = key_of r in
+    let rest = insert_is r ks ascending.1 free.1 in
+    elim (cases_order k.major r.addr) [
+      | inl e ↦ absurd (free.0 e)
+      | inr c ↦ elim c [
+        | inl l ↦
+            let below : is_below key k ≡ true = ap is_lt (major_less k key l) in
+            let above : is_above key k ≡ false = ap is_gt (major_less k key l) in
+            let past : nat_lt r.addr k.major ≡ false = grind (arith, nat_tests) in
+            rw (below, above, past) (ap (λ rs. region_of k ∷ rs) rest ∙ sym (insert_later (region_of k) (region_of key) (map region_of ks) _))
+        | inr g ↦
+            let below : is_below key k ≡ false = ap is_lt (greater_major k key g) in
+            let above : is_above key k ≡ true = ap is_gt (greater_major k key g) in
+            let here : nat_lt r.addr k.major ≡ true = grind (arith, nat_tests) in
+            let later : Every (λ x. r.addr < x.major) ks = every_map (λ x. key_cmp k x ≡ Less) (λ x. r.addr < x.major) (λ x e. let le = less_major k x e in omega arith) ks ascending.0 in
+            rw (below, above, here, none_below key ks later, all_above key ks later) refl
+      ]
+    ]
+
+-- ---- a region less
+
+-- What taking a client's region at an address out of the keys does.
+pub record Taken (c addr : ℕ) (ks : List Key) (key : Key) : Type 0 where
+  pub found : find (is_from (start addr)) ks ≡ Some key
+  pub has : Contains ks key
+  pub kept : map region_of (without_key ks key) ≡ staying c (addr ∷ []) (map region_of ks)
+  pub gone : filter (is_given_back c (addr ∷ [])) (map region_of ks) ≡ region_of key ∷ []
+
+-- whether a region begins at an address
+abbrev pub is_at : ℕ → Region → Bool
+is_at addr r = eqb r.addr addr
+
+-- a region that begins elsewhere isn't given back
+not_given : (c addr : ℕ) (r : Region) → r.addr ≢ addr → is_given_back c (addr ∷ []) r ≡ false
+not_given c addr r other =
+    let apart : eqb addr r.addr ≡ false = grind (arith, nat_tests) in
+    elim (is_held_by c r) as (λ b. (b && (eqb addr r.addr || false)) ≡ false) [ true ↦ rw apart refl | false ↦ refl ]
+
+-- where all regions begin elsewhere, all of them stay
+all_stay : (c addr : ℕ) (ks : List Key) → Every (λ k. addr < k.major) ks →
+    (staying c (addr ∷ []) (map region_of ks) ≡ map region_of ks) × (filter (is_given_back c (addr ∷ [])) (map region_of ks) ≡ []) × (holds_at c (map region_of ks) addr ≡ false)
+all_stay c addr [] later = (refl, refl, refl)
+all_stay c addr (k ∷ ks) later =
+    let rest = all_stay c addr ks later.1 in
+    let stays = not_given c addr (region_of k) (let l = later.0 in omega arith) in
+    let apart : eqb k.major addr ≡ false = let l = later.0 in grind (arith, nat_tests) in (
+      rw (stays, rest.0) refl,
+      rw (stays, rest.1) refl,
+      elim (is_held_by c (region_of k)) as (λ b. ((b && eqb k.major addr) || holds_at c (map region_of ks) addr) ≡ false) [ true ↦ rw (apart, rest.2) refl | false ↦ rest.2 ],
+    )
+
+-- one key comes first, at a lower address
+taken_later : (c addr : ℕ) (k : Key) (ks : List Key) (key : Key) → k.major < addr → Every (λ x. key_cmp k x ≡ Less) ks → Taken c addr ks key → Taken c addr (k ∷ ks) key
+taken_later c addr k ks key lower first t =
+    let skip : is_from (start addr) k ≡ false = from_is k addr ∙ grind (arith, nat_tests) in
+    let other : is_other key k ≡ true = ap (λ r. not (is_eq r)) (every_member (λ x. key_cmp k x ≡ Less) ks first key t.has) in
+    let stays = not_given c addr (region_of k) (let l = lower in omega arith) in record {
+      found = rw skip t.found;
+      has = contains_later k ks key t.has;
+      kept = rw (other, stays) (ap (λ rs. region_of k ∷ rs) t.kept);
+      gone = rw stays t.gone;
+    }
+
+-- the first key is the one
+taken_first : (c addr : ℕ) (k : Key) (ks : List Key) → k.major ≡ addr → Every (λ x. addr < x.major) ks → Every (λ x. key_cmp k x ≡ Less) ks →
+    holds_at c (map region_of (k ∷ ks)) addr ≡ true → Taken c addr (k ∷ ks) k
+taken_first c addr k ks at later first held =
+    let start_is : is_from (start addr) k ≡ true = from_is k addr ∙ grind (arith, nat_tests) in
+    let none = all_stay c addr ks later in
+    let itself : is_other k k ≡ false = ap (λ r. not (is_eq r)) (tied_itself key_total k) in
+    let others : filter (is_other k) ks ≡ ks = filter_all (is_other k) ks (every_map (λ x. key_cmp k x ≡ Less) (λ x. is_other k x ≡ true) (λ x l. ap (λ r. not (is_eq r)) (greater_from_less k x l)) ks first) in
+    let mine : is_held_by c (region_of k) ≡ true =
+    elim (is_held_by c (region_of k)) as (λ b. ((b && eqb k.major addr) || holds_at c (map region_of ks) addr) ≡ true → b ≡ true)
+    [ true ↦ λ h. refl | false ↦ λ h. let e : holds_at c (map region_of ks) addr ≡ false = none.2 in absurd (cc) ] held in
+    let given : is_given_back c (addr ∷ []) (region_of k) ≡ true =
+    let same : eqb addr k.major ≡ true = grind (arith, nat_tests) in rw (mine, same) refl in record {
+      found = rw start_is refl;
+      has = (0, omega arith, refl);
+      kept = rw (itself, given, others) (sym none.0);
+      gone = rw given (ap (λ rs. region_of k ∷ rs) none.1);
+    }
+
+-- A client's region at an address is found, and it alone is taken out.
+pub take_is : (c addr : ℕ) (ks : List Key) → IsAscending ks → count_by (is_at addr) (map region_of ks) ≤ 1 → holds_at c (map region_of ks) addr ≡ true → (key : Key) × Taken c addr ks key
+unfolding IsStrictlySortedBy
+take_is c addr [] ascending alone held = absurd (cc)
+take_is c addr (k ∷ ks) ascending alone held =
+    let sums = sum_by-cons (λ r. cond (is_at addr r) 1 0) (region_of k) (map region_of ks) in
+    elim (cases_order k.major addr) [
+      | inl e ↦
+          let here : is_at addr (region_of k) ≡ true = grind (arith, nat_tests) in
+          let ones : Bool → ℕ = λ b. cond b 1 0 in let one : ones (is_at addr (region_of k)) ≡ 1 = ap ones here in
+          let later : Every (λ x. addr < x.major) ks = all_later k ks addr e ascending.0 (omega (arith, sums, one, alone)) in
+          (k, taken_first c addr k ks e later ascending.0 held)
+      | inr o ↦ elim o [
+        | inl l ↦
+            let apart : eqb k.major addr ≡ false = grind (arith, nat_tests) in
+            let rest : holds_at c (map region_of ks) addr ≡ true =
+            elim (is_held_by c (region_of k)) as (λ b. ((b && eqb k.major addr) || holds_at c (map region_of ks) addr) ≡ true → holds_at c (map region_of ks) addr ≡ true)
+            [ true ↦ λ h. (rw apart at h) | false ↦ λ h. h ] held in
+            let t = take_is c addr ks ascending.1 (omega (arith, sums, alone)) rest in (t.0, taken_later c addr k ks t.0 l ascending.0 t.1)
+        | inr g ↦
+            let later : Every (λ x. addr < x.major) ks = every_map (λ x. key_cmp k x ≡ Less) (λ x. addr < x.major) (λ x e. let le = less_major k x e in omega arith) ks ascending.0 in
+            let none = all_stay c addr (k ∷ ks) (g, later) in
+            let e : holds_at c (map region_of (k ∷ ks)) addr ≡ false = none.2 in absurd (cc)
+      ]
+    ]
+  where
+    all_later : (k : Key) (xs : List Key) (addr : ℕ) → k.major ≡ addr → Every (λ x. key_cmp k x ≡ Less) xs → count_by (is_at addr) (map region_of xs) ≡ 0 → Every (λ x. addr < x.major) xs
+    all_later k [] addr e less none = tt
+    all_later k (x ∷ xs) addr e less none =
+        let sums = sum_by-cons (λ r. cond (is_at addr r) 1 0) (region_of x) (map region_of xs) in
+        let le = less_major k x less.0 in
+        let ne : x.major ≢ addr = λ same. let here : is_at addr (region_of x) ≡ true = grind (arith, nat_tests) in
+        let ones : Bool → ℕ = λ b. cond b 1 0 in let one : ones (is_at addr (region_of x)) ≡ 1 = ap ones here in omega (arith, sums, one, none) in
+        (omega (arith, le, ne, e), all_later k xs addr e less.1 (omega (arith, sums, none)))
+
+-- the key that was found is the one that is taken
+pub taken_key : (c addr : ℕ) (ks : List Key) (s : RegionList) (key : Key) (o : Option Key) → IsAscending ks → map region_of ks ≡ s.regions →
+    count_by (is_at addr) s.regions ≤ 1 → holds_at c s.regions addr ≡ true → o ≡ find (is_from (start addr)) ks → o ≡ Some key → Taken c addr ks key
+taken_key c addr ks s key o ascending view alone held searched found =
+    let t = take_is c addr ks ascending (subst (λ (rs : List Region). count_by (is_at addr) rs ≤ 1) (sym view) alone)
+    (ap (λ (rs : List Region). holds_at c rs addr) view ∙ held) in
+    let both : Some t.0 ≡ Some key = sym t.1.found ∙ sym searched ∙ found in
+    let same : t.0 ≡ key = cc in subst (Taken c addr ks) same t.1
+
+-- where no region begins at an address, no key has it
+pub free_keys : (addr : ℕ) (ks : List Key) → list_any (is_at addr) (map region_of ks) ≡ false → Every (λ k. k.major ≢ addr) ks
+free_keys addr [] none = tt
+free_keys addr (k ∷ ks) none =
+    elim (cases_Bool (eqb k.major addr)) [
+      | inl t ↦ absurd (let e : true ≡ false = (rw t at none) in cc)
+      | inr f ↦ (λ e. let t : eqb k.major addr ≡ true = grind (arith, nat_tests) in cc, free_keys addr ks (rw f at none))
+    ]
+
+-- the regions after a key was inserted
+pub inserted_is : (r : Region) (ks new : List Key) (key : Key) → new ≡ with_key ks key → key ≡ key_of r → r.class < 121 → IsAscending ks →
+    list_any (is_at r.addr) (map region_of ks) ≡ false → map region_of new ≡ inserted r (map region_of ks)
+inserted_is r ks new key with_it is small ascending none =
+    ap (map region_of) with_it
+    ∙ ap (λ k. map region_of (with_key ks k)) is
+    ∙ insert_is r ks ascending (free_keys r.addr ks none)
+    ∙ ap (λ q. inserted q (map region_of ks)) (region_is r small)
+
+-- the bytes with one more region
+pub bytes_with : (r : Region) (rs : List Region) → region_bytes (inserted r rs) ≡ region_bytes rs + size_at r.class
+bytes_with r rs = sum_by-insert (λ (q : Region). size_at q.class) rs (position_or_len (λ (q : Region). nat_lt r.addr q.addr) rs) r
+
+-- the bytes of the regions that stay, and those of the region that goes
+pub bytes_without : (c addr : ℕ) (ks : List Key) (key : Key) → Taken c addr ks key →
+    region_bytes (map region_of (without_key ks key)) + size_at (region_of key).class ≡ region_bytes (map region_of ks)
+bytes_without c addr ks key t =
+    let given = is_given_back c (addr ∷ []) in
+    let bytes : Region → ℕ = λ r. size_at r.class in
+    let rs : List Region = map region_of ks in
+    let kept : region_bytes (map region_of (without_key ks key)) ≡ sum_by bytes (filter (λ r. not (given r)) rs) = ap region_bytes t.kept in
+    let gone : sum_by bytes (filter given rs) ≡ sum_by bytes (region_of key ∷ []) = ap (sum_by bytes) t.gone in
+    omega (arith, kept, gone, sum_by-cons bytes (region_of key) [], sum_by-filter_both given (λ r. not (given r)) (λ _. refl) bytes rs)
+
+-- what is true of each region is true of the one that is taken
+pub taken_has : (P : Region → Type 0) (c addr : ℕ) (ks : List Key) (key : Key) → Taken c addr ks key → All P (map region_of ks) → P (region_of key)
+taken_has P c addr ks key t all =
+    let one : All P (filter (is_given_back c (addr ∷ [])) (map region_of ks)) = All-filter (is_given_back c (addr ∷ [])) P (map region_of ks) all in
+    All-head P (region_of key) [] (subst (All P) t.gone one)

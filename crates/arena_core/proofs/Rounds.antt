@@ -1,0 +1,381 @@
+-- Regions that are given back one after the other, by rising addresses, leave what they leave when given back at once.
+use Rattle.std.proofs.Common.{◌≡◌, ◌≢◌, ℕ, ◌+◌, ◌*◌, ◌/◌, ◌<◌, ◌≤◌, suc, Bool, true, false, not, cond, IsTrue, List, [], ◌∷◌, ◌++◌, append_assoc, append-nil, length, get_or, find, filter, fold, Option, None, Some, refl, sym, ◌∙◌, ap, subst, arith, All, ◌&&◌, ◌||◌, eqb, leb as nat_le, ltb as nat_lt, inl, inr, ◌⊎◌}
+use Rattle.std.specs.List.{count_by, insert, list_all, list_any, position_or_len, sum_by}
+use Rattle.std.proofs.lemmas.Bool.{cases_Bool, cases_order, eqb-true, leb-true, not-true}
+use Rattle.std.proofs.lemmas.Bool.Decides.{nat_tests}
+use Rattle.std.proofs.lemmas.List.Elements.{All-cons, All-filter, All-head, All-nil, All-tail, All-weaker, filter-append, filter_passes}
+use Rattle.std.proofs.lemmas.List.Filters.{length-filter_both, sum_by-filter_both}
+use Rattle.std.proofs.lemmas.List.Sums.{get_or-le-sum_by, length-filter, sum_by-cons}
+use Rattle.space_model.specs.declared.parts.Part.{Part}
+use Rattle.space_model.specs.declared.parts.Region.{Region}
+use Rattle.space_model.specs.declared.spaces.Life.{Life}
+use Rattle.space_model.specs.declared.spaces.Life.TheVariants.{Live, Absent, Dying}
+use Rattle.space_model.specs.declared.spaces.Space.{Space}
+use Rattle.space_model.specs.Span.{IsPlaced, end_of, has_page}
+use Rattle.space_model.specs.Part.{begins_at, exchanged, holders, is_active, taken_out}
+use Rattle.space_model.specs.Region.{address_of, houses, is_held_by, lies_in, residents}
+use Rattle.size_classes.specs.Classes.{size_at}
+use Rattle.space_model.specs.Step.{after_back, holds_at, is_emptied, is_given_back, is_live, placed, rises_from, staying, taken_in_order}
+use Rattle.space_model.specs.Sound.{Sound}
+use Rattle.space_model.proofs.Exchange.{filter-without, find_has, find_passes, share}
+use Rattle.space_model.proofs.Giving.{back_keeps}
+use Rattle.space_model.proofs.Idle.{serves}
+use Rattle.space_model.proofs.Landing.{All-insert}
+use Rattle.space_model.proofs.Pieces.{both_true}
+use Rattle.arena_core.proofs.Emptying.{Empties, all_kept, any_counts, counts_any, empties, filter_alike, given_parts, is_left, none_kept, ones, some_found}
+use Rattle.arena_core.proofs.RegionKeys.{insert_later}
+use Rattle.arena_core.proofs.Swaps.{keeps_all}
+
+-- ---- extents in order of address
+
+-- an extent as it is put among those that were taken out before
+abbrev put : ℕ → List Part → Part → List Part
+put c taken p = placed (taken_out c p) taken
+
+-- the lowest extent comes first
+put_first : (c : ℕ) (p : Part) (acc : List Part) → All (λ q. p.span.first < q.span.first) acc → put c acc p ≡ taken_out c p ∷ acc
+put_first c p [] above = refl
+put_first c p (q ∷ qs) above =
+    let less : p.span.first < q.span.first = All-head (λ q. p.span.first < q.span.first) q qs above in
+    let here : nat_lt p.span.first q.span.first ≡ true = grind (arith, nat_tests) in rw here refl
+
+-- a higher one stands behind it
+put_later : (c : ℕ) (p x : Part) (acc : List Part) → p.span.first < x.span.first → put c (taken_out c p ∷ acc) x ≡ taken_out c p ∷ put c acc x
+put_later c p x acc less =
+    let past : nat_lt x.span.first p.span.first ≡ false = grind (arith, nat_tests) in
+    rw past (insert_later (taken_out c p) (taken_out c x) acc (position_or_len (λ (q : Part). nat_lt x.span.first q.span.first) acc))
+
+taken_later : (c : ℕ) (p : Part) (acc xs : List Part) → All (λ q. p.span.first < q.span.first) xs → fold (put c) (taken_out c p ∷ acc) xs ≡ taken_out c p ∷ fold (put c) acc xs
+taken_later c p acc [] above = refl
+taken_later c p acc (x ∷ xs) above =
+    ap (λ ys. fold (put c) ys xs) (put_later c p x acc (All-head (λ q. p.span.first < q.span.first) x xs above))
+    ∙ taken_later c p (put c acc x) xs (All-tail (λ q. p.span.first < q.span.first) x xs above)
+
+-- so the lowest of all is the first that is taken out
+taken_first : (c : ℕ) (p : Part) (acc xs : List Part) → All (λ q. p.span.first < q.span.first) acc → filter (begins_at p.span.first) xs ≡ p ∷ [] →
+    All (λ q. p.span.first < q.span.first) (filter (λ q. not (begins_at p.span.first q)) xs) →
+    fold (put c) acc xs ≡ taken_out c p ∷ fold (put c) acc (filter (λ q. not (begins_at p.span.first q)) xs)
+taken_first c p acc [] low one above = absurd (cc)
+taken_first c p acc (x ∷ xs) low one above =
+    let t = begins_at p.span.first in
+    let P : Part → Type 0 = λ q. p.span.first < q.span.first in
+    elim (t x) as (λ b. cond b (x ∷ filter t xs) (filter t xs) ≡ p ∷ [] → All P (cond (not b) (x ∷ filter (λ q. not (t q)) xs) (filter (λ q. not (t q)) xs)) →
+    fold (put c) (put c acc x) xs ≡ taken_out c p ∷ fold (put c) acc (cond (not b) (x ∷ filter (λ q. not (t q)) xs) (filter (λ q. not (t q)) xs))) [
+      | true ↦ λ h k.
+          let same : x ≡ p = cc in
+          let none : filter t xs ≡ [] = cc in
+          let rest : filter (λ q. not (t q)) xs ≡ xs = keeps_all t xs none in
+          ap (λ y. fold (put c) (put c acc y) xs) same
+          ∙ ap (λ ys. fold (put c) ys xs) (put_first c p acc low)
+          ∙ taken_later c p acc xs (subst (All P) rest k)
+          ∙ ap (λ ys. taken_out c p ∷ fold (put c) acc ys) (sym rest)
+      | false ↦ λ h k.
+          taken_first c p (put c acc x) xs (All-insert P acc _ (taken_out c x) low (All-head P x (filter (λ q. not (t q)) xs) k)) h (All-tail P x (filter (λ q. not (t q)) xs) k)
+    ] one above
+
+-- ---- two filters
+
+pub filter_twice : {X : Type 0} (f g : X → Bool) (xs : List X) → filter f (filter g xs) ≡ filter (λ x. g x && f x) xs
+filter_twice f g [] = refl
+filter_twice f g (x ∷ xs) =
+    let rest = filter_twice f g xs in
+    elim (g x) as (λ b. filter f (cond b (x ∷ filter g xs) (filter g xs)) ≡ cond (b && f x) (x ∷ filter (λ y. g y && f y) xs) (filter (λ y. g y && f y) xs)) [
+      | true ↦ elim (f x) as (λ b. cond b (x ∷ filter f (filter g xs)) (filter f (filter g xs)) ≡ cond b (x ∷ filter (λ y. g y && f y) xs) (filter (λ y. g y && f y) xs)) [ true ↦ ap (λ ys. x ∷ ys) rest | false ↦ rest ]
+      | false ↦ rest
+    ]
+
+swap_tests : (a b : Bool) → (a && b) ≡ (b && a)
+swap_tests true true = refl
+swap_tests true false = refl
+swap_tests false true = refl
+swap_tests false false = refl
+
+pub filters_swap : {X : Type 0} (f g : X → Bool) (xs : List X) → filter f (filter g xs) ≡ filter g (filter f xs)
+filters_swap f g xs = filter_twice f g xs ∙ (λ i. filter (λ x. swap_tests (g x) (f x) i) xs) ∙ sym (filter_twice g f xs)
+
+-- ---- the regions
+
+-- what stays after one address and then after the others is what stays after all
+pub staying_twice : (c addr : ℕ) (addrs : List ℕ) (regions : List Region) → staying c addrs (staying c (addr ∷ []) regions) ≡ staying c (addr ∷ addrs) regions
+staying_twice c addr addrs regions =
+    filter_twice (λ r. not (is_given_back c addrs r)) (λ r. not (is_given_back c (addr ∷ []) r)) regions
+    ∙ filter_alike (λ r. not (is_given_back c (addr ∷ []) r) && not (is_given_back c addrs r)) (λ r. not (is_given_back c (addr ∷ addrs) r)) regions
+    (λ k d h. let r : Region = get_or regions k d in either (is_held_by c r) (eqb addr r.addr) (list_any (λ a. eqb a r.addr) addrs))
+  where
+    either : (held this others : Bool) → (not (held && (this || false)) && not (held && others)) ≡ not (held && (this || others))
+    either true true others = refl
+    either true false others = refl
+    either false this others = refl
+
+-- the addresses that rise from a number on are no lower
+rising : (least : ℕ) (addrs : List ℕ) → rises_from least addrs ≡ true → All (λ a. least ≤ a) addrs
+rising least [] h = All-nil (λ a. least ≤ a)
+rising least (a ∷ more) h =
+    let both = both_true (nat_le least a) (rises_from (a + 1) more) h in
+    let low = leb-true _ _ both.0 in
+    All-cons (λ x. least ≤ x) a more low (All-weaker (λ x. a + 1 ≤ x) (λ x. least ≤ x) (λ x le. omega arith) more (rising (a + 1) more both.1))
+
+-- and rise from any lower number on
+rises_lower : (least lower : ℕ) (addrs : List ℕ) → lower ≤ least → rises_from least addrs ≡ true → rises_from lower addrs ≡ true
+rises_lower least lower [] le h = refl
+rises_lower least lower (a ∷ more) le h =
+    let both = both_true (nat_le least a) (rises_from (a + 1) more) h in
+    let low = leb-true _ _ both.0 in
+    let here : nat_le lower a ≡ true = grind (arith, nat_tests) in rw (here, both.1) refl
+
+-- a region at another address is still held
+held_still : (c addr other : ℕ) (regions : List Region) → addr < other → holds_at c regions other ≡ true → holds_at c (staying c (addr ∷ []) regions) other ≡ true
+held_still c addr other [] less h = absurd (cc)
+held_still c addr other (r ∷ rs) less h =
+    elim (cases_Bool (eqb r.addr other)) [
+      | inl t ↦
+          let differ : eqb addr r.addr ≡ false = grind (arith, nat_tests) in
+          let stays : is_given_back c (addr ∷ []) r ≡ false = elim (is_held_by c r) as (λ b. (b && (eqb addr r.addr || false)) ≡ false) [ true ↦ rw differ refl | false ↦ refl ] in
+          rw stays (elim (is_held_by c r) as (λ b. ((b && eqb r.addr other) || holds_at c rs other) ≡ true → ((b && eqb r.addr other) || holds_at c (staying c (addr ∷ []) rs) other) ≡ true)
+          [ true ↦ λ k. rw t refl | false ↦ λ k. held_still c addr other rs less k ] h)
+      | inr f ↦
+          let later : holds_at c rs other ≡ true = elim (is_held_by c r) as (λ b. ((b && eqb r.addr other) || holds_at c rs other) ≡ true → holds_at c rs other ≡ true) [ true ↦ λ k. (rw f at k) | false ↦ λ k. k ] h in
+          let rest = held_still c addr other rs less later in
+          elim (is_given_back c (addr ∷ []) r) as (λ b. holds_at c (cond (not b) (r ∷ staying c (addr ∷ []) rs) (staying c (addr ∷ []) rs)) other ≡ true)
+          [ true ↦ rest | false ↦ elim (is_held_by c r && eqb r.addr other) as (λ b. (b || holds_at c (staying c (addr ∷ []) rs) other) ≡ true) [ true ↦ refl | false ↦ rest ] ]
+    ]
+
+all_still : (c addr : ℕ) (addrs : List ℕ) (regions : List Region) → All (λ a. addr < a) addrs → list_all (holds_at c regions) addrs ≡ true → list_all (holds_at c (staying c (addr ∷ []) regions)) addrs ≡ true
+all_still c addr [] regions above h = refl
+all_still c addr (a ∷ more) regions above h =
+    let both = both_true (holds_at c regions a) (list_all (holds_at c regions) more) h in
+    rw (held_still c addr a regions (All-head (λ x. addr < x) a more above) both.0) (all_still c addr more regions (All-tail (λ x. addr < x) a more above) both.1)
+
+-- ---- the extents
+
+-- an extent that is emptied first, below all others, is taken out first
+parts_round : (c : ℕ) (parts : List Part) (p : Part) (gone : Part → Bool) → gone p ≡ true → gone (taken_out c p) ≡ false → filter (begins_at p.span.first) parts ≡ p ∷ [] →
+    All (λ q. p.span.first < q.span.first) (filter gone (filter (λ q. not (begins_at p.span.first q)) parts)) →
+    (one : List Part) → one ≡ exchanged (begins_at p.span.first) parts (taken_out c p ∷ []) →
+    (exchanged gone one (taken_in_order c (filter gone one)) ≡ exchanged gone parts (taken_in_order c (filter gone parts))) × (1 + length (filter gone one) ≡ length (filter gone parts))
+parts_round c parts p gone goes stays alone above one is =
+    let t = begins_at p.span.first in
+    let out : Part = taken_out c p in
+    let others : List Part = filter (λ q. not (t q)) parts in
+    let gone_one : filter gone one ≡ filter gone others =
+    ap (filter gone) is ∙ filter-append gone others (out ∷ []) ∙ ap (λ b. filter gone others ++ cond b (out ∷ []) []) stays ∙ append-nil (filter gone others) in
+    let kept_one : filter (λ q. not (gone q)) one ≡ filter (λ q. not (gone q)) others ++ out ∷ [] =
+    ap (filter (λ q. not (gone q))) is ∙ filter-append (λ q. not (gone q)) others (out ∷ []) ∙ ap (λ b. filter (λ q. not (gone q)) others ++ cond (not b) (out ∷ []) []) stays in
+    let none : filter (λ q. not (gone q)) (filter t parts) ≡ [] = ap (filter (λ q. not (gone q))) alone ∙ ap (λ b. cond (not b) (p ∷ []) []) goes in
+    let kept : filter (λ q. not (gone q)) others ≡ filter (λ q. not (gone q)) parts = filter-without (λ q. not (gone q)) t parts none in
+    let first : filter t (filter gone parts) ≡ p ∷ [] = filters_swap t gone parts ∙ ap (filter gone) alone ∙ ap (λ b. cond b (p ∷ []) []) goes in
+    let rest : filter (λ q. not (t q)) (filter gone parts) ≡ filter gone others = filters_swap (λ q. not (t q)) gone parts in
+    let taken : taken_in_order c (filter gone parts) ≡ out ∷ taken_in_order c (filter gone others) =
+    taken_first c p [] (filter gone parts) (All-nil (λ q. p.span.first < q.span.first)) first (subst (All (λ q. p.span.first < q.span.first)) (sym rest) above)
+    ∙ ap (λ xs. out ∷ taken_in_order c xs) rest in
+    let n : length (filter t (filter gone parts)) ≡ 1 = ap length first in
+    let m : length (filter (λ q. not (t q)) (filter gone parts)) ≡ length (filter gone others) = ap length rest in
+    let k : length (filter gone one) ≡ length (filter gone others) = ap length gone_one in (
+      ap (λ xs. exchanged gone one (taken_in_order c xs)) gone_one
+          ∙ ap (λ xs. xs ++ taken_in_order c (filter gone others)) kept_one
+          ∙ append_assoc (filter (λ q. not (gone q)) others) (out ∷ []) (taken_in_order c (filter gone others))
+          ∙ ap (λ xs. xs ++ out ∷ taken_in_order c (filter gone others)) kept
+          ∙ ap (λ xs. filter (λ q. not (gone q)) parts ++ xs) (sym taken),
+      omega (arith, n, m, k, length-filter_both t (λ q. not (t q)) (λ _. refl) (filter gone parts)),
+    )
+
+-- what no element passes isn't counted
+none_counted : {X : Type 0} (test : X → Bool) (xs : List X) → list_any test xs ≡ false → count_by test xs ≡ 0
+none_counted test xs h = elim (cases_order (count_by test xs) 0) [
+  | inl same ↦ same
+  | inr o ↦ elim o [
+    | inl l ↦ absurd (omega (arith, l))
+    | inr g ↦ let some = counts_any test xs g in absurd (cc)
+  ]
+]
+
+-- a number among higher ones is higher
+named_above : (low : ℕ) (addrs : List ℕ) (a : ℕ) → All (λ x. low < x) addrs → list_any (λ x. eqb x a) addrs ≡ true → low < a
+named_above low [] a above h = absurd (cc)
+named_above low (x ∷ xs) a above h = elim (cases_Bool (eqb x a)) [
+  | inl t ↦ let same = eqb-true x a t in omega (arith, same, All-head (λ y. low < y) x xs above)
+  | inr f ↦ named_above low xs a (All-tail (λ y. low < y) x xs above) (rw f at h)
+]
+
+-- a region begins in the extent that serves it
+begins_in : (x : Part) (r : Region) → houses x r ≡ true → (4096 * x.span.first ≤ r.addr) × (r.addr ≤ 4096 * end_of x.span)
+begins_in x r h =
+    let lies = (both_true (is_active x.state && x.committed) (lies_in x.span r) h).1 in
+    let both = both_true (nat_le (address_of x.span.first) r.addr) (nat_le (r.addr + size_at r.class) (address_of (end_of x.span))) lies in
+    (leb-true _ _ both.0, omega (arith, leb-true _ _ both.1))
+
+-- an extent that is emptied by higher addresses is higher
+above_first : (c addr : ℕ) (addrs : List ℕ) (s : Space) (p : Part) → Sound s → Empties c addr s p → All (λ a. addr < a) addrs →
+    All (λ q. p.span.first < q.span.first) (filter (is_emptied (staying c addrs (staying c (addr ∷ []) s.regions))) (filter (λ q. not (begins_at p.span.first q)) s.parts))
+above_first c addr addrs s p sound e above =
+    let t = begins_at p.span.first in
+    let one : List Region = staying c (addr ∷ []) s.regions in
+    let gone = is_emptied (staying c addrs one) in
+    let others : List Part = filter (λ q. not (t q)) s.parts in
+    let P : Part → Type 0 = λ x. (t x ≡ false) × (serves e.region x ≡ 0) × (IsTrue (is_active x.state) → 0 < residents x s.regions) × (share p.span.first x + share p.span.first p ≤ 1) in
+    let fails = filter_passes (λ q. not (t q)) s.parts in
+    let used = All-filter (λ q. not (t q)) (λ x. IsTrue (is_active x.state) → 0 < residents x s.regions) s.parts sound.used in
+    let mine : sum_by (share p.span.first) (filter t s.parts) ≡ sum_by (share p.span.first) (p ∷ []) = ap (sum_by (share p.span.first)) e.alone in
+    let each : All P others = λ k d h. (
+      not-true (t (get_or others k d)) (fails k d h),
+      e.others k d h,
+      used k d h,
+      omega (arith, get_or-le-sum_by (share p.span.first) others k d h, mine, sum_by-cons (share p.span.first) p [], sum_by-filter_both t (λ q. not (t q)) (λ _. refl) (share p.span.first) s.parts, sound.owners p.span.first),
+    ) in
+    let kept = All-filter gone P others each in
+    let passes = filter_passes gone others in
+    λ k d h. higher (get_or (filter gone others) k d) (kept k d h).0 (kept k d h).1 (kept k d h).2 (kept k d h).3 (passes k d h)
+  where
+    higher : (x : Part) → begins_at p.span.first x ≡ false → serves e.region x ≡ 0 → (IsTrue (is_active x.state) → 0 < residents x s.regions) → share p.span.first x + share p.span.first p ≤ 1 →
+        is_emptied (staying c addrs (staying c (addr ∷ []) s.regions)) x ≡ true → p.span.first < x.span.first
+    higher x other none used apart goes =
+        let one : List Region = staying c (addr ∷ []) s.regions in
+        let first = is_given_back c (addr ∷ []) in
+        let later = is_given_back c addrs in
+        let both = both_true (is_active x.state) (is_left (staying c addrs one) x) goes in
+        let left : list_any (houses x) (staying c addrs one) ≡ false = not-true (list_any (houses x) (staying c addrs one)) both.1 in
+        let gone : count_by (houses x) (filter first s.regions) ≡ count_by (houses x) (e.region ∷ []) = ap (count_by (houses x)) e.given.alone in
+        let here = sum_by-filter_both first (λ q. not (first q)) (λ _. refl) (λ q. ones (houses x q)) s.regions in
+        let there = sum_by-filter_both later (λ q. not (later q)) (λ _. refl) (λ q. ones (houses x q)) one in
+        let zero : count_by (houses x) (staying c addrs one) ≡ 0 = none_counted (houses x) (staying c addrs one) left in
+        let some : 0 < count_by (houses x) (filter later one) = omega (arith, gone, here, there, zero, none, used both.0, sum_by-cons (λ q. ones (houses x q)) e.region []) in
+        let found = some_found (houses x) (filter later one) some in
+        let q : Region = found.0 in
+        let home = find_passes (houses x) (filter later one) q found.1 in
+        let named = find_has (λ r. later r ≡ true) (houses x) (filter later one) q (filter_passes later one) found.1 in
+        let listed = (both_true (is_held_by c q) (list_any (λ a. eqb a q.addr) addrs) named).1 in
+        let less : addr < q.addr = named_above addr addrs q.addr above listed in
+        let x_within = begins_in x q home in
+        let p_within = begins_in p e.region e.home in
+        let at : e.region.addr ≡ addr = e.given.at in
+        elim (cases_Bool (has_page p.span.first x.span)) [
+          | inl h ↦
+              let some_pages = e.placed.0 in
+              let itself : has_page p.span.first p.span ≡ true = grind (arith, nat_tests) in
+              let a : share p.span.first x ≡ 1 = ap ones h in
+              let b : share p.span.first p ≡ 1 = ap ones itself in
+              absurd (omega (arith, apart, a, b))
+          | inr h ↦ low_or_high h (omega (arith, x_within.1, p_within.0, at, less))
+        ]
+      where
+        low_or_high : has_page p.span.first x.span ≡ false → p.span.first < end_of x.span → p.span.first < x.span.first
+        low_or_high h below = grind (arith, nat_tests)
+
+-- ---- the rounds
+
+-- What giving one region back, and then others at higher addresses, leaves: what giving all of them back leaves.
+pub record Round (c addr : ℕ) (addrs : List ℕ) (s : Space) : Type 0 where
+  pub after : (after_back (after_back s c (addr ∷ [])).after c addrs).after ≡ (after_back s c (addr ∷ addrs)).after
+  pub emptied : length (filter (is_emptied (staying c (addr ∷ []) s.regions)) s.parts)
+      + length (filter (is_emptied (staying c addrs (staying c (addr ∷ []) s.regions))) (after_back s c (addr ∷ [])).after.parts)
+      ≡ length (filter (is_emptied (staying c (addr ∷ addrs) s.regions)) s.parts)
+
+-- where the extent of the first region isn't emptied, or is
+round_by : (c addr : ℕ) (addrs : List ℕ) (s : Space) (p : Part) (b : Bool) → Sound s → Empties c addr s p → All (λ a. addr < a) addrs → is_left (staying c (addr ∷ []) s.regions) p ≡ b →
+    (one : List Part) → one ≡ (after_back s c (addr ∷ [])).after.parts → (gone : Part → Bool) → gone ≡ is_emptied (staying c addrs (staying c (addr ∷ []) s.regions)) →
+    (exchanged gone one (taken_in_order c (filter gone one)) ≡ exchanged gone s.parts (taken_in_order c (filter gone s.parts)))
+    × (length (filter (is_emptied (staying c (addr ∷ []) s.regions)) s.parts) + length (filter gone one) ≡ length (filter gone s.parts))
+round_by c addr addrs s p false sound e above left one is gone same =
+    let parts = given_parts c addr s p e false left in
+    let one_is : one ≡ s.parts = is ∙ parts.1 in
+    let none : length (filter (is_emptied (staying c (addr ∷ []) s.regions)) s.parts) ≡ 0 = ap length parts.0 in
+    let n : length (filter gone one) ≡ length (filter gone s.parts) = ap (λ xs. length (filter gone xs)) one_is in
+    (ap (λ xs. exchanged gone xs (taken_in_order c (filter gone xs))) one_is, omega (arith, none, n))
+round_by c addr addrs s p true sound e above left one is gone same =
+    let parts = given_parts c addr s p e true left in
+    let first : List Region = staying c (addr ∷ []) s.regions in
+    let goes : gone p ≡ true = ap (λ (f : Part → Bool). f p) same ∙ emptied_still c addrs first p e.active left in
+    let stays : gone (taken_out c p) ≡ false = ap (λ (f : Part → Bool). f (taken_out c p)) same in
+    let higher = subst (λ (f : Part → Bool). All (λ q. p.span.first < q.span.first) (filter f (filter (λ q. not (begins_at p.span.first q)) s.parts))) (sym same) (above_first c addr addrs s p sound e above) in
+    let both = parts_round c s.parts p gone goes stays e.alone higher one (is ∙ parts.1) in
+    let n : length (filter (is_emptied first) s.parts) ≡ 1 = ap length parts.0 in
+    (both.0, omega (arith, n, both.1))
+  where
+    emptied_still : (c : ℕ) (addrs : List ℕ) (regions : List Region) (p : Part) → is_active p.state ≡ true → is_left regions p ≡ true → is_emptied (staying c addrs regions) p ≡ true
+    emptied_still c addrs regions p active left =
+        let none : list_any (houses p) regions ≡ false = not-true (list_any (houses p) regions) left in
+        let sums = sum_by-filter_both (is_given_back c addrs) (λ q. not (is_given_back c addrs q)) (λ _. refl) (λ q. ones (houses p q)) regions in
+        let zero : count_by (houses p) regions ≡ 0 = none_counted (houses p) regions none in
+        elim (cases_Bool (list_any (houses p) (staying c addrs regions))) [
+          | inl t ↦ absurd (omega (arith, any_counts (houses p) (staying c addrs regions) t, sums, zero))
+          | inr f ↦ rw (active, f) refl
+        ]
+
+pub round : (c addr : ℕ) (addrs : List ℕ) (s : Space) → Sound s → holds_at c s.regions addr ≡ true → All (λ a. addr < a) addrs → Round c addr addrs s
+round c addr addrs s sound held above =
+    let e = empties c addr s sound held in
+    let first : List Region = staying c (addr ∷ []) s.regions in
+    let by = round_by c addr addrs s e.0 (is_left first e.0) sound e.1 above refl (after_back s c (addr ∷ [])).after.parts refl (is_emptied (staying c addrs first)) refl in
+    let regions = staying_twice c addr addrs s.regions in
+    record {
+      after =
+          (λ i. record s { parts = by.0 i; regions = staying c addrs first })
+          ∙ ap (λ (rs : List Region). record s { parts = exchanged (is_emptied rs) s.parts (taken_in_order c (filter (is_emptied rs) s.parts)); regions = rs }) regions;
+      emptied = by.1 ∙ ap (λ (rs : List Region). length (filter (is_emptied rs) s.parts)) regions;
+    }
+
+-- with no address nothing changes
+pub no_round : (c : ℕ) (s : Space) → Sound s → ((after_back s c []).after ≡ s) × (length (filter (is_emptied (staying c [] s.regions)) s.parts) ≡ 0)
+no_round c s sound =
+    let regions : staying c [] s.regions ≡ s.regions =
+    filter_alike (λ r. not (is_given_back c [] r)) (λ _. true) s.regions (λ k d h. nobody (is_held_by c (get_or s.regions k d))) ∙ all_kept s.regions in
+    let each : All (λ p. is_emptied s.regions p ≡ false) s.parts = λ k d h. serves_still (get_or s.parts k d) (sound.used k d h) in
+    let none : filter (is_emptied s.regions) s.parts ≡ [] = filter_alike (is_emptied s.regions) (λ _. false) s.parts each ∙ none_kept s.parts in
+    let all : filter (λ p. not (is_emptied s.regions p)) s.parts ≡ s.parts = keeps_all (is_emptied s.regions) s.parts none in
+    let parts : exchanged (is_emptied s.regions) s.parts (taken_in_order c (filter (is_emptied s.regions) s.parts)) ≡ s.parts =
+    ap (λ xs. xs ++ taken_in_order c (filter (is_emptied s.regions) s.parts)) all ∙ ap (λ xs. s.parts ++ taken_in_order c xs) none ∙ append-nil s.parts in (
+      ap (λ (rs : List Region). record s { parts = exchanged (is_emptied rs) s.parts (taken_in_order c (filter (is_emptied rs) s.parts)); regions = rs }) regions
+          ∙ (λ i. record s { parts = parts i }),
+      ap (λ (rs : List Region). length (filter (is_emptied rs) s.parts)) regions ∙ ap length none,
+    )
+  where
+    nobody : (b : Bool) → not (b && false) ≡ true
+    nobody true = refl
+    nobody false = refl
+
+    serves_still : (p : Part) → (IsTrue (is_active p.state) → 0 < residents p s.regions) → is_emptied s.regions p ≡ false
+    serves_still p used = elim (cases_Bool (is_active p.state)) [
+      | inr f ↦ ap (λ b. b && is_left s.regions p) f
+      | inl t ↦ rw (t, counts_any (houses p) s.regions (used t)) refl
+    ]
+
+-- How far a client has come in giving regions back: some are left, whose return leaves what was to be left at first.
+pub record Left (c : ℕ) (rest all : List ℕ) (start s : Space) (emptied : ℕ) : Type 0 where
+  pub sound : Sound s
+  pub live : is_live s.life ≡ true
+  pub rises : rises_from 0 rest ≡ true
+  pub held : list_all (holds_at c s.regions) rest ≡ true
+  pub after : (after_back s c rest).after ≡ (after_back start c all).after
+  pub count : emptied + length (filter (is_emptied (staying c rest s.regions)) s.parts) ≡ length (filter (is_emptied (staying c all start.regions)) start.parts)
+
+-- the first of them is held
+pub left_held : (c addr : ℕ) (rest all : List ℕ) (start s : Space) (n : ℕ) → Left c (addr ∷ rest) all start s n → holds_at c s.regions addr ≡ true
+left_held c addr rest all start s n left = (both_true (holds_at c s.regions addr) (list_all (holds_at c s.regions) rest) left.held).0
+
+-- it is given back
+pub left_step : (c addr : ℕ) (rest all : List ℕ) (start s one : Space) (n k : ℕ) → Left c (addr ∷ rest) all start s n → one ≡ (after_back s c (addr ∷ [])).after →
+    k ≡ length (filter (is_emptied (staying c (addr ∷ []) s.regions)) s.parts) → Left c rest all start one (n + k)
+left_step c addr rest all start s one n k left is counted =
+    let held = both_true (holds_at c s.regions addr) (list_all (holds_at c s.regions) rest) left.held in
+    let rises = (both_true (nat_le 0 addr) (rises_from (addr + 1) rest) left.rises).1 in
+    let above : All (λ a. addr < a) rest = All-weaker (λ a. addr + 1 ≤ a) (λ a. addr < a) (λ a le. omega arith) rest (rising (addr + 1) rest rises) in
+    let r = round c addr rest s left.sound held.0 above in
+    let keeps = back_keeps c s (addr ∷ []) left.sound (live_is s.life left.live) in
+    subst (λ x. Left c rest all start x (n + k)) (sym is) (record {
+      sound = keeps.sound;
+      live = left.live;
+      rises = rises_lower (addr + 1) 0 rest (omega arith) rises;
+      held = all_still c addr rest s.regions above held.1;
+      after = r.after ∙ left.after;
+      count = omega (arith, counted, r.emptied, left.count);
+    })
+  where
+    live_is : (life : Life) → is_live life ≡ true → life ≡ Live
+    live_is Live h = refl
+    live_is Absent h = absurd (cc)
+    live_is (Dying d) h = absurd (cc)
+
+-- none is left
+pub left_end : (c : ℕ) (all : List ℕ) (start s : Space) (n : ℕ) → Left c [] all start s n →
+    (s ≡ (after_back start c all).after) × (n ≡ length (filter (is_emptied (staying c all start.regions)) start.parts))
+left_end c all start s n left = let none = no_round c s left.sound in (sym none.0 ∙ left.after, omega (arith, none.1, left.count))

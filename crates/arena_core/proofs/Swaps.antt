@@ -1,0 +1,348 @@
+-- Extents that are apart stay apart, with sums that are known, where one or two of them are exchanged.
+use Rattle.std.proofs.Common.{◌≡◌, ◌≢◌, ℕ, ◌+◌, ◌*◌, ◌^◌, ◌-◌, ◌<◌, ◌≤◌, Bool, true, false, not, cond, List, [], ◌∷◌, ◌++◌, find, filter, Option, None, Some, IfSome, refl, sym, ◌∙◌, ap, subst, arith, All, ◌||◌, ◌&&◌, append_assoc, inl, inr, ◌⊎◌}
+use Rattle.std.specs.List.{count_by, list_any, sum_by}
+use Rattle.std.proofs.lemmas.Bool.{cases_Bool, cases_order}
+use Rattle.std.proofs.lemmas.Bool.Decides.{nat_tests}
+use Rattle.std.proofs.lemmas.List.Sums.{sum_by-append, sum_by-cons, sum_by-le-sum_by}
+use Rattle.std.proofs.lemmas.List.Elements.{All-append, All-cons, All-head, All-nil, All-tail, All-weaker, filter-append}
+use Rattle.space_model.specs.declared.parts.Part.{Part}
+use Rattle.space_model.specs.declared.parts.Span.{Span}
+use Rattle.space_model.specs.declared.parts.State.{State}
+use Rattle.space_model.specs.Span.{IsPlaced, end_of, has_page, meets, pages_end}
+use Rattle.space_model.specs.Part.{begins_at, exchanged, holders, is_active, listed, put_down, rest_of}
+use Rattle.space_model.specs.Step.{begins_either, high_piece, joined, low_piece}
+use Rattle.space_model.proofs.Exchange.{All-exchanged, filter-begins_at, filter_nothing, find-le-sum_by, find_has, share, sum_by-either, sum_by-exchanged, sum_by-replaced}
+use Rattle.space_model.proofs.Idle.{some_pages}
+use Rattle.space_model.proofs.Pieces.{put_down-idle}
+use Rattle.space_model.proofs.Intervals.{lengths-le}
+use Rattle.part_book.specs.Books.{AreAlike}
+use Rattle.arena_core.specs.Extents.{IsApart, IsThere, active_pages, all_pages}
+use Rattle.arena_core.proofs.Finds.{begins_once}
+
+-- the pages of an extent, and those that serve regions
+abbrev pub pages : Part → ℕ
+pages p = p.span.pages
+
+abbrev pub serving : Part → ℕ
+serving p = cond (is_active p.state) p.span.pages 0
+
+-- an extent that is there lies in the space
+pub there_placed : (parts : List Part) (p : Part) → IsApart parts → IsThere parts p → IsPlaced p.span
+there_placed parts p apart there = find_has (λ q. IsPlaced q.span) (begins_at p.span.first) parts p apart.placed there
+
+-- it is no more than the sum, and the sum no more than the space
+pub within_sum : (f : Part → ℕ) (parts : List Part) (p : Part) → IsThere parts p → f p ≤ sum_by f parts
+within_sum f parts p there = find-le-sum_by f (begins_at p.span.first) parts p there
+
+-- Pieces that may stand in place of an extent: they lie in the space and have just its pages.
+pub record Fill (p : Part) (pieces : List Part) : Type 0 where
+  pub placed : All (λ q. IsPlaced q.span) pieces
+  pub shares : (page : ℕ) → holders page pieces ≡ share page p
+  pub pages : all_pages pieces ≡ p.span.pages
+
+-- What an exchange leaves: extents that are apart, with these sums.
+pub record Swapped (parts after : List Part) (served serves : ℕ) : Type 0 where
+  pub apart : IsApart after
+  pub pages : all_pages after ≡ all_pages parts
+  pub active : active_pages after + served ≡ active_pages parts + serves
+
+-- an extent is exchanged for pieces
+pub swapped : (parts pieces : List Part) (p : Part) → IsApart parts → IsThere parts p → Fill p pieces →
+    Swapped parts (exchanged (begins_at p.span.first) parts pieces) (serving p) (active_pages pieces)
+swapped parts pieces p apart there fill =
+    let some = some_pages parts apart.placed in
+    let sums = λ (f : Part → ℕ). sum_by-replaced f (begins_at p.span.first) parts pieces p some (apart.owners p.span.first) there in record {
+      apart = record {
+        placed = All-exchanged (λ q. IsPlaced q.span) (begins_at p.span.first) parts pieces apart.placed fill.placed;
+        owners = λ page. omega (arith, sums (share page), fill.shares page, apart.owners page);
+      };
+      pages = omega (arith, sums pages, fill.pages);
+      active = sums serving;
+    }
+
+-- one piece with the span of the extent
+pub one_fills : (p q : Part) → IsPlaced p.span → q.span ≡ p.span → Fill p (q ∷ [])
+one_fills p q placed same = record {
+  placed = All-cons (λ x. IsPlaced x.span) q [] (subst IsPlaced (sym same) placed) (All-nil (λ x. IsPlaced x.span));
+  shares = λ page. let e : share page q ≡ share page p = ap (λ s. cond (has_page page s) 1 0) same in omega (arith, e, sum_by-cons (share page) q []);
+  pages = let e : q.span.pages ≡ p.span.pages = ap (λ (s : Span). s.pages) same in omega (arith, e, sum_by-cons pages q []);
+}
+
+-- two pieces with the spans below and above a cut, in any order
+pub two_fill : (p low high : Part) (left : ℕ) → IsPlaced p.span → 0 < left → left < p.span.pages →
+    low.span ≡ (low_piece left p).span → high.span ≡ (high_piece left p).span → Fill p (low ∷ high ∷ []) × Fill p (high ∷ low ∷ [])
+two_fill p low high left placed some fewer low_is high_is =
+    let low_placed : IsPlaced low.span = subst IsPlaced (sym low_is) (some, placed.1, omega (arith, placed.2)) in
+    let high_placed : IsPlaced high.span = subst IsPlaced (sym high_is) (omega arith, omega (arith, placed.1), omega (arith, placed.2)) in
+    let whole : Part → Type 0 = λ x. IsPlaced x.span in
+    let shares : (page : ℕ) → share page low + share page high ≡ share page p = λ page.
+    let l : share page low ≡ share page (low_piece left p) = ap (λ s. cond (has_page page s) 1 0) low_is in
+    let h : share page high ≡ share page (high_piece left p) = ap (λ s. cond (has_page page s) 1 0) high_is in
+    omega (arith, l, h, cut_shares page left p some fewer) in
+    let sizes : low.span.pages + high.span.pages ≡ p.span.pages =
+    let l : low.span.pages ≡ left = ap (λ (s : Span). s.pages) low_is in
+    let h : high.span.pages ≡ p.span.pages - left = ap (λ (s : Span). s.pages) high_is in omega arith in (
+      record {
+        placed = All-cons whole low (high ∷ []) low_placed (All-cons whole high [] high_placed (All-nil whole));
+        shares = λ page. omega (arith, shares page, sum_by-cons (share page) low (high ∷ []), sum_by-cons (share page) high []);
+        pages = omega (arith, sizes, sum_by-cons pages low (high ∷ []), sum_by-cons pages high []);
+      },
+      record {
+        placed = All-cons whole high (low ∷ []) high_placed (All-cons whole low [] low_placed (All-nil whole));
+        shares = λ page. omega (arith, shares page, sum_by-cons (share page) high (low ∷ []), sum_by-cons (share page) low []);
+        pages = omega (arith, sizes, sum_by-cons pages high (low ∷ []), sum_by-cons pages low []);
+      },
+    )
+  where
+    cut_shares : (page left : ℕ) (p : Part) → 0 < left → left < p.span.pages → share page (low_piece left p) + share page (high_piece left p) ≡ share page p
+    cut_shares page left p some fewer = grind (arith, nat_tests)
+
+-- ---- the space
+
+-- extents that are apart have no more pages than there are
+pub pages_fit : (parts : List Part) → IsApart parts → all_pages parts ≤ pages_end
+pages_fit parts apart =
+    lengths-le (λ (p : Part). p.span.first) (λ p. p.span.pages) pages_end parts
+    (All-weaker (λ p. IsPlaced p.span) (λ p. p.span.first + p.span.pages ≤ pages_end) (λ p h. h.2) parts apart.placed)
+    apart.owners
+
+-- ---- two extents become one
+
+-- of two extents side by side none begins as both do
+begin_apart : (p q : Part) → p.span.first < q.span.first → (x : Part) → begins_at p.span.first x ≡ true → begins_at q.span.first x ≡ false
+begin_apart p q less x h = grind (arith, nat_tests)
+
+-- a page is in one of the two, or in neither
+joined_share : (page : ℕ) (p q : Part) → end_of p.span ≡ q.span.first → share page (joined p q) ≡ share page p + share page q
+joined_share page p q side = grind (arith, nat_tests)
+
+pub joined_swaps : (parts : List Part) (p q : Part) → IsApart parts → IsThere parts p → IsThere parts q → AreAlike p q →
+    Swapped parts (exchanged (begins_either p q) parts (joined p q ∷ [])) (serving p + serving q) (active_pages (joined p q ∷ []))
+joined_swaps parts p q apart low high alike =
+    let some = some_pages parts apart.placed in
+    let p_placed = there_placed parts p apart low in
+    let q_placed = there_placed parts q apart high in
+    let side = alike.beside in
+    let less : p.span.first < q.span.first = let h = p_placed.0 in omega arith in
+    let one : IsPlaced (joined p q).span = (let h = p_placed.0 in omega arith, p_placed.1, let h = q_placed.2 in omega arith) in
+    let p_alone = λ (f : Part → ℕ). ap (sum_by f) (filter-begins_at (begins_at p.span.first) parts p some (apart.owners p.span.first) low) in
+    let q_alone = λ (f : Part → ℕ). ap (sum_by f) (filter-begins_at (begins_at q.span.first) parts q some (apart.owners q.span.first) high) in
+    let sums : (f : Part → ℕ) → sum_by f (exchanged (begins_either p q) parts (joined p q ∷ [])) + (f p + f q) ≡ sum_by f parts + f (joined p q) = λ f.
+    omega (
+      arith,
+      sum_by-exchanged f (begins_either p q) parts (joined p q ∷ []),
+      sum_by-either f (begins_at p.span.first) (begins_at q.span.first) (begin_apart p q less) parts,
+      p_alone f,
+      q_alone f,
+      sum_by-cons f p [],
+      sum_by-cons f q [],
+      sum_by-cons f (joined p q) [],
+    ) in record {
+      apart = record {
+        placed = All-exchanged (λ x. IsPlaced x.span) (begins_either p q) parts (joined p q ∷ []) apart.placed
+            (All-cons (λ x. IsPlaced x.span) (joined p q) [] one (All-nil (λ x. IsPlaced x.span)));
+        owners = λ page. omega (arith, sums (share page), joined_share page p q side, apart.owners page);
+      };
+      pages = omega (arith, sums pages);
+      active = omega (arith, sums serving, sum_by-cons serving (joined p q) []);
+    }
+
+-- ---- a new extent
+
+-- extents stay apart with a new one
+pub added_apart : (parts : List Part) (p : Part) → IsApart parts → IsPlaced p.span → ((page : ℕ) → holders page (parts ++ p ∷ []) ≤ 1) → IsApart (parts ++ p ∷ [])
+added_apart parts p apart placed owners = record {
+  placed = All-append (λ x. IsPlaced x.span) parts (p ∷ []) apart.placed (All-cons (λ x. IsPlaced x.span) p [] placed (All-nil (λ x. IsPlaced x.span)));
+  owners = owners;
+}
+
+-- two spans that aren't empty and meet have a page in common
+common_page : (s t : Span) → 0 < s.pages → 0 < t.pages → meets s t ≡ true → (page : ℕ) × (has_page page s ≡ true) × (has_page page t ≡ true)
+common_page s t some other h = elim (leb-total s.first t.first) [
+  | inl le ↦ (t.first, grind (arith, nat_tests), grind (arith, nat_tests))
+  | inr ge ↦ (s.first, grind (arith, nat_tests), grind (arith, nat_tests))
+]
+  where
+    leb-total : (m n : ℕ) → (m ≤ n) ⊎ (n ≤ m)
+    leb-total m n = elim (cases_order m n) [ inl e ↦ inl (omega arith) | inr o ↦ elim o [ inl l ↦ inl (omega arith) | inr g ↦ inr (omega arith) ] ]
+
+-- where no page would be in two, none of the extents meets the new one
+pub none_meets : (parts : List Part) (p : Part) → All (λ q. IsPlaced q.span) parts → 0 < p.span.pages → ((page : ℕ) → holders page parts + share page p ≤ 1) →
+    list_any (λ q. meets q.span p.span) parts ≡ false
+none_meets [] p placed some owners = refl
+none_meets (q ∷ qs) p placed some owners =
+    let sums = λ (page : ℕ). sum_by-cons (share page) q qs in
+    let rest = none_meets qs p (All-tail (λ x. IsPlaced x.span) q qs placed) some (λ page. omega (arith, sums page, owners page)) in
+    let ones : Bool → ℕ = λ b. cond b 1 0 in
+    elim (cases_Bool (meets q.span p.span)) [
+      | inr f ↦ rw f rest
+      | inl t ↦
+          let both = common_page q.span p.span (All-head (λ x. IsPlaced x.span) q qs placed).0 some t in
+          let mine : ones (has_page both.0 q.span) ≡ 1 = ap ones both.1 in
+          let other : ones (has_page both.0 p.span) ≡ 1 = ap ones both.2 in
+          absurd (omega (arith, sums both.0, owners both.0, mine, other))
+    ]
+
+-- ---- a cut in three calls
+
+-- what a list has where a part of it has none that pass
+find_behind : (t : Part → Bool) (others tail : List Part) → filter t others ≡ [] → find t (others ++ tail) ≡ find t tail
+find_behind t [] tail none = refl
+find_behind t (x ∷ xs) tail none =
+    elim (t x) as (λ b. cond b (x ∷ filter t xs) (filter t xs) ≡ [] → cond b (Some x) (find t (xs ++ tail)) ≡ find t tail)
+    [ true ↦ λ h. absurd (cc) | false ↦ λ h. find_behind t xs tail h ] none
+
+pub keeps_all : (t : Part → Bool) (xs : List Part) → filter t xs ≡ [] → filter (λ x. not (t x)) xs ≡ xs
+keeps_all t [] none = refl
+keeps_all t (x ∷ xs) none =
+    elim (t x) as (λ b. cond b (x ∷ filter t xs) (filter t xs) ≡ [] → cond (not b) (x ∷ filter (λ y. not (t y)) xs) (filter (λ y. not (t y)) xs) ≡ x ∷ xs)
+    [ true ↦ λ h. absurd (cc) | false ↦ λ h. ap (λ ys. x ∷ ys) (keeps_all t xs h) ] none
+
+exchanged_behind : (t : Part → Bool) (others tail pieces : List Part) → filter t others ≡ [] →
+    exchanged t (others ++ tail) pieces ≡ others ++ exchanged t tail pieces
+exchanged_behind t others tail pieces none =
+    ap (λ xs. xs ++ pieces) (filter-append (λ x. not (t x)) others tail ∙ ap (λ xs. xs ++ filter (λ x. not (t x)) tail) (keeps_all t others none))
+    ∙ append_assoc others (filter (λ x. not (t x)) tail) pieces
+
+-- where the last two extents begin at different pages, none of the others begins as one of them
+cleared : (page : ℕ) (others tail : List Part) → IsApart (others ++ tail) → count_by (begins_at page) tail ≡ 1 → filter (begins_at page) others ≡ []
+cleared page others tail apart one =
+    filter_nothing (begins_at page) others
+    (omega (arith, begins_once page (others ++ tail) apart, one, sum_by-append (λ p. cond (begins_at page p) 1 0) others tail))
+
+-- What the first or the second of the last two extents is exchanged for comes last.
+pub record Behind (others : List Part) (a b x : Part) : Type 0 where
+  pub first_there : find (begins_at a.span.first) (others ++ a ∷ b ∷ []) ≡ Some a
+  pub first : exchanged (begins_at a.span.first) (others ++ a ∷ b ∷ []) (x ∷ []) ≡ others ++ b ∷ x ∷ []
+  pub second_there : find (begins_at b.span.first) (others ++ a ∷ b ∷ []) ≡ Some b
+  pub second : exchanged (begins_at b.span.first) (others ++ a ∷ b ∷ []) (x ∷ []) ≡ others ++ a ∷ x ∷ []
+
+pub behind : (others : List Part) (a b x : Part) → IsApart (others ++ a ∷ b ∷ []) → a.span.first ≢ b.span.first → Behind others a b x
+behind others a b x apart differ =
+    let aa : begins_at a.span.first a ≡ true = grind (arith, nat_tests) in
+    let ab : begins_at a.span.first b ≡ false = grind (arith, nat_tests) in
+    let ba : begins_at b.span.first a ≡ false = grind (arith, nat_tests) in
+    let bb : begins_at b.span.first b ≡ true = grind (arith, nat_tests) in
+    let a_none = cleared a.span.first others (a ∷ b ∷ []) apart (rw (aa, ab) refl) in
+    let b_none = cleared b.span.first others (a ∷ b ∷ []) apart (rw (ba, bb) refl) in record {
+      first_there = find_behind (begins_at a.span.first) others (a ∷ b ∷ []) a_none ∙ rw aa refl;
+      first = exchanged_behind (begins_at a.span.first) others (a ∷ b ∷ []) (x ∷ []) a_none ∙ ap (λ xs. others ++ xs) (rw (aa, ab) refl);
+      second_there = find_behind (begins_at b.span.first) others (a ∷ b ∷ []) b_none ∙ rw (ba, bb) refl;
+      second = exchanged_behind (begins_at b.span.first) others (a ∷ b ∷ []) (x ∷ []) b_none ∙ ap (λ xs. others ++ xs) (rw (ba, bb) refl);
+    }
+
+-- ---- as functions cite them
+
+-- what is said of a value that was found
+pub at_some : {X : Type 0} (P : X → Type 0) (o : Option X) (x : X) → o ≡ Some x → IfSome o P → P x
+at_some P o x e h = subst (λ o. IfSome o P) e h
+
+-- an extent is changed
+pub changed : (parts : List Part) (p q : Part) → IsApart parts → IsThere parts p → q.span ≡ p.span →
+    Swapped parts (exchanged (begins_at p.span.first) parts (q ∷ [])) (serving p) (active_pages (q ∷ []))
+changed parts p q apart there same = swapped parts (q ∷ []) p apart there (one_fills p q (there_placed parts p apart there) same)
+
+-- an extent that is there is within the sums
+pub there_within : (parts : List Part) (p : Part) → IsApart parts → IsThere parts p → (active_pages (p ∷ []) ≤ active_pages parts) × (active_pages parts ≤ all_pages parts) × (all_pages parts ≤ pages_end) × (p.span.pages ≤ pages_end)
+there_within parts p apart there = (
+  omega (arith, sum_by-cons serving p [], within_sum serving parts p there),
+  sum_by-le-sum_by serving pages parts (λ q. if_le (is_active q.state) q.span.pages),
+  pages_fit parts apart,
+  omega (arith, within_sum pages parts p there, pages_fit parts apart),
+)
+  where
+    if_le : (b : Bool) (n : ℕ) → cond b n 0 ≤ n
+    if_le true n = omega arith
+    if_le false n = omega arith
+
+-- two extents of one use, as one, serve as many pages
+pub joined_active : (p q : Part) → AreAlike p q → active_pages (joined p q ∷ []) ≡ serving p + serving q
+joined_active p q alike =
+    let same : is_active q.state ≡ is_active p.state = ap is_active (sym alike.state) in
+    let q_serves : serving q ≡ cond (is_active p.state) q.span.pages 0 = ap (λ b. cond b q.span.pages 0) same in
+    let both : cond (is_active p.state) (p.span.pages + q.span.pages) 0 ≡ serving p + cond (is_active p.state) q.span.pages 0 =
+    elim (is_active p.state) as (λ b. cond b (p.span.pages + q.span.pages) 0 ≡ cond b p.span.pages 0 + cond b q.span.pages 0) [ true ↦ refl | false ↦ refl ] in
+    omega (arith, sum_by-cons serving (joined p q) [], q_serves, both)
+
+-- the pieces of a cut, of which the one that keeps the state comes last
+abbrev pub pieces_of : Bool → ℕ → Part → List Part
+pieces_of keep_low left p = cond keep_low (put_down (high_piece left p) ∷ low_piece left p ∷ []) (put_down (low_piece left p) ∷ high_piece left p ∷ [])
+
+-- they have just its pages, and none of them serves regions where it doesn't
+pub pieces_fill : (p : Part) (left : ℕ) (keep_low : Bool) → IsPlaced p.span → 0 < left → left < p.span.pages → Fill p (pieces_of keep_low left p)
+pieces_fill p left true placed some fewer = (two_fill p (low_piece left p) (put_down (high_piece left p)) left placed some fewer refl refl).1
+pieces_fill p left false placed some fewer = (two_fill p (put_down (low_piece left p)) (high_piece left p) left placed some fewer refl refl).0
+
+pub pieces_idle : (p : Part) (left : ℕ) (keep_low : Bool) → is_active p.state ≡ false → active_pages (pieces_of keep_low left p) ≡ 0
+pieces_idle p left keep_low idle =
+    let down = put_down-idle (rest_of p.state) in
+    elim keep_low as (λ b. active_pages (pieces_of b left p) ≡ 0) [ true ↦ rw (down, idle) refl | false ↦ rw (down, idle) refl ]
+
+pub split_swaps : (parts : List Part) (p : Part) (left : ℕ) (keep_low : Bool) → IsApart parts → IsThere parts p → is_active p.state ≡ false → 0 < left → left < p.span.pages →
+    Swapped parts (exchanged (begins_at p.span.first) parts (pieces_of keep_low left p)) 0 0
+split_swaps parts p left keep_low apart there idle some fewer =
+    let swap = swapped parts (pieces_of keep_low left p) p apart there (pieces_fill p left keep_low (there_placed parts p apart there) some fewer) in
+    let served : serving p ≡ 0 = ap (λ b. cond b p.span.pages 0) idle in record {
+      apart = swap.apart;
+      pages = swap.pages;
+      active = omega (arith, swap.active, served, pieces_idle p left keep_low idle);
+    }
+
+-- the two pieces in order of address, once an extent is cut
+abbrev pub halves : List Part → Part → ℕ → List Part
+halves parts p left = exchanged (begins_at p.span.first) parts (low_piece left p ∷ high_piece left p ∷ [])
+
+-- What the calls that put one piece down and the other one behind it find and leave.
+pub record Settles (parts one final : List Part) (a b : Part) : Type 0 where
+  pub first_there : find (begins_at a.span.first) one ≡ Some a
+  pub second_there : find (begins_at b.span.first) (exchanged (begins_at a.span.first) one (put_down a ∷ [])) ≡ Some b
+  pub left : exchanged (begins_at b.span.first) (exchanged (begins_at a.span.first) one (put_down a ∷ [])) (b ∷ []) ≡ final
+
+-- the high piece is put down, and then the low one
+pub low_settles : (parts : List Part) (p : Part) (left : ℕ) → IsApart parts → IsThere parts p → 0 < left → left < p.span.pages →
+    Settles parts (halves parts p left) (exchanged (begins_at p.span.first) parts (pieces_of true left p)) (high_piece left p) (low_piece left p)
+low_settles parts p left apart there some fewer =
+    let low : Part = low_piece left p in
+    let high : Part = high_piece left p in
+    let placed = there_placed parts p apart there in
+    let others : List Part = filter (λ q. not (begins_at p.span.first q)) parts in
+    let cut = (swapped parts (low ∷ high ∷ []) p apart there (two_fill p low high left placed some fewer refl refl).0).apart in
+    let down = (swapped parts (low ∷ put_down high ∷ []) p apart there (two_fill p low (put_down high) left placed some fewer refl refl).0).apart in
+    let one = behind others low high (put_down high) cut (omega arith) in
+    let two = behind others low (put_down high) low down (omega arith) in record {
+      first_there = one.second_there;
+      second_there = ap (find (begins_at low.span.first)) one.second ∙ two.first_there;
+      left = ap (λ xs. exchanged (begins_at low.span.first) xs (low ∷ [])) one.second ∙ two.first;
+    }
+
+-- the low piece is put down, and then the high one
+pub high_settles : (parts : List Part) (p : Part) (left : ℕ) → IsApart parts → IsThere parts p → 0 < left → left < p.span.pages →
+    Settles parts (halves parts p left) (exchanged (begins_at p.span.first) parts (pieces_of false left p)) (low_piece left p) (high_piece left p)
+high_settles parts p left apart there some fewer =
+    let low : Part = low_piece left p in
+    let high : Part = high_piece left p in
+    let placed = there_placed parts p apart there in
+    let others : List Part = filter (λ q. not (begins_at p.span.first q)) parts in
+    let cut = (swapped parts (low ∷ high ∷ []) p apart there (two_fill p low high left placed some fewer refl refl).0).apart in
+    let down = (swapped parts (high ∷ put_down low ∷ []) p apart there (two_fill p (put_down low) high left placed some fewer refl refl).1).apart in
+    let one = behind others low high (put_down low) cut (omega arith) in
+    let two = behind others high (put_down low) high down (omega arith) in record {
+      first_there = one.first_there;
+      second_there = ap (find (begins_at high.span.first)) one.first ∙ two.first_there;
+      left = ap (λ xs. exchanged (begins_at high.span.first) xs (high ∷ [])) one.first ∙ two.first;
+    }
+
+-- The two calls, by what each says of the extent that it found.
+pub settled : (parts one two three final : List Part) (a b : Part) (down : State) → Settles parts one final a b → down ≡ listed (rest_of a.state) →
+    IfSome (find (begins_at a.span.first) one) (λ q. two ≡ exchanged (begins_at a.span.first) one (record q { state = down; committed = a.committed } ∷ [])) →
+    (find (begins_at b.span.first) two ≡ Some b) × (IfSome (find (begins_at b.span.first) two) (λ q. three ≡ exchanged (begins_at b.span.first) two (record q { state = b.state; committed = b.committed } ∷ [])) → three ≡ final)
+settled parts one two three final a b down s is first =
+    let put : Part = put_down a in
+    let two_is : two ≡ exchanged (begins_at a.span.first) one (put ∷ []) =
+    at_some (λ q. two ≡ exchanged (begins_at a.span.first) one (record q { state = down; committed = a.committed } ∷ [])) _ a s.first_there first
+    ∙ ap (λ st. exchanged (begins_at a.span.first) one (record a { state = st } ∷ [])) is in
+    let there : find (begins_at b.span.first) two ≡ Some b = ap (find (begins_at b.span.first)) two_is ∙ s.second_there in (
+      there,
+      λ second. at_some (λ q. three ≡ exchanged (begins_at b.span.first) two (record q { state = b.state; committed = b.committed } ∷ [])) _ b there second
+          ∙ ap (λ xs. exchanged (begins_at b.span.first) xs (b ∷ [])) two_is ∙ s.left,
+    )

@@ -1,0 +1,86 @@
+-- The counts of bytes are those of pages, and what is read of all extents.
+use Rattle.std.proofs.Common.{◌≡◌, ℕ, ◌+◌, ◌*◌, ◌^◌, ◌<◌, ◌≤◌, Bool, true, false, cond, List, [], ◌∷◌, get_or, find, filter, Option, None, Some, refl, sym, ◌∙◌, ap, arith, inl, inr}
+use Rattle.std.specs.List.{list_any, sum_by}
+use Rattle.std.specs.Option.{is_some}
+use Rattle.std.proofs.lemmas.Bool.{cases_Bool}
+use Rattle.std.proofs.lemmas.Bool.Decides.{nat_tests}
+use Rattle.std.proofs.lemmas.List.Folds.{list_any_none}
+use Rattle.std.proofs.lemmas.List.Sums.{sum_by-cons}
+use Rattle.space_model.specs.declared.parts.Part.{Part}
+use Rattle.space_model.specs.declared.parts.Rest.{Rest}
+use Rattle.space_model.specs.declared.parts.Rest.TheVariants.{Dirty as ToDirty, Muzzy as ToMuzzy, Retained as ToRetained}
+use Rattle.space_model.specs.declared.parts.State.{State}
+use Rattle.space_model.specs.declared.spaces.Space.{Space}
+use Rattle.space_model.specs.Span.{IsPlaced, chunk_span, meets, pages_end}
+use Rattle.space_model.specs.Part.{is_active, is_listed}
+use Rattle.space_model.specs.Counts.{bytes_of, bytes_where, is_mapped}
+use Rattle.space_model.specs.Sound.{Sound, is_in_flight}
+use Rattle.space_model.proofs.Sums.{bytes_le, bytes_pages, mapped_sum, whole_sum}
+use Rattle.part_book.specs.Books.{pages_of}
+use Rattle.arena_core.specs.Extents.{active_pages, all_pages}
+
+-- the pages of an extent whose state passes, or none
+abbrev pages_if : (State → Bool) → Part → ℕ
+pages_if test p = cond (test p.state) p.span.pages 0
+
+-- bytes are 4096 times pages
+bytes_if : (b : Bool) (n : ℕ) → cond b (4096 * n) 0 ≡ 4096 * cond b n 0
+bytes_if true n = refl
+bytes_if false n = refl
+
+where_pages : (test : State → Bool) (parts : List Part) → bytes_where test parts ≡ 4096 * sum_by (pages_if test) parts
+where_pages test [] = refl
+where_pages test (p ∷ ps) =
+    omega (
+      arith,
+      sum_by-cons (λ q. cond (test q.state) (bytes_of q) 0) p ps,
+      sum_by-cons (pages_if test) p ps,
+      bytes_if (test p.state) p.span.pages,
+      where_pages test ps,
+    )
+
+-- the pages of the listed extents, as a sum over all
+listed_pages : (rest : Rest) (parts : List Part) → pages_of rest parts ≡ sum_by (pages_if (is_listed rest)) parts
+listed_pages rest [] = refl
+listed_pages rest (p ∷ ps) =
+    let later = listed_pages rest ps in
+    let kept : List Part = filter (λ q. is_listed rest q.state) ps in
+    elim (is_listed rest p.state) as (λ b. pages_if (is_listed rest) p ≡ cond b p.span.pages 0 → sum_by (λ q. q.span.pages) (cond b (p ∷ kept) kept) ≡ sum_by (pages_if (is_listed rest)) (p ∷ ps)) [
+      | true ↦ λ e. omega (arith, e, sum_by-cons (λ q. q.span.pages) p kept, sum_by-cons (pages_if (is_listed rest)) p ps, later)
+      | false ↦ λ e. omega (arith, e, sum_by-cons (pages_if (is_listed rest)) p ps, later)
+    ] refl
+
+-- How the counts of a space come of the sums of pages.
+pub record Summed (parts : List Part) : Type 0 where
+  pub active : 4096 * active_pages parts ≡ bytes_where is_active parts
+  pub dirty : 4096 * pages_of ToDirty parts ≡ bytes_where (is_listed ToDirty) parts
+  pub muzzy : 4096 * pages_of ToMuzzy parts ≡ bytes_where (is_listed ToMuzzy) parts
+  pub retained : 4096 * pages_of ToRetained parts ≡ bytes_where (is_listed ToRetained) parts
+  pub whole : 4096 * all_pages parts ≡ bytes_where is_mapped parts + bytes_where (is_listed ToRetained) parts
+  pub mapped : bytes_where is_mapped parts
+      ≡ bytes_where is_active parts + bytes_where (is_listed ToDirty) parts + bytes_where (is_listed ToMuzzy) parts + bytes_where is_in_flight parts
+  pub fits : 4096 * all_pages parts ≤ 2 ^ 37
+
+pub summed : (s : Space) → Sound s → Summed s.parts
+summed s sound = record {
+  active = sym (where_pages is_active s.parts);
+  dirty = omega (arith, where_pages (is_listed ToDirty) s.parts, listed_pages ToDirty s.parts);
+  muzzy = omega (arith, where_pages (is_listed ToMuzzy) s.parts, listed_pages ToMuzzy s.parts);
+  retained = omega (arith, where_pages (is_listed ToRetained) s.parts, listed_pages ToRetained s.parts);
+  whole = omega (arith, whole_sum s.parts, bytes_pages s.parts);
+  mapped = mapped_sum s.parts;
+  fits = omega (arith, bytes_le s sound, bytes_pages s.parts);
+}
+
+-- no extent meets what lies past all chunks
+pub none_past : (s : Space) (chunk : ℕ) → Sound s → 65535 < chunk → list_any (λ p. meets p.span (chunk_span chunk)) s.parts ≡ false
+none_past s chunk sound past =
+    list_any_none (λ p. meets p.span (chunk_span chunk)) s.parts (λ k d h.
+    let p : Part = get_or s.parts k d in
+    let placed : IsPlaced p.span = sound.placed k d h in
+    let last = placed.2 in grind (arith, nat_tests))
+
+-- something is found just where something passes
+pub found_any : (t : Part → Bool) (xs : List Part) → is_some (find t xs) ≡ list_any t xs
+found_any t [] = refl
+found_any t (x ∷ xs) = elim (cases_Bool (t x)) [ inl h ↦ rw h refl | inr h ↦ rw h (found_any t xs) ]

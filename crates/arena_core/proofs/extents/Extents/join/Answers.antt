@@ -1,0 +1,24 @@
+use Rattle.std.proofs.Common.{◌≡◌, [], ◌∷◌, ◌||◌, ◌+◌, ◌<◌, ◌^◌, arith, refl, ap, subst, sym, find}
+use Rattle.std.specs.Option.{IfSome}
+use Rattle.std.proofs.lemmas.List.Sums.{sum_by-cons}
+use Rattle.space_model.specs.Part.{begins_at, exchanged}
+use Rattle.part_book.specs.Books.{Book, joined}
+use Rattle.arena_core.specs.Extents.{IsApart, IsThere, active_pages, all_pages}
+use Rattle.arena_core.proofs.Swaps.{at_some, joined_active, joined_swaps}
+use Rattle.arena_core.proofs.extents.Extents.join.Goals as goal
+
+pub invariant_of-self : goal.invariant_of-self
+invariant_of-self c =
+    let low = subst (λ (b : Book). IsThere b.parts c.args.low.now) (sym c.self.view_is) c.requires.low in
+    let high = subst (λ (b : Book). IsThere b.parts c.args.high.now) (sym c.self.view_is) c.requires.high in
+    let swap = joined_swaps c.self.inside.book.parts c.args.low.now c.args.high.now c.self.invariant.apart low high c.requires.alike in
+    let either = at_some (λ p. IfSome (find (begins_at c.args.high.now.span.first) c.self.inside.book.parts) (λ q. c.join.new.self.parts
+    ≡ exchanged (λ r. begins_at c.args.low.now.span.first r || begins_at c.args.high.now.span.first r) c.self.inside.book.parts (joined p q ∷ []))) _ c.args.low.now low c.join.ensures.parts in
+    let parts = at_some (λ q. c.join.new.self.parts
+    ≡ exchanged (λ r. begins_at c.args.low.now.span.first r || begins_at c.args.high.now.span.first r) c.self.inside.book.parts (joined c.args.low.now q ∷ [])) _ c.args.high.now high either in
+    let active = ap active_pages parts in
+    let total = ap all_pages parts in record {
+      apart = subst IsApart (sym parts) swap.apart;
+      active = omega (arith, active, swap.active, c.self.invariant.active, joined_active c.args.low.now c.args.high.now c.requires.alike);
+      total = omega (arith, total, swap.pages, c.self.invariant.total);
+    }

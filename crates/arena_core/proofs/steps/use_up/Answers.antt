@@ -1,0 +1,16 @@
+use Rattle.std.proofs.Common.{◌≡◌, ◌∙◌, ◌+◌, ◌-◌, arith, ap, subst, sym}
+use Rattle.arena_core.specs.Arenas.{all_rooms}
+use Rattle.arena_core.specs.Indexes.{HasPlaces}
+use Rattle.arena_core.proofs.RoomSums.{rooms_with}
+use Rattle.arena_core.proofs.steps.use_up.Goals as goal
+
+pub set-requires-clause-fits : goal.set-requires-clause-fits
+set-requires-clause-fits c =
+    omega (arith, rooms_with c.args.body.now.rooms c.args.client (c.of-room.result - 1) (omega (arith, c.requires.client, c.requires.body.clients)), c.of-room.ensures.room, c.of-room.ensures.total)
+
+pub returns-clause-places : goal.returns-clause-places
+returns-clause-places c =
+    let sums = rooms_with c.args.body.now.rooms c.args.client (c.of-room.result - 1) (omega (arith, c.requires.client, c.requires.body.clients)) in
+    let new = ap all_rooms c.set.ensures in
+    let one : all_rooms c.args.body.now.rooms ≡ all_rooms c.set.new.self + 1 = omega (arith, sums, new, c.of-room.ensures.room, c.requires.room) in
+    c.follow-reply.ensures.places (all_rooms c.set.new.self) (subst (HasPlaces c.args.body.now.indexes) one c.requires.body.places)

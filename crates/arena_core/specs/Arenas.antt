@@ -1,0 +1,64 @@
+-- What callers see of an arena, and the room that its clients have.
+use Rattle.std.specs.Prelude.{◌≡◌, ℕ, ◌-◌, ◌*◌, Bool, true, false, List, filter, length, max, slice_index_or, slice_set}
+use Rattle.std.specs.List.{sum_by}
+use Rattle.space_model.specs.declared.entries.Entry.{Entry}
+use Rattle.space_model.specs.declared.entries.Op.{Op}
+use Rattle.space_model.specs.declared.entries.Op.TheVariants.{Look, CutDone, GrowDone, CommitDone, Land, Back, PutLook, MergeDone}
+use Rattle.space_model.specs.declared.spaces.Space.{Space}
+use Rattle.space_model.specs.Step.{is_emptied, staying}
+use Rattle.space_model.specs.Sound.{Sound}
+use Rattle.arena_core.specs.declared.steps.Body.{Body}
+use Rattle.arena_core.specs.Indexes.{HasPlaces, space_of}
+
+-- an arena's space, and the room of each client: how many more operations it may make that take no memory
+pub record Standing : Type 0 where
+  pub space : Space
+  pub rooms : List ℕ
+
+-- the room of a client
+abbrev pub room_of : ℕ → List ℕ → ℕ
+room_of client rooms = slice_index_or rooms client 0
+
+-- the rooms of all clients together
+abbrev pub all_rooms : List ℕ → ℕ
+all_rooms rooms = sum_by (λ room. room) rooms
+
+-- whether an operation is the first one of a unit, for which memory is taken
+abbrev pub opens : Op → Bool
+opens (Look pages align) = true
+opens (Back addrs) = true
+opens (CutDone heard keep_low) = false
+opens (GrowDone heard found) = false
+opens (CommitDone heard) = false
+opens (Land span class count) = false
+opens (PutLook span tries) = false
+opens (MergeDone heard own_low) = false
+
+-- how many extents are emptied when the client gives regions back
+abbrev pub emptied : ℕ → List ℕ → Space → ℕ
+emptied client addrs s = length (filter (is_emptied (staying client addrs s.regions)) s.parts)
+
+-- a client's room after an operation: a look makes room for 16 more, a return for 16 by each extent that it empties, and
+-- any other operation uses one up
+abbrev pub room_after : Space → ℕ → ℕ → Op → ℕ
+room_after s room client (Look pages align) = max room 16
+room_after s room client (Back addrs) = max (max room 16) (16 * emptied client addrs s)
+room_after s room client op = room - 1
+
+-- the rooms after an operation: that of the client alone changes
+abbrev pub rooms_after : Standing → ℕ → Op → List ℕ
+rooms_after a client op = slice_set a.rooms client (room_after a.space (room_of client a.rooms) client op)
+
+-- an operation of a client as an entry
+abbrev pub entry_of : ℕ → Op → Entry
+entry_of client op = record { client = client; op = op }
+
+-- what callers see of the body
+abbrev pub standing_of : Body → Standing
+standing_of body = record { space = space_of body.indexes; rooms = body.rooms }
+
+-- the space is sound, there are 32 rooms, and each index has places for all of them
+pub record IsBody (body : Body) : Type 0 where
+  pub sound : Sound (space_of body.indexes)
+  pub clients : length body.rooms ≡ 32
+  pub places : HasPlaces body.indexes (all_rooms body.rooms)

@@ -1,0 +1,5 @@
+pub mod Arenas
+pub mod Extents
+pub mod Indexes
+pub mod RegionLists
+pub mod Rooms

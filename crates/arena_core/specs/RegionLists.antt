@@ -1,0 +1,42 @@
+-- Regions as keys of an ordered set: the address first, the class and the holder in one number.
+use Rattle.std.specs.Prelude.{◌≡◌, Bool, ℕ, ◌+◌, ◌-◌, ◌*◌, ◌/◌, ◌%◌, ◌==◌, ◌&&◌, List, map, nat_le, nat_lt, Option, None, Some, if◌then◌else◌}
+use Rattle.ordered_set.specs.declared.key.Key.{Key}
+use Rattle.ordered_set.specs.Keys.{IsAscending}
+use Rattle.space_model.specs.declared.parts.Region.{Region}
+use Rattle.space_model.specs.Counts.{region_bytes}
+use Rattle.arena_core.specs.declared.regions.RegionSet.TheInside.{Inside}
+
+-- what callers see of a set of regions: the regions by address, and how many more it has memory for
+pub record RegionList : Type 0 where
+  pub regions : List Region
+  pub spare : ℕ
+
+-- a holder as a number: 0 for none, and else one more than the client's
+abbrev pub code_of : Option ℕ → ℕ
+code_of None = 0
+code_of (Some client) = client + 1
+
+-- the holder of such a number
+abbrev pub holder_of : ℕ → Option ℕ
+holder_of code = if code == 0 then None else Some (code - 1)
+
+-- the key of a region
+abbrev pub key_of : Region → Key
+key_of r = record { major = r.addr; minor = r.class + 256 * code_of r.holder }
+
+-- the region of a key
+abbrev pub region_of : Key → Region
+region_of key = record { addr = key.major; class = key.minor % 256; holder = holder_of (key.minor / 256) }
+
+-- whether a region begins in the range of addresses
+abbrev pub begins_within : ℕ → ℕ → Region → Bool
+begins_within low high r = nat_le low r.addr && nat_lt r.addr high
+
+-- the regions of the keys in order, and the places that are left
+abbrev pub shown : Inside → RegionList
+shown set = record { regions = map region_of set.keys.keys; spare = set.keys.spare }
+
+-- the keys ascend, and the number of bytes is that of the regions
+pub record IsRegions (set : Inside) : Type 0 where
+  pub ascending : IsAscending set.keys.keys
+  pub bytes : set.bytes ≡ region_bytes (map region_of set.keys.keys)

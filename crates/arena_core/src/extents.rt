@@ -1,0 +1,268 @@
+//! The extents of an arena, with running sums of their pages.
+
+ghost use Rattle.std.specs.Prelude.{◌≡◌, ◌==◌, ◌&&◌, ◌+◌, ◌^◌, ◌<◌, ◌≤◌, ℕ, [], ◌∷◌, ◌++◌, max, find, option_map, IfOk, IfSome, OnOk, OnErr, cond, Bool, true, false};
+ghost use Rattle.std.specs.List.{list_any};
+ghost use Rattle.space_model.specs.Span.{IsPlaced, end_of, has_page, meets};
+ghost use Rattle.space_model.specs.Part.{begins_at, exchanged, holders, is_active, is_flight, is_flight_at, is_listed, listed, put_down, rest_of};
+ghost use Rattle.space_model.specs.Fit.{fit};
+ghost use Rattle.space_model.specs.Step.{begins_either, high_piece, is_left_of, is_like, is_right_of, joined, low_piece, neighbour, next_flight};
+ghost use Rattle.part_book.specs.Books.{AreAlike, pages_of};
+ghost use Rattle.arena_core.specs.Extents.{IsApart, IsThere, active_pages, all_pages, kept};
+
+use crate::states::{is_active, is_flight, is_like, listed, rest_of};
+use part_book::PartBook;
+use space_model::{Part, Rest, Span, State};
+use std::alloc::{AllocError as NoMemory, Global};
+use std::marker::Model;
+
+/// The extents of an arena, the pages of those that serve regions, and the pages of all.
+///
+/// An extent that a call is given must be there: the one that begins where it does.
+#[derive(Drop)]
+pub struct Extents {
+    book: PartBook,
+    active: u64,
+    total: u64,
+}
+
+impl Model for Extents {
+    ghost use Rattle.part_book.specs.Books.{Book};
+
+    ghost Value = { Book };
+
+    ghost use Rattle.arena_core.specs.Extents.{shown, IsExtents};
+
+    ghost view = { shown };
+
+    ghost invariant = { IsExtents };
+}
+
+impl Extents {
+    /// No extent, and no place for one.
+    pub fn new(alloc: Global) -> Result<Extents, NoMemory>
+        ensures { IfOk result (λ extents. extents ≡ record { parts = []; spare = 0 }) }
+    {
+        Ok(Extents {
+            book: PartBook::new(alloc)?,
+            active: 0,
+            total: 0,
+        })
+    }
+
+    /// Makes places for at least `more` further extents. A refusal changes nothing.
+    pub fn reserve(&mut self, more: u64) -> Result<(), NoMemory>
+        ensures parts { self.new.parts ≡ self.old.parts }
+        ensures ok { OnOk result (self.new.spare ≡ max self.old.spare more) }
+        ensures err { OnErr result (self.new ≡ self.old) }
+    {
+        self.book.reserve(more)
+    }
+
+    /// The pages of the extents that serve regions.
+    pub fn active_pages(&self) -> u64
+        ensures { result ≡ active_pages self.now.parts }
+    {
+        self.active
+    }
+
+    /// The pages of all extents.
+    pub fn all_pages(&self) -> u64
+        ensures { result ≡ all_pages self.now.parts }
+    {
+        self.total
+    }
+
+    /// The pages of the extents that are listed for a rest.
+    pub fn listed_pages(&self, rest: Rest) -> u64
+        ensures { result ≡ pages_of rest self.now.parts }
+    {
+        self.book.pages(rest)
+    }
+
+    /// The unused extent that serves a request.
+    pub fn fit(&self, pages: u64, align: u64) -> Option<Part>
+        requires some { 0 < pages }
+        requires aligned { 0 < align }
+        ensures fit { result ≡ fit pages align self.now.parts }
+        ensures there { IfSome result (IsThere self.now.parts) }
+    {
+        self.book.fit(pages, align)
+    }
+
+    /// The extent that has a page.
+    pub fn holding(&self, page: u64) -> Option<Part>
+        ensures holds { result ≡ find (λ p. has_page page p.span) self.now.parts }
+        ensures there { IfSome result (IsThere self.now.parts) }
+    {
+        self.book.holding(page)
+    }
+
+    /// Whether some extent shares a page with a span.
+    pub fn meets(&self, span: Span) -> bool
+        ensures { result ≡ list_any (λ p. meets p.span span) self.now.parts }
+    {
+        self.book.meets(span)
+    }
+
+    /// The span of the first extent that the client has in flight.
+    pub fn next_flight(&self, client: u32) -> Option<Span>
+        ensures { result ≡ next_flight client self.now.parts }
+    {
+        self.book.next_flight(client)
+    }
+
+    /// The client's extent in flight with just this span.
+    pub fn flight(&self, client: u32, span: Span) -> Option<Part>
+        ensures flight { result ≡ find (is_flight_at client span) self.now.parts }
+        ensures there { IfSome result (IsThere self.now.parts) }
+    {
+        flight_of(client, span.pages, self.book.look(span.first))
+    }
+
+    /// The right neighbour that a merge may join to an extent.
+    fn right_of(&self, part: &Part) -> Option<Part>
+        ensures right { result ≡ find (is_right_of part.now) self.now.parts }
+        ensures there { IfSome result (IsThere self.now.parts) }
+    {
+        like(part, self.book.neighbour(part.span, true))
+    }
+
+    /// The left neighbour that a merge may join to an extent.
+    fn left_of(&self, part: &Part) -> Option<Part>
+        ensures left { result ≡ find (is_left_of part.now) self.now.parts }
+        ensures there { IfSome result (IsThere self.now.parts) }
+    {
+        like(part, self.book.neighbour(part.span, false))
+    }
+
+    /// The neighbour that a merge may join to an extent: the right one at the first try, and the
+    /// left one at the first two.
+    #[tactic(auto, using(crate::proofs::Finds::either_there))]
+    pub fn neighbour(&self, tries: u8, part: &Part) -> Option<Part>
+        ensures neighbour { result ≡ neighbour tries part.now self.now.parts }
+        ensures there { IfSome result (IsThere self.now.parts) }
+    {
+        let right = if tries == 0 {
+            self.right_of(part)
+        } else {
+            None
+        };
+        let left = if tries < 2 { self.left_of(part) } else { None };
+        right.or(left)
+    }
+
+    /// Gives an extent a state and a commit state. It comes last.
+    pub fn change(&mut self, part: &Part, state: State, committed: bool)
+        requires { IsThere self.old.parts part.now }
+        ensures parts { self.new.parts ≡ exchanged (begins_at part.now.span.first) self.old.parts
+            (record part.now { state = state; committed = committed } ∷ []) }
+        ensures spare { self.new.spare ≡ self.old.spare }
+    {
+        self.active = active_after(self.active, part, state);
+        self.book.set_state(part.span.first, state, committed);
+    }
+
+    /// Makes two of an extent that serves no region. The piece that keeps its state comes last,
+    /// behind the other one, which is put down. It takes a place.
+    pub fn split(&mut self, part: &Part, left: u64, keep_low: bool)
+        requires there { IsThere self.old.parts part.now }
+        requires room { 0 < self.old.spare }
+        requires idle { is_active part.now.state ≡ false }
+        requires some { 0 < left }
+        requires fewer { left < part.now.span.pages }
+        ensures parts { self.new.parts ≡ exchanged (begins_at part.now.span.first) self.old.parts
+            (cond keep_low (put_down (high_piece left part.now) ∷ low_piece left part.now ∷ [])
+            (put_down (low_piece left part.now) ∷ high_piece left part.now ∷ [])) }
+        ensures spare { self.new.spare + 1 ≡ self.old.spare }
+    {
+        split_in(&mut self.book, part, left, keep_low);
+    }
+
+    /// Makes one of two extents side by side. It comes last.
+    pub fn join(&mut self, low: &Part, high: &Part)
+        requires low { IsThere self.old.parts low.now }
+        requires high { IsThere self.old.parts high.now }
+        requires alike { AreAlike low.now high.now }
+        ensures parts { self.new.parts
+            ≡ exchanged (begins_either low.now high.now) self.old.parts (joined low.now high.now ∷ []) }
+        ensures spare { self.new.spare ≡ self.old.spare }
+    {
+        self.book.join(low.span.first, high.span.first);
+    }
+
+    /// Puts a new extent that serves no region at the end. It takes a place.
+    pub fn add(&mut self, part: Part)
+        requires room { 0 < self.old.spare }
+        requires idle { is_active part.state ≡ false }
+        requires placed { IsPlaced part.span }
+        requires owners { (page : ℕ) → holders page (self.old.parts ++ part ∷ []) ≤ 1 }
+        ensures parts { self.new.parts ≡ self.old.parts ++ part ∷ [] }
+        ensures spare { self.new.spare + 1 ≡ self.old.spare }
+    {
+        self.book.add(part);
+        self.total += part.span.pages;
+    }
+}
+
+/// The pages of the extents that serve regions once an extent among them has another state.
+fn active_after(active: u64, part: &Part, state: State) -> u64
+    requires within { active_pages (part.now ∷ []) ≤ active }
+    requires fits { active + part.now.span.pages < 2 ^ 64 }
+    ensures { result + active_pages (part.now ∷ []) ≡ active + active_pages (record part.now { state = state } ∷ []) }
+{
+    match (is_active(part.state), is_active(state)) {
+        (true, false) => active - part.span.pages,
+        (false, true) => active + part.span.pages,
+        _ => active,
+    }
+}
+
+/// What was found, where it is the client's extent in flight and has so many pages.
+fn flight_of(client: u32, pages: u64, found: Option<Part>) -> Option<Part>
+    ensures { result ≡ kept (λ p. is_flight client p.state && p.span.pages == pages) found }
+{
+    let part = found?;
+    if is_flight(client, part.state) && part.span.pages == pages {
+        Some(part)
+    } else {
+        None
+    }
+}
+
+/// What was found, where it is listed where an extent in flight belongs, and as committed.
+fn like(part: &Part, found: Option<Part>) -> Option<Part>
+    ensures { result ≡ kept (is_like part.now) found }
+{
+    let other = found?;
+    if is_like(part, &other) {
+        Some(other)
+    } else {
+        None
+    }
+}
+
+/// Makes two of an extent of a book. The piece that keeps its state comes last, behind the other
+/// one, which is put down.
+fn split_in(book: &mut PartBook, part: &Part, left: u64, keep_low: bool)
+    requires there { IsThere book.old.parts part.now }
+    requires apart { IsApart book.old.parts }
+    requires room { 0 < book.old.spare }
+    requires some { 0 < left }
+    requires fewer { left < part.now.span.pages }
+    ensures parts { book.new.parts ≡ exchanged (begins_at part.now.span.first) book.old.parts
+        (cond keep_low (put_down (high_piece left part.now) ∷ low_piece left part.now ∷ [])
+        (put_down (low_piece left part.now) ∷ high_piece left part.now ∷ [])) }
+    ensures spare { book.new.spare + 1 ≡ book.old.spare }
+{
+    let low = part.span.first;
+    let high = low + left;
+    let down = listed(rest_of(part.state));
+    book.cut(low, left);
+    if keep_low {
+        book.set_state(high, down, part.committed);
+        book.set_state(low, part.state, part.committed);
+    } else {
+        book.set_state(low, down, part.committed);
+        book.set_state(high, part.state, part.committed);
+    }
+}

@@ -1,0 +1,148 @@
+//! One arena over its indexes: the step of `space_model`, by look-ups and never by scans.
+#![tactic(auto)]
+
+ghost use Rattle.std.specs.Prelude.{◌≡◌, ◌≢◌, ◌⊎◌, ◌<◌, ◌++◌, ◌∷◌, [], ℕ, false, replicate, IsTrue, IsOk, IfOk, OnOk, OnErr};
+ghost use Rattle.std.specs.List.{list_any};
+ghost use Rattle.space_model.specs.Span.{chunk_span, has_page, meets};
+ghost use Rattle.space_model.specs.Opening.{absent_space, first_space};
+ghost use Rattle.space_model.specs.Step.{next_flight, reply_to, space_after, stands};
+ghost use Rattle.space_model.specs.Sound.{Sound};
+ghost use Rattle.space_model.specs.Journal.{Good};
+ghost use Rattle.space_model.specs.Own.{mine};
+ghost use Rattle.space_model.specs.Counts.{counts_of};
+ghost use Rattle.arena_core.specs.Arenas.{entry_of, opens, room_after, room_of};
+
+mod extents;
+mod frees;
+mod indexes;
+mod moves;
+mod readers;
+mod regions;
+mod rooms;
+mod states;
+mod steps;
+#[cfg(test)]
+mod tests;
+
+use extents::Extents;
+use indexes::Indexes;
+use regions::RegionSet;
+use rooms::Rooms;
+use space_model::{Counts, Life, Op, Reply, Space, Span};
+use std::alloc::{AllocError as NoMemory, Global};
+use std::marker::Model;
+use steps::Body;
+
+/// An arena: the only thing that moves its space.
+///
+/// Contracts see the space, and beside it the room of each of the 32 clients: how many more operations the client may
+/// make that take no memory. A step moves no list and scans none; what it costs grows by the logarithms of the indexes
+/// and by what the operation itself names (the addresses of a return, the chunks of an answered range).
+#[derive(Drop)]
+pub struct Arena {
+    body: Body,
+}
+
+impl Model for Arena {
+    ghost use Rattle.arena_core.specs.Arenas.{IsBody, Standing, standing_of};
+
+    ghost Value = { Standing };
+
+    ghost view = { λ arena. standing_of arena.body };
+
+    ghost invariant = { λ arena. IsBody arena.body };
+}
+
+impl Arena {
+    /// The arena of a space that is arena 0 at the start, or of an index without an arena. Nobody has room yet.
+    pub fn new(alloc: Global, space: Space) -> Result<Arena, NoMemory>
+        requires { (space ≡ absent_space) ⊎ (space ≡ first_space) }
+        ensures { IfOk result (λ arena. arena ≡ record { space = space; rooms = replicate 32 0 }) }
+    {
+        Ok(Arena {
+            body: Body {
+                indexes: Indexes {
+                    life: space.life,
+                    extents: Extents::new(alloc)?,
+                    regions: RegionSet::new(alloc),
+                    offers: space.offers,
+                    bound: space.bound,
+                    box_no: space.box_no,
+                    dirty: space.dirty,
+                    muzzy: space.muzzy,
+                },
+                rooms: Rooms::none(),
+            },
+        })
+    }
+
+    /// The step of an operation that may stand. A look and a return take memory for themselves and for the operations
+    /// that follow them in their unit, of which each uses one of its client's room up.
+    ///
+    /// Where memory is wanting, nothing changes; that comes at a look or a return alone.
+    pub fn step(&mut self, client: u32, op: &Op) -> Result<Reply, NoMemory>
+        requires stands { IsTrue (stands self.old.space (entry_of client op.now)) }
+        requires room { opens op.now ≡ false → 0 < room_of client self.old.rooms }
+        ensures after { OnOk result (self.new.space ≡ space_after self.old.space (entry_of client op.now)) }
+        ensures reply { IfOk result (λ told. told ≡ reply_to self.old.space (entry_of client op.now)) }
+        ensures room { OnOk result (room_of client self.new.rooms ≡ room_after self.old.space (room_of client self.old.rooms) client op.now) }
+        ensures other_rooms { (other : ℕ) → other ≢ client → room_of other self.new.rooms ≡ room_of other self.old.rooms }
+        ensures err { OnErr result (self.new ≡ self.old) }
+        ensures sure { opens op.now ≡ false → IsOk result }
+        ensures sound { Sound self.new.space }
+        ensures good { (turns : _) → Good turns self.old.space → IfOk result (λ told. Good (turns ++ (entry_of client op.now, told) ∷ []) self.new.space) }
+        ensures others { (other : ℕ) → other ≢ client → mine other self.new.space ≡ mine other self.old.space }
+    {
+        steps::step(&mut self.body, client, op)
+    }
+
+    /// The counts, which are kept and not summed up anew.
+    pub fn counts(&self) -> Counts
+        ensures { result ≡ counts_of self.now.space }
+    {
+        readers::counts(&self.body.indexes)
+    }
+
+    /// Whether the arena is there.
+    pub fn life(&self) -> Life
+        ensures { result ≡ self.now.space.life }
+    {
+        self.body.indexes.life
+    }
+
+    /// The box of hooks that it asks, below 32.
+    pub fn box_no(&self) -> u32
+        ensures box_no { result ≡ self.now.space.box_no }
+        ensures bound { result < 32 }
+    {
+        self.body.indexes.box_no
+    }
+
+    /// The decay times of its dirty and its muzzy extents in milliseconds, -1 for never.
+    pub fn times(&self) -> (i64, i64)
+        ensures { result ≡ (self.now.space.dirty.ms, self.now.space.muzzy.ms) }
+    {
+        (self.body.indexes.dirty.ms, self.body.indexes.muzzy.ms)
+    }
+
+    /// Whether an extent meets a chunk.
+    pub fn owns_chunk(&self, chunk: u64) -> bool
+        ensures { result ≡ list_any (λ p. meets p.span (chunk_span chunk)) self.now.space.parts }
+    {
+        readers::owns_chunk(&self.body.indexes, chunk)
+    }
+
+    /// Whether an extent has a page.
+    pub fn holds_page(&self, page: u64) -> bool
+        ensures { result ≡ list_any (λ p. has_page page p.span) self.now.space.parts }
+    {
+        readers::holds_page(&self.body.indexes, page)
+    }
+
+    /// The span of the first extent that the client has in flight.
+    pub fn next_flight(&self, client: u32) -> Option<Span>
+        ensures { result ≡ next_flight client self.now.space.parts }
+    {
+        self.body.indexes.extents.next_flight(client)
+    }
+}

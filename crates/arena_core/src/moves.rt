@@ -1,0 +1,256 @@
+//! What the operations of a malloc do to the indexes.
+
+ghost use Rattle.std.specs.Prelude.{◌≡◌, ℕ, ◌+◌, ◌≤◌, ◌<◌, ◌^◌, false, IsTrue, Some, find, IfSome};
+ghost use Rattle.std.specs.List.{list_any};
+ghost use Rattle.space_model.specs.Span.{IsPlaced, pages_end, end_of, run_start, chunk_span, chunks_of};
+ghost use Rattle.space_model.specs.Part.{is_active, is_flight_at};
+ghost use Rattle.space_model.specs.Step.{cut_stands, grow_stands, land_stands, land_at, after_look, after_cut, after_grow, after_commit, cut_at, whole_at, is_found, is_owned, is_in_space, why_not};
+ghost use Rattle.space_model.specs.Sound.{Sound};
+ghost use Rattle.arena_core.specs.Extents.{IsThere};
+ghost use Rattle.arena_core.specs.Indexes.{HasPlaces, space_of};
+
+use crate::extents::Extents;
+use crate::indexes::Indexes;
+use crate::states::{is_live, listed, rest_of};
+use size_classes::PAGE_BYTES;
+use space_model::{
+    Answer, Ask, CHUNK_PAGES, CHUNKS, Heard, Part, Region, Reply, Rest, Span, State, Why,
+};
+
+/// The first page at or above the span's start that is a multiple of the alignment.
+fn run_start(align: u64, span: Span) -> u128
+    requires { 1 ≤ align }
+    ensures start { result ≡ run_start align span }
+    ensures bound { result < 2 ^ 65 }
+{
+    let align = u128::from(align);
+    (u128::from(span.first) + (align - 1)) / align * align
+}
+
+/// Looks for the extent that serves a request, and takes it out of its list.
+pub fn look(indexes: &mut Indexes, client: u32, pages: u64, align: u64) -> Reply
+    requires some { 0 < pages }
+    requires aligned { 0 < align }
+    requires sound { Sound (space_of indexes.old) }
+    ensures after { space_of indexes.new ≡ (after_look (space_of indexes.old) client pages align).after }
+    ensures reply { result ≡ (after_look (space_of indexes.old) client pages align).reply }
+    ensures places { (n : ℕ) → HasPlaces indexes.old n → HasPlaces indexes.new n }
+{
+    if !is_live(indexes.life) {
+        return Reply::NoArena;
+    }
+    let Some(part) = indexes.extents.fit(pages, align) else {
+        return Reply::Grow;
+    };
+    let state = State::Flight(client, rest_of(part.state));
+    indexes.extents.change(&part, state, part.committed);
+    Reply::Took {
+        span: part.span,
+        committed: part.committed,
+        skip: (run_start(align, part.span) - u128::from(part.span.first)) as u64,
+    }
+}
+
+/// An extent in flight whose hook refused is put down whole.
+fn put_whole(indexes: &mut Indexes, found: Option<Part>) -> Reply
+    requires { IfSome found (IsThere (space_of indexes.old).parts) }
+    ensures after { space_of indexes.new ≡ (whole_at (space_of indexes.old) found).after }
+    ensures reply { result ≡ (whole_at (space_of indexes.old) found).reply }
+    ensures places { (n : ℕ) → HasPlaces indexes.old n → HasPlaces indexes.new n }
+{
+    let Some(part) = found else {
+        return Reply::Noted;
+    };
+    let state = listed(rest_of(part.state));
+    indexes.extents.change(&part, state, part.committed);
+    Reply::Whole
+}
+
+/// An extent in flight is two from now on: the piece that stays in flight comes last, behind the other one, which is put
+/// down.
+fn cut(indexes: &mut Indexes, part: &Part, left: u64, keep_low: bool) -> Reply
+    requires there { IsThere (space_of indexes.old).parts part.now }
+    requires room { HasPlaces indexes.old 1 }
+    requires idle { is_active part.now.state ≡ false }
+    requires placed { IsPlaced part.now.span }
+    requires some { 0 < left }
+    requires fewer { left < part.now.span.pages }
+    ensures after { space_of indexes.new ≡ (cut_at (space_of indexes.old) keep_low left (Some part.now)).after }
+    ensures reply { result ≡ (cut_at (space_of indexes.old) keep_low left (Some part.now)).reply }
+    ensures places { (n : ℕ) → HasPlaces indexes.old (n + 1) → HasPlaces indexes.new n }
+{
+    indexes.extents.split(part, left, keep_low);
+    let kept = if keep_low {
+        Span {
+            first: part.span.first,
+            pages: left,
+        }
+    } else {
+        Span {
+            first: part.span.first + left,
+            pages: part.span.pages - left,
+        }
+    };
+    Reply::Cut(kept)
+}
+
+/// Takes in the answer to a split.
+pub fn cut_done(indexes: &mut Indexes, client: u32, heard: Heard, keep_low: bool) -> Reply
+    requires stands { IsTrue (cut_stands (space_of indexes.old) client heard.ask heard.answer) }
+    requires sound { Sound (space_of indexes.old) }
+    requires room { HasPlaces indexes.old 1 }
+    ensures after { space_of indexes.new ≡ (after_cut (space_of indexes.old) client keep_low heard.ask heard.answer).after }
+    ensures reply { result ≡ (after_cut (space_of indexes.old) client keep_low heard.ask heard.answer).reply }
+    ensures places { (n : ℕ) → HasPlaces indexes.old (n + 1) → HasPlaces indexes.new n }
+{
+    let Ask::Split { span, left } = heard.ask else {
+        return Reply::Noted;
+    };
+    match (heard.answer, indexes.extents.flight(client, span)) {
+        (Answer::Done, Some(part)) => cut(indexes, &part, left, keep_low),
+        (Answer::Refused, found) => put_whole(indexes, found),
+        _ => Reply::Noted,
+    }
+}
+
+/// Takes in the answer to a commit.
+pub fn commit_done(indexes: &mut Indexes, client: u32, heard: Heard) -> Reply
+    ensures after { space_of indexes.new ≡ (after_commit (space_of indexes.old) client heard.ask heard.answer).after }
+    ensures reply { result ≡ (after_commit (space_of indexes.old) client heard.ask heard.answer).reply }
+    ensures places { (n : ℕ) → HasPlaces indexes.old n → HasPlaces indexes.new n }
+{
+    let Ask::Commit(span) = heard.ask else {
+        return Reply::Noted;
+    };
+    match (heard.answer, indexes.extents.flight(client, span)) {
+        (Answer::Done, Some(part)) => {
+            indexes.extents.change(&part, part.state, true);
+            Reply::Noted
+        }
+        (Answer::Refused, found) => put_whole(indexes, found),
+        _ => Reply::Noted,
+    }
+}
+
+/// The pages of a chunk.
+fn chunk_span(chunk: u64) -> Span
+    requires { chunk < 2 ^ 32 }
+    ensures { result ≡ chunk_span chunk }
+{
+    Span {
+        first: CHUNK_PAGES * chunk,
+        pages: CHUNK_PAGES,
+    }
+}
+
+/// Whether this is the chunk that was found in another arena.
+fn is_found(found: Option<u64>, chunk: u64) -> bool
+    ensures { result ≡ is_found found chunk }
+{
+    match found {
+        Some(other) => other == chunk,
+        None => false,
+    }
+}
+
+/// Whether a chunk has an owner: it was found in another arena, or an extent of this one meets it.
+fn is_owned(found: Option<u64>, extents: &Extents, chunk: u64) -> bool
+    requires { chunk < 2 ^ 32 }
+    ensures { result ≡ is_owned found extents.now.parts chunk }
+{
+    is_found(found, chunk) || extents.meets(chunk_span(chunk))
+}
+
+/// Whether all pages of the span are in the space.
+fn is_in_space(span: Span) -> bool
+    ensures { result ≡ is_in_space span }
+{
+    let end = u128::from(span.first) + u128::from(span.pages);
+    CHUNK_PAGES <= span.first && end <= u128::from(CHUNK_PAGES * (CHUNKS + 1))
+}
+
+/// The least chunk of a span in the space that has an owner.
+fn owned_chunk(found: Option<u64>, extents: &Extents, span: Span) -> Option<u64>
+    requires { end_of span ≤ pages_end }
+    ensures least { result ≡ find (is_owned found extents.now.parts) (chunks_of span) }
+    ensures bound { IfSome result (λ chunk. chunk < 2 ^ 32) }
+{
+    let low = span.first / CHUNK_PAGES;
+    let high = (span.first + span.pages).div_ceil(CHUNK_PAGES);
+    (low..high).find(|chunk| is_owned(found, extents, *chunk))
+}
+
+/// Why an answered span can't be taken, or none.
+fn why_not(found: Option<u64>, align: u64, extents: &Extents, span: Span) -> Option<Why>
+    requires { 1 ≤ align }
+    ensures { result ≡ why_not found align extents.now.parts span }
+{
+    if !is_in_space(span) {
+        return Some(Why::OffSpace);
+    }
+    if span.first % align != 0 {
+        return Some(Why::Unaligned);
+    }
+    match owned_chunk(found, extents, span) {
+        Some(chunk) => Some(Why::Meets(chunk_span(chunk))),
+        None => None,
+    }
+}
+
+/// Takes in the answer to an alloc.
+pub fn grow_done(indexes: &mut Indexes, client: u32, heard: Heard, found: Option<u64>) -> Reply
+    requires stands { IsTrue (grow_stands (space_of indexes.old) client heard.ask heard.answer) }
+    requires sound { Sound (space_of indexes.old) }
+    requires room { HasPlaces indexes.old 1 }
+    ensures after { space_of indexes.new ≡ (after_grow (space_of indexes.old) client found heard.ask heard.answer).after }
+    ensures reply { result ≡ (after_grow (space_of indexes.old) client found heard.ask heard.answer).reply }
+    ensures places { (n : ℕ) → HasPlaces indexes.old (n + 1) → HasPlaces indexes.new n }
+{
+    let Ask::Alloc { pages, align, .. } = heard.ask else {
+        return Reply::Noted;
+    };
+    match heard.answer {
+        Answer::Refused => Reply::Refused,
+        Answer::Done => Reply::Noted,
+        Answer::Placed {
+            first,
+            committed,
+            ..
+        } => {
+            let span = Span { first, pages };
+            if let Some(why) = why_not(found, align, &indexes.extents, span) {
+                return Reply::Bad(why);
+            }
+            indexes.extents.add(Part {
+                span,
+                state: State::Flight(client, Rest::Retained),
+                committed,
+            });
+            Reply::Grown { span, committed }
+        }
+    }
+}
+
+/// An extent in flight serves one region of a large class from now on, which the client holds.
+pub fn land_done(indexes: &mut Indexes, client: u32, span: Span, class: u8, count: u32) -> Reply
+    requires stands { IsTrue (land_stands (space_of indexes.old) client span class count) }
+    requires sound { Sound (space_of indexes.old) }
+    requires room { HasPlaces indexes.old 1 }
+    ensures after { space_of indexes.new
+        ≡ (land_at (space_of indexes.old) client class count (find (is_flight_at client span) (space_of indexes.old).parts)).after }
+    ensures reply { result
+        ≡ (land_at (space_of indexes.old) client class count (find (is_flight_at client span) (space_of indexes.old).parts)).reply }
+    ensures places { (n : ℕ) → HasPlaces indexes.old (n + 1) → HasPlaces indexes.new n }
+{
+    let Some(part) = indexes.extents.flight(client, span) else {
+        return Reply::Noted;
+    };
+    let first = PAGE_BYTES * part.span.first;
+    indexes.extents.change(&part, State::Active, part.committed);
+    indexes.regions.add(Region {
+        addr: first,
+        class,
+        holder: Some(client),
+    });
+    Reply::Landed { first, count }
+}

@@ -1,0 +1,54 @@
+//! What is read of an arena's indexes.
+
+ghost use Rattle.std.specs.Prelude.{◌≡◌, ◌<◌, ◌^◌};
+ghost use Rattle.std.specs.List.{list_any};
+ghost use Rattle.space_model.specs.Span.{chunk_span, has_page, meets};
+ghost use Rattle.space_model.specs.Counts.{counts_of};
+ghost use Rattle.space_model.specs.Sound.{Sound};
+ghost use Rattle.arena_core.specs.Indexes.{space_of};
+
+use crate::indexes::Indexes;
+use size_classes::PAGE_BYTES;
+use space_model::{CHUNK_PAGES, CHUNKS, Counts, Rest, Span};
+
+/// The counts: sums that are kept, and no scan.
+pub fn counts(indexes: &Indexes) -> Counts
+    requires { Sound (space_of indexes.now) }
+    ensures { result ≡ counts_of (space_of indexes.now) }
+{
+    let active = PAGE_BYTES * indexes.extents.active_pages();
+    let dirty = PAGE_BYTES * indexes.extents.listed_pages(Rest::Dirty);
+    let muzzy = PAGE_BYTES * indexes.extents.listed_pages(Rest::Muzzy);
+    let retained = PAGE_BYTES * indexes.extents.listed_pages(Rest::Retained);
+    let mapped = PAGE_BYTES * indexes.extents.all_pages() - retained;
+    Counts {
+        allocated: indexes.regions.bytes(),
+        active,
+        dirty,
+        muzzy,
+        retained,
+        flight: mapped - (active + dirty + muzzy),
+        mapped,
+    }
+}
+
+/// Whether an extent meets a chunk.
+pub fn owns_chunk(indexes: &Indexes, chunk: u64) -> bool
+    requires { Sound (space_of indexes.now) }
+    ensures { result ≡ list_any (λ p. meets p.span (chunk_span chunk)) (space_of indexes.now).parts }
+{
+    if chunk > CHUNKS {
+        return false;
+    }
+    indexes.extents.meets(Span {
+        first: CHUNK_PAGES * chunk,
+        pages: CHUNK_PAGES,
+    })
+}
+
+/// Whether an extent has a page.
+pub fn holds_page(indexes: &Indexes, page: u64) -> bool
+    ensures { result ≡ list_any (λ p. has_page page p.span) (space_of indexes.now).parts }
+{
+    indexes.extents.holding(page).is_some()
+}
