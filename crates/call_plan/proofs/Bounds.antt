@@ -12,28 +12,27 @@ use Rattle.space_model.specs.declared.Span.{Span}
 use Rattle.hook_api.specs.Asked.{AskFacts, heard_in}
 use Rattle.call_plan.specs.declared.needs.Answered.{Answered}
 use Rattle.call_plan.specs.declared.needs.Answered.TheVariants.{TooLarge}
-use Rattle.call_plan.specs.declared.needs.Request.TheVariants.{Malloc}
 use Rattle.call_plan.specs.declared.wishes.Wish.{Wish}
-use Rattle.call_plan.specs.Reading.{Item, Replied, Told, Outcome, Ends, turn, ask, ends, astray}
+use Rattle.call_plan.specs.Reading.{Item, Replied, Told, Starved, Outcome, Ends, turn, marked_turn, ask, ends, astray}
 use Rattle.call_plan.specs.Malloc.{landed, land, committed, commit, grant_cut, grant, whole_chunks, grown, grow, trim_cut, trim, skip_cut, skip_to, looked, look, wish_for}
-use Rattle.call_plan.specs.Bounds.{is_told, is_replied, RunsAreShort}
+use Rattle.call_plan.specs.Bounds.{is_told, is_turn, MallocsAreShort}
 
 -- Among the items are so many asks and turns at most.
-record Few (asks turns : ℕ) (items : List Item) : Type 0 where
-  asks_few : count_by is_told items ≤ asks
-  turns_few : count_by is_replied items ≤ turns
+pub record Few (asks turns : ℕ) (items : List Item) : Type 0 where
+  pub asks_few : count_by is_told items ≤ asks
+  pub turns_few : count_by is_turn items ≤ turns
 
 -- one more ask, or one more turn
 few-told : (asks turns : ℕ) (asked : AskFacts) (items : List Item) → Few asks turns items → Few (asks + 1) turns (Told asked ∷ items)
 few-told asks turns asked items few = record {
   asks_few = omega (arith, few.asks_few, sum_by-cons (λ item. cond (is_told item) 1 0) (Told asked) items);
-  turns_few = omega (arith, few.turns_few, sum_by-cons (λ item. cond (is_replied item) 1 0) (Told asked) items);
+  turns_few = omega (arith, few.turns_few, sum_by-cons (λ item. cond (is_turn item) 1 0) (Told asked) items);
 }
 
 few-replied : (asks turns : ℕ) (reply : Reply) (items : List Item) → Few asks turns items → Few asks (turns + 1) (Replied reply ∷ items)
 few-replied asks turns reply items few = record {
   asks_few = omega (arith, few.asks_few, sum_by-cons (λ item. cond (is_told item) 1 0) (Replied reply) items);
-  turns_few = omega (arith, few.turns_few, sum_by-cons (λ item. cond (is_replied item) 1 0) (Replied reply) items);
+  turns_few = omega (arith, few.turns_few, sum_by-cons (λ item. cond (is_turn item) 1 0) (Replied reply) items);
 }
 
 -- the reading ends after so many asks and turns at most
@@ -46,6 +45,18 @@ turn-within asks turns arena op asked on each [] answer e = absurd (cc)
 turn-within asks turns arena op asked on each (Replied reply ∷ items) answer e =
     few-replied asks turns reply items (each reply items answer e)
 turn-within asks turns arena op asked on each (Told told ∷ items) answer e = absurd (cc)
+turn-within asks turns arena op asked on each (Starved ∷ items) answer e = absurd (cc)
+
+-- a turn that may find no memory
+marked-within : (asks turns arena : ℕ) (op : Op) (on : Reply → List Item → Outcome) →
+    ((reply : Reply) → Within asks turns (on reply)) → Within asks (turns + 1) (marked_turn arena op on)
+marked-within asks turns arena op on each [] answer e = absurd (cc)
+marked-within asks turns arena op on each (Replied reply ∷ items) answer e =
+    few-replied asks turns reply items (each reply items answer e)
+marked-within asks turns arena op on each (Told told ∷ items) answer e = absurd (cc)
+marked-within asks turns arena op on each (Starved ∷ items) answer e =
+    let none : items ≡ [] = cc in
+    subst (λ rest. Few asks (turns + 1) (Starved ∷ rest)) (sym none) (record { asks_few = omega arith; turns_few = omega arith })
 
 -- an ask, and the turn that takes in its answer
 asked-within : (asks turns arena : ℕ) (wanted : Ask) (op : AskFacts → Op) (on : AskFacts → Reply → List Item → Outcome) →
@@ -55,6 +66,7 @@ asked-within asks turns arena wanted op on each [] answer e = absurd (cc)
 asked-within asks turns arena wanted op on each (Replied reply ∷ items) answer e = absurd (cc)
 asked-within asks turns arena wanted op on each (Told told ∷ items) answer e =
     few-told asks (turns + 1) told items (turn-within asks turns arena (op told) (Some told) (on told) (each told) items answer e)
+asked-within asks turns arena wanted op on each (Starved ∷ items) answer e = absurd (cc)
 
 ends-within : (asks turns : ℕ) (told : Answered) → Within asks turns (ends told)
 ends-within asks turns told items answer e = let none : items ≡ [] = cc in subst (Few asks turns) (sym none) (record { asks_few = omega arith; turns_few = omega arith })
@@ -137,10 +149,10 @@ looked-within wish NoArena = ends-within 5 6 _
 looked-within wish reply = astray-within 5 6
 
 look-within : (wish : Wish) → Within 5 7 (look wish)
-look-within wish = turn-within 5 6 wish.arena (Look wish.pages wish.align) None (looked wish) (looked-within wish)
+look-within wish = marked-within 5 6 wish.arena (Look wish.pages wish.align) (looked wish) (looked-within wish)
 
-pub runs-are_short : RunsAreShort
-runs-are_short arena (Malloc size) items answer e =
-    let few = choice-within 5 7 (nat_lt (2 ^ 35) size) (ends TooLarge) (look (wish_for arena (class_for size))) (ends-within 5 7 TooLarge)
-    (look-within (wish_for arena (class_for size))) items answer e in
+pub mallocs-are_short : MallocsAreShort
+mallocs-are_short desk size items answer e =
+    let few = choice-within 5 7 (nat_lt (2 ^ 35) size) (ends TooLarge) (look (wish_for desk.arena (class_for size))) (ends-within 5 7 TooLarge)
+    (look-within (wish_for desk.arena (class_for size))) items answer e in
     record { asks = few.asks_few; turns = few.turns_few }

@@ -12,7 +12,7 @@ use Rattle.space_model.specs.declared.Ask.TheVariants.{Alloc, Commit, Split}
 use Rattle.space_model.specs.declared.Answer.{Answer}
 use Rattle.space_model.specs.declared.Answer.TheVariants.{Placed, Done, Refused as Refuses}
 use Rattle.space_model.specs.declared.Op.{Op}
-use Rattle.space_model.specs.declared.Op.TheVariants.{Look, CutDone, GrowDone, CommitDone, Land}
+use Rattle.space_model.specs.declared.Op.TheVariants.{Look, CutDone, GrowDone, CommitDone, Land, Back, PutLook, MergeDone}
 use Rattle.space_model.specs.declared.Part.{Part}
 use Rattle.space_model.specs.declared.Reply.{Reply}
 use Rattle.space_model.specs.declared.Reply.TheVariants.{NoArena, Noted, Took, Grow, Cut, Whole, Refused as Refuse, Bad, Grown, Landed}
@@ -27,10 +27,10 @@ use Rattle.space_model.proofs.Exchange.{find_has}
 use Rattle.space_model.proofs.Pieces.{both_true}
 use Rattle.hook_api.specs.Asked.{AskFacts, heard_in}
 use Rattle.call_plan.specs.declared.needs.Answered.{Answered}
-use Rattle.call_plan.specs.declared.needs.Answered.TheVariants.{Ok, Refused, BadAnswer, TooLarge, NoArena as NoSuchArena}
+use Rattle.call_plan.specs.declared.needs.Answered.TheVariants.{Ok, Refused, BadAnswer, TooLarge, NoArena as NoSuchArena, NoMemory}
 use Rattle.call_plan.specs.declared.needs.Given.TheVariants.{Region}
 use Rattle.call_plan.specs.declared.wishes.Wish.{Wish}
-use Rattle.call_plan.specs.Reading.{Item, Replied, Told, Outcome, Ends, turn, ask, ends, astray}
+use Rattle.call_plan.specs.Reading.{Item, Replied, Told, Starved, Outcome, Ends, turn, ask, ends, astray}
 use Rattle.call_plan.specs.Malloc.{landed, land, committed, commit, grant_cut, grant, answered_span, whole_chunks, grown, grow, trim_cut, trim, skip_cut, skip_to, looked, look, wish_for}
 use Rattle.call_plan.specs.Knows.{with_found}
 use Rattle.call_plan.specs.Causes.{CutFits, WhyFits, BadFits, GrowFits, CommitFits, LandFits, ReplyFits, RepliesFit, ItemFits, ItemsFit, extent, flight_after, in_flight, IsNeeded, BadAnswerCause, HasCause, Explained, MallocsHaveCauses}
@@ -112,6 +112,9 @@ replies-fit s c (CutDone heard keep_low) h = cut-fits s c keep_low heard.ask hea
 replies-fit s c (GrowDone heard found) h = grow-fits s c found heard.ask heard.answer
 replies-fit s c (CommitDone heard) h = commit-fits s c heard.ask heard.answer (both_true _ (commit_stands s c heard.ask heard.answer) h).1
 replies-fit s c (Land span class count) h = land-fits s c class count (find (is_flight_at c span) s.parts)
+replies-fit s c (Back addrs) h = tt
+replies-fit s c (PutLook span tries) h = tt
+replies-fit s c (MergeDone heard own_low) h = tt
 
 -- a chunk that was found in another arena changes nothing of it
 pub fits-found : (found : Option ℕ) (op : Op) (reply : Reply) → ReplyFits (with_found found op) reply → ReplyFits op reply
@@ -120,6 +123,9 @@ fits-found found (CutDone heard keep_low) reply h = h
 fits-found found (GrowDone heard _) reply h = h
 fits-found found (CommitDone heard) reply h = h
 fits-found found (Land span class count) reply h = h
+fits-found found (Back addrs) reply h = h
+fits-found found (PutLook span tries) reply h = h
+fits-found found (MergeDone heard own_low) reply h = h
 
 -- one more item that fits
 pub items_fit-push : (read : List Item → Outcome) (items : List Item) (item : Item) → ItemsFit read items → ItemFits (read items) item →
@@ -139,6 +145,7 @@ turn-caused size wish before arena op asked on each [] answer e fit = absurd (cc
 turn-caused size wish before arena op asked on each (Replied reply ∷ items) answer e fit =
     subst (λ all. HasCause size wish all answer) (append_assoc before (Replied reply ∷ []) items) (each reply fit.0 items answer e fit.1)
 turn-caused size wish before arena op asked on each (Told told ∷ items) answer e fit = absurd fit.0
+turn-caused size wish before arena op asked on each (Starved ∷ items) answer e fit = absurd (cc)
 
 -- an ask, and the turn that takes in its answer
 asked-caused : (size : ℕ) (wish : Wish) (before : List Item) (arena : ℕ) (wanted : Ask) (op : AskFacts → Op) (on : AskFacts → Reply → List Item → Outcome) →
@@ -146,6 +153,7 @@ asked-caused : (size : ℕ) (wish : Wish) (before : List Item) (arena : ℕ) (wa
     Caused size wish before (ask arena wanted (λ asked. turn arena (op asked) (Some asked) (on asked)))
 asked-caused size wish before arena wanted op on each [] answer e fit = absurd (cc)
 asked-caused size wish before arena wanted op on each (Replied reply ∷ items) answer e fit = absurd fit.0
+asked-caused size wish before arena wanted op on each (Starved ∷ items) answer e fit = absurd fit.0
 asked-caused size wish before arena wanted op on each (Told told ∷ items) answer e fit =
     subst (λ all. HasCause size wish all answer) (append_assoc before (Told told ∷ []) items)
     (turn-caused size wish (before ++ Told told ∷ []) arena (op told) (Some told) (on told) (λ reply h. each told reply fit.0 h) items answer e fit.1)
@@ -291,7 +299,13 @@ looked-caused size wish before NoArena = ends-caused size wish _ (NoSuchArena wi
 looked-caused size wish before reply = astray-caused size wish _
 
 look-caused : (size : ℕ) (wish : Wish) → Caused size wish [] (look wish)
-look-caused size wish = turn-caused size wish [] wish.arena (Look wish.pages wish.align) None (looked wish) (λ reply fit. looked-caused size wish [] reply)
+look-caused size wish [] answer e fit = absurd (cc)
+look-caused size wish (Replied reply ∷ items) answer e fit = looked-caused size wish [] reply items answer e fit.1
+look-caused size wish (Told told ∷ items) answer e fit = absurd fit.0
+look-caused size wish (Starved ∷ items) answer e fit =
+    let none : items ≡ [] = cc in
+    let same : NoMemory ≡ answer = cc in
+    subst (λ a. HasCause size wish (Starved ∷ items) a) same (ap (λ rest. Starved ∷ rest) none)
 
 -- ---- the law
 
@@ -320,4 +334,4 @@ malloc-explained arena size items answer false h e fit =
     not_large a b not_less less = grind (arith, nat_tests)
 
 pub mallocs-have_causes : MallocsHaveCauses
-mallocs-have_causes arena size items answer e fit = malloc-explained arena size items answer (nat_lt (2 ^ 35) size) refl e fit
+mallocs-have_causes desk size items answer e fit = malloc-explained desk.arena size items answer (nat_lt (2 ^ 35) size) refl e fit

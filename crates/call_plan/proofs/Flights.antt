@@ -1,5 +1,5 @@
 -- The extent that a client has in flight is found where the client left it: last.
-use Rattle.std.proofs.Common.{◌≡◌, ℕ, ◌+◌, ◌<◌, ◌≤◌, Bool, true, cond, List, [], ◌∷◌, ◌++◌, Some, None, refl, ◌∙◌, ap, subst, arith, All, find, ◌==◌}
+use Rattle.std.proofs.Common.{◌≡◌, ℕ, ◌+◌, ◌<◌, ◌≤◌, Bool, true, false, not, cond, List, [], ◌∷◌, ◌++◌, Some, None, refl, ◌∙◌, ap, subst, arith, All, filter, find, ◌==◌}
 use Rattle.std.specs.Option.{option_or}
 use Rattle.std.proofs.lemmas.List.Folds.{find-append}
 use Rattle.std.proofs.lemmas.List.Sums.{sum_by-append, sum_by-cons}
@@ -10,7 +10,7 @@ use Rattle.space_model.specs.declared.Part.{Part}
 use Rattle.space_model.specs.declared.Space.{Space}
 use Rattle.space_model.specs.declared.Span.{Span}
 use Rattle.space_model.specs.Span.{same_span}
-use Rattle.space_model.specs.Part.{holders, is_flight, is_flight_at}
+use Rattle.space_model.specs.Part.{exchanged, holders, is_flight, is_flight_at}
 use Rattle.space_model.specs.Sound.{Sound}
 use Rattle.space_model.proofs.Exchange.{share, find_passes, find-le-sum_by, find_has}
 use Rattle.space_model.proofs.Pieces.{both_true}
@@ -64,9 +64,9 @@ none_in_front c q front some q_some most =
     ] refl
 
 -- the client's extent that comes last is the one that is found by its span
-pub last_flies : (c : ℕ) (t : Space) (front : List Part) (q : Part) (b : Bool) → Sound t → t.parts ≡ front ++ q ∷ [] → is_flight c q.state ≡ true →
-    q.committed ≡ b → Flying c t q.span b
-last_flies c t front q b sound is own committed =
+pub last_found : (c : ℕ) (t : Space) (front : List Part) (q : Part) → Sound t → t.parts ≡ front ++ q ∷ [] → is_flight c q.state ≡ true →
+    find (is_flight_at c q.span) t.parts ≡ Some q
+last_found c t front q sound is own =
     let page : ℕ = q.span.first in
     let some : All (λ p. 0 < p.span.pages) (front ++ q ∷ []) = subst (All (λ p. 0 < p.span.pages)) is (some_pages t.parts sound.placed) in
     let in_front : All (λ p. 0 < p.span.pages) front = All-left (λ p. 0 < p.span.pages) front (q ∷ []) some in
@@ -75,10 +75,37 @@ last_flies c t front q b sound is own committed =
     omega (arith, sound.owners page, ap (holders page) is, sum_by-append (share page) front (q ∷ []), sum_by-cons (share page) q []) in
     let none = none_in_front c q front in_front at_end most in
     let passes : is_flight_at c q.span q ≡ true = rw (own, same_span_itself q.span) refl in
-    record {
-      part = q;
-      found = ap (find (is_flight_at c q.span)) is ∙ find-append (is_flight_at c q.span) front (q ∷ [])
-          ∙ ap (λ o. option_or o (find (is_flight_at c q.span) (q ∷ []))) none
-          ∙ ap (λ (b : Bool). cond b (Some q) None) passes;
-      committed = committed;
-    }
+    ap (find (is_flight_at c q.span)) is ∙ find-append (is_flight_at c q.span) front (q ∷ [])
+    ∙ ap (λ o. option_or o (find (is_flight_at c q.span) (q ∷ []))) none
+    ∙ ap (λ (b : Bool). cond b (Some q) None) passes
+
+pub last_flies : (c : ℕ) (t : Space) (front : List Part) (q : Part) (b : Bool) → Sound t → t.parts ≡ front ++ q ∷ [] → is_flight c q.state ≡ true →
+    q.committed ≡ b → Flying c t q.span b
+last_flies c t front q b sound is own committed = record { part = q; found = last_found c t front q sound is own; committed = committed }
+
+-- an extent that was found is found after others went, where these aren't what is looked for
+pub find_kept : (test gone : Part → Bool) (parts pieces : List Part) (p : Part) → ((q : Part) → test q ≡ true → gone q ≡ false) →
+    find test parts ≡ Some p → find test (exchanged gone parts pieces) ≡ Some p
+find_kept test gone parts pieces p other found =
+    find-append test (filter (λ q. not (gone q)) parts) pieces ∙ ap (λ o. option_or o (find test pieces)) (stays parts found)
+  where
+    stays : (parts : List Part) → find test parts ≡ Some p → find test (filter (λ q. not (gone q)) parts) ≡ Some p
+    stays [] e = e
+    stays (q ∷ qs) e =
+        elim (test q) as (λ b. test q ≡ b → cond b (Some q) (find test qs) ≡ Some p → find test (filter (λ x. not (gone x)) (q ∷ qs)) ≡ Some p) [
+          | true ↦ λ h k. rw (other q h, h) k
+          | false ↦ λ h k. elim (gone q) as (λ g. find test (cond (not g) (q ∷ filter (λ x. not (gone x)) qs) (filter (λ x. not (gone x)) qs)) ≡ Some p) [
+            | true ↦ stays qs k
+            | false ↦ rw h (stays qs k)
+          ]
+        ] refl e
+
+-- the first extent that the client has in flight is found by its span
+pub first_found : (c : ℕ) (parts : List Part) (p : Part) → find (λ q. is_flight c q.state) parts ≡ Some p → find (is_flight_at c p.span) parts ≡ Some p
+first_found c [] p e = absurd (cc)
+first_found c (q ∷ qs) p e =
+    elim (is_flight c q.state) as (λ b. is_flight c q.state ≡ b → cond b (Some q) (find (λ x. is_flight c x.state) qs) ≡ Some p → find (is_flight_at c p.span) (q ∷ qs) ≡ Some p) [
+      | true ↦ λ h k. let same : q ≡ p = cc in
+          subst (λ x. find (is_flight_at c x.span) (q ∷ qs) ≡ Some x) same (rw (h, same_span_itself q.span) refl)
+      | false ↦ λ h k. rw h (first_found c qs p k)
+    ] refl e

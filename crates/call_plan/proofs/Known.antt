@@ -21,12 +21,11 @@ use Rattle.call_plan.proofs.Powers.{power_max}
 use Rattle.hook_api.specs.Asked.{AskFacts, heard_in}
 use Rattle.hook_api.specs.Hooks.{Answers}
 use Rattle.call_plan.specs.declared.needs.Answered.{Answered}
-use Rattle.call_plan.specs.declared.stages.Stage.TheVariants.{Get, Ended}
-use Rattle.call_plan.specs.Laws.{TurnsGoOn, AsksGoOn}
+use Rattle.call_plan.specs.declared.needs.Answered.TheVariants.{NoMemory}
 use Rattle.call_plan.specs.declared.wishes.Getting.{Getting}
 use Rattle.call_plan.specs.declared.wishes.Getting.TheVariants.{Looking, SkipAsked, SkipCut, TrimAsked, TrimCut, GrowAsked, Growing, GrantAsked, GrantCut, CommitAsked, Committing, Landing}
 use Rattle.call_plan.specs.declared.wishes.Wish.{Wish}
-use Rattle.call_plan.specs.Reading.{Replied, Told, WantTurn, WantAsk, Outcome, Waits, ask}
+use Rattle.call_plan.specs.Reading.{Replied, Told, Starved, WantTurn, WantAsk, Outcome, Ends, Waits, is_marked, ask}
 use Rattle.call_plan.specs.Malloc.{whole_chunks, commit, grant, trim, skip_to, looked, skip_cut, trim_cut, grown, grant_cut, committed, landed, grant_cut_done, trim_cut_done, skip_cut_done}
 use Rattle.call_plan.specs.Rest.{rest_of_get, IsFitting}
 use Rattle.call_plan.specs.Stages.{commit_point, grant_point, trim_point, skip_point, looked_point, skip_cut_point, trim_cut_point, grown_point, grant_cut_point, commit_done_point, landed_point, after_reply_point, after_answer_point}
@@ -35,7 +34,7 @@ use Rattle.call_plan.specs.Knows.{Flying, Cuts, KnowsGet, Knows, Ground, with_fo
 use Rattle.call_plan.proofs.Cutting.{CutResult, DidCut, Stayed, cut_may, cut_result, kept_span, LookResult, DidTake, FoundNone, look_result, GrowResult, WasRefused, WasBad, DidGrow, grow_result, CommitResult, DidCommit, PutDown, commit_result}
 
 -- a wish has a page at least
-wish_some : (wish : Wish) → IsWish wish → 0 < wish.pages
+pub wish_some : (wish : Wish) → IsWish wish → 0 < wish.pages
 wish_some wish is = omega (arith, is.pages, pages_bounds wish.class is.class)
 
 -- what isn't smaller is as large
@@ -149,14 +148,14 @@ cut_stands_at : (c : ℕ) (s : Space) (keep_low : Bool) (asked : AskFacts) (span
 cut_stands_at c s keep_low asked span left b ground cuts is plain =
     rw (ground.live, is) (cut_may c s span left asked.answer b cuts plain)
 
-grow_stands_at : (c : ℕ) (s : Space) (wish : Wish) (asked : AskFacts) (found : Option ℕ) → Ground c s → IsWish wish →
+pub grow_stands_at : (c : ℕ) (s : Space) (wish : Wish) (asked : AskFacts) (found : Option ℕ) → Ground c s → IsWish wish →
     asked.ask ≡ Alloc None (whole_chunks wish.pages) (max 512 wish.align) false → is_range_or_no asked.answer ≡ true →
     op_stands s c (GrowDone (heard_in asked) found) ≡ true
 grow_stands_at c s wish asked found ground is e fits =
     let some : 0 < whole_chunks wish.pages = omega (arith, wish_some wish is) in
     rw (ground.live, e, fits, lt-ltb _ _ some, power_max wish.align is.align, ground.customer) refl
 
-commit_stands_at : (c : ℕ) (s : Space) (asked : AskFacts) (span : Span) → Ground c s → Flying c s span false → asked.ask ≡ Commit span →
+pub commit_stands_at : (c : ℕ) (s : Space) (asked : AskFacts) (span : Span) → Ground c s → Flying c s span false → asked.ask ≡ Commit span →
     is_yes_or_no asked.answer ≡ true → op_stands s c (CommitDone (heard_in asked)) ≡ true
 commit_stands_at c s asked span ground flies e plain = rw (ground.live, e, plain, flies.found, flies.committed) refl
 
@@ -268,14 +267,28 @@ ask_facts c s wish (GrantCut b told) arena wanted asked knows e is answers = abs
 ask_facts c s wish (Committing span told) arena wanted asked knows e is answers = absurd (cc)
 ask_facts c s wish (Landing span) arena wanted asked knows e is answers = absurd (cc)
 
--- ---- the laws
+-- an operation that takes no memory is none that may find none
+unmarked : {A : Type 0} (op told : Op) (found : Option ℕ) → op ≡ told → is_marked (with_found found op) ≡ true → is_marked (with_found found told) ≡ false → A
+unmarked op told found same marked not_marked = absurd (cc)
 
-pub turns-go_on : TurnsGoOn
-turns-go_on c s (Get wish getting) arena op asked found ground planned knows e =
-    let turn = turn_facts c s wish getting arena op asked found ground planned knows e in
-    record { stands = turn.stands; fitting = turn.goes_on.fitting; knows = turn.goes_on.knows }
-turns-go_on c s (Ended answer) arena op asked found ground planned knows e = absurd (cc)
-
-pub asks-go_on : AsksGoOn
-asks-go_on c s (Get wish getting) arena wanted asked knows e is answers = ask_facts c s wish getting arena wanted asked knows e is answers
-asks-go_on c s (Ended answer) arena wanted asked knows e is answers = absurd (cc)
+-- only the look of a malloc may find no memory
+pub get_starves : (wish : Wish) (getting : Getting) (arena : ℕ) (op : Op) (asked : Option AskFacts) (found : Option ℕ) →
+    rest_of_get wish getting [] ≡ Waits (WantTurn arena op asked) → is_marked (with_found found op) ≡ true → rest_of_get wish getting (Starved ∷ []) ≡ Ends NoMemory []
+get_starves wish Looking arena op asked found e marked = refl
+get_starves wish (SkipCut b told) arena op asked found e marked =
+    let same : op ≡ CutDone (heard_in told) false = cc in unmarked op _ found same marked refl
+get_starves wish (TrimCut b told) arena op asked found e marked =
+    let same : op ≡ CutDone (heard_in told) true = cc in unmarked op _ found same marked refl
+get_starves wish (Growing told) arena op asked found e marked =
+    let same : op ≡ GrowDone (heard_in told) None = cc in unmarked op _ found same marked refl
+get_starves wish (GrantCut b told) arena op asked found e marked =
+    let same : op ≡ CutDone (heard_in told) true = cc in unmarked op _ found same marked refl
+get_starves wish (Committing span told) arena op asked found e marked =
+    let same : op ≡ CommitDone (heard_in told) = cc in unmarked op _ found same marked refl
+get_starves wish (Landing span) arena op asked found e marked =
+    let same : op ≡ Land span wish.class 1 = cc in unmarked op _ found same marked refl
+get_starves wish (SkipAsked span b skip) arena op asked found e marked = absurd (cc)
+get_starves wish (TrimAsked span b) arena op asked found e marked = absurd (cc)
+get_starves wish GrowAsked arena op asked found e marked = absurd (cc)
+get_starves wish (GrantAsked span b) arena op asked found e marked = absurd (cc)
+get_starves wish (CommitAsked span) arena op asked found e marked = absurd (cc)

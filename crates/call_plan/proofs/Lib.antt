@@ -8,3 +8,11 @@ pub mod Shorter
 pub mod Points
 pub mod Causes
 pub mod Bounds
+pub mod Places
+pub mod Room
+pub mod Frees
+pub mod Neighbours
+pub mod Returns
+pub mod GoingOn
+pub mod Looks
+pub mod Counted

@@ -1,24 +1,27 @@
 -- What is left to read at the point after an item is what the item leaves to read.
-use Rattle.std.proofs.Common.{◌≡◌, ℕ, Bool, true, false, cond, List, [], ◌∷◌, refl, ◌∙◌, ap, ltb as nat_lt}
+use Rattle.std.proofs.Common.{◌≡◌, ℕ, Bool, true, false, cond, List, [], ◌∷◌, None, Some, refl, ◌∙◌, ap, ltb as nat_lt}
 use Rattle.std.specs.declared.ops.ControlFlow.{ControlFlow}
 use Rattle.call_plan.specs.declared.needs.Answered.{Answered}
+use Rattle.call_plan.specs.declared.needs.Answered.TheVariants.{Ok}
+use Rattle.call_plan.specs.declared.needs.Given.TheVariants.{Done}
 use Rattle.std.specs.declared.ops.ControlFlow.TheVariants.{Continue, Break}
 use Rattle.space_model.specs.declared.Ask.TheVariants.{Split}
 use Rattle.space_model.specs.declared.Reply.{Reply}
-use Rattle.space_model.specs.declared.Reply.TheVariants.{NoArena, Noted, Took, Grow, Cut, Whole, Refused, Bad, Grown, Landed}
+use Rattle.space_model.specs.declared.Reply.TheVariants.{NoArena, Noted, Took, Grow, Cut, Whole, Refused, Bad, Grown, Landed, Next}
 use Rattle.space_model.specs.declared.Span.{Span}
 use Rattle.hook_api.specs.Asked.{AskFacts}
 use Rattle.call_plan.specs.declared.needs.Fed.TheVariants.{Replied as FedReply, Answer}
 use Rattle.call_plan.specs.declared.stages.Stage.{Stage}
-use Rattle.call_plan.specs.declared.stages.Stage.TheVariants.{Get, Ended}
+use Rattle.call_plan.specs.declared.stages.Stage.TheVariants.{Get, Give, Put, Ended}
 use Rattle.call_plan.specs.declared.wishes.Getting.{Getting}
 use Rattle.call_plan.specs.declared.wishes.Getting.TheVariants.{Looking, SkipAsked, SkipCut, TrimAsked, TrimCut, GrowAsked, Growing, GrantAsked, GrantCut, CommitAsked, Committing, Landing}
 use Rattle.call_plan.specs.declared.wishes.Wish.{Wish}
-use Rattle.call_plan.specs.Reading.{Item, Replied, Told, Want, Waits, ask}
+use Rattle.call_plan.specs.Reading.{Item, Replied, Told, Want, Ends, Waits, ask}
 use Rattle.call_plan.specs.Malloc.{commit, grant, trim, skip_to, looked, skip_cut, trim_cut, grown, grant_cut, committed, landed, skip_cut_done, trim_cut_done, grant_cut_done}
+use Rattle.call_plan.specs.Free.{Onward, To, Over, Nowhere, put_step, onward, putting, gave}
 use Rattle.call_plan.specs.Rest.{rest_of, rest_of_get, rest_after, IsFitting}
 use Rattle.call_plan.specs.Stages.{commit_point, grant_point, trim_point, skip_point, looked_point, skip_cut_point, trim_cut_point, grown_point, grant_cut_point, commit_done_point, landed_point, after_reply_point}
-use Rattle.call_plan.specs.Calls.{stage_of, stage_after}
+use Rattle.call_plan.specs.Calls.{stage_of, gave_stage, put_stage, stage_after}
 
 commit_reads : (wish : Wish) (span : Span) (b : Bool) → commit wish span b ≡ rest_of_get wish (commit_point span b)
 commit_reads wish span true = refl
@@ -97,11 +100,24 @@ flow_reads : (wish : Wish) (flow : ControlFlow Answered Getting) → rest_after 
 flow_reads wish (Continue getting) = refl
 flow_reads wish (Break answer) = refl
 
+gave_reads : (arena : ℕ) (reply : Reply) → IsFitting (gave arena reply []) → (more : List Item) → gave arena reply more ≡ rest_of (gave_stage arena reply) more
+gave_reads arena (Next (Some span)) h more = refl
+gave_reads arena (Next None) h more = refl
+gave_reads arena reply h more = absurd h
+
+put_reads : (arena : ℕ) (next : Onward) → IsFitting (onward next (λ point. putting arena point []) (Ends (Ok Done) [])) → (more : List Item) →
+    onward next (λ point. putting arena point more) (Ends (Ok Done) more) ≡ rest_of (put_stage arena next) more
+put_reads arena (To point) h more = refl
+put_reads arena Over h more = refl
+put_reads arena Nowhere h more = absurd h
+
 -- a waiting call reads on behind a reply that it could need
 pub reply-reads : (stage : Stage) (want : Want) (reply : Reply) → rest_of stage [] ≡ Waits want → IsFitting (rest_of stage (Replied reply ∷ [])) → (more : List Item) →
     rest_of stage (Replied reply ∷ more) ≡ rest_of (stage_after stage (FedReply reply)) more
 reply-reads (Get wish getting) want reply e h more =
     after_reads wish getting reply h more ∙ ap (λ f. f more) (flow_reads wish (after_reply_point wish getting reply))
+reply-reads (Give held) want reply e h more = gave_reads held.arena reply h more
+reply-reads (Put arena point) want reply e h more = put_reads arena (put_step point (Replied reply)) h more
 reply-reads (Ended answer) want reply e h more = absurd (cc)
 
 -- and behind an answer that it could need
@@ -119,4 +135,6 @@ answer-reads (Get wish (Growing told)) want asked e h more = absurd h
 answer-reads (Get wish (GrantCut b told)) want asked e h more = absurd h
 answer-reads (Get wish (Committing span told)) want asked e h more = absurd h
 answer-reads (Get wish (Landing span)) want asked e h more = absurd h
+answer-reads (Give held) want asked e h more = absurd h
+answer-reads (Put arena point) want asked e h more = put_reads arena (put_step point (Told asked)) h more
 answer-reads (Ended answer) want asked e h more = absurd (cc)

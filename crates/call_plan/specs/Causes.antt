@@ -1,4 +1,4 @@
--- Why each answer of a malloc comes, by what its call was fed.
+-- Why each answer of a call comes, by what the call was fed.
 use Rattle.std.specs.Prelude.{◌≡◌, ◌≢◌, ℕ, ◌%◌, ◌<◌, ◌^◌, ◌⊎◌, ◌↔◌, max, Bool, true, false, List, [], ◌∷◌, ◌++◌, fold, Contains, Option, None, Some}
 use Rattle.std.specs.Option.{option_map}
 use Rattle.size_classes.specs.Classes.{class_for}
@@ -9,7 +9,7 @@ use Rattle.space_model.specs.declared.Answer.TheVariants.{Placed, Done, Refused 
 use Rattle.space_model.specs.declared.Op.{Op}
 use Rattle.space_model.specs.declared.Op.TheVariants.{CutDone, GrowDone, CommitDone, Land}
 use Rattle.space_model.specs.declared.Reply.{Reply}
-use Rattle.space_model.specs.declared.Reply.TheVariants.{NoArena, Noted, Took, Grow, Cut, Whole, Refused as Refuse, Bad, Grown, Landed}
+use Rattle.space_model.specs.declared.Reply.TheVariants.{NoArena, Noted, Took, Grow, Cut, Whole, Refused as Refuse, Bad, Grown, Landed, Next}
 use Rattle.space_model.specs.declared.Space.{Space}
 use Rattle.space_model.specs.declared.Span.{Span}
 use Rattle.space_model.specs.declared.Why.{Why}
@@ -17,13 +17,17 @@ use Rattle.space_model.specs.declared.Why.TheVariants.{OffSpace, Unaligned, Meet
 use Rattle.space_model.specs.Span.{chunk_span, chunks_of}
 use Rattle.space_model.specs.Step.{is_in_space, step_of, op_stands}
 use Rattle.hook_api.specs.Asked.{AskFacts}
+use Rattle.thread_cache.specs.declared.Held.{Held}
 use Rattle.call_plan.specs.declared.needs.Answered.{Answered}
-use Rattle.call_plan.specs.declared.needs.Answered.TheVariants.{Ok, Refused, BadAnswer, TooLarge, NoArena as NoSuchArena}
+use Rattle.call_plan.specs.declared.needs.Answered.TheVariants.{Ok, Refused, BadAnswer, TooLarge, NotHeld, NoArena as NoSuchArena, NoMemory}
 use Rattle.call_plan.specs.declared.needs.Given.TheVariants.{Region}
+use Rattle.call_plan.specs.declared.needs.Given.TheVariants as Given
 use Rattle.call_plan.specs.declared.needs.Request.{Request}
-use Rattle.call_plan.specs.declared.needs.Request.TheVariants.{Malloc}
+use Rattle.call_plan.specs.declared.needs.Request.TheVariants.{Malloc, Free}
 use Rattle.call_plan.specs.declared.wishes.Wish.{Wish}
-use Rattle.call_plan.specs.Reading.{Item, Replied, Told, WantTurn, WantAsk, Outcome, Waits}
+use Rattle.call_plan.specs.Helds.{held_at}
+use Rattle.call_plan.specs.Desks.{DeskFacts}
+use Rattle.call_plan.specs.Reading.{Item, Replied, Told, Starved, WantTurn, WantAsk, Outcome, Waits, is_marked}
 use Rattle.call_plan.specs.Malloc.{whole_chunks, wish_for}
 use Rattle.call_plan.specs.Calls.{reading, Run}
 
@@ -81,6 +85,7 @@ RepliesFit = (s : Space) (c : ℕ) (op : Op) → op_stands s c op ≡ true → R
 abbrev pub ItemFits : Outcome → Item → Type 0
 ItemFits (Waits (WantTurn arena op asked)) (Replied reply) = ReplyFits op reply
 ItemFits (Waits (WantAsk arena wanted)) (Told asked) = asked.ask ≡ wanted
+ItemFits (Waits (WantTurn arena op asked)) Starved = is_marked op ≡ true
 ItemFits outcome item = ⊥
 
 -- each item is one to what the reading waits for after the items before it
@@ -88,9 +93,9 @@ abbrev pub ItemsFit : (List Item → Outcome) → List Item → Type 0
 ItemsFit read [] = Unit {0}
 ItemsFit read (item ∷ items) = ItemFits (read []) item × ItemsFit (λ later. read (item ∷ later)) items
 
--- what a call was fed are replies to its turns and answers to its asks
-abbrev pub AreReplies : ℕ → Request → List Item → Type 0
-AreReplies arena request items = ItemsFit (reading arena request) items
+-- what a call was fed are replies to its turns and answers to its asks, and turns that may find no memory alone found none
+abbrev pub AreReplies : DeskFacts → Request → List Item → Type 0
+AreReplies desk request items = ItemsFit (reading desk request) items
 
 -- ---- the extent that a call has in flight
 
@@ -173,6 +178,8 @@ HasCause size wish items (Refused asked) = RefusedCause wish items asked
 HasCause size wish items (BadAnswer span why) = BadAnswerCause wish items span why
 HasCause size wish items TooLarge = 2 ^ 35 < size
 HasCause size wish items (NoSuchArena index) = (index ≡ wish.arena) × Contains items (Replied NoArena)
+HasCause size wish items NoMemory = items ≡ Starved ∷ []
+HasCause size wish items answer = ⊥
 
 -- An answer of a malloc has its cause, and it is `TooLarge` exactly where the size is above 2^35.
 pub record Explained (arena size : ℕ) (items : List Item) (answer : Answered) : Type 0 where
@@ -181,5 +188,19 @@ pub record Explained (arena size : ℕ) (items : List Item) (answer : Answered) 
 
 -- every answer of a malloc has its cause among what this very call was fed
 abbrev pub MallocsHaveCauses : Type 0
-MallocsHaveCauses = (arena size : ℕ) (items : List Item) (answer : Answered)
-    → Run arena (Malloc size) items answer → AreReplies arena (Malloc size) items → Explained arena size items answer
+MallocsHaveCauses = (desk : DeskFacts) (size : ℕ) (items : List Item) (answer : Answered)
+    → Run desk (Malloc size) items answer → AreReplies desk (Malloc size) items → Explained desk.arena size items answer
+
+-- why a free of an address at which the client held a region, or none, gave its answer after these items: it is done
+-- where the last reply says that the client has no extent in flight
+abbrev pub FreeHasCause : ℕ → Option Held → List Item → Answered → Type 0
+FreeHasCause addr held items (Ok Given.Done) = (held ≢ None) × (earlier : List Item) × (items ≡ earlier ++ Replied (Next None) ∷ [])
+FreeHasCause addr held items (NotHeld told) = (told ≡ addr) × (held ≡ None) × (items ≡ [])
+FreeHasCause addr held items NoMemory = (held ≢ None) × (items ≡ Starved ∷ [])
+FreeHasCause addr held items answer = ⊥
+
+-- every free of an address that isn't held answers just that, and any other one is done, or its first turn found no
+-- memory: no refused merge makes it fail
+abbrev pub FreesHaveCauses : Type 0
+FreesHaveCauses = (desk : DeskFacts) (addr : ℕ) (items : List Item) (answer : Answered)
+    → Run desk (Free addr) items answer → FreeHasCause addr (held_at addr desk.held) items answer

@@ -7,18 +7,20 @@ use Rattle.space_model.specs.Step.{step_of, op_stands}
 use Rattle.hook_api.specs.Asked.{AskFacts}
 use Rattle.hook_api.specs.Hooks.{Answers}
 use Rattle.call_plan.specs.declared.needs.Fed.TheVariants.{Replied as FedReply, Answer}
+use Rattle.call_plan.specs.declared.needs.Answered.TheVariants.{NoMemory}
 use Rattle.call_plan.specs.declared.stages.Stage.{Stage}
-use Rattle.call_plan.specs.Reading.{Replied, Told, WantTurn, WantAsk, Waits}
+use Rattle.call_plan.specs.Reading.{Replied, Told, Starved, WantTurn, WantAsk, Ends, Waits, is_marked}
 use Rattle.call_plan.specs.Rest.{rest_of, IsFitting}
 use Rattle.call_plan.specs.Calls.{IsPlanned, stage_after}
 use Rattle.call_plan.specs.Knows.{Knows, Ground, with_found}
 
 -- A turn that a call needs may stand, its reply is one that the call could need there, and after it the call knows its
--- extent again.
+-- extents again. Where the turn can find no memory, the call ends with that.
 pub record GoesOn (c : ℕ) (s : Space) (stage : Stage) (op : Op) : Type 0 where
   pub stands : op_stands s c op ≡ true
   pub fitting : IsFitting (rest_of stage (Replied (step_of s c op).reply ∷ []))
   pub knows : Knows c (step_of s c op).after (stage_after stage (FedReply (step_of s c op).reply))
+  pub starving : is_marked op ≡ true → rest_of stage (Starved ∷ []) ≡ Ends NoMemory []
 
 -- every turn that a call needs goes on so, whatever chunk of another arena is found
 abbrev pub TurnsGoOn : Type 0

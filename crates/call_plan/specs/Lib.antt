@@ -1,10 +1,14 @@
+pub mod Helds
+pub mod Desks
 pub mod Reading
 pub mod Malloc
+pub mod Free
 pub mod Rest
 pub mod Stages
 pub mod Calls
 pub mod Knows
 pub mod Laws
 pub mod Left
+pub mod Flying
 pub mod Causes
 pub mod Bounds

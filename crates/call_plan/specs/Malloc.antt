@@ -12,7 +12,7 @@ use Rattle.hook_api.specs.Asked.{AskFacts, heard_in}
 use Rattle.call_plan.specs.declared.needs.Answered.TheVariants.{Ok, Refused, BadAnswer, TooLarge, NoArena as NoSuchArena}
 use Rattle.call_plan.specs.declared.needs.Given.TheVariants.{Region}
 use Rattle.call_plan.specs.declared.wishes.Wish.{Wish}
-use Rattle.call_plan.specs.Reading.{Item, Outcome, turn, ask, ends, astray}
+use Rattle.call_plan.specs.Reading.{Item, Outcome, turn, marked_turn, ask, ends, astray}
 
 -- ---- the extent is there: a region lands in it
 
@@ -127,7 +127,7 @@ looked wish reply = astray
 
 -- an unused extent is looked for
 abbrev pub look : Wish → List Item → Outcome
-look wish = turn wish.arena (Look wish.pages wish.align) None (looked wish)
+look wish = marked_turn wish.arena (Look wish.pages wish.align) (looked wish)
 
 -- the extent of a large class, anywhere in an arena
 abbrev pub wish_for : ℕ → ℕ → Wish

@@ -7,12 +7,13 @@ use Rattle.call_plan.specs.declared.needs.Answered.{Answered}
 use Rattle.call_plan.specs.declared.needs.Need.{Need}
 use Rattle.call_plan.specs.declared.needs.Need.TheVariants.{Turn as NeedsTurn, Ask as NeedsAsk, Done}
 use Rattle.call_plan.specs.declared.stages.Stage.{Stage}
-use Rattle.call_plan.specs.declared.stages.Stage.TheVariants.{Get, Ended}
+use Rattle.call_plan.specs.declared.stages.Stage.TheVariants.{Get, Give, Put, Ended}
 use Rattle.call_plan.specs.declared.wishes.Getting.{Getting}
 use Rattle.call_plan.specs.declared.wishes.Getting.TheVariants.{Looking, SkipAsked, SkipCut, TrimAsked, TrimCut, GrowAsked, Growing, GrantAsked, GrantCut, CommitAsked, Committing, Landing}
 use Rattle.call_plan.specs.declared.wishes.Wish.{Wish}
 use Rattle.call_plan.specs.Reading.{Item, WantTurn, WantAsk, Outcome, Ends, Waits, Astray, ask, ends}
 use Rattle.call_plan.specs.Malloc.{look, skip_cut_done, trim_cut_done, grow, grow_done, grant_cut_done, commit_done, land}
+use Rattle.call_plan.specs.Free.{give, putting}
 
 -- what is left to read at a point of a malloc
 abbrev pub rest_of_get : Wish → Getting → List Item → Outcome
@@ -37,6 +38,8 @@ rest_after wish (Break answer) = ends answer
 -- what is left to read at a point of a call
 abbrev pub rest_of : Stage → List Item → Outcome
 rest_of (Get wish getting) = rest_of_get wish getting
+rest_of (Give held) = give held
+rest_of (Put arena point) = putting arena point
 rest_of (Ended answer) = ends answer
 
 -- the need of a client is the one that an outcome waits for, or the answer with which it ends

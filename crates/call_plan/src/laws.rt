@@ -1,12 +1,13 @@
 //! Laws of calls, as contracts of functions that do nothing.
 
 ghost use Rattle.call_plan.specs.Left.{TurnsShorten, AsksShorten};
-ghost use Rattle.call_plan.specs.Bounds.{RunsAreShort};
-ghost use Rattle.call_plan.specs.Causes.{RepliesFit, MallocsHaveCauses};
+ghost use Rattle.call_plan.specs.Bounds.{MallocsAreShort, FreesAreShort};
+ghost use Rattle.call_plan.specs.Causes.{RepliesFit, MallocsHaveCauses, FreesHaveCauses};
 ghost use Rattle.call_plan.specs.Laws.{TurnsGoOn, AsksGoOn};
 
-/// Every turn that a call needs may stand in the space of its arena, which is sound and live: the extent that the call
-/// took out is found there, whatever others did meanwhile.
+/// Every turn that a call needs may stand in the space of its arena, which is sound and live: the region that the call
+/// gives back and the extents that it took out are found there, whatever others did meanwhile. Where the turn finds no
+/// memory, the call ends with that.
 pub fn turns_go_on()
     ensures { TurnsGoOn }
 {}
@@ -35,7 +36,15 @@ pub fn mallocs_have_causes()
     ensures { MallocsHaveCauses }
 {}
 
-/// Every call ends after at most 5 asks and 7 turns.
+/// Every free has the answer that was its own to have: the client doesn't hold the region, its first turn found no
+/// memory, or it is done. No refused merge makes it fail.
+pub fn frees_have_causes()
+    ensures { FreesHaveCauses }
+{}
+
+/// A malloc ends after at most 5 asks and 7 turns. A free ends after one turn, and at most 2 asks and 5 turns for each
+/// extent that it puts down.
 pub fn runs_are_short()
-    ensures { RunsAreShort }
+    ensures mallocs { MallocsAreShort }
+    ensures frees { FreesAreShort }
 {}

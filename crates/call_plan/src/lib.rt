@@ -6,15 +6,23 @@
 #![tactic(auto)]
 
 mod calls;
+mod desks;
 mod laws;
 mod needs;
+mod puts;
 mod stages;
 mod wishes;
 
-pub use calls::{Call, Desk};
+pub use calls::Call;
+pub use desks::{Desk, Helds};
 pub use laws::{
-    asks_go_on, calls_shorten, mallocs_have_causes, replies_fit, runs_are_short, turns_go_on,
+    asks_go_on, calls_shorten, frees_have_causes, mallocs_have_causes, replies_fit, runs_are_short,
+    turns_go_on,
 };
 pub use needs::{Answered, Fed, Given, Need, Request, Turn};
+pub use puts::Putting;
 pub use stages::Stage;
 pub use wishes::{Getting, Wish};
+
+#[cfg(test)]
+mod tests;

@@ -11,10 +11,15 @@ pub enum Request {
         /// The bytes.
         size: u64,
     },
+    /// `free`: the client gives a region back that it holds.
+    Free {
+        /// The address of its first byte.
+        addr: u64,
+    },
 }
 
 /// One turn of an arena.
-#[derive(Clone, Copy)]
+#[derive(Drop)]
 pub struct Turn {
     /// The index of the arena.
     pub arena: u32,
@@ -27,7 +32,7 @@ pub struct Turn {
 }
 
 /// What a call needs next.
-#[derive(Clone, Copy)]
+#[derive(Drop)]
 pub enum Need {
     /// A turn of an arena.
     Turn(Turn),
@@ -51,6 +56,8 @@ pub enum Fed {
     Replied(Reply),
     /// The answer to the ask that it told.
     Answer(Asked),
+    /// The turn that it told found no memory, and changed nothing.
+    NoMemory,
 }
 
 /// What an answered call gives.
@@ -63,6 +70,8 @@ pub enum Given {
         /// Its size class.
         class: u8,
     },
+    /// Nothing: what was wanted is done.
+    Done,
 }
 
 /// The answer of a call.
@@ -81,6 +90,10 @@ pub enum Answered {
     },
     /// The size is above 2^35 bytes.
     TooLarge,
+    /// The client holds no region at the address.
+    NotHeld(u64),
     /// The arena isn't live.
     NoArena(u32),
+    /// A turn found no memory.
+    NoMemory,
 }

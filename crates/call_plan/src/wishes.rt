@@ -154,13 +154,7 @@ impl Wish {
             } => self.skip_to(span, committed, skip),
             Reply::Grow => self.grow(),
             Reply::NoArena => ControlFlow::Break(Answered::NoArena(self.arena)),
-            Reply::Noted
-            | Reply::Cut(_)
-            | Reply::Whole
-            | Reply::Refused
-            | Reply::Bad(_)
-            | Reply::Grown { .. }
-            | Reply::Landed { .. } => unreachable!(),
+            _ => unreachable!(),
         }
     }
 }
@@ -175,14 +169,7 @@ impl Wish {
         match reply {
             Reply::Cut(high) => self.trim(high, committed),
             Reply::Whole => self.grow(),
-            Reply::NoArena
-            | Reply::Noted
-            | Reply::Took { .. }
-            | Reply::Grow
-            | Reply::Refused
-            | Reply::Bad(_)
-            | Reply::Grown { .. }
-            | Reply::Landed { .. } => unreachable!(),
+            _ => unreachable!(),
         }
     }
 
@@ -195,14 +182,7 @@ impl Wish {
         match reply {
             Reply::Cut(low) => self.commit(low, committed),
             Reply::Whole => self.grow(),
-            Reply::NoArena
-            | Reply::Noted
-            | Reply::Took { .. }
-            | Reply::Grow
-            | Reply::Refused
-            | Reply::Bad(_)
-            | Reply::Grown { .. }
-            | Reply::Landed { .. } => unreachable!(),
+            _ => unreachable!(),
         }
     }
 
@@ -220,13 +200,7 @@ impl Wish {
                 why,
             }),
             Reply::Grown { span, committed } => self.grant(span, committed),
-            Reply::NoArena
-            | Reply::Noted
-            | Reply::Took { .. }
-            | Reply::Grow
-            | Reply::Cut(_)
-            | Reply::Whole
-            | Reply::Landed { .. } => unreachable!(),
+            _ => unreachable!(),
         }
     }
 
@@ -239,14 +213,7 @@ impl Wish {
         match reply {
             Reply::Cut(low) => self.commit(low, committed),
             Reply::Whole => ControlFlow::Break(Answered::Refused(asked)),
-            Reply::NoArena
-            | Reply::Noted
-            | Reply::Took { .. }
-            | Reply::Grow
-            | Reply::Refused
-            | Reply::Bad(_)
-            | Reply::Grown { .. }
-            | Reply::Landed { .. } => unreachable!(),
+            _ => unreachable!(),
         }
     }
 
@@ -259,14 +226,7 @@ impl Wish {
         match reply {
             Reply::Noted => ControlFlow::Continue(Getting::Landing(span)),
             Reply::Whole => ControlFlow::Break(Answered::Refused(asked)),
-            Reply::NoArena
-            | Reply::Took { .. }
-            | Reply::Grow
-            | Reply::Cut(_)
-            | Reply::Refused
-            | Reply::Bad(_)
-            | Reply::Grown { .. }
-            | Reply::Landed { .. } => unreachable!(),
+            _ => unreachable!(),
         }
     }
 
@@ -281,15 +241,7 @@ impl Wish {
                 addr: first,
                 class: self.class,
             })),
-            Reply::NoArena
-            | Reply::Noted
-            | Reply::Took { .. }
-            | Reply::Grow
-            | Reply::Cut(_)
-            | Reply::Whole
-            | Reply::Refused
-            | Reply::Bad(_)
-            | Reply::Grown { .. } => unreachable!(),
+            _ => unreachable!(),
         }
     }
 
@@ -308,11 +260,7 @@ impl Wish {
             Getting::GrantCut(committed, asked) => self.grant_cut(committed, asked, reply),
             Getting::Committing(span, asked) => self.committed(span, asked, reply),
             Getting::Landing(_) => self.landed(reply),
-            Getting::SkipAsked(_, _, _)
-            | Getting::TrimAsked(_, _)
-            | Getting::GrowAsked
-            | Getting::GrantAsked(_, _)
-            | Getting::CommitAsked(_) => unreachable!(),
+            _ => unreachable!(),
         }
     }
 
@@ -334,13 +282,7 @@ impl Wish {
                 committed, asked,
             )),
             Getting::CommitAsked(span) => ControlFlow::Continue(Getting::Committing(span, asked)),
-            Getting::Looking
-            | Getting::SkipCut(_, _)
-            | Getting::TrimCut(_, _)
-            | Getting::Growing(_)
-            | Getting::GrantCut(_, _)
-            | Getting::Committing(_, _)
-            | Getting::Landing(_) => unreachable!(),
+            _ => unreachable!(),
         }
     }
 }
