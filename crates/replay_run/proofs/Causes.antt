@@ -1,13 +1,13 @@
 -- Each answer in a play has its cause.
-use Rattle.std.proofs.Common.{nat_lt, ◌≡◌, List, [], ◌∷◌, ◌++◌, Option, Some, None, IfSome, refl, sym, ap, ◌∙◌, subst}
+use Rattle.std.proofs.Common.{ltb as nat_lt, cond, true, false, ◌^◌, ◌≡◌, List, [], ◌∷◌, ◌++◌, Option, Some, None, IfSome, refl, sym, ap, ◌∙◌, subst}
 use mathlib.Core.List.{append-nil}
 use Rattle.space_model.specs.Step.{step_of, op_stands}
 use Rattle.space_model.proofs.Pieces.{both_true}
 use Rattle.call_plan.specs.declared.needs.Request.{Request}
-use Rattle.call_plan.specs.declared.needs.Request.TheVariants.{Malloc}
+use Rattle.call_plan.specs.declared.needs.Request.TheVariants.{Malloc, Free}
 use Rattle.call_plan.specs.Reading.{Item, Replied, Told, WantTurn, WantAsk, Outcome, Ends, Waits, Astray}
 use Rattle.call_plan.specs.declared.stages.Stage.{Stage}
-use Rattle.call_plan.specs.declared.stages.Stage.TheVariants.{Get, Ended}
+use Rattle.call_plan.specs.declared.stages.Stage.TheVariants.{Get, Give, Put, Ended}
 use Rattle.call_plan.specs.declared.wishes.Getting.TheVariants.{Looking, SkipAsked, SkipCut, TrimAsked, TrimCut, GrowAsked, Growing, GrantAsked, GrantCut, CommitAsked, Committing, Landing}
 use Rattle.call_plan.specs.declared.needs.Answered.{Answered}
 use Rattle.call_plan.specs.Rest.{rest_of}
@@ -15,33 +15,38 @@ use Rattle.call_plan.specs.Calls.{reading}
 use Rattle.space_model.specs.declared.Space.{Space}
 use Rattle.call_plan.specs.Causes.{ItemFits, AreReplies}
 use Rattle.call_plan.proofs.Causes.{replies-fit, items_fit-push, mallocs-have_causes}
+use Rattle.call_plan.proofs.Frees.{frees-have_causes}
+use Rattle.call_plan.specs.Desks.{DeskFacts}
+use Rattle.call_plan.specs.Helds.{held_at}
+use Rattle.call_plan.specs.Free.{free_of}
+use Rattle.call_plan.specs.Malloc.{look, wish_for}
+use Rattle.call_plan.specs.Reading.{ends}
+use Rattle.call_plan.specs.declared.needs.Answered.TheVariants.{TooLarge}
+use Rattle.size_classes.specs.Classes.{class_for}
 use Rattle.trace_text.specs.declared.lines.Line.{Line}
 use Rattle.trace_text.specs.declared.lines.Line.TheVariants.{Call}
-use Rattle.trace_text.specs.declared.lines.Verb.TheVariants.{Malloc as MallocVerb, Free}
 use Rattle.replay_run.specs.World.{Open, World, Move, Turned, Heard_, outcome_of, on_end, printed, begun, fed, opened, opening, moved, after_in, after_move, Fits, NextIn, IsNext, IsPlay}
 use Rattle.replay_run.specs.Sane.{Kept, Going, Sane}
-use Rattle.replay_run.specs.Causes.{items_in, IsExplained, EndsExplained, AllMoves, PlaysHaveCauses, AnswersAtOnceHaveCauses}
-use Rattle.replay_run.proofs.Plays.{after_sane, opened_going, opening_sane, first_good, next_turn, turned_going, heard_going}
-use Rattle.space_model.specs.Opening.{first_space}
+use Rattle.replay_run.specs.Causes.{items_in, AnswerHasCause, IsExplained, EndsExplained, AllMoves, PlaysHaveCauses, AnswersAtOnceHaveCauses}
+use Rattle.replay_run.proofs.Plays.{after_sane, opening_sane, first_good, next_turn, turned_going, heard_going}
 
 -- what the open call was fed are replies to its turns and answers to its asks
 abbrev IsFed : World → Type 0
-IsFed w = IfSome w.call (λ call. AreReplies call.arena call.request call.items)
+IsFed w = IfSome w.call (λ call. AreReplies call.desk call.request call.items)
 
 -- a line opens a call that was fed nothing
 begun_fed : (lines : List Line) (w : World) → IsFed (begun lines w)
 begun_fed [] w = tt
-begun_fed (Call client (MallocVerb name size) ∷ lines) w =
-    let call : Open = opened client name size in
+begun_fed (Call client verb ∷ lines) w =
+    let call : Open = opened w client verb in
     elim (outcome_of call) as (λ o. IsFed (on_end o (λ answer. begun lines (printed w call answer)) (record w { call = Some call; lines = lines }))) [
       | Ends answer items ↦ begun_fed lines (printed w call answer)
       | Waits want ↦ tt
       | Astray ↦ tt
     ]
-begun_fed (Call client (Free target) ∷ lines) w = begun_fed lines w
 
 -- a call that was fed one more
-fed_fed : (w : World) (call : Open) (lines : List Line) → AreReplies call.arena call.request call.items → IsFed (fed w call lines)
+fed_fed : (w : World) (call : Open) (lines : List Line) → AreReplies call.desk call.request call.items → IsFed (fed w call lines)
 fed_fed w call lines are =
     elim (outcome_of call) as (λ o. IsFed (on_end o (λ answer. begun lines (printed w call answer)) (record w { call = Some call; lines = lines }))) [
       | Ends answer items ↦ begun_fed lines (printed w call answer)
@@ -51,13 +56,13 @@ fed_fed w call lines are =
 
 -- a move that is needed feeds an item that fits
 fits_more : (w : World) (call : Open) (o : Outcome) (move : Move) → Kept w.space w.kept → Going w.space call → outcome_of call ≡ o → Fits w o move →
-    AreReplies call.arena call.request call.items → AreReplies call.arena call.request (call.items ++ items_in w call o move)
+    AreReplies call.desk call.request call.items → AreReplies call.desk call.request (call.items ++ items_in w call o move)
 fits_more w call (Waits (WantTurn arena op asked)) Turned known going e fits are =
-    items_fit-push (reading call.arena call.request) call.items (Replied (step_of w.space call.client op).reply) are
+    items_fit-push (reading call.desk call.request) call.items (Replied (step_of w.space call.client op).reply) are
     (subst (λ (o : Outcome). ItemFits o (Replied (step_of w.space call.client op).reply)) (sym e) (replies-fit w.space call.client op
     (both_true (nat_lt call.client 32) (op_stands w.space call.client op) (next_turn w.space w.kept call arena op asked known going e).may).1))
 fits_more w call (Waits (WantAsk arena wanted)) (Heard_ asked) known going e fits are =
-    items_fit-push (reading call.arena call.request) call.items (Told asked) are
+    items_fit-push (reading call.desk call.request) call.items (Told asked) are
     (subst (λ (o : Outcome). ItemFits o (Told asked)) (sym e) fits.0)
 fits_more w call (Waits (WantTurn arena op asked)) (Heard_ told) known going e fits are = absurd fits
 fits_more w call (Waits (WantAsk arena wanted)) Turned known going e fits are = absurd fits
@@ -66,7 +71,7 @@ fits_more w call Astray move known going e fits are = absurd fits
 
 -- so the next world's call is fed such items too
 moved_fed : (w : World) (call : Open) (o : Outcome) (move : Move) → Fits w o move →
-    AreReplies call.arena call.request (call.items ++ items_in w call o move) → IsFed (moved w call o move)
+    AreReplies call.desk call.request (call.items ++ items_in w call o move) → IsFed (moved w call o move)
 moved_fed w call (Waits (WantTurn arena op asked)) Turned fits are =
     fed_fed _ (record call { items = call.items ++ Replied (step_of w.space call.client op).reply ∷ [] }) w.lines are
 moved_fed w call (Waits (WantAsk arena wanted)) (Heard_ asked) fits are = fed_fed w (record call { items = call.items ++ Told asked ∷ [] }) w.lines are
@@ -78,6 +83,8 @@ moved_fed w call Astray move fits are = absurd fits
 -- a call that ended leaves nothing of what it was fed
 nothing_left : (stage : Stage) (answer : Answered) (left : List Item) → rest_of stage [] ≡ Ends answer left → left ≡ []
 nothing_left (Ended other) answer left e = cc
+nothing_left (Give held) answer left e = absurd (cc)
+nothing_left (Put arena point) answer left e = absurd (cc)
 nothing_left (Get wish Looking) answer left e = absurd (cc)
 nothing_left (Get wish (SkipAsked span is_committed skip)) answer left e = absurd (cc)
 nothing_left (Get wish (SkipCut is_committed asked)) answer left e = absurd (cc)
@@ -92,13 +99,16 @@ nothing_left (Get wish (Committing span asked)) answer left e = absurd (cc)
 nothing_left (Get wish (Landing span)) answer left e = absurd (cc)
 
 -- an answer after such items has its cause
-explained : (s : Space) (call : Open) (request : Request) → call.request ≡ request → Going s call → AreReplies call.arena request call.items →
-    IsExplained call.arena request call.items
-explained s call (Malloc size) is going are = λ answer left ends.
-    let here : rest_of going.stage [] ≡ Ends answer left =
-    sym (going.reads []) ∙ ap (reading call.arena call.request) (append-nil call.items) ∙ ap (λ r. reading call.arena r call.items) is ∙ ends in
-    mallocs-have_causes call.arena size call.items answer
-    (subst (λ (xs : List Item). reading call.arena (Malloc size) call.items ≡ Ends answer xs) (nothing_left going.stage answer left here) ends) are
+run_explained : (desk : DeskFacts) (request : Request) (items : List Item) (answer : Answered) → reading desk request items ≡ Ends answer [] → AreReplies desk request items →
+    AnswerHasCause desk request items answer
+run_explained desk (Malloc size) items answer run are = mallocs-have_causes desk size items answer run are
+run_explained desk (Free addr) items answer run are = frees-have_causes desk addr items answer run
+
+explained : (s : Space) (call : Open) → Going s call → AreReplies call.desk call.request call.items → IsExplained call.desk call.request call.items
+explained s call going are = λ answer left ends.
+    let here : rest_of going.stage [] ≡ Ends answer left = sym (going.reads []) ∙ ap (reading call.desk call.request) (append-nil call.items) ∙ ends in
+    run_explained call.desk call.request call.items answer
+    (subst (λ (xs : List Item). reading call.desk call.request call.items ≡ Ends answer xs) (nothing_left going.stage answer left here) ends) are
 
 -- the call that a needed move leads on
 going_after : (w : World) (call : Open) (o : Outcome) (move : Move) → Kept w.space w.kept → Going w.space call → outcome_of call ≡ o → Fits w o move →
@@ -112,15 +122,15 @@ going_after w call Astray move known going e fits = absurd fits
 
 -- a move, by the open call
 move_at : (w : World) (o : Option Open) (move : Move) → w.call ≡ o → Sane w → IsFed w → IsNext w move →
-    IfSome o (λ call. IsExplained call.arena call.request (call.items ++ items_in w call (outcome_of call) move)) × IsFed (after_in w move o)
+    IfSome o (λ call. IsExplained call.desk call.request (call.items ++ items_in w call (outcome_of call) move)) × IsFed (after_in w move o)
 move_at w None move e sane is next = absurd (subst (NextIn w move) e next)
 move_at w (Some call) move e sane is next =
     let going : Going w.space call = subst (λ (o : Option Open). IfSome o (Going w.space)) e sane.call in
     let fits : Fits w (outcome_of call) move = subst (NextIn w move) e next in
-    let are : AreReplies call.arena call.request call.items = subst (λ (o : Option Open). IfSome o (λ call. AreReplies call.arena call.request call.items)) e is in
+    let are : AreReplies call.desk call.request call.items = subst (λ (o : Option Open). IfSome o (λ call. AreReplies call.desk call.request call.items)) e is in
     let after = going_after w call (outcome_of call) move sane.kept going refl fits in
     let more = fits_more w call (outcome_of call) move sane.kept going refl fits are in
-    (explained after.0 (record call { items = call.items ++ items_in w call (outcome_of call) move }) call.request refl after.1 more, moved_fed w call (outcome_of call) move fits more)
+    (explained after.0 (record call { items = call.items ++ items_in w call (outcome_of call) move }) after.1 more, moved_fed w call (outcome_of call) move fits more)
 
 -- the moves of a play
 moves_explained : (w : World) (moves : List Move) → Sane w → IsFed w → IsPlay w moves → AllMoves EndsExplained w moves
@@ -132,6 +142,14 @@ moves_explained w (move ∷ moves) sane is play =
 pub plays-have_causes : PlaysHaveCauses
 plays-have_causes lines moves carried play = moves_explained (opening lines) moves (opening_sane lines first_good carried) (begun_fed lines _) play
 
+-- what a call that ends at once leaves is nothing
+at_once_left : (desk : DeskFacts) (request : Request) (answer : Answered) (left : List Item) → reading desk request [] ≡ Ends answer left → left ≡ []
+at_once_left desk (Malloc size) answer left e =
+    elim (nat_lt (2 ^ 35) size) as (λ b. cond b (ends TooLarge) (look (wish_for desk.arena (class_for size))) [] ≡ Ends answer left → left ≡ [])
+    [ true ↦ λ h. cc | false ↦ λ h. absurd (cc) ] e
+at_once_left desk (Free addr) answer left e =
+    elim (held_at addr desk.held) as (λ o. free_of addr o [] ≡ Ends answer left → left ≡ []) [ None ↦ λ h. cc | Some held ↦ λ h. absurd (cc) ] e
+
 pub answers-at_once_have_causes : AnswersAtOnceHaveCauses
-answers-at_once_have_causes client size own large =
-    explained first_space (opened client [] size) (Malloc size) refl (opened_going first_space client [] size own large) tt
+answers-at_once_have_causes desk request built = λ answer left ends.
+    run_explained desk request [] answer (subst (λ (xs : List Item). reading desk request [] ≡ Ends answer xs) (at_once_left desk request answer left ends) ends) tt

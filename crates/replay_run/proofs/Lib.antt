@@ -3,7 +3,13 @@ pub mod Wants
 pub mod Plays
 pub mod Ways
 pub mod Runs
+pub mod Begins
+pub mod RoomLeft
 pub mod Replays
 pub mod Causes
 pub mod LinesRead
+pub mod Endings
+pub mod Later
+pub mod Hands
+pub mod Desks
 pub mod Stops

@@ -15,6 +15,34 @@ use Rattle.space_model.specs.Journal.{replay, all_stand, turns_of, Good}
 use Rattle.space_model.specs.Step.{space_after, reply_to, stands, step_of, op_stands, is_live}
 use Rattle.space_model.specs.Region.{is_held_by}
 use Rattle.space_model.proofs.Steps.{Good-step}
+use Rattle.call_plan.specs.Flying.{HasFlights}
+use Rattle.call_plan.specs.Left.{flights}
+use Rattle.call_plan.proofs.Counted.{turn_flights, ask_flights}
+use Rattle.space_model.specs.declared.Pace.{Pace}
+use Rattle.space_model.specs.declared.Span.{Span}
+use Rattle.space_model.specs.declared.Reply.TheVariants.{Next, Beside, Joined}
+use Rattle.space_model.specs.Step.{holds_at}
+use Rattle.space_model.proofs.Exchange.{find_has, find_passes}
+use Rattle.std.proofs.lemmas.Bool.{eqb-true}
+use Rattle.thread_cache.specs.declared.Held.{Held}
+use Rattle.call_plan.specs.declared.needs.Answered.TheVariants.{NotHeld, Ok as AnswersOk}
+use Rattle.call_plan.specs.declared.needs.Given.TheVariants.{Region as GivesRegion, Done as GivesDone}
+use Rattle.space_model.specs.declared.Region.{Region}
+use Rattle.call_plan.specs.declared.needs.Request.{Request}
+use Rattle.call_plan.specs.declared.needs.Request.TheVariants.{Malloc, Free}
+use Rattle.call_plan.specs.declared.stages.Stage.TheVariants.{Give, Put}
+use Rattle.call_plan.specs.declared.puts.Putting.{Putting}
+use Rattle.call_plan.specs.declared.puts.Putting.TheVariants.{Finding, MergeAsked, Merging}
+use Rattle.call_plan.specs.Desks.{DeskFacts}
+use Rattle.call_plan.specs.Helds.{stands_at, held_at}
+use Rattle.call_plan.specs.Free.{Onward, To, Over, Nowhere, put_step, beside, is_right, is_left, free_of}
+use Rattle.call_plan.specs.Calls.{IsBuilt, IsLook, gave_stage, put_stage}
+use Rattle.trace_text.specs.declared.lines.Verb.{Verb}
+use Rattle.replay_run.specs.Hands.{IsInHands}
+use Rattle.replay_run.specs.World.{hands_at, hands_in, desk_ended, call_of, request_of}
+use Rattle.replay_run.specs.Sane.{hands_now}
+use Rattle.replay_run.proofs.Hands.{hands_listed}
+use Rattle.replay_run.proofs.Desks.{at_reply, at_answer, hands_stage, hands_at_stage, hands_reply, hands_answer}
 use Rattle.hook_api.specs.Asked.{AskFacts}
 use Rattle.hook_api.specs.Hooks.{Answers}
 use Rattle.hook_api.specs.Kept.{KeptFacts}
@@ -23,7 +51,7 @@ use Rattle.call_plan.specs.declared.needs.Answered.TheVariants.{TooLarge}
 use Rattle.call_plan.specs.declared.needs.Fed.TheVariants.{Replied as FedReply, Answer}
 use Rattle.call_plan.specs.declared.stages.Stage.{Stage}
 use Rattle.call_plan.specs.declared.stages.Stage.TheVariants.{Get, Ended}
-use Rattle.call_plan.specs.declared.wishes.Getting.TheVariants.{Looking}
+use Rattle.call_plan.specs.declared.wishes.Getting.TheVariants.{Looking, SkipAsked, SkipCut, TrimAsked, TrimCut, GrowAsked, Growing, GrantAsked, GrantCut, CommitAsked, Committing, Landing}
 use Rattle.call_plan.specs.declared.wishes.Wish.{Wish}
 use Rattle.call_plan.specs.Reading.{Item, Replied, Told, WantTurn, WantAsk, Outcome, Ends, Waits, Astray, ends}
 use Rattle.call_plan.specs.Malloc.{look, wish_for}
@@ -34,7 +62,7 @@ use Rattle.call_plan.specs.Knows.{Ground}
 use Rattle.call_plan.specs.Laws.{GoesOn}
 use Rattle.replay_run.proofs.Wants.{needed_turn}
 use Rattle.call_plan.proofs.Starts.{malloc-wishes}
-use Rattle.call_plan.proofs.Known.{turns-go_on, asks-go_on}
+use Rattle.call_plan.proofs.GoingOn.{turns-go_on, asks-go_on}
 use Rattle.call_plan.proofs.Points.{reply-reads, answer-reads}
 use Rattle.call_plan.specs.declared.wishes.Getting.{Getting}
 use Rattle.call_plan.specs.Stages.{after_reply_point}
@@ -43,7 +71,7 @@ use Rattle.std.specs.declared.ops.ControlFlow.TheVariants.{Continue, Break}
 use Rattle.space_model.specs.declared.Ask.{Ask}
 use Rattle.trace_text.specs.declared.lines.Line.{Line}
 use Rattle.trace_text.specs.declared.lines.Line.TheVariants.{Call}
-use Rattle.trace_text.specs.declared.lines.Verb.TheVariants.{Malloc as MallocVerb, Free}
+use Rattle.trace_text.specs.declared.lines.Verb.TheVariants.{Malloc as MallocVerb, Free as FreeVerb}
 use Rattle.space_model.proofs.LawLemmas.{first_replays_are_good}
 use Rattle.replay_run.specs.World.{Open, World, outcome_of, on_end, printed, opened, begun, fed, Move, Turned, Heard_, turned, moved, after_in, after_move, Fits, NextIn, IsNext, IsPlay, world_after, empty_world, opening, AllWorlds, entries_of, IsSound, IsCarried}
 use Rattle.replay_run.specs.Sane.{Kept, Going, Sane}
@@ -72,10 +100,11 @@ client_among : (client : ℕ) → client < 32 → list_any (λ b. b == client) (
 client_among client h = grind (arith, nat_tests)
 
 -- so each client allocates from the arena
-ground : (s : Space) (kept : List KeptFacts) (client : ℕ) → Kept s kept → client < 32 → Ground client s
+pub ground : (s : Space) (kept : List KeptFacts) (client : ℕ) → Kept s kept → client < 32 → Ground client s
 ground s kept client known h = record {
   sound = known.good.sound;
   live = known.live;
+  kept = known.stays;
   customer = ap (λ (bs : List ℕ). list_any (λ b. b == client) bs || list_any (is_held_by client) s.regions) known.bound
       ∙ ap (λ b. b || list_any (is_held_by client) s.regions) (client_among client h);
 }
@@ -86,46 +115,161 @@ not_above a b h = grind (arith, nat_tests)
 
 -- ---- lines begin
 
--- the call that a carried line opens is going
-pub opened_going : (s : Space) (client : ℕ) (name : List ℕ) (size : ℕ) → client < 32 → 14336 < size → Going s (opened client name size)
-opened_going s client name size own large =
-    elim (nat_lt (2 ^ 35) size) as (λ b. nat_lt (2 ^ 35) size ≡ b → Going s (opened client name size)) [
+-- a malloc that a line opens
+opened_malloc : (s : Space) (desk : DeskFacts) (verb : Verb) (size : ℕ) → 14336 < size → flights 0 s ≡ 0 → Going s (call_of desk verb (Malloc size))
+opened_malloc s desk verb size large rests =
+    elim (nat_lt (2 ^ 35) size) as (λ b. nat_lt (2 ^ 35) size ≡ b → Going s (call_of desk verb (Malloc size))) [
       | true ↦ λ h. record {
-        client = own;
+        client = refl;
         stage = Ended TooLarge;
-        reads = λ more. ap (λ b. cond b (ends TooLarge) (look (wish_for 0 (class_for size))) more) h;
+        reads = λ more. ap (λ b. cond b (ends TooLarge) (look (wish_for desk.arena (class_for size))) more) h;
         planned = tt;
         knows = tt;
+        at = tt;
+        flown = rests;
       }
       | false ↦ λ h. record {
-        client = own;
-        stage = Get (wish_for 0 (class_for size)) Looking;
-        reads = λ more. ap (λ b. cond b (ends TooLarge) (look (wish_for 0 (class_for size))) more) h;
-        planned = malloc-wishes 0 size (class_for size) (pages_at (class_for size)) refl refl (class_for_exists size (not_above _ _ h)) large;
+        client = refl;
+        stage = Get (wish_for desk.arena (class_for size)) Looking;
+        reads = λ more. ap (λ b. cond b (ends TooLarge) (look (wish_for desk.arena (class_for size))) more) h;
+        planned = malloc-wishes desk.arena size (class_for size) (pages_at (class_for size)) refl refl (class_for_exists size (not_above _ _ h)) large;
         knows = tt;
+        at = (size, refl, refl);
+        flown = rests;
       }
     ] refl
 
-begun_sane : (lines : List Line) (w : World) → Kept w.space w.kept → All IsCarried lines → Sane (begun lines w)
-begun_sane [] w known carried = record { kept = known; call = tt; lines = All-nil IsCarried }
-begun_sane (Call client (MallocVerb name size) ∷ lines) w known carried =
-    let here = All-head IsCarried (Call client (MallocVerb name size)) lines carried in
-    let later = All-tail IsCarried (Call client (MallocVerb name size)) lines carried in
-    let call : Open = opened client name size in
-    elim (outcome_of call) as (λ o. Sane (on_end o (λ answer. begun lines (printed w call answer)) (record w { call = Some call; lines = lines }))) [
-      | Ends answer items ↦ begun_sane lines (printed w call answer) known later
-      | Waits want ↦ record { kept = known; call = opened_going w.space client name size here.0 here.1; lines = later }
-      | Astray ↦ record { kept = known; call = opened_going w.space client name size here.0 here.1; lines = later }
-    ]
-begun_sane (Call client (Free target) ∷ lines) w known carried = absurd (All-head IsCarried (Call client (Free target)) lines carried)
+-- a region that is found stands at the address
+pub found_there : (addr : ℕ) (list : List Held) (held : Held) → held_at addr list ≡ Some held → held.addr ≡ addr
+found_there addr list held found = eqb-true _ _ (find_passes (stands_at addr) list held found)
 
-pub fed_sane : (w : World) (call : Open) (lines : List Line) → Kept w.space w.kept → Going w.space call → All IsCarried lines → Sane (fed w call lines)
-fed_sane w call lines known going carried =
-    elim (outcome_of call) as (λ o. Sane (on_end o (λ answer. begun lines (printed w call answer)) (record w { call = Some call; lines = lines }))) [
-      | Ends answer items ↦ begun_sane lines (printed w call answer) known carried
-      | Waits want ↦ record { kept = known; call = going; lines = carried }
-      | Astray ↦ record { kept = known; call = going; lines = carried }
-    ]
+-- a free that a line opens
+opened_free : (s : Space) (desk : DeskFacts) (verb : Verb) (addr : ℕ) → IsInHands 0 s.regions desk.held → flights 0 s ≡ 0 → Going s (call_of desk verb (Free addr))
+opened_free s desk verb addr hands rests =
+    elim (held_at addr desk.held) as (λ o. held_at addr desk.held ≡ o → Going s (call_of desk verb (Free addr))) [
+      | None ↦ λ h. record {
+        client = refl;
+        stage = Ended (NotHeld addr);
+        reads = λ more. ap (λ o. free_of addr o more) h;
+        planned = tt;
+        knows = tt;
+        at = tt;
+        flown = rests;
+      }
+      | Some held ↦ λ h.
+          let there : held.addr ≡ addr = found_there addr desk.held held h in record {
+            client = refl;
+            stage = Give held;
+            reads = λ more. ap (λ o. free_of addr o more) h;
+            planned = tt;
+            knows = find_has (λ (x : Held). holds_at 0 s.regions x.addr ≡ true) (stands_at addr) desk.held held (hands_listed 0 s.regions desk.held hands) h;
+            at = (ap Free (sym there), refl, held, ap (λ (n : ℕ). held_at n desk.held) there ∙ h);
+            flown = rests;
+          }
+    ] refl
+
+-- the call that a carried line opens is going
+pub opened_going : (s : Space) (desk : DeskFacts) (verb : Verb) (request : Request) → IsBuilt request → IsInHands 0 s.regions desk.held → flights 0 s ≡ 0 → Going s (call_of desk verb request)
+opened_going s desk verb (Malloc size) built hands rests = opened_malloc s desk verb size built rests
+opened_going s desk verb (Free addr) built hands rests = opened_free s desk verb addr hands rests
+
+-- what a carried line asks for can be carried out
+pub carried_built : (names : List (List ℕ × ℕ)) (client : ℕ) (verb : Verb) → IsCarried (Call client verb) → IsBuilt (request_of names verb) × (client ≡ 0)
+carried_built names client (MallocVerb name size) is = (is.1, is.0)
+carried_built names client (FreeVerb target) is = (tt, is)
+
+-- a call that ends at once leaves what the client owns
+too_large_ends : (desk : DeskFacts) (size : ℕ) (answer : Answered) (items : List Item) → reading desk (Malloc size) [] ≡ Ends answer items → desk_ended desk (Malloc size) answer ≡ desk
+too_large_ends desk size answer items e =
+    elim (nat_lt (2 ^ 35) size) as (λ b. cond b (ends TooLarge) (look (wish_for desk.arena (class_for size))) [] ≡ Ends answer items → desk_ended desk (Malloc size) answer ≡ desk) [
+      | true ↦ λ h. let is : TooLarge ≡ answer = cc in subst (λ (x : Answered). desk_ended desk (Malloc size) x ≡ desk) is refl
+      | false ↦ λ h. absurd (cc)
+    ] e
+
+not_held_ends : (desk : DeskFacts) (addr : ℕ) (answer : Answered) (items : List Item) → reading desk (Free addr) [] ≡ Ends answer items → desk_ended desk (Free addr) answer ≡ desk
+not_held_ends desk addr answer items e =
+    elim (held_at addr desk.held) as (λ o. free_of addr o [] ≡ Ends answer items → desk_ended desk (Free addr) answer ≡ desk) [
+      | None ↦ λ h. let is : NotHeld addr ≡ answer = cc in subst (λ (x : Answered). desk_ended desk (Free addr) x ≡ desk) is refl
+      | Some held ↦ λ h. absurd (cc)
+    ] e
+
+pub ends_at_once : (desk : DeskFacts) (request : Request) (answer : Answered) (items : List Item) → reading desk request [] ≡ Ends answer items → desk_ended desk request answer ≡ desk
+ends_at_once desk (Malloc size) answer items e = too_large_ends desk size answer items e
+ends_at_once desk (Free addr) answer items e = not_held_ends desk addr answer items e
+
+-- a call that was fed nothing has given nothing back
+fresh_hands : (held : List Held) (request : Request) → hands_at held request [] ≡ held
+fresh_hands held (Malloc size) = refl
+fresh_hands held (Free addr) = refl
+
+-- the regions in hand of a call that was fed nothing, whether it ends at once or waits
+pub hands_fresh : (desk : DeskFacts) (verb : Verb) (request : Request) (regions : List Region) → IsInHands 0 regions desk.held →
+    IsInHands 0 regions (hands_now (call_of desk verb request) (outcome_of (call_of desk verb request)))
+hands_fresh desk verb request regions hands =
+    elim (reading desk request []) as (λ o. reading desk request [] ≡ o → IsInHands 0 regions (hands_now (call_of desk verb request) o)) [
+      | Ends answer items ↦ λ e. subst (λ (d : DeskFacts). IsInHands 0 regions d.held) (sym (ends_at_once desk request answer items e)) hands
+      | Waits want ↦ λ e. subst (IsInHands 0 regions) (sym (fresh_hands desk.held request)) hands
+      | Astray ↦ λ e. subst (IsInHands 0 regions) (sym (fresh_hands desk.held request)) hands
+    ] refl
+
+-- the client stays who it is
+pub ended_client : (desk : DeskFacts) (request : Request) (answer : Answered) → (desk_ended desk request answer).client ≡ desk.client
+ended_client desk (Malloc size) (AnswersOk (GivesRegion addr class)) = refl
+ended_client desk (Malloc size) (AnswersOk GivesDone) = refl
+ended_client desk (Malloc size) answer = refl
+ended_client desk (Free addr) (AnswersOk (GivesRegion at class)) = refl
+ended_client desk (Free addr) (AnswersOk GivesDone) = refl
+ended_client desk (Free addr) answer = refl
+
+-- a world in which a line was opened
+pub begun_sane : (lines : List Line) (w : World) → Kept w.space w.kept → IsInHands 0 w.space.regions w.desk.held → flights 0 w.space ≡ 0 → All IsCarried lines → Sane (begun lines w)
+begun_sane [] w known hands rests carried = record { kept = known; call = tt; desk = tt; in_hands = hands; rests = λ idle. rests; lines = All-nil IsCarried }
+begun_sane (Call client verb ∷ lines) w known hands rests carried =
+    let here = carried_built w.names client verb (All-head IsCarried (Call client verb) lines carried) in
+    let later = All-tail IsCarried (Call client verb) lines carried in
+    let call : Open = opened w client verb in
+    let going : Going w.space call =
+    subst (λ (c : ℕ). Going w.space (record (call_of w.desk verb (request_of w.names verb)) { client = c })) (sym here.1) (opened_going w.space w.desk verb (request_of w.names verb) here.0 hands rests) in
+    let fresh : IsInHands 0 w.space.regions (hands_at w.desk.held (request_of w.names verb) []) =
+    subst (IsInHands 0 w.space.regions) (sym (fresh_hands w.desk.held (request_of w.names verb))) hands in
+    elim (outcome_of call) as (λ o. outcome_of call ≡ o → Sane (on_end o (λ answer. begun lines (printed w call answer)) (record w { call = Some call; lines = lines }))) [
+      | Ends answer items ↦ λ e. begun_sane lines (printed w call answer) known
+          (subst (λ (d : DeskFacts). IsInHands 0 w.space.regions d.held) (sym (ends_at_once w.desk (request_of w.names verb) answer items e)) hands) rests later
+      | Waits want ↦ λ e. record { kept = known; call = going; desk = refl; in_hands = fresh; rests = λ idle. absurd (cc (idle)); lines = later }
+      | Astray ↦ λ e. record { kept = known; call = going; desk = refl; in_hands = fresh; rests = λ idle. absurd (cc (idle)); lines = later }
+    ] refl
+
+-- a call that has ended has no extent in flight
+ended_flown : (c : ℕ) (s : Space) (stage : Stage) (answer : Answered) (items : List Item) → rest_of stage [] ≡ Ends answer items → HasFlights c s stage → flights c s ≡ 0
+ended_flown c s (Ended other) answer items e flown = flown
+ended_flown c s (Give held) answer items e flown = absurd (cc)
+ended_flown c s (Put arena point) answer items e flown = absurd (cc)
+ended_flown c s (Get wish Looking) answer items e flown = absurd (cc)
+ended_flown c s (Get wish (SkipAsked span b skip)) answer items e flown = absurd (cc)
+ended_flown c s (Get wish (SkipCut b asked)) answer items e flown = absurd (cc)
+ended_flown c s (Get wish (TrimAsked span b)) answer items e flown = absurd (cc)
+ended_flown c s (Get wish (TrimCut b asked)) answer items e flown = absurd (cc)
+ended_flown c s (Get wish GrowAsked) answer items e flown = absurd (cc)
+ended_flown c s (Get wish (Growing asked)) answer items e flown = absurd (cc)
+ended_flown c s (Get wish (GrantAsked span b)) answer items e flown = absurd (cc)
+ended_flown c s (Get wish (GrantCut b asked)) answer items e flown = absurd (cc)
+ended_flown c s (Get wish (CommitAsked span)) answer items e flown = absurd (cc)
+ended_flown c s (Get wish (Committing span asked)) answer items e flown = absurd (cc)
+ended_flown c s (Get wish (Landing span)) answer items e flown = absurd (cc)
+
+call_rests : (s : Space) (call : Open) (going : Going s call) (answer : Answered) (items : List Item) → outcome_of call ≡ Ends answer items → flights 0 s ≡ 0
+call_rests s call going answer items e =
+    subst (λ (c : ℕ). flights c s ≡ 0) going.client
+    (ended_flown call.client s going.stage answer items (sym (going.reads []) ∙ ap (reading call.desk call.request) (append-nil call.items) ∙ e) going.flown)
+
+pub fed_sane : (w : World) (call : Open) (lines : List Line) → Kept w.space w.kept → Going w.space call → call.desk ≡ w.desk →
+    IsInHands 0 w.space.regions (hands_now call (outcome_of call)) → All IsCarried lines → Sane (fed w call lines)
+fed_sane w call lines known going same hands carried =
+    elim (outcome_of call) as (λ o. outcome_of call ≡ o → IsInHands 0 w.space.regions (hands_now call o) → Sane (on_end o (λ answer. begun lines (printed w call answer)) (record w { call = Some call; lines = lines }))) [
+      | Ends answer items ↦ λ e has. begun_sane lines (printed w call answer) known has (call_rests w.space call going answer items e) carried
+      | Waits want ↦ λ e has. record { kept = known; call = going; desk = same; in_hands = subst (λ (d : DeskFacts). IsInHands 0 w.space.regions (hands_at d.held call.request call.items)) same has; rests = λ idle. absurd (cc (idle)); lines = carried }
+      | Astray ↦ λ e has. record { kept = known; call = going; desk = same; in_hands = subst (λ (d : DeskFacts). IsInHands 0 w.space.regions (hands_at d.held call.request call.items)) same has; rests = λ idle. absurd (cc (idle)); lines = carried }
+    ] refl hands
 
 -- ---- moves
 
@@ -146,41 +290,88 @@ kept_after s kept entry asked known may =
           ∙ ap (λ (x : Space). turns_of first_space es ++ (entry, reply_to x entry) ∷ []) (sym known.replayed)))
           (Good-step (turns_of first_space es) s entry known.good may);
       live = ap is_live frame.life ∙ known.live;
+      stays = λ zero. known.stays (ap (λ (pace : Pace). pace.ms) (sym frame.dirty) ∙ zero);
       bound = frame.bound ∙ known.bound;
     }
 
 -- the reading after one more item
 reads_more : (call : Open) (item : Item) (stage : Stage) (after : Stage) →
-    ((more : List Item) → reading call.arena call.request (call.items ++ more) ≡ rest_of stage more) →
+    ((more : List Item) → reading call.desk call.request (call.items ++ more) ≡ rest_of stage more) →
     ((more : List Item) → rest_of stage (item ∷ more) ≡ rest_of after more) →
-    (more : List Item) → reading call.arena call.request ((call.items ++ item ∷ []) ++ more) ≡ rest_of after more
+    (more : List Item) → reading call.desk call.request ((call.items ++ item ∷ []) ++ more) ≡ rest_of after more
 reads_more call item stage after reads step more =
-    ap (reading call.arena call.request) (append_assoc call.items (item ∷ []) more) ∙ reads (item ∷ more) ∙ step more
+    ap (reading call.desk call.request) (append_assoc call.items (item ∷ []) more) ∙ reads (item ∷ more) ∙ step more
 
 -- a point keeps its wish
 planned_flow : (wish : Wish) (flow : ControlFlow Answered Getting) → IsWish wish → IsPlanned (stage_of wish flow)
 planned_flow wish (Continue getting) is = is
 planned_flow wish (Break answer) is = tt
 
-planned-reply : (stage : Stage) (reply : Reply) → IsPlanned stage → IsPlanned (stage_after stage (FedReply reply))
+-- each look of a put is one of three
+abbrev IsLookOnward : Onward → Type 0
+IsLookOnward (To point) = IsLook point
+IsLookOnward Over = Unit {0}
+IsLookOnward Nowhere = Unit {0}
+
+put_planned : (arena : ℕ) (onward : Onward) → IsLookOnward onward → IsPlanned (put_stage arena onward)
+put_planned arena (To point) is = is
+put_planned arena Over is = tt
+put_planned arena Nowhere is = tt
+
+gave_planned : (arena : ℕ) (reply : Reply) → IsPlanned (gave_stage arena reply)
+gave_planned arena (Next (Some span)) = omega (arith)
+gave_planned arena (Next None) = tt
+gave_planned arena reply = tt
+
+beside_looks : (own : Span) (tries : ℕ) (other : Span) → IsLookOnward (beside own tries other)
+beside_looks own tries other =
+    elim (is_right tries own other) as (λ b. IsLookOnward (cond b (To (MergeAsked own other true)) (cond (is_left tries own other) (To (MergeAsked other own false)) Nowhere))) [
+      | true ↦ tt
+      | false ↦ elim (is_left tries own other) as (λ b. IsLookOnward (cond b (To (MergeAsked other own false)) Nowhere)) [ true ↦ tt | false ↦ tt ]
+    ]
+
+reply_looks : (point : Putting) (reply : Reply) → IsLookOnward (put_step point (Replied reply))
+reply_looks (Finding own tries) (Beside other) = beside_looks own tries other
+reply_looks (Finding own tries) (Next (Some span)) = omega (arith)
+reply_looks (Finding own tries) (Next None) = tt
+reply_looks (Finding own tries) reply = tt
+reply_looks (MergeAsked low high own_low) reply = tt
+reply_looks (Merging asked true) (Joined span) = omega (arith)
+reply_looks (Merging asked false) (Joined span) = omega (arith)
+reply_looks (Merging asked own_low) reply = tt
+
+answer_looks : (point : Putting) (asked : AskFacts) → IsLookOnward (put_step point (Told asked))
+answer_looks (Finding own tries) asked = tt
+answer_looks (MergeAsked low high own_low) asked = tt
+answer_looks (Merging told own_low) asked = tt
+
+pub planned-reply : (stage : Stage) (reply : Reply) → IsPlanned stage → IsPlanned (stage_after stage (FedReply reply))
 planned-reply (Get wish getting) reply is = planned_flow wish (after_reply_point wish getting reply) is
+planned-reply (Give held) reply is = gave_planned held.arena reply
+planned-reply (Put arena point) reply is = put_planned arena (put_step point (Replied reply)) (reply_looks point reply)
 planned-reply (Ended answer) reply is = tt
 
-planned-answer : (stage : Stage) (asked : AskFacts) → IsPlanned stage → IsPlanned (stage_after stage (Answer asked))
+pub planned-answer : (stage : Stage) (asked : AskFacts) → IsPlanned stage → IsPlanned (stage_after stage (Answer asked))
 planned-answer (Get wish getting) asked is = is
+planned-answer (Give held) asked is = is
+planned-answer (Put arena point) asked is = put_planned arena (put_step point (Told asked)) (answer_looks point asked)
 planned-answer (Ended answer) asked is = tt
 
 -- a call that waits is at a point that waits for the same
-waits_there : (call : Open) (stage : Stage) (o : Outcome) → ((more : List Item) → reading call.arena call.request (call.items ++ more) ≡ rest_of stage more) →
+waits_there : (call : Open) (stage : Stage) (o : Outcome) → ((more : List Item) → reading call.desk call.request (call.items ++ more) ≡ rest_of stage more) →
     outcome_of call ≡ o → rest_of stage [] ≡ o
-waits_there call stage o reads e = sym (reads []) ∙ ap (reading call.arena call.request) (append-nil call.items) ∙ e
+waits_there call stage o reads e = sym (reads []) ∙ ap (reading call.desk call.request) (append-nil call.items) ∙ e
+
+-- client 0 is one of the 32
+pub below_all : (c : ℕ) → c ≡ 0 → c < 32
+below_all c is = omega (arith, is)
 
 -- the turn that a call in such a world needs goes on
-turn_law : (s : Space) (kept : List KeptFacts) (call : Open) (arena : ℕ) (op : Op) (asked : Option AskFacts) → Kept s kept → (going : Going s call) →
+pub turn_law : (s : Space) (kept : List KeptFacts) (call : Open) (arena : ℕ) (op : Op) (asked : Option AskFacts) → Kept s kept → (going : Going s call) →
     rest_of going.stage [] ≡ Waits (WantTurn arena op asked) → GoesOn call.client s going.stage op
 turn_law s kept call arena op asked known going here =
     subst (GoesOn call.client s going.stage) (needed_turn going.stage arena op asked here).found
-    (turns-go_on call.client s going.stage arena op asked None (ground s kept call.client known going.client) going.planned going.knows here)
+    (turns-go_on call.client s going.stage arena op asked None (ground s kept call.client known (below_all call.client going.client)) going.planned going.knows here)
 
 -- an open call after its turn
 pub turned_going : (w : World) (call : Open) (arena : ℕ) (op : Op) (asked : Option AskFacts) → Kept w.space w.kept → Going w.space call →
@@ -197,20 +388,49 @@ turned_going w call arena op asked known going e =
           (λ more. reply-reads going.stage (WantTurn arena op asked) step.reply here law.fitting more);
       planned = planned-reply going.stage step.reply going.planned;
       knows = law.knows;
+      at = at_reply call going.stage step.reply going.at;
+      flown = turn_flights call.client w.space going.stage arena op asked (ground w.space w.kept call.client known (below_all call.client going.client)) going.planned going.knows going.flown here;
     }
 
-turned_sane : (w : World) (call : Open) (arena : ℕ) (op : Op) (asked : Option AskFacts) → Kept w.space w.kept → Going w.space call → All IsCarried w.lines →
+-- the regions in hand of a world whose call waits, by the call's point
+abbrev IfWaiting : Outcome → Type 0
+IfWaiting (Waits want) = Unit {0}
+IfWaiting (Ends answer items) = ⊥
+IfWaiting Astray = ⊥
+
+hands_before : (w : World) (call : Open) (going : Going w.space call) (o : Outcome) → outcome_of call ≡ o → IfWaiting o → call.desk ≡ w.desk →
+    IsInHands 0 w.space.regions (hands_at w.desk.held call.request call.items) → IsInHands call.client w.space.regions (hands_stage call going.stage)
+hands_before w call going (Waits want) e waits same hands =
+    let here = waits_there call going.stage (Waits want) going.reads e in
+    let alike : hands_at call.desk.held call.request call.items ≡ hands_stage call going.stage = ap (hands_now call) (sym here) ∙ hands_at_stage call going.stage going.at in
+    subst (λ (c : ℕ). IsInHands c w.space.regions (hands_stage call going.stage)) (sym going.client)
+    (subst (IsInHands 0 w.space.regions) alike (subst (λ (d : DeskFacts). IsInHands 0 w.space.regions (hands_at d.held call.request call.items)) (sym same) hands))
+hands_before w call going (Ends answer items) e waits same hands = absurd waits
+hands_before w call going Astray e waits same hands = absurd waits
+
+-- and the other way round
+hands_after : (call : Open) (s : Space) (going : Going s call) → IsInHands call.client s.regions (hands_stage call going.stage) → IsInHands 0 s.regions (hands_now call (outcome_of call))
+hands_after call s going hands =
+    let here : outcome_of call ≡ rest_of going.stage [] = ap (reading call.desk call.request) (sym (append-nil call.items)) ∙ going.reads [] in
+    subst (λ (c : ℕ). IsInHands c s.regions (hands_now call (outcome_of call))) going.client
+    (subst (IsInHands call.client s.regions) (sym (ap (hands_now call) here ∙ hands_at_stage call going.stage going.at)) hands)
+
+turned_sane : (w : World) (call : Open) (arena : ℕ) (op : Op) (asked : Option AskFacts) → Kept w.space w.kept → Going w.space call → call.desk ≡ w.desk →
+    IsInHands 0 w.space.regions (hands_at w.desk.held call.request call.items) → All IsCarried w.lines →
     outcome_of call ≡ Waits (WantTurn arena op asked) → Sane (turned w call op asked)
-turned_sane w call arena op asked known going carried e =
+unfolding turned_going
+turned_sane w call arena op asked known going same hands carried e =
     let s = w.space in
     let here = waits_there call going.stage (Waits (WantTurn arena op asked)) going.reads e in
     let law = turn_law s w.kept call arena op asked known going here in
     let step = step_of s call.client op in
     let entry : Entry = record { client = call.client; op = op } in
-    let may : stands s entry ≡ true = ap (λ b. b && op_stands s call.client op) (lt-ltb _ _ going.client) ∙ law.stands in
+    let may : stands s entry ≡ true = ap (λ b. b && op_stands s call.client op) (lt-ltb _ _ (below_all call.client going.client)) ∙ law.stands in
     fed_sane (record w { space = step.after; kept = w.kept ++ (record { entry = entry; asked = asked }) ∷ [] })
     (record call { items = call.items ++ Replied step.reply ∷ [] }) w.lines
-    (kept_after s w.kept entry asked known may) (turned_going w call arena op asked known going e) carried
+    (kept_after s w.kept entry asked known may) (turned_going w call arena op asked known going e) same
+    (hands_after (record call { items = call.items ++ Replied step.reply ∷ [] }) step.after (turned_going w call arena op asked known going e)
+    (hands_reply call.client s call going.stage arena op asked known.good.sound going.knows going.at here (hands_before w call going (Waits (WantTurn arena op asked)) e tt same hands))) carried
 
 -- an open call after its ask
 pub heard_going : (w : World) (call : Open) (arena : ℕ) (wanted : Ask) (asked : AskFacts) → Going w.space call →
@@ -226,29 +446,39 @@ heard_going w call arena wanted asked going e same answers =
           (λ more. answer-reads going.stage (WantAsk arena wanted) asked here law.0 more);
       planned = planned-answer going.stage asked going.planned;
       knows = law.1;
+      at = at_answer call going.stage arena wanted asked here going.at;
+      flown = ask_flights call.client w.space going.stage arena wanted asked here going.flown;
     }
 
-heard_sane : (w : World) (call : Open) (arena : ℕ) (wanted : Ask) (asked : AskFacts) → Kept w.space w.kept → Going w.space call → All IsCarried w.lines →
+heard_sane : (w : World) (call : Open) (arena : ℕ) (wanted : Ask) (asked : AskFacts) → Kept w.space w.kept → Going w.space call → call.desk ≡ w.desk →
+    IsInHands 0 w.space.regions (hands_at w.desk.held call.request call.items) → All IsCarried w.lines →
     outcome_of call ≡ Waits (WantAsk arena wanted) → asked.ask ≡ wanted → Answers wanted asked.answer →
     Sane (fed w (record call { items = call.items ++ Told asked ∷ [] }) w.lines)
-heard_sane w call arena wanted asked known going carried e same answers =
-    fed_sane w (record call { items = call.items ++ Told asked ∷ [] }) w.lines known (heard_going w call arena wanted asked going e same answers) carried
+unfolding heard_going
+heard_sane w call arena wanted asked known going own hands carried e same answers =
+    let here = waits_there call going.stage (Waits (WantAsk arena wanted)) going.reads e in
+    fed_sane w (record call { items = call.items ++ Told asked ∷ [] }) w.lines known (heard_going w call arena wanted asked going e same answers) own
+    (hands_after (record call { items = call.items ++ Told asked ∷ [] }) w.space (heard_going w call arena wanted asked going e same answers)
+    (hands_answer call.client call going.stage arena wanted asked w.space.regions here going.at (hands_before w call going (Waits (WantAsk arena wanted)) e tt own hands))) carried
 
-moved_sane : (w : World) (call : Open) (o : Outcome) (move : Move) → Kept w.space w.kept → Going w.space call → All IsCarried w.lines →
+moved_sane : (w : World) (call : Open) (o : Outcome) (move : Move) → Kept w.space w.kept → Going w.space call → call.desk ≡ w.desk →
+    IsInHands 0 w.space.regions (hands_at w.desk.held call.request call.items) → All IsCarried w.lines →
     outcome_of call ≡ o → Fits w o move → Sane (moved w call o move)
-moved_sane w call (Waits (WantTurn arena op asked)) Turned known going carried e fits = turned_sane w call arena op asked known going carried e
-moved_sane w call (Waits (WantAsk arena wanted)) (Heard_ asked) known going carried e fits = heard_sane w call arena wanted asked known going carried e fits.0 fits.2
-moved_sane w call (Waits (WantTurn arena op asked)) (Heard_ told) known going carried e fits = absurd fits
-moved_sane w call (Waits (WantAsk arena wanted)) Turned known going carried e fits = absurd fits
-moved_sane w call (Ends answer items) move known going carried e fits = absurd fits
-moved_sane w call Astray move known going carried e fits = absurd fits
+moved_sane w call (Waits (WantTurn arena op asked)) Turned known going same hands carried e fits = turned_sane w call arena op asked known going same hands carried e
+moved_sane w call (Waits (WantAsk arena wanted)) (Heard_ asked) known going same hands carried e fits = heard_sane w call arena wanted asked known going same hands carried e fits.0 fits.2
+moved_sane w call (Waits (WantTurn arena op asked)) (Heard_ told) known going same hands carried e fits = absurd fits
+moved_sane w call (Waits (WantAsk arena wanted)) Turned known going same hands carried e fits = absurd fits
+moved_sane w call (Ends answer items) move known going same hands carried e fits = absurd fits
+moved_sane w call Astray move known going same hands carried e fits = absurd fits
 
 after_sane_at : (w : World) (o : Option Open) (move : Move) → w.call ≡ o → Sane w → IsNext w move → Sane (after_move w move)
 after_sane_at w None move e sane next = absurd (subst (NextIn w move) e next)
 after_sane_at w (Some call) move e sane next =
     let going : Going w.space call = subst (λ (o : Option Open). IfSome o (Going w.space)) e sane.call in
     let fits : Fits w (outcome_of call) move = subst (NextIn w move) e next in
-    let here : Sane (moved w call (outcome_of call) move) = moved_sane w call (outcome_of call) move sane.kept going sane.lines refl fits in
+    let same : call.desk ≡ w.desk = subst (λ (o : Option Open). IfSome o (λ call. call.desk ≡ w.desk)) e sane.desk in
+    let hands : IsInHands 0 w.space.regions (hands_at w.desk.held call.request call.items) = subst (λ (o : Option Open). IsInHands 0 w.space.regions (hands_in w.desk.held o)) e sane.in_hands in
+    let here : Sane (moved w call (outcome_of call) move) = moved_sane w call (outcome_of call) move sane.kept going same hands sane.lines refl fits in
     subst (λ (o : Option Open). Sane (after_in w move o)) (sym e) here
 
 pub after_sane : (w : World) (move : Move) → Sane w → IsNext w move → Sane (after_move w move)
@@ -262,7 +492,7 @@ play_sane w (move ∷ moves) sane play = play_sane (after_move w move) moves (af
 
 -- the arena of a world of which that is known is sound
 sane-sound : (w : World) → Sane w → IsSound w
-sane-sound w sane = record { replayed = sane.kept.replayed; stand = sane.kept.stand; good = sane.kept.good }
+sane-sound w sane = record { replayed = sane.kept.replayed; stand = sane.kept.stand; good = sane.kept.good; in_hands = sane.in_hands; rests = sane.rests }
 
 pub play_sound : (w : World) (moves : List Move) → Sane w → IsPlay w moves → AllWorlds IsSound w moves
 play_sound w [] sane play = sane-sound w sane
@@ -274,14 +504,14 @@ first_good = first_replays_are_good [] refl
 
 -- the opening world
 pub opening_sane : (lines : List Line) → Good [] first_space → All IsCarried lines → Sane (opening lines)
-opening_sane lines good carried = begun_sane lines empty_world (record { replayed = refl; stand = refl; good = good; live = refl; bound = refl }) carried
+opening_sane lines good carried = begun_sane lines empty_world (record { replayed = refl; stand = refl; good = good; live = refl; bound = refl; stays = λ same. absurd (cc (same)) }) (λ addr class. refl) refl carried
 
 -- ---- what a runner needs of the turn or the ask that comes next
 
 -- What is known of the turn that a call needs next.
 pub record NextTurn (s : Space) (call : Open) (op : Op) (asked : Option AskFacts) : Type 0 where
   pub may : stands s (record { client = call.client; op = op }) ≡ true
-  pub fitting : IsFitting (reading call.arena call.request (call.items ++ Replied (step_of s call.client op).reply ∷ []))
+  pub fitting : IsFitting (reading call.desk call.request (call.items ++ Replied (step_of s call.client op).reply ∷ []))
   pub kept : IsKept (record { client = call.client; op = op }) asked
 
 pub next_turn : (s : Space) (kept : List KeptFacts) (call : Open) (arena : ℕ) (op : Op) (asked : Option AskFacts) → Kept s kept → Going s call →
@@ -289,14 +519,14 @@ pub next_turn : (s : Space) (kept : List KeptFacts) (call : Open) (arena : ℕ) 
 next_turn s kept call arena op asked known going e =
     let here = waits_there call going.stage (Waits (WantTurn arena op asked)) going.reads e in
     let law = turn_law s kept call arena op asked known going here in record {
-      may = ap (λ b. b && op_stands s call.client op) (lt-ltb _ _ going.client) ∙ law.stands;
+      may = ap (λ b. b && op_stands s call.client op) (lt-ltb _ _ (below_all call.client going.client)) ∙ law.stands;
       fitting = subst IsFitting (sym (going.reads (Replied (step_of s call.client op).reply ∷ []))) law.fitting;
       kept = (needed_turn going.stage arena op asked here).kept call.client;
     }
 
 pub next_ask : (s : Space) (call : Open) (arena : ℕ) (wanted : Ask) (asked : AskFacts) → Going s call →
     outcome_of call ≡ Waits (WantAsk arena wanted) → asked.ask ≡ wanted → Answers wanted asked.answer →
-    IsFitting (reading call.arena call.request (call.items ++ Told asked ∷ []))
+    IsFitting (reading call.desk call.request (call.items ++ Told asked ∷ []))
 next_ask s call arena wanted asked going e same answers =
     let here = waits_there call going.stage (Waits (WantAsk arena wanted)) going.reads e in
     let law = asks-go_on call.client s going.stage arena wanted asked going.knows here same answers in

@@ -1,11 +1,12 @@
 -- The turns that a call needs: no chunk of another arena is found yet, and an operation carries the answer of its ask.
-use Rattle.std.proofs.Common.{◌≡◌, ℕ, true, false, [], Option, Some, None, refl, subst}
+use Rattle.std.proofs.Common.{◌≡◌, ℕ, true, false, [], ◌∷◌, Option, Some, None, refl, subst}
 use Rattle.space_model.specs.declared.Op.{Op}
-use Rattle.space_model.specs.declared.Op.TheVariants.{Look, CutDone, GrowDone, CommitDone, Land}
+use Rattle.space_model.specs.declared.Op.TheVariants.{Look, CutDone, GrowDone, CommitDone, Land, Back, PutLook, MergeDone}
 use Rattle.hook_api.specs.Asked.{AskFacts, heard_in}
 use Rattle.hook_api.specs.Kept.{IsKept}
 use Rattle.call_plan.specs.declared.stages.Stage.{Stage}
-use Rattle.call_plan.specs.declared.stages.Stage.TheVariants.{Get}
+use Rattle.call_plan.specs.declared.stages.Stage.TheVariants.{Get, Give, Put, Ended}
+use Rattle.call_plan.specs.declared.puts.Putting.TheVariants.{Finding, MergeAsked, Merging}
 use Rattle.call_plan.specs.declared.wishes.Getting.TheVariants.{Looking, SkipCut, TrimCut, Growing, GrantCut, Committing, Landing}
 use Rattle.call_plan.specs.Reading.{WantTurn, Waits}
 use Rattle.call_plan.specs.Rest.{rest_of}
@@ -34,4 +35,12 @@ needed_turn (Get wish (Committing span told)) arena op asked e =
     let o : CommitDone (heard_in told) ≡ op = cc in let a : Some told ≡ asked = cc in of o a (record { found = refl; kept = λ client. refl })
 needed_turn (Get wish (Landing span)) arena op asked e =
     let o : Land span wish.class 1 ≡ op = cc in let none : Option AskFacts = None in let a : none ≡ asked = cc in of o a (record { found = refl; kept = λ client. tt })
-needed_turn stage arena op asked e = absurd (cc)
+needed_turn (Give held) arena op asked e =
+    let o : Back (held.addr ∷ []) ≡ op = cc in let none : Option AskFacts = None in let a : none ≡ asked = cc in of o a (record { found = refl; kept = λ client. tt })
+needed_turn (Put from (Finding own tries)) arena op asked e =
+    let o : PutLook own tries ≡ op = cc in let none : Option AskFacts = None in let a : none ≡ asked = cc in of o a (record { found = refl; kept = λ client. tt })
+needed_turn (Put from (Merging told own_low)) arena op asked e =
+    let o : MergeDone (heard_in told) own_low ≡ op = cc in let a : Some told ≡ asked = cc in of o a (record { found = refl; kept = λ client. refl })
+needed_turn (Put from (MergeAsked low high own_low)) arena op asked e = absurd (cc)
+needed_turn (Ended answer) arena op asked e = absurd (cc)
+needed_turn (Get wish getting) arena op asked e = absurd (cc)

@@ -1,12 +1,14 @@
 -- Why each call of a play has its answer.
-use Rattle.std.specs.Prelude.{◌≡◌, ◌<◌, ℕ, List, [], ◌∷◌, ◌++◌, IfSome, All}
+use Rattle.std.specs.Prelude.{◌≡◌, List, [], ◌∷◌, ◌++◌, IfSome, All}
 use Rattle.space_model.specs.Step.{step_of}
 use Rattle.call_plan.specs.declared.needs.Answered.{Answered}
 use Rattle.call_plan.specs.declared.needs.Request.{Request}
-use Rattle.call_plan.specs.declared.needs.Request.TheVariants.{Malloc}
+use Rattle.call_plan.specs.declared.needs.Request.TheVariants.{Malloc, Free}
+use Rattle.call_plan.specs.Desks.{DeskFacts}
+use Rattle.call_plan.specs.Helds.{held_at}
 use Rattle.call_plan.specs.Reading.{Item, Replied, Told, WantTurn, WantAsk, Outcome, Waits, Ends}
-use Rattle.call_plan.specs.Calls.{reading}
-use Rattle.call_plan.specs.Causes.{Explained}
+use Rattle.call_plan.specs.Calls.{reading, IsBuilt}
+use Rattle.call_plan.specs.Causes.{Explained, FreeHasCause}
 use Rattle.trace_text.specs.declared.lines.Line.{Line}
 use Rattle.replay_run.specs.World.{Open, World, Move, Turned, Heard_, outcome_of, opening, after_move, IsPlay, IsCarried}
 
@@ -16,13 +18,18 @@ items_in w call (Waits (WantTurn arena op asked)) Turned = Replied (step_of w.sp
 items_in w call (Waits (WantAsk arena ask)) (Heard_ asked) = Told asked ∷ []
 items_in w call outcome move = []
 
+-- why a request of a client had its answer after these items
+abbrev pub AnswerHasCause : DeskFacts → Request → List Item → Answered → Type 0
+AnswerHasCause desk (Malloc size) items answer = Explained desk.arena size items answer
+AnswerHasCause desk (Free addr) items answer = FreeHasCause addr (held_at addr desk.held) items answer
+
 -- where a call ends with these items, its answer has its cause among them
-abbrev pub IsExplained : ℕ → Request → List Item → Type 0
-IsExplained arena (Malloc size) items = (answer : Answered) (left : List Item) → reading arena (Malloc size) items ≡ Ends answer left → Explained arena size items answer
+abbrev pub IsExplained : DeskFacts → Request → List Item → Type 0
+IsExplained desk request items = (answer : Answered) (left : List Item) → reading desk request items ≡ Ends answer left → AnswerHasCause desk request items answer
 
 -- where a move ends the open call, the answer has its cause in what that very call was fed
 abbrev pub EndsExplained : World → Move → Type 0
-EndsExplained w move = IfSome w.call (λ call. IsExplained call.arena call.request (call.items ++ items_in w call (outcome_of call) move))
+EndsExplained w move = IfSome w.call (λ call. IsExplained call.desk call.request (call.items ++ items_in w call (outcome_of call) move))
 
 -- something is true of each move of a play, in the world that needs it
 abbrev pub AllMoves : (World → Move → Type 0) → World → List Move → Type 0
@@ -33,6 +40,7 @@ AllMoves P w (move ∷ moves) = P w move × AllMoves P (after_move w move) moves
 abbrev pub PlaysHaveCauses : Type 0
 PlaysHaveCauses = (lines : List Line) (moves : List Move) → All IsCarried lines → IsPlay (opening lines) moves → AllMoves EndsExplained (opening lines) moves
 
--- a malloc that ends at once, before it is fed anything, has its cause too
+-- a call that ends at once, before it is fed anything, has its cause too: a malloc that is too large, or a free of an
+-- address that isn't held
 abbrev pub AnswersAtOnceHaveCauses : Type 0
-AnswersAtOnceHaveCauses = (client size : ℕ) → client < 32 → 14336 < size → IsExplained 0 (Malloc size) []
+AnswersAtOnceHaveCauses = (desk : DeskFacts) (request : Request) → IsBuilt request → IsExplained desk request []

@@ -1,3 +1,5 @@
+pub mod Names
+pub mod Hands
 pub mod World
 pub mod Sane
 pub mod Carried
@@ -5,3 +7,5 @@ pub mod Input
 pub mod Replays
 pub mod Causes
 pub mod Stops
+pub mod SoFar
+pub mod Rooms

@@ -1,5 +1,5 @@
 -- Why a replay stops.
-use Rattle.std.specs.Prelude.{ℕ}
+use Rattle.std.specs.Prelude.{◌≡◌, ◌⊎◌, ℕ, Result, Ok, Err}
 use Rattle.edge_io.specs.Bytes.{Rose}
 use Rattle.replay_run.specs.declared.input.Stop.{Stop}
 use Rattle.replay_run.specs.declared.input.Stop.TheVariants.{ReadFault, WriteFault, NoMemory}
@@ -16,3 +16,12 @@ abbrev pub status_for : Stop → ℕ
 status_for ReadFault = 4
 status_for WriteFault = 5
 status_for NoMemory = 6
+
+-- the status of a replay that went on to its end, or stopped
+abbrev pub status_in : Result ℕ Stop → ℕ
+status_in (Ok status) = status
+status_in (Err stop) = status_for stop
+
+-- the statuses with which a replay ends
+abbrev pub IsReplayStatus : ℕ → Type 0
+IsReplayStatus status = (status ≡ 0) ⊎ (status ≡ 3) ⊎ (status ≡ 4) ⊎ (status ≡ 5) ⊎ (status ≡ 6) ⊎ (status ≡ 7)

@@ -1,14 +1,19 @@
 //! Lines from a source.
 
-ghost use Rattle.std.specs.Prelude.{◌≤◌, ◌≡◌, ◌==◌, ◌<◌, ℕ, List, [], Option, Bool, IfOk, IfErr, IfSome};
+ghost use Rattle.std.specs.Prelude.{◌≤◌, ◌≡◌, ◌==◌, ◌<◌, ◌++◌, ◌↔◌, IsTrue, ℕ, List, [], drop, Option, None, Bool, length, IfOk, IfErr, IfSome, OnOk, OnErr};
 ghost use Rattle.std.specs.List.{position};
 ghost use Rattle.edge_io.specs.Bytes.{Consumes};
+ghost use Rattle.trace_text.specs.Lines.{HasNoNewline};
+ghost use Rattle.replay_run.specs.declared.input.Stop.TheVariants.{ReadFault};
 ghost use Rattle.replay_run.specs.Stops.{HasStopCause};
-ghost use Rattle.replay_run.specs.Input.{InBounds, IsFirst, MetEnd, SaysMalloc};
+ghost use Rattle.replay_run.specs.Input.{InBounds, IsFirst, MetEnd, TakesSome, TakesMore, TakesAny, SaysCall, SaysNone};
+ghost use Rattle.trace_text.specs.declared.lines.Line.TheVariants.{Call};
+ghost use Rattle.replay_run.specs.World.{IsCarried};
 
 use edge_io::Source;
 use std::alloc::{AllocError as NoMemory, Global};
-use trace_text::{Line, LineFault, Name, Verb};
+use std::marker::Model;
+use trace_text::{Line, LineFault, Verb};
 
 /// How many bytes a line has at most, without its newline.
 const LINE_BYTES: usize = 256;
@@ -52,6 +57,62 @@ pub enum Found {
     End,
 }
 
+/// Bytes that were read and aren't used yet, seen as their list.
+#[derive(Drop)]
+pub struct Pending {
+    bytes: Vec<u8>,
+    at: usize,
+}
+
+impl Model for Pending {
+    ghost use Rattle.std.specs.Prelude.{ℕ, ◌≤◌, List, drop, length};
+
+    ghost Value = { List ℕ };
+
+    ghost view = { λ p. drop p.at p.bytes.items };
+
+    ghost invariant = { λ p. p.at ≤ length p.bytes.items };
+}
+
+impl Pending {
+    /// No bytes. Takes no memory.
+    pub fn new(alloc: Global) -> Pending
+        ensures { result ≡ [] }
+    {
+        Pending {
+            bytes: Vec::new(alloc),
+            at: 0,
+        }
+    }
+
+    /// The bytes, in order.
+    pub fn as_slice(&self) -> &[u8]
+        ensures { result.now ≡ self.now }
+    {
+        &self.bytes[self.at..]
+    }
+
+    /// Drops the first bytes, so many.
+    pub fn skip(&mut self, count: usize)
+        requires { count ≤ length self.old }
+        ensures { self.new ≡ drop count self.old }
+    {
+        self.at += count;
+    }
+
+    /// Puts bytes at the end. After an `Err` they are as they were.
+    fn extend(&mut self, piece: &[u8]) -> Result<(), NoMemory>
+        ensures ok { OnOk result (self.new ≡ self.old ++ piece.now) }
+        ensures err { OnErr result (self.new ≡ self.old) }
+    {
+        let count = self.bytes.len() - self.at;
+        self.bytes.copy_within(self.at.., 0);
+        self.bytes.truncate(count);
+        self.at = 0;
+        self.bytes.extend_from_slice(piece)
+    }
+}
+
 /// Where the first newline stands.
 fn newline_in(pending: &[u8]) -> Option<usize>
     ensures { result ≡ position (λ b. b == 10) pending.now }
@@ -64,6 +125,7 @@ fn line_in(pending: &[u8]) -> Option<Found>
     ensures bounds { IfSome result (λ found. InBounds found pending.now) }
     ensures first { IfSome result (λ found. IsFirst found pending.now) }
     ensures not_end { IfSome result (λ found. (left : Option (List ℕ)) (met : Bool) → MetEnd found left met) }
+    ensures none { result ≡ None → (length pending.now ≤ 256) × HasNoNewline pending.now }
 {
     match newline_in(pending) {
         Some(place) if place <= LINE_BYTES => Some(Found::Line(place)),
@@ -73,50 +135,63 @@ fn line_in(pending: &[u8]) -> Option<Found>
 }
 
 /// Reads until the pending bytes begin with a line, or can't.
-pub fn find_line<S: Source>(source: &mut S, pending: &mut Vec<u8>) -> Result<Found, Stop>
-    requires { pending.old.items ≡ [] }
-    ensures bounds { IfOk result (λ found. InBounds found pending.new.items) }
-    ensures first { IfOk result (λ found. IsFirst found pending.new.items) }
-    ensures moved { IfOk result (λ _. Consumes (S.left source.old) (S.left source.new) pending.new.items) }
+pub fn find_line<S: Source>(source: &mut S, pending: &mut Pending) -> Result<Found, Stop>
+    ensures bounds { IfOk result (λ found. InBounds found pending.new) }
+    ensures first { IfOk result (λ found. IsFirst found pending.new) }
+    ensures moved { IfOk result (λ _. TakesMore pending.old pending.new (S.left source.old) (S.left source.new)) }
+    ensures stopped { IfErr result (λ stop. TakesSome (stop ≡ ReadFault) pending.old (S.left source.old) (S.left source.new)) }
     ensures end { IfOk result (λ found. MetEnd found (S.left source.new) (S.ended source.new)) }
     ensures cause { IfErr result (λ stop. HasStopCause stop (S.faults source.old) (S.faults source.new) 0 0) }
     ensures counts { S.faults source.old ≤ S.faults source.new }
 {
     let mut buf = [0u8; READ_BYTES];
     for _ in 0..LINE_BYTES + 2 {
-        if let Some(found) = line_in(pending) {
+        if let Some(found) = line_in(pending.as_slice()) {
             return Ok(found);
         }
         match source.read(&mut buf) {
             Ok(0) => return Ok(Found::End),
-            Ok(count) => pending.extend_from_slice(&buf[..count])?,
+            Ok(count) => pending.extend(&buf[..count])?,
             Err(_) => return Err(Stop::ReadFault),
         }
     }
     Ok(Found::TooLong)
 }
 
-/// A line that is carried out so far: a malloc of client 0, of a size whose class is large.
-#[derive(Drop)]
-pub struct Wanted {
-    /// The name in the line.
-    pub name: Name,
-    /// The bytes that are wanted.
-    pub size: u64,
-    ghost large: { 14336 < size },
+/// Whether bytes are left, of the pending ones or of the source.
+pub fn has_more<S: Source>(source: &mut S, pending: &Pending) -> Result<bool, Stop>
+    ensures takes { IfOk result (λ more. TakesAny more pending.now (S.left source.old) (S.left source.new) (S.ended source.new)) }
+    ensures stopped { OnErr result ((pending.now ≡ []) × Consumes (S.left source.old) (S.left source.new) []) }
+    ensures cause { IfErr result (λ stop. HasStopCause stop (S.faults source.old) (S.faults source.new) 0 0) }
+    ensures counts { S.faults source.old ≤ S.faults source.new }
+{
+    let mut buf = [0u8; READ_BYTES];
+    if !pending.as_slice().is_empty() {
+        return Ok(true);
+    }
+    match source.read(&mut buf) {
+        Ok(count) => Ok(count > 0),
+        Err(_) => Err(Stop::ReadFault),
+    }
 }
 
-/// What a line asks for, or none where it can't be carried out yet.
-pub fn read_wanted(alloc: Global, line: &[u8]) -> Result<Option<Wanted>, NoMemory>
-    ensures { IfOk result (λ found. IfSome found (λ wanted. SaysMalloc line.now wanted.name wanted.size)) }
+/// Whether a call can be carried out: a malloc of a large class, or any free.
+fn is_built(verb: &Verb) -> bool
+    ensures { IsTrue result ↔ IsCarried (Call 0 verb.now) }
+{
+    match verb {
+        Verb::Malloc { size, .. } => *size > LARGEST_SMALL,
+        Verb::Free(_) => true,
+    }
+}
+
+/// What a line asks for, or none where it can't be carried out.
+pub fn read_call(alloc: Global, line: &[u8]) -> Result<Option<Verb>, NoMemory>
+    ensures call { IfOk result (λ found. IfSome found (λ verb. SaysCall line.now verb)) }
+    ensures none { IfOk result (λ found. found ≡ None → SaysNone line.now) }
 {
     match trace_text::read(alloc, line) {
-        Ok(
-            Line::Call {
-                client: 0,
-                verb: Verb::Malloc { name, size },
-            },
-        ) if size > LARGEST_SMALL => Ok(Some(Wanted { name, size })),
+        Ok(Line::Call { client: 0, verb }) if is_built(&verb) => Ok(Some(verb)),
         Err(LineFault::NoMemory) => Err(NoMemory),
         _ => Ok(None),
     }

@@ -8,6 +8,7 @@ mod calls;
 mod input;
 mod laws;
 mod lines;
+mod names;
 mod state;
 
 pub use laws::answers_have_causes;

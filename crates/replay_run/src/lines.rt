@@ -1,29 +1,37 @@
 //! The replay of a trace: its lines are carried out, and what they answer is printed.
 
-ghost use Rattle.std.specs.Prelude.{⊤, ◌≡◌, ◌≢◌, ◌≤◌, ◌⊎◌, ℕ, true, false, List, [], ◌∷◌, Option, IfOk, IfErr, OnOk, map};
+ghost use Rattle.std.specs.Prelude.{⊤, ◌≡◌, ◌≢◌, ◌≤◌, ◌<◌, ◌⊎◌, ℕ, true, List, [], ◌∷◌, ◌++◌, length, Option, Result, Err, IfOk, IfErr, OnOk, OnErr, map};
 ghost use Rattle.std.specs.List.{range_with_len};
-ghost use Rattle.std.specs.Io.KnownBytes.{Appends};
 ghost use Rattle.space_model.specs.Counts.{counts_of};
 ghost use Rattle.space_model.specs.Opening.{first_space};
-ghost use Rattle.space_model.specs.Sound.{Sound};
 ghost use Rattle.hook_api.specs.Kept.{KeptFacts};
 ghost use Rattle.hook_api.specs.ShelfOf.{shelf_of};
 ghost use Rattle.hook_api.specs.declared.kept.Journal.{Journal};
-ghost use Rattle.report_text.specs.Lines.{counts_line, bad_line, unbuilt};
-ghost use Rattle.replay_run.specs.Input.{HasNoMore, SaysMalloc, TakesLine};
-ghost use Rattle.edge_io.specs.Bytes.{Rose};
-ghost use Rattle.replay_run.specs.Stops.{HasStopCause, status_for};
+ghost use Rattle.report_text.specs.Lines.{counts_line, bad_line};
+ghost use Rattle.edge_io.specs.Bytes.{Rose, Appends, AppendsPrefix};
+ghost use Rattle.call_plan.specs.Calls.{IsBuilt};
+ghost use Rattle.call_plan.specs.Desks.{facts_of};
+ghost use Rattle.call_plan.specs.declared.needs.Answered.{Answered};
+ghost use Rattle.trace_text.specs.declared.lines.Line.{Line};
+ghost use Rattle.trace_text.specs.declared.lines.Line.TheVariants.{Call};
+ghost use Rattle.replay_run.specs.World.{fed, call_of, request_of, answer_line, names_ended, first_desk, IsCarried};
+ghost use Rattle.replay_run.specs.Carried.{Desktop, world_of, Carried, IsReady};
+ghost use Rattle.replay_run.specs.Stops.{HasStopCause, IsReplayStatus, status_for, status_in};
 ghost use Rattle.replay_run.specs.declared.input.Stop.TheVariants.{ReadFault, WriteFault};
-ghost use Rattle.replay_run.specs.Replays.{ReplayOf, HasEnded, HasRefused, JournalsOf};
+ghost use Rattle.replay_run.specs.SoFar.{Outset, SoFar, Goes, TellsAnswer};
+ghost use Rattle.replay_run.specs.Replays.{ReplayOf, JournalsOf, line_limit};
 
 use crate::calls::carry_call;
-use crate::input::{Found, READ_BYTES, Stop, Wanted, find_line, read_wanted};
-use crate::state::State;
+use crate::input::{Found, Pending, Stop, find_line, has_more, read_call};
+use crate::names::Names;
+use crate::state::{CLIENT, State};
+use arena_core::Arena;
+use call_plan::{Answered, Given, Request};
 use edge_io::{Failed, Sink, Source, write_all};
 use hook_api::{Askeds, HookShelf, Journal, Journals, Kept, Kepts};
-use report_text::{bad_line, counts_line, malloc_line};
-use space_model::{Space, plain_counts};
+use report_text::{bad_line, counts_line, free_line, malloc_line};
 use std::alloc::{AllocError as NoMemory, Global};
+use trace_text::{Ptr, Verb};
 
 /// Every line was carried out.
 const DONE: u8 = 0;
@@ -40,8 +48,11 @@ const SINK_FAILED: u8 = 5;
 /// Memory was wanting.
 const NO_MEMORY: u8 = 6;
 
-/// The client whose mallocs are carried out so far.
-const CLIENT: u32 = 0;
+/// More lines than a trace may have.
+const OVER_LIMIT: u8 = 7;
+
+/// How many lines a trace has at most.
+const LINES: u64 = 1 << 20;
 
 /// The arena whose counts are printed.
 const ARENA: u32 = 0;
@@ -51,6 +62,9 @@ const ARENAS: u32 = 32;
 
 /// What stands in the report where a line can't be carried out yet.
 const UNBUILT: &str = "unbuilt";
+
+/// What stands in the report behind the last line that a trace may have.
+const LIMIT_LINES: &str = "limit lines";
 
 /// What a replay leaves.
 #[derive(Drop)]
@@ -69,6 +83,7 @@ pub struct Replayed {
 /// Writes all of a text.
 fn print<K: Sink>(sink: &mut K, text: &[u8]) -> Result<(), Stop>
     ensures text { OnOk result (Appends (K.held sink.old) (K.held sink.new) text.now) }
+    ensures beginning { OnErr result (AppendsPrefix (K.held sink.old) (K.held sink.new) text.now) }
     ensures cause { IfErr result (λ stop. HasStopCause stop 0 0 (K.faults sink.old) (K.faults sink.new)) }
     ensures counts { K.faults sink.old ≤ K.faults sink.new }
 {
@@ -78,100 +93,167 @@ fn print<K: Sink>(sink: &mut K, text: &[u8]) -> Result<(), Stop>
     }
 }
 
-/// Prints that a line can't be carried out.
-fn refuse_line<K: Sink>(alloc: Global, sink: &mut K, number: u64) -> Result<u8, Stop>
-    ensures status { IfOk result (λ status. status ≡ 3) }
-    ensures text { OnOk result (Appends (K.held sink.old) (K.held sink.new) (bad_line number unbuilt)) }
+/// Prints that a line can't be carried out, by its number and the cause, and gives the status.
+fn refuse_line<K: Sink>(
+    alloc: Global,
+    sink: &mut K,
+    number: u64,
+    cause: &str,
+    status: u8,
+) -> Result<u8, Stop>
+    ensures status { IfOk result (λ told. told ≡ status) }
+    ensures text { OnOk result (Appends (K.held sink.old) (K.held sink.new) (bad_line number cause.now)) }
+    ensures beginning { OnErr result (AppendsPrefix (K.held sink.old) (K.held sink.new) (bad_line number cause.now)) }
     ensures cause { IfErr result (λ stop. HasStopCause stop 0 0 (K.faults sink.old) (K.faults sink.new)) }
     ensures sink_counts { K.faults sink.old ≤ K.faults sink.new }
 {
-    print(sink, &bad_line(alloc, number, UNBUILT)?)?;
-    Ok(BAD_LINE)
+    print(sink, &bad_line(alloc, number, cause)?)?;
+    Ok(status)
 }
 
 /// Prints the closing lines: the counts of arena 0.
-fn close<K: Sink>(alloc: Global, sink: &mut K, space: &Space) -> Result<u8, Stop>
-    requires { Sound space.now }
-    ensures counts { IfOk result (λ status. Appends (K.held sink.old) (K.held sink.new) (counts_line 0 (counts_of space.now))) }
+fn close<K: Sink>(alloc: Global, sink: &mut K, arena: &Arena) -> Result<u8, Stop>
     ensures status { IfOk result (λ status. status ≡ 0) }
+    ensures text { OnOk result (Appends (K.held sink.old) (K.held sink.new) (counts_line 0 (counts_of arena.now.space))) }
+    ensures beginning { OnErr result (AppendsPrefix (K.held sink.old) (K.held sink.new) (counts_line 0 (counts_of arena.now.space))) }
     ensures cause { IfErr result (λ stop. HasStopCause stop 0 0 (K.faults sink.old) (K.faults sink.new)) }
     ensures sink_counts { K.faults sink.old ≤ K.faults sink.new }
 {
-    print(sink, &counts_line(alloc, ARENA, &plain_counts(space))?)?;
+    print(sink, &counts_line(alloc, ARENA, &arena.counts())?)?;
     Ok(DONE)
 }
 
-/// Whether bytes are left, of those that were read or of the source.
-fn has_more<S: Source>(source: &mut S, pending: &[u8]) -> Result<bool, Stop>
-    ensures none { IfOk result (λ more. more ≡ false → pending.now ≡ []) }
-    ensures end { IfOk result (λ more. more ≡ false → HasNoMore (S.left source.old) (S.left source.new) (S.ended source.new)) }
-    ensures cause { IfErr result (λ stop. HasStopCause stop (S.faults source.old) (S.faults source.new) 0 0) }
-    ensures source_counts { S.faults source.old ≤ S.faults source.new }
+/// What a look for the next line led to.
+#[derive(Clone, Copy, Debug, PartialEq, Eq)]
+enum Next {
+    /// The line was carried out.
+    Carried,
+    /// It can't be carried out.
+    Refused,
+    /// No line is left.
+    Over,
+}
+
+/// What a line asks for, where names stand for their addresses.
+fn request_of(names: &Names, verb: &Verb) -> Request
+    requires { IsCarried (Call 0 verb.now) }
+    ensures request { result ≡ request_of names.now verb.now }
+    ensures built { IsBuilt result }
 {
-    let mut buf = [0u8; READ_BYTES];
-    if !pending.is_empty() {
-        return Ok(true);
-    }
-    match source.read(&mut buf) {
-        Ok(count) => Ok(count > 0),
-        Err(_) => Err(Stop::ReadFault),
+    match verb {
+        Verb::Malloc { size, .. } => Request::Malloc { size: *size },
+        Verb::Free(Ptr::At(addr)) => Request::Free { addr: *addr },
+        Verb::Free(Ptr::Name(name)) => Request::Free {
+            addr: names.address(name),
+        },
     }
 }
 
-/// What stands behind the first line: nothing, and the closing lines are printed, or a line that can't be carried out yet.
-fn go_behind<S: Source, K: Sink>(
+/// The line that tells the answer of a call.
+fn answer_line(alloc: Global, verb: &Verb, answered: &Answered) -> Result<Vec<u8>, NoMemory>
+    ensures { IfOk result (λ line. line.items ≡ answer_line 0 verb.now answered.now) }
+{
+    match verb {
+        Verb::Malloc { name, .. } => malloc_line(alloc, CLIENT, name.as_bytes(), answered),
+        Verb::Free(_) => free_line(alloc, CLIENT, answered),
+    }
+}
+
+/// Binds the name of a malloc to the address of its region, where it gave one.
+fn bind(names: &mut Names, verb: Verb, answered: Answered) -> Result<(), NoMemory>
+    ensures { OnOk result (names.new ≡ names_ended names.old verb answered) }
+{
+    match (verb, answered) {
+        (Verb::Malloc { name, .. }, Answered::Ok(Given::Region { addr, .. })) => {
+            names.bind(name, addr)
+        }
+        _ => Ok(()),
+    }
+}
+
+/// Carries out the call of a line, and prints its answer.
+fn carry_line<K: Sink>(
     alloc: Global,
-    source: &mut S,
     sink: &mut K,
-    pending: &[u8],
-    space: &Space,
-) -> Result<u8, Stop>
-    requires { Sound space.now }
-    ensures counts { IfOk result (λ status. status ≡ 0 → Appends (K.held sink.old) (K.held sink.new) (counts_line 0 (counts_of space.now))) }
-    ensures refused { IfOk result (λ status. status ≡ 3 → Appends (K.held sink.old) (K.held sink.new) (bad_line 2 unbuilt)) }
-    ensures none { IfOk result (λ status. status ≡ 0 → pending.now ≡ []) }
-    ensures end { IfOk result (λ status. status ≡ 0 → HasNoMore (S.left source.old) (S.left source.new) (S.ended source.new)) }
-    ensures status { IfOk result (λ status. (status ≡ 0) ⊎ (status ≡ 3)) }
-    ensures cause { IfErr result (λ stop. HasStopCause stop (S.faults source.old) (S.faults source.new) (K.faults sink.old) (K.faults sink.new)) }
-    ensures source_counts { S.faults source.old ≤ S.faults source.new }
+    shelf: &mut HookShelf,
+    state: &mut State,
+    verb: Verb,
+) -> Result<(), Stop>
+    requires built { IsCarried (Call 0 verb) }
+    requires ready { IsReady state.old.arena.space state.old.kept.items (facts_of state.old.desk) }
+    ensures carried { (text : List ℕ) → let top : Desktop = record { text = text; desk = facts_of state.old.desk; names = state.old.names } in
+        (r : Result Answered (Unit {0})) × Carried (fed (world_of state.old.arena.space state.old.kept.items top) (call_of top.desk verb (request_of top.names verb)) [])
+        state.old.heard.items (shelf_of ExtentHooks-dyn shelf.old) state.new.arena.space state.new.kept.items
+        state.new.heard.items (shelf_of ExtentHooks-dyn shelf.new) top (call_of top.desk verb (request_of top.names verb)) (facts_of state.new.desk) r
+        × TellsAnswer verb r result state.old.names state.new.names (K.held sink.old) (K.held sink.new) }
+    ensures ready { OnOk result (IsReady state.new.arena.space state.new.kept.items (facts_of state.new.desk)) }
+    ensures cause { IfErr result (λ stop. HasStopCause stop 0 0 (K.faults sink.old) (K.faults sink.new)) }
     ensures sink_counts { K.faults sink.old ≤ K.faults sink.new }
 {
-    if has_more(source, pending)? {
-        return refuse_line(alloc, sink, 2);
-    }
-    close(alloc, sink, space)
+    let request = request_of(&state.names, &verb);
+    let answered = carry_call(state, shelf, request)?;
+    let line = answer_line(alloc, &verb, &answered)?;
+    print(sink, &line)?;
+    bind(&mut state.names, verb, answered)?;
+    Ok(())
 }
 
-/// Carries out the malloc of the first line, prints its answer, and looks behind the line.
-fn carry_line<S: Source, K: Sink>(
+/// Looks for the next line, and carries it out.
+fn next_line<S: Source, K: Sink>(
     alloc: Global,
     source: &mut S,
     sink: &mut K,
     shelf: &mut HookShelf,
     state: &mut State,
-    wanted: &Wanted,
-    behind: &[u8],
-) -> Result<u8, Stop>
-    requires space { state.old.space ≡ first_space }
-    requires kept { state.old.kept.items ≡ [] }
-    requires heard { state.old.heard.items ≡ [] }
-    ensures replay { (line : List ℕ) (left : Option (List ℕ)) → SaysMalloc line wanted.now.name wanted.now.size →
-        TakesLine line behind.now left (S.left source.old) →
-        ReplayOf (HasEnded result) (HasRefused result) state.new.kept.items state.new.heard.items (shelf_of ExtentHooks-dyn shelf.old)
-        (shelf_of ExtentHooks-dyn shelf.new) left (K.held sink.old) (K.held sink.new) }
-    ensures ended { IfOk result (λ status. status ≡ 0 → S.ended source.new ≡ true) }
-    ensures status { IfOk result (λ status. (status ≡ 0) ⊎ (status ≡ 3)) }
+    pending: &mut Pending,
+) -> Result<Next, Stop>
+    requires ready { IsReady state.old.arena.space state.old.kept.items (facts_of state.old.desk) }
+    ensures goes { (from : Outset) (lines : List Line) → length lines < line_limit → SoFar from lines (record {
+      space = state.old.arena.space;
+      kept = state.old.kept.items;
+      heard = state.old.heard.items;
+      shelf = shelf_of ExtentHooks-dyn shelf.old;
+      pending = pending.old;
+      left = S.left source.old;
+      met = S.ended source.old;
+      held = K.held sink.old;
+      desk = facts_of state.old.desk;
+      names = state.old.names;
+    })
+        → Goes from lines result (record {
+          space = state.new.arena.space;
+          kept = state.new.kept.items;
+          heard = state.new.heard.items;
+          shelf = shelf_of ExtentHooks-dyn shelf.new;
+          pending = pending.new;
+          left = S.left source.new;
+          met = S.ended source.new;
+          held = K.held sink.new;
+          desk = facts_of state.new.desk;
+          names = state.new.names;
+        }) }
+    ensures ready { OnOk result (IsReady state.new.arena.space state.new.kept.items (facts_of state.new.desk)) }
     ensures cause { IfErr result (λ stop. HasStopCause stop (S.faults source.old) (S.faults source.new) (K.faults sink.old) (K.faults sink.new)) }
     ensures source_counts { S.faults source.old ≤ S.faults source.new }
     ensures sink_counts { K.faults sink.old ≤ K.faults sink.new }
 {
-    let answered = carry_call(state, shelf, CLIENT, wanted.size)?;
-    let line = malloc_line(alloc, CLIENT, wanted.name.as_bytes(), &answered)?;
-    print(sink, &line)?;
-    go_behind(alloc, source, sink, behind, &state.space)
+    let Found::Line(end) = find_line(source, pending)? else {
+        return Ok(if pending.as_slice().is_empty() {
+            Next::Over
+        } else {
+            Next::Refused
+        });
+    };
+    let Some(verb) = read_call(alloc, &pending.as_slice()[..end])? else {
+        return Ok(Next::Refused);
+    };
+    carry_line(alloc, sink, shelf, state, verb)?;
+    pending.skip(end + 1);
+    Ok(Next::Carried)
 }
 
-/// Carries out the lines of the source, and gives the status: 0, or 3 where a line can't be carried out.
+/// Carries out the lines of the source, and gives the status: 0, or 3 where a line can't be carried out, or 7 behind the
+/// last line that a trace may have.
 fn run_lines<S: Source, K: Sink>(
     alloc: Global,
     source: &mut S,
@@ -179,39 +261,33 @@ fn run_lines<S: Source, K: Sink>(
     shelf: &mut HookShelf,
     state: &mut State,
 ) -> Result<u8, Stop>
-    requires space { state.old.space ≡ first_space }
+    requires space { state.old.arena.space ≡ first_space }
     requires kept { state.old.kept.items ≡ [] }
     requires heard { state.old.heard.items ≡ [] }
-    ensures replay { ReplayOf (HasEnded result) (HasRefused result) state.new.kept.items state.new.heard.items (shelf_of ExtentHooks-dyn shelf.old)
-        (shelf_of ExtentHooks-dyn shelf.new) (S.left source.old) (K.held sink.old) (K.held sink.new) }
-    ensures ended { IfOk result (λ status. status ≡ 0 → S.ended source.new ≡ true) }
-    ensures status { IfOk result (λ status. (status ≡ 0) ⊎ (status ≡ 3)) }
+    requires desk { facts_of state.old.desk ≡ first_desk }
+    requires names { state.old.names ≡ [] }
+    ensures replay { ReplayOf (status_in result) state.new.kept.items state.new.heard.items (shelf_of ExtentHooks-dyn shelf.old)
+        (shelf_of ExtentHooks-dyn shelf.new) (S.ended source.new) (S.left source.old) (S.left source.new) (K.held sink.old) (K.held sink.new) }
+    ensures status { IfOk result (λ status. (status ≡ 0) ⊎ (status ≡ 3) ⊎ (status ≡ 7)) }
     ensures cause { IfErr result (λ stop. HasStopCause stop (S.faults source.old) (S.faults source.new) (K.faults sink.old) (K.faults sink.new)) }
     ensures source_counts { S.faults source.old ≤ S.faults source.new }
     ensures sink_counts { K.faults sink.old ≤ K.faults sink.new }
 {
-    let mut pending = Vec::new(alloc);
-    let Found::Line(end) = find_line(source, &mut pending)? else {
-        if pending.is_empty() {
-            return close(alloc, sink, &state.space);
+    let mut pending = Pending::new(alloc);
+    for count in 0..LINES {
+        match next_line(alloc, source, sink, shelf, state, &mut pending)? {
+            Next::Carried => {}
+            Next::Refused => return refuse_line(alloc, sink, count + 1, UNBUILT, BAD_LINE),
+            Next::Over => return close(alloc, sink, &state.arena),
         }
-        return refuse_line(alloc, sink, 1);
-    };
-    let Some(wanted) = read_wanted(alloc, &pending[..end])? else {
-        return refuse_line(alloc, sink, 1);
-    };
-    carry_line(
-        alloc,
-        source,
-        sink,
-        shelf,
-        state,
-        &wanted,
-        &pending[end + 1..],
-    )
+    }
+    if has_more(source, &pending)? {
+        return refuse_line(alloc, sink, LINES + 1, LIMIT_LINES, OVER_LIMIT);
+    }
+    close(alloc, sink, &state.arena)
 }
 
-/// The journals of the arenas, of which only arena 0 has entries so far.
+/// The journals of the arenas, of which only arena 0 has entries.
 fn journals_of(alloc: Global, kept: Vec<Kept>) -> Result<Journals, NoMemory>
     ensures { IfOk result (λ journals. JournalsOf kept.items journals) }
 {
@@ -251,13 +327,12 @@ struct Ending {
 
 /// The status and the journals after the lines: without memory for the journals, none and status 6.
 fn end_of(alloc: Global, kept: Vec<Kept>, ended: Result<u8, Stop>) -> Ending
-    requires { IfOk ended (λ status. (status ≡ 0) ⊎ (status ≡ 3)) }
-    ensures whole { result.status ≡ 0 → HasEnded ended }
-    ensures refused { result.status ≡ 3 → HasRefused ended }
+    requires { IfOk ended (λ status. (status ≡ 0) ⊎ (status ≡ 3) ⊎ (status ≡ 7)) }
+    ensures of_lines { (result.status ≡ status_in ended) ⊎ (result.status ≡ 6) }
     ensures journals { result.status ≢ 6 → JournalsOf kept.items result.journals }
     ensures read_fault { result.status ≡ 4 → ended ≡ Err ReadFault }
     ensures write_fault { result.status ≡ 5 → ended ≡ Err WriteFault }
-    ensures status { result.status ≢ 2 }
+    ensures known { IsReplayStatus result.status }
 {
     let Ok(journals) = journals_of(alloc, kept) else {
         return Ending {
@@ -276,9 +351,10 @@ fn end_of(alloc: Global, kept: Vec<Kept>, ended: Result<u8, Stop>) -> Ending
 
 /// Carries out the lines of a source, asks the hooks of the shelf, and prints what the calls answer and the closing counts.
 ///
-/// So far the first line may be a malloc of a large class by client 0; any other line is answered by `line N: unbuilt`, and
-/// ends the replay with status 3. After a read that failed the status is 4, after a write that failed 5, and 6 where memory
-/// was wanting; the journals and the asks stay.
+/// A line may be a malloc of a large class or a free, by client 0; any other line is answered by `line N: unbuilt`, and ends
+/// the replay with status 3. A line behind the 1,048,576 that a trace may have is answered by `line N: limit lines` and ends it
+/// with status 7. After a read that failed the status is 4, after a write that failed 5, and 6 where memory was wanting; the
+/// journals and the asks stay.
 pub fn replay<S: Source, K: Sink>(
     alloc: Global,
     source: &mut S,
@@ -288,22 +364,25 @@ pub fn replay<S: Source, K: Sink>(
     // This clause asks nothing. By it callers in other crates know that no hooks are made in here: those that come back
     // are those that were handed in.
     requires { ⊤ }
-    ensures replay { (kept : List KeptFacts) × ReplayOf (result.status ≡ 0) (result.status ≡ 3) kept result.heard (shelf_of ExtentHooks-dyn shelf)
-        (shelf_of ExtentHooks-dyn result.shelf) (S.left source.old) (K.held sink.old) (K.held sink.new)
+    ensures replay { (kept : List KeptFacts) × ReplayOf result.status kept result.heard (shelf_of ExtentHooks-dyn shelf)
+        (shelf_of ExtentHooks-dyn result.shelf) (S.ended source.new) (S.left source.old) (S.left source.new) (K.held sink.old) (K.held sink.new)
         × (result.status ≢ 6 → JournalsOf kept result.journals) }
     ensures ended { result.status ≡ 0 → S.ended source.new ≡ true }
     ensures read_fault { result.status ≡ 4 → Rose (S.faults source.old) (S.faults source.new) }
     ensures write_fault { result.status ≡ 5 → Rose (K.faults sink.old) (K.faults sink.new) }
-    ensures status { result.status ≢ 2 }
+    ensures known { IsReplayStatus result.status }
 {
     let mut shelf = shelf;
-    let mut state = State::new(alloc);
+    let Ok(mut state) = State::new(alloc) else {
+        return Replayed {
+            status: NO_MEMORY,
+            shelf,
+            journals: Journals::none(alloc),
+            heard: Askeds::new(alloc),
+        };
+    };
     let ended = run_lines(alloc, source, sink, &mut shelf, &mut state);
-    let State {
-        space: _,
-        kept,
-        heard,
-    } = state;
+    let (kept, heard) = state.into_books();
     let Ending { status, journals } = end_of(alloc, kept, ended);
     Replayed {
         status,

@@ -7,9 +7,9 @@ use Rattle.space_model.specs.declared.asks.Ask.TheVariants.{Alloc, Dalloc, Destr
 use Rattle.space_model.specs.declared.entries.Why.{Why}
 use Rattle.space_model.specs.declared.entries.Why.TheVariants.{OffSpace, Unaligned, Meets}
 use Rattle.call_plan.specs.declared.needs.Answered.{Answered}
-use Rattle.call_plan.specs.declared.needs.Answered.TheVariants.{Ok, Refused, BadAnswer, TooLarge, NoArena}
+use Rattle.call_plan.specs.declared.needs.Answered.TheVariants.{Ok, Refused, BadAnswer, TooLarge, NotHeld, NoArena, NoMemory}
 use Rattle.call_plan.specs.declared.needs.Given.{Given}
-use Rattle.call_plan.specs.declared.needs.Given.TheVariants.{Region}
+use Rattle.call_plan.specs.declared.needs.Given.TheVariants.{Region, Done}
 use Rattle.report_text.specs.Places.{address_text, span_text}
 
 -- the kind of an ask
@@ -30,9 +30,10 @@ why_text OffSpace = codes "off space"
 why_text Unaligned = codes "unaligned"
 why_text (Meets chunk) = codes "meets " ++ span_text chunk
 
--- what a call gives: a region's address and the size of its class
+-- what a call gives: a region's address and the size of its class, or nothing
 abbrev pub given_text : Given → List ℕ
 given_text (Region addr class) = address_text addr ++ codes " " ++ decimal (size_at class)
+given_text Done = codes "ok"
 
 -- the answer of a call
 abbrev pub answer_text : Answered → List ℕ
@@ -40,4 +41,6 @@ answer_text (Ok given) = given_text given
 answer_text (Refused asked) = codes "refused " ++ kind_text asked.ask
 answer_text (BadAnswer span why) = codes "bad answer " ++ span_text span ++ codes " " ++ why_text why
 answer_text TooLarge = codes "too large"
+answer_text (NotHeld addr) = codes "not held " ++ address_text addr
 answer_text (NoArena index) = codes "no arena " ++ decimal index
+answer_text NoMemory = codes "no memory"

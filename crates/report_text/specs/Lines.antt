@@ -14,6 +14,10 @@ unfoldable pub malloc_line : ℕ → List ℕ → Answered → List ℕ
 malloc_line client name answered =
     codes "t" ++ decimal client ++ codes " malloc " ++ name ++ codes " " ++ answer_text answered ++ newline
 
+-- a free that has ended: its client and the answer
+unfoldable pub free_line : ℕ → Answered → List ℕ
+free_line client answered = codes "t" ++ decimal client ++ codes " free " ++ answer_text answered ++ newline
+
 -- the counts of an arena that serve or served regions, in bytes
 unfoldable pub used_text : Counts → List ℕ
 used_text counts = codes "allocated " ++ decimal counts.allocated ++ codes " active " ++ decimal counts.active
@@ -40,6 +44,10 @@ bad_line number cause = codes "line " ++ decimal number ++ codes ": " ++ cause +
 -- the cause of a line that isn't built yet
 abbrev pub unbuilt : List ℕ
 unbuilt = codes "unbuilt"
+
+-- the cause of a line behind the last one that a trace may have
+abbrev pub limit_lines : List ℕ
+limit_lines = codes "limit lines"
 
 -- the word lists that there are
 unfoldable pub usage_line : List ℕ

@@ -25,7 +25,9 @@ impl fmt::Display for AnswerText {
                 write!(f, "bad answer {} {}", SpanText(span), WhyText(why))
             }
             Answered::TooLarge => f.write_str("too large"),
+            Answered::NotHeld(addr) => write!(f, "not held @{addr:x}"),
             Answered::NoArena(index) => write!(f, "no arena {index}"),
+            Answered::NoMemory => f.write_str("no memory"),
         }
     }
 }
@@ -40,6 +42,7 @@ impl fmt::Display for GivenText {
     fn fmt<W: fmt::Write>(&self, f: &mut fmt::Formatter<W>) -> fmt::Result {
         match self.0 {
             Given::Region { addr, class } => write!(f, "@{addr:x} {}", size(class)),
+            Given::Done => f.write_str("ok"),
         }
     }
 }

@@ -9,7 +9,7 @@ mod counts;
 mod lines;
 mod places;
 
-pub use lines::{bad_line, counts_line, malloc_line, usage_line};
+pub use lines::{bad_line, counts_line, free_line, malloc_line, usage_line};
 
 #[cfg(test)]
 mod tests;

@@ -1,7 +1,7 @@
 //! The lines of a report.
 
 ghost use Rattle.std.specs.Prelude.{◌≡◌, IfOk};
-ghost use Rattle.report_text.specs.Lines.{malloc_line, counts_line, bad_line, usage_line};
+ghost use Rattle.report_text.specs.Lines.{malloc_line, free_line, counts_line, bad_line, usage_line};
 
 use crate::answers::AnswerText;
 use crate::counts::{MappedText, UnusedText, UsedText};
@@ -26,6 +26,15 @@ pub fn malloc_line(
     let answer = format!(in alloc; " {}\n", AnswerText(*answered))?;
     line.extend_from_slice(answer.as_bytes())?;
     Ok(line)
+}
+
+/// The line of a free that has ended: `tC free` and its answer.
+#[tactic(auto, unfolding(crate::specs::Lines::free_line))]
+pub fn free_line(alloc: Global, client: u32, answered: &Answered) -> Result<Vec<u8>, NoMemory>
+    ensures { IfOk result (λ line. line.items ≡ free_line client answered.now) }
+{
+    let line = format!(in alloc; "t{client} free {}\n", AnswerText(*answered))?;
+    Ok(line.into_bytes())
 }
 
 /// The count line of an arena: `arena I` and its counts by name, in bytes.

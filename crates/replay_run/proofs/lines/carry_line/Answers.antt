@@ -1,64 +1,63 @@
-use Rattle.std.proofs.Common.{arith, ◌≡◌, ℕ, List, [], ◌++◌, subst}
-use Rattle.std.specs.Io.KnownBytes.{Appends}
-use Rattle.std.proofs.KnownBytes.{Appends-trans}
-use Rattle.space_model.specs.Counts.{counts_of}
-use Rattle.report_text.specs.Lines.{malloc_line, counts_line, bad_line, unbuilt}
-use Rattle.trace_text.specs.declared.lines.Line.TheVariants.{Call}
-use Rattle.trace_text.specs.declared.lines.Verb.TheVariants.{Malloc as MallocVerb}
-use Rattle.replay_run.specs.Replays.{HasEnded, HasRefused}
-use Rattle.replay_run.proofs.Replays.{replay_from, not_ended, not_denied, at_end, at_refusal}
-use Rattle.replay_run.proofs.LinesRead.{reads_one}
+use Rattle.std.proofs.Common.{◌≡◌, ℕ, List, Ok, refl, ◌∙◌, ap, subst}
+use Rattle.edge_io.specs.Bytes.{Appends, AppendsPrefix}
+use Rattle.call_plan.specs.Desks.{facts_of}
+use Rattle.replay_run.specs.Carried.{Desktop}
+use Rattle.replay_run.specs.World.{answer_line, names_ended}
+use Rattle.replay_run.proofs.Replays.{without_cause, carried_line, answered_anyway}
+use Rattle.replay_run.proofs.Endings.{all_of, tells_nothing, tells_part, passed_text, passed_memory}
 use Rattle.replay_run.proofs.lines.carry_line.Goals as goal
 
-pub returns-in_err-answered-clause-replay : goal.returns-in_err-answered-clause-replay
-returns-in_err-answered-clause-replay g c line left says takes =
-    replay_from (HasEnded c.from_residual.result) (HasRefused c.from_residual.result) 0 [] c.args.wanted.now.size _ c.args.state.now.space c.args.state.now.kept.items c.args.state.now.heard.items
-    c.carry_call.new.state.space c.carry_call.new.state.kept.items c.carry_call.new.state.heard.items _ _ left _ _
-    c.requires.space c.requires.kept c.requires.heard (omega (arith)) c.args.wanted.now.large (c.carry_call.ensures.carried [] [])
-    (λ done. absurd (not_ended c.from_residual.result c.from_residual.ensures.0 done))
-    (λ done. absurd (not_ended c.from_residual.result c.from_residual.ensures.0 done))
-    (λ bad. absurd (not_denied c.from_residual.result c.from_residual.ensures.0 bad))
+pub returns-in_err-answered-clause-carried : goal.returns-in_err-answered-clause-carried
+returns-in_err-answered-clause-carried g c text =
+    let top : Desktop = record { text = text; desk = facts_of c.args.state.now.desk; names = c.args.state.now.names } in (
+      without_cause c.carry_call.result,
+      carried_line c.args.state.now.arena.space c.args.state.now.kept.items _ _ _ _ _ _ top c.args.verb c.request_of-request.result _ _ c.carry_call.result c.request_of-request.ensures.request (c.carry_call.ensures.carried top c.args.verb refl),
+      tells_nothing c.args.verb (without_cause c.carry_call.result) c.from_residual.result c.args.state.now.names _ (g.K.Sink.held c.args.sink.now) c.from_residual.ensures.1,
+    )
 
-pub returns-in_err-line-clause-replay : goal.returns-in_err-line-clause-replay
-returns-in_err-line-clause-replay g c line left says takes =
-    replay_from (HasEnded c.from_residual-in_err-line.result) (HasRefused c.from_residual-in_err-line.result) 0 [] c.args.wanted.now.size _ c.args.state.now.space c.args.state.now.kept.items c.args.state.now.heard.items
-    c.carry_call.new.state.space c.carry_call.new.state.kept.items c.carry_call.new.state.heard.items _ _ left _ _
-    c.requires.space c.requires.kept c.requires.heard (omega (arith)) c.args.wanted.now.large (c.carry_call.ensures.carried [] [])
-    (λ done. absurd (not_ended c.from_residual-in_err-line.result c.from_residual-in_err-line.ensures.0 done))
-    (λ done. absurd (not_ended c.from_residual-in_err-line.result c.from_residual-in_err-line.ensures.0 done))
-    (λ bad. absurd (not_denied c.from_residual-in_err-line.result c.from_residual-in_err-line.ensures.0 bad))
+pub returns-in_err-line-clause-carried : goal.returns-in_err-line-clause-carried
+returns-in_err-line-clause-carried g c text =
+    let top : Desktop = record { text = text; desk = facts_of c.args.state.now.desk; names = c.args.state.now.names } in (
+      without_cause c.carry_call.result,
+      carried_line c.args.state.now.arena.space c.args.state.now.kept.items _ _ _ _ _ _ top c.args.verb c.request_of-request.result _ _ c.carry_call.result c.request_of-request.ensures.request (c.carry_call.ensures.carried top c.args.verb refl),
+      tells_nothing c.args.verb (without_cause c.carry_call.result) c.from_residual-in_err-line.result c.args.state.now.names _ (g.K.Sink.held c.args.sink.now) c.from_residual-in_err-line.ensures.1,
+    )
 
-pub returns-in_err-print-clause-replay : goal.returns-in_err-print-clause-replay
-returns-in_err-print-clause-replay g c line left says takes =
-    replay_from (HasEnded c.from_residual-in_err-print.result) (HasRefused c.from_residual-in_err-print.result) 0 [] c.args.wanted.now.size _ c.args.state.now.space c.args.state.now.kept.items c.args.state.now.heard.items
-    c.carry_call.new.state.space c.carry_call.new.state.kept.items c.carry_call.new.state.heard.items _ _ left _ _
-    c.requires.space c.requires.kept c.requires.heard (omega (arith)) c.args.wanted.now.large (c.carry_call.ensures.carried [] [])
-    (λ done. absurd (not_ended c.from_residual-in_err-print.result c.from_residual-in_err-print.ensures.0 done))
-    (λ done. absurd (not_ended c.from_residual-in_err-print.result c.from_residual-in_err-print.ensures.0 done))
-    (λ bad. absurd (not_denied c.from_residual-in_err-print.result c.from_residual-in_err-print.ensures.0 bad))
+pub returns-in_err-print-clause-carried : goal.returns-in_err-print-clause-carried
+returns-in_err-print-clause-carried g c text =
+    let top : Desktop = record { text = text; desk = facts_of c.args.state.now.desk; names = c.args.state.now.names } in
+    let text_is : c.deref.result.now ≡ answer_line 0 c.args.verb c.in_ok-answered.answered = cc (c.deref.ensures.value, c.in_ok-line.ensures) in
+    let ok : without_cause c.carry_call.result ≡ Ok c.in_ok-answered.answered = answered_anyway c.carry_call.result c.in_ok-answered.answered c.in_ok-answered.was in (
+      without_cause c.carry_call.result,
+      carried_line c.args.state.now.arena.space c.args.state.now.kept.items _ _ _ _ _ _ top c.args.verb c.request_of-request.result _ _ c.carry_call.result c.request_of-request.ensures.request (c.carry_call.ensures.carried top c.args.verb refl),
+      tells_part c.args.verb (without_cause c.carry_call.result) c.in_ok-answered.answered c.from_residual-in_err-print.result c.args.state.now.names _ (g.K.Sink.held c.args.sink.now) (g.K.Sink.held c.print.new.sink) ok
+          (subst (AppendsPrefix (g.K.Sink.held c.args.sink.now) (g.K.Sink.held c.print.new.sink)) text_is c.in_err-print.ensures.beginning)
+          (passed_text c.from_residual-in_err-print.result _ _ _ c.from_residual-in_err-print.ensures.1 c.in_err-print.ensures.cause),
+    )
 
-pub returns-clause-replay : goal.returns-clause-replay
-returns-clause-replay g c line left says takes =
-    replay_from (HasEnded c.go_behind.result) (HasRefused c.go_behind.result) 0 _ c.args.wanted.now.size _ c.args.state.now.space c.args.state.now.kept.items c.args.state.now.heard.items
-    c.carry_call.new.state.space c.carry_call.new.state.kept.items c.carry_call.new.state.heard.items _ _ left _ _
-    c.requires.space c.requires.kept c.requires.heard (omega (arith)) c.args.wanted.now.large (c.carry_call.ensures.carried [] c.args.wanted.now.name)
-    (λ done.
-    let printed : c.deref.result.now ≡ malloc_line 0 c.args.wanted.now.name c.in_ok-answered.answered = cc (c.deref.ensures.value, c.in_ok-line.ensures, c.as_bytes.ensures.bytes) in (
-      c.in_ok-answered.answered,
-      c.in_ok-answered.was,
-      subst (λ (text : List ℕ). Appends (g.K.Sink.held c.args.sink.now) (g.K.Sink.held c.go_behind.new.sink) (text ++ counts_line 0 (counts_of c.carry_call.new.state.space))) printed
-          (Appends-trans (g.K.Sink.held c.args.sink.now) (g.K.Sink.held c.print.new.sink) (g.K.Sink.held c.go_behind.new.sink) c.deref.result.now
-          (counts_line 0 (counts_of c.carry_call.new.state.space)) c.in_ok-print.ensures.text (at_end _ c.go_behind.result done c.go_behind.ensures.counts)),
-    ))
-    (λ done.
-    let over = at_end _ c.go_behind.result done c.go_behind.ensures.end in
-    reads_one left (g.S.Source.left c.args.source.now) (g.S.Source.left c.go_behind.new.source) line c.args.behind.now (Call 0 (MallocVerb c.args.wanted.now.name c.args.wanted.now.size))
-    takes.0 says takes.1 (at_end _ c.go_behind.result done c.go_behind.ensures.none) over.0 over.1)
-    (λ bad.
-    let printed : c.deref.result.now ≡ malloc_line 0 c.args.wanted.now.name c.in_ok-answered.answered = cc (c.deref.ensures.value, c.in_ok-line.ensures, c.as_bytes.ensures.bytes) in (
-      c.in_ok-answered.answered,
-      c.in_ok-answered.was,
-      subst (λ (text : List ℕ). Appends (g.K.Sink.held c.args.sink.now) (g.K.Sink.held c.go_behind.new.sink) (text ++ bad_line 2 unbuilt)) printed
-          (Appends-trans (g.K.Sink.held c.args.sink.now) (g.K.Sink.held c.print.new.sink) (g.K.Sink.held c.go_behind.new.sink) c.deref.result.now
-          (bad_line 2 unbuilt) c.in_ok-print.ensures.text (at_refusal _ c.go_behind.result bad c.go_behind.ensures.refused)),
-    ))
+pub returns-in_err-bind-clause-carried : goal.returns-in_err-bind-clause-carried
+returns-in_err-bind-clause-carried g c text =
+    let top : Desktop = record { text = text; desk = facts_of c.args.state.now.desk; names = c.args.state.now.names } in
+    let text_is : c.deref.result.now ≡ answer_line 0 c.args.verb c.in_ok-answered.answered = cc (c.deref.ensures.value, c.in_ok-line.ensures) in
+    let ok : without_cause c.carry_call.result ≡ Ok c.in_ok-answered.answered = answered_anyway c.carry_call.result c.in_ok-answered.answered c.in_ok-answered.was in (
+      without_cause c.carry_call.result,
+      carried_line c.args.state.now.arena.space c.args.state.now.kept.items _ _ _ _ _ _ top c.args.verb c.request_of-request.result _ _ c.carry_call.result c.request_of-request.ensures.request (c.carry_call.ensures.carried top c.args.verb refl),
+      tells_part c.args.verb (without_cause c.carry_call.result) c.in_ok-answered.answered c.from_residual-in_err-bind.result c.args.state.now.names _ (g.K.Sink.held c.args.sink.now) (g.K.Sink.held c.print.new.sink) ok
+          (all_of _ _ _ (subst (Appends (g.K.Sink.held c.args.sink.now) (g.K.Sink.held c.print.new.sink)) text_is c.in_ok-print.ensures.text))
+          (passed_memory c.from_residual-in_err-bind.result c.from_residual-in_err-bind.ensures.1),
+    )
+
+pub returns-clause-carried : goal.returns-clause-carried
+returns-clause-carried g c text =
+    let top : Desktop = record { text = text; desk = facts_of c.args.state.now.desk; names = c.args.state.now.names } in
+    let text_is : c.deref.result.now ≡ answer_line 0 c.args.verb c.in_ok-answered.answered = cc (c.deref.ensures.value, c.in_ok-line.ensures) in
+    let ok : without_cause c.carry_call.result ≡ Ok c.in_ok-answered.answered = answered_anyway c.carry_call.result c.in_ok-answered.answered c.in_ok-answered.was in (
+      without_cause c.carry_call.result,
+      carried_line c.args.state.now.arena.space c.args.state.now.kept.items _ _ _ _ _ _ top c.args.verb c.request_of-request.result _ _ c.carry_call.result c.request_of-request.ensures.request (c.carry_call.ensures.carried top c.args.verb refl),
+      (
+        c.in_ok-answered.answered,
+        ok,
+        subst (Appends (g.K.Sink.held c.args.sink.now) (g.K.Sink.held c.print.new.sink)) text_is c.in_ok-print.ensures.text,
+        c.in_ok-bind.ensures ∙ ap (λ (names : List (List ℕ × ℕ)). names_ended names c.args.verb c.in_ok-answered.answered) c.carry_call.ensures.names,
+      ),
+    )

@@ -1,0 +1,180 @@
+-- Lines that come later: the play of some lines goes on as the play of more lines.
+use Rattle.std.proofs.Common.{◌≡◌, ℕ, List, [], ◌∷◌, ◌++◌, Option, Some, None, refl, sym, ◌∙◌, ap, subst, append_assoc, append-nil}
+use Rattle.space_model.specs.Step.{step_of}
+use Rattle.hook_api.specs.Asked.{AskFacts}
+use Rattle.hook_api.specs.Chain.{AskChain}
+use Rattle.hook_api.specs.Shelf.{Shelf}
+use Rattle.call_plan.specs.Reading.{Replied, Told, WantTurn, WantAsk, Outcome, Ends, Waits, Astray}
+use Rattle.trace_text.specs.declared.lines.Line.{Line}
+use Rattle.trace_text.specs.declared.lines.Line.TheVariants.{Call}
+use Rattle.replay_run.specs.World.{Open, World, outcome_of, on_end, idle, printed, opened, begun, fed, Move, Turned, Heard_, moved, after_in, after_move, Fits, NextIn, IsPlay, world_after, asks_in, answer_line}
+
+-- the world with more lines to come, by its open call: where none is open, they begin
+abbrev pub later_in : List Line → World → Option Open → World
+later_in more w None = begun more w
+later_in more w (Some call) = record w { lines = w.lines ++ more }
+
+abbrev pub later : List Line → World → World
+later more w = later_in more w w.call
+
+-- the lines that begin don't depend on those that were to come
+begun_lines : (lines rest : List Line) (w : World) → begun lines (record w { lines = rest }) ≡ begun lines w
+begun_lines [] rest w = refl
+begun_lines (Call client verb ∷ lines) rest w =
+    let call : Open = opened w client verb in
+    elim (outcome_of call) as (λ o. on_end o (λ answer. begun lines (printed (record w { lines = rest }) call answer)) (record w { call = Some call; lines = lines })
+    ≡ on_end o (λ answer. begun lines (printed w call answer)) (record w { call = Some call; lines = lines })) [
+      | Ends answer items ↦ begun_lines lines rest (printed w call answer)
+      | Waits want ↦ refl
+      | Astray ↦ refl
+    ]
+
+-- nor on the call that was open
+begun_idle : (lines : List Line) (w : World) → begun lines (idle w) ≡ begun lines w
+begun_idle [] w = refl
+begun_idle (Call client verb ∷ lines) w =
+    let call : Open = opened w client verb in
+    elim (outcome_of call) as (λ o. on_end o (λ answer. begun lines (printed (idle w) call answer)) (record w { call = Some call; lines = lines })
+    ≡ on_end o (λ answer. begun lines (printed w call answer)) (record w { call = Some call; lines = lines })) [
+      | Ends answer items ↦ begun_idle lines (printed w call answer)
+      | Waits want ↦ refl
+      | Astray ↦ refl
+    ]
+
+-- lines and more lines begin as the lines do, and then the others
+pub begun_later : (lines more : List Line) (w : World) → begun (lines ++ more) w ≡ later more (begun lines w)
+begun_later [] more w = sym (begun_idle more w)
+begun_later (Call client verb ∷ lines) more w =
+    let call : Open = opened w client verb in
+    elim (outcome_of call) as (λ o. on_end o (λ answer. begun (lines ++ more) (printed w call answer)) (record w { call = Some call; lines = lines ++ more })
+    ≡ later more (on_end o (λ answer. begun lines (printed w call answer)) (record w { call = Some call; lines = lines }))) [
+      | Ends answer items ↦ begun_later lines more (printed w call answer)
+      | Waits want ↦ refl
+      | Astray ↦ refl
+    ]
+
+-- a call that was fed one more, with more lines to come
+fed_later : (w : World) (call : Open) (lines more rest : List Line) → fed (record w { lines = rest }) call (lines ++ more) ≡ later more (fed w call lines)
+fed_later w call lines more rest =
+    elim (outcome_of call) as (λ o. on_end o (λ answer. begun (lines ++ more) (printed (record w { lines = rest }) call answer)) (record w { call = Some call; lines = lines ++ more })
+    ≡ later more (on_end o (λ answer. begun lines (printed w call answer)) (record w { call = Some call; lines = lines }))) [
+      | Ends answer items ↦ begun_lines (lines ++ more) rest (printed w call answer) ∙ begun_later lines more (printed w call answer)
+      | Waits want ↦ refl
+      | Astray ↦ refl
+    ]
+
+-- a move that is needed, with more lines to come
+moved_later : (w : World) (call : Open) (o : Outcome) (move : Move) (more : List Line) → Fits w o move →
+    moved (record w { lines = w.lines ++ more }) call o move ≡ later more (moved w call o move)
+moved_later w call (Waits (WantTurn arena op asked)) Turned more fits =
+    let step = step_of w.space call.client op in
+    fed_later (record w { space = step.after; kept = w.kept ++ (record { entry = record { client = call.client; op = op }; asked = asked }) ∷ [] })
+    (record call { items = call.items ++ Replied step.reply ∷ [] }) w.lines more (w.lines ++ more)
+moved_later w call (Waits (WantAsk arena wanted)) (Heard_ asked) more fits =
+    fed_later w (record call { items = call.items ++ Told asked ∷ [] }) w.lines more (w.lines ++ more)
+moved_later w call (Waits (WantTurn arena op asked)) (Heard_ told) more fits = absurd fits
+moved_later w call (Waits (WantAsk arena wanted)) Turned more fits = absurd fits
+moved_later w call (Ends answer items) move more fits = absurd fits
+moved_later w call Astray move more fits = absurd fits
+
+-- the next move of a world is the next one with more lines to come, and leads to the same world with them
+next_later : (w : World) (o : Option Open) (move : Move) (more : List Line) → w.call ≡ o → NextIn w move o →
+    NextIn (later_in more w o) move (later_in more w o).call × (after_in (later_in more w o) move (later_in more w o).call ≡ later more (after_in w move o))
+next_later w None move more e next = absurd next
+next_later w (Some call) move more e next =
+    subst (λ (x : Option Open). NextIn (record w { lines = w.lines ++ more }) move x × (after_in (record w { lines = w.lines ++ more }) move x ≡ later more (moved w call (outcome_of call) move)))
+    (sym e) (next, moved_later w call (outcome_of call) move more next)
+
+-- What a play of some lines is for more lines.
+pub record Longer (w : World) (moves : List Move) (more : List Line) : Type 0 where
+  pub play : IsPlay (later more w) moves
+  pub after : world_after (later more w) moves ≡ later more (world_after w moves)
+
+pub play_later : (w : World) (moves : List Move) (more : List Line) → IsPlay w moves → Longer w moves more
+play_later w [] more play = record { play = tt; after = refl }
+play_later w (move ∷ moves) more play =
+    let here = next_later w w.call move more refl play.0 in
+    let rest = play_later (after_move w move) moves more play.1 in record {
+      play = (here.0, subst (λ (x : World). IsPlay x moves) (sym here.1) rest.play);
+      after = ap (λ (x : World). world_after x moves) here.1 ∙ rest.after;
+    }
+
+-- ---- one play behind another
+
+pub play-append : (w : World) (moves more : List Move) → IsPlay w moves → IsPlay (world_after w moves) more → IsPlay w (moves ++ more)
+play-append w [] more play next = next
+play-append w (move ∷ moves) more play next = (play.0, play-append (after_move w move) moves more play.1 next)
+
+pub world_after-append : (w : World) (moves more : List Move) → world_after w (moves ++ more) ≡ world_after (world_after w moves) more
+world_after-append w [] more = refl
+world_after-append w (move ∷ moves) more = world_after-append (after_move w move) moves more
+
+pub asks_in-append : (moves more : List Move) → asks_in (moves ++ more) ≡ asks_in moves ++ asks_in more
+asks_in-append [] more = refl
+asks_in-append (Turned ∷ moves) more = asks_in-append moves more
+asks_in-append (Heard_ asked ∷ moves) more = ap (λ (asks : List AskFacts). asked ∷ asks) (asks_in-append moves more)
+
+-- a chain of asks behind another
+pub ask_chain-append : (old mid new : Shelf) (asks more : List AskFacts) → AskChain old asks mid → AskChain mid more new → AskChain old (asks ++ more) new
+ask_chain-append old mid new [] more first then = subst (λ (s : Shelf). AskChain s more new) first then
+ask_chain-append old mid new (asked ∷ asks) more first then = (first.0, first.1, ask_chain-append first.0 mid new asks more first.2 then)
+
+-- ---- the text of a world is that of the worlds before it, and more
+
+-- a text begins with another one
+abbrev pub Begins : List ℕ → List ℕ → Type 0
+Begins text longer = (more : List ℕ) × (longer ≡ text ++ more)
+
+begins_itself : (text : List ℕ) → Begins text text
+begins_itself text = ([], sym (append-nil text))
+
+begun_grows : (lines : List Line) (w : World) → Begins w.text (begun lines w).text
+begun_grows [] w = begins_itself w.text
+begun_grows (Call client verb ∷ lines) w =
+    let call : Open = opened w client verb in
+    elim (outcome_of call) as (λ o. Begins w.text (on_end o (λ answer. begun lines (printed w call answer)) (record w { call = Some call; lines = lines })).text) [
+      | Ends answer items ↦
+          let rest = begun_grows lines (printed w call answer) in
+          (answer_line client verb answer ++ rest.0, rest.1 ∙ append_assoc w.text (answer_line client verb answer) rest.0)
+      | Waits want ↦ begins_itself w.text
+      | Astray ↦ begins_itself w.text
+    ]
+
+fed_grows : (w : World) (call : Open) (lines : List Line) → Begins w.text (fed w call lines).text
+fed_grows w call lines =
+    elim (outcome_of call) as (λ o. Begins w.text (on_end o (λ answer. begun lines (printed w call answer)) (record w { call = Some call; lines = lines })).text) [
+      | Ends answer items ↦
+          let rest = begun_grows lines (printed w call answer) in
+          (answer_line call.client call.verb answer ++ rest.0, rest.1 ∙ append_assoc w.text (answer_line call.client call.verb answer) rest.0)
+      | Waits want ↦ begins_itself w.text
+      | Astray ↦ begins_itself w.text
+    ]
+
+moved_grows : (w : World) (call : Open) (o : Outcome) (move : Move) → Begins w.text (moved w call o move).text
+moved_grows w call (Waits (WantTurn arena op asked)) Turned =
+    let step = step_of w.space call.client op in
+    fed_grows (record w { space = step.after; kept = w.kept ++ (record { entry = record { client = call.client; op = op }; asked = asked }) ∷ [] })
+    (record call { items = call.items ++ Replied step.reply ∷ [] }) w.lines
+moved_grows w call (Waits (WantAsk arena wanted)) (Heard_ asked) = fed_grows w (record call { items = call.items ++ Told asked ∷ [] }) w.lines
+moved_grows w call (Waits (WantTurn arena op asked)) (Heard_ told) = begins_itself w.text
+moved_grows w call (Waits (WantAsk arena wanted)) Turned = begins_itself w.text
+moved_grows w call (Ends answer items) move = begins_itself w.text
+moved_grows w call Astray move = begins_itself w.text
+
+after_grows : (w : World) (o : Option Open) (move : Move) → Begins w.text (after_in w move o).text
+after_grows w None move = begins_itself w.text
+after_grows w (Some call) move = moved_grows w call (outcome_of call) move
+
+pub text_grows : (w : World) (moves : List Move) → Begins w.text (world_after w moves).text
+text_grows w [] = begins_itself w.text
+text_grows w (move ∷ moves) =
+    let here = after_grows w w.call move in
+    let rest = text_grows (after_move w move) moves in
+    (here.0 ++ rest.0, rest.1 ∙ ap (λ (xs : List ℕ). xs ++ rest.0) here.1 ∙ append_assoc w.text here.0 rest.0)
+
+-- the text in which a line begins
+pub begun_text : (lines : List Line) (w : World) (moves : List Move) → Begins w.text (world_after (begun lines w) moves).text
+begun_text lines w moves =
+    let here = begun_grows lines w in
+    let rest = text_grows (begun lines w) moves in
+    (here.0 ++ rest.0, rest.1 ∙ ap (λ (xs : List ℕ). xs ++ rest.0) here.1 ∙ append_assoc w.text here.0 rest.0)
