@@ -6,11 +6,12 @@ ghost use Rattle.hook_api.specs.ShelfOf.{shelf_of};
 ghost use Rattle.jarena.specs.Words.{TellsUsage, IsReplay, IsInNoList};
 ghost use Rattle.edge_io.specs.Bytes.{Rose};
 ghost use Rattle.replay_run.specs.Replays.{ReplayOf, JournalsOf};
+ghost use Rattle.replay_run.specs.Stops.{IsReplayStatus};
 
 use crate::words::{is_replay, tell_usage};
 use edge_io::{Sink, Source};
 use hook_api::{Askeds, HookShelf, Journals};
-use replay_run::{Replayed, replay};
+use replay_run::replay;
 use std::alloc::Global;
 
 /// What a run of the program leaves.
@@ -42,8 +43,9 @@ pub fn run<S: Source, K: Sink>(
     ensures unread { IsInNoList (map string_bytes words.now) → source.new ≡ source.old }
     ensures unasked { IsInNoList (map string_bytes words.now) → result.heard ≡ [] }
     ensures no_journals { IsInNoList (map string_bytes words.now) → result.journals ≡ [] }
-    ensures replay { IsReplay (map string_bytes words.now) → (kept : List KeptFacts) × ReplayOf (result.status ≡ 0) (result.status ≡ 3) kept result.heard (shelf_of ExtentHooks-dyn shelf)
-        (shelf_of ExtentHooks-dyn result.shelf) (S.left source.old) (K.held sink.old) (K.held sink.new) × (result.status ≢ 6 → JournalsOf kept result.journals) }
+    ensures replay { IsReplay (map string_bytes words.now) → (kept : List KeptFacts) × ReplayOf result.status kept result.heard (shelf_of ExtentHooks-dyn shelf)
+        (shelf_of ExtentHooks-dyn result.shelf) (S.ended source.new) (S.left source.old) (S.left source.new) (K.held sink.old) (K.held sink.new) × (result.status ≢ 6 → JournalsOf kept result.journals) }
+    ensures known { IsReplay (map string_bytes words.now) → IsReplayStatus result.status }
     ensures read_fault { IsReplay (map string_bytes words.now) → result.status ≡ 4 → Rose (S.faults source.old) (S.faults source.new) }
     ensures write_fault { IsReplay (map string_bytes words.now) → result.status ≡ 5 → Rose (K.faults sink.old) (K.faults sink.new) }
     ensures ended { IsReplay (map string_bytes words.now) → result.status ≡ 0 → S.ended source.new ≡ true }
@@ -57,16 +59,11 @@ pub fn run<S: Source, K: Sink>(
             heard: Askeds::new(alloc),
         };
     }
-    let Replayed {
-        status,
-        shelf,
-        journals,
-        heard,
-    } = replay(alloc, source, sink, shelf);
+    let replayed = replay(alloc, source, sink, shelf);
     Outcome {
-        status,
-        shelf,
-        journals,
-        heard,
+        status: replayed.status,
+        shelf: replayed.shelf,
+        journals: replayed.journals,
+        heard: replayed.heard,
     }
 }
