@@ -13,9 +13,8 @@ use Rattle.ordered_set.specs.declared.key.Key.{Key}
 use Rattle.ordered_set.specs.Keys.{key_cmp, IsAscending, is_above, is_below, is_from, is_other, with_key, without_key}
 use Rattle.ordered_set.proofs.Sorted.{every_map, every_member, filter_all, filter_none}
 use Rattle.ordered_set.proofs.KeyOrder.{key_total}
-use Rattle.fit_lists.proofs.Orders.{start, from_start, start_from, less_major, less_from_parts}
-use Rattle.fit_lists.proofs.Members.{contains_later}
-use Rattle.fit_lists.proofs.Tables.{major_less}
+use Rattle.ordered_set.proofs.Orders.{start, from_start, start_from, less_major, less_from_parts, major_less}
+use Rattle.ordered_set.proofs.Members.{contains_later}
 use Rattle.size_classes.specs.Classes.{size_at}
 use Rattle.space_model.specs.declared.parts.Region.{Region}
 use Rattle.space_model.specs.Region.{inserted, is_held_by}

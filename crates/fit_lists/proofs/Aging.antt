@@ -13,9 +13,9 @@ use Rattle.ordered_set.proofs.Sorted.{every_map, every_member, filter_all, filte
 use Rattle.fit_lists.specs.declared.table.Row.{Row}
 use Rattle.fit_lists.specs.declared.table.Table.{Table}
 use Rattle.fit_lists.specs.Rows.{IsIndex, IsSound, IsTable, age_key, length_key, listed, number_key, owner_key, size_key, with_age}
-use Rattle.fit_lists.proofs.Members.{contains_cases, contains_later, every_from, with_from, with_keeps, with_self, without_from, without_keeps}
-use Rattle.fit_lists.proofs.Orders.{from_start, less_major, start, start_from}
-use Rattle.fit_lists.proofs.Tables.{age_present, ages_without, any_key, major_less, map_member, other_rows, two_rows, one_row}
+use Rattle.ordered_set.proofs.Members.{contains_cases, contains_later, every_from, with_from, with_keeps, with_self, without_from, without_keeps}
+use Rattle.ordered_set.proofs.Orders.{from_start, less_major, major_less, start, start_from}
+use Rattle.fit_lists.proofs.Tables.{age_present, ages_without, any_key, map_member, other_rows, two_rows, one_row}
 use Rattle.fit_lists.proofs.Totals.{owner_row}
 
 -- a row with another age

@@ -14,8 +14,8 @@ use Rattle.fit_lists.specs.declared.table.Row.{Row}
 use Rattle.fit_lists.specs.declared.table.Table.{Table}
 use Rattle.fit_lists.specs.Rows.{IsTable, listed, size_key}
 use Rattle.fit_lists.specs.Spans.{HoldsRun, IsFirstFit, IsNoLater, Listed}
-use Rattle.fit_lists.proofs.Members.{contains_cases, contains_later, every_from}
-use Rattle.fit_lists.proofs.Orders.{less_parts, start, start_from}
+use Rattle.ordered_set.proofs.Members.{contains_cases, contains_later, every_from}
+use Rattle.ordered_set.proofs.Orders.{less_parts, start, start_from}
 use Rattle.fit_lists.proofs.Totals.{any_first, listed_from, listed_has, number_is}
 
 -- the span of a key of the set by size, but for its number

@@ -13,7 +13,8 @@ use Rattle.ordered_set.proofs.Sorted.{filter_all, filter_none, every_map}
 use Rattle.fit_lists.specs.declared.table.Row.{Row}
 use Rattle.fit_lists.specs.declared.table.Table.{Table}
 use Rattle.fit_lists.specs.Rows.{IsIndex, IsNext, IsSound, IsTable, age_key, length_key, minor_of, number_key, owner_key, row_at, rows_of, size_key}
-use Rattle.fit_lists.proofs.Members.{contains_cases, contains_later, every_from, filter_from, filter_has, other_from, push_cases, with_from, with_keeps, with_self, without_from, without_keeps}
+use Rattle.ordered_set.proofs.Orders.{major_less}
+use Rattle.ordered_set.proofs.Members.{contains_cases, contains_later, every_from, filter_from, filter_has, other_from, push_cases, with_from, with_keeps, with_self, without_from, without_keeps}
 
 -- the rows but those of a number
 abbrev pub other_rows : ℕ → List Row → List Row
@@ -138,10 +139,6 @@ sound_with rows r s n = record {
 }
 
 -- ---- the set by age
-
-pub major_less : (a b : Key) → a.major < b.major → key_cmp a b ≡ Less
-unfolding key_cmp
-major_less a b l = rw (lt-ltb a.major b.major l)
 
 map_every : (P : Key → Type 0) (rows : List Row) → Every (λ x. P (age_key x)) rows → Every P (map age_key rows)
 map_every P [] e = tt

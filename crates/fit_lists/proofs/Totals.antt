@@ -16,8 +16,8 @@ use Rattle.fit_lists.specs.declared.table.Row.{Row}
 use Rattle.fit_lists.specs.declared.table.Table.{Table}
 use Rattle.fit_lists.specs.Rows.{IsNext, IsSound, IsTable, age_key, length_key, listed}
 use Rattle.fit_lists.specs.Spans.{IsApart, Listed}
-use Rattle.fit_lists.proofs.Members.{contains_cases, contains_later, every_from}
-use Rattle.fit_lists.proofs.Orders.{less_parts}
+use Rattle.ordered_set.proofs.Members.{contains_cases, contains_later, every_from}
+use Rattle.ordered_set.proofs.Orders.{less_parts}
 use Rattle.fit_lists.proofs.Tables.{age_present, ages_without, length_absent, other_rows}
 
 -- ---- spans and rows

@@ -3,6 +3,8 @@ pub mod Edits
 pub mod Halves
 pub mod Indexes
 pub mod KeyOrder
+pub mod Members
+pub mod Orders
 pub mod Packed
 pub mod Places
 pub mod Removed

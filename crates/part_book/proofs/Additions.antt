@@ -14,7 +14,7 @@ use Rattle.std.proofs.lemmas.List.Sums.{count_by-le-length, length-filter, sum_b
 use Rattle.ordered_set.specs.declared.key.Key.{Key}
 use Rattle.ordered_set.specs.Keys.{with_key}
 use Rattle.fit_lists.specs.Spans.{IsApart as IsSpanApart, Listed}
-use Rattle.fit_lists.proofs.Members.{every_from, filter_from, with_from, with_keeps, with_self}
+use Rattle.ordered_set.proofs.Members.{every_from, filter_from, with_from, with_keeps, with_self}
 use Rattle.space_model.specs.declared.parts.Part.{Part}
 use Rattle.space_model.specs.declared.parts.Rest.{Rest}
 use Rattle.space_model.specs.declared.parts.Rest.TheVariants.{Dirty as ToDirty, Muzzy as ToMuzzy, Retained as ToRetained}

@@ -7,7 +7,7 @@ use Rattle.std.proofs.lemmas.List.Elements.{All-contains, All-from_recursion}
 use Rattle.std.proofs.lemmas.List.Sums.{sum_by-cons}
 use Rattle.std.proofs.lemmas.Nat.{mul-le}
 use Rattle.fit_lists.specs.Spans.{HoldsRun, IsFirstFit, IsNoLater, Listed}
-use Rattle.fit_lists.proofs.Members.{contains_cases, contains_later, every_from, filter_from, filter_has}
+use Rattle.ordered_set.proofs.Members.{contains_cases, contains_later, every_from, filter_from, filter_has}
 use Rattle.space_model.specs.declared.parts.Part.{Part}
 use Rattle.space_model.specs.declared.parts.Rest.{Rest}
 use Rattle.space_model.specs.declared.parts.Span.{Span}

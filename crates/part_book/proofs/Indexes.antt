@@ -14,8 +14,8 @@ use Rattle.std.proofs.lemmas.Option.{slice_get-get_or}
 use Rattle.ordered_set.specs.declared.key.Key.{Key}
 use Rattle.ordered_set.specs.Keys.{IsAscending, is_below, key_cmp, last_of}
 use Rattle.ordered_set.proofs.Sorted.{every_member}
-use Rattle.fit_lists.proofs.Members.{contains_later, every_from, filter_from, filter_has}
-use Rattle.fit_lists.proofs.Orders.{from_start, last_greatest, start, start_from}
+use Rattle.ordered_set.proofs.Members.{contains_later, every_from, filter_from, filter_has}
+use Rattle.ordered_set.proofs.Orders.{from_start, last_greatest, start, start_from}
 use Rattle.space_model.specs.declared.parts.Part.{Part}
 use Rattle.space_model.specs.declared.parts.State.{State}
 use Rattle.space_model.specs.declared.parts.State.TheVariants.{Active, Dirty, Muzzy, Retained, Flight}

@@ -3,7 +3,7 @@ use Rattle.std.proofs.Common.{◌≡◌, ℕ, ◌+◌, ◌≤◌, zero, suc, Boo
 use Rattle.std.specs.List.{Contains}
 use Rattle.std.proofs.lemmas.Bool.{cases_Bool}
 use Rattle.std.proofs.lemmas.List.Sums.{sum_by-cons}
-use Rattle.fit_lists.proofs.Members.{contains_cases, contains_later, every_from}
+use Rattle.ordered_set.proofs.Members.{contains_cases, contains_later, every_from}
 use Rattle.ordered_set.proofs.Sorted.{filter_all}
 
 module _ {X : Type 0} where

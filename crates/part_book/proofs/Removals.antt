@@ -14,7 +14,7 @@ use Rattle.std.proofs.lemmas.List.Sums.{sum_by-append, sum_by-cons}
 use Rattle.ordered_set.specs.declared.key.Key.{Key}
 use Rattle.ordered_set.specs.Keys.{without_key}
 use Rattle.fit_lists.specs.Spans.{Listed}
-use Rattle.fit_lists.proofs.Members.{filter_from, filter_has, without_from, without_keeps}
+use Rattle.ordered_set.proofs.Members.{filter_from, filter_has, without_from, without_keeps}
 use Rattle.space_model.specs.declared.parts.Part.{Part}
 use Rattle.space_model.specs.declared.parts.Rest.TheVariants.{Dirty as ToDirty, Muzzy as ToMuzzy, Retained as ToRetained}
 use Rattle.space_model.specs.Span.{IsPlaced, end_of, has_page, meets}

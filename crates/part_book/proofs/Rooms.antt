@@ -4,7 +4,7 @@ use Rattle.std.specs.FinMap as map_of
 use Rattle.std.specs.FinSet as set
 use Rattle.std.proofs.lemmas.List.{length-map}
 use Rattle.std.proofs.lemmas.List.Elements.{All-contains, All-from_recursion}
-use Rattle.fit_lists.proofs.Members.{every_from}
+use Rattle.ordered_set.proofs.Members.{every_from}
 use Rattle.space_model.specs.Span.{end_of}
 use Rattle.part_book.specs.declared.table.Table.{Table}
 use Rattle.part_book.specs.Rows.{IsFirsts, Row, part_at, row_at, span_of}

@@ -1,6 +1,6 @@
 use Rattle.std.proofs.Common.{◌≡◌, Some, sym, ◌∙◌, subst}
 use Rattle.std.specs.List.{Contains}
-use Rattle.fit_lists.proofs.Orders.{first_of}
+use Rattle.ordered_set.proofs.Orders.{first_of}
 use Rattle.fit_lists.proofs.table.minor_at.Goals as goal
 
 pub unwrap-requires : goal.unwrap-requires

@@ -5,7 +5,7 @@ use Rattle.std.proofs.lemmas.List.Elements.{All-from_recursion}
 use Rattle.ordered_set.specs.Keys.{is_from}
 use Rattle.fit_lists.specs.Rows.{age_key, listed, rows_of}
 use Rattle.fit_lists.proofs.Aging.{all_young, count_aged, listed_aged, next_key, none_young, split, young_rows}
-use Rattle.fit_lists.proofs.Orders.{start}
+use Rattle.ordered_set.proofs.Orders.{start}
 use Rattle.fit_lists.proofs.table.Table.renumber.Goals as goal
 
 pub loop-age-init : goal.loop-age-init

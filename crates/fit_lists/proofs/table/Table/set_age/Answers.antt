@@ -3,7 +3,7 @@ use Rattle.std.specs.List.{Contains}
 use Rattle.ordered_set.specs.Keys.{is_from, with_key}
 use Rattle.fit_lists.specs.Rows.{rows_of, with_age}
 use Rattle.fit_lists.proofs.Aging.{split, key_in, owner_known, no_age_key, number_key_in, no_number_key, table_aged}
-use Rattle.fit_lists.proofs.Orders.{start}
+use Rattle.ordered_set.proofs.Orders.{start}
 use Rattle.fit_lists.proofs.Tables.{rows_are, settled}
 use Rattle.fit_lists.proofs.table.Table.set_age.Goals as goal
 

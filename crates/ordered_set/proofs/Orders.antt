@@ -8,7 +8,7 @@ use Rattle.std.proofs.lemmas.Cmp.{ranked}
 use Rattle.ordered_set.specs.declared.key.Key.{Key}
 use Rattle.ordered_set.specs.Keys.{key_cmp, IsAscending, is_from, last_of}
 use Rattle.ordered_set.proofs.Sorted.{every_member, less_from_lt}
-use Rattle.fit_lists.proofs.Members.{contains_cases, contains_later}
+use Rattle.ordered_set.proofs.Members.{contains_cases, contains_later}
 
 rank : (m n : ℕ) (r : Ordering) → nat_cmp m n ≡ r → MatchOrdering r (m < n) (m ≡ n) (n < m)
 rank m n r e = subst (λ o. MatchOrdering o (m < n) (m ≡ n) (n < m)) e (ranked m n (nat_cmp m n) refl)
@@ -74,6 +74,11 @@ first_of (k ∷ ks) major x s m f = elim (cases_Bool (is_from (start major) k)) 
     later : is_from (start major) k ≡ false → (k ≡ x) ⊎ Contains ks x → Contains ks x
     later b (inl e) = absurd (let t = start_from k major (let g : k.major ≡ major = ap (λ y. y.major) e ∙ f in omega arith) in cc)
     later b (inr d) = d
+
+-- a key with a lower major number comes before another
+pub major_less : (a b : Key) → a.major < b.major → key_cmp a b ≡ Less
+unfolding key_cmp
+major_less a b l = rw (lt-ltb a.major b.major l)
 
 -- the last key has the greatest major number
 pub last_greatest : (ks : List Key) (last : Key) → IsAscending ks → Some last ≡ last_of ks → Every (λ k. k.major ≤ last.major) ks
