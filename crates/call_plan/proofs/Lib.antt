@@ -16,3 +16,4 @@ pub mod Returns
 pub mod GoingOn
 pub mod Looks
 pub mod Counted
+pub mod HeldKeys

@@ -7,6 +7,7 @@
 
 mod calls;
 mod desks;
+mod helds;
 mod laws;
 mod needs;
 mod puts;
@@ -14,7 +15,8 @@ mod stages;
 mod wishes;
 
 pub use calls::Call;
-pub use desks::{Desk, Helds};
+pub use desks::Desk;
+pub use helds::Helds;
 pub use laws::{
     asks_go_on, calls_shorten, frees_have_causes, mallocs_have_causes, replies_fit, runs_are_short,
     turns_go_on,

@@ -1,7 +1,5 @@
 -- The point at which a call starts.
-use Rattle.std.proofs.Common.{◌≡◌, ◌^◌, ◌≤◌, ℕ, true, false, cond, length, List, [], ◌∷◌, Some, None, refl, sym, ◌∙◌, ap, subst, arith, ltb as nat_lt}
-use Rattle.std.specs.List.{position_or_len}
-use Rattle.std.proofs.lemmas.Grind.{common_steps}
+use Rattle.std.proofs.Common.{◌≡◌, ◌^◌, ℕ, true, false, cond, List, [], ◌∷◌, Some, None, refl, sym, ◌∙◌, ap, subst, ltb as nat_lt}
 use Rattle.size_classes.specs.Classes.{class_for, pages_at}
 use Rattle.space_model.specs.declared.Op.TheVariants.{Look, Back}
 use Rattle.space_model.specs.declared.Space.{Space}
@@ -26,7 +24,7 @@ use Rattle.call_plan.specs.Calls.{reading, IsPlanned, desk_started, stage_after,
 use Rattle.call_plan.specs.Knows.{Knows}
 use Rattle.call_plan.specs.Desks.{DeskFacts, holding}
 use Rattle.call_plan.specs.Free.{free_of}
-use Rattle.call_plan.specs.Helds.{stands_at, held_at, without}
+use Rattle.call_plan.specs.Helds.{held_at, without}
 use Rattle.call_plan.specs.Malloc.{look, wish_for}
 use Rattle.call_plan.specs.Reading.{Item, WantTurn, Outcome, Ends, Waits, ends}
 use Rattle.call_plan.specs.Rest.{rest_of}
@@ -38,16 +36,8 @@ use Rattle.replay_run.proofs.Plays.{found_there}
 use Rattle.replay_run.proofs.Ways.{way_start}
 
 -- a list in which no region is found at the address is the same without it
-none_past : (addr : ℕ) (list : List Held) → held_at addr list ≡ None → length list ≤ position_or_len (stands_at addr) list
-none_past addr [] none = omega arith
-none_past addr (held ∷ list) none =
-    elim (stands_at addr held) as (λ b. stands_at addr held ≡ b → cond b (Some held) (held_at addr list) ≡ None → length (held ∷ list) ≤ position_or_len (stands_at addr) (held ∷ list)) [
-      | true ↦ λ is h. absurd (cc)
-      | false ↦ λ is h. rw is (omega (arith, none_past addr list h))
-    ] refl none
-
 without_none : (addr : ℕ) (list : List Held) → held_at addr list ≡ None → without addr list ≡ list
-without_none addr list none = let past = none_past addr list none in grind (arith, common_steps)
+without_none addr list none = rw none refl
 
 -- What is known of the point at which a call starts: what it says of the request, and what the client owns there.
 pub record Starts (desk : DeskFacts) (verb : Verb) (request : Request) (stage : Stage) : Type 0 where

@@ -2,7 +2,7 @@
 use Rattle.std.proofs.Common.{◌≡◌, ℕ, inl, inr, ◌+◌, ◌*◌, ◌<◌, ◌≤◌, ◌≢◌, Bool, true, false, not, cond, List, [], ◌∷◌, ◌++◌, get_or, Option, Some, None, refl, sym, ◌∙◌, ap, subst, arith, All, filter, find, ◌&&◌, ◌||◌, ◌==◌, ltb as nat_lt, pos}
 use Rattle.std.specs.List.{sum_by, count_by, position_or_len}
 use Rattle.std.specs.Ordering.{int_eq}
-use Rattle.std.proofs.lemmas.List.Sums.{sum_by-cons, sum_by-insert, sum_by_push, sum_by-remove, get_or-le-sum_by}
+use Rattle.std.proofs.lemmas.List.Sums.{sum_by-cons, sum_by-insert, sum_by_push, sum_by-swap_remove, get_or-le-sum_by}
 use Rattle.std.proofs.lemmas.List.Filters.{sum_by-filter_both}
 use Rattle.std.proofs.lemmas.List.Folds.{find_at}
 use Rattle.std.proofs.lemmas.Option.{slice_get_within, get_or_from_slice_get}
@@ -72,7 +72,7 @@ without_sum f addr list h found =
     let place : ℕ = position_or_len (stands_at addr) list in
     let there = sym (find_at (stands_at addr) list) ∙ found in
     let same : f (get_or list place h) ≡ f h = ap f (get_or_from_slice_get list place h h there) in
-    omega (arith, same, sum_by-remove f list place h (slice_get_within list place h there))
+    rw found (omega (arith, same, sum_by-swap_remove f list place h (slice_get_within list place h there)))
 
 -- what no element of a filter passes isn't counted in it
 none_counted : {X : Type 0} (f keep : X → Bool) → ((x : X) → keep x ≡ true → f x ≡ false) → (xs : List X) → count_by f (filter keep xs) ≡ 0
