@@ -7,6 +7,7 @@ pub mod Powers
 pub mod Shorter
 pub mod Points
 pub mod Causes
+pub mod Ended
 pub mod Bounds
 pub mod Places
 pub mod Room

@@ -22,13 +22,17 @@ use Rattle.call_plan.specs.declared.needs.Answered.{Answered}
 use Rattle.call_plan.specs.declared.needs.Answered.TheVariants.{Ok, Refused, BadAnswer, TooLarge, NotHeld, NoArena as NoSuchArena, NoMemory}
 use Rattle.call_plan.specs.declared.needs.Given.TheVariants.{Region}
 use Rattle.call_plan.specs.declared.needs.Given.TheVariants as Given
+use Rattle.call_plan.specs.declared.needs.Need.{Need}
+use Rattle.call_plan.specs.declared.needs.Need.TheVariants.{Done as IsDone}
 use Rattle.call_plan.specs.declared.needs.Request.{Request}
 use Rattle.call_plan.specs.declared.needs.Request.TheVariants.{Malloc, Free}
+use Rattle.call_plan.specs.declared.stages.Stage.{Stage}
 use Rattle.call_plan.specs.declared.wishes.Wish.{Wish}
 use Rattle.call_plan.specs.Helds.{held_at}
 use Rattle.call_plan.specs.Desks.{DeskFacts}
 use Rattle.call_plan.specs.Reading.{Item, Replied, Told, Starved, WantTurn, WantAsk, Outcome, Waits, is_marked}
 use Rattle.call_plan.specs.Malloc.{whole_chunks, wish_for}
+use Rattle.call_plan.specs.Rest.{rest_of}
 use Rattle.call_plan.specs.Calls.{reading, Run}
 
 -- ---- what a reply says of the answer that its operation carried
@@ -204,3 +208,25 @@ FreeHasCause addr held items answer = ⊥
 abbrev pub FreesHaveCauses : Type 0
 FreesHaveCauses = (desk : DeskFacts) (addr : ℕ) (items : List Item) (answer : Answered)
     → Run desk (Free addr) items answer → FreeHasCause addr (held_at addr desk.held) items answer
+
+-- ---- every request
+
+-- why a request of a client had its answer after these items
+abbrev pub AnswerHasCause : DeskFacts → Request → List Item → Answered → Type 0
+AnswerHasCause desk (Malloc size) items answer = Explained desk.arena size items answer
+AnswerHasCause desk (Free addr) items answer = FreeHasCause addr (held_at addr desk.held) items answer
+
+-- the items of a request lead to the point: its run goes on as from there
+abbrev pub LeadsTo : DeskFacts → Request → List Item → Stage → Type 0
+LeadsTo desk request items stage = (later : List Item) → reading desk request (items ++ later) ≡ rest_of stage later
+
+-- where the need is none, but the answer
+abbrev pub IfDone : Need → (Answered → Type 0) → Type 0
+IfDone (IsDone answer) P = P answer
+IfDone need P = Unit {0}
+
+-- whatever request with whatever items led to the point: where the need is its answer, the answer has its cause among
+-- those items and the ones that it was fed now
+abbrev pub TellsCauses : Stage → List Item → Need → Type 0
+TellsCauses stage now need = (desk : DeskFacts) (request : Request) (items : List Item) → LeadsTo desk request items stage → AreReplies desk request (items ++ now)
+    → IfDone need (AnswerHasCause desk request (items ++ now))

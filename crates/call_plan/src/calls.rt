@@ -8,6 +8,7 @@ ghost use Rattle.call_plan.specs.Malloc.{malloc};
 ghost use Rattle.call_plan.specs.Free.{free, gave, to_or_over};
 ghost use Rattle.call_plan.specs.Rest.{rest_of, rest_of_get, rest_after, NeedIs, IsFitting};
 ghost use Rattle.call_plan.specs.Knows.{Knows, Holds, arena_at};
+ghost use Rattle.call_plan.specs.Causes.{TellsCauses};
 ghost use Rattle.call_plan.specs.Calls.{reading, items_of, IsBuilt, IsPlanned, IsWish, IsLook, IsEnded, HasNotTold, stage_of, stage_after, gave_stage, put_stage, first_stage, first_of_malloc, first_of_free, desk_started, desk_after, gained, places_of};
 
 use crate::{
@@ -272,6 +273,8 @@ impl Call {
 
     /// Takes in what the call was fed, and tells what it needs next, or its answer. Takes no memory.
     ///
+    /// Whatever it answers has its cause among what this very call was fed, from its start on.
+    ///
     /// `fed` answers the need that was told last, and is `Begin` where none was told. The call hasn't told `Done` yet.
     /// The desk is the one that it was started with, and has the places that the call keeps there.
     pub fn next(&mut self, desk: &mut Desk, fed: Fed) -> Need
@@ -281,6 +284,7 @@ impl Call {
         ensures reads { (items : List Item) → rest_of self.old.stage (items_of fed ++ items) ≡ rest_of self.new.stage items }
         ensures point { self.new.stage ≡ stage_after self.old.stage fed }
         ensures need { NeedIs self.new.client (rest_of self.new.stage []) result }
+        ensures cause { TellsCauses self.old.stage (items_of fed) result }
         ensures client { self.new.client ≡ self.old.client }
         ensures planned { IsPlanned self.new.stage }
         ensures desk { facts_of desk.new ≡ desk_after (facts_of desk.old) self.old.stage fed }

@@ -6,7 +6,9 @@ ghost use Rattle.call_plan.specs.Free.{Goes, beside, putting};
 ghost use Rattle.call_plan.specs.Rest.{rest_of, rest_of_get, IsFitting};
 ghost use Rattle.call_plan.specs.Calls.{items_of, HasNotTold, IsBuilt, places_of};
 
-use crate::{Answered, Call, Desk, Fed, Getting, Given, Need, Putting, Request, Stage, Wish};
+use crate::{
+    Answered, Call, Desk, Fed, Getting, Given, Helds, Need, Putting, Request, Stage, Wish,
+};
 use hook_api::{Boxes, HookShelf, Kind, RisingHooks};
 use space_model::{Ask, Op, Reply, Span};
 use std::alloc::{AllocError as NoMemory, Global};
@@ -320,5 +322,37 @@ fn a_malloc_holds_its_region(rt: HostRuntime) -> Result<(), Fail> {
         arena: 0,
     };
     assert_eq!(rt; caller.desk.held.as_slice(), [HELD, region].as_slice());
+    Ok(())
+}
+
+// A region of the least large class at an address.
+fn held_at(addr: u64) -> Held {
+    Held {
+        addr,
+        class: 36,
+        arena: 0,
+    }
+}
+
+#[test]
+fn held_regions_are_found_by_address(rt: HostRuntime) -> Result<(), Fail> {
+    let mut held = Helds::new(rt.alloc());
+    for addr in [3, 1, 2, 1] {
+        held.reserve()?;
+        held.push(held_at(addr));
+    }
+    assert_eq!(rt; held.take(4), None);
+    // The last one comes to the place of the one that is taken.
+    assert_eq!(rt; held.take(3), Some(held_at(3)));
+    assert_eq!(rt;
+        held.as_slice(),
+        [held_at(1), held_at(1), held_at(2)].as_slice()
+    );
+    assert_eq!(rt; held.take(2), Some(held_at(2)));
+    assert_eq!(rt; held.take(1), Some(held_at(1)));
+    assert_eq!(rt; held.take(2), None);
+    assert_eq!(rt; held.as_slice(), [held_at(1)].as_slice());
+    assert_eq!(rt; held.take(1), Some(held_at(1)));
+    assert!(rt; held.as_slice().is_empty());
     Ok(())
 }

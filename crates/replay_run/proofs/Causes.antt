@@ -6,16 +6,13 @@ use Rattle.space_model.proofs.Pieces.{both_true}
 use Rattle.call_plan.specs.declared.needs.Request.{Request}
 use Rattle.call_plan.specs.declared.needs.Request.TheVariants.{Malloc, Free}
 use Rattle.call_plan.specs.Reading.{Item, Replied, Told, WantTurn, WantAsk, Outcome, Ends, Waits, Astray}
-use Rattle.call_plan.specs.declared.stages.Stage.{Stage}
-use Rattle.call_plan.specs.declared.stages.Stage.TheVariants.{Get, Give, Put, Ended}
-use Rattle.call_plan.specs.declared.wishes.Getting.TheVariants.{Looking, SkipAsked, SkipCut, TrimAsked, TrimCut, GrowAsked, Growing, GrantAsked, GrantCut, CommitAsked, Committing, Landing}
 use Rattle.call_plan.specs.declared.needs.Answered.{Answered}
 use Rattle.call_plan.specs.Rest.{rest_of}
 use Rattle.call_plan.specs.Calls.{reading}
 use Rattle.space_model.specs.declared.Space.{Space}
 use Rattle.call_plan.specs.Causes.{ItemFits, AreReplies}
-use Rattle.call_plan.proofs.Causes.{replies-fit, items_fit-push, mallocs-have_causes}
-use Rattle.call_plan.proofs.Frees.{frees-have_causes}
+use Rattle.call_plan.proofs.Causes.{replies-fit, items_fit-push}
+use Rattle.call_plan.proofs.Ended.{nothing_left, run_explained}
 use Rattle.call_plan.specs.Desks.{DeskFacts}
 use Rattle.call_plan.specs.Helds.{held_at}
 use Rattle.call_plan.specs.Free.{free_of}
@@ -27,7 +24,7 @@ use Rattle.trace_text.specs.declared.lines.Line.{Line}
 use Rattle.trace_text.specs.declared.lines.Line.TheVariants.{Call}
 use Rattle.replay_run.specs.World.{Open, World, Move, Turned, Heard_, outcome_of, on_end, printed, begun, fed, opened, opening, moved, after_in, after_move, Fits, NextIn, IsNext, IsPlay}
 use Rattle.replay_run.specs.Sane.{Kept, Going, Sane}
-use Rattle.replay_run.specs.Causes.{items_in, AnswerHasCause, IsExplained, EndsExplained, AllMoves, PlaysHaveCauses, AnswersAtOnceHaveCauses}
+use Rattle.replay_run.specs.Causes.{items_in, IsExplained, EndsExplained, AllMoves, PlaysHaveCauses, AnswersAtOnceHaveCauses}
 use Rattle.replay_run.proofs.Plays.{after_sane, opening_sane, first_good, next_turn, turned_going, heard_going}
 
 -- what the open call was fed are replies to its turns and answers to its asks
@@ -79,30 +76,6 @@ moved_fed w call (Waits (WantTurn arena op asked)) (Heard_ told) fits are = absu
 moved_fed w call (Waits (WantAsk arena wanted)) Turned fits are = absurd fits
 moved_fed w call (Ends answer items) move fits are = absurd fits
 moved_fed w call Astray move fits are = absurd fits
-
--- a call that ended leaves nothing of what it was fed
-nothing_left : (stage : Stage) (answer : Answered) (left : List Item) → rest_of stage [] ≡ Ends answer left → left ≡ []
-nothing_left (Ended other) answer left e = cc
-nothing_left (Give held) answer left e = absurd (cc)
-nothing_left (Put arena point) answer left e = absurd (cc)
-nothing_left (Get wish Looking) answer left e = absurd (cc)
-nothing_left (Get wish (SkipAsked span is_committed skip)) answer left e = absurd (cc)
-nothing_left (Get wish (SkipCut is_committed asked)) answer left e = absurd (cc)
-nothing_left (Get wish (TrimAsked span is_committed)) answer left e = absurd (cc)
-nothing_left (Get wish (TrimCut is_committed asked)) answer left e = absurd (cc)
-nothing_left (Get wish GrowAsked) answer left e = absurd (cc)
-nothing_left (Get wish (Growing asked)) answer left e = absurd (cc)
-nothing_left (Get wish (GrantAsked span is_committed)) answer left e = absurd (cc)
-nothing_left (Get wish (GrantCut is_committed asked)) answer left e = absurd (cc)
-nothing_left (Get wish (CommitAsked span)) answer left e = absurd (cc)
-nothing_left (Get wish (Committing span asked)) answer left e = absurd (cc)
-nothing_left (Get wish (Landing span)) answer left e = absurd (cc)
-
--- an answer after such items has its cause
-run_explained : (desk : DeskFacts) (request : Request) (items : List Item) (answer : Answered) → reading desk request items ≡ Ends answer [] → AreReplies desk request items →
-    AnswerHasCause desk request items answer
-run_explained desk (Malloc size) items answer run are = mallocs-have_causes desk size items answer run are
-run_explained desk (Free addr) items answer run are = frees-have_causes desk addr items answer run
 
 explained : (s : Space) (call : Open) → Going s call → AreReplies call.desk call.request call.items → IsExplained call.desk call.request call.items
 explained s call going are = λ answer left ends.

@@ -3,12 +3,10 @@ use Rattle.std.specs.Prelude.{◌≡◌, List, [], ◌∷◌, ◌++◌, IfSome, 
 use Rattle.space_model.specs.Step.{step_of}
 use Rattle.call_plan.specs.declared.needs.Answered.{Answered}
 use Rattle.call_plan.specs.declared.needs.Request.{Request}
-use Rattle.call_plan.specs.declared.needs.Request.TheVariants.{Malloc, Free}
 use Rattle.call_plan.specs.Desks.{DeskFacts}
-use Rattle.call_plan.specs.Helds.{held_at}
 use Rattle.call_plan.specs.Reading.{Item, Replied, Told, WantTurn, WantAsk, Outcome, Waits, Ends}
 use Rattle.call_plan.specs.Calls.{reading, IsBuilt}
-use Rattle.call_plan.specs.Causes.{Explained, FreeHasCause}
+use Rattle.call_plan.specs.Causes.{AnswerHasCause}
 use Rattle.trace_text.specs.declared.lines.Line.{Line}
 use Rattle.replay_run.specs.World.{Open, World, Move, Turned, Heard_, outcome_of, opening, after_move, IsPlay, IsCarried}
 
@@ -17,11 +15,6 @@ abbrev pub items_in : World → Open → Outcome → Move → List Item
 items_in w call (Waits (WantTurn arena op asked)) Turned = Replied (step_of w.space call.client op).reply ∷ []
 items_in w call (Waits (WantAsk arena ask)) (Heard_ asked) = Told asked ∷ []
 items_in w call outcome move = []
-
--- why a request of a client had its answer after these items
-abbrev pub AnswerHasCause : DeskFacts → Request → List Item → Answered → Type 0
-AnswerHasCause desk (Malloc size) items answer = Explained desk.arena size items answer
-AnswerHasCause desk (Free addr) items answer = FreeHasCause addr (held_at addr desk.held) items answer
 
 -- where a call ends with these items, its answer has its cause among them
 abbrev pub IsExplained : DeskFacts → Request → List Item → Type 0
