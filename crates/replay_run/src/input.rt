@@ -144,11 +144,11 @@ pub fn find_line<S: Source>(source: &mut S, pending: &mut Pending) -> Result<Fou
     ensures cause { IfErr result (λ stop. HasStopCause stop (S.faults source.old) (S.faults source.new) 0 0) }
     ensures counts { S.faults source.old ≤ S.faults source.new }
 {
-    let mut buf = [0u8; READ_BYTES];
     for _ in 0..LINE_BYTES + 2 {
         if let Some(found) = line_in(pending.as_slice()) {
             return Ok(found);
         }
+        let mut buf = [0u8; READ_BYTES];
         match source.read(&mut buf) {
             Ok(0) => return Ok(Found::End),
             Ok(count) => pending.extend(&buf[..count])?,
@@ -165,10 +165,10 @@ pub fn has_more<S: Source>(source: &mut S, pending: &Pending) -> Result<bool, St
     ensures cause { IfErr result (λ stop. HasStopCause stop (S.faults source.old) (S.faults source.new) 0 0) }
     ensures counts { S.faults source.old ≤ S.faults source.new }
 {
-    let mut buf = [0u8; READ_BYTES];
     if !pending.as_slice().is_empty() {
         return Ok(true);
     }
+    let mut buf = [0u8; READ_BYTES];
     match source.read(&mut buf) {
         Ok(count) => Ok(count > 0),
         Err(_) => Err(Stop::ReadFault),
