@@ -1,6 +1,6 @@
 -- What searches find among extents that are apart.
-use Rattle.std.proofs.Common.{◌≡◌, ℕ, ◌+◌, ◌-◌, ◌<◌, ◌≤◌, Bool, true, false, cond, List, [], ◌∷◌, get_or, find, filter, Option, None, Some, IfSome, refl, sym, ◌∙◌, ap, subst, arith, All, ◌&&◌, eqb, ◌==◌, ltb as nat_lt}
-use Rattle.std.specs.List.{count_by, sum_by}
+use Rattle.std.proofs.Common.{◌≡◌, ℕ, ◌-◌, ◌≤◌, Bool, true, false, cond, List, [], ◌∷◌, get_or, find, filter, Option, None, Some, IfSome, refl, sym, ◌∙◌, ap, arith, All, ◌&&◌, eqb}
+use Rattle.std.specs.List.{count_by}
 use Rattle.std.specs.Option.{option_or}
 use Rattle.std.proofs.lemmas.Bool.Decides.{nat_tests}
 use Rattle.std.proofs.lemmas.List.Sums.{sum_by-cons}
@@ -8,10 +8,10 @@ use Rattle.std.proofs.lemmas.List.Elements.{All-head, All-tail}
 use Rattle.space_model.specs.declared.parts.Part.{Part}
 use Rattle.space_model.specs.declared.parts.Span.{Span}
 use Rattle.space_model.specs.Span.{IsPlaced, end_of, has_page}
-use Rattle.space_model.specs.Part.{begins_at, holders, is_flight, is_flight_at}
+use Rattle.space_model.specs.Part.{begins_at, is_flight, is_flight_at}
 use Rattle.space_model.specs.Fit.{fit}
-use Rattle.space_model.specs.Step.{is_left_of, is_like, is_right_of, neighbour}
-use Rattle.space_model.proofs.Exchange.{filter-begins_at, share}
+use Rattle.space_model.specs.Step.{is_left_of, is_like, is_right_of}
+use Rattle.space_model.proofs.Exchange.{filter-begins_at}
 use Rattle.space_model.proofs.Idle.{some_pages}
 use Rattle.space_model.proofs.Pieces.{fit-listed}
 use Rattle.part_book.specs.Books.{ends_at, is_beside}

@@ -1,6 +1,6 @@
 -- The extent that serves a region is the one that has the page of its address.
-use Rattle.std.proofs.Common.{◌≡◌, ℕ, ◌+◌, ◌*◌, ◌/◌, ◌<◌, ◌≤◌, Bool, true, false, cond, IsTrue, List, [], ◌∷◌, get_or, find, Option, None, Some, refl, sym, ◌∙◌, ap, subst, arith, All, eqb, inl, inr, ◌&&◌}
-use Rattle.std.specs.List.{count_by, list_any, sum_by}
+use Rattle.std.proofs.Common.{◌≡◌, ℕ, ◌*◌, ◌/◌, ◌<◌, ◌≤◌, Bool, true, false, cond, IsTrue, List, [], ◌∷◌, get_or, find, Some, refl, sym, ◌∙◌, ap, subst, arith, eqb, inl, inr, ◌&&◌}
+use Rattle.std.specs.List.{list_any, sum_by}
 use Rattle.std.specs.Bool.{beq}
 use Rattle.std.proofs.lemmas.Bool.{cases_Bool, eqb-true}
 use Rattle.std.proofs.lemmas.Bool.Decides.{nat_tests}
@@ -20,7 +20,7 @@ use Rattle.space_model.specs.declared.parts.Span.{Span}
 use Rattle.space_model.specs.declared.spaces.Space.{Space}
 use Rattle.space_model.specs.Span.{IsPlaced, end_of, has_page}
 use Rattle.space_model.specs.Part.{holders, is_active, is_flight, is_flight_at, is_listed, listed, rest_of}
-use Rattle.space_model.specs.Region.{covers, homes, houses}
+use Rattle.space_model.specs.Region.{covers, homes}
 use Rattle.space_model.specs.Step.{both_merge, is_yes_or_no, may_merge, merge_stands}
 use Rattle.space_model.specs.Sound.{Sound}
 use Rattle.space_model.proofs.Exchange.{find_has, find_passes, share}

@@ -1,12 +1,11 @@
 -- What a step leaves: its outcome for the space, and the body as it shall be.
-use Rattle.std.proofs.Common.{◌≡◌, ◌≢◌, ◌∙◌, ◌⊎◌, inl, inr, ℕ, ◌<◌, IsTrue, List, [], Result, Ok, Err, IfOk, OnOk, OnErr, length, refl, sym, ap, subst, slice_set, arith}
+use Rattle.std.proofs.Common.{◌≡◌, ◌≢◌, ◌∙◌, ◌⊎◌, inl, inr, ℕ, ◌<◌, IsTrue, [], Result, Ok, Err, IfOk, OnOk, OnErr, length, refl, sym, ap, subst, arith}
 use Rattle.std.proofs.lemmas.List.{get_or-set_other, get_or-set_same}
 use Rattle.std.proofs.Math.ListN.{length-set}
-use Rattle.space_model.specs.declared.entries.Entry.{Entry}
 use Rattle.space_model.specs.declared.entries.Op.{Op}
 use Rattle.space_model.specs.declared.entries.Reply.{Reply}
 use Rattle.space_model.specs.declared.spaces.Space.{Space}
-use Rattle.space_model.specs.Step.{op_stands, reply_to, space_after, stands}
+use Rattle.space_model.specs.Step.{reply_to, space_after, stands}
 use Rattle.space_model.specs.Sound.{Sound}
 use Rattle.space_model.specs.Opening.{absent_space, first_space}
 use Rattle.space_model.proofs.Steps.{Outcome, Outcome-sound}

@@ -1,5 +1,5 @@
 -- What searches and changes of the keys do to the regions that they stand for.
-use Rattle.std.proofs.Common.{◌≡◌, ℕ, ◌+◌, ◌-◌, ◌*◌, ◌/◌, ◌%◌, ◌<◌, ◌≤◌, suc, Bool, true, false, not, cond, List, [], ◌∷◌, ◌++◌, map, filter, find, Option, None, Some, Less, Equal, Greater, is_gt, is_lt, is_eq, refl, sym, ◌∙◌, ap, subst, arith, ◌≢◌, nat_cmp, Ordering, ◌&&◌, ◌||◌, eqb, ltb as nat_lt, leb as nat_le, inl, inr, ◌⊎◌}
+use Rattle.std.proofs.Common.{◌≡◌, ℕ, ◌+◌, ◌-◌, ◌*◌, ◌/◌, ◌%◌, ◌<◌, ◌≤◌, suc, Bool, true, false, not, cond, List, [], ◌∷◌, map, filter, find, Option, None, Some, Less, Equal, Greater, is_gt, is_lt, is_eq, refl, sym, ◌∙◌, ap, subst, arith, ◌≢◌, nat_cmp, Ordering, ◌&&◌, ◌||◌, eqb, ltb as nat_lt, leb as nat_le, inl, inr}
 use Rattle.std.specs.List.{All, AllByRecursion as Every, Contains, count_by, sum_by, list_any, insert, position_or_len}
 use Rattle.std.specs.List.Sorted.{IsStrictlySortedBy}
 use Rattle.std.proofs.lemmas.Bool.{cases_Bool, cases_order}
@@ -13,7 +13,7 @@ use Rattle.ordered_set.specs.declared.key.Key.{Key}
 use Rattle.ordered_set.specs.Keys.{key_cmp, IsAscending, is_above, is_below, is_from, is_other, with_key, without_key}
 use Rattle.ordered_set.proofs.Sorted.{every_map, every_member, filter_all, filter_none}
 use Rattle.ordered_set.proofs.KeyOrder.{key_total}
-use Rattle.ordered_set.proofs.Orders.{start, from_start, start_from, less_major, less_from_parts, major_less}
+use Rattle.ordered_set.proofs.Orders.{start, from_start, start_from, less_major, major_less}
 use Rattle.ordered_set.proofs.Members.{contains_later}
 use Rattle.size_classes.specs.Classes.{size_at}
 use Rattle.space_model.specs.declared.parts.Region.{Region}

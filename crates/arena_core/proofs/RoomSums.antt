@@ -1,5 +1,5 @@
 -- The sum of all rooms where one of them changes.
-use Rattle.std.proofs.Common.{◌≡◌, ℕ, ◌+◌, ◌-◌, ◌<◌, ◌≤◌, List, length, slice_set, slice_index_or, arith}
+use Rattle.std.proofs.Common.{◌≡◌, ℕ, ◌+◌, ◌<◌, ◌≤◌, List, length, slice_set, arith}
 use Rattle.std.proofs.lemmas.List.Sums.{sum_by-set}
 use Rattle.arena_core.specs.Arenas.{all_rooms, room_of}
 use Rattle.arena_core.specs.declared.indexes.Indexes.{Indexes}

@@ -1,18 +1,18 @@
 -- Regions that are given back one after the other, by rising addresses, leave what they leave when given back at once.
-use Rattle.std.proofs.Common.{◌≡◌, ◌≢◌, ℕ, ◌+◌, ◌*◌, ◌/◌, ◌<◌, ◌≤◌, suc, Bool, true, false, not, cond, IsTrue, List, [], ◌∷◌, ◌++◌, append_assoc, append-nil, length, get_or, find, filter, fold, Option, None, Some, refl, sym, ◌∙◌, ap, subst, arith, All, ◌&&◌, ◌||◌, eqb, leb as nat_le, ltb as nat_lt, inl, inr, ◌⊎◌}
-use Rattle.std.specs.List.{count_by, insert, list_all, list_any, position_or_len, sum_by}
+use Rattle.std.proofs.Common.{◌≡◌, ℕ, ◌+◌, ◌*◌, ◌<◌, ◌≤◌, Bool, true, false, not, cond, IsTrue, List, [], ◌∷◌, ◌++◌, append_assoc, append-nil, length, get_or, filter, fold, refl, sym, ◌∙◌, ap, subst, arith, All, ◌&&◌, ◌||◌, eqb, leb as nat_le, ltb as nat_lt, inl, inr}
+use Rattle.std.specs.List.{count_by, list_all, list_any, position_or_len, sum_by}
 use Rattle.std.proofs.lemmas.Bool.{cases_Bool, cases_order, eqb-true, leb-true, not-true}
 use Rattle.std.proofs.lemmas.Bool.Decides.{nat_tests}
 use Rattle.std.proofs.lemmas.List.Elements.{All-cons, All-filter, All-head, All-nil, All-tail, All-weaker, filter-append, filter_passes}
 use Rattle.std.proofs.lemmas.List.Filters.{length-filter_both, sum_by-filter_both}
-use Rattle.std.proofs.lemmas.List.Sums.{get_or-le-sum_by, length-filter, sum_by-cons}
+use Rattle.std.proofs.lemmas.List.Sums.{get_or-le-sum_by, sum_by-cons}
 use Rattle.space_model.specs.declared.parts.Part.{Part}
 use Rattle.space_model.specs.declared.parts.Region.{Region}
 use Rattle.space_model.specs.declared.spaces.Life.{Life}
 use Rattle.space_model.specs.declared.spaces.Life.TheVariants.{Live, Absent, Dying}
 use Rattle.space_model.specs.declared.spaces.Space.{Space}
-use Rattle.space_model.specs.Span.{IsPlaced, end_of, has_page}
-use Rattle.space_model.specs.Part.{begins_at, exchanged, holders, is_active, taken_out}
+use Rattle.space_model.specs.Span.{end_of, has_page}
+use Rattle.space_model.specs.Part.{begins_at, exchanged, is_active, taken_out}
 use Rattle.space_model.specs.Region.{address_of, houses, is_held_by, lies_in, residents}
 use Rattle.size_classes.specs.Classes.{size_at}
 use Rattle.space_model.specs.Step.{after_back, holds_at, is_emptied, is_given_back, is_live, placed, rises_from, staying, taken_in_order}

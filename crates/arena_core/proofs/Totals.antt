@@ -1,5 +1,5 @@
 -- The counts of bytes are those of pages, and what is read of all extents.
-use Rattle.std.proofs.Common.{◌≡◌, ℕ, ◌+◌, ◌*◌, ◌^◌, ◌<◌, ◌≤◌, Bool, true, false, cond, List, [], ◌∷◌, get_or, find, filter, Option, None, Some, refl, sym, ◌∙◌, ap, arith, inl, inr}
+use Rattle.std.proofs.Common.{◌≡◌, ℕ, ◌+◌, ◌*◌, ◌^◌, ◌<◌, ◌≤◌, Bool, true, false, cond, List, [], ◌∷◌, get_or, find, filter, refl, sym, arith, inl, inr}
 use Rattle.std.specs.List.{list_any, sum_by}
 use Rattle.std.specs.Option.{is_some}
 use Rattle.std.proofs.lemmas.Bool.{cases_Bool}
@@ -11,7 +11,7 @@ use Rattle.space_model.specs.declared.parts.Rest.{Rest}
 use Rattle.space_model.specs.declared.parts.Rest.TheVariants.{Dirty as ToDirty, Muzzy as ToMuzzy, Retained as ToRetained}
 use Rattle.space_model.specs.declared.parts.State.{State}
 use Rattle.space_model.specs.declared.spaces.Space.{Space}
-use Rattle.space_model.specs.Span.{IsPlaced, chunk_span, meets, pages_end}
+use Rattle.space_model.specs.Span.{IsPlaced, chunk_span, meets}
 use Rattle.space_model.specs.Part.{is_active, is_listed}
 use Rattle.space_model.specs.Counts.{bytes_of, bytes_where, is_mapped}
 use Rattle.space_model.specs.Sound.{Sound, is_in_flight}

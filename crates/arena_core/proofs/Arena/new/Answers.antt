@@ -1,4 +1,4 @@
-use Rattle.std.proofs.Common.{◌≡◌, ◌∙◌, arith, sym, ap, subst, length}
+use Rattle.std.proofs.Common.{◌≡◌, arith, sym, ap, subst, length}
 use Rattle.space_model.specs.Sound.{Sound}
 use Rattle.arena_core.specs.Arenas.{all_rooms}
 use Rattle.arena_core.proofs.Outcomes.{opening_sound}

@@ -1,7 +1,6 @@
-use Rattle.std.proofs.Common.{◌≡◌, ◌≢◌, ◌∙◌, ℕ, IsTrue, OnOk, sym, ap, subst, ltb as nat_lt}
+use Rattle.std.proofs.Common.{◌≡◌, ◌∙◌, IsTrue, OnOk, sym, ap, subst, ltb as nat_lt}
 use Rattle.std.proofs.lemmas.Bool.{ltb-true}
 use Rattle.space_model.specs.Step.{op_stands, stands}
-use Rattle.space_model.specs.Sound.{Sound}
 use Rattle.space_model.specs.Journal.{Good}
 use Rattle.space_model.specs.Own.{mine}
 use Rattle.space_model.proofs.Pieces.{both_true}

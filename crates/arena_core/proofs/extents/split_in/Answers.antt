@@ -1,8 +1,7 @@
-use Rattle.std.proofs.Common.{◌≡◌, true, false, ◌∙◌, [], ◌∷◌, Some, arith, refl, ap, subst, sym, find, ◌+◌, ◌<◌, ◌^◌}
-use Rattle.std.specs.Option.{IfSome, IsSome}
+use Rattle.std.proofs.Common.{◌≡◌, true, false, ◌∙◌, [], ◌∷◌, arith, refl, ap, subst, sym}
 use Rattle.space_model.specs.Part.{begins_at, exchanged, listed}
 use Rattle.space_model.specs.Step.{high_piece, low_piece}
-use Rattle.arena_core.proofs.Swaps.{at_some, halves, high_settles, low_settles, pieces_of, Settles, settled, there_placed}
+use Rattle.arena_core.proofs.Swaps.{at_some, high_settles, low_settles, pieces_of, Settles, settled, there_placed}
 use Rattle.arena_core.proofs.extents.split_in.Goals as goal
 
 pub overflow_add-high : goal.overflow_add-high

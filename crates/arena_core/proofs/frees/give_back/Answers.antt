@@ -1,4 +1,4 @@
-use Rattle.std.proofs.Common.{◌≡◌, ◌∙◌, ◌∷◌, [], ◌+◌, ◌<◌, ◌≤◌, List, ℕ, true, false, cond, drop, get_or, length, refl, sym, ap, subst, arith, add-one, drop-cons, rules}
+use Rattle.std.proofs.Common.{◌≡◌, ◌∙◌, ◌∷◌, [], ◌+◌, ◌<◌, List, ℕ, cond, drop, get_or, length, refl, sym, ap, subst, arith, add-one, drop-cons, rules}
 use Rattle.space_model.specs.declared.spaces.Space.{Space}
 use Rattle.arena_core.specs.Indexes.{space_of}
 use Rattle.arena_core.proofs.Emptying.{most_one}

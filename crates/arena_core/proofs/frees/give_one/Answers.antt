@@ -1,5 +1,4 @@
-use Rattle.std.proofs.Common.{◌≡◌, ◌∙◌, ◌∷◌, [], ◌+◌, ◌*◌, ◌/◌, true, cond, not, List, arith, ap, subst, sym, refl, find}
-use Rattle.std.specs.Option.{IsSome}
+use Rattle.std.proofs.Common.{◌≡◌, ◌∙◌, ◌∷◌, [], ◌+◌, ◌*◌, List, arith, ap, subst, sym, refl}
 use Rattle.std.specs.List.{list_any}
 use Rattle.space_model.specs.declared.parts.Part.{Part}
 use Rattle.space_model.specs.declared.parts.Region.{Region}
@@ -7,7 +6,6 @@ use Rattle.space_model.specs.declared.spaces.Space.{Space}
 use Rattle.space_model.specs.declared.parts.State.TheVariants.{Flight}
 use Rattle.space_model.specs.Span.{IsPlaced}
 use Rattle.space_model.specs.Part.{begins_at, exchanged}
-use Rattle.space_model.specs.Step.{staying}
 use Rattle.arena_core.specs.Indexes.{space_of}
 use Rattle.arena_core.specs.RegionLists.{begins_within}
 use Rattle.arena_core.proofs.Emptying.{begins_alone, empties, given_found}

@@ -1,4 +1,4 @@
-use Rattle.std.proofs.Common.{◌≡◌, IsTrue, arith, subst, sym}
+use Rattle.std.proofs.Common.{IsTrue, arith, subst, sym}
 use Rattle.space_model.specs.Step.{merge_stands}
 use Rattle.space_model.proofs.Steps.{joined_fits}
 use Rattle.arena_core.specs.Indexes.{space_of}

@@ -1,4 +1,4 @@
-use Rattle.std.proofs.Common.{◌≡◌, ◌<◌, ◌&&◌, IsTrue, arith, subst, ltb as nat_lt}
+use Rattle.std.proofs.Common.{◌&&◌, IsTrue, arith, subst, ltb as nat_lt}
 use Rattle.std.proofs.lemmas.Bool.{ltb-true}
 use Rattle.space_model.specs.Step.{cut_stands, is_yes_or_no}
 use Rattle.space_model.proofs.Pieces.{both_true}

@@ -1,4 +1,4 @@
-use Rattle.std.proofs.Common.{◌≡◌, ◌∙◌, ◌<◌, ◌≤◌, ◌&&◌, ◌==◌, arith, sym, ltb as nat_lt, leb as nat_le}
+use Rattle.std.proofs.Common.{◌<◌, ◌&&◌, ◌==◌, arith, sym, ltb as nat_lt, leb as nat_le}
 use Rattle.std.proofs.lemmas.Bool.{ltb-true}
 use Rattle.size_classes.specs.Classes.{pages_at}
 use Rattle.size_classes.proofs.Table.{size_bounds}

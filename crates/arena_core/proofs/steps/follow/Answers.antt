@@ -1,4 +1,4 @@
-use Rattle.std.proofs.Common.{◌+◌, ◌≤◌, arith}
+use Rattle.std.proofs.Common.{◌+◌, arith}
 use Rattle.arena_core.proofs.RoomSums.{places_fewer}
 use Rattle.arena_core.proofs.steps.follow.Goals as goal
 

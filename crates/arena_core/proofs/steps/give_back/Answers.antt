@@ -1,9 +1,9 @@
-use Rattle.std.proofs.Common.{◌≡◌, ◌∙◌, ◌+◌, ◌*◌, ◌≤◌, List, ℕ, arith, ap, subst, sym, max, length, slice_set}
+use Rattle.std.proofs.Common.{◌≡◌, ◌∙◌, ◌*◌, ◌≤◌, List, ℕ, arith, ap, max, slice_set}
 use Rattle.space_model.specs.declared.entries.Reply.TheVariants.{Next}
 use Rattle.space_model.specs.declared.spaces.Space.{Space}
 use Rattle.space_model.specs.Step.{after_back, next_flight}
 use Rattle.arena_core.specs.Arenas.{all_rooms, emptied, room_of}
-use Rattle.arena_core.specs.Indexes.{HasPlaces, space_of}
+use Rattle.arena_core.specs.Indexes.{space_of}
 use Rattle.arena_core.proofs.RoomSums.{places_fewer, rooms_fewer}
 use Rattle.arena_core.proofs.steps.give_back.Goals as goal
 

@@ -1,4 +1,4 @@
-use Rattle.std.proofs.Common.{◌≡◌, ◌∙◌, ◌+◌, ◌-◌, arith, ap, subst, sym}
+use Rattle.std.proofs.Common.{◌≡◌, ◌+◌, ◌-◌, arith, ap, subst}
 use Rattle.arena_core.specs.Arenas.{all_rooms}
 use Rattle.arena_core.specs.Indexes.{HasPlaces}
 use Rattle.arena_core.proofs.RoomSums.{rooms_with}

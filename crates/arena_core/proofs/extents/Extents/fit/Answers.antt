@@ -1,6 +1,5 @@
-use Rattle.std.proofs.Common.{◌∙◌, ap, subst}
+use Rattle.std.proofs.Common.{subst}
 use Rattle.std.specs.Option.{IfSome}
-use Rattle.space_model.specs.Fit.{fit}
 use Rattle.part_book.specs.Books.{Book}
 use Rattle.arena_core.specs.Extents.{IsThere}
 use Rattle.arena_core.proofs.Finds.{fit_there}

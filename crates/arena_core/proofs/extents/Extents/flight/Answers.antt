@@ -1,4 +1,4 @@
-use Rattle.std.proofs.Common.{◌≡◌, ◌∙◌, ◌&&◌, ◌==◌, ap, find, subst}
+use Rattle.std.proofs.Common.{◌∙◌, ◌&&◌, ◌==◌, ap, find, subst}
 use Rattle.std.specs.Option.{IfSome}
 use Rattle.space_model.specs.Part.{is_flight, is_flight_at}
 use Rattle.part_book.specs.Books.{Book}

@@ -1,6 +1,5 @@
-use Rattle.std.proofs.Common.{◌≡◌, [], ◌∷◌, ◌||◌, ◌+◌, ◌<◌, ◌^◌, arith, refl, ap, subst, sym, find}
+use Rattle.std.proofs.Common.{◌≡◌, [], ◌∷◌, ◌||◌, arith, ap, subst, sym, find}
 use Rattle.std.specs.Option.{IfSome}
-use Rattle.std.proofs.lemmas.List.Sums.{sum_by-cons}
 use Rattle.space_model.specs.Part.{begins_at, exchanged}
 use Rattle.part_book.specs.Books.{Book, joined}
 use Rattle.arena_core.specs.Extents.{IsApart, IsThere, active_pages, all_pages}

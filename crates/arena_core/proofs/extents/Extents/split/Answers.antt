@@ -1,4 +1,4 @@
-use Rattle.std.proofs.Common.{◌≡◌, [], ◌∷◌, cond, arith, refl, ap, subst, sym}
+use Rattle.std.proofs.Common.{arith, ap, subst, sym}
 use Rattle.part_book.specs.Books.{Book}
 use Rattle.arena_core.specs.Extents.{IsApart, IsThere, active_pages, all_pages}
 use Rattle.arena_core.proofs.Swaps.{split_swaps}

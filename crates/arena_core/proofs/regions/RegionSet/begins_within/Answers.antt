@@ -1,4 +1,4 @@
-use Rattle.std.proofs.Common.{◌∙◌, sym, ap}
+use Rattle.std.proofs.Common.{◌∙◌, ap}
 use Rattle.std.specs.List.{list_any}
 use Rattle.arena_core.specs.RegionLists.{begins_within}
 use Rattle.arena_core.proofs.RegionKeys.{lies_below, within_is}

@@ -1,6 +1,5 @@
-use Rattle.std.proofs.Common.{◌≡◌, ◌∙◌, ◌∷◌, [], ◌≤◌, ◌<◌, All, sym, ap, map, subst, arith}
+use Rattle.std.proofs.Common.{◌∙◌, ◌∷◌, [], ◌≤◌, ◌<◌, All, sym, ap, map, subst, arith}
 use Rattle.std.specs.List.{count_by}
-use Rattle.ordered_set.specs.Keys.{without_key}
 use Rattle.space_model.specs.Step.{holds_at, staying}
 use Rattle.space_model.specs.Counts.{region_bytes}
 use Rattle.arena_core.specs.RegionLists.{RegionList, region_of}
