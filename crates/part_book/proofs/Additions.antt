@@ -1,5 +1,5 @@
 -- A table to whose indexes an extent was added keeps its extents and that one.
-use Rattle.std.proofs.Common.{◌≡◌, ◌≢◌, ℕ, ◌+◌, ◌-◌, ◌/◌, ◌^◌, ◌<◌, ◌≤◌, Bool, true, false, cond, eqb, ltb, ◌||◌, List, [], ◌∷◌, ◌++◌, map, filter, find, length, count_by, Option, Some, None, option_map, set as set_at, vec_len, vec_capacity, inl, inr, ◌⊎◌, refl, sym, ap, ◌∙◌, subst, arith, All, length-append}
+use Rattle.std.proofs.Common.{◌≡◌, ◌≢◌, ℕ, ◌+◌, ◌-◌, ◌/◌, ◌<◌, ◌≤◌, Bool, true, false, cond, eqb, ltb, ◌||◌, List, [], ◌∷◌, ◌++◌, map, filter, find, length, count_by, Option, Some, None, option_map, set as set_at, vec_len, vec_capacity, inl, inr, ◌⊎◌, refl, sym, ap, ◌∙◌, subst, arith, All, length-append}
 use Rattle.std.specs.List.{Contains}
 use Rattle.std.specs.Option.{option_to_list}
 use Rattle.std.specs.Cmp.{unsigned_tied, nat_cmp_total}
@@ -14,19 +14,18 @@ use Rattle.std.proofs.lemmas.List.Sums.{count_by-le-length, length-filter, sum_b
 use Rattle.ordered_set.specs.declared.key.Key.{Key}
 use Rattle.ordered_set.specs.Keys.{with_key}
 use Rattle.fit_lists.specs.Spans.{IsApart as IsSpanApart, Listed}
-use Rattle.ordered_set.proofs.Members.{every_from, filter_from, with_from, with_keeps, with_self}
+use Rattle.ordered_set.proofs.Members.{every_from, with_from, with_keeps, with_self}
 use Rattle.space_model.specs.declared.parts.Part.{Part}
-use Rattle.space_model.specs.declared.parts.Rest.{Rest}
 use Rattle.space_model.specs.declared.parts.Rest.TheVariants.{Dirty as ToDirty, Muzzy as ToMuzzy, Retained as ToRetained}
-use Rattle.space_model.specs.Span.{IsPlaced, end_of, has_page, meets}
+use Rattle.space_model.specs.Span.{IsPlaced, end_of, meets}
 use Rattle.space_model.specs.Part.{is_listed}
 use Rattle.space_model.specs.Sound.{is_in_flight}
 use Rattle.part_book.specs.declared.table.Table.{Table}
-use Rattle.part_book.specs.Rows.{IsApart, IsFirsts, Row, flights_in, is_edge, key_of, part_at, row_at, span_of, spans_in}
+use Rattle.part_book.specs.Rows.{IsApart, IsFirsts, Row, flights_in, is_edge, key_of, part_at, row_at, span_of}
 use Rattle.part_book.specs.Tables.{IsTable, parts_of, rows_of}
 use Rattle.part_book.proofs.Chunks.{contains_kept, contains_new}
 use Rattle.part_book.proofs.Indexes.{parts_in}
-use Rattle.part_book.proofs.Lists.{count_some, find_append, find_none, map_from, map_has, map_same}
+use Rattle.part_book.proofs.Lists.{count_some, find_append, find_none, map_has, map_same}
 use Rattle.part_book.proofs.Parts.{edge_has}
 use Rattle.part_book.proofs.Rowed.{apart_more, page_meets, row_placed}
 

@@ -1,5 +1,5 @@
 -- The extents of a book after a cut and after a join.
-use Rattle.std.proofs.Common.{◌≡◌, ℕ, ◌+◌, ◌-◌, ◌/◌, ◌<◌, ◌≤◌, Bool, true, false, not, cond, ◌||◌, List, [], ◌∷◌, ◌++◌, filter, find, Option, Some, None, inl, inr, refl, sym, ap, ◌∙◌, subst, arith, All, append_assoc}
+use Rattle.std.proofs.Common.{◌≡◌, ℕ, ◌+◌, ◌-◌, ◌/◌, ◌<◌, Bool, true, false, not, ◌||◌, List, [], ◌∷◌, ◌++◌, filter, find, Option, Some, None, inl, inr, refl, sym, ap, ◌∙◌, subst, arith, All, append_assoc}
 use Rattle.std.specs.Option.{IfSome, IsSome}
 use Rattle.std.specs.FinSet as set
 use Rattle.std.proofs.lemmas.Bool.{cases_Bool, eqb-true, not_from_false}

@@ -1,5 +1,5 @@
 -- The answers of a list of spans are those of a search over the extents.
-use Rattle.std.proofs.Common.{◌≡◌, ℕ, ◌+◌, ◌*◌, ◌-◌, ◌/◌, ◌%◌, ◌<◌, ◌≤◌, Bool, true, false, cond, not, ◌&&◌, List, [], ◌∷◌, map, filter, find, slice_get, Option, Some, None, option_map, inl, inr, ◌⊎◌, refl, sym, ap, ◌∙◌, subst, arith, sum_by, All}
+use Rattle.std.proofs.Common.{◌≡◌, ℕ, ◌+◌, ◌*◌, ◌-◌, ◌/◌, ◌<◌, ◌≤◌, Bool, true, false, not, ◌&&◌, List, [], ◌∷◌, filter, find, slice_get, Some, None, option_map, inl, inr, ◌⊎◌, refl, sym, ap, ◌∙◌, subst, arith, sum_by, All}
 use Rattle.std.specs.List.{Contains, list_any}
 use Rattle.std.proofs.lemmas.Bool.{and_parts, cases_Bool, cases_lt, or_parts}
 use Rattle.std.proofs.lemmas.Bool.Decides.{nat_tests}
@@ -10,9 +10,8 @@ use Rattle.fit_lists.specs.Spans.{HoldsRun, IsFirstFit, IsNoLater, Listed}
 use Rattle.ordered_set.proofs.Members.{contains_cases, contains_later, every_from, filter_from, filter_has}
 use Rattle.space_model.specs.declared.parts.Part.{Part}
 use Rattle.space_model.specs.declared.parts.Rest.{Rest}
-use Rattle.space_model.specs.declared.parts.Span.{Span}
 use Rattle.space_model.specs.Span.{end_of, holds_run, run_start}
-use Rattle.space_model.specs.Part.{begins_at, is_listed}
+use Rattle.space_model.specs.Part.{is_listed}
 use Rattle.space_model.specs.Fit.{fit_of, is_best, is_better, is_candidate}
 use Rattle.part_book.specs.Rows.{IsApart, Row, span_of, spans_in}
 use Rattle.part_book.proofs.Indexes.{parts_in}

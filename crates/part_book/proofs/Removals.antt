@@ -1,5 +1,5 @@
 -- A table from whose indexes an extent was taken keeps the others.
-use Rattle.std.proofs.Common.{◌≡◌, ◌≢◌, ℕ, ◌+◌, ◌-◌, ◌<◌, ◌≤◌, Bool, true, false, not, cond, eqb, ltb, ◌||◌, List, [], ◌∷◌, ◌++◌, map, filter, find, get_or, length, count_by, Option, Some, None, option_map, is_some, vec_len, vec_capacity, inl, inr, refl, sym, ap, ◌∙◌, subst, arith, All, ◌/◌}
+use Rattle.std.proofs.Common.{◌≡◌, ℕ, ◌+◌, ◌-◌, ◌<◌, ◌≤◌, Bool, true, false, not, cond, eqb, ltb, List, [], ◌∷◌, ◌++◌, map, filter, find, get_or, length, count_by, Option, Some, None, option_map, vec_len, vec_capacity, inl, inr, refl, sym, ap, ◌∙◌, subst, arith, All, ◌/◌}
 use Rattle.std.specs.List.{Any, Contains}
 use Rattle.std.specs.Option.{IsSome}
 use Rattle.std.specs.Cmp.{unsigned_tied, nat_cmp_total}
@@ -13,20 +13,19 @@ use Rattle.std.proofs.lemmas.Option.{slice_get-get_or}
 use Rattle.std.proofs.lemmas.List.Sums.{sum_by-append, sum_by-cons}
 use Rattle.ordered_set.specs.declared.key.Key.{Key}
 use Rattle.ordered_set.specs.Keys.{without_key}
-use Rattle.fit_lists.specs.Spans.{Listed}
 use Rattle.ordered_set.proofs.Members.{filter_from, filter_has, without_from, without_keeps}
 use Rattle.space_model.specs.declared.parts.Part.{Part}
 use Rattle.space_model.specs.declared.parts.Rest.TheVariants.{Dirty as ToDirty, Muzzy as ToMuzzy, Retained as ToRetained}
-use Rattle.space_model.specs.Span.{IsPlaced, end_of, has_page, meets}
+use Rattle.space_model.specs.Span.{IsPlaced, end_of, meets}
 use Rattle.space_model.specs.Part.{begins_at, is_listed}
 use Rattle.space_model.specs.Sound.{is_in_flight}
 use Rattle.part_book.specs.declared.table.Table.{Table}
 use Rattle.page_map.specs.Pages.{Pages}
 use Rattle.part_book.specs.Leaves.{leaves_for}
-use Rattle.part_book.specs.Rows.{IsFirsts, Row, flights_in, is_edge, key_of, no_part, part_at, row_at, span_of, spans_in}
+use Rattle.part_book.specs.Rows.{IsFirsts, Row, is_edge, key_of, no_part, part_at, row_at, span_of}
 use Rattle.part_book.specs.Tables.{IsTable, parts_of, rows_of}
 use Rattle.part_book.proofs.Additions.{edge_test, twice}
-use Rattle.part_book.proofs.Indexes.{edge_row, in_slot, in_slots, parts_in}
+use Rattle.part_book.proofs.Indexes.{in_slot, in_slots, parts_in}
 use Rattle.part_book.proofs.Lists.{count_less_one, count_kept, count_map, count_some, filter_all_of, filter_map_is, filter_same, filter_swap, find_kept, find_map, find_none, found, kept_length, map_has, mapped_some}
 use Rattle.part_book.proofs.Parts.{begins_by_edge, edge_has}
 use Rattle.part_book.proofs.Rowed.{apart_less, numbers_most, one_number, one_row, other_row, others, others_apart, others_begin, row_placed}

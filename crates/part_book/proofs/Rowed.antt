@@ -1,14 +1,14 @@
 -- The extents of a table and their numbers: which are the same, and which share no page.
-use Rattle.std.proofs.Common.{◌≡◌, ℕ, ◌+◌, ◌-◌, ◌<◌, ◌≤◌, Bool, true, false, not, cond, eqb, ltb, List, [], ◌∷◌, ◌++◌, filter, count_by, map, vec_len, inl, inr, refl, sym, ap, ◌∙◌, subst, arith, All}
+use Rattle.std.proofs.Common.{◌≡◌, ℕ, ◌≤◌, Bool, true, false, not, cond, eqb, ltb, List, [], ◌∷◌, ◌++◌, filter, count_by, vec_len, inl, inr, refl, sym, ap, ◌∙◌, subst, arith, All}
 use Rattle.std.specs.List.{Contains}
 use Rattle.std.proofs.lemmas.Bool.{cases_Bool, cases_lt, eq-eqb, eqb-true}
 use Rattle.std.proofs.lemmas.Bool.Decides.{nat_tests}
-use Rattle.std.proofs.lemmas.List.Elements.{All-append, All-contains, All-cons, All-filter, All-from_recursion, All-nil}
+use Rattle.std.proofs.lemmas.List.Elements.{All-append, All-contains, All-cons, All-from_recursion, All-nil}
 use Rattle.std.proofs.lemmas.List.Sums.{sum_by-append, sum_by-cons}
 use Rattle.ordered_set.proofs.Members.{every_from, filter_from}
 use Rattle.space_model.specs.declared.parts.Part.{Part}
-use Rattle.space_model.specs.Span.{IsPlaced, end_of, has_page, meets}
-use Rattle.space_model.specs.Part.{begins_at, holders}
+use Rattle.space_model.specs.Span.{IsPlaced, has_page, meets}
+use Rattle.space_model.specs.Part.{begins_at}
 use Rattle.part_book.specs.declared.table.Table.{Table}
 use Rattle.part_book.specs.Rows.{IsApart, Row}
 use Rattle.part_book.specs.Tables.{IsTable}

@@ -1,5 +1,5 @@
 -- The indexes of a table, and what they keep of its extents.
-use Rattle.std.specs.Prelude.{◌≡◌, ◌==◌, ℕ, ◌+◌, ◌-◌, ◌/◌, ◌*◌, ◌^◌, ◌≤◌, true, List, map, find, cond, nat_lt, length, count_by, option_map, vec_len, vec_capacity, All}
+use Rattle.std.specs.Prelude.{◌≡◌, ◌==◌, ℕ, ◌+◌, ◌-◌, ◌/◌, ◌^◌, ◌≤◌, true, List, map, find, cond, nat_lt, length, count_by, option_map, vec_len, vec_capacity, All}
 use Rattle.std.specs.FinMap as map_of
 use Rattle.std.specs.FinSet as set
 use Rattle.space_model.specs.declared.parts.Part.{Part}

@@ -1,12 +1,11 @@
-use Rattle.std.proofs.Common.{◌≡◌, ◌+◌, ◌-◌, ◌*◌, ◌/◌, find, Some, refl, sym, ap, ◌∙◌, subst, arith}
+use Rattle.std.proofs.Common.{◌≡◌, ◌+◌, ◌*◌, find, Some, refl, sym, ap, ◌∙◌, subst, arith}
 use Rattle.std.specs.Option.{IsSome}
-use Rattle.space_model.specs.Span.{end_of}
 use Rattle.space_model.specs.Part.{begins_at}
 use Rattle.part_book.specs.Books.{AreAlike, joined}
 use Rattle.part_book.specs.Leaves.{leaves_for}
-use Rattle.part_book.specs.Tables.{HasRoom, parts_of}
+use Rattle.part_book.specs.Tables.{parts_of}
 use Rattle.part_book.proofs.Changed.{both, join_parts, joined_apart, joined_leaves, joined_placed, same_found}
-use Rattle.part_book.proofs.Chunks.{fewer_leaves, leaves_none, more_leaves}
+use Rattle.part_book.proofs.Chunks.{fewer_leaves, more_leaves}
 use Rattle.part_book.proofs.Rooms.{room_less}
 use Rattle.part_book.proofs.PartBook.join.Goals as goal
 

@@ -1,7 +1,6 @@
-use Rattle.std.proofs.Common.{◌≡◌, ◌^◌, ◌≤◌, sym, ap, subst, ◌∙◌, arith, find, None}
+use Rattle.std.proofs.Common.{◌≤◌, sym, ap, ◌∙◌, arith, find}
 use Rattle.space_model.specs.Part.{begins_at}
 use Rattle.space_model.specs.Span.{end_of}
-use Rattle.part_book.specs.Books.{is_beside}
 use Rattle.part_book.specs.Tables.{parts_of}
 use Rattle.part_book.proofs.Parts.{none_begins}
 use Rattle.part_book.proofs.PartBook.neighbour.Goals as goal

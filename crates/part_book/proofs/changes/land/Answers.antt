@@ -1,4 +1,4 @@
-use Rattle.std.proofs.Common.{◌≡◌, rules, sym, ap, ◌∙◌, cond, not, eqb, filter}
+use Rattle.std.proofs.Common.{rules, sym, ap, ◌∙◌, cond, not, eqb, filter}
 use Rattle.std.proofs.lemmas.Fn.{filter_same}
 use Rattle.part_book.proofs.changes.land.Goals as goal
 

@@ -1,4 +1,4 @@
-use Rattle.std.proofs.Common.{◌+◌, ◌≤◌, length, eqb, filter, not, ap, arith}
+use Rattle.std.proofs.Common.{length, eqb, ap, arith}
 use Rattle.part_book.proofs.Lists.{kept_length}
 use Rattle.part_book.proofs.changes.unlist.Goals as goal
 

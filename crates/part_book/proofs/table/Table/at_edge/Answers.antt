@@ -1,4 +1,4 @@
-use Rattle.std.proofs.Common.{◌<◌, vec_len, sym, ap, subst, arith, ◌∙◌, Some}
+use Rattle.std.proofs.Common.{◌<◌, vec_len, sym, ap, subst, ◌∙◌, Some}
 use Rattle.part_book.specs.Tables.{rows_of}
 use Rattle.part_book.proofs.Indexes.{edge_none, edge_part, edge_row, in_slots}
 use Rattle.part_book.proofs.table.Table.at_edge.Goals as goal

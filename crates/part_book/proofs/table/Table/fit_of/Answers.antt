@@ -1,4 +1,4 @@
-use Rattle.std.proofs.Common.{◌≡◌, ◌<◌, vec_len, refl, sym, ap, subst, ◌∙◌, Some, All}
+use Rattle.std.proofs.Common.{◌<◌, vec_len, refl, sym, ap, subst, ◌∙◌, Some, All}
 use Rattle.fit_lists.specs.Spans.{HoldsRun, IsFirstFit}
 use Rattle.part_book.specs.Rows.{part_at, spans_in}
 use Rattle.part_book.specs.Tables.{rows_of}

@@ -1,4 +1,4 @@
-use Rattle.std.proofs.Common.{◌≡◌, ◌^◌, ◌<◌, vec_len, sym, ap, subst, ◌∙◌, arith}
+use Rattle.std.proofs.Common.{◌≡◌, ◌<◌, vec_len, sym, ap, subst, ◌∙◌, arith}
 use Rattle.part_book.specs.Rows.{IsLastBelow, part_at}
 use Rattle.part_book.specs.Tables.{parts_of, rows_of}
 use Rattle.part_book.proofs.Indexes.{in_slot, in_slots, last_row, no_row}

@@ -1,4 +1,4 @@
-use Rattle.std.proofs.Common.{◌≡◌, ◌≤◌, ltb, sym, ap, subst, ◌∙◌, refl, All}
+use Rattle.std.proofs.Common.{◌≤◌, ltb, sym, ap, subst, ◌∙◌, refl, All}
 use Rattle.space_model.specs.Span.{end_of}
 use Rattle.part_book.specs.Rows.{IsLastBelow}
 use Rattle.part_book.specs.Tables.{parts_of}

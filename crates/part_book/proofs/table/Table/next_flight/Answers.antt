@@ -1,5 +1,4 @@
-use Rattle.std.proofs.Common.{◌≡◌, ◌+◌, ◌<◌, ℕ, vec_len, length, find, get_or, None, Some, true, false, sym, ap, subst, ◌∙◌, option_map, arith}
-use Rattle.std.proofs.lemmas.Bool.{cases_lt}
+use Rattle.std.proofs.Common.{◌≡◌, ◌<◌, ℕ, vec_len, length, get_or, Some, false, sym, ap, subst, ◌∙◌, option_map, arith}
 use Rattle.space_model.specs.Part.{is_flight}
 use Rattle.part_book.specs.Rows.{part_at}
 use Rattle.part_book.specs.Tables.{rows_of}

@@ -1,4 +1,4 @@
-use Rattle.std.proofs.Common.{◌≡◌, ◌<◌, vec_len, sym, ap, subst, ◌∙◌, Some, option_map, slice_get}
+use Rattle.std.proofs.Common.{◌<◌, vec_len, sym, ap, subst, ◌∙◌, Some, option_map, slice_get}
 use Rattle.part_book.specs.Rows.{part_at}
 use Rattle.part_book.specs.Tables.{rows_of}
 use Rattle.part_book.proofs.Fitting.{first_listed, none_listed}

@@ -1,11 +1,9 @@
-use Rattle.std.proofs.Common.{◌≡◌, ◌++◌, sym, ap, ◌∙◌, refl, subst, arith, vec_len}
+use Rattle.std.proofs.Common.{◌++◌, ap, ◌∙◌, refl, arith}
 use Rattle.std.specs.Option.{option_to_list}
-use Rattle.std.specs.List.{Contains}
 use Rattle.space_model.specs.Part.{is_listed}
 use Rattle.space_model.specs.declared.parts.Rest.TheVariants.{Dirty as ToDirty, Muzzy as ToMuzzy, Retained as ToRetained}
-use Rattle.part_book.specs.Rows.{Row, span_of}
 use Rattle.part_book.specs.Tables.{rows_of}
-use Rattle.part_book.proofs.Additions.{IsAdded, absent_first, all_apart, apart_among, flights_fewer, leaves_kept, new_among, new_number, parts_added, place_in, popped, table_added}
+use Rattle.part_book.proofs.Additions.{absent_first, all_apart, apart_among, flights_fewer, leaves_kept, new_among, new_number, parts_added, place_in, popped, table_added}
 use Rattle.part_book.proofs.table.Table.put_on.Goals as goal
 
 pub index_mut-requires : goal.index_mut-requires

@@ -1,7 +1,7 @@
-use Rattle.std.proofs.Common.{◌≡◌, ◌*◌, ◌≤◌, min, refl, sym, ap, ◌∙◌, arith}
+use Rattle.std.proofs.Common.{◌*◌, refl, ap, arith}
 use Rattle.std.proofs.lemmas.Result.{on_ok_weaker}
 use Rattle.part_book.proofs.Chunks.{leaves_enough}
-use Rattle.part_book.proofs.Rooms.{IsSame, same_rows, same_table}
+use Rattle.part_book.proofs.Rooms.{same_rows, same_table}
 use Rattle.part_book.proofs.table.Table.reserve.Goals as goal
 
 pub returns-in_err-reserve_lists-clause-table : goal.returns-in_err-reserve_lists-clause-table

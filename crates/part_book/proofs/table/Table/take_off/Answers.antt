@@ -2,11 +2,9 @@ use Rattle.std.proofs.Common.{◌≡◌, ◌+◌, ◌≤◌, sym, ap, ◌∙◌,
 use Rattle.std.specs.List.{Contains}
 use Rattle.ordered_set.specs.Keys.{without_key}
 use Rattle.space_model.specs.Part.{is_listed}
-use Rattle.space_model.specs.Span.{IsPlaced}
 use Rattle.space_model.specs.declared.parts.Rest.TheVariants.{Dirty as ToDirty, Muzzy as ToMuzzy, Retained as ToRetained}
 use Rattle.part_book.specs.declared.table.Table.{Table}
-use Rattle.part_book.specs.Rows.{Row, key_of}
-use Rattle.part_book.specs.Tables.{HasRoom, rows_of}
+use Rattle.part_book.specs.Tables.{rows_of}
 use Rattle.part_book.proofs.Removals.{any_listed, any_span, apart_removed, key_is, leaves_there, listed_once, number_taken, order_fewer, parts_removed, row_taken, some_number, table_removed}
 use Rattle.part_book.proofs.Rowed.{row_placed}
 use Rattle.part_book.proofs.table.Table.take_off.Goals as goal
