@@ -5,7 +5,7 @@ use super::PartBook;
 use space_model::{Part, Rest, Span, State};
 use std::test::Fail;
 
-const MANY: u64 = 1 << 16;
+const MANY: u64 = 1 << 20;
 
 fn dirty(first: u64, pages: u64) -> Part
     ensures { result.span ≡ record { first = first; pages = pages } }
