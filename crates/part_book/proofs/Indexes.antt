@@ -7,14 +7,14 @@ use Rattle.std.specs.FinSet as set
 use Rattle.std.specs.Ordering.{nat_cmp}
 use Rattle.space_model.specs.Span.{IsPlaced, end_of}
 use Rattle.std.proofs.lemmas.Bool.Decides.{nat_tests}
-use Rattle.std.proofs.lemmas.List.Elements.{All-contains, All-from_recursion, All-head, All-nil, All-tail, Contains-get_or}
+use Rattle.std.proofs.lemmas.List.Elements.{All-contains, All-head, All-nil, All-tail, Contains-get_or}
 use Rattle.std.proofs.lemmas.Grind.{get_or_default_zero}
 use Rattle.std.proofs.lemmas.List.Kept.{IsStrictlySortedBy-filter}
 use Rattle.std.proofs.lemmas.Option.{slice_get-get_or}
 use Rattle.ordered_set.specs.declared.key.Key.{Key}
 use Rattle.ordered_set.specs.Keys.{IsAscending, is_below, key_cmp, last_of}
 use Rattle.ordered_set.proofs.Sorted.{every_member}
-use Rattle.ordered_set.proofs.Members.{contains_later, every_from, filter_from, filter_has}
+use Rattle.ordered_set.proofs.Members.{contains_later, filter_from, filter_has}
 use Rattle.ordered_set.proofs.Orders.{from_start, last_greatest, start, start_from}
 use Rattle.space_model.specs.declared.parts.Part.{Part}
 use Rattle.space_model.specs.declared.parts.State.{State}
@@ -23,12 +23,20 @@ use Rattle.space_model.specs.Part.{is_flight}
 use Rattle.space_model.specs.Sound.{is_in_flight}
 use Rattle.part_book.specs.declared.table.Table.{Table}
 use Rattle.part_book.specs.Rows.{IsFirsts, IsLastBelow, Row, flights_in, is_edge, key_of, part_at, row_at}
-use Rattle.part_book.specs.Tables.{IsTable, rows_of}
-use Rattle.part_book.proofs.Lists.{count_some, find_map, find_none, found, map_from, map_has, mapped_none, mapped_some}
+use Rattle.part_book.specs.Tables.{IsTable, Keeps, rows_of}
+use Rattle.part_book.proofs.Lists.{all_from, count_some, find_map, find_none, found, map_from, map_has, mapped_none, mapped_some}
 
 -- the extents of some rows
 abbrev pub parts_in : List Row → List Part
 parts_in rows = map (λ row. row.part) rows
+
+-- a table whose rows are known
+pub keeps : (t : Table) (rows : List Row) → rows_of t ≡ rows → IsTable t rows → Keeps t (parts_in rows)
+keeps t rows e i = record { table = subst (IsTable t) (sym e) i; parts = ap parts_in e }
+
+-- the first and the last page of an extent lie in chunks that have leaves
+abbrev pub IsLeafed : set.FinSet nat_cmp → Row → Type 0
+IsLeafed chunks row = (set.contains chunks (row.part.span.first / 512) ≡ true) × (set.contains chunks ((end_of row.part.span - 1) / 512) ≡ true)
 
 -- a number is that of a slot
 pub in_slots : (t : Table) (rows : List Row) (r : Row) → IsTable t rows → Contains rows r → r.number < vec_len t.slots
@@ -97,22 +105,22 @@ last_row rows keys page key firsts ascending e =
       record {
         listed = map_has (λ row. row.part) rows p.0 p.1;
         below = omega arith;
-        last = All-from_recursion (λ q. q.span.first < page → q.span.first ≤ p.0.part.span.first) (parts_in rows) (every_from (λ q. q.span.first < page → q.span.first ≤ p.0.part.span.first) (parts_in rows) (λ q n l.
+        last = all_from (λ q. q.span.first < page → q.span.first ≤ p.0.part.span.first) (parts_in rows) (λ q n l.
             let r = map_from (λ row. row.part) rows q n in
             let same : r.0.part.span.first ≡ q.span.first = ap (λ (x : Part). x.span.first) r.2 in
             let up = every_member (λ k. k.major ≤ key.major) ks greatest (key_of r.0) (filter_has (is_below (start page)) keys (key_of r.0) (firsts.has r.0 r.1) (is_below_from (key_of r.0) page (omega arith))) in
-            omega arith));
+            omega arith);
       },
     )
 
 pub no_row : (rows : List Row) (keys : List Key) (page : ℕ) → IsFirsts rows keys → last_of (filter (is_below (start page)) keys) ≡ None → All (λ p. page ≤ p.span.first) (parts_in rows)
-no_row rows keys page firsts e = All-from_recursion (λ p. page ≤ p.span.first) (parts_in rows) (every_from (λ p. page ≤ p.span.first) (parts_in rows) (λ q n.
+no_row rows keys page firsts e = all_from (λ p. page ≤ p.span.first) (parts_in rows) (λ q n.
     let r = map_from (λ row. row.part) rows q n in
     let same : r.0.part.span.first ≡ q.span.first = ap (λ (x : Part). x.span.first) r.2 in
     elim (cases_lt r.0.part.span.first page) [
       | inl l ↦ absurd (no_last (filter (is_below (start page)) keys) (key_of r.0) e (filter_has (is_below (start page)) keys (key_of r.0) (firsts.has r.0 r.1) (is_below_from (key_of r.0) page l)))
       | inr g ↦ omega arith
-    ]))
+    ])
 
 -- ---- the flights
 
@@ -173,12 +181,13 @@ below_next P i below here k l = elim (cases_lt k i) [ inl m ↦ below k m | inr 
 
 -- ---- a table without extents
 
-pub empty_rows : (t : Table) → t.order.spans ≡ [] → rows_of t ≡ []
+empty_rows : (t : Table) → t.order.spans ≡ [] → rows_of t ≡ []
 unfolding rows_of
 empty_rows t e = ap (map (row_at t.slots.items)) e
 
-bare : (t : Table) → t.order.spans ≡ [] → t.dirty.spans ≡ [] → t.muzzy.spans ≡ [] → t.retained.spans ≡ [] → t.flights.items ≡ [] → t.firsts.keys ≡ [] → t.edges.numbers ≡ map_of.empty → vec_len t.slots ≡ 0 → t.free.items ≡ [] → vec_len t.free ≡ 0 → IsTable t []
-bare t order dirty muzzy retained flights firsts numbers slots free free_len = record {
+-- a table whose indexes have nothing
+pub empty_table : (t : Table) → t.order.spans ≡ [] → t.dirty.spans ≡ [] → t.muzzy.spans ≡ [] → t.retained.spans ≡ [] → t.flights.items ≡ [] → t.firsts.keys ≡ [] → t.edges.numbers ≡ map_of.empty → vec_len t.slots ≡ 0 → t.free.items ≡ [] → vec_len t.free ≡ 0 → Keeps t []
+empty_table t order dirty muzzy retained flights firsts numbers slots free free_len = keeps t [] (empty_rows t order) (record {
   apart = record { placed = All-nil (λ p. IsPlaced p.span); owners = λ page. omega arith };
   order = order;
   dirty = dirty;
@@ -190,13 +199,10 @@ bare t order dirty muzzy retained flights firsts numbers slots free free_len = r
     from = λ k m. absurd (let n : Contains {X = Key} [] k = subst (λ ks. Contains ks k) firsts m in let l = n.1 in omega arith);
   };
   edges = λ page. ap (λ m. map_of.get m page) numbers ∙ map_of.get-empty nat_cmp page;
-  leaves = All-nil (λ (r : Row). (set.contains t.edges.chunks (r.part.span.first / 512) ≡ true) × (set.contains t.edges.chunks ((end_of r.part.span - 1) / 512) ≡ true));
+  leaves = All-nil (IsLeafed t.edges.chunks);
   slots = All-nil (λ (r : Row). part_at t.slots.items r.number ≡ r.part);
   free = λ number. rw (free, slots) (grind (arith, nat_tests));
   places = omega arith;
   small = omega arith;
   room = omega arith;
-}
-
-pub empty_table : (t : Table) → t.order.spans ≡ [] → t.dirty.spans ≡ [] → t.muzzy.spans ≡ [] → t.retained.spans ≡ [] → t.flights.items ≡ [] → t.firsts.keys ≡ [] → t.edges.numbers ≡ map_of.empty → vec_len t.slots ≡ 0 → t.free.items ≡ [] → vec_len t.free ≡ 0 → IsTable t (rows_of t)
-empty_table t order dirty muzzy retained flights firsts numbers slots free free_len = subst (IsTable t) (sym (empty_rows t order)) (bare t order dirty muzzy retained flights firsts numbers slots free free_len)
+})

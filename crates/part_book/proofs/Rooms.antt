@@ -1,16 +1,12 @@
 -- A table that was given room keeps its extents.
-use Rattle.std.proofs.Common.{◌≡◌, ℕ, ◌+◌, ◌-◌, ◌/◌, ◌<◌, ◌≤◌, true, cond, eqb, ltb, List, map, length, count_by, vec_len, vec_capacity, sym, ap, ◌∙◌, subst, arith, All}
+use Rattle.std.proofs.Common.{◌≡◌, ℕ, ◌+◌, ◌<◌, ◌≤◌, eqb, ltb, List, map, count_by, vec_len, vec_capacity, sym, ap, ◌∙◌, subst, arith, refl, All}
 use Rattle.std.specs.FinMap as map_of
-use Rattle.std.specs.FinSet as set
-use Rattle.std.proofs.lemmas.List.{length-map}
-use Rattle.std.proofs.lemmas.List.Elements.{All-contains, All-from_recursion}
-use Rattle.ordered_set.proofs.Members.{every_from}
-use Rattle.space_model.specs.Span.{end_of}
+use Rattle.std.proofs.lemmas.List.Elements.{All-contains}
 use Rattle.part_book.specs.declared.table.Table.{Table}
-use Rattle.part_book.specs.Rows.{IsFirsts, Row, part_at, row_at, span_of}
-use Rattle.part_book.specs.Tables.{HasRoom, IsTable, rows_of}
-use Rattle.part_book.proofs.Indexes.{in_slots}
-use Rattle.part_book.proofs.Lists.{map_has, map_same}
+use Rattle.part_book.specs.Rows.{IsFirsts, Row, part_at, row_at}
+use Rattle.part_book.specs.Tables.{HasRoom, IsTable, Keeps, parts_of, rows_of}
+use Rattle.part_book.proofs.Indexes.{IsLeafed, in_slots, keeps}
+use Rattle.part_book.proofs.Lists.{all_from, bit, map_has, map_same}
 
 -- each index of the second table has the same, and new slots are free
 pub record IsSame (t u : Table) : Type 0 where
@@ -23,12 +19,12 @@ pub record IsSame (t u : Table) : Type 0 where
   pub numbers : u.edges.numbers ≡ t.edges.numbers
   pub chunks : u.edges.chunks ≡ t.edges.chunks
   pub kept : (number : ℕ) → number < vec_len t.slots → part_at u.slots.items number ≡ part_at t.slots.items number
-  pub free : (number : ℕ) → count_by (λ n. eqb n number) u.free.items + cond (ltb number (vec_len t.slots)) 1 0 ≡ count_by (λ n. eqb n number) t.free.items + cond (ltb number (vec_len u.slots)) 1 0
+  pub free : (number : ℕ) → count_by (λ n. eqb n number) u.free.items + bit (ltb number (vec_len t.slots)) ≡ count_by (λ n. eqb n number) t.free.items + bit (ltb number (vec_len u.slots))
   pub places : vec_len u.free + vec_len t.slots ≡ vec_len t.free + vec_len u.slots
   pub small : vec_len u.slots ≤ 4294967296
   pub room : vec_len u.slots ≤ vec_capacity u.free
 
-pub same_rows : (t u : Table) → IsTable t (rows_of t) → IsSame t u → rows_of u ≡ rows_of t
+same_rows : (t u : Table) → IsTable t (rows_of t) → IsSame t u → rows_of u ≡ rows_of t
 unfolding rows_of
 same_rows t u i a =
     ap (map (row_at u.slots.items)) a.order
@@ -44,27 +40,42 @@ same t u rows i a = record {
   flights = a.flights ∙ i.flights;
   firsts = subst (IsFirsts rows) (sym a.firsts) i.firsts;
   edges = λ page. ap (λ m. map_of.get m page) a.numbers ∙ i.edges page;
-  leaves = subst (λ cs. All (λ r. (set.contains cs (r.part.span.first / 512) ≡ true) × (set.contains cs ((end_of r.part.span - 1) / 512) ≡ true)) rows) (sym a.chunks) i.leaves;
-  slots = All-from_recursion (λ r. part_at u.slots.items r.number ≡ r.part) rows (every_from (λ r. part_at u.slots.items r.number ≡ r.part) rows (λ r m. a.kept r.number (in_slots t rows r i m) ∙ All-contains (λ x. part_at t.slots.items x.number ≡ x.part) rows r i.slots m));
+  leaves = subst (λ chunks. All (IsLeafed chunks) rows) (sym a.chunks) i.leaves;
+  slots = all_from (λ r. part_at u.slots.items r.number ≡ r.part) rows (λ r m. a.kept r.number (in_slots t rows r i m) ∙ All-contains (λ x. part_at t.slots.items x.number ≡ x.part) rows r i.slots m);
   free = λ number. (let was = i.free number in let now = a.free number in omega arith);
   places = let was = i.places in let now = a.places in omega arith;
   small = a.small;
   room = a.room;
 }
 
-pub same_table : (t u : Table) → IsTable t (rows_of t) → IsSame t u → IsTable u (rows_of u)
-same_table t u i a = subst (IsTable u) (sym (same_rows t u i a)) (same t u (rows_of t) i a)
+pub same_table : (t u : Table) → IsTable t (rows_of t) → IsSame t u → Keeps u (parts_of t)
+same_table t u i a = keeps u (rows_of t) (same_rows t u i a) (same t u (rows_of t) i a)
 
-pub order_length : (t : Table) → IsTable t (rows_of t) → length t.order.spans + vec_len t.free ≡ vec_len t.slots
-order_length t i = let all = ap length i.order ∙ length-map (rows_of t) span_of in let places = i.places in omega arith
+-- as long as the slots, the free numbers and the flights stay
+pub grown : (t u : Table) → IsTable t (rows_of t) → u.slots ≡ t.slots → u.free ≡ t.free → u.flights ≡ t.flights → u.order.spans ≡ t.order.spans → u.dirty.spans ≡ t.dirty.spans → u.muzzy.spans ≡ t.muzzy.spans → u.retained.spans ≡ t.retained.spans → u.firsts.keys ≡ t.firsts.keys → u.edges ≡ t.edges → Keeps u (parts_of t)
+grown t u i slots free flights order dirty muzzy retained firsts edges = same_table t u i (record {
+  order = order;
+  dirty = dirty;
+  muzzy = muzzy;
+  retained = retained;
+  flights = ap (λ v. v.items) flights;
+  firsts = firsts;
+  numbers = ap (λ e. e.numbers) edges;
+  chunks = ap (λ e. e.chunks) edges;
+  kept = λ number l. ap (λ v. part_at v.items number) slots;
+  free = λ number. rw (slots, free) refl;
+  places = rw (slots, free) refl;
+  small = rw slots i.small;
+  room = rw (slots, free) i.room;
+})
 
 pub room_less : (t : Table) (m n : ℕ) → HasRoom t m → n ≤ m → HasRoom t n
 room_less t m n room le = record {
-  order = let r = room.order in omega arith;
-  firsts = let r = room.firsts in omega arith;
-  free = let r = room.free in omega arith;
-  dirty = let r = room.dirty in omega arith;
-  muzzy = let r = room.muzzy in omega arith;
-  retained = let r = room.retained in omega arith;
-  flights = let r = room.flights in omega arith;
+  order = omega arith;
+  firsts = omega arith;
+  free = omega arith;
+  dirty = omega arith;
+  muzzy = omega arith;
+  retained = omega arith;
+  flights = omega arith;
 }

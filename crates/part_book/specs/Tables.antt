@@ -1,10 +1,11 @@
 -- The indexes of a table, and what they keep of its extents.
-use Rattle.std.specs.Prelude.{◌≡◌, ◌==◌, ℕ, ◌+◌, ◌-◌, ◌/◌, ◌^◌, ◌≤◌, true, List, map, find, cond, nat_lt, length, count_by, option_map, vec_len, vec_capacity, All}
+use Rattle.std.specs.Prelude.{◌≡◌, ◌==◌, ℕ, ◌+◌, ◌-◌, ◌/◌, ◌^◌, ◌≤◌, true, List, map, find, cond, nat_lt, length, count_by, option_map, Some, vec_len, vec_capacity, All, Contains}
 use Rattle.std.specs.FinMap as map_of
 use Rattle.std.specs.FinSet as set
 use Rattle.space_model.specs.declared.parts.Part.{Part}
 use Rattle.space_model.specs.declared.parts.Rest.TheVariants.{Dirty as ToDirty, Muzzy as ToMuzzy, Retained as ToRetained}
 use Rattle.space_model.specs.Span.{end_of}
+use Rattle.space_model.specs.Part.{begins_at}
 use Rattle.part_book.specs.declared.table.Table.{Table}
 use Rattle.part_book.specs.Rows.{Row, IsApart, IsFirsts, flights_in, is_edge, part_at, row_at, span_of, spans_in}
 
@@ -42,3 +43,13 @@ pub record HasRoom (t : Table) (more : ℕ) : Type 0 where
   pub muzzy : length t.order.spans + more ≤ length t.muzzy.spans + t.muzzy.spare
   pub retained : length t.order.spans + more ≤ length t.retained.spans + t.retained.spare
   pub flights : length t.order.spans + more ≤ vec_capacity t.flights
+
+-- the table is in order, and its extents are these
+pub record Keeps (t : Table) (extents : List Part) : Type 0 where
+  pub table : IsTable t (rows_of t)
+  pub parts : parts_of t ≡ extents
+
+-- the extent with its number is the one that begins at the page
+pub record IsRowAt (t : Table) (first : ℕ) (row : Row) : Type 0 where
+  pub there : Contains (rows_of t) row
+  pub found : find (begins_at first) (parts_of t) ≡ Some row.part

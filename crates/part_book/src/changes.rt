@@ -5,9 +5,9 @@ ghost use Rattle.std.specs.FinSet as set;
 ghost use Rattle.space_model.specs.Span.{IsPlaced, end_of, meets};
 ghost use Rattle.space_model.specs.Part.{begins_at, is_listed};
 ghost use Rattle.space_model.specs.Sound.{is_in_flight};
-ghost use Rattle.fit_lists.specs.Spans.{IsApart};
 ghost use Rattle.part_book.specs.Leaves.{HasLeaves, leaves_for};
-ghost use Rattle.part_book.specs.Tables.{HasRoom, IsTable, parts_of, rows_of};
+ghost use Rattle.part_book.specs.Lists.{CanList, CanUnlist};
+ghost use Rattle.part_book.specs.Tables.{HasRoom, IsRowAt, IsTable, Keeps, parts_of, rows_of};
 
 use crate::rows::{end_of, is_in_flight, is_listed};
 use crate::table::Table;
@@ -17,13 +17,22 @@ use page_map::PageMap;
 use space_model::{Part, Rest, Span, State};
 
 impl Table {
+    // The number of the extent that begins at a page, and the extent.
+    fn extent_at(&self, first: u64) -> (u32, Part)
+        requires table { IsTable self.now (rows_of self.now) }
+        requires begins { IsSome (find (begins_at first) (parts_of self.now)) }
+        ensures { IsRowAt self.now first (record { number = result.0; part = result.1 }) }
+    {
+        let number = self.edges.get(first).unwrap();
+        (number, self.part_at(number))
+    }
+
     /// Takes the extent that begins at a page off, and gives it back.
     pub fn take_off(&mut self, first: u64) -> Part
         requires table { IsTable self.old (rows_of self.old) }
         requires begins { IsSome (find (begins_at first) (parts_of self.old)) }
-        ensures table { IsTable self.new (rows_of self.new) }
+        ensures kept { Keeps self.new (filter (λ p. not (begins_at first p)) (parts_of self.old)) }
         ensures part { find (begins_at first) (parts_of self.old) ≡ Some result }
-        ensures parts { parts_of self.new ≡ filter (λ p. not (begins_at first p)) (parts_of self.old) }
         ensures placed { IsPlaced result.span }
         ensures apart { All (λ p. meets p.span result.span ≡ false) (parts_of self.new) }
         ensures room { (n : ℕ) → HasRoom self.old n → HasRoom self.new (n + 1) }
@@ -31,17 +40,16 @@ impl Table {
         ensures spare { self.new.edges.spare ≡ self.old.edges.spare }
         ensures leaves { leaves_for self.new.edges result.span ≡ 0 }
     {
-        let number = self.edges.get(first).unwrap();
-        let part = self.slots[number as usize];
+        let (number, part) = self.extent_at(first);
         clear_edges(&mut self.edges, part.span);
         self.firsts.remove(Key {
-            major: first,
+            major: part.span.first,
             minor: u64::from(number),
         });
         self.order.remove(number);
-        unlist(&mut self.dirty, Rest::Dirty, number, part.state);
-        unlist(&mut self.muzzy, Rest::Muzzy, number, part.state);
-        unlist(&mut self.retained, Rest::Retained, number, part.state);
+        unlist(&mut self.dirty, Rest::Dirty, number, &part);
+        unlist(&mut self.muzzy, Rest::Muzzy, number, &part);
+        unlist(&mut self.retained, Rest::Retained, number, &part);
         land(&mut self.flights, number, part.state);
         self.free.push(number).unwrap();
         part
@@ -54,12 +62,11 @@ impl Table {
         requires apart { All (λ p. meets p.span part.span ≡ false) (parts_of self.old) }
         requires room { HasRoom self.old 1 }
         requires leaves { HasLeaves self.old.edges (leaves_for self.old.edges part.span) }
-        ensures table { IsTable self.new (rows_of self.new) }
-        ensures parts { parts_of self.new ≡ parts_of self.old ++ part ∷ [] }
+        ensures kept { Keeps self.new (parts_of self.old ++ part ∷ []) }
         ensures room { (n : ℕ) → HasRoom self.old (n + 1) → HasRoom self.new n }
         ensures leaves { (n : ℕ) → HasLeaves self.old.edges (n + leaves_for self.old.edges part.span)
             → HasLeaves self.new.edges n }
-        ensures kept { (chunk : ℕ) → set.contains self.old.edges.chunks chunk ≡ true
+        ensures chunks { (chunk : ℕ) → set.contains self.old.edges.chunks chunk ≡ true
             → set.contains self.new.edges.chunks chunk ≡ true }
     {
         let number = self.free.pop().unwrap();
@@ -105,9 +112,7 @@ fn clear_edges(edges: &mut PageMap, span: Span)
 // Lists an extent, if its state is that of the list.
 fn list(spans: &mut FitList, rest: Rest, number: u32, part: &Part)
     requires placed { IsPlaced part.now.span }
-    requires room { 0 < spans.old.spare }
-    requires new_number { All (λ span. span.number ≢ number) spans.old.spans }
-    requires apart { All (IsApart part.now.span.first part.now.span.pages) spans.old.spans }
+    requires list { CanList spans.old (record { number = number; part = part.now }) }
     ensures spans { spans.new.spans ≡ spans.old.spans ++ cond (is_listed rest part.now.state)
         (record { number = number; first = part.now.span.first; pages = part.now.span.pages } ∷ []) [] }
     ensures places { length spans.new.spans + spans.new.spare ≡ length spans.old.spans + spans.old.spare }
@@ -118,14 +123,13 @@ fn list(spans: &mut FitList, rest: Rest, number: u32, part: &Part)
 }
 
 // Takes an extent off the list, if its state is that of the list.
-fn unlist(spans: &mut FitList, rest: Rest, number: u32, state: State)
-    requires listed { IsTrue (is_listed rest state) → Any (λ span. span.number ≡ number) spans.old.spans }
-    requires once { count_by (λ span. span.number == number) spans.old.spans ≤ 1 }
-    ensures spans { spans.new.spans ≡ cond (is_listed rest state)
+fn unlist(spans: &mut FitList, rest: Rest, number: u32, part: &Part)
+    requires { CanUnlist rest spans.old.spans (record { number = number; part = part.now }) }
+    ensures spans { spans.new.spans ≡ cond (is_listed rest part.now.state)
         (filter (λ span. not (span.number == number)) spans.old.spans) spans.old.spans }
     ensures places { length spans.old.spans + spans.old.spare ≤ length spans.new.spans + spans.new.spare }
 {
-    if is_listed(rest, state) {
+    if is_listed(rest, part.state) {
         spans.remove(number);
     }
 }

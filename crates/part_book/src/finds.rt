@@ -15,8 +15,8 @@ use ordered_set::Key;
 use space_model::{Part, Rest, Span};
 
 impl Table {
-    // The extent with a number.
-    fn part_at(&self, number: u32) -> Part
+    /// The extent with a number.
+    pub fn part_at(&self, number: u32) -> Part
         requires { number < vec_len self.now.slots }
         ensures { result ≡ part_at self.now.slots.items number }
     {

@@ -2,7 +2,7 @@
 ghost use Rattle.std.specs.Prelude.{◌≡◌, ℕ, ◌==◌, ◌+◌, ◌*◌, ◌<◌, ◌≤◌, [], cond, count_by, nat_lt, OnOk, IfOk, vec_capacity, vec_len, length};
 ghost use Rattle.part_book.specs.Leaves.{HasLeaves};
 ghost use Rattle.part_book.specs.Rows.{part_at};
-ghost use Rattle.part_book.specs.Tables.{HasRoom, IsTable, rows_of};
+ghost use Rattle.part_book.specs.Tables.{HasRoom, IsTable, Keeps, parts_of, rows_of};
 
 use fit_lists::FitList;
 use ordered_set::OrderedSet;
@@ -39,8 +39,7 @@ pub struct Table {
 
 impl Table {
     pub fn new(alloc: Global) -> Result<Table, NoMemory>
-        ensures table { IfOk result (λ t. IsTable t (rows_of t)) }
-        ensures empty { IfOk result (λ t. rows_of t ≡ []) }
+        ensures kept { IfOk result (λ t. Keeps t []) }
         ensures room { IfOk result (λ t. HasRoom t 0) }
         ensures leaves { IfOk result (λ t. HasLeaves t.edges 0) }
     {
@@ -60,8 +59,7 @@ impl Table {
     /// Makes room for so many further extents in each index. The extents stay.
     pub fn reserve(&mut self, more: u64) -> Result<(), NoMemory>
         requires { IsTable self.old (rows_of self.old) }
-        ensures table { IsTable self.new (rows_of self.new) }
-        ensures rows { rows_of self.new ≡ rows_of self.old }
+        ensures kept { Keeps self.new (parts_of self.old) }
         ensures room { (n : ℕ) → HasRoom self.old n → HasRoom self.new n }
         ensures leaves { (n : ℕ) → HasLeaves self.old.edges n → HasLeaves self.new.edges n }
         ensures ok { OnOk result (HasRoom self.new more) }

@@ -12,7 +12,7 @@ invariant_of-self c =
     let e = c.self.inside.table.edges in
     let most = leaves_most e c.args.part.span in
     record {
-      table = c.put_on.ensures.table;
+      table = c.put_on.ensures.kept.table;
       room = c.put_on.ensures.room (c.self.inside.spare - 1) (subst (HasRoom c.self.inside.table) back c.self.invariant.room);
       leaves = c.put_on.ensures.leaves (2 * (c.self.inside.spare - 1)) (fewer_leaves e (2 * c.self.inside.spare) (2 * (c.self.inside.spare - 1) + leaves_for e c.args.part.span) c.self.invariant.leaves (omega arith));
     }

@@ -27,10 +27,10 @@ invariant_of-self c =
     let low = leaves_first t.edges c.low_piece.result.span (rw c.low_piece.ensures there.0) in
     let next = c.put_on.ensures.leaves (2 * n - 1) (fewer_leaves t.edges (2 * n) (2 * n - 1 + leaves_for t.edges c.low_piece.result.span) left (omega arith)) in
     let same = high_end c.args.left c.take_off-part.result (within c.self.inside.table c.args.self.now.parts c.args.first c.args.left c.take_off-part.result (ap (λ b. b.parts) c.self.view_is) c.take_off-part.ensures.part c.requires.fewer) in
-    let last = c.put_on.ensures.kept ((end_of c.take_off-part.result.span - 1) / 512) there.1 in
+    let last = c.put_on.ensures.chunks ((end_of c.take_off-part.result.span - 1) / 512) there.1 in
     let high = leaves_last u.edges c.high_piece.result.span (rw (c.high_piece.ensures, same) last) in
     record {
-      table = c.put_on-2.ensures.table;
+      table = c.put_on-2.ensures.kept.table;
       room = c.put_on-2.ensures.room (n - 1) (subst (HasRoom u) back (c.put_on.ensures.room n (c.take_off-part.ensures.room n c.self.invariant.room)));
       leaves = c.put_on-2.ensures.leaves (2 * (n - 1)) (fewer_leaves u.edges (2 * n - 1) (2 * (n - 1) + leaves_for u.edges c.high_piece.result.span) next (omega arith));
     }
@@ -38,4 +38,4 @@ invariant_of-self c =
 pub returns-clause-parts : goal.returns-clause-parts
 returns-clause-parts c =
     cut_parts (parts_of c.self.inside.table) c.args.self.now.parts (parts_of c.take_off-part.new.self) (parts_of c.put_on.new.self) (parts_of c.put_on-2.new.self) c.args.first c.args.left c.take_off-part.result c.low_piece.result c.high_piece.result
-    (ap (λ b. b.parts) c.self.view_is) c.take_off-part.ensures.part c.take_off-part.ensures.parts c.put_on.ensures.parts c.put_on-2.ensures.parts c.low_piece.ensures c.high_piece.ensures
+    (ap (λ b. b.parts) c.self.view_is) c.take_off-part.ensures.part c.take_off-part.ensures.kept.parts c.put_on.ensures.kept.parts c.put_on-2.ensures.kept.parts c.low_piece.ensures c.high_piece.ensures

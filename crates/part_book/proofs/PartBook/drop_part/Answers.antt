@@ -8,7 +8,7 @@ invariant_of-self c =
     let t = c.take_off.new.self in
     let n = c.self.inside.spare in
     record {
-      table = c.take_off.ensures.table;
+      table = c.take_off.ensures.kept.table;
       room = room_less t (n + 1) n (c.take_off.ensures.room n c.self.invariant.room) (omega arith);
       leaves = more_leaves c.self.inside.table.edges t.edges (2 * n) c.take_off.ensures.chunks (let e = c.take_off.ensures.spare in omega arith) c.self.invariant.leaves;
     }

@@ -10,7 +10,7 @@ invariant_of-self c =
     let none = c.take_off-part.ensures.leaves in
     let left = more_leaves c.self.inside.table.edges t.edges (2 * n) c.take_off-part.ensures.chunks (let e = c.take_off-part.ensures.spare in omega arith) c.self.invariant.leaves in
     record {
-      table = c.put_on.ensures.table;
+      table = c.put_on.ensures.kept.table;
       room = c.put_on.ensures.room n (c.take_off-part.ensures.room n c.self.invariant.room);
       leaves = c.put_on.ensures.leaves (2 * n) (fewer_leaves t.edges (2 * n) (2 * n + leaves_for t.edges c.take_off-part.result.span) left (omega arith));
     }
