@@ -1,13 +1,14 @@
 -- The answers of a list of spans are those of a search over the extents.
-use Rattle.std.proofs.Common.{◌≡◌, ℕ, ◌+◌, ◌*◌, ◌-◌, ◌/◌, ◌<◌, ◌≤◌, Bool, true, false, not, ◌&&◌, List, [], ◌∷◌, filter, find, slice_get, Some, None, option_map, inl, inr, ◌⊎◌, refl, sym, ap, ◌∙◌, subst, arith, sum_by, All}
+use Rattle.std.proofs.Common.{◌≡◌, ℕ, ◌+◌, ◌*◌, ◌-◌, ◌/◌, ◌<◌, ◌≤◌, Bool, true, false, ◌&&◌, List, [], ◌∷◌, filter, find, slice_get, Some, None, option_map, inl, inr, ◌⊎◌, refl, sym, ap, ◌∙◌, subst, arith, sum_by, All}
 use Rattle.std.specs.List.{Contains, list_any}
-use Rattle.std.proofs.lemmas.Bool.{and_parts, cases_Bool, cases_lt, or_parts}
+use Rattle.std.proofs.lemmas.Bool.{and_left, and_parts, cases_Bool, cases_lt, false_from_ne_true, not-true}
 use Rattle.std.proofs.lemmas.Bool.Decides.{nat_tests}
-use Rattle.std.proofs.lemmas.List.Elements.{All-contains, All-from_recursion}
+use Rattle.std.proofs.lemmas.List.Elements.{All-contains}
+use Rattle.std.proofs.lemmas.List.Folds.{list_any-from_Any, list_any_none}
 use Rattle.std.proofs.lemmas.List.Sums.{sum_by-cons}
 use Rattle.std.proofs.lemmas.Nat.{mul-le}
 use Rattle.fit_lists.specs.Spans.{HoldsRun, IsFirstFit, IsNoLater, Listed}
-use Rattle.ordered_set.proofs.Members.{contains_cases, contains_later, every_from, filter_from, filter_has}
+use Rattle.ordered_set.proofs.Members.{contains_later, filter_from, filter_has}
 use Rattle.space_model.specs.declared.parts.Part.{Part}
 use Rattle.space_model.specs.declared.parts.Rest.{Rest}
 use Rattle.space_model.specs.Span.{end_of, holds_run, run_start}
@@ -15,15 +16,12 @@ use Rattle.space_model.specs.Part.{is_listed}
 use Rattle.space_model.specs.Fit.{fit_of, is_best, is_better, is_candidate}
 use Rattle.part_book.specs.Rows.{IsApart, Row, span_of, spans_in}
 use Rattle.part_book.proofs.Indexes.{parts_in}
-use Rattle.part_book.proofs.Lists.{find_is, find_none, head, map_from, map_has}
-use Rattle.part_book.proofs.Parts.{any_none, one_owner, placed}
+use Rattle.part_book.proofs.Lists.{all_from, find_is, find_none, head, map_from, map_has}
+use Rattle.part_book.proofs.Parts.{one_owner, placed}
 
 -- ---- runs
 
--- the least multiple at or above a number, and that no lower one is
-least_multiple : (first align : ℕ) → 0 < align → first ≤ (first + (align - 1)) / align * align
-least_multiple first align some = omega arith
-
+-- no multiple at or above a number is lower than this one
 no_lower : (first align k : ℕ) → 0 < align → first ≤ k * align → (first + (align - 1)) / align * align ≤ k * align
 no_lower first align k some le = elim (cases_lt k ((first + (align - 1)) / align)) [
   | inl l ↦ absurd (
@@ -40,7 +38,7 @@ holds_from r pages align some (k, le, fits) =
 
 to_holds : (r : Row) (pages align : ℕ) → 0 < align → holds_run pages align r.part.span ≡ true → HoldsRun pages align (span_of r)
 to_holds r pages align some t =
-    let up = least_multiple r.part.span.first align some in
+    let up : r.part.span.first ≤ (r.part.span.first + (align - 1)) / align * align = omega arith in
     let fits : run_start align r.part.span + pages ≤ end_of r.part.span = grind (arith, nat_tests) in
     ((r.part.span.first + (align - 1)) / align, up, fits)
 
@@ -56,17 +54,20 @@ listed_row rest rows s m =
 row_listed : (rest : Rest) (rows : List Row) (r : Row) → Contains rows r → is_listed rest r.part.state ≡ true → Contains (spans_in rest rows) (span_of r)
 row_listed rest rows r m t = map_has span_of (filter (λ row. is_listed rest row.part.state) rows) r (filter_has (λ row. is_listed rest row.part.state) rows r m t)
 
+-- an extent that may serve is listed, and its span holds a run
+serves : (rest : Rest) (rows : List Row) (pages align : ℕ) (x : Part) → 0 < align → Contains (parts_in rows) x → is_candidate rest pages align x ≡ true → (r : Row) × Contains (spans_in rest rows) (span_of r) × HoldsRun pages align (span_of r) × (r.part ≡ x)
+serves rest rows pages align x some m t =
+    let q = map_from (λ row. row.part) rows x m in
+    let both = and_parts (is_listed rest x.state) (holds_run pages align x.span) t in
+    let listed = ap (λ (z : Part). is_listed rest z.state) q.2 ∙ both.0 in
+    let holds = ap (λ (z : Part). holds_run pages align z.span) q.2 ∙ both.1 in
+    (q.0, row_listed rest rows q.0 q.1 listed, to_holds q.0 pages align some holds, q.2)
+
 -- no extent serves where no span holds a run
 pub none_fits : (rest : Rest) (rows : List Row) (pages align : ℕ) → 0 < align → All (λ s. HoldsRun pages align s → ⊥) (spans_in rest rows) → fit_of rest pages align (parts_in rows) ≡ None
-none_fits rest rows pages align some none = find_none (is_best rest pages align (parts_in rows)) (parts_in rows) (λ p m. elim (cases_Bool (is_candidate rest pages align p)) [
-  | inl t ↦ absurd (
-      let q = map_from (λ row. row.part) rows p m in
-      let u = and_parts (is_listed rest p.state) (holds_run pages align p.span) t in
-      let u' : is_listed rest q.0.part.state ≡ true = ap (λ (x : Part). is_listed rest x.state) q.2 ∙ u.0 in
-      let v : holds_run pages align q.0.part.span ≡ true = ap (λ (x : Part). holds_run pages align x.span) q.2 ∙ u.1 in
-      All-contains (λ s. HoldsRun pages align s → ⊥) (spans_in rest rows) (span_of q.0) none (row_listed rest rows q.0 q.1 u') (to_holds q.0 pages align some v))
-  | inr f ↦ rw f refl
-])
+none_fits rest rows pages align some none = find_none (is_best rest pages align (parts_in rows)) (parts_in rows) (λ p m. and_left (is_candidate rest pages align p) _ (false_from_ne_true (is_candidate rest pages align p) (λ t.
+    let s = serves rest rows pages align p some m t in
+    All-contains (λ s. HoldsRun pages align s → ⊥) (spans_in rest rows) (span_of s.0) none s.1 s.2)))
 
 -- an extent that isn't smaller, nor as small and at a lower page, is no better
 not_better : (p q : Part) → (p.span.pages < q.span.pages) ⊎ ((p.span.pages ≡ q.span.pages) × (p.span.first ≤ q.span.first)) → is_better q p ≡ false
@@ -78,14 +79,7 @@ same_first : (p q : Part) → is_better p q ≡ false → is_better q p ≡ fals
 same_first p q f g = grind (arith, nat_tests)
 
 any_member : {X : Type 0} (p : X → Bool) (xs : List X) (x : X) → list_any p xs ≡ false → Contains xs x → p x ≡ false
-any_member p [] x e m = absurd (let l = m.1 in omega arith)
-any_member p (y ∷ ys) x e m =
-    let parts = or_parts (p y) (list_any p ys) e in
-    elim (contains_cases y ys x m) [ inl same ↦ ap p (sym same) ∙ parts.0 | inr d ↦ any_member p ys x parts.1 d ]
-
-not_true : (b : Bool) → not b ≡ true → b ≡ false
-not_true true e = absurd (cc)
-not_true false e = refl
+any_member p xs x none (k, l, e) = false_from_ne_true (p x) (λ t. let some = list_any-from_Any p xs (k, x, l, e, t) in cc)
 
 -- the extent whose span is the first fit of its list serves
 pub fits : (rest : Rest) (rows : List Row) (pages align number : ℕ) → IsApart (parts_in rows) → 0 < align → IsFirstFit (spans_in rest rows) pages align number → (r : Row) × Contains rows r × (r.number ≡ number) × (fit_of rest pages align (parts_in rows) ≡ Some r.part)
@@ -94,28 +88,28 @@ fits rest rows pages align number apart some fit =
     let r = q.0 in
     let own = map_has (λ row. row.part) rows r q.1 in
     let holds = holds_from r pages align some (subst (HoldsRun pages align) (sym q.3) fit.holds) in
-    (r, q.1, ap (λ s. s.number) q.3 ∙ fit.number_is, find_is (is_best rest pages align (parts_in rows)) (parts_in rows) r.part own (best r q.1 q.2 holds q.3) (λ p m t. alone r own (best r q.1 q.2 holds q.3) p m t))
+    (r, q.1, ap (λ s. s.number) q.3 ∙ fit.number_is, find_is (is_best rest pages align (parts_in rows)) (parts_in rows) r.part own (best r q.2 holds q.3) (alone r own (best r q.2 holds q.3)))
   where
     later : (r : Row) → span_of r ≡ fit.span → (x : Part) → Contains (parts_in rows) x → is_candidate rest pages align x ≡ true → is_better x r.part ≡ false
     later r e x m t =
-        let y = map_from (λ row. row.part) rows x m in
-        let u = and_parts (is_listed rest x.state) (holds_run pages align x.span) t in
-        let l : is_listed rest y.0.part.state ≡ true = ap (λ (z : Part). is_listed rest z.state) y.2 ∙ u.0 in
-        let v : holds_run pages align y.0.part.span ≡ true = ap (λ (z : Part). holds_run pages align z.span) y.2 ∙ u.1 in
-        let no_later = All-contains (λ other. HoldsRun pages align other → IsNoLater fit.span other) (spans_in rest rows) (span_of y.0) fit.least (row_listed rest rows y.0 y.1 l) (to_holds y.0 pages align some v) in
-        ap (λ z. is_better z r.part) (sym y.2) ∙ not_better r.part y.0.part (subst (λ s. IsNoLater s (span_of y.0)) (sym e) no_later)
+        let y = serves rest rows pages align x some m t in
+        let no_later = All-contains (λ other. HoldsRun pages align other → IsNoLater fit.span other) (spans_in rest rows) (span_of y.0) fit.least y.1 y.2 in
+        ap (λ z. is_better z r.part) (sym y.3) ∙ not_better r.part y.0.part (subst (λ s. IsNoLater s (span_of y.0)) (sym e) no_later)
 
-    best : (r : Row) → Contains rows r → is_listed rest r.part.state ≡ true → holds_run pages align r.part.span ≡ true → span_of r ≡ fit.span → is_best rest pages align (parts_in rows) r.part ≡ true
-    best r m l h e =
-        let none = any_none (λ x. is_candidate rest pages align x && is_better x r.part) (parts_in rows) (All-from_recursion (λ x. (is_candidate rest pages align x && is_better x r.part) ≡ false) (parts_in rows) (every_from (λ x. (is_candidate rest pages align x && is_better x r.part) ≡ false) (parts_in rows) (λ x n. elim (cases_Bool (is_candidate rest pages align x)) [ inl t ↦ rw (t, later r e x n t) refl | inr f ↦ rw f refl ]))) in
+    best : (r : Row) → is_listed rest r.part.state ≡ true → holds_run pages align r.part.span ≡ true → span_of r ≡ fit.span → is_best rest pages align (parts_in rows) r.part ≡ true
+    best r l h e =
+        let none = list_any_none (λ x. is_candidate rest pages align x && is_better x r.part) (parts_in rows) (all_from (λ x. (is_candidate rest pages align x && is_better x r.part) ≡ false) (parts_in rows) (λ x n.
+        false_from_ne_true (is_candidate rest pages align x && is_better x r.part) (λ t.
+        let both = and_parts (is_candidate rest pages align x) (is_better x r.part) t in
+        let worse = later r e x n both.0 in cc))) in
         rw (l, h, none) refl
 
     alone : (r : Row) → Contains (parts_in rows) r.part → is_best rest pages align (parts_in rows) r.part ≡ true → (p : Part) → Contains (parts_in rows) p → is_best rest pages align (parts_in rows) p ≡ true → p ≡ r.part
     alone r own t p m u =
         let a = and_parts (is_candidate rest pages align r.part) _ t in
         let b = and_parts (is_candidate rest pages align p) _ u in
-        let f = any_member _ (parts_in rows) r.part (not_true _ b.1) own in
-        let g = any_member _ (parts_in rows) p (not_true _ a.1) m in
+        let f = any_member _ (parts_in rows) r.part (not-true _ b.1) own in
+        let g = any_member _ (parts_in rows) p (not-true _ a.1) m in
         let f' : is_better r.part p ≡ false = rw a.0 at f in
         let g' : is_better p r.part ≡ false = rw b.0 at g in
         let first = same_first r.part p f' g' in

@@ -1,17 +1,17 @@
 -- Extents of which no two have a page in common: what is found by a page.
-use Rattle.std.proofs.Common.{◌≡◌, ℕ, ◌+◌, ◌<◌, ◌≤◌, Bool, true, false, cond, List, [], ◌∷◌, find, Option, Some, None, inl, inr, refl, ap, ◌∙◌, arith, All, ltb, min}
+use Rattle.std.proofs.Common.{◌≡◌, ℕ, ◌+◌, ◌<◌, ◌≤◌, true, false, cond, List, find, Option, Some, None, inl, inr, ap, ◌∙◌, arith, All, ltb, min}
 use Rattle.std.specs.List.{Contains, list_any}
-use Rattle.std.proofs.lemmas.Bool.{cases_Bool, or_left, or_right}
+use Rattle.std.proofs.lemmas.Bool.{cases_Bool, false_from_ne_true, or_left, or_right}
 use Rattle.std.proofs.lemmas.Bool.Decides.{nat_tests}
-use Rattle.std.proofs.lemmas.List.Elements.{All-contains, All-from_recursion, All-head, All-tail, All-weaker}
-use Rattle.ordered_set.proofs.Members.{contains_cases, every_from}
+use Rattle.std.proofs.lemmas.List.Elements.{All-contains, All-weaker}
+use Rattle.std.proofs.lemmas.List.Folds.{list_any-from_Any, list_any_none}
 use Rattle.space_model.specs.declared.parts.Part.{Part}
 use Rattle.space_model.specs.declared.parts.Span.{Span}
 use Rattle.space_model.specs.Span.{IsPlaced, end_of, has_page, meets}
 use Rattle.space_model.specs.Part.{begins_at}
 use Rattle.part_book.specs.Books.{ends_at}
 use Rattle.part_book.specs.Rows.{IsApart, IsLastBelow, is_edge}
-use Rattle.part_book.proofs.Lists.{find_closer, find_is, find_none, only_one}
+use Rattle.part_book.proofs.Lists.{all_from, find_closer, find_is, find_none, only_one}
 
 pub placed : (parts : List Part) (p : Part) → IsApart parts → Contains parts p → IsPlaced p.span
 placed parts p apart m = All-contains (λ q. IsPlaced q.span) parts p apart.placed m
@@ -23,32 +23,20 @@ one_owner parts apart page x y m n t u = only_one (λ p. has_page page p.span) p
 pub begins_has : (p : Part) (page : ℕ) → IsPlaced p.span → begins_at page p ≡ true → has_page page p.span ≡ true
 begins_has p page placed t = let some = placed.0 in grind (arith, nat_tests)
 
-ends_has : (p : Part) (page : ℕ) → IsPlaced p.span → ends_at (page + 1) p ≡ true → has_page page p.span ≡ true
-ends_has p page placed t = let some = placed.0 in grind (arith, nat_tests)
-
 pub edge_has : (p : Part) (page : ℕ) → IsPlaced p.span → is_edge page p ≡ true → has_page page p.span ≡ true
-edge_has p page placed t = elim (cases_Bool (begins_at page p)) [
-  | inl b ↦ begins_has p page placed b
-  | inr f ↦ ends_has p page placed (rw f at t)
-]
+edge_has p page placed t = let some = placed.0 in grind (arith, nat_tests)
 
 -- a page is the first or the last one of one extent
 pub one_edge : (parts : List Part) → IsApart parts → (page : ℕ) (x y : Part) → Contains parts x → Contains parts y → is_edge page x ≡ true → is_edge page y ≡ true → y ≡ x
 one_edge parts apart page x y m n t u = one_owner parts apart page x y m n (edge_has x page (placed parts x apart m) t) (edge_has y page (placed parts y apart n) u)
 
-begins_edge : (p : Part) (page : ℕ) → begins_at page p ≡ true → is_edge page p ≡ true
-begins_edge p page t = rw t refl
-
-ends_edge : (p : Part) (page : ℕ) → ends_at (page + 1) p ≡ true → is_edge page p ≡ true
-ends_edge p page t = elim (cases_Bool (begins_at page p)) [ inl b ↦ rw b refl | inr f ↦ rw f t ]
-
 -- the extent that begins at a page is the one with this edge, or none
 pub begins_by_edge : (parts : List Part) (page : ℕ) → IsApart parts → (o : Option Part) → find (is_edge page) parts ≡ o → find (begins_at page) parts ≡ elim o [ None ↦ None | Some p ↦ cond (begins_at page p) (Some p) None ]
-begins_by_edge parts page apart o e = find_closer (begins_at page) (is_edge page) parts (λ p m t. begins_edge p page t) (one_edge parts apart page) o e
+begins_by_edge parts page apart o e = find_closer (begins_at page) (is_edge page) parts (λ p m t. or_left (begins_at page p) (ends_at (page + 1) p) t) (one_edge parts apart page) o e
 
 -- and so is the one that ends before the next page
 pub ends_by_edge : (parts : List Part) (page : ℕ) → IsApart parts → (o : Option Part) → find (is_edge page) parts ≡ o → find (ends_at (page + 1)) parts ≡ elim o [ None ↦ None | Some p ↦ cond (ends_at (page + 1) p) (Some p) None ]
-ends_by_edge parts page apart o e = find_closer (ends_at (page + 1)) (is_edge page) parts (λ p m t. ends_edge p page t) (one_edge parts apart page) o e
+ends_by_edge parts page apart o e = find_closer (ends_at (page + 1)) (is_edge page) parts (λ p m t. or_right (begins_at page p) (ends_at (page + 1) p) t) (one_edge parts apart page) o e
 
 -- none ends before page 0
 pub none_ends : (parts : List Part) (page : ℕ) → IsApart parts → page < 1 → find (ends_at page) parts ≡ None
@@ -64,33 +52,17 @@ last_owns parts p x page other apart last m l le t =
     let shared : has_page p.span.first x.span ≡ true = let below = last.below in grind (arith, nat_tests) in
     one_owner parts apart p.span.first p x last.listed m own shared
 
-has_below : (p : Part) (page : ℕ) → has_page page p.span ≡ true → p.span.first < page + 1
-has_below p page t = grind (arith, nat_tests)
-
 -- the extent that has a page is the last one that begins at it or below, or none
 pub held_by_last : (parts : List Part) (page : ℕ) (p : Part) → IsApart parts → IsLastBelow (page + 1) parts p → find (λ q. has_page page q.span) parts ≡ cond (has_page page p.span) (Some p) None
 held_by_last parts page p apart last = elim (cases_Bool (has_page page p.span)) [
   | inl t ↦ rw t (find_is (λ q. has_page page q.span) parts p last.listed t (λ y m u. one_owner parts apart page p y last.listed m t u))
-  | inr f ↦ rw f (find_none (λ q. has_page page q.span) parts (λ x m. elim (cases_Bool (has_page page x.span)) [
-    | inl t ↦ absurd (let same = last_owns parts p x (page + 1) page apart last m (has_below x page t) (omega arith) t in let g : has_page page x.span ≡ false = ap (λ q. has_page page q.span) same ∙ f in cc)
-    | inr g ↦ g
-  ]))
+  | inr f ↦ rw f (find_none (λ q. has_page page q.span) parts (λ x m. false_from_ne_true (has_page page x.span) (λ t.
+      let same = last_owns parts p x (page + 1) page apart last m (grind (arith, nat_tests)) (omega arith) t in
+      let g : has_page page x.span ≡ false = ap (λ q. has_page page q.span) same ∙ f in cc)))
 ]
 
 pub held_by_none : (parts : List Part) (page : ℕ) → All (λ p. page + 1 ≤ p.span.first) parts → find (λ q. has_page page q.span) parts ≡ None
 held_by_none parts page above = find_none (λ q. has_page page q.span) parts (λ x m. let l = All-contains (λ p. page + 1 ≤ p.span.first) parts x above m in grind (arith, nat_tests))
-
--- a test of some element
-pub any_none : {X : Type 0} (p : X → Bool) (xs : List X) → All (λ x. p x ≡ false) xs → list_any p xs ≡ false
-any_none p [] none = refl
-any_none p (x ∷ xs) none = rw (All-head (λ x. p x ≡ false) x xs none) (any_none p xs (All-tail (λ x. p x ≡ false) x xs none))
-
-pub any_some : {X : Type 0} (p : X → Bool) (xs : List X) (x : X) → Contains xs x → p x ≡ true → list_any p xs ≡ true
-any_some p [] x m t = absurd (let l = m.1 in omega arith)
-any_some p (y ∷ ys) x m t = elim (contains_cases y ys x m) [
-  | inl e ↦ or_left (p y) (list_any p ys) (ap p e ∙ t)
-  | inr d ↦ or_right (p y) (list_any p ys) (any_some p ys x d t)
-]
 
 begins_inside : (p : Part) → IsPlaced p.span → p.span.first < 33554432
 begins_inside p placed = let some = placed.0 in let last = placed.2 in omega arith
@@ -100,22 +72,22 @@ pub clamped : (parts : List Part) (p : Part) (page : ℕ) → IsApart parts → 
 clamped parts p page apart last = record {
   listed = last.listed;
   below = let b = last.below in omega arith;
-  last = All-from_recursion (λ q. q.span.first < page → q.span.first ≤ p.span.first) parts (every_from (λ q. q.span.first < page → q.span.first ≤ p.span.first) parts (λ q m l.
+  last = all_from (λ q. q.span.first < page → q.span.first ≤ p.span.first) parts (λ q m l.
       let inside = begins_inside q (placed parts q apart m) in
-      All-contains (λ q. q.span.first < min page 18446744073709551615 → q.span.first ≤ p.span.first) parts q last.last m (omega arith)));
+      All-contains (λ q. q.span.first < min page 18446744073709551615 → q.span.first ≤ p.span.first) parts q last.last m (omega arith));
 }
 
 pub clamped_none : (parts : List Part) (page : ℕ) → IsApart parts → All (λ p. min page 18446744073709551615 ≤ p.span.first) parts → All (λ p. page ≤ p.span.first) parts
-clamped_none parts page apart above = All-from_recursion (λ p. page ≤ p.span.first) parts (every_from (λ p. page ≤ p.span.first) parts (λ q m.
+clamped_none parts page apart above = all_from (λ p. page ≤ p.span.first) parts (λ q m.
     let inside = begins_inside q (placed parts q apart m) in
     let l = All-contains (λ p. min page 18446744073709551615 ≤ p.span.first) parts q above m in
-    omega arith))
+    omega arith)
 
 -- the last extent that begins before a span ends meets it, or none does
 pub met_by_last : (parts : List Part) (s : Span) (p : Part) → IsApart parts → IsLastBelow (end_of s) parts p → list_any (λ q. meets q.span s) parts ≡ ltb s.first (end_of p.span)
 met_by_last parts s p apart last = elim (cases_Bool (ltb s.first (end_of p.span))) [
-  | inl t ↦ rw t (any_some (λ q. meets q.span s) parts p last.listed (let b = last.below in grind (arith, nat_tests)))
-  | inr f ↦ rw f (any_none (λ q. meets q.span s) parts (All-from_recursion (λ q. meets q.span s ≡ false) parts (every_from (λ q. meets q.span s ≡ false) parts (λ q m. elim (cases_Bool (meets q.span s)) [ inl t ↦ absurd (other q m t f) | inr g ↦ g ]))))
+  | inl t ↦ rw t (list_any-from_Any (λ q. meets q.span s) parts (let b = last.below in let at = last.listed in (at.0, p, at.1, at.2, grind (arith, nat_tests))))
+  | inr f ↦ rw f (list_any_none (λ q. meets q.span s) parts (all_from (λ q. meets q.span s ≡ false) parts (λ q m. false_from_ne_true (meets q.span s) (λ t. other q m t f))))
 ]
   where
     other : (q : Part) → Contains parts q → meets q.span s ≡ true → ltb s.first (end_of p.span) ≡ false → ⊥
@@ -124,15 +96,13 @@ met_by_last parts s p apart last = elim (cases_Bool (ltb s.first (end_of p.span)
         let in_p = placed parts p apart last.listed in
         let some = in_p.0 in
         let under : q.span.first < end_of s = grind (arith, nat_tests) in
-        let over : s.first < end_of q.span = grind (arith, nat_tests) in
-        let ends : end_of p.span ≤ s.first = grind (arith, nat_tests) in
         let up : q.span.first ≤ p.span.first = All-contains (λ q. q.span.first < end_of s → q.span.first ≤ p.span.first) parts q last.last m under in
         let same = one_owner parts apart p.span.first p q last.listed m (grind (arith, nat_tests)) (grind (arith, nat_tests)) in
         let end : end_of q.span ≡ end_of p.span = ap (λ (x : Part). end_of x.span) same in
-        omega arith
+        grind (arith, nat_tests)
 
 pub met_by_none : (parts : List Part) (s : Span) → All (λ p. end_of s ≤ p.span.first) parts → list_any (λ q. meets q.span s) parts ≡ false
-met_by_none parts s above = any_none (λ q. meets q.span s) parts (All-weaker (λ p. end_of s ≤ p.span.first) (λ q. meets q.span s ≡ false) (λ q l. grind (arith, nat_tests)) parts above)
+met_by_none parts s above = list_any_none (λ q. meets q.span s) parts (All-weaker (λ p. end_of s ≤ p.span.first) (λ q. meets q.span s ≡ false) (λ q l. grind (arith, nat_tests)) parts above)
 
 -- none begins above all pages
 pub none_begins : (parts : List Part) (page : ℕ) → IsApart parts → 33554432 ≤ page → find (begins_at page) parts ≡ None

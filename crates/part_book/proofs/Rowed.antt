@@ -1,11 +1,11 @@
 -- The extents of a table and their numbers: which are the same, and which share no page.
-use Rattle.std.proofs.Common.{◌≡◌, ℕ, ◌≤◌, Bool, true, false, not, cond, eqb, ltb, List, [], ◌∷◌, ◌++◌, filter, count_by, vec_len, inl, inr, refl, sym, ap, ◌∙◌, subst, arith, All}
+use Rattle.std.proofs.Common.{◌≡◌, ℕ, ◌≤◌, true, false, not, eqb, List, [], ◌∷◌, ◌++◌, filter, count_by, inl, inr, refl, sym, ap, ◌∙◌, subst, arith, All}
 use Rattle.std.specs.List.{Contains}
-use Rattle.std.proofs.lemmas.Bool.{cases_Bool, cases_lt, eq-eqb, eqb-true}
+use Rattle.std.proofs.lemmas.Bool.{cases_Bool, cases_lt, eq-eqb, eqb-true, false_from_ne_true, not-true}
 use Rattle.std.proofs.lemmas.Bool.Decides.{nat_tests}
-use Rattle.std.proofs.lemmas.List.Elements.{All-append, All-contains, All-cons, All-from_recursion, All-nil}
-use Rattle.std.proofs.lemmas.List.Sums.{sum_by-append, sum_by-cons}
-use Rattle.ordered_set.proofs.Members.{every_from, filter_from}
+use Rattle.std.proofs.lemmas.List.Elements.{All-contains, All-push}
+use Rattle.std.proofs.lemmas.List.Sums.{sum_by_push}
+use Rattle.ordered_set.proofs.Members.{filter_from}
 use Rattle.space_model.specs.declared.parts.Part.{Part}
 use Rattle.space_model.specs.Span.{IsPlaced, has_page, meets}
 use Rattle.space_model.specs.Part.{begins_at}
@@ -13,7 +13,7 @@ use Rattle.part_book.specs.declared.table.Table.{Table}
 use Rattle.part_book.specs.Rows.{IsApart, Row}
 use Rattle.part_book.specs.Tables.{IsTable}
 use Rattle.part_book.proofs.Indexes.{parts_in}
-use Rattle.part_book.proofs.Lists.{count_kept, count_map, count_none, filter_map_is, filter_same, map_from, map_has, only_one}
+use Rattle.part_book.proofs.Lists.{all_from, bit, count_kept, count_map, count_none, filter_map_is, filter_same, map_from, map_has, only_one}
 use Rattle.part_book.proofs.Parts.{begins_has, placed}
 
 pub row_placed : (rows : List Row) (r : Row) → IsApart (parts_in rows) → Contains rows r → IsPlaced r.part.span
@@ -30,9 +30,7 @@ one_row rows apart page x y m n t u =
 pub numbers_most : (t : Table) (rows : List Row) (number : ℕ) → IsTable t rows → count_by (λ row. eqb row.number number) rows ≤ 1
 numbers_most t rows number i =
     let all = i.free number in
-    let bit_le : (b : Bool) → let n : ℕ = cond b 1 0 in n ≤ 1 = λ b. elim b as (λ c. let n : ℕ = cond c 1 0 in n ≤ 1) [ true ↦ omega arith | false ↦ omega arith ] in
-    let most = bit_le (ltb number (vec_len t.slots)) in
-    omega arith
+    grind (arith, nat_tests)
 
 pub one_number : (t : Table) (rows : List Row) (x y : Row) → IsTable t rows → Contains rows x → Contains rows y → y.number ≡ x.number → y ≡ x
 one_number t rows x y i m n e = only_one (λ row. eqb row.number x.number) rows x y (numbers_most t rows x.number i) m n (eq-eqb x.number x.number refl) (eq-eqb y.number x.number e)
@@ -42,11 +40,7 @@ abbrev pub others : ℕ → List Row → List Row
 others number rows = filter (λ row. not (eqb row.number number)) rows
 
 pub other_row : (number : ℕ) (rows : List Row) (x : Row) → Contains (others number rows) x → Contains rows x × (eqb x.number number ≡ false)
-other_row number rows x m = let p = filter_from (λ row. not (eqb row.number number)) rows x m in (p.0, not_true (eqb x.number number) p.1)
-  where
-    not_true : (b : Bool) → not b ≡ true → b ≡ false
-    not_true true e = absurd (cc)
-    not_true false e = refl
+other_row number rows x m = let p = filter_from (λ row. not (eqb row.number number)) rows x m in (p.0, not-true (eqb x.number number) p.1)
 
 -- spans that meet share a page
 pub share_page : (p q : Part) → IsPlaced p.span → IsPlaced q.span → meets p.span q.span ≡ true → (page : ℕ) × (has_page page p.span ≡ true) × (has_page page q.span ≡ true)
@@ -66,19 +60,16 @@ page_meets p q page t u = grind (arith, nat_tests)
 
 pub apart_more : (parts : List Part) (p : Part) → IsApart parts → IsPlaced p.span → All (λ q. meets q.span p.span ≡ false) parts → IsApart (parts ++ p ∷ [])
 apart_more parts p apart in_space none = record {
-  placed = All-append (λ q. IsPlaced q.span) parts (p ∷ []) apart.placed (All-cons (λ q. IsPlaced q.span) p [] in_space (All-nil (λ q. IsPlaced q.span)));
+  placed = All-push (λ q. IsPlaced q.span) parts p apart.placed in_space;
   owners = λ page.
-      let sum = sum_by-append (λ q. cond (has_page page q.span) 1 0) parts (p ∷ []) in
-      let last = sum_by-cons (λ q. cond (has_page page q.span) 1 0) p [] in
+      let sum = sum_by_push (λ q. bit (has_page page q.span)) parts p in
       let most = apart.owners page in
-      let bit : Bool → ℕ = λ b. cond b 1 0 in
       elim (cases_Bool (has_page page p.span)) [
         | inl t ↦
             let one : bit (has_page page p.span) ≡ 1 = ap bit t in
-            let nobody = count_none (λ q. has_page page q.span) parts (λ q m. elim (cases_Bool (has_page page q.span)) [
-              | inl u ↦ absurd (let met = page_meets q p page u t in let f = All-contains (λ q. meets q.span p.span ≡ false) parts q none m in cc)
-              | inr f ↦ f
-            ]) in
+            let nobody = count_none (λ q. has_page page q.span) parts (λ q m. false_from_ne_true (has_page page q.span) (λ u.
+            let met = page_meets q p page u t in
+            let apart = All-contains (λ q. meets q.span p.span ≡ false) parts q none m in cc)) in
             omega arith
         | inr f ↦ let no : bit (has_page page p.span) ≡ 0 = ap bit f in omega arith
       ];
@@ -88,9 +79,9 @@ apart_more parts p apart in_space none = record {
 
 pub apart_less : (number : ℕ) (rows : List Row) → IsApart (parts_in rows) → IsApart (parts_in (others number rows))
 apart_less number rows apart = record {
-  placed = All-from_recursion (λ p. IsPlaced p.span) (parts_in (others number rows)) (every_from (λ p. IsPlaced p.span) (parts_in (others number rows)) (λ p m.
+  placed = all_from (λ p. IsPlaced p.span) (parts_in (others number rows)) (λ p m.
       let r = map_from (λ row. row.part) (others number rows) p m in
-      subst (λ q. IsPlaced q.span) r.2 (row_placed rows r.0 apart (other_row number rows r.0 r.1).0)));
+      subst (λ q. IsPlaced q.span) r.2 (row_placed rows r.0 apart (other_row number rows r.0 r.1).0));
   owners = λ page.
       let most = apart.owners page in
       let all = count_map (λ row. row.part) (λ p. has_page page p.span) rows in
@@ -108,24 +99,18 @@ others_begin t rows r first i m b =
     same : (x : Row) → Contains rows x → eqb x.number r.number ≡ begins_at first x.part
     same x n = elim (cases_Bool (eqb x.number r.number)) [
       | inl t' ↦ let e = one_number t rows r x i m n (eqb-true x.number r.number t') in t' ∙ sym (ap (λ (y : Row). begins_at first y.part) e ∙ b)
-      | inr f ↦ elim (cases_Bool (begins_at first x.part)) [
-        | inl u ↦ absurd (
-            let e = one_row rows i.apart first r x m n (begins_has r.part first (row_placed rows r i.apart m) b) (begins_has x.part first (row_placed rows x i.apart n) u) in
-            let g : eqb x.number r.number ≡ true = eq-eqb x.number r.number (ap (λ (y : Row). y.number) e) in cc)
-        | inr g ↦ f ∙ sym g
-      ]
+      | inr f ↦ f ∙ sym (false_from_ne_true (begins_at first x.part) (λ u.
+          let e = one_row rows i.apart first r x m n (begins_has r.part first (row_placed rows r i.apart m) b) (begins_has x.part first (row_placed rows x i.apart n) u) in
+          let g : eqb x.number r.number ≡ true = eq-eqb x.number r.number (ap (λ (y : Row). y.number) e) in cc))
     ]
 
 -- the extents but one don't meet it
 pub others_apart : (t : Table) (rows : List Row) (r : Row) → IsTable t rows → Contains rows r → All (λ p. meets p.span r.part.span ≡ false) (parts_in (others r.number rows))
-others_apart t rows r i m = All-from_recursion (λ p. meets p.span r.part.span ≡ false) (parts_in (others r.number rows)) (every_from (λ p. meets p.span r.part.span ≡ false) (parts_in (others r.number rows)) (λ p n.
+others_apart t rows r i m = all_from (λ p. meets p.span r.part.span ≡ false) (parts_in (others r.number rows)) (λ p n.
     let x = map_from (λ row. row.part) (others r.number rows) p n in
     let o = other_row r.number rows x.0 x.1 in
-    ap (λ (q : Part). meets q.span r.part.span) (sym x.2) ∙ elim (cases_Bool (meets x.0.part.span r.part.span)) [
-      | inl t' ↦ absurd (
-          let page = share_page x.0.part r.part (row_placed rows x.0 i.apart o.0) (row_placed rows r i.apart m) t' in
-          let e = one_row rows i.apart page.0 r x.0 m o.0 page.2 page.1 in
-          let g : eqb x.0.number r.number ≡ true = eq-eqb x.0.number r.number (ap (λ (y : Row). y.number) e) in
-          let f = o.1 in cc)
-      | inr f ↦ f
-    ]))
+    ap (λ (q : Part). meets q.span r.part.span) (sym x.2) ∙ false_from_ne_true (meets x.0.part.span r.part.span) (λ t'.
+    let page = share_page x.0.part r.part (row_placed rows x.0 i.apart o.0) (row_placed rows r i.apart m) t' in
+    let e = one_row rows i.apart page.0 r x.0 m o.0 page.2 page.1 in
+    let g : eqb x.0.number r.number ≡ true = eq-eqb x.0.number r.number (ap (λ (y : Row). y.number) e) in
+    let f = o.1 in cc))
