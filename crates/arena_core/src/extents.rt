@@ -9,7 +9,6 @@ ghost use Rattle.space_model.specs.Step.{begins_either, high_piece, is_left_of, 
 ghost use Rattle.part_book.specs.Books.{AreAlike, pages_of};
 ghost use Rattle.arena_core.specs.Extents.{IsApart, IsThere, active_pages, all_pages, kept};
 
-use crate::states::{is_active, is_flight, is_like, listed, rest_of};
 use part_book::PartBook;
 use space_model::{Part, Rest, Span, State};
 use std::alloc::{AllocError as NoMemory, Global};
@@ -210,7 +209,7 @@ fn active_after(active: u64, part: &Part, state: State) -> u64
     requires fits { active + part.now.span.pages < 2 ^ 64 }
     ensures { result + active_pages (part.now ∷ []) ≡ active + active_pages (record part.now { state = state } ∷ []) }
 {
-    match (is_active(part.state), is_active(state)) {
+    match (part.state.is_active(), state.is_active()) {
         (true, false) => active - part.span.pages,
         (false, true) => active + part.span.pages,
         _ => active,
@@ -222,7 +221,7 @@ fn flight_of(client: u32, pages: u64, found: Option<Part>) -> Option<Part>
     ensures { result ≡ kept (λ p. is_flight client p.state && p.span.pages == pages) found }
 {
     let part = found?;
-    if is_flight(client, part.state) && part.span.pages == pages {
+    if part.state.is_flight_of(client) && part.span.pages == pages {
         Some(part)
     } else {
         None
@@ -234,7 +233,7 @@ fn like(part: &Part, found: Option<Part>) -> Option<Part>
     ensures { result ≡ kept (is_like part.now) found }
 {
     let other = found?;
-    if is_like(part, &other) {
+    if part.is_like(&other) {
         Some(other)
     } else {
         None
@@ -256,7 +255,7 @@ fn split_in(book: &mut PartBook, part: &Part, left: u64, keep_low: bool)
 {
     let low = part.span.first;
     let high = low + left;
-    let down = listed(rest_of(part.state));
+    let down = part.state.rest().state();
     book.cut(low, left);
     if keep_low {
         book.set_state(high, down, part.committed);

@@ -8,7 +8,6 @@ ghost use Rattle.space_model.specs.Sound.{Sound};
 ghost use Rattle.arena_core.specs.Indexes.{HasPlaces, space_of};
 
 use crate::indexes::Indexes;
-use crate::states::{is_listed, listed, rest_of};
 use size_classes::PAGE_BYTES;
 use space_model::{Answer, Ask, Heard, Part, Reply, Span, State};
 
@@ -16,7 +15,7 @@ use space_model::{Answer, Ask, Heard, Part, Reply, Span, State};
 fn is_purged(indexes: &Indexes, part: &Part) -> bool
     ensures { result ≡ is_purged (space_of indexes.now) part.now }
 {
-    is_listed(rest_of(part.state), State::Dirty) && indexes.dirty.ms == 0
+    State::Dirty.is_listed(part.state.rest()) && indexes.dirty.ms == 0
 }
 
 /// Looks for a neighbour of an extent in flight that may be merged with it, and puts the extent down where there is none.
@@ -31,7 +30,7 @@ pub fn put_look(indexes: &mut Indexes, client: u32, span: Span, tries: u8) -> Re
         return Reply::Noted;
     };
     if let Some(other) = indexes.extents.neighbour(tries, &part) {
-        let state = State::Flight(client, rest_of(other.state));
+        let state = State::Flight(client, other.state.rest());
         indexes.extents.change(&other, state, other.committed);
         return Reply::Beside(other.span);
     }
@@ -39,7 +38,7 @@ pub fn put_look(indexes: &mut Indexes, client: u32, span: Span, tries: u8) -> Re
         let lazy = indexes.muzzy.ms != 0;
         return Reply::Purge { lazy };
     }
-    let state = listed(rest_of(part.state));
+    let state = part.state.rest().state();
     indexes.extents.change(&part, state, part.committed);
     Reply::Next(indexes.extents.next_flight(client))
 }
@@ -71,7 +70,7 @@ pub fn merge_done(indexes: &mut Indexes, client: u32, heard: Heard, own_low: boo
         }
         Answer::Refused => {
             let (kept, other) = if own_low { (low, high) } else { (high, low) };
-            let state = listed(rest_of(other.state));
+            let state = other.state.rest().state();
             indexes.extents.change(&other, state, other.committed);
             Reply::Joined(kept.span)
         }
@@ -94,7 +93,7 @@ fn give_one(indexes: &mut Indexes, client: u32, addr: u64) -> bool
     let high = low + PAGE_BYTES * part.span.pages;
     let emptied = !indexes.regions.begins_within(low, high);
     if emptied {
-        let state = State::Flight(client, rest_of(part.state));
+        let state = State::Flight(client, part.state.rest());
         indexes.extents.change(&part, state, part.committed);
     }
     emptied

@@ -19,7 +19,6 @@ mod moves;
 mod readers;
 mod regions;
 mod rooms;
-mod states;
 mod steps;
 #[cfg(test)]
 mod tests;

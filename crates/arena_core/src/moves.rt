@@ -11,21 +11,8 @@ ghost use Rattle.arena_core.specs.Indexes.{HasPlaces, space_of};
 
 use crate::extents::Extents;
 use crate::indexes::Indexes;
-use crate::states::{is_live, listed, rest_of};
 use size_classes::PAGE_BYTES;
-use space_model::{
-    Answer, Ask, CHUNK_PAGES, CHUNKS, Heard, Part, Region, Reply, Rest, Span, State, Why,
-};
-
-/// The first page at or above the span's start that is a multiple of the alignment.
-fn run_start(align: u64, span: Span) -> u128
-    requires { 1 ≤ align }
-    ensures start { result ≡ run_start align span }
-    ensures bound { result < 2 ^ 65 }
-{
-    let align = u128::from(align);
-    (u128::from(span.first) + (align - 1)) / align * align
-}
+use space_model::{Answer, Ask, CHUNK_PAGES, Heard, Part, Region, Reply, Rest, Span, State, Why};
 
 /// Looks for the extent that serves a request, and takes it out of its list.
 pub fn look(indexes: &mut Indexes, client: u32, pages: u64, align: u64) -> Reply
@@ -36,18 +23,18 @@ pub fn look(indexes: &mut Indexes, client: u32, pages: u64, align: u64) -> Reply
     ensures reply { result ≡ (after_look (space_of indexes.old) client pages align).reply }
     ensures places { (n : ℕ) → HasPlaces indexes.old n → HasPlaces indexes.new n }
 {
-    if !is_live(indexes.life) {
+    if !indexes.life.is_live() {
         return Reply::NoArena;
     }
     let Some(part) = indexes.extents.fit(pages, align) else {
         return Reply::Grow;
     };
-    let state = State::Flight(client, rest_of(part.state));
+    let state = State::Flight(client, part.state.rest());
     indexes.extents.change(&part, state, part.committed);
     Reply::Took {
         span: part.span,
         committed: part.committed,
-        skip: (run_start(align, part.span) - u128::from(part.span.first)) as u64,
+        skip: (part.span.run_start(align) - u128::from(part.span.first)) as u64,
     }
 }
 
@@ -61,7 +48,7 @@ fn put_whole(indexes: &mut Indexes, found: Option<Part>) -> Reply
     let Some(part) = found else {
         return Reply::Noted;
     };
-    let state = listed(rest_of(part.state));
+    let state = part.state.rest().state();
     indexes.extents.change(&part, state, part.committed);
     Reply::Whole
 }
@@ -132,17 +119,6 @@ pub fn commit_done(indexes: &mut Indexes, client: u32, heard: Heard) -> Reply
     }
 }
 
-/// The pages of a chunk.
-fn chunk_span(chunk: u64) -> Span
-    requires { chunk < 2 ^ 32 }
-    ensures { result ≡ chunk_span chunk }
-{
-    Span {
-        first: CHUNK_PAGES * chunk,
-        pages: CHUNK_PAGES,
-    }
-}
-
 /// Whether this is the chunk that was found in another arena.
 fn is_found(found: Option<u64>, chunk: u64) -> bool
     ensures { result ≡ is_found found chunk }
@@ -158,15 +134,7 @@ fn is_owned(found: Option<u64>, extents: &Extents, chunk: u64) -> bool
     requires { chunk < 2 ^ 32 }
     ensures { result ≡ is_owned found extents.now.parts chunk }
 {
-    is_found(found, chunk) || extents.meets(chunk_span(chunk))
-}
-
-/// Whether all pages of the span are in the space.
-fn is_in_space(span: Span) -> bool
-    ensures { result ≡ is_in_space span }
-{
-    let end = u128::from(span.first) + u128::from(span.pages);
-    CHUNK_PAGES <= span.first && end <= u128::from(CHUNK_PAGES * (CHUNKS + 1))
+    is_found(found, chunk) || extents.meets(Span::of_chunk(chunk))
 }
 
 /// The least chunk of a span in the space that has an owner.
@@ -185,14 +153,14 @@ fn why_not(found: Option<u64>, align: u64, extents: &Extents, span: Span) -> Opt
     requires { 1 ≤ align }
     ensures { result ≡ why_not found align extents.now.parts span }
 {
-    if !is_in_space(span) {
+    if !span.is_in_space() {
         return Some(Why::OffSpace);
     }
     if span.first % align != 0 {
         return Some(Why::Unaligned);
     }
     match owned_chunk(found, extents, span) {
-        Some(chunk) => Some(Why::Meets(chunk_span(chunk))),
+        Some(chunk) => Some(Why::Meets(Span::of_chunk(chunk))),
         None => None,
     }
 }

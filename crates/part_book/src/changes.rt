@@ -9,7 +9,7 @@ ghost use Rattle.part_book.specs.Leaves.{HasLeaves, leaves_for};
 ghost use Rattle.part_book.specs.Lists.{CanList, CanUnlist};
 ghost use Rattle.part_book.specs.Tables.{HasRoom, IsRowAt, IsTable, Keeps, parts_of, rows_of};
 
-use crate::rows::{end_of, is_in_flight, is_listed};
+use crate::rows::end_of;
 use crate::table::Table;
 use fit_lists::FitList;
 use ordered_set::Key;
@@ -117,7 +117,7 @@ fn list(spans: &mut FitList, rest: Rest, number: u32, part: &Part)
         (record { number = number; first = part.now.span.first; pages = part.now.span.pages } ∷ []) [] }
     ensures places { length spans.new.spans + spans.new.spare ≡ length spans.old.spans + spans.old.spare }
 {
-    if is_listed(rest, part.state) {
+    if part.state.is_listed(rest) {
         spans.insert(number, part.span.first, part.span.pages);
     }
 }
@@ -129,7 +129,7 @@ fn unlist(spans: &mut FitList, rest: Rest, number: u32, part: &Part)
         (filter (λ span. not (span.number == number)) spans.old.spans) spans.old.spans }
     ensures places { length spans.old.spans + spans.old.spare ≤ length spans.new.spans + spans.new.spare }
 {
-    if is_listed(rest, part.state) {
+    if part.state.is_listed(rest) {
         spans.remove(number);
     }
 }
@@ -140,7 +140,7 @@ fn launch(flights: &mut Vec<u32>, number: u32, state: State)
     ensures numbers { flights.new.items ≡ flights.old.items ++ cond (is_in_flight state) (number ∷ []) [] }
     ensures room { vec_capacity flights.old ≤ vec_capacity flights.new }
 {
-    if is_in_flight(state) {
+    if state.is_in_flight() {
         flights.push(number).unwrap();
     }
 }
@@ -151,7 +151,7 @@ fn land(flights: &mut Vec<u32>, number: u32, state: State)
         (filter (λ flight. not (flight == number)) flights.old.items) flights.old.items }
     ensures room { vec_capacity flights.new ≡ vec_capacity flights.old }
 {
-    if is_in_flight(state) {
+    if state.is_in_flight() {
         flights.retain(|flight| *flight != number);
     }
 }

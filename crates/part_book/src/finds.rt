@@ -8,7 +8,7 @@ ghost use Rattle.part_book.specs.Books.{ends_at, pages_of};
 ghost use Rattle.part_book.specs.Rows.{IsLastBelow, is_edge, part_at, spans_in};
 ghost use Rattle.part_book.specs.Tables.{IsTable, parts_of, rows_of};
 
-use crate::rows::{end_of, is_flight};
+use crate::rows::end_of;
 use crate::table::Table;
 use fit_lists::FitList;
 use ordered_set::Key;
@@ -142,7 +142,7 @@ impl Table {
     {
         for number in &self.flights {
             let part = self.part_at(*number);
-            if is_flight(client, part.state) {
+            if part.state.is_flight_of(client) {
                 return Some(part.span);
             }
         }

@@ -210,8 +210,8 @@ impl PartBook {
         ensures spare { self.new.spare + 1 ≡ self.old.spare }
     {
         let part = self.table.take_off(first);
-        self.table.put_on(low_piece(left, part));
-        self.table.put_on(high_piece(left, part));
+        self.table.put_on(part.low_piece(left));
+        self.table.put_on(part.high_piece(left));
         self.spare -= 1;
     }
 
@@ -237,28 +237,4 @@ impl PartBook {
             ..low
         });
     }
-}
-
-// The first pages of an extent, so many.
-fn low_piece(left: u64, part: Part) -> Part
-    ensures { result ≡ low_piece left part }
-{
-    let span = Span {
-        first: part.span.first,
-        pages: left,
-    };
-    Part { span, ..part }
-}
-
-// The pages of an extent but for its first ones, so many.
-fn high_piece(left: u64, part: Part) -> Part
-    requires fewer { left < part.span.pages }
-    requires placed { IsPlaced part.span }
-    ensures { result ≡ high_piece left part }
-{
-    let span = Span {
-        first: part.span.first + left,
-        pages: part.span.pages - left,
-    };
-    Part { span, ..part }
 }

@@ -15,6 +15,8 @@ mod parts;
 mod plain;
 mod seq;
 mod spaces;
+mod spans;
+mod states;
 
 pub use addresses::Addresses;
 pub use asks::{Answer, Ask, Heard};

@@ -7,42 +7,7 @@ ghost use Rattle.space_model.specs.Part.{is_active, is_listed, is_flight, is_fli
 ghost use Rattle.space_model.specs.Fit.{is_candidate, is_better, is_best, fit_of, fit};
 ghost use Rattle.space_model.specs.Step.{is_found, is_owned, is_in_space, next_flight, is_like, is_right_of, is_left_of, neighbour, why_not};
 
-use crate::{CHUNK_PAGES, CHUNKS, Part, Rest, Span, State, Why};
-
-/// Where an extent in this state belongs when it is put down.
-pub fn rest_of(state: State) -> Rest
-    ensures { result ≡ rest_of state }
-{
-    match state {
-        State::Active | State::Dirty => Rest::Dirty,
-        State::Muzzy => Rest::Muzzy,
-        State::Retained => Rest::Retained,
-        State::Flight(_, rest) => rest,
-    }
-}
-
-/// The state of an extent that is listed among those of a rest.
-pub fn listed(rest: Rest) -> State
-    ensures { result ≡ listed rest }
-{
-    match rest {
-        Rest::Dirty => State::Dirty,
-        Rest::Muzzy => State::Muzzy,
-        Rest::Retained => State::Retained,
-    }
-}
-
-/// Whether an extent in this state is listed among those of a rest.
-pub fn is_listed(rest: Rest, state: State) -> bool
-    ensures { result ≡ is_listed rest state }
-{
-    match (rest, state) {
-        (Rest::Dirty, State::Dirty)
-        | (Rest::Muzzy, State::Muzzy)
-        | (Rest::Retained, State::Retained) => true,
-        _ => false,
-    }
-}
+use crate::{CHUNK_PAGES, Part, Rest, Span, State, Why};
 
 /// Whether it is the client's extent in flight with just this span.
 fn is_flight_at(client: u32, span: Span, part: &Part) -> bool
@@ -66,23 +31,6 @@ pub fn flight(parts: &[Part], client: u32, span: Span) -> Option<Part>
         .find(|part| is_flight_at(client, span, part))
 }
 
-/// The page after a span's last one. In 128 bits, so that no answer of a hook wraps.
-pub fn end_of(span: Span) -> u128
-    ensures { result ≡ end_of span }
-{
-    u128::from(span.first) + u128::from(span.pages)
-}
-
-/// Whether the client has an extent in this state out of its list.
-fn is_flight(client: u32, state: State) -> bool
-    ensures { result ≡ is_flight client state }
-{
-    match state {
-        State::Flight(owner, _) => owner == client,
-        _ => false,
-    }
-}
-
 /// The first extent that the client has in flight.
 fn first_flight(client: u32, parts: &[Part]) -> Option<Part>
     ensures { result ≡ find (λ p. is_flight client p.state) parts.now }
@@ -90,7 +38,7 @@ fn first_flight(client: u32, parts: &[Part]) -> Option<Part>
     parts
         .iter()
         .copied()
-        .find(|part| is_flight(client, part.state))
+        .find(|part| part.state.is_flight_of(client))
 }
 
 /// The span of the first extent that the client has in flight.
@@ -103,25 +51,18 @@ pub fn next_flight(client: u32, parts: &[Part]) -> Option<Span>
     }
 }
 
-/// Whether another extent is listed where the extent in flight belongs, and as committed.
-fn is_like(part: &Part, other: &Part) -> bool
-    ensures { result ≡ is_like part.now other.now }
-{
-    is_listed(rest_of(part.state), other.state) && other.committed == part.committed
-}
-
 /// Whether it begins where the extent in flight ends.
 fn is_right_of(part: &Part, other: &Part) -> bool
     ensures { result ≡ is_right_of part.now other.now }
 {
-    is_like(part, other) && u128::from(other.span.first) == end_of(part.span)
+    part.is_like(other) && u128::from(other.span.first) == part.span.end()
 }
 
 /// Whether it ends where the extent in flight begins.
 fn is_left_of(part: &Part, other: &Part) -> bool
     ensures { result ≡ is_left_of part.now other.now }
 {
-    is_like(part, other) && end_of(other.span) == u128::from(part.span.first)
+    part.is_like(other) && other.span.end() == u128::from(part.span.first)
 }
 
 /// The right neighbour that a merge may join to the extent.
@@ -155,23 +96,12 @@ pub fn neighbour(tries: u8, part: &Part, parts: &[Part]) -> Option<Part>
     right.or(left)
 }
 
-/// The first page at or above the span's start that is a multiple of the alignment.
-pub fn run_start(align: u64, span: Span) -> u128
-    requires { 1 ≤ align }
-    ensures start { result ≡ run_start align span }
-    ensures bound { result < 2 ^ 65 }
-{
-    let align = u128::from(align);
-    (u128::from(span.first) + (align - 1)) / align * align
-}
-
 /// Whether the extent is listed among those of the rest and holds the run.
 fn is_candidate(rest: Rest, pages: u64, align: u64, part: &Part) -> bool
     requires { 1 ≤ align }
     ensures { result ≡ is_candidate rest pages align part.now }
 {
-    is_listed(rest, part.state)
-        && run_start(align, part.span) + u128::from(pages) <= end_of(part.span)
+    part.state.is_listed(rest) && part.span.run_start(align) + u128::from(pages) <= part.span.end()
 }
 
 /// Whether the first extent is smaller, or as small and at a lower page.
@@ -231,18 +161,7 @@ pub fn fit(pages: u64, align: u64, parts: &[Part]) -> Option<Part>
 fn meets(span: Span, other: Span) -> bool
     ensures { result ≡ meets span other }
 {
-    u128::from(span.first) < end_of(other) && u128::from(other.first) < end_of(span)
-}
-
-/// The pages of a chunk.
-fn chunk_span(chunk: u64) -> Span
-    requires { chunk < 2 ^ 32 }
-    ensures { result ≡ chunk_span chunk }
-{
-    Span {
-        first: CHUNK_PAGES * chunk,
-        pages: CHUNK_PAGES,
-    }
+    u128::from(span.first) < other.end() && u128::from(other.first) < span.end()
 }
 
 /// Whether this is the chunk that was found in another arena.
@@ -267,14 +186,7 @@ fn is_owned(found: Option<u64>, parts: &[Part], chunk: u64) -> bool
     requires { chunk < 2 ^ 32 }
     ensures { result ≡ is_owned found parts.now chunk }
 {
-    is_found(found, chunk) || any_meets(parts, chunk_span(chunk))
-}
-
-/// Whether all pages of the span are in the space.
-fn is_in_space(span: Span) -> bool
-    ensures { result ≡ is_in_space span }
-{
-    CHUNK_PAGES <= span.first && end_of(span) <= u128::from(CHUNK_PAGES * (CHUNKS + 1))
+    is_found(found, chunk) || any_meets(parts, Span::of_chunk(chunk))
 }
 
 /// The least chunk of a span in the space that has an owner.
@@ -293,14 +205,14 @@ pub fn why_not(found: Option<u64>, align: u64, parts: &[Part], span: Span) -> Op
     requires { 1 ≤ align }
     ensures { result ≡ why_not found align parts.now span }
 {
-    if !is_in_space(span) {
+    if !span.is_in_space() {
         return Some(Why::OffSpace);
     }
     if span.first % align != 0 {
         return Some(Why::Unaligned);
     }
     match owned_chunk(found, parts, span) {
-        Some(chunk) => Some(Why::Meets(chunk_span(chunk))),
+        Some(chunk) => Some(Why::Meets(Span::of_chunk(chunk))),
         None => None,
     }
 }

@@ -11,9 +11,8 @@ ghost use Rattle.space_model.specs.Sound.{Sound};
 ghost use Rattle.space_model.specs.Journal.{Good};
 ghost use Rattle.space_model.specs.Own.{mine};
 
-use super::finds::{fit, flight, listed, rest_of, run_start, why_not};
+use super::finds::{fit, flight, why_not};
 use super::frees::{give_back, merge_done, put_look};
-use super::stands::is_live;
 use crate::{
     Answer, Ask, Entry, Heard, Op, Part, Parts, Region, Reply, Rest, Space, Span, State, Why,
 };
@@ -67,7 +66,7 @@ pub fn taken_out(client: u32, part: Part) -> Part
     ensures { result ≡ taken_out client part }
 {
     Part {
-        state: State::Flight(client, rest_of(part.state)),
+        state: State::Flight(client, part.state.rest()),
         ..part
     }
 }
@@ -77,7 +76,7 @@ pub fn put_down(part: Part) -> Part
     ensures { result ≡ put_down part }
 {
     Part {
-        state: listed(rest_of(part.state)),
+        state: part.state.rest().state(),
         ..part
     }
 }
@@ -90,7 +89,7 @@ fn look(space: &mut Space, client: u32, pages: u64, align: u64) -> Result<Reply,
     ensures reply { IfOk result (λ told. told ≡ (after_look space.old client pages align).reply) }
     ensures err { OnErr result (space.new ≡ space.old) }
 {
-    if !is_live(space.life) {
+    if !space.life.is_live() {
         return Ok(Reply::NoArena);
     }
     let Some(part) = fit(pages, align, space.parts.as_slice()) else {
@@ -99,7 +98,7 @@ fn look(space: &mut Space, client: u32, pages: u64, align: u64) -> Result<Reply,
     let reply = Reply::Took {
         span: part.span,
         committed: part.committed,
-        skip: (run_start(align, part.span) - u128::from(part.span.first)) as u64,
+        skip: (part.span.run_start(align) - u128::from(part.span.first)) as u64,
     };
     replace(space, &part, &[taken_out(client, part)], reply)
 }
@@ -116,30 +115,6 @@ fn put_whole(space: &mut Space, found: Option<Part>) -> Result<Reply, NoMemory>
     }
 }
 
-/// The pages of an extent below a cut.
-fn low_piece(left: u64, part: Part) -> Part
-    ensures { result ≡ low_piece left part }
-{
-    let span = Span {
-        first: part.span.first,
-        pages: left,
-    };
-    Part { span, ..part }
-}
-
-/// The pages of an extent above a cut.
-fn high_piece(left: u64, part: Part) -> Part
-    requires cut { left ≤ part.span.pages }
-    requires fits { part.span.first + part.span.pages < 2 ^ 64 }
-    ensures { result ≡ high_piece left part }
-{
-    let span = Span {
-        first: part.span.first + left,
-        pages: part.span.pages - left,
-    };
-    Part { span, ..part }
-}
-
 /// An extent is two from now on: the piece that stays in flight comes last, behind the other one, which is put down.
 fn cut(space: &mut Space, keep_low: bool, left: u64, part: Part) -> Result<Reply, NoMemory>
     requires cut { left ≤ part.span.pages }
@@ -148,8 +123,8 @@ fn cut(space: &mut Space, keep_low: bool, left: u64, part: Part) -> Result<Reply
     ensures reply { IfOk result (λ told. told ≡ (cut_at space.old keep_low left (Some part)).reply) }
     ensures err { OnErr result (space.new ≡ space.old) }
 {
-    let low = low_piece(left, part);
-    let high = high_piece(left, part);
+    let low = part.low_piece(left);
+    let high = part.high_piece(left);
     if keep_low {
         replace(space, &part, &[put_down(high), low], Reply::Cut(low.span))
     } else {

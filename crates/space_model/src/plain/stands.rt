@@ -6,19 +6,9 @@ ghost use Rattle.space_model.specs.Part.{is_flight_at};
 ghost use Rattle.space_model.specs.Region.{is_held_by};
 ghost use Rattle.space_model.specs.Step.{is_live, is_yes_or_no, is_range_or_no, is_customer, cut_stands, grow_stands, commit_stands, land_stands, rises_from, holds_at, back_stands, may_merge, merge_stands, op_stands, stands};
 
-use super::finds::{end_of, flight, is_listed, listed, rest_of};
-use crate::{Answer, Ask, CLIENTS, Clients, Entry, Heard, Life, Op, Part, Region, Space, Span};
+use super::finds::flight;
+use crate::{Answer, Ask, CLIENTS, Clients, Entry, Heard, Op, Part, Region, Space, Span};
 use size_classes::{CLASSES, SMALL_CLASSES, class_pages};
-
-/// Whether the arena serves requests.
-pub fn is_live(life: Life) -> bool
-    ensures { result ≡ is_live life }
-{
-    match life {
-        Life::Live => true,
-        Life::Absent | Life::Dying(_) => false,
-    }
-}
 
 /// Whether the answer is one to an ask other than alloc.
 fn is_yes_or_no(answer: Answer) -> bool
@@ -179,7 +169,7 @@ fn back_stands(space: &Space, client: u32, addrs: &[u64]) -> bool
 fn may_merge(low: &Part, high: &Part) -> bool
     ensures { result ≡ may_merge low.now high.now }
 {
-    is_listed(rest_of(low.state), listed(rest_of(high.state))) && low.committed == high.committed
+    high.state.rest().state().is_listed(low.state.rest()) && low.committed == high.committed
 }
 
 /// Whether the answer to a merge may be taken in.
@@ -191,7 +181,7 @@ fn merge_stands(space: &Space, client: u32, heard: Heard) -> bool
     };
     let parts = space.parts.as_slice();
     is_yes_or_no(heard.answer)
-        && end_of(low) == u128::from(high.first)
+        && low.end() == u128::from(high.first)
         && match (flight(parts, client, low), flight(parts, client, high)) {
             (Some(low), Some(high)) => may_merge(&low, &high),
             _ => false,
@@ -204,19 +194,19 @@ fn op_stands(space: &Space, client: u32, op: &Op) -> bool
 {
     match op {
         Op::Look { pages, align } => 0 < *pages && align.is_power_of_two(),
-        Op::CutDone { heard, .. } => is_live(space.life) && cut_stands(space, client, *heard),
-        Op::GrowDone { heard, .. } => is_live(space.life) && grow_stands(space, client, *heard),
-        Op::CommitDone { heard } => is_live(space.life) && commit_stands(space, client, *heard),
+        Op::CutDone { heard, .. } => space.life.is_live() && cut_stands(space, client, *heard),
+        Op::GrowDone { heard, .. } => space.life.is_live() && grow_stands(space, client, *heard),
+        Op::CommitDone { heard } => space.life.is_live() && commit_stands(space, client, *heard),
         Op::Land { span, class, count } => {
-            is_live(space.life) && land_stands(space, client, *span, *class, *count)
+            space.life.is_live() && land_stands(space, client, *span, *class, *count)
         }
-        Op::Back { addrs } => is_live(space.life) && back_stands(space, client, addrs.as_slice()),
+        Op::Back { addrs } => space.life.is_live() && back_stands(space, client, addrs.as_slice()),
         Op::PutLook { span, tries } => {
-            is_live(space.life)
+            space.life.is_live()
                 && *tries < 3
                 && flight(space.parts.as_slice(), client, *span).is_some()
         }
-        Op::MergeDone { heard, .. } => is_live(space.life) && merge_stands(space, client, *heard),
+        Op::MergeDone { heard, .. } => space.life.is_live() && merge_stands(space, client, *heard),
     }
 }
 

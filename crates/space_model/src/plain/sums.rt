@@ -5,7 +5,6 @@ ghost use Rattle.space_model.specs.Span.{IsPlaced};
 ghost use Rattle.space_model.specs.Counts.{bytes_of, bytes_where, is_of, region_bytes, counts_of};
 ghost use Rattle.space_model.specs.Sound.{Sound};
 
-use super::finds::is_listed;
 use crate::{Counts, Part, Region, Rest, Space, State};
 use size_classes::{PAGE_BYTES, size_of};
 
@@ -26,7 +25,7 @@ fn is_of(kind: Use, state: State) -> bool
 {
     match (kind, state) {
         (Use::Active, State::Active) | (Use::Flight, State::Flight(..)) => true,
-        (Use::Listed(rest), _) => is_listed(rest, state),
+        (Use::Listed(rest), _) => state.is_listed(rest),
         _ => false,
     }
 }

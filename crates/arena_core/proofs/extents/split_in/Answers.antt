@@ -23,8 +23,8 @@ set_state-requires-then-keep_low c =
     let one = at_some (λ q. c.cut.new.self.parts ≡ exchanged (begins_at p.span.first) parts (low_piece c.args.left q ∷ high_piece c.args.left q ∷ [])) _ p c.requires.there c.cut.ensures.parts in
     let s = subst (λ xs. Settles parts xs (exchanged (begins_at p.span.first) parts (pieces_of true c.args.left p)) (high_piece c.args.left p) (low_piece c.args.left p)) (sym one)
     (low_settles parts p c.args.left c.requires.apart c.requires.there c.requires.some c.requires.fewer) in
-    let down = c.listed-down.ensures ∙ ap listed c.rest_of.ensures in
-    let two = settled parts c.cut.new.self.parts c.set_state.new.self.parts c.set_state.new.self.parts (exchanged (begins_at p.span.first) parts (pieces_of true c.args.left p)) (high_piece c.args.left p) (low_piece c.args.left p) c.listed-down.result s down c.set_state.ensures.parts in
+    let down = c.state-down.ensures ∙ ap listed c.rest.ensures in
+    let two = settled parts c.cut.new.self.parts c.set_state.new.self.parts c.set_state.new.self.parts (exchanged (begins_at p.span.first) parts (pieces_of true c.args.left p)) (high_piece c.args.left p) (low_piece c.args.left p) c.state-down.result s down c.set_state.ensures.parts in
     record { begins = rw two.0 refl }
 
 pub set_state-requires-else-keep_low : goal.set_state-requires-else-keep_low
@@ -43,8 +43,8 @@ set_state-requires-else-keep_low-2 c =
     let one = at_some (λ q. c.cut.new.self.parts ≡ exchanged (begins_at p.span.first) parts (low_piece c.args.left q ∷ high_piece c.args.left q ∷ [])) _ p c.requires.there c.cut.ensures.parts in
     let s = subst (λ xs. Settles parts xs (exchanged (begins_at p.span.first) parts (pieces_of false c.args.left p)) (low_piece c.args.left p) (high_piece c.args.left p)) (sym one)
     (high_settles parts p c.args.left c.requires.apart c.requires.there c.requires.some c.requires.fewer) in
-    let down = c.listed-down.ensures ∙ ap listed c.rest_of.ensures in
-    let two = settled parts c.cut.new.self.parts c.set_state-else-keep_low.new.self.parts c.set_state-else-keep_low.new.self.parts (exchanged (begins_at p.span.first) parts (pieces_of false c.args.left p)) (low_piece c.args.left p) (high_piece c.args.left p) c.listed-down.result s down c.set_state-else-keep_low.ensures.parts in
+    let down = c.state-down.ensures ∙ ap listed c.rest.ensures in
+    let two = settled parts c.cut.new.self.parts c.set_state-else-keep_low.new.self.parts c.set_state-else-keep_low.new.self.parts (exchanged (begins_at p.span.first) parts (pieces_of false c.args.left p)) (low_piece c.args.left p) (high_piece c.args.left p) c.state-down.result s down c.set_state-else-keep_low.ensures.parts in
     record { begins = rw two.0 refl }
 
 pub returns-then-keep_low-clause-parts : goal.returns-then-keep_low-clause-parts
@@ -54,8 +54,8 @@ returns-then-keep_low-clause-parts c =
     let one = at_some (λ q. c.cut.new.self.parts ≡ exchanged (begins_at p.span.first) parts (low_piece c.args.left q ∷ high_piece c.args.left q ∷ [])) _ p c.requires.there c.cut.ensures.parts in
     let s = subst (λ xs. Settles parts xs (exchanged (begins_at p.span.first) parts (pieces_of true c.args.left p)) (high_piece c.args.left p) (low_piece c.args.left p)) (sym one)
     (low_settles parts p c.args.left c.requires.apart c.requires.there c.requires.some c.requires.fewer) in
-    let down = c.listed-down.ensures ∙ ap listed c.rest_of.ensures in
-    let two = settled parts c.cut.new.self.parts c.set_state.new.self.parts c.set_state-then-keep_low.new.self.parts (exchanged (begins_at p.span.first) parts (pieces_of true c.args.left p)) (high_piece c.args.left p) (low_piece c.args.left p) c.listed-down.result s down c.set_state.ensures.parts in
+    let down = c.state-down.ensures ∙ ap listed c.rest.ensures in
+    let two = settled parts c.cut.new.self.parts c.set_state.new.self.parts c.set_state-then-keep_low.new.self.parts (exchanged (begins_at p.span.first) parts (pieces_of true c.args.left p)) (high_piece c.args.left p) (low_piece c.args.left p) c.state-down.result s down c.set_state.ensures.parts in
     rw c.if-keep_low.true (two.1 c.set_state-then-keep_low.ensures.parts)
 
 pub returns-else-keep_low-clause-parts : goal.returns-else-keep_low-clause-parts
@@ -65,6 +65,6 @@ returns-else-keep_low-clause-parts c =
     let one = at_some (λ q. c.cut.new.self.parts ≡ exchanged (begins_at p.span.first) parts (low_piece c.args.left q ∷ high_piece c.args.left q ∷ [])) _ p c.requires.there c.cut.ensures.parts in
     let s = subst (λ xs. Settles parts xs (exchanged (begins_at p.span.first) parts (pieces_of false c.args.left p)) (low_piece c.args.left p) (high_piece c.args.left p)) (sym one)
     (high_settles parts p c.args.left c.requires.apart c.requires.there c.requires.some c.requires.fewer) in
-    let down = c.listed-down.ensures ∙ ap listed c.rest_of.ensures in
-    let two = settled parts c.cut.new.self.parts c.set_state-else-keep_low.new.self.parts c.set_state-else-keep_low-2.new.self.parts (exchanged (begins_at p.span.first) parts (pieces_of false c.args.left p)) (low_piece c.args.left p) (high_piece c.args.left p) c.listed-down.result s down c.set_state-else-keep_low.ensures.parts in
+    let down = c.state-down.ensures ∙ ap listed c.rest.ensures in
+    let two = settled parts c.cut.new.self.parts c.set_state-else-keep_low.new.self.parts c.set_state-else-keep_low-2.new.self.parts (exchanged (begins_at p.span.first) parts (pieces_of false c.args.left p)) (low_piece c.args.left p) (high_piece c.args.left p) c.state-down.result s down c.set_state-else-keep_low.ensures.parts in
     rw c.if-keep_low.false (two.1 c.set_state-else-keep_low-2.ensures.parts)

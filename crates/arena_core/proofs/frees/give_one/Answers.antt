@@ -49,7 +49,7 @@ returns-then-emptied-clause-after c =
     let answer = c.begins_within-emptied.ensures ∙ ap (λ (rs : List Region). list_any (begins_within (4096 * c.unwrap-part.result.span.first) (4096 * c.unwrap-part.result.span.first + 4096 * c.unwrap-part.result.span.pages)) rs) c.take.ensures.regions in
     let g = given_found c.args.client c.args.addr s c.unwrap-part.result c.holding.result c.begins_within-emptied.result c.requires.sound c.requires.held c.holding.ensures.holds c.unwrap-part.ensures answer in
     let p : Part = c.unwrap-part.result in
-    let out = ap (λ rest. exchanged (begins_at p.span.first) s.parts (record p { state = Flight c.args.client rest } ∷ [])) c.rest_of.ensures in
+    let out = ap (λ rest. exchanged (begins_at p.span.first) s.parts (record p { state = Flight c.args.client rest } ∷ [])) c.rest.ensures in
     let parts = c.change.ensures.parts ∙ out ∙ sym (rw c.if-emptied.true at g.1) in
     λ i. record s { parts = parts i; regions = c.take.ensures.regions i }
 
