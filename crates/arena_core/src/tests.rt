@@ -1,6 +1,6 @@
-//! An arena beside a space that is moved by scans: the script of `space_model`, and random operations.
+//! An arena beside a space that is moved by scans: two scripts with the replies that are expected, and random operations.
 
-ghost use Rattle.std.specs.Prelude.{◌≡◌, ◌<◌, false, IsTrue, OnOk};
+ghost use Rattle.std.specs.Prelude.{◌≡◌, ◌<◌, ◌≤◌, false, IsTrue, OnOk};
 ghost use Rattle.space_model.specs.Step.{stands};
 ghost use Rattle.space_model.specs.Sound.{Sound};
 ghost use Rattle.arena_core.specs.Arenas.{opens, room_after, room_of};
@@ -8,8 +8,8 @@ ghost use Rattle.arena_core.specs.Arenas.{opens, room_after, room_of};
 use super::Arena;
 use size_classes::Addrs;
 use space_model::{
-    Addresses, Answer, Ask, Entry, Heard, Op, Reply, Space, Span, Why, may_stand, plain_counts,
-    plain_step,
+    Addresses, Answer, Ask, Entry, Heard, Life, Op, Reply, Space, Span, Why, may_stand,
+    plain_counts, plain_step,
 };
 use std::alloc::Global;
 use std::process::Abort;
@@ -20,10 +20,12 @@ use std::test::Fail;
 enum Short {
     /// Pages and alignment.
     Look(u64, u64),
-    /// Pages that were asked for, the page that came and whether it is committed, and a chunk of another arena.
-    Grow(u64, u64, bool, Option<u64>),
-    /// A split at so many pages.
-    Cut(Span, u64, Answer),
+    /// The page that came for a chunk, whether it is committed, and a chunk of another arena.
+    Grow(u64, bool, Option<u64>),
+    /// No page came for a chunk.
+    Stay,
+    /// A split at so many pages, and whether the lower piece stays in flight.
+    Cut(Span, u64, bool, Answer),
     /// A commit.
     Commit(Span, Answer),
     /// One region of the class.
@@ -36,19 +38,8 @@ enum Short {
     Merge(Span, Span, Answer, bool),
 }
 
-/// What the script does next, and what is to be seen then.
-#[derive(Clone, Copy)]
-enum Line {
-    /// An arena begins.
-    Start,
-    /// The operation of client 0 has this reply.
-    Reply(Short, Reply),
-    /// The client's operation may not stand.
-    Bars(u32, Short),
-    /// These bytes are allocated, dirty, retained and in flight, all bytes of active extents are allocated, and no
-    /// others are.
-    Counts(u64, u64, u64, u64),
-}
+/// An operation of client 0, and its reply where that isn't left to the space.
+type Line = (Short, Option<Reply>);
 
 const CHUNK: Span = Span {
     first: 512,
@@ -65,8 +56,23 @@ const REST: Span = Span {
     pages: 507,
 };
 
+const ALIGNED: Span = Span {
+    first: 520,
+    pages: 504,
+};
+
 const SECOND: Span = Span {
     first: 517,
+    pages: 5,
+};
+
+const LAST: Span = Span {
+    first: 522,
+    pages: 502,
+};
+
+const THIRD: Span = Span {
+    first: 522,
     pages: 5,
 };
 
@@ -75,56 +81,9 @@ const TEN: Span = Span {
     pages: 10,
 };
 
-const LAST: Span = Span {
-    first: 522,
-    pages: 502,
-};
-
-const LAST_TEN: Span = Span {
-    first: 522,
-    pages: 10,
-};
-
-const NEXT: Span = Span {
-    first: 1024,
-    pages: 512,
-};
-
-const NEXT_FIVE: Span = Span {
-    first: 1024,
-    pages: 5,
-};
-
-const NEXT_REST: Span = Span {
-    first: 1029,
-    pages: 507,
-};
-
 const GROWN: Reply = Reply::Grown {
     span: CHUNK,
     committed: false,
-};
-
-const GROWN_COMMITTED: Reply = Reply::Grown {
-    span: CHUNK,
-    committed: true,
-};
-
-const GROWN_NEXT: Reply = Reply::Grown {
-    span: NEXT,
-    committed: false,
-};
-
-const TOOK: Reply = Reply::Took {
-    span: CHUNK,
-    committed: false,
-    skip: 0,
-};
-
-const TOOK_REST: Reply = Reply::Took {
-    span: REST,
-    committed: false,
-    skip: 0,
 };
 
 const LANDED: Reply = Reply::Landed {
@@ -132,16 +91,10 @@ const LANDED: Reply = Reply::Landed {
     count: 1,
 };
 
-const TOOK_COMMITTED: Reply = Reply::Took {
+const TOOK_REST: Reply = Reply::Took {
     span: REST,
-    committed: true,
-    skip: 0,
-};
-
-const TOOK_FIVE: Reply = Reply::Took {
-    span: FIVE,
-    committed: true,
-    skip: 0,
+    committed: false,
+    skip: 3,
 };
 
 const TOOK_TEN: Reply = Reply::Took {
@@ -150,217 +103,81 @@ const TOOK_TEN: Reply = Reply::Took {
     skip: 0,
 };
 
-const TOOK_LAST: Reply = Reply::Took {
-    span: LAST,
-    committed: true,
-    skip: 0,
-};
-
-const LANDED_SECOND: Reply = Reply::Landed {
-    first: 0x20_5000,
-    count: 1,
-};
-
-const LANDED_TENTH: Reply = Reply::Landed {
-    first: 0x20_a000,
-    count: 1,
-};
-
-const LANDED_NEXT: Reply = Reply::Landed {
-    first: 0x40_0000,
-    count: 1,
-};
-
 /// The class of 20480 bytes, which are 5 pages.
 const FIVE_CLASS: u8 = 37;
 
-/// The class of 40960 bytes, which are 10 pages.
-const TEN_CLASS: u8 = 41;
-
-/// The class of 2 MiB, a chunk.
-const CHUNK_CLASS: u8 = 64;
-
-const GROWTH: [Line; 51] = [
-    // Five pages of a new chunk, whose rest is retained.
-    Line::Start,
-    Line::Reply(Short::Look(5, 1), Reply::Grow),
-    Line::Bars(0, Short::Grow(0, 512, false, None)),
-    Line::Reply(Short::Grow(512, 512, false, None), GROWN),
-    Line::Counts(0, 0, 0, 2097152),
-    Line::Bars(0, Short::Cut(CHUNK, 512, Answer::Done)),
-    Line::Bars(0, Short::Cut(CHUNK, 0, Answer::Done)),
-    Line::Bars(1, Short::Cut(CHUNK, 5, Answer::Done)),
-    Line::Reply(Short::Cut(CHUNK, 5, Answer::Done), Reply::Cut(FIVE)),
-    Line::Bars(0, Short::Land(FIVE, FIVE_CLASS)),
-    Line::Bars(0, Short::Commit(CHUNK, Answer::Done)),
-    Line::Reply(Short::Commit(FIVE, Answer::Done), Reply::Noted),
-    Line::Bars(0, Short::Commit(FIVE, Answer::Done)),
-    Line::Bars(0, Short::Land(FIVE, CHUNK_CLASS)),
-    Line::Reply(Short::Land(FIVE, FIVE_CLASS), LANDED),
-    Line::Counts(20480, 0, 2076672, 0),
-    // The split of the rest is refused, so that it is put down whole, and the next chunk serves.
-    Line::Reply(Short::Look(5, 1), TOOK_REST),
-    Line::Reply(Short::Cut(REST, 5, Answer::Refused), Reply::Whole),
-    Line::Reply(Short::Grow(512, 1024, false, None), GROWN_NEXT),
-    Line::Reply(Short::Cut(NEXT, 5, Answer::Done), Reply::Cut(NEXT_FIVE)),
-    Line::Reply(Short::Commit(NEXT_FIVE, Answer::Done), Reply::Noted),
-    Line::Reply(Short::Land(NEXT_FIVE, FIVE_CLASS), LANDED_NEXT),
-    Line::Counts(40960, 0, 4153344, 0),
-    // The split of the grant is refused, so that all of it is retained, and serves the next request.
-    Line::Start,
-    Line::Reply(Short::Look(5, 1), Reply::Grow),
-    Line::Reply(Short::Grow(512, 512, false, None), GROWN),
-    Line::Reply(Short::Cut(CHUNK, 5, Answer::Refused), Reply::Whole),
-    Line::Counts(0, 0, 2097152, 0),
-    Line::Reply(Short::Look(5, 1), TOOK),
-    Line::Reply(Short::Cut(CHUNK, 5, Answer::Done), Reply::Cut(FIVE)),
-    Line::Reply(Short::Commit(FIVE, Answer::Done), Reply::Noted),
-    Line::Reply(Short::Land(FIVE, FIVE_CLASS), LANDED),
-    Line::Counts(20480, 0, 2076672, 0),
-    // A commit is refused, and the piece is put down.
-    Line::Reply(Short::Look(1, 1), TOOK_REST),
-    Line::Reply(Short::Commit(REST, Answer::Refused), Reply::Whole),
-    Line::Counts(20480, 0, 2076672, 0),
-    // A box that always answers the same page, and others that answer pages which can't be.
-    Line::Start,
-    Line::Bars(32, Short::Look(512, 1)),
-    Line::Bars(0, Short::Look(0, 1)),
-    Line::Bars(0, Short::Look(512, 3)),
-    Line::Reply(Short::Look(512, 1), Reply::Grow),
-    Line::Reply(
-        Short::Grow(512, 512, true, Some(1)),
-        Reply::Bad(Why::Meets(CHUNK)),
+/// A chunk grows and is cut. Hooks refuse, and answer pages that can't be.
+const GROWTH: [Line; 16] = [
+    (Short::Look(5, 1), Some(Reply::Grow)),
+    (Short::Stay, Some(Reply::Refused)),
+    (Short::Grow(0, true, None), Some(Reply::Bad(Why::OffSpace))),
+    (
+        Short::Grow(513, true, None),
+        Some(Reply::Bad(Why::Unaligned)),
     ),
-    Line::Reply(Short::Grow(512, 512, true, None), GROWN_COMMITTED),
-    Line::Reply(Short::Land(CHUNK, CHUNK_CLASS), LANDED),
-    Line::Reply(Short::Look(512, 1), Reply::Grow),
-    Line::Reply(
-        Short::Grow(512, 512, true, None),
-        Reply::Bad(Why::Meets(CHUNK)),
+    (
+        Short::Grow(512, true, Some(1)),
+        Some(Reply::Bad(Why::Meets(CHUNK))),
     ),
-    Line::Reply(
-        Short::Grow(512, 513, true, None),
-        Reply::Bad(Why::Unaligned),
+    (Short::Grow(512, false, None), Some(GROWN)),
+    (
+        Short::Cut(CHUNK, 5, true, Answer::Done),
+        Some(Reply::Cut(FIVE)),
     ),
-    Line::Reply(Short::Grow(512, 0, true, None), Reply::Bad(Why::OffSpace)),
-    Line::Reply(
-        Short::Grow(512, 33554176, true, None),
-        Reply::Bad(Why::OffSpace),
+    (Short::Commit(FIVE, Answer::Done), Some(Reply::Noted)),
+    (Short::Land(FIVE, FIVE_CLASS), Some(LANDED)),
+    (Short::Look(4, 4), Some(TOOK_REST)),
+    (
+        Short::Cut(REST, 3, false, Answer::Done),
+        Some(Reply::Cut(ALIGNED)),
     ),
-    Line::Reply(
-        Short::Grow(512, u64::MAX, true, None),
-        Reply::Bad(Why::OffSpace),
+    (
+        Short::Cut(ALIGNED, 4, true, Answer::Refused),
+        Some(Reply::Whole),
     ),
-    Line::Counts(2097152, 0, 0, 0),
+    (Short::Look(500, 1), None),
+    (Short::Commit(ALIGNED, Answer::Refused), Some(Reply::Whole)),
+    (Short::Look(512, 1), Some(Reply::Grow)),
+    (
+        Short::Grow(512, true, None),
+        Some(Reply::Bad(Why::Meets(CHUNK))),
+    ),
 ];
 
-const GIVEN_BACK: [Line; 34] = [
-    // One region is given back, and its extent is dirty; the retained one beside it isn't asked to merge.
-    Line::Start,
-    Line::Reply(Short::Grow(512, 512, true, None), GROWN_COMMITTED),
-    Line::Reply(Short::Cut(CHUNK, 5, Answer::Done), Reply::Cut(FIVE)),
-    Line::Reply(Short::Land(FIVE, FIVE_CLASS), LANDED),
-    Line::Bars(1, Short::Back(0x20_0000, 0x20_0000)),
-    Line::Bars(0, Short::Back(0x20_0008, 0x20_0008)),
-    Line::Bars(0, Short::Put(FIVE, 0)),
-    Line::Reply(Short::Back(0x20_0000, 0x20_0000), Reply::Next(Some(FIVE))),
-    Line::Counts(0, 0, 2076672, 20480),
-    Line::Bars(0, Short::Back(0x20_0000, 0x20_0000)),
-    Line::Bars(0, Short::Put(FIVE, 3)),
-    Line::Reply(Short::Put(FIVE, 0), Reply::Next(None)),
-    Line::Counts(0, 20480, 2076672, 0),
-    Line::Bars(0, Short::Back(0x20_0000, 0x20_0000)),
-    // Two regions are given back one after the other, and their extents are merged and serve a larger one.
-    Line::Start,
-    Line::Reply(Short::Grow(512, 512, true, None), GROWN_COMMITTED),
-    Line::Reply(Short::Cut(CHUNK, 5, Answer::Done), Reply::Cut(FIVE)),
-    Line::Reply(Short::Land(FIVE, FIVE_CLASS), LANDED),
-    Line::Reply(Short::Look(5, 1), TOOK_COMMITTED),
-    Line::Reply(Short::Cut(REST, 5, Answer::Done), Reply::Cut(SECOND)),
-    Line::Reply(Short::Land(SECOND, FIVE_CLASS), LANDED_SECOND),
-    Line::Reply(Short::Back(0x20_0000, 0x20_0000), Reply::Next(Some(FIVE))),
-    Line::Reply(Short::Put(FIVE, 0), Reply::Next(None)),
-    Line::Reply(Short::Back(0x20_5000, 0x20_5000), Reply::Next(Some(SECOND))),
-    Line::Bars(0, Short::Merge(FIVE, SECOND, Answer::Done, false)),
-    Line::Reply(Short::Put(SECOND, 0), Reply::Beside(FIVE)),
-    Line::Counts(0, 0, 2056192, 40960),
-    Line::Bars(0, Short::Merge(SECOND, FIVE, Answer::Done, true)),
-    Line::Reply(
+/// Three regions are given back, two of them at once. Two of their extents merge and serve a larger request.
+const GIVEN_BACK: [Line; 20] = [
+    (Short::Look(5, 1), Some(Reply::Grow)),
+    (Short::Grow(512, true, None), None),
+    (Short::Cut(CHUNK, 5, true, Answer::Done), None),
+    (Short::Land(FIVE, FIVE_CLASS), Some(LANDED)),
+    (Short::Look(5, 1), None),
+    (Short::Cut(REST, 5, true, Answer::Done), None),
+    (Short::Land(SECOND, FIVE_CLASS), None),
+    (Short::Look(5, 1), None),
+    (Short::Cut(LAST, 5, true, Answer::Done), None),
+    (Short::Land(THIRD, FIVE_CLASS), None),
+    (
+        Short::Back(0x20_0000, 0x20_a000),
+        Some(Reply::Next(Some(FIVE))),
+    ),
+    (Short::Put(FIVE, 0), Some(Reply::Next(Some(THIRD)))),
+    (Short::Put(THIRD, 0), Some(Reply::Next(None))),
+    (
+        Short::Back(0x20_5000, 0x20_5000),
+        Some(Reply::Next(Some(SECOND))),
+    ),
+    (Short::Put(SECOND, 0), Some(Reply::Beside(THIRD))),
+    (
+        Short::Merge(SECOND, THIRD, Answer::Refused, true),
+        Some(Reply::Joined(SECOND)),
+    ),
+    (Short::Put(SECOND, 1), Some(Reply::Beside(FIVE))),
+    (
         Short::Merge(FIVE, SECOND, Answer::Done, false),
-        Reply::Joined(TEN),
+        Some(Reply::Joined(TEN)),
     ),
-    Line::Reply(Short::Put(TEN, 2), Reply::Next(None)),
-    Line::Counts(0, 40960, 2056192, 0),
-    Line::Reply(Short::Look(10, 1), TOOK_TEN),
-    Line::Reply(Short::Land(TEN, TEN_CLASS), LANDED),
-    Line::Counts(40960, 0, 2056192, 0),
-];
-
-const KEPT_APART: [Line; 34] = [
-    // The same, but that the merge is refused: neither extent is large enough.
-    Line::Start,
-    Line::Reply(Short::Grow(512, 512, true, None), GROWN_COMMITTED),
-    Line::Reply(Short::Cut(CHUNK, 5, Answer::Done), Reply::Cut(FIVE)),
-    Line::Reply(Short::Land(FIVE, FIVE_CLASS), LANDED),
-    Line::Reply(Short::Look(5, 1), TOOK_COMMITTED),
-    Line::Reply(Short::Cut(REST, 5, Answer::Done), Reply::Cut(SECOND)),
-    Line::Reply(Short::Land(SECOND, FIVE_CLASS), LANDED_SECOND),
-    Line::Reply(Short::Back(0x20_0000, 0x20_0000), Reply::Next(Some(FIVE))),
-    Line::Reply(Short::Put(FIVE, 0), Reply::Next(None)),
-    Line::Reply(Short::Back(0x20_5000, 0x20_5000), Reply::Next(Some(SECOND))),
-    Line::Reply(Short::Put(SECOND, 0), Reply::Beside(FIVE)),
-    Line::Reply(
-        Short::Merge(FIVE, SECOND, Answer::Refused, false),
-        Reply::Joined(SECOND),
-    ),
-    Line::Counts(0, 20480, 2056192, 20480),
-    Line::Reply(Short::Put(SECOND, 2), Reply::Next(None)),
-    Line::Reply(Short::Look(10, 1), TOOK_LAST),
-    Line::Reply(Short::Cut(LAST, 10, Answer::Done), Reply::Cut(LAST_TEN)),
-    Line::Reply(Short::Land(LAST_TEN, TEN_CLASS), LANDED_TENTH),
-    Line::Counts(40960, 40960, 2015232, 0),
-    // Two regions are given back at once: their extents are in flight in order of address, and merge from the left.
-    Line::Start,
-    Line::Reply(Short::Grow(512, 512, true, None), GROWN_COMMITTED),
-    Line::Reply(Short::Cut(CHUNK, 5, Answer::Done), Reply::Cut(FIVE)),
-    Line::Reply(Short::Land(FIVE, FIVE_CLASS), LANDED),
-    Line::Reply(Short::Look(5, 1), TOOK_COMMITTED),
-    Line::Reply(Short::Cut(REST, 5, Answer::Done), Reply::Cut(SECOND)),
-    Line::Reply(Short::Land(SECOND, FIVE_CLASS), LANDED_SECOND),
-    Line::Bars(0, Short::Back(0x20_5000, 0x20_0000)),
-    Line::Reply(Short::Back(0x20_0000, 0x20_5000), Reply::Next(Some(FIVE))),
-    Line::Reply(Short::Put(FIVE, 0), Reply::Next(Some(SECOND))),
-    Line::Reply(Short::Put(SECOND, 1), Reply::Beside(FIVE)),
-    Line::Reply(
-        Short::Merge(FIVE, SECOND, Answer::Refused, true),
-        Reply::Joined(FIVE),
-    ),
-    Line::Reply(Short::Put(FIVE, 0), Reply::Beside(SECOND)),
-    Line::Reply(
-        Short::Merge(FIVE, SECOND, Answer::Done, true),
-        Reply::Joined(TEN),
-    ),
-    Line::Reply(Short::Put(TEN, 1), Reply::Next(None)),
-    Line::Counts(0, 40960, 2056192, 0),
-];
-
-const RETAINED: [Line; 12] = [
-    // Retained extents merge only where they are committed alike.
-    Line::Start,
-    Line::Reply(Short::Grow(512, 512, false, None), GROWN),
-    Line::Reply(Short::Cut(CHUNK, 5, Answer::Done), Reply::Cut(FIVE)),
-    Line::Reply(Short::Commit(FIVE, Answer::Done), Reply::Noted),
-    Line::Reply(Short::Put(FIVE, 0), Reply::Next(None)),
-    Line::Counts(0, 0, 2097152, 0),
-    Line::Reply(Short::Look(5, 1), TOOK_FIVE),
-    Line::Start,
-    Line::Reply(Short::Grow(512, 512, false, None), GROWN),
-    Line::Reply(Short::Cut(CHUNK, 5, Answer::Done), Reply::Cut(FIVE)),
-    Line::Reply(Short::Put(FIVE, 0), Reply::Beside(REST)),
-    Line::Reply(
-        Short::Merge(FIVE, REST, Answer::Done, true),
-        Reply::Joined(CHUNK),
-    ),
+    (Short::Put(TEN, 2), Some(Reply::Next(None))),
+    (Short::Look(10, 1), Some(TOOK_TEN)),
 ];
 
 /// The list of one address, or of two.
@@ -373,39 +190,43 @@ fn addresses_of(alloc: Global, first: u64, second: u64) -> Addresses {
     Addresses::new(addrs)
 }
 
+/// An alloc of a chunk, and its answer.
+fn chunk_heard(answer: Answer) -> Heard {
+    let ask = Ask::Alloc {
+        at: None,
+        pages: 512,
+        align: 512,
+        commit: false,
+    };
+    Heard { ask, answer }
+}
+
 /// The operation in full.
 fn op_of(alloc: Global, short: Short) -> Op {
     match short {
         Short::Look(pages, align) => Op::Look { pages, align },
-        Short::Grow(pages, first, committed, found) => Op::GrowDone {
-            heard: Heard {
-                ask: Ask::Alloc {
-                    at: None,
-                    pages,
-                    align: 512,
-                    commit: false,
-                },
-                answer: Answer::Placed {
-                    first,
-                    committed,
-                    zeroed: false,
-                },
-            },
+        Short::Grow(first, committed, found) => Op::GrowDone {
+            heard: chunk_heard(Answer::Placed {
+                first,
+                committed,
+                zeroed: false,
+            }),
             found,
         },
-        Short::Cut(span, left, answer) => Op::CutDone {
-            heard: Heard {
-                ask: Ask::Split { span, left },
-                answer,
-            },
-            keep_low: true,
+        Short::Stay => Op::GrowDone {
+            heard: chunk_heard(Answer::Refused),
+            found: None,
         },
-        Short::Commit(span, answer) => Op::CommitDone {
-            heard: Heard {
-                ask: Ask::Commit(span),
-                answer,
-            },
-        },
+        Short::Cut(span, left, keep_low, answer) => {
+            let ask = Ask::Split { span, left };
+            let heard = Heard { ask, answer };
+            Op::CutDone { heard, keep_low }
+        }
+        Short::Commit(span, answer) => {
+            let ask = Ask::Commit(span);
+            let heard = Heard { ask, answer };
+            Op::CommitDone { heard }
+        }
         Short::Land(span, class) => Op::Land {
             span,
             class,
@@ -415,18 +236,15 @@ fn op_of(alloc: Global, short: Short) -> Op {
             addrs: addresses_of(alloc, first, second),
         },
         Short::Put(span, tries) => Op::PutLook { span, tries },
-        Short::Merge(low, high, answer, own_low) => Op::MergeDone {
-            heard: Heard {
-                ask: Ask::Merge { low, high },
-                answer,
-            },
-            own_low,
-        },
+        Short::Merge(low, high, answer, own_low) => {
+            let ask = Ask::Merge { low, high };
+            let heard = Heard { ask, answer };
+            Op::MergeDone { heard, own_low }
+        }
     }
 }
 
-/// An operation that may stand is carried out in the arena and in the space, with one reply, and leaves the same counts
-/// and flights.
+/// An operation that may stand is carried out in the arena and in the space, with one reply, and leaves the same counts.
 fn carry_out(
     rt: &impl Abort,
     arena: &mut Arena,
@@ -448,27 +266,91 @@ fn carry_out(
     Ok(reply)
 }
 
-/// A look that nothing can serve makes room for the client.
-fn make_room(rt: &impl Abort, arena: &mut Arena, space: &mut Space, client: u32) -> Result<(), Fail>
+/// Whether an operation makes room for others.
+fn opens(op: &Op) -> bool
+    ensures { result ≡ opens op.now }
+{
+    matches!(op, Op::Look { .. } | Op::Back { .. })
+}
+
+/// Carries out a script. A look or a return makes room for 16 operations, of which each uses one up.
+fn replay(
+    rt: &impl Abort,
+    alloc: Global,
+    arena: &mut Arena,
+    space: &mut Space,
+    script: &[Line],
+) -> Result<(), Fail>
     requires same { arena.old.space ≡ space.old }
     requires sound { Sound space.old }
-    ensures same { OnOk result (arena.new.space ≡ space.new) }
-    ensures sound { Sound space.new }
-    ensures room { OnOk result (0 < room_of client arena.new.rooms) }
 {
-    let entry = Entry {
-        client,
-        op: Op::Look {
-            pages: 1 << 40,
-            align: 1,
-        },
-    };
-    assert!(rt; may_stand(space, &entry));
-    carry_out(rt, arena, space, &entry)?;
+    let mut room: u64 = 0;
+    for line in script {
+        let (short, wished) = *line;
+        let entry = Entry {
+            client: 0,
+            op: op_of(alloc, short),
+        };
+        let opens = opens(&entry.op);
+        assert!(rt; opens || room > 0);
+        assert!(rt; may_stand(space, &entry));
+        let reply = carry_out(rt, arena, space, &entry)?;
+        assert_eq!(rt; reply, wished.unwrap_or(reply));
+        room = if opens { room.max(16) } else { room - 1 };
+    }
     Ok(())
 }
 
-/// The operation, if it may stand, in both.
+/// What is read of an arena that has just the first chunk, with these bytes dirty, retained and in flight.
+fn read(rt: &impl Abort, arena: &Arena, bytes: (u64, u64, u64)) -> Result<(), Fail> {
+    let counts = arena.counts();
+    assert_eq!(rt; (counts.dirty, counts.retained, counts.flight), bytes);
+    assert!(rt; arena.owns_chunk(1) && !arena.owns_chunk(2));
+    assert!(rt; arena.holds_page(1023) && !arena.holds_page(1024));
+    assert_eq!(rt; arena.life(), Life::Live);
+    assert_eq!(rt; arena.box_no(), 0);
+    assert_eq!(rt; arena.times(), (10000, 0));
+    Ok(())
+}
+
+/// Carries out a script in an arena that begins, and reads what it leaves.
+fn play(
+    rt: &impl Abort,
+    alloc: Global,
+    script: &[Line],
+    bytes: (u64, u64, u64),
+) -> Result<(), Fail> {
+    let mut arena = Arena::new(alloc, Space::first(alloc))?;
+    let mut space = Space::first(alloc);
+    replay(rt, alloc, &mut arena, &mut space, script)?;
+    read(rt, &arena, bytes)
+}
+
+#[test]
+fn extents_grow_and_are_cut(rt: HostRuntime) -> Result<(), Fail> {
+    play(&rt, rt.alloc(), GROWTH.as_slice(), (0, 2076672, 0))
+}
+
+#[test]
+fn regions_are_given_back_and_their_extents_merge(rt: HostRuntime) -> Result<(), Fail> {
+    play(
+        &rt,
+        rt.alloc(),
+        GIVEN_BACK.as_slice(),
+        (20480, 2035712, 40960),
+    )
+}
+
+#[test]
+fn an_index_without_an_arena_serves_nobody(rt: HostRuntime) -> Result<(), Fail> {
+    let alloc = rt.alloc();
+    let mut arena = Arena::new(alloc, Space::absent(alloc))?;
+    let mut space = Space::absent(alloc);
+    let script = [(Short::Look(5, 1), Some(Reply::NoArena))];
+    replay(&rt, alloc, &mut arena, &mut space, script.as_slice())
+}
+
+/// The operation of a client, if it may stand. A look that nothing can serve makes room for it.
 fn attempt(
     rt: &impl Abort,
     arena: &mut Arena,
@@ -480,112 +362,20 @@ fn attempt(
     ensures same { OnOk result (arena.new.space ≡ space.new) }
     ensures sound { Sound space.new }
 {
-    make_room(rt, arena, space, entry.client)?;
+    let look = Entry {
+        client: entry.client,
+        op: Op::Look {
+            pages: 1 << 40,
+            align: 1,
+        },
+    };
+    assert!(rt; may_stand(space, &look));
+    carry_out(rt, arena, space, &look)?;
     if !may_stand(space, entry) {
         return Ok(None);
     }
     let reply = carry_out(rt, arena, space, entry)?;
     Ok(Some(reply))
-}
-
-/// Carries out a line of the script, and says whether what it tells is so.
-fn follow(
-    rt: &impl Abort,
-    alloc: Global,
-    arena: &mut Arena,
-    space: &mut Space,
-    line: Line,
-) -> Result<bool, Fail>
-    requires same { arena.old.space ≡ space.old }
-    requires sound { Sound space.old }
-    ensures same { OnOk result (arena.new.space ≡ space.new) }
-    ensures sound { Sound space.new }
-{
-    let as_wished = match line {
-        Line::Reply(short, reply) => {
-            let entry = Entry {
-                client: 0,
-                op: op_of(alloc, short),
-            };
-            attempt(rt, arena, space, &entry)? == Some(reply)
-        }
-        Line::Counts(allocated, dirty, retained, flight) => {
-            let counts = arena.counts();
-            (
-                counts.allocated,
-                counts.dirty,
-                counts.retained,
-                counts.flight,
-            ) == (allocated, dirty, retained, flight)
-        }
-        Line::Start | Line::Bars(..) => true,
-    };
-    Ok(as_wished)
-}
-
-/// Carries out the lines up to the next start.
-fn play_on(
-    rt: &impl Abort,
-    alloc: Global,
-    arena: &mut Arena,
-    space: &mut Space,
-    lines: &[Line],
-) -> Result<(), Fail>
-    requires same { arena.old.space ≡ space.old }
-    requires sound { Sound space.old }
-{
-    for line in lines {
-        if matches!(*line, Line::Start) {
-            return Ok(());
-        }
-        let as_wished = follow(rt, alloc, arena, space, *line)?;
-        assert!(rt; as_wished);
-    }
-    Ok(())
-}
-
-/// Carries out the lines up to the next start in an arena that begins.
-fn play(rt: &impl Abort, alloc: Global, lines: &[Line]) -> Result<(), Fail> {
-    let mut arena = Arena::new(alloc, Space::first(alloc))?;
-    let mut space = Space::first(alloc);
-    play_on(rt, alloc, &mut arena, &mut space, lines)
-}
-
-/// Carries out a script, from each start on.
-fn play_all(rt: &impl Abort, alloc: Global, script: &[Line]) -> Result<(), Fail> {
-    for (number, line) in script.iter().enumerate() {
-        if matches!(*line, Line::Start) {
-            play(rt, alloc, &script[number + 1..])?;
-        }
-    }
-    Ok(())
-}
-
-#[test]
-fn extents_grow_and_are_cut(rt: HostRuntime) -> Result<(), Fail> {
-    play_all(&rt, rt.alloc(), GROWTH.as_slice())
-}
-
-#[test]
-fn regions_are_given_back_and_their_extents_merge(rt: HostRuntime) -> Result<(), Fail> {
-    play_all(&rt, rt.alloc(), GIVEN_BACK.as_slice())
-}
-
-#[test]
-fn a_refused_merge_keeps_two_extents(rt: HostRuntime) -> Result<(), Fail> {
-    play_all(&rt, rt.alloc(), KEPT_APART.as_slice())
-}
-
-#[test]
-fn retained_extents_merge_where_they_are_committed_alike(rt: HostRuntime) -> Result<(), Fail> {
-    play_all(&rt, rt.alloc(), RETAINED.as_slice())
-}
-
-/// The next state of a linear congruential generator.
-fn next_state(state: u64) -> u64 {
-    state
-        .wrapping_mul(6364136223846793005)
-        .wrapping_add(1442695040888963407)
 }
 
 /// One operation of many, of an extent in flight or of a region at an address.
@@ -597,8 +387,8 @@ fn random_short(number: u64, flight: Span, addr: u64) -> Short {
     };
     match number / 8 % 8 {
         0 | 1 => Short::Look(number / 64 % 12 + 1, 1),
-        2 => Short::Grow(512, 512 * (1 + number / 64 % 40), number % 2 == 0, None),
-        3 => Short::Cut(flight, 5, answer),
+        2 => Short::Grow(512 * (1 + number / 64 % 40), number % 2 == 0, None),
+        3 => Short::Cut(flight, 5, number % 3 != 0, answer),
         4 => Short::Commit(flight, answer),
         5 => Short::Land(flight, FIVE_CLASS),
         6 => Short::Back(addr, addr),
@@ -617,12 +407,12 @@ fn some_address(space: &Space, number: u64) -> u64 {
     found
 }
 
-/// The answer to a merge of two extents beside each other.
-fn merge_of(own: Span, other: Span, answer: Answer) -> Short {
+/// The merge of two extents beside each other.
+fn merge_of(own: Span, other: Span) -> Short {
     if own.first < other.first {
-        Short::Merge(own, other, answer, true)
+        Short::Merge(own, other, Answer::Done, true)
     } else {
-        Short::Merge(other, own, answer, false)
+        Short::Merge(other, own, Answer::Done, false)
     }
 }
 
@@ -641,21 +431,18 @@ fn random_turn(
     ensures sound { Sound space.new }
 {
     let flight = arena.next_flight(client).unwrap_or(CHUNK);
-    let op = op_of(
-        alloc,
-        random_short(number, flight, some_address(space, number)),
-    );
+    let short = random_short(number, flight, some_address(space, number));
+    let op = op_of(alloc, short);
     let reply = attempt(rt, arena, space, &Entry { client, op })?;
     if let Some(Reply::Beside(other)) = reply {
-        let op = op_of(alloc, merge_of(flight, other, Answer::Done));
+        let op = op_of(alloc, merge_of(flight, other));
         attempt(rt, arena, space, &Entry { client, op })?;
-        return Ok(2);
     }
     Ok(u64::from(reply.is_some()))
 }
 
 /// So many random operations of three clients. The answer is how many stood.
-fn turn_on(
+fn random_turns(
     rt: &impl Abort,
     alloc: Global,
     arena: &mut Arena,
@@ -665,10 +452,13 @@ fn turn_on(
     requires same { arena.old.space ≡ space.old }
     requires sound { Sound space.old }
 {
-    let mut state = 1;
+    let mut state: u64 = 1;
     let mut stood: u64 = 0;
     for turn in 0..turns {
-        state = next_state(state ^ turn);
+        // A linear congruential generator, of which the high bits are taken.
+        state = (state ^ turn)
+            .wrapping_mul(6364136223846793005)
+            .wrapping_add(1442695040888963407);
         let client = (state >> 60) as u32 % 3;
         let told = random_turn(rt, alloc, arena, space, client, state >> 30)?;
         stood = stood.saturating_add(told);
@@ -676,16 +466,12 @@ fn turn_on(
     Ok(stood)
 }
 
-/// The same in an arena that begins.
-fn random_turns(rt: &impl Abort, alloc: Global, turns: u64) -> Result<u64, Fail> {
-    let mut arena = Arena::new(alloc, Space::first(alloc))?;
-    let mut space = Space::first(alloc);
-    turn_on(rt, alloc, &mut arena, &mut space, turns)
-}
-
 #[test]
 fn random_operations_are_carried_out_as_by_scans(rt: HostRuntime) -> Result<(), Fail> {
-    let stood = random_turns(&rt, rt.alloc(), 600)?;
+    let alloc = rt.alloc();
+    let mut arena = Arena::new(alloc, Space::first(alloc))?;
+    let mut space = Space::first(alloc);
+    let stood = random_turns(&rt, alloc, &mut arena, &mut space, 600)?;
     assert!(rt; stood > 300, "{stood} stood");
     Ok(())
 }

@@ -1,6 +1,6 @@
 use Rattle.std.proofs.Common.{◌≡◌}
 use Rattle.space_model.specs.Sound.{Sound}
-use Rattle.arena_core.proofs.tests.turn_on.Given as goal
+use Rattle.arena_core.proofs.tests.random_turns.Given as goal
 
 -- the arena stays as the space, which is sound
 abbrev pub invariant-loop-turn : goal.invariant-loop-turn
