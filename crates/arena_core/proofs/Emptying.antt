@@ -285,16 +285,29 @@ given_parts c addr s p e b is =
     let regions = staying c (addr ∷ []) s.regions in
     one_exchanged c (is_emptied regions) s.parts p b (subst (λ x. All (λ q. is_emptied regions q ≡ (begins_at p.span.first q && x)) s.parts) is e.each) e.alone
 
--- The same, as a program reads it: some extent was found at the address, and some region begins in it or none does.
-pub given_found : (c addr : ℕ) (s : Space) (p : Part) (o : Option Part) (within : Bool) → Sound s → holds_at c s.regions addr ≡ true →
-    o ≡ find (λ q. has_page (addr / 4096) q.span) s.parts → o ≡ Some p →
-    within ≡ list_any (begins_within (4096 * p.span.first) (4096 * p.span.first + 4096 * p.span.pages)) (staying c (addr ∷ []) s.regions) →
-    (length (filter (is_emptied (staying c (addr ∷ []) s.regions)) s.parts) ≡ ones (not within))
-    × ((after_back s c (addr ∷ [])).after.parts ≡ cond (not within) (exchanged (begins_at p.span.first) s.parts (taken_out c p ∷ [])) s.parts)
-given_found c addr s p o within sound held searched found answer =
+-- ---- as a program reads it, which found an extent at the address, and asked whether one of the regions that stay begins in it
+
+-- what was found lies in the space
+pub found_placed : {o : Option Part} {p : Part} (test : Part → Bool) (s : Space) → Sound s → o ≡ find test s.parts → o ≡ Some p → IsPlaced p.span
+found_placed {o} {p} test s sound searched found = find_has (λ q. IsPlaced q.span) test s.parts p sound.placed (sym searched ∙ found)
+
+-- What the return then comes to: how many extents are emptied, and the extents afterwards.
+pub record Gives (c addr : ℕ) (s : Space) (p : Part) (within : Bool) : Type 0 where
+  pub count : ones (not within) ≡ length (filter (is_emptied (staying c (addr ∷ []) s.regions)) s.parts)
+  pub parts : cond (not within) (exchanged (begins_at p.span.first) s.parts (taken_out c p ∷ [])) s.parts ≡ (after_back s c (addr ∷ [])).after.parts
+
+pub gives : {o : Option Part} {p : Part} {regions : List Region} {within : Bool} (c addr : ℕ) (s : Space) → Sound s → holds_at c s.regions addr ≡ true →
+    o ≡ find (λ q. has_page (addr / 4096) q.span) s.parts → o ≡ Some p → regions ≡ staying c (addr ∷ []) s.regions →
+    within ≡ list_any (begins_within (4096 * p.span.first) (4096 * p.span.first + 4096 * p.span.pages)) regions → Gives c addr s p within
+gives {o} {p} {regions} {within} c addr s sound held searched found stay answer =
     let e = empties c addr s sound held in
     let both : Some e.0 ≡ Some p = sym e.1.found ∙ sym searched ∙ found in
     let same : e.0 ≡ p = cc in
     let at : Empties c addr s p = subst (Empties c addr s) same e.1 in
-    let parts = given_parts c addr s p at (not within) (ap not (at.within ∙ sym answer)) in
-    (ap length parts.0 ∙ elim within as (λ b. length (cond (not b) (p ∷ []) []) ≡ ones (not b)) [ true ↦ refl | false ↦ refl ], parts.1)
+    let asked = answer ∙ ap (list_any (begins_within (4096 * p.span.first) (4096 * p.span.first + 4096 * p.span.pages))) stay in
+    let parts = given_parts c addr s p at (not within) (ap not (at.within ∙ sym asked)) in
+    record { count = sym (ap length parts.0 ∙ counted (not within)); parts = sym parts.1 }
+  where
+    counted : (b : Bool) → length (cond b (p ∷ []) []) ≡ ones b
+    counted true = refl
+    counted false = refl

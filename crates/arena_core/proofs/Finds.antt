@@ -1,5 +1,5 @@
 -- What searches find among extents that are apart.
-use Rattle.std.proofs.Common.{◌≡◌, ℕ, ◌-◌, ◌≤◌, Bool, true, false, cond, List, [], ◌∷◌, get_or, find, filter, Option, None, Some, IfSome, refl, sym, ◌∙◌, ap, arith, All, ◌&&◌, eqb}
+use Rattle.std.proofs.Common.{◌≡◌, ℕ, ◌-◌, ◌≤◌, Bool, true, false, cond, List, [], ◌∷◌, get_or, find, filter, Option, None, Some, IfSome, refl, sym, ◌∙◌, ap, subst, arith, All, ◌&&◌, eqb}
 use Rattle.std.specs.List.{count_by}
 use Rattle.std.specs.Option.{option_or}
 use Rattle.std.proofs.lemmas.Bool.Decides.{nat_tests}
@@ -14,7 +14,7 @@ use Rattle.space_model.specs.Step.{is_left_of, is_like, is_right_of}
 use Rattle.space_model.proofs.Exchange.{filter-begins_at}
 use Rattle.space_model.proofs.Idle.{some_pages}
 use Rattle.space_model.proofs.Pieces.{fit-listed}
-use Rattle.part_book.specs.Books.{ends_at, is_beside}
+use Rattle.part_book.specs.Books.{Book, ends_at, is_beside}
 use Rattle.arena_core.specs.Extents.{IsApart, IsThere, kept}
 
 -- ---- what is found is there
@@ -34,9 +34,18 @@ pub search_there : (parts : List Part) (test : Part → Bool) (o : Option Part) 
 search_there parts test None apart e = tt
 search_there parts test (Some p) apart e = found_there parts test p apart (sym e)
 
-pub fit_there : (parts : List Part) (pages align : ℕ) (o : Option Part) → IsApart parts → o ≡ fit pages align parts → IfSome o (IsThere parts)
-fit_there parts pages align None apart e = tt
-fit_there parts pages align (Some p) apart e = let l = fit-listed pages align parts p (sym e) in found_there parts l.test p apart l.found
+-- ---- as functions cite them, of a book that callers see as `now`
+
+-- what a search found is there
+pub found_inside : {b now : Book} {o : Option Part} (test : Part → Bool) → b ≡ now → IsApart b.parts → o ≡ find test b.parts → IfSome o (IsThere now.parts)
+found_inside {b} {now} {o} test view apart e = subst (λ (x : Book). IfSome o (IsThere x.parts)) view (search_there b.parts test o apart e)
+
+pub fit_inside : {b now : Book} {o : Option Part} (pages align : ℕ) → b ≡ now → IsApart b.parts → o ≡ fit pages align b.parts → IfSome o (IsThere now.parts)
+fit_inside {b} {now} {o} pages align view apart e = subst (λ (x : Book). IfSome o (IsThere x.parts)) view (there o e)
+  where
+    there : (o : Option Part) → o ≡ fit pages align b.parts → IfSome o (IsThere b.parts)
+    there None e = tt
+    there (Some p) e = let l = fit-listed pages align b.parts p (sym e) in found_there b.parts l.test p apart l.found
 
 -- what either of two searches finds is there
 pub either_there : (parts : List Part) (o u : Option Part) → IfSome o (IsThere parts) → IfSome u (IsThere parts) → IfSome (option_or o u) (IsThere parts)
@@ -94,13 +103,23 @@ ends_once page parts apart =
     let has : (p : Part) → IsPlaced p.span → ends_at page p ≡ true → has_page (page - 1) p.span ≡ true = λ p placed h. let some = placed.0 in grind (arith, nat_tests) in
     omega (arith, apart.owners (page - 1), fewer_pass (ends_at page) (λ p. has_page (page - 1) p.span) parts (λ k d h. has (get_or parts k d) (apart.placed k d h)))
 
+-- What was found inside by one test, and kept if it passes another, is what a search by both finds, and is there.
+pub record Kept (got : Option Part) (both : Part → Bool) (now : Book) : Type 0 where
+  pub found : got ≡ find both now.parts
+  pub there : IfSome got (IsThere now.parts)
+
+kept_inside : {b now : Book} {near got : Option Part} (a t both : Part → Bool) → b ≡ now → IsApart b.parts → count_by t b.parts ≤ 1 → ((p : Part) → (a p && t p) ≡ both p) →
+    near ≡ find t b.parts → got ≡ kept a near → Kept got both now
+kept_inside {b} {now} {near} {got} a t both view apart once same near_is got_is =
+    let found : got ≡ find both b.parts = got_is ∙ ap (kept a) near_is ∙ sym (only_find a t b.parts once) ∙ (λ i. find (λ p. same p i) b.parts) in
+    record { found = found ∙ ap (λ (x : Book). find both x.parts) view; there = found_inside both view apart found }
+
 -- a client's extent in flight is the one at its first page, if that is the client's and as long
-pub flight_is : (client : ℕ) (s : Span) (parts : List Part) → IsApart parts →
-    kept (λ p. is_flight client p.state && eqb p.span.pages s.pages) (find (begins_at s.first) parts) ≡ find (is_flight_at client s) parts
-flight_is client s parts apart =
-    let same : (p : Part) → ((is_flight client p.state && eqb p.span.pages s.pages) && begins_at s.first p) ≡ is_flight_at client s p =
-    λ p. three (is_flight client p.state) (eqb p.span.pages s.pages) (begins_at s.first p) in
-    sym (only_find (λ p. is_flight client p.state && eqb p.span.pages s.pages) (begins_at s.first) parts (begins_once s.first parts apart)) ∙ (λ i. find (λ p. same p i) parts)
+pub flight_inside : {b now : Book} {near got : Option Part} (client : ℕ) (s : Span) → b ≡ now → IsApart b.parts → near ≡ find (begins_at s.first) b.parts →
+    got ≡ kept (λ p. is_flight client p.state && eqb p.span.pages s.pages) near → Kept got (is_flight_at client s) now
+flight_inside {b} client s view apart =
+    kept_inside (λ p. is_flight client p.state && eqb p.span.pages s.pages) (begins_at s.first) (is_flight_at client s) view apart (begins_once s.first b.parts apart)
+    (λ p. three (is_flight client p.state) (eqb p.span.pages s.pages) (begins_at s.first p))
   where
     three : (a b c : Bool) → ((a && b) && c) ≡ (a && (c && b))
     three true true true = refl
@@ -110,8 +129,12 @@ flight_is client s parts apart =
     three false b c = refl
 
 -- a neighbour that a merge may join is the extent beside, if it is alike
-pub right_is : (p : Part) (parts : List Part) → IsApart parts → kept (is_like p) (find (is_beside p.span true) parts) ≡ find (is_right_of p) parts
-right_is p parts apart = sym (only_find (is_like p) (begins_at (end_of p.span)) parts (begins_once (end_of p.span) parts apart))
+pub right_inside : {b now : Book} {near got : Option Part} (p : Part) → b ≡ now → IsApart b.parts → near ≡ find (is_beside p.span true) b.parts →
+    got ≡ kept (is_like p) near → Kept got (is_right_of p) now
+right_inside {b} p view apart =
+    kept_inside (is_like p) (is_beside p.span true) (is_right_of p) view apart (begins_once (end_of p.span) b.parts apart) (λ q. refl)
 
-pub left_is : (p : Part) (parts : List Part) → IsApart parts → kept (is_like p) (find (is_beside p.span false) parts) ≡ find (is_left_of p) parts
-left_is p parts apart = sym (only_find (is_like p) (ends_at p.span.first) parts (ends_once p.span.first parts apart))
+pub left_inside : {b now : Book} {near got : Option Part} (p : Part) → b ≡ now → IsApart b.parts → near ≡ find (is_beside p.span false) b.parts →
+    got ≡ kept (is_like p) near → Kept got (is_left_of p) now
+left_inside {b} p view apart =
+    kept_inside (is_like p) (is_beside p.span false) (is_left_of p) view apart (ends_once p.span.first b.parts apart) (λ q. refl)

@@ -20,7 +20,7 @@ use Rattle.space_model.specs.declared.parts.Region.{Region}
 use Rattle.space_model.specs.Region.{inserted, is_held_by}
 use Rattle.space_model.specs.Step.{is_given_back, staying, holds_at}
 use Rattle.space_model.specs.Counts.{region_bytes}
-use Rattle.arena_core.specs.RegionLists.{RegionList, begins_within, code_of, holder_of, key_of, region_of}
+use Rattle.arena_core.specs.RegionLists.{begins_within, code_of, holder_of, key_of, region_of}
 
 -- a region is that of its key
 pub region_is : (r : Region) → r.class < 121 → region_of (key_of r) ≡ r
@@ -233,15 +233,6 @@ take_is c addr (k ∷ ks) ascending alone held =
         let ones : Bool → ℕ = λ b. cond b 1 0 in let one : ones (is_at addr (region_of x)) ≡ 1 = ap ones here in omega (arith, sums, one, none) in
         (omega (arith, le, ne, e), all_later k xs addr e less.1 (omega (arith, sums, none)))
 
--- the key that was found is the one that is taken
-pub taken_key : (c addr : ℕ) (ks : List Key) (s : RegionList) (key : Key) (o : Option Key) → IsAscending ks → map region_of ks ≡ s.regions →
-    count_by (is_at addr) s.regions ≤ 1 → holds_at c s.regions addr ≡ true → o ≡ find (is_from (start addr)) ks → o ≡ Some key → Taken c addr ks key
-taken_key c addr ks s key o ascending view alone held searched found =
-    let t = take_is c addr ks ascending (subst (λ (rs : List Region). count_by (is_at addr) rs ≤ 1) (sym view) alone)
-    (ap (λ (rs : List Region). holds_at c rs addr) view ∙ held) in
-    let both : Some t.0 ≡ Some key = sym t.1.found ∙ sym searched ∙ found in
-    let same : t.0 ≡ key = cc in subst (Taken c addr ks) same t.1
-
 -- where no region begins at an address, no key has it
 pub free_keys : (addr : ℕ) (ks : List Key) → list_any (is_at addr) (map region_of ks) ≡ false → Every (λ k. k.major ≢ addr) ks
 free_keys addr [] none = tt
@@ -264,19 +255,35 @@ inserted_is r ks new key with_it is small ascending none =
 pub bytes_with : (r : Region) (rs : List Region) → region_bytes (inserted r rs) ≡ region_bytes rs + size_at r.class
 bytes_with r rs = sum_by-insert (λ (q : Region). size_at q.class) rs (position_or_len (λ (q : Region). nat_lt r.addr q.addr) rs) r
 
--- the bytes of the regions that stay, and those of the region that goes
-pub bytes_without : (c addr : ℕ) (ks : List Key) (key : Key) → Taken c addr ks key →
-    region_bytes (map region_of (without_key ks key)) + size_at (region_of key).class ≡ region_bytes (map region_of ks)
-bytes_without c addr ks key t =
-    let given = is_given_back c (addr ∷ []) in
-    let bytes : Region → ℕ = λ r. size_at r.class in
-    let rs : List Region = map region_of ks in
-    let kept : region_bytes (map region_of (without_key ks key)) ≡ sum_by bytes (filter (λ r. not (given r)) rs) = ap region_bytes t.kept in
-    let gone : sum_by bytes (filter given rs) ≡ sum_by bytes (region_of key ∷ []) = ap (sum_by bytes) t.gone in
-    omega (arith, kept, gone, sum_by-cons bytes (region_of key) [], sum_by-filter_both given (λ r. not (given r)) (λ _. refl) bytes rs)
+-- ---- as functions cite them, of keys whose regions are `rs`
 
--- what is true of each region is true of the one that is taken
-pub taken_has : (P : Region → Type 0) (c addr : ℕ) (ks : List Key) (key : Key) → Taken c addr ks key → All P (map region_of ks) → P (region_of key)
-taken_has P c addr ks key t all =
-    let one : All P (filter (is_given_back c (addr ∷ [])) (map region_of ks)) = All-filter (is_given_back c (addr ∷ [])) P (map region_of ks) all in
-    All-head P (region_of key) [] (subst (All P) t.gone one)
+pub take_inside : {ks : List Key} {rs : List Region} (c addr : ℕ) → IsAscending ks → map region_of ks ≡ rs → count_by (is_at addr) rs ≤ 1 → holds_at c rs addr ≡ true →
+    (key : Key) × Taken c addr ks key
+take_inside {ks} c addr ascending view alone held =
+    take_is c addr ks ascending (subst (λ (xs : List Region). count_by (is_at addr) xs ≤ 1) (sym view) alone) (ap (λ (xs : List Region). holds_at c xs addr) view ∙ held)
+
+-- What the key that was found at the address of a client's region is.
+pub record Goes (c addr : ℕ) (ks : List Key) (rs : List Region) (key : Key) : Type 0 where
+  pub has : Contains ks key
+  pub class : (region_of key).class < 121
+  pub kept : map region_of (without_key ks key) ≡ staying c (addr ∷ []) rs
+  pub bytes : region_bytes (map region_of (without_key ks key)) + size_at (region_of key).class ≡ region_bytes (map region_of ks)
+
+pub goes : {ks : List Key} {rs : List Region} {o : Option Key} {key : Key} (c addr : ℕ) → IsAscending ks → map region_of ks ≡ rs → count_by (is_at addr) rs ≤ 1 →
+    holds_at c rs addr ≡ true → All (λ r. r.class < 121) rs → o ≡ find (is_from (start addr)) ks → o ≡ Some key → Goes c addr ks rs key
+goes {ks} {rs} {o} {key} c addr ascending view alone held classes searched found =
+    let first = take_inside c addr ascending view alone held in
+    let both : Some first.0 ≡ Some key = sym first.1.found ∙ sym searched ∙ found in
+    let same : first.0 ≡ key = cc in
+    let t = subst (Taken c addr ks) same first.1 in
+    let given = is_given_back c (addr ∷ []) in
+    let size : Region → ℕ = λ r. size_at r.class in
+    let kept : region_bytes (map region_of (without_key ks key)) ≡ sum_by size (filter (λ r. not (given r)) (map region_of ks)) = ap region_bytes t.kept in
+    let gone : sum_by size (filter given (map region_of ks)) ≡ sum_by size (region_of key ∷ []) = ap (sum_by size) t.gone in
+    let one : All (λ r. r.class < 121) (filter given (map region_of ks)) =
+    All-filter given (λ r. r.class < 121) (map region_of ks) (subst (All (λ r. r.class < 121)) (sym view) classes) in record {
+      has = t.has;
+      class = All-head (λ r. r.class < 121) (region_of key) [] (subst (All (λ r. r.class < 121)) t.gone one);
+      kept = t.kept ∙ ap (staying c (addr ∷ [])) view;
+      bytes = omega (arith, kept, gone, sum_by-cons size (region_of key) [], sum_by-filter_both given (λ r. not (given r)) (λ _. refl) size (map region_of ks));
+    }

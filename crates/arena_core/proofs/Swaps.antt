@@ -1,7 +1,7 @@
 -- Extents that are apart stay apart, with sums that are known, where one or two of them are exchanged.
-use Rattle.std.proofs.Common.{◌≡◌, ◌≢◌, ℕ, ◌+◌, ◌-◌, ◌<◌, ◌≤◌, Bool, true, false, not, cond, List, [], ◌∷◌, ◌++◌, find, filter, Option, Some, IfSome, refl, sym, ◌∙◌, ap, subst, arith, All, append_assoc, inl, inr, ◌⊎◌}
+use Rattle.std.proofs.Common.{◌≡◌, ◌≢◌, ℕ, ◌+◌, ◌-◌, ◌<◌, ◌≤◌, Bool, true, false, not, cond, List, [], ◌∷◌, ◌++◌, find, filter, Option, Some, IfSome, refl, sym, ◌∙◌, ap, subst, arith, All, append_assoc, inl, inr}
 use Rattle.std.specs.List.{count_by, list_any, sum_by}
-use Rattle.std.proofs.lemmas.Bool.{cases_Bool, cases_order}
+use Rattle.std.proofs.lemmas.Bool.{cases_Bool, cases_lt}
 use Rattle.std.proofs.lemmas.Bool.Decides.{nat_tests}
 use Rattle.std.proofs.lemmas.List.Sums.{sum_by-append, sum_by-cons, sum_by-le-sum_by}
 use Rattle.std.proofs.lemmas.List.Elements.{All-append, All-cons, All-head, All-nil, All-tail, All-weaker, filter-append}
@@ -15,7 +15,7 @@ use Rattle.space_model.proofs.Exchange.{All-exchanged, filter-begins_at, filter_
 use Rattle.space_model.proofs.Idle.{some_pages}
 use Rattle.space_model.proofs.Pieces.{put_down-idle}
 use Rattle.space_model.proofs.Intervals.{lengths-le}
-use Rattle.part_book.specs.Books.{AreAlike}
+use Rattle.part_book.specs.Books.{AreAlike, Book}
 use Rattle.arena_core.specs.Extents.{IsApart, IsThere, active_pages, all_pages}
 use Rattle.arena_core.proofs.Finds.{begins_once}
 
@@ -29,6 +29,10 @@ serving p = cond (is_active p.state) p.span.pages 0
 -- an extent that is there lies in the space
 pub there_placed : (parts : List Part) (p : Part) → IsApart parts → IsThere parts p → IsPlaced p.span
 there_placed parts p apart there = find_has (λ q. IsPlaced q.span) (begins_at p.span.first) parts p apart.placed there
+
+-- what callers name is there inside
+pub there_inside : {b now : Book} (p : Part) → b ≡ now → IsThere now.parts p → IsThere b.parts p
+there_inside p view there = subst (λ (x : Book). IsThere x.parts p) (sym view) there
 
 -- it is no more than the sum, and the sum no more than the space
 pub within_sum : (f : Part → ℕ) (parts : List Part) (p : Part) → IsThere parts p → f p ≤ sum_by f parts
@@ -158,13 +162,10 @@ added_apart parts p apart placed owners = record {
 
 -- two spans that aren't empty and meet have a page in common
 common_page : (s t : Span) → 0 < s.pages → 0 < t.pages → meets s t ≡ true → (page : ℕ) × (has_page page s ≡ true) × (has_page page t ≡ true)
-common_page s t some other h = elim (leb-total s.first t.first) [
-  | inl le ↦ (t.first, grind (arith, nat_tests), grind (arith, nat_tests))
+common_page s t some other h = elim (cases_lt s.first t.first) [
+  | inl less ↦ (t.first, grind (arith, nat_tests), grind (arith, nat_tests))
   | inr ge ↦ (s.first, grind (arith, nat_tests), grind (arith, nat_tests))
 ]
-  where
-    leb-total : (m n : ℕ) → (m ≤ n) ⊎ (n ≤ m)
-    leb-total m n = elim (cases_order m n) [ inl e ↦ inl (omega arith) | inr o ↦ elim o [ inl l ↦ inl (omega arith) | inr g ↦ inr (omega arith) ] ]
 
 -- where no page would be in two, none of the extents meets the new one
 pub none_meets : (parts : List Part) (p : Part) → All (λ q. IsPlaced q.span) parts → 0 < p.span.pages → ((page : ℕ) → holders page parts + share page p ≤ 1) →

@@ -1,48 +1,56 @@
-use Rattle.std.proofs.Common.{◌≡◌, ◌+◌, ◌-◌, ◌*◌, arith}
+use Rattle.std.proofs.Common.{◌≡◌, ℕ, ◌+◌, ◌-◌, ◌*◌, arith}
 use Rattle.space_model.specs.declared.parts.Rest.TheVariants.{Dirty as ToDirty, Muzzy as ToMuzzy, Retained as ToRetained}
 use Rattle.space_model.specs.Part.{is_active, is_listed}
 use Rattle.space_model.specs.Counts.{bytes_where, is_mapped}
-use Rattle.space_model.specs.Sound.{is_in_flight}
 use Rattle.arena_core.specs.Indexes.{space_of}
 use Rattle.arena_core.proofs.Totals.{summed}
 use Rattle.arena_core.proofs.readers.counts.Goals as goal
 
 pub overflow_mul-active : goal.overflow_mul-active
-overflow_mul-active c = let sums = summed (space_of c.args.indexes.now) c.requires in omega (arith, sums, c.active_pages-active.ensures)
+overflow_mul-active c = omega (arith, summed (space_of c.args.indexes.now) c.requires)
 
 pub overflow_mul-dirty : goal.overflow_mul-dirty
-overflow_mul-dirty c = let sums = summed (space_of c.args.indexes.now) c.requires in omega (arith, sums, c.active_pages-active.ensures, c.listed_pages-dirty.ensures)
+overflow_mul-dirty c = omega (arith, summed (space_of c.args.indexes.now) c.requires)
 
 pub overflow_mul-muzzy : goal.overflow_mul-muzzy
-overflow_mul-muzzy c = let sums = summed (space_of c.args.indexes.now) c.requires in omega (arith, sums, c.active_pages-active.ensures, c.listed_pages-dirty.ensures, c.listed_pages-muzzy.ensures)
+overflow_mul-muzzy c = omega (arith, summed (space_of c.args.indexes.now) c.requires)
 
 pub overflow_mul-retained : goal.overflow_mul-retained
-overflow_mul-retained c = let sums = summed (space_of c.args.indexes.now) c.requires in omega (arith, sums, c.active_pages-active.ensures, c.listed_pages-dirty.ensures, c.listed_pages-muzzy.ensures, c.listed_pages-retained.ensures)
+overflow_mul-retained c = omega (arith, summed (space_of c.args.indexes.now) c.requires)
 
 pub overflow_mul-mapped : goal.overflow_mul-mapped
-overflow_mul-mapped c = let sums = summed (space_of c.args.indexes.now) c.requires in omega (arith, sums, c.active_pages-active.ensures, c.listed_pages-dirty.ensures, c.listed_pages-muzzy.ensures, c.listed_pages-retained.ensures, c.all_pages.ensures)
+overflow_mul-mapped c = omega (arith, summed (space_of c.args.indexes.now) c.requires)
 
 pub overflow_sub-mapped : goal.overflow_sub-mapped
-overflow_sub-mapped c = let sums = summed (space_of c.args.indexes.now) c.requires in omega (arith, sums, c.active_pages-active.ensures, c.listed_pages-dirty.ensures, c.listed_pages-muzzy.ensures, c.listed_pages-retained.ensures, c.all_pages.ensures)
+overflow_sub-mapped c = omega (arith, summed (space_of c.args.indexes.now) c.requires)
 
 pub overflow_add-result : goal.overflow_add-result
-overflow_add-result c = let sums = summed (space_of c.args.indexes.now) c.requires in omega (arith, sums, c.active_pages-active.ensures, c.listed_pages-dirty.ensures, c.listed_pages-muzzy.ensures, c.listed_pages-retained.ensures, c.all_pages.ensures)
+overflow_add-result c = omega (arith, summed (space_of c.args.indexes.now) c.requires)
 
 pub overflow_add-result-2 : goal.overflow_add-result-2
-overflow_add-result-2 c = let sums = summed (space_of c.args.indexes.now) c.requires in omega (arith, sums, c.active_pages-active.ensures, c.listed_pages-dirty.ensures, c.listed_pages-muzzy.ensures, c.listed_pages-retained.ensures, c.all_pages.ensures)
+overflow_add-result-2 c = omega (arith, summed (space_of c.args.indexes.now) c.requires)
 
 pub overflow_sub-result : goal.overflow_sub-result
-overflow_sub-result c = let sums = summed (space_of c.args.indexes.now) c.requires in omega (arith, sums, c.active_pages-active.ensures, c.listed_pages-dirty.ensures, c.listed_pages-muzzy.ensures, c.listed_pages-retained.ensures, c.all_pages.ensures)
+overflow_sub-result c = omega (arith, summed (space_of c.args.indexes.now) c.requires)
 
 pub returns : goal.returns
 returns c =
     let sums = summed (space_of c.args.indexes.now) c.requires in
     let parts = c.args.indexes.now.extents.parts in
-    let active : 4096 * c.active_pages-active.result ≡ bytes_where is_active parts = omega (arith, sums.active, c.active_pages-active.ensures) in
-    let dirty : 4096 * c.listed_pages-dirty.result ≡ bytes_where (is_listed ToDirty) parts = omega (arith, sums.dirty, c.listed_pages-dirty.ensures) in
-    let muzzy : 4096 * c.listed_pages-muzzy.result ≡ bytes_where (is_listed ToMuzzy) parts = omega (arith, sums.muzzy, c.listed_pages-muzzy.ensures) in
-    let retained : 4096 * c.listed_pages-retained.result ≡ bytes_where (is_listed ToRetained) parts = omega (arith, sums.retained, c.listed_pages-retained.ensures) in
-    let mapped : 4096 * c.all_pages.result - 4096 * c.listed_pages-retained.result ≡ bytes_where is_mapped parts = omega (arith, retained, sums.whole, c.all_pages.ensures) in
-    let flight : 4096 * c.all_pages.result - 4096 * c.listed_pages-retained.result - (4096 * c.active_pages-active.result + 4096 * c.listed_pages-dirty.result + 4096 * c.listed_pages-muzzy.result) ≡ bytes_where is_in_flight parts =
-    omega (arith, mapped, active, dirty, muzzy, sums.mapped) in
-    λ i. record { allocated = c.bytes.ensures i; active = active i; dirty = dirty i; muzzy = muzzy i; retained = retained i; flight = flight i; mapped = mapped i }
+    let active : 4096 * c.active_pages-active.result ≡ bytes_where is_active parts = omega arith in
+    let dirty : 4096 * c.listed_pages-dirty.result ≡ bytes_where (is_listed ToDirty) parts = omega arith in
+    let muzzy : 4096 * c.listed_pages-muzzy.result ≡ bytes_where (is_listed ToMuzzy) parts = omega arith in
+    let retained : 4096 * c.listed_pages-retained.result ≡ bytes_where (is_listed ToRetained) parts = omega arith in
+    let mapped : 4096 * c.all_pages.result - 4096 * c.listed_pages-retained.result ≡ bytes_where is_mapped parts = omega arith in
+    λ i. record {
+      allocated = c.bytes.ensures i;
+      active = active i;
+      dirty = dirty i;
+      muzzy = muzzy i;
+      retained = retained i;
+      flight = flight _ _ _ _ mapped active dirty muzzy sums.mapped i;
+      mapped = mapped i;
+    }
+  where
+    flight : (m a d z : ℕ) {n b e y f : ℕ} → m ≡ n → a ≡ b → d ≡ e → z ≡ y → n ≡ b + e + y + f → m - (a + d + z) ≡ f
+    flight m a d z p q r t sum = omega arith

@@ -1,15 +1,15 @@
 use Rattle.std.proofs.Common.{◌≡◌, [], ◌∷◌, ◌||◌, arith, ap, subst, sym, find}
 use Rattle.std.specs.Option.{IfSome}
 use Rattle.space_model.specs.Part.{begins_at, exchanged}
-use Rattle.part_book.specs.Books.{Book, joined}
-use Rattle.arena_core.specs.Extents.{IsApart, IsThere, active_pages, all_pages}
-use Rattle.arena_core.proofs.Swaps.{at_some, joined_active, joined_swaps}
+use Rattle.part_book.specs.Books.{joined}
+use Rattle.arena_core.specs.Extents.{IsApart, active_pages, all_pages}
+use Rattle.arena_core.proofs.Swaps.{at_some, joined_active, joined_swaps, there_inside}
 use Rattle.arena_core.proofs.extents.Extents.join.Goals as goal
 
 pub invariant_of-self : goal.invariant_of-self
 invariant_of-self c =
-    let low = subst (λ (b : Book). IsThere b.parts c.args.low.now) (sym c.self.view_is) c.requires.low in
-    let high = subst (λ (b : Book). IsThere b.parts c.args.high.now) (sym c.self.view_is) c.requires.high in
+    let low = there_inside c.args.low.now c.self.view_is c.requires.low in
+    let high = there_inside c.args.high.now c.self.view_is c.requires.high in
     let swap = joined_swaps c.self.inside.book.parts c.args.low.now c.args.high.now c.self.invariant.apart low high c.requires.alike in
     let either = at_some (λ p. IfSome (find (begins_at c.args.high.now.span.first) c.self.inside.book.parts) (λ q. c.join.new.self.parts
     ≡ exchanged (λ r. begins_at c.args.low.now.span.first r || begins_at c.args.high.now.span.first r) c.self.inside.book.parts (joined p q ∷ []))) _ c.args.low.now low c.join.ensures.parts in

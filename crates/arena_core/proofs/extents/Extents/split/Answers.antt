@@ -1,12 +1,11 @@
 use Rattle.std.proofs.Common.{arith, ap, subst, sym}
-use Rattle.part_book.specs.Books.{Book}
-use Rattle.arena_core.specs.Extents.{IsApart, IsThere, active_pages, all_pages}
-use Rattle.arena_core.proofs.Swaps.{split_swaps}
+use Rattle.arena_core.specs.Extents.{IsApart, active_pages, all_pages}
+use Rattle.arena_core.proofs.Swaps.{split_swaps, there_inside}
 use Rattle.arena_core.proofs.extents.Extents.split.Goals as goal
 
 pub invariant_of-self : goal.invariant_of-self
 invariant_of-self c =
-    let there = subst (λ (b : Book). IsThere b.parts c.args.part.now) (sym c.self.view_is) c.requires.there in
+    let there = there_inside c.args.part.now c.self.view_is c.requires.there in
     let swap = split_swaps c.self.inside.book.parts c.args.part.now c.args.left c.args.keep_low c.self.invariant.apart there c.requires.idle c.requires.some c.requires.fewer in
     let active = ap active_pages c.split_in.ensures.parts in
     let total = ap all_pages c.split_in.ensures.parts in record {
