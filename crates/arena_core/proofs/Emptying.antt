@@ -1,5 +1,5 @@
 -- One region is given back: its extent is the only one that can be emptied.
-use Rattle.std.proofs.Common.{◌≡◌, ℕ, ◌+◌, ◌*◌, ◌/◌, ◌<◌, ◌≤◌, Bool, true, false, not, cond, IsTrue, List, [], ◌∷◌, ◌++◌, append-nil, length, get_or, find, filter, Option, Some, refl, sym, ◌∙◌, ap, subst, arith, All, ◌&&◌, ◌||◌, eqb, inl, inr, ◌⊎◌}
+use Rattle.std.proofs.Common.{◌≡◌, ℕ, ◌+◌, ◌*◌, ◌/◌, ◌<◌, ◌≤◌, Bool, true, false, not, cond, IsTrue, List, [], ◌∷◌, ◌++◌, append-nil, length, get_or, find, filter, Option, Some, refl, sym, ◌∙◌, ap, subst, arith, All, ◌&&◌, ◌||◌, eqb, inl, inr}
 use Rattle.std.specs.List.{count_by, list_any, sum_by}
 use Rattle.std.proofs.lemmas.Bool.{cases_Bool, eqb-true, not-true}
 use Rattle.std.proofs.lemmas.Bool.Decides.{nat_tests}
@@ -32,46 +32,29 @@ abbrev pub ones : Bool → ℕ
 ones b = cond b 1 0
 
 pub most_one : (b : Bool) → ones b ≤ 1
-most_one true = omega arith
-most_one false = omega arith
+most_one b = grind arith
 
 pub ones_true : (b : Bool) → ones b ≡ 1 → b ≡ true
-ones_true true h = refl
-ones_true false h = absurd (omega (arith, h))
+ones_true b h = grind arith
 
 pub ones_same : (a b : Bool) → ones a ≡ ones b → a ≡ b
-ones_same true true h = refl
-ones_same true false h = absurd (omega (arith, h))
-ones_same false true h = absurd (omega (arith, h))
-ones_same false false h = refl
+ones_same a b h = grind arith
 
 -- what passes at all is found, and counted
 pub some_found : {X : Type 0} (t : X → Bool) (xs : List X) → 0 < count_by t xs → (x : X) × (find t xs ≡ Some x)
 some_found t [] some = absurd (omega (arith, some))
-some_found t (x ∷ xs) some =
-    let sums = sum_by-cons (λ y. ones (t y)) x xs in
-    elim (cases_Bool (t x)) [
-      | inl h ↦ (x, rw h refl)
-      | inr h ↦ let none : ones (t x) ≡ 0 = ap ones h in let rest = some_found t xs (omega (arith, sums, none, some)) in (rest.0, subst (λ b. cond b (Some x) (find t xs) ≡ Some rest.0) (sym h) rest.1)
-    ]
+some_found t (x ∷ xs) some = elim (cases_Bool (t x)) [
+  | inl h ↦ (x, rw h refl)
+  | inr h ↦ let rest = some_found t xs (grind (arith, sum_by-cons (λ y. ones (t y)) x xs, h, some)) in let e : find t (x ∷ xs) ≡ find t xs = rw h refl in (rest.0, e ∙ rest.1)
+]
 
 pub any_counts : {X : Type 0} (t : X → Bool) (xs : List X) → list_any t xs ≡ true → 0 < count_by t xs
 any_counts t [] h = absurd (cc)
-any_counts t (x ∷ xs) h =
-    let sums = sum_by-cons (λ y. ones (t y)) x xs in
-    elim (cases_Bool (t x)) [
-      | inl e ↦ let one : ones (t x) ≡ 1 = ap ones e in omega (arith, sums, one)
-      | inr e ↦ let rest = any_counts t xs (rw e at h) in omega (arith, sums, rest)
-    ]
+any_counts t (x ∷ xs) h = grind (arith, any_counts t xs, sum_by-cons (λ y. ones (t y)) x xs)
 
 pub counts_any : {X : Type 0} (t : X → Bool) (xs : List X) → 0 < count_by t xs → list_any t xs ≡ true
 counts_any t [] some = absurd (omega (arith, some))
-counts_any t (x ∷ xs) some =
-    let sums = sum_by-cons (λ y. ones (t y)) x xs in
-    elim (cases_Bool (t x)) [
-      | inl h ↦ rw h refl
-      | inr h ↦ let none : ones (t x) ≡ 0 = ap ones h in rw h (counts_any t xs (omega (arith, sums, none, some)))
-    ]
+counts_any t (x ∷ xs) some = grind (arith, counts_any t xs, sum_by-cons (λ y. ones (t y)) x xs)
 
 -- what passes just once is all that a filter keeps
 pub one_passes : {X : Type 0} (t : X → Bool) (xs : List X) → 0 < count_by t xs → count_by t xs ≤ 1 → (x : X) × (filter t xs ≡ x ∷ [])
@@ -85,13 +68,11 @@ one_passes t xs some most = by (filter t xs) refl
 -- tests that agree on each element keep the same and find the same
 pub filter_alike : {X : Type 0} (f g : X → Bool) (xs : List X) → All (λ x. f x ≡ g x) xs → filter f xs ≡ filter g xs
 filter_alike f g [] same = refl
-filter_alike f g (x ∷ xs) same =
-    let rest = filter_alike f g xs (All-tail (λ y. f y ≡ g y) x xs same) in
-    rw (All-head (λ y. f y ≡ g y) x xs same) (elim (g x) as (λ b. cond b (x ∷ filter f xs) (filter f xs) ≡ cond b (x ∷ filter g xs) (filter g xs)) [ true ↦ ap (λ ys. x ∷ ys) rest | false ↦ rest ])
+filter_alike {X} f g (x ∷ xs) same = let P : X → Type 0 = λ y. f y ≡ g y in cc (All-head P x xs same, filter_alike f g xs (All-tail P x xs same))
 
 pub any_alike : {X : Type 0} (f g : X → Bool) (xs : List X) → All (λ x. f x ≡ g x) xs → list_any f xs ≡ list_any g xs
 any_alike f g [] same = refl
-any_alike f g (x ∷ xs) same = rw (All-head (λ y. f y ≡ g y) x xs same, any_alike f g xs (All-tail (λ y. f y ≡ g y) x xs same)) refl
+any_alike {X} f g (x ∷ xs) same = let P : X → Type 0 = λ y. f y ≡ g y in cc (All-head P x xs same, any_alike f g xs (All-tail P x xs same))
 
 -- what is true of those that pass and of the others is true of all
 pub All-split : {X : Type 0} (P : X → Type 0) (t : X → Bool) (xs : List X) → All P (filter t xs) → All P (filter (λ x. not (t x)) xs) → All P xs
@@ -126,18 +107,11 @@ given c addr s sound held =
     let passes : All (λ r. t r ≡ true) (one.0 ∷ []) = subst (All (λ r. t r ≡ true)) one.1 (filter_passes t s.regions) in
     (one.0, record { alone = one.1; at = eqb-true _ _ (starts one.0 (All-head (λ r. t r ≡ true) one.0 [] passes)) })
   where
-    either : (m : ℕ) → eqb m addr ≡ (eqb addr m || false)
-    either m = elim (cases_Bool (eqb m addr)) [
-      | inl t ↦ let u : eqb addr m ≡ true = grind (arith, nat_tests) in rw (t, u) refl
-      | inr f ↦ let u : eqb addr m ≡ false = grind (arith, nat_tests) in rw (f, u) refl
-    ]
-
     both : (b : Bool) (m : ℕ) → (b && eqb m addr) ≡ (b && (eqb addr m || false))
-    both true m = either m
-    both false m = refl
+    both b m = grind (arith, nat_tests)
 
     starts : (r : Region) → is_given_back c (addr ∷ []) r ≡ true → is_at addr r ≡ true
-    starts r h = either r.addr ∙ (both_true (is_held_by c r) (eqb addr r.addr || false) h).1
+    starts r h = grind (arith, nat_tests)
 
 -- ---- its extent
 
@@ -163,11 +137,11 @@ serves_within : (p : Part) (r q : Region) (parts : List Part) (test : Part → B
     houses p q ≡ begins_within (4096 * p.span.first) (4096 * p.span.first + 4096 * p.span.pages) q
 serves_within p r q parts test found home class one most =
     ones_same (houses p q) (has_page (q.addr / 4096) p.span) (home_shares q parts test p class one most found)
-    ∙ same (cases_Bool (has_page (q.addr / 4096) p.span))
+    ∙ same _ refl
   where
-    same : (has_page (q.addr / 4096) p.span ≡ true) ⊎ (has_page (q.addr / 4096) p.span ≡ false) → has_page (q.addr / 4096) p.span ≡ begins_within (4096 * p.span.first) (4096 * p.span.first + 4096 * p.span.pages) q
-    same (inl t) = let here : begins_within (4096 * p.span.first) (4096 * p.span.first + 4096 * p.span.pages) q ≡ true = grind (arith, nat_tests) in t ∙ sym here
-    same (inr f) = let here : begins_within (4096 * p.span.first) (4096 * p.span.first + 4096 * p.span.pages) q ≡ false = grind (arith, nat_tests) in f ∙ sym here
+    same : (b : Bool) → has_page (q.addr / 4096) p.span ≡ b → b ≡ begins_within (4096 * p.span.first) (4096 * p.span.first + 4096 * p.span.pages) q
+    same true t = sym (grind (arith, nat_tests))
+    same false f = sym (grind (arith, nat_tests))
 
 -- ---- what is emptied
 
@@ -182,12 +156,7 @@ other_serves c addr s r x given none used =
     let t = is_given_back c (addr ∷ []) in
     let gone : count_by (houses x) (filter t s.regions) ≡ count_by (houses x) (r ∷ []) = ap (count_by (houses x)) given.alone in
     let sums = sum_by-filter_both t (λ q. not (t q)) (λ _. refl) (λ q. ones (houses x q)) s.regions in
-    elim (cases_Bool (is_active x.state)) [
-      | inr f ↦ ap (λ b. b && is_left (staying c (addr ∷ []) s.regions) x) f
-      | inl a ↦
-          let some : 0 < count_by (houses x) (staying c (addr ∷ []) s.regions) = omega (arith, gone, sums, none, sum_by-cons (λ q. ones (houses x q)) r [], used a) in
-          rw (a, counts_any (houses x) (staying c (addr ∷ []) s.regions) some) refl
-    ]
+    grind (arith, gone, sums, none, used, sum_by-cons (λ q. ones (houses x q)) r [], counts_any (houses x) (staying c (addr ∷ []) s.regions))
 
 -- What giving one region back leaves: its extent is emptied, if none of the regions that stay begins in it, and no other one is.
 pub record Empties (c addr : ℕ) (s : Space) (p : Part) : Type 0 where
@@ -250,14 +219,6 @@ empties c addr s sound held =
 
 -- ---- the extents afterwards
 
-and_true : (b : Bool) → (b && true) ≡ b
-and_true true = refl
-and_true false = refl
-
-and_false : (b : Bool) → (b && false) ≡ false
-and_false true = refl
-and_false false = refl
-
 pub none_kept : {X : Type 0} (xs : List X) → filter (λ _. false) xs ≡ []
 none_kept [] = refl
 none_kept (x ∷ xs) = none_kept xs
@@ -270,13 +231,13 @@ all_kept (x ∷ xs) = ap (λ ys. x ∷ ys) (all_kept xs)
 one_exchanged : (c : ℕ) (gone : Part → Bool) (parts : List Part) (p : Part) (b : Bool) → All (λ x. gone x ≡ (begins_at p.span.first x && b)) parts → filter (begins_at p.span.first) parts ≡ p ∷ [] →
     (filter gone parts ≡ cond b (p ∷ []) []) × (exchanged gone parts (taken_in_order c (filter gone parts)) ≡ cond b (exchanged (begins_at p.span.first) parts (taken_out c p ∷ [])) parts)
 one_exchanged c gone parts p true each alone =
-    let same : filter gone parts ≡ p ∷ [] = filter_alike gone (begins_at p.span.first) parts (λ k d h. each k d h ∙ and_true _) ∙ alone in
+    let same : filter gone parts ≡ p ∷ [] = filter_alike gone (begins_at p.span.first) parts (λ k d h. grind (arith, each k d h)) ∙ alone in
     let others : filter (λ x. not (gone x)) parts ≡ filter (λ x. not (begins_at p.span.first x)) parts =
-    filter_alike (λ x. not (gone x)) (λ x. not (begins_at p.span.first x)) parts (λ k d h. ap not (each k d h ∙ and_true _)) in
+    filter_alike (λ x. not (gone x)) (λ x. not (begins_at p.span.first x)) parts (λ k d h. grind (arith, each k d h)) in
     (same, ap (λ xs. xs ++ taken_in_order c (filter gone parts)) others ∙ ap (λ xs. filter (λ x. not (begins_at p.span.first x)) parts ++ taken_in_order c xs) same)
 one_exchanged c gone parts p false each alone =
-    let same : filter gone parts ≡ [] = filter_alike gone (λ _. false) parts (λ k d h. each k d h ∙ and_false _) ∙ none_kept parts in
-    let others : filter (λ x. not (gone x)) parts ≡ parts = filter_alike (λ x. not (gone x)) (λ _. true) parts (λ k d h. ap not (each k d h ∙ and_false _)) ∙ all_kept parts in
+    let same : filter gone parts ≡ [] = filter_alike gone (λ _. false) parts (λ k d h. grind (arith, each k d h)) ∙ none_kept parts in
+    let others : filter (λ x. not (gone x)) parts ≡ parts = filter_alike (λ x. not (gone x)) (λ _. true) parts (λ k d h. grind (arith, each k d h)) ∙ all_kept parts in
     (same, ap (λ xs. xs ++ taken_in_order c (filter gone parts)) others ∙ ap (λ xs. parts ++ taken_in_order c xs) same ∙ append-nil parts)
 
 pub given_parts : (c addr : ℕ) (s : Space) (p : Part) → Empties c addr s p → (b : Bool) → is_left (staying c (addr ∷ []) s.regions) p ≡ b →

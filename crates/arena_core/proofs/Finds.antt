@@ -22,9 +22,7 @@ use Rattle.arena_core.specs.Extents.{IsApart, IsThere, kept}
 -- what a filter keeps alone is what a search finds
 find_alone : {X : Type 0} (test : X → Bool) (xs : List X) (x : X) → filter test xs ≡ x ∷ [] → find test xs ≡ Some x
 find_alone test [] x e = absurd (cc)
-find_alone test (y ∷ ys) x e =
-    elim (test y) as (λ b. cond b (y ∷ filter test ys) (filter test ys) ≡ x ∷ [] → cond b (Some y) (find test ys) ≡ Some x)
-    [ true ↦ λ h. cc | false ↦ λ h. find_alone test ys x h ] e
+find_alone test (y ∷ ys) x e = grind (arith, find_alone test ys x)
 
 pub found_there : (parts : List Part) (test : Part → Bool) (p : Part) → IsApart parts → find test parts ≡ Some p → IsThere parts p
 found_there parts test p apart found =
@@ -57,50 +55,29 @@ either_there parts (Some p) u h k = h
 -- where nothing passes, nothing is found
 nothing_found : {X : Type 0} (a t : X → Bool) (xs : List X) → count_by t xs ≡ 0 → find (λ x. a x && t x) xs ≡ None
 nothing_found a t [] none = refl
-nothing_found a t (x ∷ xs) none =
-    let sums = sum_by-cons (λ y. cond (t y) 1 0) x xs in
-    let ones : Bool → ℕ = λ b. cond b 1 0 in
-    elim (t x) as (λ b. ones (t x) ≡ ones b → cond (a x && b) (Some x) (find (λ y. a y && t y) xs) ≡ None) [
-      | true ↦ λ one. absurd (omega (arith, one, sums, none))
-      | false ↦ λ one. elim (a x) as (λ b. cond (b && false) (Some x) (find (λ y. a y && t y) xs) ≡ None)
-          [ true ↦ nothing_found a t xs (omega (arith, sums, none)) | false ↦ nothing_found a t xs (omega (arith, sums, none)) ]
-    ] refl
+nothing_found a t (x ∷ xs) none = grind (arith, nothing_found a t xs, sum_by-cons (λ y. cond (t y) 1 0) x xs)
 
 -- where at most one extent passes a test, what passes both is that one, if it passes the other
 pub only_find : (a t : Part → Bool) (xs : List Part) → count_by t xs ≤ 1 → find (λ x. a x && t x) xs ≡ kept a (find t xs)
 only_find a t [] once = refl
-only_find a t (x ∷ xs) once =
-    let sums = sum_by-cons (λ y. cond (t y) 1 0) x xs in
-    let ones : Bool → ℕ = λ b. cond b 1 0 in
-    elim (t x) as (λ b. ones (t x) ≡ ones b → cond (a x && b) (Some x) (find (λ y. a y && t y) xs) ≡ kept a (cond b (Some x) (find t xs))) [
-      | true ↦ λ one. elim (a x) as (λ b. cond (b && true) (Some x) (find (λ y. a y && t y) xs) ≡ cond b (Some x) None)
-          [ true ↦ refl | false ↦ nothing_found a t xs (omega (arith, one, sums, once)) ]
-      | false ↦ λ one. elim (a x) as (λ b. cond (b && false) (Some x) (find (λ y. a y && t y) xs) ≡ kept a (find t xs))
-          [ true ↦ only_find a t xs (omega (arith, sums, once)) | false ↦ only_find a t xs (omega (arith, sums, once)) ]
-    ] refl
+only_find a t (x ∷ xs) once = grind (arith, nothing_found a t xs, only_find a t xs, sum_by-cons (λ y. cond (t y) 1 0) x xs)
 
 -- where what passes one test passes another, no more pass the first
 pub fewer_pass : {X : Type 0} (t u : X → Bool) (xs : List X) → All (λ x. t x ≡ true → u x ≡ true) xs → count_by t xs ≤ count_by u xs
 fewer_pass t u [] has = omega arith
-fewer_pass t u (x ∷ xs) has =
-    let ones : Bool → ℕ = λ b. cond b 1 0 in
-    let sums = sum_by-cons (λ y. ones (t y)) x xs in
-    let others = sum_by-cons (λ y. ones (u y)) x xs in
-    let rest = fewer_pass t u xs (All-tail (λ y. t y ≡ true → u y ≡ true) x xs has) in
-    elim (t x) as (λ b. (b ≡ true → u x ≡ true) → ones (t x) ≡ ones b → count_by t (x ∷ xs) ≤ count_by u (x ∷ xs)) [
-      | true ↦ λ h one. let whole : ones (u x) ≡ 1 = ap ones (h refl) in omega (arith, one, sums, others, rest, whole)
-      | false ↦ λ h one. omega (arith, one, sums, others, rest)
-    ] (All-head (λ y. t y ≡ true → u y ≡ true) x xs has) refl
+fewer_pass {X} t u (x ∷ xs) has =
+    let P : X → Type 0 = λ y. t y ≡ true → u y ≡ true in
+    grind (arith, fewer_pass t u xs (All-tail P x xs has), All-head P x xs has, sum_by-cons (λ y. cond (t y) 1 0) x xs, sum_by-cons (λ y. cond (u y) 1 0) x xs)
 
 -- at most one extent begins at a page, and at most one ends before it
 pub begins_once : (page : ℕ) (parts : List Part) → IsApart parts → count_by (begins_at page) parts ≤ 1
 begins_once page parts apart =
-    let has : (p : Part) → IsPlaced p.span → begins_at page p ≡ true → has_page page p.span ≡ true = λ p placed h. let some = placed.0 in grind (arith, nat_tests) in
+    let has : (p : Part) → IsPlaced p.span → begins_at page p ≡ true → has_page page p.span ≡ true = λ p placed h. grind (arith, nat_tests, placed.0) in
     omega (arith, apart.owners page, fewer_pass (begins_at page) (λ p. has_page page p.span) parts (λ k d h. has (get_or parts k d) (apart.placed k d h)))
 
 pub ends_once : (page : ℕ) (parts : List Part) → IsApart parts → count_by (ends_at page) parts ≤ 1
 ends_once page parts apart =
-    let has : (p : Part) → IsPlaced p.span → ends_at page p ≡ true → has_page (page - 1) p.span ≡ true = λ p placed h. let some = placed.0 in grind (arith, nat_tests) in
+    let has : (p : Part) → IsPlaced p.span → ends_at page p ≡ true → has_page (page - 1) p.span ≡ true = λ p placed h. grind (arith, nat_tests, placed.0) in
     omega (arith, apart.owners (page - 1), fewer_pass (ends_at page) (λ p. has_page (page - 1) p.span) parts (λ k d h. has (get_or parts k d) (apart.placed k d h)))
 
 -- What was found inside by one test, and kept if it passes another, is what a search by both finds, and is there.
@@ -119,14 +96,7 @@ pub flight_inside : {b now : Book} {near got : Option Part} (client : ℕ) (s : 
     got ≡ kept (λ p. is_flight client p.state && eqb p.span.pages s.pages) near → Kept got (is_flight_at client s) now
 flight_inside {b} client s view apart =
     kept_inside (λ p. is_flight client p.state && eqb p.span.pages s.pages) (begins_at s.first) (is_flight_at client s) view apart (begins_once s.first b.parts apart)
-    (λ p. three (is_flight client p.state) (eqb p.span.pages s.pages) (begins_at s.first p))
-  where
-    three : (a b c : Bool) → ((a && b) && c) ≡ (a && (c && b))
-    three true true true = refl
-    three true true false = refl
-    three true false true = refl
-    three true false false = refl
-    three false b c = refl
+    (λ p. grind arith)
 
 -- a neighbour that a merge may join is the extent beside, if it is alike
 pub right_inside : {b now : Book} {near got : Option Part} (p : Part) → b ≡ now → IsApart b.parts → near ≡ find (is_beside p.span true) b.parts →

@@ -33,12 +33,7 @@ use Rattle.part_book.specs.Books.{AreAlike}
 exact_at : {X : Type 0} (f g : X → ℕ) (test : X → Bool) (xs : List X) (x : X) → ((y : X) → g y ≤ f y) → sum_by f xs ≤ sum_by g xs → find test xs ≡ Some x → f x ≤ g x
 exact_at f g test [] x less whole e = absurd (cc)
 exact_at f g test (y ∷ ys) x less whole e =
-    let sums = sum_by-cons f y ys in
-    let others = sum_by-cons g y ys in
-    elim (test y) as (λ b. cond b (Some y) (find test ys) ≡ Some x → f x ≤ g x) [
-      | true ↦ λ h. let same : y ≡ x = cc in let rest = sum_by-le-sum_by g f ys less in subst (λ z. f z ≤ g z) same (omega (arith, sums, others, rest, whole))
-      | false ↦ λ h. exact_at f g test ys x less (omega (arith, sums, others, less y, whole)) h
-    ] e
+    grind (arith, exact_at f g test ys x less, sum_by-cons f y ys, sum_by-cons g y ys, sum_by-le-sum_by g f ys less, less y)
 
 -- a region that has one home is served by an extent just where that has the page of its address
 pub home_shares : (r : Region) (parts : List Part) (test : Part → Bool) (p : Part) → r.class < 121 → homes r parts ≡ 1 → holders (r.addr / 4096) parts ≤ 1 →
@@ -62,12 +57,10 @@ none_begins s test p sound found idle =
       | inl t ↦
           let at : r.addr ≡ 4096 * p.span.first = grind (arith, nat_tests) in
           let page : r.addr / 4096 ≡ p.span.first = omega arith in
-          let some = placed.0 in
-          let has : has_page (r.addr / 4096) p.span ≡ true = grind (arith, nat_tests) in
+          let has : has_page (r.addr / 4096) p.span ≡ true = grind (arith, nat_tests, placed.0) in
           let one : share (r.addr / 4096) p ≡ 1 = ap ones has in
-          let none = idle-serves p r idle in
           let same = home_shares r s.parts test p (sound.classes k d h) (sound.homes k d h) (sound.owners (r.addr / 4096)) found in
-          absurd (omega (arith, one, none, same))
+          absurd (omega (arith, one, idle-serves p r idle, same))
     ])
 
 -- What is true of a client's extent in flight that was found.
@@ -106,10 +99,7 @@ listed_same ToMuzzy other h = elim other as (λ o. is_listed ToMuzzy (listed o) 
 listed_same ToRetained other h = elim other as (λ o. is_listed ToRetained (listed o) ≡ true → ToRetained ≡ o) [ ToDirty ↦ λ e. absurd (cc) | ToMuzzy ↦ λ e. absurd (cc) | ToRetained ↦ λ e. refl ] h
 
 beq_same : (a b : Bool) → beq a b ≡ true → a ≡ b
-beq_same true true h = refl
-beq_same true false h = absurd (cc)
-beq_same false true h = absurd (cc)
-beq_same false false h = refl
+beq_same a b h = grind arith
 
 -- two extents in flight that may be merged are alike
 pub merged_alike : (c : ℕ) (s : Space) (low high : Span) (answer : Answer) (p q : Part) → Sound s → IsTrue (merge_stands s c (Merge low high) answer) →

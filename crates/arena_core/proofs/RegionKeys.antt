@@ -52,11 +52,7 @@ from_is k major = elim (cases_Bool (is_from (start major) k)) [
 -- where all addresses are too high, none is in the range
 none_within : (low high : ℕ) (ks : List Key) → Every (λ k. high ≤ k.major) ks → list_any (begins_within low high) (map region_of ks) ≡ false
 none_within low high [] above = refl
-none_within low high (k ∷ ks) above =
-    let first : nat_lt k.major high ≡ false = let h = above.0 in grind (arith, nat_tests) in
-    let rest = none_within low high ks above.1 in
-    elim (nat_le low k.major) as (λ b. ((b && nat_lt k.major high) || list_any (begins_within low high) (map region_of ks)) ≡ false)
-    [ true ↦ rw (first, rest) refl | false ↦ rest ]
+none_within low high (k ∷ ks) above = grind (arith, nat_tests, above.0, none_within low high ks above.1)
 
 -- whether the key that was found lies below an address
 abbrev pub lies_below : ℕ → Option Key → Bool
@@ -150,9 +146,7 @@ is_at addr r = eqb r.addr addr
 
 -- a region that begins elsewhere isn't given back
 not_given : (c addr : ℕ) (r : Region) → r.addr ≢ addr → is_given_back c (addr ∷ []) r ≡ false
-not_given c addr r other =
-    let apart : eqb addr r.addr ≡ false = grind (arith, nat_tests) in
-    elim (is_held_by c r) as (λ b. (b && (eqb addr r.addr || false)) ≡ false) [ true ↦ rw apart refl | false ↦ refl ]
+not_given c addr r other = grind (arith, nat_tests)
 
 -- where all regions begin elsewhere, all of them stay
 all_stay : (c addr : ℕ) (ks : List Key) → Every (λ k. addr < k.major) ks →
@@ -236,11 +230,7 @@ take_is c addr (k ∷ ks) ascending alone held =
 -- where no region begins at an address, no key has it
 pub free_keys : (addr : ℕ) (ks : List Key) → list_any (is_at addr) (map region_of ks) ≡ false → Every (λ k. k.major ≢ addr) ks
 free_keys addr [] none = tt
-free_keys addr (k ∷ ks) none =
-    elim (cases_Bool (eqb k.major addr)) [
-      | inl t ↦ absurd (let e : true ≡ false = (rw t at none) in cc)
-      | inr f ↦ (λ e. let t : eqb k.major addr ≡ true = grind (arith, nat_tests) in cc, free_keys addr ks (rw f at none))
-    ]
+free_keys addr (k ∷ ks) none = (grind (arith, nat_tests), free_keys addr ks (grind arith))
 
 -- the regions after a key was inserted
 pub inserted_is : (r : Region) (ks new : List Key) (key : Key) → new ≡ with_key ks key → key ≡ key_of r → r.class < 121 → IsAscending ks →

@@ -1,7 +1,7 @@
 -- Regions that are given back one after the other, by rising addresses, leave what they leave when given back at once.
 use Rattle.std.proofs.Common.{◌≡◌, ℕ, ◌+◌, ◌*◌, ◌<◌, ◌≤◌, Bool, true, false, not, cond, IsTrue, List, [], ◌∷◌, ◌++◌, append_assoc, append-nil, length, get_or, filter, fold, refl, sym, ◌∙◌, ap, subst, arith, All, ◌&&◌, ◌||◌, eqb, leb as nat_le, ltb as nat_lt, inl, inr}
 use Rattle.std.specs.List.{count_by, list_all, list_any, position_or_len, sum_by}
-use Rattle.std.proofs.lemmas.Bool.{cases_Bool, cases_order, eqb-true, leb-true, not-true}
+use Rattle.std.proofs.lemmas.Bool.{cases_Bool, cases_lt, leb-true, not-true}
 use Rattle.std.proofs.lemmas.Bool.Decides.{nat_tests}
 use Rattle.std.proofs.lemmas.List.Elements.{All-cons, All-filter, All-head, All-nil, All-tail, All-weaker, filter-append, filter_passes}
 use Rattle.std.proofs.lemmas.List.Filters.{length-filter_both, sum_by-filter_both}
@@ -13,8 +13,7 @@ use Rattle.space_model.specs.declared.spaces.Life.TheVariants.{Live, Absent, Dyi
 use Rattle.space_model.specs.declared.spaces.Space.{Space}
 use Rattle.space_model.specs.Span.{end_of, has_page}
 use Rattle.space_model.specs.Part.{begins_at, exchanged, is_active, taken_out}
-use Rattle.space_model.specs.Region.{address_of, houses, is_held_by, lies_in, residents}
-use Rattle.size_classes.specs.Classes.{size_at}
+use Rattle.space_model.specs.Region.{houses, is_held_by, residents}
 use Rattle.space_model.specs.Step.{after_back, holds_at, is_emptied, is_given_back, is_live, placed, rises_from, staying, taken_in_order}
 use Rattle.space_model.specs.Sound.{Sound}
 use Rattle.space_model.proofs.Exchange.{filter-without, find_has, find_passes, share}
@@ -35,9 +34,7 @@ put c taken p = placed (taken_out c p) taken
 -- the lowest extent comes first
 put_first : (c : ℕ) (p : Part) (acc : List Part) → All (λ q. p.span.first < q.span.first) acc → put c acc p ≡ taken_out c p ∷ acc
 put_first c p [] above = refl
-put_first c p (q ∷ qs) above =
-    let less : p.span.first < q.span.first = All-head (λ q. p.span.first < q.span.first) q qs above in
-    let here : nat_lt p.span.first q.span.first ≡ true = grind (arith, nat_tests) in rw here refl
+put_first c p (q ∷ qs) above = grind (arith, nat_tests, All-head (λ q. p.span.first < q.span.first) q qs above)
 
 -- a higher one stands behind it
 put_later : (c : ℕ) (p x : Part) (acc : List Part) → p.span.first < x.span.first → put c (taken_out c p ∷ acc) x ≡ taken_out c p ∷ put c acc x
@@ -77,21 +74,13 @@ taken_first c p acc (x ∷ xs) low one above =
 
 pub filter_twice : {X : Type 0} (f g : X → Bool) (xs : List X) → filter f (filter g xs) ≡ filter (λ x. g x && f x) xs
 filter_twice f g [] = refl
-filter_twice f g (x ∷ xs) =
-    let rest = filter_twice f g xs in
-    elim (g x) as (λ b. filter f (cond b (x ∷ filter g xs) (filter g xs)) ≡ cond (b && f x) (x ∷ filter (λ y. g y && f y) xs) (filter (λ y. g y && f y) xs)) [
-      | true ↦ elim (f x) as (λ b. cond b (x ∷ filter f (filter g xs)) (filter f (filter g xs)) ≡ cond b (x ∷ filter (λ y. g y && f y) xs) (filter (λ y. g y && f y) xs)) [ true ↦ ap (λ ys. x ∷ ys) rest | false ↦ rest ]
-      | false ↦ rest
-    ]
-
-swap_tests : (a b : Bool) → (a && b) ≡ (b && a)
-swap_tests true true = refl
-swap_tests true false = refl
-swap_tests false true = refl
-swap_tests false false = refl
+filter_twice f g (x ∷ xs) = grind (arith, filter_twice f g xs)
 
 pub filters_swap : {X : Type 0} (f g : X → Bool) (xs : List X) → filter f (filter g xs) ≡ filter g (filter f xs)
-filters_swap f g xs = filter_twice f g xs ∙ (λ i. filter (λ x. swap_tests (g x) (f x) i) xs) ∙ sym (filter_twice g f xs)
+filters_swap f g xs = filter_twice f g xs ∙ filter_alike (λ x. g x && f x) (λ x. f x && g x) xs (λ k d h. and_swaps (g _) (f _)) ∙ sym (filter_twice g f xs)
+  where
+    and_swaps : (a b : Bool) → (a && b) ≡ (b && a)
+    and_swaps a b = grind arith
 
 -- ---- the regions
 
@@ -103,9 +92,7 @@ staying_twice c addr addrs regions =
     (λ k d h. let r : Region = get_or regions k d in either (is_held_by c r) (eqb addr r.addr) (list_any (λ a. eqb a r.addr) addrs))
   where
     either : (held this others : Bool) → (not (held && (this || false)) && not (held && others)) ≡ not (held && (this || others))
-    either true true others = refl
-    either true false others = refl
-    either false this others = refl
+    either held this others = grind arith
 
 -- the addresses that rise from a number on are no lower
 rising : (least : ℕ) (addrs : List ℕ) → rises_from least addrs ≡ true → All (λ a. least ≤ a) addrs
@@ -118,33 +105,18 @@ rising least (a ∷ more) h =
 -- and rise from any lower number on
 rises_lower : (least lower : ℕ) (addrs : List ℕ) → lower ≤ least → rises_from least addrs ≡ true → rises_from lower addrs ≡ true
 rises_lower least lower [] le h = refl
-rises_lower least lower (a ∷ more) le h =
-    let both = both_true (nat_le least a) (rises_from (a + 1) more) h in
-    let low = leb-true _ _ both.0 in
-    let here : nat_le lower a ≡ true = grind (arith, nat_tests) in rw (here, both.1) refl
+rises_lower least lower (a ∷ more) le h = grind (arith, nat_tests)
 
 -- a region at another address is still held
 held_still : (c addr other : ℕ) (regions : List Region) → addr < other → holds_at c regions other ≡ true → holds_at c (staying c (addr ∷ []) regions) other ≡ true
 held_still c addr other [] less h = absurd (cc)
-held_still c addr other (r ∷ rs) less h =
-    elim (cases_Bool (eqb r.addr other)) [
-      | inl t ↦
-          let differ : eqb addr r.addr ≡ false = grind (arith, nat_tests) in
-          let stays : is_given_back c (addr ∷ []) r ≡ false = elim (is_held_by c r) as (λ b. (b && (eqb addr r.addr || false)) ≡ false) [ true ↦ rw differ refl | false ↦ refl ] in
-          rw stays (elim (is_held_by c r) as (λ b. ((b && eqb r.addr other) || holds_at c rs other) ≡ true → ((b && eqb r.addr other) || holds_at c (staying c (addr ∷ []) rs) other) ≡ true)
-          [ true ↦ λ k. rw t refl | false ↦ λ k. held_still c addr other rs less k ] h)
-      | inr f ↦
-          let later : holds_at c rs other ≡ true = elim (is_held_by c r) as (λ b. ((b && eqb r.addr other) || holds_at c rs other) ≡ true → holds_at c rs other ≡ true) [ true ↦ λ k. (rw f at k) | false ↦ λ k. k ] h in
-          let rest = held_still c addr other rs less later in
-          elim (is_given_back c (addr ∷ []) r) as (λ b. holds_at c (cond (not b) (r ∷ staying c (addr ∷ []) rs) (staying c (addr ∷ []) rs)) other ≡ true)
-          [ true ↦ rest | false ↦ elim (is_held_by c r && eqb r.addr other) as (λ b. (b || holds_at c (staying c (addr ∷ []) rs) other) ≡ true) [ true ↦ refl | false ↦ rest ] ]
-    ]
+held_still c addr other (r ∷ rs) less h = grind (arith, nat_tests, held_still c addr other rs less)
 
 all_still : (c addr : ℕ) (addrs : List ℕ) (regions : List Region) → All (λ a. addr < a) addrs → list_all (holds_at c regions) addrs ≡ true → list_all (holds_at c (staying c (addr ∷ []) regions)) addrs ≡ true
 all_still c addr [] regions above h = refl
 all_still c addr (a ∷ more) regions above h =
-    let both = both_true (holds_at c regions a) (list_all (holds_at c regions) more) h in
-    rw (held_still c addr a regions (All-head (λ x. addr < x) a more above) both.0) (all_still c addr more regions (All-tail (λ x. addr < x) a more above) both.1)
+    let P : ℕ → Type 0 = λ x. addr < x in
+    grind (arith, held_still c addr a regions (All-head P a more above), all_still c addr more regions (All-tail P a more above))
 
 -- ---- the extents
 
@@ -181,28 +153,21 @@ parts_round c parts p gone goes stays alone above one is =
 
 -- what no element passes isn't counted
 none_counted : {X : Type 0} (test : X → Bool) (xs : List X) → list_any test xs ≡ false → count_by test xs ≡ 0
-none_counted test xs h = elim (cases_order (count_by test xs) 0) [
-  | inl same ↦ same
-  | inr o ↦ elim o [
-    | inl l ↦ absurd (omega (arith, l))
-    | inr g ↦ let some = counts_any test xs g in absurd (cc)
-  ]
+none_counted test xs h = elim (cases_lt 0 (count_by test xs)) [
+  | inl some ↦ let e = counts_any test xs some in absurd (cc)
+  | inr none ↦ omega arith
 ]
 
 -- a number among higher ones is higher
 named_above : (low : ℕ) (addrs : List ℕ) (a : ℕ) → All (λ x. low < x) addrs → list_any (λ x. eqb x a) addrs ≡ true → low < a
 named_above low [] a above h = absurd (cc)
-named_above low (x ∷ xs) a above h = elim (cases_Bool (eqb x a)) [
-  | inl t ↦ let same = eqb-true x a t in omega (arith, same, All-head (λ y. low < y) x xs above)
-  | inr f ↦ named_above low xs a (All-tail (λ y. low < y) x xs above) (rw f at h)
-]
+named_above low (x ∷ xs) a above h =
+    let P : ℕ → Type 0 = λ y. low < y in
+    grind (arith, nat_tests, All-head P x xs above, named_above low xs a (All-tail P x xs above))
 
 -- a region begins in the extent that serves it
 begins_in : (x : Part) (r : Region) → houses x r ≡ true → (4096 * x.span.first ≤ r.addr) × (r.addr ≤ 4096 * end_of x.span)
-begins_in x r h =
-    let lies = (both_true (is_active x.state && x.committed) (lies_in x.span r) h).1 in
-    let both = both_true (nat_le (address_of x.span.first) r.addr) (nat_le (r.addr + size_at r.class) (address_of (end_of x.span))) lies in
-    (leb-true _ _ both.0, omega (arith, leb-true _ _ both.1))
+begins_in x r h = (grind (arith, nat_tests), grind (arith, nat_tests))
 
 -- an extent that is emptied by higher addresses is higher
 above_first : (c addr : ℕ) (addrs : List ℕ) (s : Space) (p : Part) → Sound s → Empties c addr s p → All (λ a. addr < a) addrs →
@@ -293,13 +258,9 @@ round_by c addr addrs s p true sound e above left one is gone same =
   where
     emptied_still : (c : ℕ) (addrs : List ℕ) (regions : List Region) (p : Part) → is_active p.state ≡ true → is_left regions p ≡ true → is_emptied (staying c addrs regions) p ≡ true
     emptied_still c addrs regions p active left =
-        let none : list_any (houses p) regions ≡ false = not-true (list_any (houses p) regions) left in
+        let none = none_counted (houses p) regions (not-true (list_any (houses p) regions) left) in
         let sums = sum_by-filter_both (is_given_back c addrs) (λ q. not (is_given_back c addrs q)) (λ _. refl) (λ q. ones (houses p q)) regions in
-        let zero : count_by (houses p) regions ≡ 0 = none_counted (houses p) regions none in
-        elim (cases_Bool (list_any (houses p) (staying c addrs regions))) [
-          | inl t ↦ absurd (omega (arith, any_counts (houses p) (staying c addrs regions) t, sums, zero))
-          | inr f ↦ rw (active, f) refl
-        ]
+        grind (arith, active, none, sums, any_counts (houses p) (staying c addrs regions))
 
 pub round : (c addr : ℕ) (addrs : List ℕ) (s : Space) → Sound s → holds_at c s.regions addr ≡ true → All (λ a. addr < a) addrs → Round c addr addrs s
 round c addr addrs s sound held above =
@@ -330,14 +291,10 @@ no_round c s sound =
     )
   where
     nobody : (b : Bool) → not (b && false) ≡ true
-    nobody true = refl
-    nobody false = refl
+    nobody b = grind arith
 
     serves_still : (p : Part) → (IsTrue (is_active p.state) → 0 < residents p s.regions) → is_emptied s.regions p ≡ false
-    serves_still p used = elim (cases_Bool (is_active p.state)) [
-      | inr f ↦ ap (λ b. b && is_left s.regions p) f
-      | inl t ↦ rw (t, counts_any (houses p) s.regions (used t)) refl
-    ]
+    serves_still p used = grind (arith, used, counts_any (houses p) s.regions)
 
 -- How far a client has come in giving regions back: some are left, whose return leaves what was to be left at first.
 pub record Left (c : ℕ) (rest all : List ℕ) (start s : Space) (emptied : ℕ) : Type 0 where

@@ -172,16 +172,13 @@ pub none_meets : (parts : List Part) (p : Part) → All (λ q. IsPlaced q.span) 
     list_any (λ q. meets q.span p.span) parts ≡ false
 none_meets [] p placed some owners = refl
 none_meets (q ∷ qs) p placed some owners =
-    let sums = λ (page : ℕ). sum_by-cons (share page) q qs in
-    let rest = none_meets qs p (All-tail (λ x. IsPlaced x.span) q qs placed) some (λ page. omega (arith, sums page, owners page)) in
-    let ones : Bool → ℕ = λ b. cond b 1 0 in
+    let P : Part → Type 0 = λ x. IsPlaced x.span in
+    let rest = none_meets qs p (All-tail P q qs placed) some (λ page. omega (arith, sum_by-cons (share page) q qs, owners page)) in
     elim (cases_Bool (meets q.span p.span)) [
       | inr f ↦ rw f rest
       | inl t ↦
-          let both = common_page q.span p.span (All-head (λ x. IsPlaced x.span) q qs placed).0 some t in
-          let mine : ones (has_page both.0 q.span) ≡ 1 = ap ones both.1 in
-          let other : ones (has_page both.0 p.span) ≡ 1 = ap ones both.2 in
-          absurd (omega (arith, sums both.0, owners both.0, mine, other))
+          let both = common_page q.span p.span (All-head P q qs placed).0 some t in
+          absurd (grind (arith, sum_by-cons (share both.0) q qs, owners both.0, both.1, both.2))
     ]
 
 -- ---- a cut in three calls
@@ -189,15 +186,11 @@ none_meets (q ∷ qs) p placed some owners =
 -- what a list has where a part of it has none that pass
 find_behind : (t : Part → Bool) (others tail : List Part) → filter t others ≡ [] → find t (others ++ tail) ≡ find t tail
 find_behind t [] tail none = refl
-find_behind t (x ∷ xs) tail none =
-    elim (t x) as (λ b. cond b (x ∷ filter t xs) (filter t xs) ≡ [] → cond b (Some x) (find t (xs ++ tail)) ≡ find t tail)
-    [ true ↦ λ h. absurd (cc) | false ↦ λ h. find_behind t xs tail h ] none
+find_behind t (x ∷ xs) tail none = grind (arith, find_behind t xs tail)
 
 pub keeps_all : (t : Part → Bool) (xs : List Part) → filter t xs ≡ [] → filter (λ x. not (t x)) xs ≡ xs
 keeps_all t [] none = refl
-keeps_all t (x ∷ xs) none =
-    elim (t x) as (λ b. cond b (x ∷ filter t xs) (filter t xs) ≡ [] → cond (not b) (x ∷ filter (λ y. not (t y)) xs) (filter (λ y. not (t y)) xs) ≡ x ∷ xs)
-    [ true ↦ λ h. absurd (cc) | false ↦ λ h. ap (λ ys. x ∷ ys) (keeps_all t xs h) ] none
+keeps_all t (x ∷ xs) none = grind (arith, keeps_all t xs)
 
 exchanged_behind : (t : Part → Bool) (others tail pieces : List Part) → filter t others ≡ [] →
     exchanged t (others ++ tail) pieces ≡ others ++ exchanged t tail pieces
@@ -253,17 +246,12 @@ there_within parts p apart there = (
 )
   where
     if_le : (b : Bool) (n : ℕ) → cond b n 0 ≤ n
-    if_le true n = omega arith
-    if_le false n = omega arith
+    if_le b n = grind arith
 
 -- two extents of one use, as one, serve as many pages
 pub joined_active : (p q : Part) → AreAlike p q → active_pages (joined p q ∷ []) ≡ serving p + serving q
 joined_active p q alike =
-    let same : is_active q.state ≡ is_active p.state = ap is_active (sym alike.state) in
-    let q_serves : serving q ≡ cond (is_active p.state) q.span.pages 0 = ap (λ b. cond b q.span.pages 0) same in
-    let both : cond (is_active p.state) (p.span.pages + q.span.pages) 0 ≡ serving p + cond (is_active p.state) q.span.pages 0 =
-    elim (is_active p.state) as (λ b. cond b (p.span.pages + q.span.pages) 0 ≡ cond b p.span.pages 0 + cond b q.span.pages 0) [ true ↦ refl | false ↦ refl ] in
-    omega (arith, sum_by-cons serving (joined p q) [], q_serves, both)
+    grind (arith, ap is_active alike.state, sum_by-cons serving (joined p q) [])
 
 -- the pieces of a cut, of which the one that keeps the state comes last
 abbrev pub pieces_of : Bool → ℕ → Part → List Part

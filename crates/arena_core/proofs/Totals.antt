@@ -1,8 +1,7 @@
 -- The counts of bytes are those of pages, and what is read of all extents.
-use Rattle.std.proofs.Common.{◌≡◌, ℕ, ◌+◌, ◌*◌, ◌^◌, ◌<◌, ◌≤◌, Bool, true, false, cond, List, [], ◌∷◌, get_or, find, filter, refl, sym, arith, inl, inr}
+use Rattle.std.proofs.Common.{◌≡◌, ℕ, ◌+◌, ◌*◌, ◌^◌, ◌<◌, ◌≤◌, Bool, true, false, cond, List, [], ◌∷◌, get_or, find, filter, refl, sym, arith}
 use Rattle.std.specs.List.{list_any, sum_by}
 use Rattle.std.specs.Option.{is_some}
-use Rattle.std.proofs.lemmas.Bool.{cases_Bool}
 use Rattle.std.proofs.lemmas.Bool.Decides.{nat_tests}
 use Rattle.std.proofs.lemmas.List.Folds.{list_any_none}
 use Rattle.std.proofs.lemmas.List.Sums.{sum_by-cons}
@@ -43,12 +42,8 @@ where_pages test (p ∷ ps) =
 listed_pages : (rest : Rest) (parts : List Part) → pages_of rest parts ≡ sum_by (pages_if (is_listed rest)) parts
 listed_pages rest [] = refl
 listed_pages rest (p ∷ ps) =
-    let later = listed_pages rest ps in
-    let kept : List Part = filter (λ q. is_listed rest q.state) ps in
-    elim (is_listed rest p.state) as (λ b. pages_if (is_listed rest) p ≡ cond b p.span.pages 0 → sum_by (λ q. q.span.pages) (cond b (p ∷ kept) kept) ≡ sum_by (pages_if (is_listed rest)) (p ∷ ps)) [
-      | true ↦ λ e. omega (arith, e, sum_by-cons (λ q. q.span.pages) p kept, sum_by-cons (pages_if (is_listed rest)) p ps, later)
-      | false ↦ λ e. omega (arith, e, sum_by-cons (pages_if (is_listed rest)) p ps, later)
-    ] refl
+    let kept = filter (λ q. is_listed rest q.state) ps in
+    grind (arith, listed_pages rest ps, sum_by-cons (λ q. q.span.pages) p kept, sum_by-cons (pages_if (is_listed rest)) p ps)
 
 -- How the counts of a space come of the sums of pages.
 pub record Summed (parts : List Part) : Type 0 where
@@ -83,4 +78,4 @@ none_past s chunk sound past =
 -- something is found just where something passes
 pub found_any : (t : Part → Bool) (xs : List Part) → is_some (find t xs) ≡ list_any t xs
 found_any t [] = refl
-found_any t (x ∷ xs) = elim (cases_Bool (t x)) [ inl h ↦ rw h refl | inr h ↦ rw h (found_any t xs) ]
+found_any t (x ∷ xs) = grind (arith, found_any t xs)
