@@ -34,20 +34,15 @@ region_is r small = λ i. record { addr = r.addr; class = class_is i; holder = h
 
     holder_is : (o : Option ℕ) → (r.class + 256 * code_of r.holder) / 256 ≡ code_of o → holder_of ((r.class + 256 * code_of r.holder) / 256) ≡ o
     holder_is None e = rw e refl
-    holder_is (Some c) e =
-        let some : eqb (c + 1) 0 ≡ false = grind (arith, nat_tests) in
-        let same : c + 1 - 1 ≡ c = omega arith in
-        rw (e, some, same) refl
+    holder_is (Some c) e = rw e (grind (arith, nat_tests))
 
 -- a key is at an address or behind it just where its major number says so
 from_is : (k : Key) (major : ℕ) → is_from (start major) k ≡ nat_le major k.major
-from_is k major = elim (cases_Bool (is_from (start major) k)) [
-  | inl t ↦ let le = from_start k major t in rw t (grind (arith, nat_tests))
-  | inr f ↦ elim (cases_Bool (nat_le major k.major)) [
-    | inl l ↦ let t = start_from k major (grind (arith, nat_tests)) in absurd (cc)
-    | inr g ↦ rw (f, g) refl
-  ]
-]
+from_is k major = grind (arith, nat_tests, from_start k major, start_from k major)
+
+-- the keys behind one are at no lower address
+keys_after : (n : ℕ) (k : Key) (ks : List Key) → n ≤ k.major → Every (λ x. key_cmp k x ≡ Less) ks → Every (λ x. n ≤ x.major) ks
+keys_after n k ks le first = every_map (λ x. key_cmp k x ≡ Less) (λ x. n ≤ x.major) (λ x e. omega (arith, less_major k x e)) ks first
 
 -- where all addresses are too high, none is in the range
 none_within : (low high : ℕ) (ks : List Key) → Every (λ k. high ≤ k.major) ks → list_any (begins_within low high) (map region_of ks) ≡ false
@@ -64,36 +59,18 @@ pub within_is : (low high : ℕ) (ks : List Key) → IsAscending ks → lies_bel
 unfolding IsStrictlySortedBy
 within_is low high [] ascending = refl
 within_is low high (k ∷ ks) ascending =
-    let rest = within_is low high ks ascending.1 in
-    subst (λ b. lies_below high (cond b (Some k) (find (is_from (start low)) ks)) ≡ list_any (begins_within low high) (map region_of (k ∷ ks))) (sym (from_is k low))
-    (elim (nat_le low k.major) as (λ b. lies_below high (cond b (Some k) (find (is_from (start low)) ks)) ≡ ((b && nat_lt k.major high) || list_any (begins_within low high) (map region_of ks))) [
-      | true ↦ elim (cases_Bool (nat_lt k.major high)) [
-        | inl t ↦ rw t refl
-        | inr f ↦
-            let ge : high ≤ k.major = grind (arith, nat_tests) in
-            rw (f, none_within low high ks (every_map (λ x. key_cmp k x ≡ Less) (λ x. high ≤ x.major) (λ x e. let le = less_major k x e in omega arith) ks ascending.0)) refl
-      ]
-      | false ↦ rest
-    ])
+    let past : high ≤ k.major → list_any (begins_within low high) (map region_of ks) ≡ false = λ ge. none_within low high ks (keys_after high k ks ge ascending.0) in
+    grind (arith, nat_tests, from_is k low, within_is low high ks ascending.1, past)
 
 -- ---- a region more
 
-nat_greater : (m n : ℕ) → n < m → nat_cmp m n ≡ Greater
-nat_greater m n l = by (nat_cmp m n) (ranked m n (nat_cmp m n) refl)
-  where
-    by : (r : Ordering) → MatchOrdering r (m < n) (m ≡ n) (n < m) → r ≡ Greater
-    by Less h = absurd (omega (arith, l, h))
-    by Equal h = absurd (omega (arith, l, h))
-    by Greater h = refl
+-- what comes first is less than what comes later, and the other way round
+greater_from_less : (a b : Key) → key_cmp a b ≡ Less → key_cmp b a ≡ Greater
+greater_from_less a b l = key_total.antisymm b a ∙ ap ordering_reverse l
 
 -- a key with a greater major number comes after the other one
 greater_major : (a b : Key) → b.major < a.major → key_cmp a b ≡ Greater
-unfolding key_cmp
-greater_major a b l = rw (nat_greater a.major b.major l)
-
--- the other way round
-greater_from_less : (a b : Key) → key_cmp a b ≡ Less → key_cmp b a ≡ Greater
-greater_from_less a b l = key_total.antisymm b a ∙ ap ordering_reverse l
+greater_major a b l = greater_from_less b a (major_less b a l)
 
 -- where all keys are behind an address, none is below it and all are above it
 none_below : (key : Key) (ks : List Key) → Every (λ k. key.major < k.major) ks → filter (is_below key) ks ≡ []
@@ -126,7 +103,7 @@ insert_is r (k ∷ ks) ascending free =
             let below : is_below key k ≡ false = ap is_lt (greater_major k key g) in
             let above : is_above key k ≡ true = ap is_gt (greater_major k key g) in
             let here : nat_lt r.addr k.major ≡ true = grind (arith, nat_tests) in
-            let later : Every (λ x. r.addr < x.major) ks = every_map (λ x. key_cmp k x ≡ Less) (λ x. r.addr < x.major) (λ x e. let le = less_major k x e in omega arith) ks ascending.0 in
+            let later : Every (λ x. r.addr < x.major) ks = keys_after (suc r.addr) k ks g ascending.0 in
             rw (below, above, here, none_below key ks later, all_above key ks later) refl
       ]
     ]
@@ -154,12 +131,7 @@ all_stay : (c addr : ℕ) (ks : List Key) → Every (λ k. addr < k.major) ks �
 all_stay c addr [] later = (refl, refl, refl)
 all_stay c addr (k ∷ ks) later =
     let rest = all_stay c addr ks later.1 in
-    let stays = not_given c addr (region_of k) (let l = later.0 in omega arith) in
-    let apart : eqb k.major addr ≡ false = let l = later.0 in grind (arith, nat_tests) in (
-      rw (stays, rest.0) refl,
-      rw (stays, rest.1) refl,
-      elim (is_held_by c (region_of k)) as (λ b. ((b && eqb k.major addr) || holds_at c (map region_of ks) addr) ≡ false) [ true ↦ rw (apart, rest.2) refl | false ↦ rest.2 ],
-    )
+    (grind (arith, nat_tests, later.0, rest.0), grind (arith, nat_tests, later.0, rest.1), grind (arith, nat_tests, later.0, rest.2))
 
 -- one key comes first, at a lower address
 taken_later : (c addr : ℕ) (k : Key) (ks : List Key) (key : Key) → k.major < addr → Every (λ x. key_cmp k x ≡ Less) ks → Taken c addr ks key → Taken c addr (k ∷ ks) key
@@ -181,11 +153,7 @@ taken_first c addr k ks at later first held =
     let none = all_stay c addr ks later in
     let itself : is_other k k ≡ false = ap (λ r. not (is_eq r)) (tied_itself key_total k) in
     let others : filter (is_other k) ks ≡ ks = filter_all (is_other k) ks (every_map (λ x. key_cmp k x ≡ Less) (λ x. is_other k x ≡ true) (λ x l. ap (λ r. not (is_eq r)) (greater_from_less k x l)) ks first) in
-    let mine : is_held_by c (region_of k) ≡ true =
-    elim (is_held_by c (region_of k)) as (λ b. ((b && eqb k.major addr) || holds_at c (map region_of ks) addr) ≡ true → b ≡ true)
-    [ true ↦ λ h. refl | false ↦ λ h. let e : holds_at c (map region_of ks) addr ≡ false = none.2 in absurd (cc) ] held in
-    let given : is_given_back c (addr ∷ []) (region_of k) ≡ true =
-    let same : eqb addr k.major ≡ true = grind (arith, nat_tests) in rw (mine, same) refl in record {
+    let given : is_given_back c (addr ∷ []) (region_of k) ≡ true = grind (arith, nat_tests, none.2, held) in record {
       found = rw start_is refl;
       has = (0, omega arith, refl);
       kept = rw (itself, given, others) (sym none.0);
@@ -199,22 +167,12 @@ take_is c addr [] ascending alone held = absurd (cc)
 take_is c addr (k ∷ ks) ascending alone held =
     let sums = sum_by-cons (λ r. cond (is_at addr r) 1 0) (region_of k) (map region_of ks) in
     elim (cases_order k.major addr) [
-      | inl e ↦
-          let here : is_at addr (region_of k) ≡ true = grind (arith, nat_tests) in
-          let ones : Bool → ℕ = λ b. cond b 1 0 in let one : ones (is_at addr (region_of k)) ≡ 1 = ap ones here in
-          let later : Every (λ x. addr < x.major) ks = all_later k ks addr e ascending.0 (omega (arith, sums, one, alone)) in
-          (k, taken_first c addr k ks e later ascending.0 held)
+      | inl e ↦ let later = all_later k ks addr e ascending.0 (grind (arith, nat_tests, sums, alone)) in (k, taken_first c addr k ks e later ascending.0 held)
       | inr o ↦ elim o [
         | inl l ↦
-            let apart : eqb k.major addr ≡ false = grind (arith, nat_tests) in
-            let rest : holds_at c (map region_of ks) addr ≡ true =
-            elim (is_held_by c (region_of k)) as (λ b. ((b && eqb k.major addr) || holds_at c (map region_of ks) addr) ≡ true → holds_at c (map region_of ks) addr ≡ true)
-            [ true ↦ λ h. (rw apart at h) | false ↦ λ h. h ] held in
+            let rest : holds_at c (map region_of ks) addr ≡ true = grind (arith, nat_tests, held) in
             let t = take_is c addr ks ascending.1 (omega (arith, sums, alone)) rest in (t.0, taken_later c addr k ks t.0 l ascending.0 t.1)
-        | inr g ↦
-            let later : Every (λ x. addr < x.major) ks = every_map (λ x. key_cmp k x ≡ Less) (λ x. addr < x.major) (λ x e. let le = less_major k x e in omega arith) ks ascending.0 in
-            let none = all_stay c addr (k ∷ ks) (g, later) in
-            let e : holds_at c (map region_of (k ∷ ks)) addr ≡ false = none.2 in absurd (cc)
+        | inr g ↦ let none = all_stay c addr (k ∷ ks) (g, keys_after (suc addr) k ks g ascending.0) in let e = none.2 in absurd (cc)
       ]
     ]
   where
@@ -222,10 +180,7 @@ take_is c addr (k ∷ ks) ascending alone held =
     all_later k [] addr e less none = tt
     all_later k (x ∷ xs) addr e less none =
         let sums = sum_by-cons (λ r. cond (is_at addr r) 1 0) (region_of x) (map region_of xs) in
-        let le = less_major k x less.0 in
-        let ne : x.major ≢ addr = λ same. let here : is_at addr (region_of x) ≡ true = grind (arith, nat_tests) in
-        let ones : Bool → ℕ = λ b. cond b 1 0 in let one : ones (is_at addr (region_of x)) ≡ 1 = ap ones here in omega (arith, sums, one, none) in
-        (omega (arith, le, ne, e), all_later k xs addr e less.1 (omega (arith, sums, none)))
+        (grind (arith, nat_tests, sums, none, less_major k x less.0), all_later k xs addr e less.1 (omega (arith, sums, none)))
 
 -- where no region begins at an address, no key has it
 pub free_keys : (addr : ℕ) (ks : List Key) → list_any (is_at addr) (map region_of ks) ≡ false → Every (λ k. k.major ≢ addr) ks

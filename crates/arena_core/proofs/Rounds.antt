@@ -56,19 +56,20 @@ taken_first c p acc [] low one above = absurd (cc)
 taken_first c p acc (x ∷ xs) low one above =
     let t = begins_at p.span.first in
     let P : Part → Type 0 = λ q. p.span.first < q.span.first in
-    elim (t x) as (λ b. cond b (x ∷ filter t xs) (filter t xs) ≡ p ∷ [] → All P (cond (not b) (x ∷ filter (λ q. not (t q)) xs) (filter (λ q. not (t q)) xs)) →
-    fold (put c) (put c acc x) xs ≡ taken_out c p ∷ fold (put c) acc (cond (not b) (x ∷ filter (λ q. not (t q)) xs) (filter (λ q. not (t q)) xs))) [
-      | true ↦ λ h k.
-          let same : x ≡ p = cc in
+    let others : List Part = filter (λ q. not (t q)) xs in
+    elim (cases_Bool (t x)) [
+      | inl h ↦
+          let e : x ∷ filter t xs ≡ p ∷ [] = (rw h at one) in
+          let k : All P others = (rw h at above) in
           let none : filter t xs ≡ [] = cc in
-          let rest : filter (λ q. not (t q)) xs ≡ xs = keeps_all t xs none in
-          ap (λ y. fold (put c) (put c acc y) xs) same
-          ∙ ap (λ ys. fold (put c) ys xs) (put_first c p acc low)
-          ∙ taken_later c p acc xs (subst (All P) rest k)
-          ∙ ap (λ ys. taken_out c p ∷ fold (put c) acc ys) (sym rest)
-      | false ↦ λ h k.
-          taken_first c p (put c acc x) xs (All-insert P acc _ (taken_out c x) low (All-head P x (filter (λ q. not (t q)) xs) k)) h (All-tail P x (filter (λ q. not (t q)) xs) k)
-    ] one above
+          let rest = keeps_all t xs none in
+          let first = put_first c p acc low in
+          let later = taken_later c p acc xs (subst (All P) rest k) in
+          rw h cc
+      | inr h ↦
+          let k : All P (x ∷ others) = (rw h at above) in
+          rw h (taken_first c p (put c acc x) xs (All-insert P acc _ (taken_out c x) low (All-head P x others k)) (rw h at one) (All-tail P x others k))
+    ]
 
 -- ---- two filters
 
@@ -98,9 +99,8 @@ staying_twice c addr addrs regions =
 rising : (least : ℕ) (addrs : List ℕ) → rises_from least addrs ≡ true → All (λ a. least ≤ a) addrs
 rising least [] h = All-nil (λ a. least ≤ a)
 rising least (a ∷ more) h =
-    let both = both_true (nat_le least a) (rises_from (a + 1) more) h in
-    let low = leb-true _ _ both.0 in
-    All-cons (λ x. least ≤ x) a more low (All-weaker (λ x. a + 1 ≤ x) (λ x. least ≤ x) (λ x le. omega arith) more (rising (a + 1) more both.1))
+    let later : All (λ x. a + 1 ≤ x) more = rising (a + 1) more (grind (arith, nat_tests)) in
+    All-cons (λ x. least ≤ x) a more (grind (arith, nat_tests)) (All-weaker (λ x. a + 1 ≤ x) (λ x. least ≤ x) (λ x le. grind (arith, nat_tests)) more later)
 
 -- and rise from any lower number on
 rises_lower : (least lower : ℕ) (addrs : List ℕ) → lower ≤ least → rises_from least addrs ≡ true → rises_from lower addrs ≡ true
