@@ -73,12 +73,12 @@ pub record InFlight (c : ℕ) (s : Space) (span : Span) (p : Part) : Type 0 wher
 
 pub in_flight : (c : ℕ) (s : Space) (span : Span) (p : Part) → Sound s → Some p ≡ find (is_flight_at c span) s.parts → InFlight c s span p
 in_flight c s span p sound found =
-    let passes = both_true (is_flight c p.state) (eqb p.span.first span.first && eqb p.span.pages span.pages) (find_passes (is_flight_at c span) s.parts p (sym found)) in
-    let same = both_true (eqb p.span.first span.first) (eqb p.span.pages span.pages) passes.1 in record {
-      own = passes.0;
-      idle = flight-idle c p.state passes.0;
-      first = eqb-true _ _ same.0;
-      pages = eqb-true _ _ same.1;
+    let passes = find_passes (is_flight_at c span) s.parts p (sym found) in
+    let own : is_flight c p.state ≡ true = grind (arith, nat_tests, passes) in record {
+      own = own;
+      idle = flight-idle c p.state own;
+      first = grind (arith, nat_tests, passes);
+      pages = grind (arith, nat_tests, passes);
       placed = find_has (λ q. IsPlaced q.span) (is_flight_at c span) s.parts p sound.placed (sym found);
     }
 
@@ -98,20 +98,16 @@ listed_same ToDirty other h = elim other as (λ o. is_listed ToDirty (listed o) 
 listed_same ToMuzzy other h = elim other as (λ o. is_listed ToMuzzy (listed o) ≡ true → ToMuzzy ≡ o) [ ToDirty ↦ λ e. absurd (cc) | ToMuzzy ↦ λ e. refl | ToRetained ↦ λ e. absurd (cc) ] h
 listed_same ToRetained other h = elim other as (λ o. is_listed ToRetained (listed o) ≡ true → ToRetained ≡ o) [ ToDirty ↦ λ e. absurd (cc) | ToMuzzy ↦ λ e. absurd (cc) | ToRetained ↦ λ e. refl ] h
 
-beq_same : (a b : Bool) → beq a b ≡ true → a ≡ b
-beq_same a b h = grind arith
-
 -- two extents in flight that may be merged are alike
 pub merged_alike : (c : ℕ) (s : Space) (low high : Span) (answer : Answer) (p q : Part) → Sound s → IsTrue (merge_stands s c (Merge low high) answer) →
     Some p ≡ find (is_flight_at c low) s.parts → Some q ≡ find (is_flight_at c high) s.parts → AreAlike p q
 merged_alike c s low high answer p q sound stands e f =
     let first = both_true (is_yes_or_no answer && eqb (end_of low) high.first) _ stands in
-    let side = both_true (is_yes_or_no answer) (eqb (end_of low) high.first) first.0 in
     let merge : may_merge p q ≡ true = subst (λ o. both_merge o (Some q) ≡ true) (sym e) (subst (λ o. both_merge (find (is_flight_at c low) s.parts) o ≡ true) (sym f) first.1) in
     let same = both_true (is_listed (rest_of p.state) (listed (rest_of q.state))) (beq p.committed q.committed) merge in
     let at = in_flight c s low p sound e in
     let to = in_flight c s high q sound f in record {
-      beside = omega (arith, at.first, at.pages, to.first, eqb-true _ _ side.1);
+      beside = grind (arith, nat_tests, at.first, at.pages, to.first, first.0);
       state = flight_state c p.state at.own ∙ ap (Flight c) (listed_same (rest_of p.state) (rest_of q.state) same.0) ∙ sym (flight_state c q.state to.own);
-      committed = beq_same p.committed q.committed same.1;
+      committed = grind (arith, same.1);
     }

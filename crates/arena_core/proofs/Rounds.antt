@@ -129,26 +129,15 @@ parts_round c parts p gone goes stays alone above one is =
     let t = begins_at p.span.first in
     let out : Part = taken_out c p in
     let others : List Part = filter (λ q. not (t q)) parts in
-    let gone_one : filter gone one ≡ filter gone others =
-    ap (filter gone) is ∙ filter-append gone others (out ∷ []) ∙ ap (λ b. filter gone others ++ cond b (out ∷ []) []) stays ∙ append-nil (filter gone others) in
-    let kept_one : filter (λ q. not (gone q)) one ≡ filter (λ q. not (gone q)) others ++ out ∷ [] =
-    ap (filter (λ q. not (gone q))) is ∙ filter-append (λ q. not (gone q)) others (out ∷ []) ∙ ap (λ b. filter (λ q. not (gone q)) others ++ cond (not b) (out ∷ []) []) stays in
-    let none : filter (λ q. not (gone q)) (filter t parts) ≡ [] = ap (filter (λ q. not (gone q))) alone ∙ ap (λ b. cond (not b) (p ∷ []) []) goes in
-    let kept : filter (λ q. not (gone q)) others ≡ filter (λ q. not (gone q)) parts = filter-without (λ q. not (gone q)) t parts none in
-    let first : filter t (filter gone parts) ≡ p ∷ [] = filters_swap t gone parts ∙ ap (filter gone) alone ∙ ap (λ b. cond b (p ∷ []) []) goes in
-    let rest : filter (λ q. not (t q)) (filter gone parts) ≡ filter gone others = filters_swap (λ q. not (t q)) gone parts in
-    let taken : taken_in_order c (filter gone parts) ≡ out ∷ taken_in_order c (filter gone others) =
-    taken_first c p [] (filter gone parts) (All-nil (λ q. p.span.first < q.span.first)) first (subst (All (λ q. p.span.first < q.span.first)) (sym rest) above)
-    ∙ ap (λ xs. out ∷ taken_in_order c xs) rest in
-    let n : length (filter t (filter gone parts)) ≡ 1 = ap length first in
-    let m : length (filter (λ q. not (t q)) (filter gone parts)) ≡ length (filter gone others) = ap length rest in
-    let k : length (filter gone one) ≡ length (filter gone others) = ap length gone_one in (
-      ap (λ xs. exchanged gone one (taken_in_order c xs)) gone_one
-          ∙ ap (λ xs. xs ++ taken_in_order c (filter gone others)) kept_one
-          ∙ append_assoc (filter (λ q. not (gone q)) others) (out ∷ []) (taken_in_order c (filter gone others))
-          ∙ ap (λ xs. xs ++ out ∷ taken_in_order c (filter gone others)) kept
-          ∙ ap (λ xs. filter (λ q. not (gone q)) parts ++ xs) (sym taken),
-      omega (arith, n, m, k, length-filter_both t (λ q. not (t q)) (λ _. refl) (filter gone parts)),
+    let stay = λ (q : Part). not (gone q) in
+    let gone_one : filter gone one ≡ filter gone others = grind (arith, is, stays, filter-append gone others (out ∷ []), append-nil (filter gone others)) in
+    let kept_one : filter stay one ≡ filter stay others ++ out ∷ [] = grind (arith, is, stays, filter-append stay others (out ∷ [])) in
+    let kept = filter-without stay t parts (grind (arith, ap (filter stay) alone, goes)) in
+    let first : filter t (filter gone parts) ≡ p ∷ [] = grind (arith, filters_swap t gone parts, ap (filter gone) alone, goes) in
+    let rest = filters_swap (λ q. not (t q)) gone parts in
+    let taken = taken_first c p [] (filter gone parts) (All-nil (λ q. p.span.first < q.span.first)) first (subst (All (λ q. p.span.first < q.span.first)) (sym rest) above) in (
+      cc (gone_one, kept_one, append_assoc (filter stay others) (out ∷ []) (taken_in_order c (filter gone others)), kept, rest, taken),
+      grind (arith, ap length first, ap length rest, ap length gone_one, length-filter_both t (λ q. not (t q)) (λ _. refl) (filter gone parts)),
     )
 
 -- what no element passes isn't counted
@@ -177,54 +166,36 @@ above_first c addr addrs s p sound e above =
     let one : List Region = staying c (addr ∷ []) s.regions in
     let gone = is_emptied (staying c addrs one) in
     let others : List Part = filter (λ q. not (t q)) s.parts in
-    let P : Part → Type 0 = λ x. (t x ≡ false) × (serves e.region x ≡ 0) × (IsTrue (is_active x.state) → 0 < residents x s.regions) × (share p.span.first x + share p.span.first p ≤ 1) in
-    let fails = filter_passes (λ q. not (t q)) s.parts in
+    let P : Part → Type 0 = λ x. (serves e.region x ≡ 0) × (IsTrue (is_active x.state) → 0 < residents x s.regions) × (share p.span.first x + share p.span.first p ≤ 1) in
     let used = All-filter (λ q. not (t q)) (λ x. IsTrue (is_active x.state) → 0 < residents x s.regions) s.parts sound.used in
     let mine : sum_by (share p.span.first) (filter t s.parts) ≡ sum_by (share p.span.first) (p ∷ []) = ap (sum_by (share p.span.first)) e.alone in
     let each : All P others = λ k d h. (
-      not-true (t (get_or others k d)) (fails k d h),
       e.others k d h,
       used k d h,
       omega (arith, get_or-le-sum_by (share p.span.first) others k d h, mine, sum_by-cons (share p.span.first) p [], sum_by-filter_both t (λ q. not (t q)) (λ _. refl) (share p.span.first) s.parts, sound.owners p.span.first),
     ) in
     let kept = All-filter gone P others each in
     let passes = filter_passes gone others in
-    λ k d h. higher (get_or (filter gone others) k d) (kept k d h).0 (kept k d h).1 (kept k d h).2 (kept k d h).3 (passes k d h)
+    λ k d h. higher (get_or (filter gone others) k d) (kept k d h).0 (kept k d h).1 (kept k d h).2 (passes k d h)
   where
-    higher : (x : Part) → begins_at p.span.first x ≡ false → serves e.region x ≡ 0 → (IsTrue (is_active x.state) → 0 < residents x s.regions) → share p.span.first x + share p.span.first p ≤ 1 →
+    higher : (x : Part) → serves e.region x ≡ 0 → (IsTrue (is_active x.state) → 0 < residents x s.regions) → share p.span.first x + share p.span.first p ≤ 1 →
         is_emptied (staying c addrs (staying c (addr ∷ []) s.regions)) x ≡ true → p.span.first < x.span.first
-    higher x other none used apart goes =
+    higher x none used apart goes =
         let one : List Region = staying c (addr ∷ []) s.regions in
         let first = is_given_back c (addr ∷ []) in
         let later = is_given_back c addrs in
-        let both = both_true (is_active x.state) (is_left (staying c addrs one) x) goes in
-        let left : list_any (houses x) (staying c addrs one) ≡ false = not-true (list_any (houses x) (staying c addrs one)) both.1 in
-        let gone : count_by (houses x) (filter first s.regions) ≡ count_by (houses x) (e.region ∷ []) = ap (count_by (houses x)) e.given.alone in
-        let here = sum_by-filter_both first (λ q. not (first q)) (λ _. refl) (λ q. ones (houses x q)) s.regions in
-        let there = sum_by-filter_both later (λ q. not (later q)) (λ _. refl) (λ q. ones (houses x q)) one in
-        let zero : count_by (houses x) (staying c addrs one) ≡ 0 = none_counted (houses x) (staying c addrs one) left in
-        let some : 0 < count_by (houses x) (filter later one) = omega (arith, gone, here, there, zero, none, used both.0, sum_by-cons (λ q. ones (houses x q)) e.region []) in
-        let found = some_found (houses x) (filter later one) some in
+        let test = houses x in
+        let gone : count_by test (filter first s.regions) ≡ count_by test (e.region ∷ []) = ap (count_by test) e.given.alone in
+        let here = sum_by-filter_both first (λ q. not (first q)) (λ _. refl) (λ q. ones (test q)) s.regions in
+        let there = sum_by-filter_both later (λ q. not (later q)) (λ _. refl) (λ q. ones (test q)) one in
+        let zero = none_counted test (staying c addrs one) (grind (arith, goes)) in
+        let some : 0 < count_by test (filter later one) = grind (arith, goes, gone, here, there, zero, none, used, sum_by-cons (λ q. ones (test q)) e.region []) in
+        let found = some_found test (filter later one) some in
         let q : Region = found.0 in
-        let home = find_passes (houses x) (filter later one) q found.1 in
-        let named = find_has (λ r. later r ≡ true) (houses x) (filter later one) q (filter_passes later one) found.1 in
-        let listed = (both_true (is_held_by c q) (list_any (λ a. eqb a q.addr) addrs) named).1 in
-        let less : addr < q.addr = named_above addr addrs q.addr above listed in
-        let x_within = begins_in x q home in
-        let p_within = begins_in p e.region e.home in
-        let at : e.region.addr ≡ addr = e.given.at in
-        elim (cases_Bool (has_page p.span.first x.span)) [
-          | inl h ↦
-              let some_pages = e.placed.0 in
-              let itself : has_page p.span.first p.span ≡ true = grind (arith, nat_tests) in
-              let a : share p.span.first x ≡ 1 = ap ones h in
-              let b : share p.span.first p ≡ 1 = ap ones itself in
-              absurd (omega (arith, apart, a, b))
-          | inr h ↦ low_or_high h (omega (arith, x_within.1, p_within.0, at, less))
-        ]
-      where
-        low_or_high : has_page p.span.first x.span ≡ false → p.span.first < end_of x.span → p.span.first < x.span.first
-        low_or_high h below = grind (arith, nat_tests)
+        let home = find_passes test (filter later one) q found.1 in
+        let named = find_has (λ r. later r ≡ true) test (filter later one) q (filter_passes later one) found.1 in
+        let less = named_above addr addrs q.addr above (both_true (is_held_by c q) (list_any (λ a. eqb a q.addr) addrs) named).1 in
+        grind (arith, nat_tests, apart, begins_in x q home, begins_in p e.region e.home, e.given.at, less, e.placed.0)
 
 -- ---- the rounds
 
@@ -283,8 +254,7 @@ no_round c s sound =
     let each : All (λ p. is_emptied s.regions p ≡ false) s.parts = λ k d h. serves_still (get_or s.parts k d) (sound.used k d h) in
     let none : filter (is_emptied s.regions) s.parts ≡ [] = filter_alike (is_emptied s.regions) (λ _. false) s.parts each ∙ none_kept s.parts in
     let all : filter (λ p. not (is_emptied s.regions p)) s.parts ≡ s.parts = keeps_all (is_emptied s.regions) s.parts none in
-    let parts : exchanged (is_emptied s.regions) s.parts (taken_in_order c (filter (is_emptied s.regions) s.parts)) ≡ s.parts =
-    ap (λ xs. xs ++ taken_in_order c (filter (is_emptied s.regions) s.parts)) all ∙ ap (λ xs. s.parts ++ taken_in_order c xs) none ∙ append-nil s.parts in (
+    let parts : exchanged (is_emptied s.regions) s.parts (taken_in_order c (filter (is_emptied s.regions) s.parts)) ≡ s.parts = cc (none, all, append-nil s.parts) in (
       ap (λ (rs : List Region). record s { parts = exchanged (is_emptied rs) s.parts (taken_in_order c (filter (is_emptied rs) s.parts)); regions = rs }) regions
           ∙ (λ i. record s { parts = parts i }),
       ap (λ (rs : List Region). length (filter (is_emptied rs) s.parts)) regions ∙ ap length none,

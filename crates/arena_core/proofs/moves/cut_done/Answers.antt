@@ -1,5 +1,5 @@
 use Rattle.std.proofs.Common.{◌&&◌, IsTrue, arith, subst, ltb as nat_lt}
-use Rattle.std.proofs.lemmas.Bool.{ltb-true}
+use Rattle.std.proofs.lemmas.Bool.Decides.{nat_tests}
 use Rattle.space_model.specs.Step.{cut_stands, is_yes_or_no}
 use Rattle.space_model.proofs.Pieces.{both_true}
 use Rattle.arena_core.specs.Indexes.{space_of}
@@ -18,6 +18,4 @@ pub cut-requires-clause-fewer : goal.cut-requires-clause-fewer
 cut-requires-clause-fewer c =
     let at = in_flight c.args.client (space_of c.args.indexes.now) c.in-Split.span c.in-Done-Some.part c.requires.sound c.in-Done-Some.ensures.flight in
     let stands = subst (λ ask. IsTrue (cut_stands (space_of c.args.indexes.now) c.args.client ask c.args.heard.answer)) c.in-Split.is c.requires.stands in
-    let most = both_true (is_yes_or_no c.args.heard.answer && nat_lt 0 c.in-Split.left && nat_lt c.in-Split.left c.in-Split.span.pages) _ stands in
-    let fewer = both_true (is_yes_or_no c.args.heard.answer && nat_lt 0 c.in-Split.left) (nat_lt c.in-Split.left c.in-Split.span.pages) most.0 in
-    omega (arith, at.pages, ltb-true _ _ fewer.1)
+    grind (arith, nat_tests, at.pages, stands)

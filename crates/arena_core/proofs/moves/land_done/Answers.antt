@@ -1,5 +1,5 @@
 use Rattle.std.proofs.Common.{◌<◌, ◌&&◌, ◌==◌, arith, sym, ltb as nat_lt, leb as nat_le}
-use Rattle.std.proofs.lemmas.Bool.{ltb-true}
+use Rattle.std.proofs.lemmas.Bool.Decides.{nat_tests}
 use Rattle.size_classes.specs.Classes.{pages_at}
 use Rattle.size_classes.proofs.Table.{size_bounds}
 use Rattle.space_model.specs.Part.{is_flight_at}
@@ -21,9 +21,5 @@ add-requires-clause-absent c =
 
 pub add-requires-clause-fits : goal.add-requires-clause-fits
 add-requires-clause-fits c =
-    let committed = both_true (nat_le 36 c.args.class && nat_lt c.args.class 121 && c.args.count == 1 && c.args.span.pages == pages_at c.args.class) _ c.requires.stands in
-    let pages = both_true (nat_le 36 c.args.class && nat_lt c.args.class 121 && c.args.count == 1) _ committed.0 in
-    let one = both_true (nat_le 36 c.args.class && nat_lt c.args.class 121) _ pages.0 in
-    let classes = both_true (nat_le 36 c.args.class) _ one.0 in
-    let class : c.args.class < 121 = ltb-true _ _ classes.1 in
+    let class : c.args.class < 121 = grind (arith, nat_tests, c.requires.stands) in
     omega (arith, region_bytes_fits (space_of c.args.indexes.now) c.requires.sound, size_bounds c.args.class class)
