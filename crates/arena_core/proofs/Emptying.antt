@@ -1,13 +1,14 @@
 -- One region is given back: its extent is the only one that can be emptied.
-use Rattle.std.proofs.Common.{◌≡◌, ℕ, ◌+◌, ◌*◌, ◌/◌, ◌<◌, ◌≤◌, Bool, true, false, not, cond, IsTrue, List, [], ◌∷◌, ◌++◌, append-nil, length, get_or, find, filter, Option, Some, refl, sym, ◌∙◌, ap, subst, arith, All, ◌&&◌, ◌||◌, eqb, inl, inr}
+use Rattle.std.proofs.Common.{◌≡◌, ℕ, ◌+◌, ◌*◌, ◌/◌, ◌<◌, ◌≤◌, Bool, true, false, not, cond, IsTrue, List, [], ◌∷◌, append-nil, length, get_or, find, filter, Option, Some, refl, sym, ◌∙◌, ap, subst, arith, All, ◌&&◌, ◌||◌, eqb, inl, inr}
 use Rattle.std.specs.List.{count_by, list_any, sum_by}
-use Rattle.std.proofs.lemmas.Bool.{cases_Bool, eqb-true, not-true}
+use Rattle.std.proofs.lemmas.Bool.{cases_Bool, eqb-true}
 use Rattle.std.proofs.lemmas.Bool.Decides.{nat_tests}
-use Rattle.std.proofs.lemmas.List.Elements.{All-cons, All-filter, All-head, All-nil, All-tail, filter_passes}
+use Rattle.std.proofs.lemmas.List.Elements.{All-cons, All-filter, All-head, All-nil, All-tail, filter_passes, recursion_from_All}
 use Rattle.std.proofs.lemmas.List.Filters.{sum_by-filter_both}
 use Rattle.std.proofs.lemmas.List.Sums.{length-filter, sum_by-cons}
 use Rattle.size_classes.specs.Classes.{size_at}
 use Rattle.size_classes.proofs.Table.{size_bounds}
+use Rattle.ordered_set.proofs.Sorted.{filter_none}
 use Rattle.space_model.specs.declared.parts.Part.{Part}
 use Rattle.space_model.specs.declared.parts.Region.{Region}
 use Rattle.space_model.specs.declared.spaces.Space.{Space}
@@ -16,14 +17,14 @@ use Rattle.space_model.specs.Part.{begins_at, exchanged, holders, is_active, tak
 use Rattle.space_model.specs.Region.{covers, homes, houses, is_held_by, residents}
 use Rattle.space_model.specs.Step.{after_back, holds_at, is_emptied, is_given_back, staying, taken_in_order}
 use Rattle.space_model.specs.Sound.{Sound}
-use Rattle.space_model.proofs.Exchange.{filter-begins_at, find_has, find_passes, share}
+use Rattle.space_model.proofs.Exchange.{filter-begins_at, find_has, find_passes}
 use Rattle.space_model.proofs.Idle.{serves, some_pages}
 use Rattle.space_model.proofs.Landing.{serves-le-share, sum_nothing}
-use Rattle.space_model.proofs.Pieces.{both_true}
 use Rattle.arena_core.specs.RegionLists.{begins_within}
 use Rattle.arena_core.proofs.Finds.{fewer_pass}
 use Rattle.arena_core.proofs.Homes.{home_shares}
 use Rattle.arena_core.proofs.RegionKeys.{is_at}
+use Rattle.arena_core.proofs.Swaps.{keeps_all}
 
 -- ---- lists
 
@@ -34,8 +35,8 @@ ones b = cond b 1 0
 pub most_one : (b : Bool) → ones b ≤ 1
 most_one b = grind arith
 
-pub ones_true : (b : Bool) → ones b ≡ 1 → b ≡ true
-ones_true b h = grind arith
+pub ones_le : (a b : Bool) → ones a ≤ ones b → a ≡ true → b ≡ true
+ones_le a b le h = grind arith
 
 pub ones_same : (a b : Bool) → ones a ≡ ones b → a ≡ b
 ones_same a b h = grind arith
@@ -124,24 +125,18 @@ pub home_of : (r : Region) (parts : List Part) → r.class < 121 → homes r par
 home_of r parts class home most =
     let size : 0 < size_at r.class = omega (arith, size_bounds r.class class) in
     let starts : covers r.addr r ≡ true = grind (arith, nat_tests) in
-    let has : (q : Part) → houses q r ≡ true → has_page (r.addr / 4096) q.span ≡ true = λ q h.
-    let one : serves r q ≡ 1 = ap ones h in ones_true (has_page (r.addr / 4096) q.span) (omega (arith, one, serves-le-share r.addr r q starts, most_one (has_page (r.addr / 4096) q.span))) in
-    let fewer = fewer_pass (λ q. houses q r) (λ q. has_page (r.addr / 4096) q.span) parts (λ k d h. has (get_or parts k d)) in
-    let p = some_found (λ q. has_page (r.addr / 4096) q.span) parts (omega (arith, fewer, home)) in
-    let whole : share (r.addr / 4096) p.0 ≡ 1 = ap ones (find_passes (λ q. has_page (r.addr / 4096) q.span) parts p.0 p.1) in
-    let same = home_shares r parts (λ q. has_page (r.addr / 4096) q.span) p.0 class home most p.1 in
-    (p.0, record { found = p.1; home = ones_true (houses p.0 r) (omega (arith, same, whole)) })
+    let here : Part → Bool = λ q. has_page (r.addr / 4096) q.span in
+    let has : (q : Part) → houses q r ≡ true → here q ≡ true = λ q h. ones_le (houses q r) (here q) (serves-le-share r.addr r q starts) h in
+    let fewer = fewer_pass (λ q. houses q r) here parts (λ k d h. has (get_or parts k d)) in
+    let p = some_found here parts (omega (arith, fewer, home)) in
+    let same = home_shares r parts here p.0 class home most p.1 in
+    (p.0, record { found = p.1; home = ones_same (houses p.0 r) (here p.0) same ∙ find_passes here parts p.0 p.1 })
 
 -- an extent that serves a region serves those that begin in it
 serves_within : (p : Part) (r q : Region) (parts : List Part) (test : Part → Bool) → find test parts ≡ Some p → houses p r ≡ true → q.class < 121 → homes q parts ≡ 1 → holders (q.addr / 4096) parts ≤ 1 →
     houses p q ≡ begins_within (4096 * p.span.first) (4096 * p.span.first + 4096 * p.span.pages) q
 serves_within p r q parts test found home class one most =
-    ones_same (houses p q) (has_page (q.addr / 4096) p.span) (home_shares q parts test p class one most found)
-    ∙ same _ refl
-  where
-    same : (b : Bool) → has_page (q.addr / 4096) p.span ≡ b → b ≡ begins_within (4096 * p.span.first) (4096 * p.span.first + 4096 * p.span.pages) q
-    same true t = sym (grind (arith, nat_tests))
-    same false f = sym (grind (arith, nat_tests))
+    ones_same (houses p q) (has_page (q.addr / 4096) p.span) (home_shares q parts test p class one most found) ∙ grind (arith, nat_tests)
 
 -- ---- what is emptied
 
@@ -185,12 +180,11 @@ empties c addr s sound held =
     let p : Part = home.0 in
     let search : Part → Bool = λ q. has_page (r.addr / 4096) q.span in
     let alone = filter-begins_at search s.parts p (some_pages s.parts sound.placed) (sound.owners p.span.first) home.1.found in
-    let active = (both_true (is_active p.state) p.committed (both_true (is_active p.state && p.committed) _ home.1.home).0).0 in
+    let active : is_active p.state ≡ true = grind (arith, home.1.home) in
     let begins = begins_at p.span.first in
-    let serving : serves r p ≡ 1 = ap ones home.1.home in
     let served : sum_by (serves r) (filter begins s.parts) ≡ sum_by (serves r) (p ∷ []) = ap (sum_by (serves r)) alone in
     let none = sum_nothing (serves r) (filter (λ x. not (begins x)) s.parts)
-    (omega (arith, one, serving, served, sum_by-cons (serves r) p [], sum_by-filter_both begins (λ x. not (begins x)) (λ _. refl) (serves r) s.parts)) in
+    (grind (arith, one, home.1.home, served, sum_by-cons (serves r) p [], sum_by-filter_both begins (λ x. not (begins x)) (λ _. refl) (serves r) s.parts)) in
     let used = All-filter (λ x. not (begins x)) (λ x. IsTrue (is_active x.state) → 0 < residents x s.regions) s.parts sound.used in
     let apart = filter_passes (λ x. not (begins x)) s.parts in
     let P : Part → Type 0 = λ x. is_emptied regions x ≡ (begins x && is_left regions p) in
@@ -211,34 +205,27 @@ empties c addr s sound held =
         each = All-split P begins s.parts
             (subst (All P) (sym alone) (All-cons P p [] (rw (active, itself) refl) (All-nil P)))
             (λ k d h. let x : Part = get_or (filter (λ x. not (begins x)) s.parts) k d in
-            let fails : begins x ≡ false = not-true (begins x) (apart k d h) in
-            other_serves c addr s r x region.1 (none k d h) (used k d h) ∙ sym (ap (λ b. b && is_left regions p) fails));
+            grind (arith, apart k d h, other_serves c addr s r x region.1 (none k d h) (used k d h)));
         alone = alone;
       },
     )
 
 -- ---- the extents afterwards
 
-pub none_kept : {X : Type 0} (xs : List X) → filter (λ _. false) xs ≡ []
-none_kept [] = refl
-none_kept (x ∷ xs) = none_kept xs
-
-pub all_kept : {X : Type 0} (xs : List X) → filter (λ _. true) xs ≡ xs
-all_kept [] = refl
-all_kept (x ∷ xs) = ap (λ ys. x ∷ ys) (all_kept xs)
+pub none_kept : {X : Type 0} (t : X → Bool) (xs : List X) → All (λ x. t x ≡ false) xs → filter t xs ≡ []
+none_kept t xs fails = filter_none t xs (recursion_from_All (λ x. t x ≡ false) xs fails)
 
 -- where just one extent can pass, it alone is exchanged, or nothing is
 one_exchanged : (c : ℕ) (gone : Part → Bool) (parts : List Part) (p : Part) (b : Bool) → All (λ x. gone x ≡ (begins_at p.span.first x && b)) parts → filter (begins_at p.span.first) parts ≡ p ∷ [] →
     (filter gone parts ≡ cond b (p ∷ []) []) × (exchanged gone parts (taken_in_order c (filter gone parts)) ≡ cond b (exchanged (begins_at p.span.first) parts (taken_out c p ∷ [])) parts)
 one_exchanged c gone parts p true each alone =
-    let same : filter gone parts ≡ p ∷ [] = filter_alike gone (begins_at p.span.first) parts (λ k d h. grind (arith, each k d h)) ∙ alone in
-    let others : filter (λ x. not (gone x)) parts ≡ filter (λ x. not (begins_at p.span.first x)) parts =
-    filter_alike (λ x. not (gone x)) (λ x. not (begins_at p.span.first x)) parts (λ k d h. grind (arith, each k d h)) in
-    (same, ap (λ xs. xs ++ taken_in_order c (filter gone parts)) others ∙ ap (λ xs. filter (λ x. not (begins_at p.span.first x)) parts ++ taken_in_order c xs) same)
+    let t = begins_at p.span.first in
+    let same = filter_alike gone t parts (λ k d h. grind (arith, each k d h)) in
+    let others = filter_alike (λ x. not (gone x)) (λ x. not (t x)) parts (λ k d h. grind (arith, each k d h)) in
+    (same ∙ alone, cc (same, alone, others))
 one_exchanged c gone parts p false each alone =
-    let same : filter gone parts ≡ [] = filter_alike gone (λ _. false) parts (λ k d h. grind (arith, each k d h)) ∙ none_kept parts in
-    let others : filter (λ x. not (gone x)) parts ≡ parts = filter_alike (λ x. not (gone x)) (λ _. true) parts (λ k d h. grind (arith, each k d h)) ∙ all_kept parts in
-    (same, ap (λ xs. xs ++ taken_in_order c (filter gone parts)) others ∙ ap (λ xs. parts ++ taken_in_order c xs) same ∙ append-nil parts)
+    let same = none_kept gone parts (λ k d h. grind (arith, each k d h)) in
+    (same, cc (same, keeps_all gone parts same, append-nil parts))
 
 pub given_parts : (c addr : ℕ) (s : Space) (p : Part) → Empties c addr s p → (b : Bool) → is_left (staying c (addr ∷ []) s.regions) p ≡ b →
     (filter (is_emptied (staying c (addr ∷ []) s.regions)) s.parts ≡ cond b (p ∷ []) []) × ((after_back s c (addr ∷ [])).after.parts ≡ cond b (exchanged (begins_at p.span.first) s.parts (taken_out c p ∷ [])) s.parts)

@@ -1,10 +1,10 @@
 -- What searches and changes of the keys do to the regions that they stand for.
-use Rattle.std.proofs.Common.{◌≡◌, ℕ, ◌+◌, ◌-◌, ◌*◌, ◌/◌, ◌%◌, ◌<◌, ◌≤◌, suc, Bool, true, false, not, cond, List, [], ◌∷◌, map, filter, find, Option, None, Some, Less, Equal, Greater, is_gt, is_lt, is_eq, refl, sym, ◌∙◌, ap, subst, arith, ◌≢◌, nat_cmp, Ordering, ◌&&◌, ◌||◌, eqb, ltb as nat_lt, leb as nat_le, inl, inr}
+use Rattle.std.proofs.Common.{◌≡◌, ℕ, ◌+◌, ◌*◌, ◌/◌, ◌%◌, ◌<◌, ◌≤◌, suc, Bool, true, false, not, cond, List, [], ◌∷◌, map, filter, find, Option, None, Some, Less, Greater, is_gt, is_lt, is_eq, refl, sym, ◌∙◌, ap, subst, arith, ◌≢◌, eqb, ltb as nat_lt, leb as nat_le, inl, inr}
 use Rattle.std.specs.List.{All, AllByRecursion as Every, Contains, count_by, sum_by, list_any, insert, position_or_len}
 use Rattle.std.specs.List.Sorted.{IsStrictlySortedBy}
-use Rattle.std.proofs.lemmas.Bool.{cases_Bool, cases_order}
-use Rattle.std.specs.Ordering.{MatchOrdering, ordering_reverse}
-use Rattle.std.proofs.lemmas.Cmp.{ranked, tied_itself}
+use Rattle.std.proofs.lemmas.Bool.{cases_order}
+use Rattle.std.specs.Ordering.{ordering_reverse}
+use Rattle.std.proofs.lemmas.Cmp.{tied_itself}
 use Rattle.std.proofs.lemmas.Bool.Decides.{nat_tests}
 use Rattle.std.proofs.lemmas.List.Sums.{sum_by-cons, sum_by-insert}
 use Rattle.std.proofs.lemmas.List.Filters.{sum_by-filter_both}
@@ -17,7 +17,7 @@ use Rattle.ordered_set.proofs.Orders.{start, from_start, start_from, less_major,
 use Rattle.ordered_set.proofs.Members.{contains_later}
 use Rattle.size_classes.specs.Classes.{size_at}
 use Rattle.space_model.specs.declared.parts.Region.{Region}
-use Rattle.space_model.specs.Region.{inserted, is_held_by}
+use Rattle.space_model.specs.Region.{inserted}
 use Rattle.space_model.specs.Step.{is_given_back, staying, holds_at}
 use Rattle.space_model.specs.Counts.{region_bytes}
 use Rattle.arena_core.specs.RegionLists.{begins_within, code_of, holder_of, key_of, region_of}

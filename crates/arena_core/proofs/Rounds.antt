@@ -1,7 +1,7 @@
 -- Regions that are given back one after the other, by rising addresses, leave what they leave when given back at once.
-use Rattle.std.proofs.Common.{◌≡◌, ℕ, ◌+◌, ◌*◌, ◌<◌, ◌≤◌, Bool, true, false, not, cond, IsTrue, List, [], ◌∷◌, ◌++◌, append_assoc, append-nil, length, get_or, filter, fold, refl, sym, ◌∙◌, ap, subst, arith, All, ◌&&◌, ◌||◌, eqb, leb as nat_le, ltb as nat_lt, inl, inr}
+use Rattle.std.proofs.Common.{◌≡◌, ℕ, ◌+◌, ◌*◌, ◌<◌, ◌≤◌, Bool, true, false, not, IsTrue, List, [], ◌∷◌, ◌++◌, append_assoc, append-nil, length, get_or, filter, fold, refl, sym, ◌∙◌, ap, subst, arith, All, ◌&&◌, ◌||◌, eqb, leb as nat_le, ltb as nat_lt, inl, inr}
 use Rattle.std.specs.List.{count_by, list_all, list_any, position_or_len, sum_by}
-use Rattle.std.proofs.lemmas.Bool.{cases_Bool, cases_lt, leb-true, not-true}
+use Rattle.std.proofs.lemmas.Bool.{cases_Bool, cases_lt, not-true}
 use Rattle.std.proofs.lemmas.Bool.Decides.{nat_tests}
 use Rattle.std.proofs.lemmas.List.Elements.{All-cons, All-filter, All-head, All-nil, All-tail, All-weaker, filter-append, filter_passes}
 use Rattle.std.proofs.lemmas.List.Filters.{length-filter_both, sum_by-filter_both}
@@ -11,7 +11,7 @@ use Rattle.space_model.specs.declared.parts.Region.{Region}
 use Rattle.space_model.specs.declared.spaces.Life.{Life}
 use Rattle.space_model.specs.declared.spaces.Life.TheVariants.{Live, Absent, Dying}
 use Rattle.space_model.specs.declared.spaces.Space.{Space}
-use Rattle.space_model.specs.Span.{end_of, has_page}
+use Rattle.space_model.specs.Span.{end_of}
 use Rattle.space_model.specs.Part.{begins_at, exchanged, is_active, taken_out}
 use Rattle.space_model.specs.Region.{houses, is_held_by, residents}
 use Rattle.space_model.specs.Step.{after_back, holds_at, is_emptied, is_given_back, is_live, placed, rises_from, staying, taken_in_order}
@@ -21,7 +21,7 @@ use Rattle.space_model.proofs.Giving.{back_keeps}
 use Rattle.space_model.proofs.Idle.{serves}
 use Rattle.space_model.proofs.Landing.{All-insert}
 use Rattle.space_model.proofs.Pieces.{both_true}
-use Rattle.arena_core.proofs.Emptying.{Empties, all_kept, any_counts, counts_any, empties, filter_alike, given_parts, is_left, none_kept, ones, some_found}
+use Rattle.arena_core.proofs.Emptying.{Empties, any_counts, counts_any, empties, filter_alike, given_parts, is_left, none_kept, ones, some_found}
 use Rattle.arena_core.proofs.RegionKeys.{insert_later}
 use Rattle.arena_core.proofs.Swaps.{keeps_all}
 
@@ -249,10 +249,9 @@ round c addr addrs s sound held above =
 -- with no address nothing changes
 pub no_round : (c : ℕ) (s : Space) → Sound s → ((after_back s c []).after ≡ s) × (length (filter (is_emptied (staying c [] s.regions)) s.parts) ≡ 0)
 no_round c s sound =
-    let regions : staying c [] s.regions ≡ s.regions =
-    filter_alike (λ r. not (is_given_back c [] r)) (λ _. true) s.regions (λ k d h. nobody (is_held_by c (get_or s.regions k d))) ∙ all_kept s.regions in
-    let each : All (λ p. is_emptied s.regions p ≡ false) s.parts = λ k d h. serves_still (get_or s.parts k d) (sound.used k d h) in
-    let none : filter (is_emptied s.regions) s.parts ≡ [] = filter_alike (is_emptied s.regions) (λ _. false) s.parts each ∙ none_kept s.parts in
+    let given = is_given_back c [] in
+    let regions : staying c [] s.regions ≡ s.regions = keeps_all given s.regions (none_kept given s.regions (λ k d h. nobody (is_held_by c (get_or s.regions k d)))) in
+    let none = none_kept (is_emptied s.regions) s.parts (λ k d h. serves_still (get_or s.parts k d) (sound.used k d h)) in
     let all : filter (λ p. not (is_emptied s.regions p)) s.parts ≡ s.parts = keeps_all (is_emptied s.regions) s.parts none in
     let parts : exchanged (is_emptied s.regions) s.parts (taken_in_order c (filter (is_emptied s.regions) s.parts)) ≡ s.parts = cc (none, all, append-nil s.parts) in (
       ap (λ (rs : List Region). record s { parts = exchanged (is_emptied rs) s.parts (taken_in_order c (filter (is_emptied rs) s.parts)); regions = rs }) regions
@@ -260,7 +259,7 @@ no_round c s sound =
       ap (λ (rs : List Region). length (filter (is_emptied rs) s.parts)) regions ∙ ap length none,
     )
   where
-    nobody : (b : Bool) → not (b && false) ≡ true
+    nobody : (b : Bool) → (b && false) ≡ false
     nobody b = grind arith
 
     serves_still : (p : Part) → (IsTrue (is_active p.state) → 0 < residents p s.regions) → is_emptied s.regions p ≡ false

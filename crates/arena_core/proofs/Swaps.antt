@@ -1,5 +1,5 @@
 -- Extents that are apart stay apart, with sums that are known, where one or two of them are exchanged.
-use Rattle.std.proofs.Common.{◌≡◌, ◌≢◌, ℕ, ◌+◌, ◌-◌, ◌<◌, ◌≤◌, Bool, true, false, not, cond, List, [], ◌∷◌, ◌++◌, find, filter, Option, Some, IfSome, refl, sym, ◌∙◌, ap, subst, arith, All, append_assoc, inl, inr}
+use Rattle.std.proofs.Common.{◌≡◌, ◌≢◌, ℕ, ◌+◌, ◌<◌, ◌≤◌, Bool, true, false, not, cond, List, [], ◌∷◌, ◌++◌, find, filter, Option, Some, IfSome, refl, sym, ◌∙◌, ap, subst, arith, All, append_assoc, inl, inr}
 use Rattle.std.specs.List.{count_by, list_any, sum_by}
 use Rattle.std.proofs.lemmas.Bool.{cases_Bool, cases_lt}
 use Rattle.std.proofs.lemmas.Bool.Decides.{nat_tests}
@@ -78,28 +78,21 @@ pub two_fill : (p low high : Part) (left : ℕ) → IsPlaced p.span → 0 < left
 two_fill p low high left placed some fewer low_is high_is =
     let low_placed : IsPlaced low.span = subst IsPlaced (sym low_is) (some, placed.1, omega (arith, placed.2)) in
     let high_placed : IsPlaced high.span = subst IsPlaced (sym high_is) (omega arith, omega (arith, placed.1), omega (arith, placed.2)) in
-    let whole : Part → Type 0 = λ x. IsPlaced x.span in
-    let shares : (page : ℕ) → share page low + share page high ≡ share page p = λ page.
-    let l : share page low ≡ share page (low_piece left p) = ap (λ s. cond (has_page page s) 1 0) low_is in
-    let h : share page high ≡ share page (high_piece left p) = ap (λ s. cond (has_page page s) 1 0) high_is in
-    omega (arith, l, h, cut_shares page left p some fewer) in
-    let sizes : low.span.pages + high.span.pages ≡ p.span.pages =
-    let l : low.span.pages ≡ left = ap (λ (s : Span). s.pages) low_is in
-    let h : high.span.pages ≡ p.span.pages - left = ap (λ (s : Span). s.pages) high_is in omega arith in (
-      record {
-        placed = All-cons whole low (high ∷ []) low_placed (All-cons whole high [] high_placed (All-nil whole));
-        shares = λ page. omega (arith, shares page, sum_by-cons (share page) low (high ∷ []), sum_by-cons (share page) high []);
-        pages = omega (arith, sizes, sum_by-cons pages low (high ∷ []), sum_by-cons pages high []);
-      },
-      record {
-        placed = All-cons whole high (low ∷ []) high_placed (All-cons whole low [] low_placed (All-nil whole));
-        shares = λ page. omega (arith, shares page, sum_by-cons (share page) high (low ∷ []), sum_by-cons (share page) low []);
-        pages = omega (arith, sizes, sum_by-cons pages high (low ∷ []), sum_by-cons pages low []);
-      },
-    )
+    let sum : (f : Span → ℕ) → f (low_piece left p).span + f (high_piece left p).span ≡ f p.span → f low.span + f high.span ≡ f p.span = λ f h.
+    cc (ap f low_is, ap f high_is, h) in
+    let shares : (page : ℕ) → share page low + share page high ≡ share page p = λ page. sum (λ s. cond (has_page page s) 1 0) (cut_shares page left p some fewer) in
+    let sizes : low.span.pages + high.span.pages ≡ p.span.pages = sum (λ s. s.pages) (omega arith) in
+    (pair low high low_placed high_placed shares sizes, pair high low high_placed low_placed (λ page. omega (arith, shares page)) (omega arith))
   where
     cut_shares : (page left : ℕ) (p : Part) → 0 < left → left < p.span.pages → share page (low_piece left p) + share page (high_piece left p) ≡ share page p
     cut_shares page left p some fewer = grind (arith, nat_tests)
+
+    pair : (a b : Part) → IsPlaced a.span → IsPlaced b.span → ((page : ℕ) → share page a + share page b ≡ share page p) → a.span.pages + b.span.pages ≡ p.span.pages → Fill p (a ∷ b ∷ [])
+    pair a b a_placed b_placed shares sizes = record {
+      placed = All-cons (λ x. IsPlaced x.span) a (b ∷ []) a_placed (All-cons (λ x. IsPlaced x.span) b [] b_placed (All-nil (λ x. IsPlaced x.span)));
+      shares = λ page. omega (arith, shares page, sum_by-cons (share page) a (b ∷ []), sum_by-cons (share page) b []);
+      pages = omega (arith, sizes, sum_by-cons pages a (b ∷ []), sum_by-cons pages b []);
+    }
 
 -- ---- the space
 
@@ -188,7 +181,7 @@ find_behind : (t : Part → Bool) (others tail : List Part) → filter t others 
 find_behind t [] tail none = refl
 find_behind t (x ∷ xs) tail none = grind (arith, find_behind t xs tail)
 
-pub keeps_all : (t : Part → Bool) (xs : List Part) → filter t xs ≡ [] → filter (λ x. not (t x)) xs ≡ xs
+pub keeps_all : {X : Type 0} (t : X → Bool) (xs : List X) → filter t xs ≡ [] → filter (λ x. not (t x)) xs ≡ xs
 keeps_all t [] none = refl
 keeps_all t (x ∷ xs) none = grind (arith, keeps_all t xs)
 

@@ -1,7 +1,6 @@
-use Rattle.std.proofs.Common.{◌&&◌, IsTrue, arith, subst, ltb as nat_lt}
+use Rattle.std.proofs.Common.{IsTrue, arith, subst}
 use Rattle.std.proofs.lemmas.Bool.Decides.{nat_tests}
-use Rattle.space_model.specs.Step.{cut_stands, is_yes_or_no}
-use Rattle.space_model.proofs.Pieces.{both_true}
+use Rattle.space_model.specs.Step.{cut_stands}
 use Rattle.arena_core.specs.Indexes.{space_of}
 use Rattle.arena_core.proofs.Homes.{in_flight}
 use Rattle.arena_core.proofs.moves.cut_done.Goals as goal

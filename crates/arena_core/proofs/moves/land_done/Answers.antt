@@ -1,9 +1,7 @@
-use Rattle.std.proofs.Common.{◌<◌, ◌&&◌, ◌==◌, arith, sym, ltb as nat_lt, leb as nat_le}
+use Rattle.std.proofs.Common.{◌<◌, arith, sym}
 use Rattle.std.proofs.lemmas.Bool.Decides.{nat_tests}
-use Rattle.size_classes.specs.Classes.{pages_at}
 use Rattle.size_classes.proofs.Table.{size_bounds}
 use Rattle.space_model.specs.Part.{is_flight_at}
-use Rattle.space_model.proofs.Pieces.{both_true}
 use Rattle.space_model.proofs.Sums.{region_bytes_fits}
 use Rattle.arena_core.specs.Indexes.{space_of}
 use Rattle.arena_core.proofs.Homes.{in_flight, none_begins}
