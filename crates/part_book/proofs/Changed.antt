@@ -1,11 +1,10 @@
 -- The extents of a book after a cut and after a join.
-use Rattle.std.proofs.Common.{◌≡◌, ℕ, ◌+◌, ◌-◌, ◌/◌, ◌<◌, Bool, true, false, not, ◌||◌, List, [], ◌∷◌, ◌++◌, filter, find, Option, Some, None, inl, inr, refl, sym, ap, ◌∙◌, subst, arith, All, append_assoc}
+use Rattle.std.proofs.Common.{◌≡◌, ℕ, ◌+◌, ◌-◌, ◌/◌, ◌<◌, true, false, not, ◌||◌, List, [], ◌∷◌, ◌++◌, filter, find, Option, Some, None, refl, sym, ap, ◌∙◌, subst, arith, All, append_assoc}
 use Rattle.std.specs.Option.{IfSome, IsSome}
 use Rattle.std.specs.FinSet as set
-use Rattle.std.proofs.lemmas.Bool.{cases_Bool, eqb-true, not_from_false}
+use Rattle.std.proofs.lemmas.Bool.{eqb-true, not_from_false}
 use Rattle.std.proofs.lemmas.Bool.Decides.{nat_tests}
-use Rattle.std.proofs.lemmas.List.Elements.{All-contains, All-filter, All-from_recursion}
-use Rattle.ordered_set.proofs.Members.{every_from}
+use Rattle.std.proofs.lemmas.List.Elements.{All-contains, All-filter}
 use Rattle.page_map.specs.Pages.{Pages}
 use Rattle.space_model.specs.declared.parts.Part.{Part}
 use Rattle.space_model.specs.declared.parts.Span.{Span}
@@ -18,7 +17,7 @@ use Rattle.part_book.specs.Leaves.{leaves_for}
 use Rattle.part_book.specs.Rows.{IsApart}
 use Rattle.part_book.specs.Tables.{parts_of}
 use Rattle.part_book.proofs.Chunks.{leaves_both, leaves_none}
-use Rattle.part_book.proofs.Lists.{find_kept, found}
+use Rattle.part_book.proofs.Lists.{all_from, filter_both, find_kept, found}
 use Rattle.part_book.proofs.Parts.{placed}
 
 -- ---- a cut
@@ -81,8 +80,7 @@ apart_from_both x p q placed alike a b = apart_from_spans x.span p.span q.span p
 pub joined_apart : (t u : List Part) (high : ℕ) (p q : Part) → IsApart u → AreAlike p q → u ≡ filter (λ x. not (begins_at high x)) t → All (λ x. meets x.span p.span ≡ false) t → All (λ x. meets x.span q.span ≡ false) u → All (λ x. meets x.span (joined p q).span ≡ false) u
 joined_apart t u high p q sound alike less from_p from_q =
     let a = subst (λ xs. All (λ x. meets x.span p.span ≡ false) xs) (sym less) (All-filter (λ x. not (begins_at high x)) (λ x. meets x.span p.span ≡ false) t from_p) in
-    All-from_recursion (λ x. meets x.span (joined p q).span ≡ false) u (every_from (λ x. meets x.span (joined p q).span ≡ false) u (λ x m.
-    apart_from_both x p q (placed u x sound m) alike (All-contains (λ y. meets y.span p.span ≡ false) u x a m) (All-contains (λ y. meets y.span q.span ≡ false) u x from_q m)))
+    all_from (λ x. meets x.span (joined p q).span ≡ false) u (λ x m. apart_from_both x p q (placed u x sound m) alike (All-contains (λ y. meets y.span p.span ≡ false) u x a m) (All-contains (λ y. meets y.span q.span ≡ false) u x from_q m))
 
 -- its first and its last page have leaves
 pub joined_leaves : (t u : Pages) (p q : Part) → AreAlike p q → u.chunks ≡ t.chunks → leaves_for t p.span ≡ 0 → leaves_for u q.span ≡ 0 → leaves_for u (joined p q).span ≡ 0
@@ -92,13 +90,6 @@ joined_leaves t u p q alike chunks of_p of_q =
     let next = alike.beside in
     let end : end_of (joined p q).span ≡ end_of q.span = omega arith in
     leaves_both u (joined p q).span (ap (λ s. set.contains s (p.span.first / 512)) chunks ∙ low.0) (ap (λ n. set.contains u.chunks ((n - 1) / 512)) end ∙ high.1)
-
-filter_both : (a b : Part → Bool) (xs : List Part) → filter (λ x. not (b x)) (filter (λ x. not (a x)) xs) ≡ filter (λ x. not (a x || b x)) xs
-filter_both a b [] = refl
-filter_both a b (x ∷ xs) = elim (cases_Bool (a x)) [
-  | inl t ↦ rw t (filter_both a b xs)
-  | inr f ↦ elim (cases_Bool (b x)) [ inl t ↦ rw (f, t) (filter_both a b xs) | inr g ↦ rw (f, g) (ap (λ ys. x ∷ ys) (filter_both a b xs)) ]
-]
 
 pub join_parts : (old now t u v : List Part) (low high : ℕ) (p q : Part) → old ≡ now → find (begins_at low) old ≡ Some p → find (begins_at high) old ≡ Some q → t ≡ filter (λ x. not (begins_at low x)) old → u ≡ filter (λ x. not (begins_at high x)) t → v ≡ u ++ joined p q ∷ [] →
     IfSome (find (begins_at low) now) (λ x. IfSome (find (begins_at high) now) (λ y. v ≡ exchanged (λ r. begins_at low r || begins_at high r) now (joined x y ∷ [])))

@@ -9,6 +9,8 @@ use Rattle.space_model.specs.Span.{IsPlaced, end_of}
 use Rattle.std.proofs.lemmas.Bool.Decides.{nat_tests}
 use Rattle.std.proofs.lemmas.List.Elements.{All-contains, All-head, All-nil, All-tail, Contains-get_or}
 use Rattle.std.proofs.lemmas.Grind.{get_or_default_zero}
+use Rattle.std.proofs.lemmas.List.Folds.{find_at}
+use Rattle.std.proofs.lemmas.List.Sums.{position_or_len_is}
 use Rattle.std.proofs.lemmas.List.Kept.{IsStrictlySortedBy-filter}
 use Rattle.std.proofs.lemmas.Option.{slice_get-get_or}
 use Rattle.ordered_set.specs.declared.key.Key.{Key}
@@ -135,37 +137,27 @@ grounded client (Flight c rest) e = absurd (cc)
 abbrev pub is_flown : List Part → ℕ → ℕ → Bool
 is_flown slots client number = is_flight client (part_at slots number).state
 
--- the first of the flights that is the client's is the first extent that the client has in flight
-pub first_flight : (slots : List Part) (client : ℕ) (rows : List Row) → All (λ row. part_at slots row.number ≡ row.part) rows → (i : ℕ) → i < length (flights_in rows) → ((k : ℕ) → k < i → is_flown slots client (get_or (flights_in rows) k 0) ≡ false) → is_flown slots client (get_or (flights_in rows) i 0) ≡ true → find (λ p. is_flight client p.state) (parts_in rows) ≡ Some (part_at slots (get_or (flights_in rows) i 0))
-first_flight slots client [] all i l earlier here = absurd (omega arith)
-first_flight slots client (r ∷ rows) all i l earlier here =
+-- the first extent that the client has in flight has the first number of the flights that is the client's
+find_flight : (slots : List Part) (client : ℕ) (rows : List Row) → All (λ row. part_at slots row.number ≡ row.part) rows → find (λ p. is_flight client p.state) (parts_in rows) ≡ option_map (part_at slots) (find (is_flown slots client) (flights_in rows))
+find_flight slots client [] all = refl
+find_flight slots client (r ∷ rows) all =
     let slot : part_at slots r.number ≡ r.part = All-head (λ row. part_at slots row.number ≡ row.part) r rows all in
-    let rest = All-tail (λ row. part_at slots row.number ≡ row.part) r rows all in
+    let flown = ap (λ (p : Part). is_flight client p.state) slot in
+    let rest = find_flight slots client rows (All-tail (λ row. part_at slots row.number ≡ row.part) r rows all) in
     elim (cases_Bool (is_in_flight r.part.state)) [
-      | inl t ↦ flying slot t i (rw t at l) (λ k o. rw t at (earlier k o)) (rw t at here) (first_flight slots client rows rest)
-      | inr f ↦ rw (f, grounded client r.part.state f) (first_flight slots client rows rest i (rw f at l) (λ k o. rw f at (earlier k o)) (rw f at here))
+      | inl t ↦ elim (cases_Bool (is_flight client r.part.state)) [ inl u ↦ rw (t, flown, u) (ap (λ p. Some p) (sym slot)) | inr g ↦ rw (t, flown, g) rest ]
+      | inr f ↦ rw (f, grounded client r.part.state f) rest
     ]
-  where
-    Goes : List ℕ → ℕ → Type 0
-    Goes ns i = (i < length ns) × ((k : ℕ) → k < i → is_flown slots client (get_or ns k 0) ≡ false) × (is_flown slots client (get_or ns i 0) ≡ true)
 
-    flying : part_at slots r.number ≡ r.part → is_in_flight r.part.state ≡ true → (i : ℕ) → i < length (r.number ∷ flights_in rows) → ((k : ℕ) → k < i → is_flown slots client (get_or (r.number ∷ flights_in rows) k 0) ≡ false) → is_flown slots client (get_or (r.number ∷ flights_in rows) i 0) ≡ true →
-        ((i : ℕ) → i < length (flights_in rows) → ((k : ℕ) → k < i → is_flown slots client (get_or (flights_in rows) k 0) ≡ false) → is_flown slots client (get_or (flights_in rows) i 0) ≡ true → find (λ p. is_flight client p.state) (parts_in rows) ≡ Some (part_at slots (get_or (flights_in rows) i 0))) →
-        find (λ p. is_flight client p.state) (parts_in (r ∷ rows)) ≡ Some (part_at slots (get_or (flights_in (r ∷ rows)) i 0))
-    flying slot t zero l earlier here deep = rw t (let own : is_flight client r.part.state ≡ true = ap (λ (p : Part). is_flight client p.state) (sym slot) ∙ here in rw own (ap (λ p. Some p) (sym slot)))
-    flying slot t (suc i) l earlier here deep = rw t (let own : is_flight client r.part.state ≡ false = ap (λ (p : Part). is_flight client p.state) (sym slot) ∙ earlier zero (omega arith) in rw own (deep i (omega arith) (λ k o. earlier (suc k) (omega arith)) here))
+pub flight_of : (t : Table) (client : ℕ) → IsTable t (rows_of t) → find (λ p. is_flight client p.state) (parts_in (rows_of t)) ≡ option_map (part_at t.slots.items) (find (is_flown t.slots.items client) t.flights.items)
+flight_of t client i = find_flight t.slots.items client (rows_of t) i.slots ∙ ap (λ ns. option_map (part_at t.slots.items) (find (is_flown t.slots.items client) ns)) (sym i.flights)
 
-pub no_flight : (slots : List Part) (client : ℕ) (rows : List Row) → All (λ row. part_at slots row.number ≡ row.part) rows → ((k : ℕ) → k < length (flights_in rows) → is_flown slots client (get_or (flights_in rows) k 0) ≡ false) → find (λ p. is_flight client p.state) (parts_in rows) ≡ None
-no_flight slots client rows all none = find_none (λ p. is_flight client p.state) (parts_in rows) (λ p m.
-    let r = map_from (λ row. row.part) rows p m in
-    ap (λ (q : Part). is_flight client q.state) (sym r.2) ∙ elim (cases_Bool (is_in_flight r.0.part.state)) [
-      | inl t ↦
-          let n = map_has (λ row. row.number) (filter (λ row. is_in_flight row.part.state) rows) r.0 (filter_has (λ row. is_in_flight row.part.state) rows r.0 r.1 t) in
-          let slot = All-contains (λ row. part_at slots row.number ≡ row.part) rows r.0 all r.1 in
-          let same : r.0.number ≡ get_or (flights_in rows) n.0 0 = sym (n.2) ∙ get_or_default_zero (flights_in rows) n.0 r.0.number n.1 in
-          ap (λ (q : Part). is_flight client q.state) (sym slot) ∙ subst (λ x. is_flown slots client x ≡ false) (sym same) (none n.0 n.1)
-      | inr f ↦ grounded client r.0.part.state f
-    ])
+-- a loop over numbers finds the first one that passes
+pub first_number : (p : ℕ → Bool) (ns : List ℕ) (i : ℕ) → i < length ns → ((k : ℕ) → k < i → p (get_or ns k 0) ≡ false) → p (get_or ns i 0) ≡ true → find p ns ≡ Some (get_or ns i 0)
+first_number p ns i l earlier here = find_at p ns ∙ ap (slice_get ns) (position_or_len_is p ns i 0 (omega arith) earlier (λ _. here)) ∙ slice_get-get_or ns i 0 l
+
+pub no_number : (p : ℕ → Bool) (ns : List ℕ) → ((k : ℕ) → k < length ns → p (get_or ns k 0) ≡ false) → find p ns ≡ None
+no_number p ns none = find_none p ns (λ n (k, l, e). ap p (sym e ∙ get_or_default_zero ns k n l) ∙ none k l)
 
 -- the flights are numbers of slots
 pub flights_in_slots : (t : Table) (rows : List Row) → IsTable t rows → (k : ℕ) → k < length t.flights.items → get_or t.flights.items k 0 < vec_len t.slots

@@ -1,5 +1,5 @@
 -- Searches and filters over a list whose elements are told apart by a test.
-use Rattle.std.proofs.Common.{◌≡◌, ℕ, ◌+◌, ◌≤◌, zero, suc, Bool, true, false, cond, not, List, [], ◌∷◌, length, map, filter, find, get_or, Option, Some, None, option_map, count_by, ◌⊎◌, inl, inr, refl, sym, ap, ◌∙◌, arith, All}
+use Rattle.std.proofs.Common.{◌≡◌, ℕ, ◌+◌, ◌≤◌, zero, suc, Bool, true, false, cond, not, ◌||◌, List, [], ◌∷◌, length, map, filter, find, get_or, Option, Some, None, option_map, count_by, ◌⊎◌, inl, inr, refl, sym, ap, ◌∙◌, arith, All}
 use Rattle.std.specs.List.{Contains}
 use Rattle.std.proofs.lemmas.Bool.{cases_Bool, false_from_ne_true}
 use Rattle.std.proofs.lemmas.List.Elements.{Contains-get_or}
@@ -112,6 +112,14 @@ module _ {X : Type 0} where
   filter_swap p q (x ∷ xs) = elim (cases_Bool (p x)) [
     | inl t ↦ elim (cases_Bool (q x)) [ inl u ↦ rw (u, t, u) (ap (λ ys. x ∷ ys) (filter_swap p q xs)) | inr g ↦ rw (g, t, g) (filter_swap p q xs) ]
     | inr f ↦ elim (cases_Bool (q x)) [ inl u ↦ rw (u, f) (filter_swap p q xs) | inr g ↦ rw (g, f) (filter_swap p q xs) ]
+  ]
+
+  -- what passes neither of two tests
+  pub filter_both : (p q : X → Bool) (xs : List X) → filter (λ x. not (q x)) (filter (λ x. not (p x)) xs) ≡ filter (λ x. not (p x || q x)) xs
+  filter_both p q [] = refl
+  filter_both p q (x ∷ xs) = elim (cases_Bool (p x)) [
+    | inl t ↦ rw t (filter_both p q xs)
+    | inr f ↦ elim (cases_Bool (q x)) [ inl t ↦ rw (f, t) (filter_both p q xs) | inr g ↦ rw (f, g) (ap (λ ys. x ∷ ys) (filter_both p q xs)) ]
   ]
 
   -- a filter that keeps all that a test finds leaves what is found

@@ -1,8 +1,8 @@
-use Rattle.std.proofs.Common.{◌≡◌, ◌<◌, ℕ, vec_len, length, get_or, Some, false, sym, ap, subst, ◌∙◌, option_map, arith}
+use Rattle.std.proofs.Common.{◌≡◌, ◌<◌, vec_len, length, get_or, Some, false, sym, ap, subst, ◌∙◌, option_map, arith}
 use Rattle.space_model.specs.Part.{is_flight}
 use Rattle.part_book.specs.Rows.{part_at}
 use Rattle.part_book.specs.Tables.{rows_of}
-use Rattle.part_book.proofs.Indexes.{below_next, first_flight, flights_in_slots, is_flown, no_flight}
+use Rattle.part_book.proofs.Indexes.{below_next, flight_of, first_number, flights_in_slots, is_flown, no_number}
 use Rattle.part_book.proofs.table.Table.next_flight.Goals as goal
 
 pub part_at-part-requires : goal.part_at-part-requires
@@ -16,22 +16,20 @@ pub returns-then-is_flight_of : goal.returns-then-is_flight_of
 returns-then-is_flight_of c =
     let t = c.args.self.now in
     let i = c.loop-number.number-index in
-    let e = c.deref-number-items.ensures.value ∙ c.requires.table.flights in
+    let e = c.deref-number-items.ensures.value in
     let part = c.part_at-part.ensures ∙ ap (λ ns. part_at t.slots.items (get_or ns i 0)) e in
-    let own = ap (λ p. is_flight c.args.client p.state) (sym part) ∙ sym c.is_flight_of.ensures ∙ c.if-is_flight_of.true in
-    let within = subst (λ ns. i < length ns) e c.loop-number-test.true in
-    let earlier = subst (λ ns. (k : ℕ) → k < i → is_flown t.slots.items c.args.client (get_or ns k 0) ≡ false) c.requires.table.flights c.loop-number.invariant in
-    ap (λ p. Some p.span) part ∙ sym (ap (option_map (λ p. p.span)) (first_flight t.slots.items c.args.client (rows_of t) c.requires.table.slots i within earlier own))
+    let own = ap (λ p. is_flight c.args.client p.state) (sym part) ∙ sym c.is_flight.ensures ∙ c.if-is_flight.true in
+    let within : i < length t.flights.items = let l = ap length e in let m = c.loop-number-test.true in omega arith in
+    let first = first_number (is_flown t.slots.items c.args.client) t.flights.items i within c.loop-number.invariant own in
+    ap (λ p. Some p.span) part ∙ sym (ap (option_map (λ p. p.span)) (flight_of t c.args.client c.requires.table ∙ ap (option_map (part_at t.slots.items)) first))
 
 pub returns : goal.returns
 returns c =
     let t = c.args.self.now in
-    let i = c.loop-number.number-index in
-    let e = c.deref-number-items.ensures.value ∙ c.requires.table.flights in
+    let len = ap length c.deref-number-items.ensures.value in
     let all = c.loop-number-test.false in
-    let len = ap length e in
-    let earlier = subst (λ ns. (k : ℕ) → k < i → is_flown t.slots.items c.args.client (get_or ns k 0) ≡ false) c.requires.table.flights c.loop-number.invariant in
-    sym (ap (option_map (λ p. p.span)) (no_flight t.slots.items c.args.client (rows_of t) c.requires.table.slots (λ k l. earlier k (omega arith))))
+    let none = no_number (is_flown t.slots.items c.args.client) t.flights.items (λ k l. c.loop-number.invariant k (omega arith)) in
+    sym (ap (option_map (λ p. p.span)) (flight_of t c.args.client c.requires.table ∙ ap (option_map (part_at t.slots.items)) none))
 
 pub loop-number-preserved : goal.loop-number-preserved
 loop-number-preserved c =
