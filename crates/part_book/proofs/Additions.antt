@@ -73,11 +73,9 @@ twice false b x y = refl
 
 numbers_more : (m : map_of.FinMap nat_cmp ℕ) (p : Part) (number page : ℕ) → IsPlaced p.span → map_of.get (map_of.insert (map_of.insert m p.span.first number) (end_of p.span - 1) number) page ≡ cond (is_edge page p) (Some number) (map_of.get m page)
 numbers_more m p number page placed =
-    map_of.get-insert nat_cmp_total (map_of.insert m p.span.first number) (end_of p.span - 1) number page
-    ∙ ap (λ b. cond b (Some number) (map_of.get (map_of.insert m p.span.first number) page)) (unsigned_tied page (end_of p.span - 1))
-    ∙ ap (λ o. cond (eqb page (end_of p.span - 1)) (Some number) o) (map_of.get-insert nat_cmp_total m p.span.first number page ∙ ap (λ b. cond b (Some number) (map_of.get m page)) (unsigned_tied page p.span.first))
-    ∙ twice (eqb page (end_of p.span - 1)) (eqb page p.span.first) (Some number) (map_of.get m page)
-    ∙ ap (λ b. cond b (Some number) (map_of.get m page)) (sym (edge_test p page placed))
+    simp (map_of.get-insert {X = ℕ} nat_cmp_total, unsigned_tied) (
+    twice (eqb page (end_of p.span - 1)) (eqb page p.span.first) (Some number) (map_of.get m page)
+    ∙ ap (λ b. cond b (Some number) (map_of.get m page)) (sym (edge_test p page placed)))
 
 -- chunks keep their leaves, and those of the first and the last page get one
 pub leaves_kept : (s : set.FinSet nat_cmp) {u : set.FinSet nat_cmp} (first last c : ℕ) → u ≡ set.insert (set.insert s first) last → set.contains s c ≡ true → set.contains u c ≡ true

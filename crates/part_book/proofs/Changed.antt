@@ -41,32 +41,37 @@ cut_parts old now t u v first left p low high same e less more last low_is high_
 -- ---- a join
 
 -- the second of two extents that are joined is still found when the first one is gone
-pub record IsNext (low high : ℕ) (old : List Part) (p : Part) : Type 0 where
-  pub part : Part
-  pub found : find (begins_at high) old ≡ Some part
-  pub alike : AreAlike p part
-  pub later : find (begins_at high) (filter (λ q. not (begins_at low q)) old) ≡ Some part
+pub record IsNext (low high : ℕ) (old : List Part) (p q : Part) : Type 0 where
+  pub found : find (begins_at high) old ≡ Some q
+  pub alike : AreAlike p q
+  pub later : find (begins_at high) (filter (λ x. not (begins_at low x)) old) ≡ Some q
 
 elsewhere : (low high : ℕ) (x : Part) → begins_at high x ≡ true → low < high → begins_at low x ≡ false
 elsewhere low high x t l = grind (arith, nat_tests)
 
-pub both : (low high : ℕ) (old now : List Part) (p : Part) → old ≡ now → IsSome (find (begins_at high) now) → IfSome (find (begins_at low) now) (λ x. IfSome (find (begins_at high) now) (λ y. AreAlike x y)) → find (begins_at low) old ≡ Some p → IsPlaced p.span → IsNext low high old p
-both low high old now p same some alike e placed = by (find (begins_at high) old) refl
+pub next : (low high : ℕ) (old now : List Part) (p : Part) → old ≡ now → IsSome (find (begins_at high) now) → IfSome (find (begins_at low) now) (λ x. IfSome (find (begins_at high) now) (λ y. AreAlike x y)) → find (begins_at low) old ≡ Some p → IsPlaced p.span → (q : Part) × IsNext low high old p q
+next low high old now p same some alike e placed = by (find (begins_at high) now) refl
   where
-    by : (o : Option Part) → find (begins_at high) old ≡ o → IsNext low high old p
-    by None f = absurd (let no = subst IsSome (ap (find (begins_at high)) (sym same) ∙ f) some in cc)
+    by : (o : Option Part) → find (begins_at high) now ≡ o → (q : Part) × IsNext low high old p q
+    by None f = absurd (let no = subst IsSome f some in cc)
     by (Some q) f =
-        let a : IfSome (find (begins_at high) now) (λ y. AreAlike p y) = subst (λ o. IfSome o (λ x. IfSome (find (begins_at high) now) (λ y. AreAlike x y))) (ap (find (begins_at low)) (sym same) ∙ e) alike in
-        let b : AreAlike p q = subst (λ o. IfSome o (λ y. AreAlike p y)) (ap (find (begins_at high)) (sym same) ∙ f) a in
-        let q_is = eqb-true q.span.first high (found (begins_at high) old q f).1 in
+        let was : find (begins_at high) old ≡ Some q = ap (find (begins_at high)) same ∙ f in
+        let both : AreAlike p q = rw (sym (ap (find (begins_at low)) same) ∙ e, f) at alike in
+        let q_is = eqb-true q.span.first high (found (begins_at high) old q was).1 in
         let p_is = eqb-true p.span.first low (found (begins_at low) old p e).1 in
         let pages = placed.0 in
-        let next = b.beside in
+        let beside = both.beside in
         let apart : low < high = omega arith in
-        record { part = q; found = f; alike = b; later = find_kept (begins_at high) (λ x. not (begins_at low x)) old (λ x m t. not_from_false (begins_at low x) (elsewhere low high x t apart)) ∙ f }
+        (q, record { found = was; alike = both; later = find_kept (begins_at high) (λ x. not (begins_at low x)) old (λ x m t. not_from_false (begins_at low x) (elsewhere low high x t apart)) ∙ was })
 
-pub same_found : (p q : Part) → Some p ≡ Some q → p ≡ q
-same_found p q e = cc
+-- and it is the one that is taken off then
+pub next_is : (low high : ℕ) (old now : List Part) (p q : Part) → old ≡ now → IsSome (find (begins_at high) now) → IfSome (find (begins_at low) now) (λ x. IfSome (find (begins_at high) now) (λ y. AreAlike x y)) → find (begins_at low) old ≡ Some p → IsPlaced p.span →
+    {left : List Part} → left ≡ filter (λ x. not (begins_at low x)) old → find (begins_at high) left ≡ Some q → IsNext low high old p q
+next_is low high old now p q same some alike e placed less f =
+    let n = next low high old now p same some alike e placed in
+    let twice : Some n.0 ≡ Some q = sym n.1.later ∙ ap (find (begins_at high)) (sym less) ∙ f in
+    let is : n.0 ≡ q = cc in
+    subst (IsNext low high old p) is n.1
 
 pub joined_placed : (p q : Part) → IsPlaced p.span → IsPlaced q.span → AreAlike p q → IsPlaced (joined p q).span
 joined_placed p q placed_p placed_q alike = let some = placed_p.0 in let low = placed_p.1 in let high = placed_q.2 in let next = alike.beside in (omega arith, low, omega arith)

@@ -98,11 +98,9 @@ rows_removed t u number slots order =
 -- a page has no number where it was the first or the last one of the extent
 numbers_less : (m : map_of.FinMap nat_cmp ℕ) (p : Part) (page : ℕ) → IsPlaced p.span → map_of.get (map_of.remove (map_of.remove m p.span.first) (end_of p.span - 1)) page ≡ cond (is_edge page p) None (map_of.get m page)
 numbers_less m p page placed =
-    map_of.get-remove nat_cmp_total (map_of.remove m p.span.first) (end_of p.span - 1) page
-    ∙ ap (λ b. cond b None (map_of.get (map_of.remove m p.span.first) page)) (unsigned_tied page (end_of p.span - 1))
-    ∙ ap (λ o. cond (eqb page (end_of p.span - 1)) None o) (map_of.get-remove nat_cmp_total m p.span.first page ∙ ap (λ b. cond b None (map_of.get m page)) (unsigned_tied page p.span.first))
-    ∙ twice (eqb page (end_of p.span - 1)) (eqb page p.span.first) None (map_of.get m page)
-    ∙ ap (λ b. cond b None (map_of.get m page)) (sym (edge_test p page placed))
+    simp (map_of.get-remove {X = ℕ} nat_cmp_total, unsigned_tied) (
+    twice (eqb page (end_of p.span - 1)) (eqb page p.span.first) None (map_of.get m page)
+    ∙ ap (λ b. cond b None (map_of.get m page)) (sym (edge_test p page placed)))
 
 module _ (t : Table) (rows : List Row) (row : Row) (i : IsTable t rows) (m : Contains rows row) where
   -- a row that differs from the one by a test has another number

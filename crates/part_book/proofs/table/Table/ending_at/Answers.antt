@@ -1,6 +1,5 @@
-use Rattle.std.proofs.Common.{◌≡◌, ◌+◌, true, false, sym, ◌∙◌, arith}
+use Rattle.std.proofs.Common.{◌≡◌, ◌+◌, sym, ◌∙◌, arith}
 use Rattle.std.proofs.lemmas.Bool.Decides.{nat_tests}
-use Rattle.part_book.specs.Books.{ends_at}
 use Rattle.part_book.specs.Rows.{is_edge}
 use Rattle.part_book.specs.Tables.{parts_of}
 use Rattle.part_book.proofs.Lists.{found}
@@ -12,9 +11,8 @@ returns-in_err-checked_sub c = c.from_residual.ensures ∙ sym (none_ends (parts
 
 pub returns-in_err-part : goal.returns-in_err-part
 returns-in_err-part c =
-    let e = ends_by_edge (parts_of c.args.self.now) c.in_ok-checked_sub.field-0 c.requires.table.apart _ (sym c.in_err-part.ensures) in
-    let page : c.in_ok-checked_sub.field-0 + 1 ≡ c.args.page = let h = c.in_ok-checked_sub.ensures in omega arith in
-    c.from_residual-in_err-part.ensures ∙ sym (rw page at e)
+    let next : c.in_ok-checked_sub.field-0 + 1 ≡ c.args.page = let h = c.in_ok-checked_sub.ensures in omega arith in
+    c.from_residual-in_err-part.ensures ∙ sym (ends_by_edge (parts_of c.args.self.now) _ _ next c.requires.table.apart _ (sym c.in_err-part.ensures))
 
 pub end_of-requires : goal.end_of-requires
 end_of-requires c =
@@ -23,16 +21,10 @@ end_of-requires c =
 
 pub returns-then-end_of-page : goal.returns-then-end_of-page
 returns-then-end_of-page c =
-    let e = ends_by_edge (parts_of c.args.self.now) c.in_ok-checked_sub.field-0 c.requires.table.apart _ (sym c.in_ok-part.ensures) in
-    let page : c.in_ok-checked_sub.field-0 + 1 ≡ c.args.page = let h = c.in_ok-checked_sub.ensures in omega arith in
-    let b : ends_at c.args.page c.in_ok-part.part ≡ true = let h = c.if-end_of-page.true in let i = c.end_of.ensures in grind (arith, nat_tests) in
-    let f = rw page at e in
-    sym (rw b at f)
+    let next : c.in_ok-checked_sub.field-0 + 1 ≡ c.args.page = let h = c.in_ok-checked_sub.ensures in omega arith in
+    grind (arith, nat_tests, ends_by_edge (parts_of c.args.self.now) _ _ next c.requires.table.apart _ (sym c.in_ok-part.ensures))
 
 pub returns-else-end_of-page : goal.returns-else-end_of-page
 returns-else-end_of-page c =
-    let e = ends_by_edge (parts_of c.args.self.now) c.in_ok-checked_sub.field-0 c.requires.table.apart _ (sym c.in_ok-part.ensures) in
-    let page : c.in_ok-checked_sub.field-0 + 1 ≡ c.args.page = let h = c.in_ok-checked_sub.ensures in omega arith in
-    let b : ends_at c.args.page c.in_ok-part.part ≡ false = let h = c.if-end_of-page.false in let i = c.end_of.ensures in grind (arith, nat_tests) in
-    let f = rw page at e in
-    sym (rw b at f)
+    let next : c.in_ok-checked_sub.field-0 + 1 ≡ c.args.page = let h = c.in_ok-checked_sub.ensures in omega arith in
+    grind (arith, nat_tests, ends_by_edge (parts_of c.args.self.now) _ _ next c.requires.table.apart _ (sym c.in_ok-part.ensures))

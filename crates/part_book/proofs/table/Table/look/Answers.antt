@@ -1,6 +1,5 @@
-use Rattle.std.proofs.Common.{◌≡◌, true, false, sym, ◌∙◌, arith}
+use Rattle.std.proofs.Common.{sym, ◌∙◌, arith}
 use Rattle.std.proofs.lemmas.Bool.Decides.{nat_tests}
-use Rattle.space_model.specs.Part.{begins_at}
 use Rattle.part_book.specs.Tables.{parts_of}
 use Rattle.part_book.proofs.Parts.{begins_by_edge}
 use Rattle.part_book.proofs.table.Table.look.Goals as goal
@@ -9,13 +8,7 @@ pub returns-in_err-part : goal.returns-in_err-part
 returns-in_err-part c = c.from_residual.ensures ∙ sym (begins_by_edge (parts_of c.args.self.now) c.args.first c.requires.table.apart _ (sym c.in_err-part.ensures))
 
 pub returns-then-part-first : goal.returns-then-part-first
-returns-then-part-first c =
-    let e = begins_by_edge (parts_of c.args.self.now) c.args.first c.requires.table.apart _ (sym c.in_ok-part.ensures) in
-    let b : begins_at c.args.first c.in_ok-part.part ≡ true = let h = c.if-part-first.true in grind (arith, nat_tests) in
-    sym (rw b at e)
+returns-then-part-first c = grind (arith, nat_tests, begins_by_edge (parts_of c.args.self.now) c.args.first c.requires.table.apart _ (sym c.in_ok-part.ensures))
 
 pub returns-else-part-first : goal.returns-else-part-first
-returns-else-part-first c =
-    let e = begins_by_edge (parts_of c.args.self.now) c.args.first c.requires.table.apart _ (sym c.in_ok-part.ensures) in
-    let b : begins_at c.args.first c.in_ok-part.part ≡ false = let h = c.if-part-first.false in grind (arith, nat_tests) in
-    sym (rw b at e)
+returns-else-part-first c = grind (arith, nat_tests, begins_by_edge (parts_of c.args.self.now) c.args.first c.requires.table.apart _ (sym c.in_ok-part.ensures))
