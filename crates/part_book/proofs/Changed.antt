@@ -24,7 +24,7 @@ use Rattle.part_book.proofs.Parts.{placed}
 
 -- the cut lies inside of the extent that is found
 pub within : (t : Table) (now : List Part) (first left : ℕ) (p : Part) → parts_of t ≡ now → find (begins_at first) (parts_of t) ≡ Some p → IfSome (find (begins_at first) now) (λ q. left < q.span.pages) → left < p.span.pages
-within t now first left p same e fewer = subst (λ o. IfSome o (λ q. left < q.span.pages)) (ap (find (begins_at first)) (sym same) ∙ e) fewer
+within t now first left p same e fewer = rw (sym (ap (find (begins_at first)) same) ∙ e) at fewer
 
 -- the high piece ends where the extent ended
 pub high_end : (left : ℕ) (p : Part) → left < p.span.pages → end_of (high_piece left p).span ≡ end_of p.span
@@ -33,10 +33,7 @@ high_end left p l = omega arith
 pub cut_parts : (old now t u v : List Part) (first left : ℕ) (p low high : Part) → old ≡ now → find (begins_at first) old ≡ Some p → t ≡ filter (λ q. not (begins_at first q)) old → u ≡ t ++ low ∷ [] → v ≡ u ++ high ∷ [] → low ≡ low_piece left p → high ≡ high_piece left p →
     IfSome (find (begins_at first) now) (λ q. v ≡ exchanged (begins_at first) now (low_piece left q ∷ high_piece left q ∷ []))
 cut_parts old now t u v first left p low high same e less more last low_is high_is =
-    let whole : v ≡ exchanged (begins_at first) now (low_piece left p ∷ high_piece left p ∷ []) =
-    last ∙ ap (λ xs. xs ++ high ∷ []) more ∙ append_assoc t (low ∷ []) (high ∷ []) ∙ ap (λ xs. xs ++ low ∷ high ∷ []) (less ∙ ap (filter (λ q. not (begins_at first q))) same)
-    ∙ ap (λ x. filter (λ q. not (begins_at first q)) now ++ x ∷ high ∷ []) low_is ∙ ap (λ x. filter (λ q. not (begins_at first q)) now ++ low_piece left p ∷ x ∷ []) high_is in
-    subst (λ o. IfSome o (λ q. v ≡ exchanged (begins_at first) now (low_piece left q ∷ high_piece left q ∷ []))) (sym e ∙ ap (find (begins_at first)) same) whole
+    rw (sym (ap (find (begins_at first)) same) ∙ e) (cc (append_assoc t (low ∷ []) (high ∷ [])))
 
 -- ---- a join
 
@@ -99,8 +96,4 @@ joined_leaves t u p q alike chunks of_p of_q =
 pub join_parts : (old now t u v : List Part) (low high : ℕ) (p q : Part) → old ≡ now → find (begins_at low) old ≡ Some p → find (begins_at high) old ≡ Some q → t ≡ filter (λ x. not (begins_at low x)) old → u ≡ filter (λ x. not (begins_at high x)) t → v ≡ u ++ joined p q ∷ [] →
     IfSome (find (begins_at low) now) (λ x. IfSome (find (begins_at high) now) (λ y. v ≡ exchanged (λ r. begins_at low r || begins_at high r) now (joined x y ∷ [])))
 join_parts old now t u v low high p q same e f less fewer more =
-    let whole : v ≡ exchanged (λ r. begins_at low r || begins_at high r) now (joined p q ∷ []) =
-    more ∙ ap (λ xs. xs ++ joined p q ∷ []) (fewer ∙ ap (filter (λ x. not (begins_at high x))) less ∙ filter_both (begins_at low) (begins_at high) old ∙ ap (filter (λ x. not (begins_at low x || begins_at high x))) same) in
-    let inner : IfSome (find (begins_at high) now) (λ y. v ≡ exchanged (λ r. begins_at low r || begins_at high r) now (joined p y ∷ [])) =
-    subst (λ o. IfSome o (λ y. v ≡ exchanged (λ r. begins_at low r || begins_at high r) now (joined p y ∷ []))) (sym f ∙ ap (find (begins_at high)) same) whole in
-    subst (λ o. IfSome o (λ x. IfSome (find (begins_at high) now) (λ y. v ≡ exchanged (λ r. begins_at low r || begins_at high r) now (joined x y ∷ [])))) (sym e ∙ ap (find (begins_at low)) same) inner
+    rw (sym (ap (find (begins_at low)) same) ∙ e, sym (ap (find (begins_at high)) same) ∙ f) (cc (filter_both (begins_at low) (begins_at high) old))

@@ -1,7 +1,7 @@
 -- What the indexes of a table say of its extents.
-use Rattle.std.proofs.Common.{◌≡◌, ℕ, zero, suc, ◌+◌, ◌-◌, ◌/◌, ◌<◌, ◌≤◌, Bool, true, false, not, eqb, List, [], ◌∷◌, length, map, filter, find, get_or, slice_get, Some, None, option_map, vec_len, inl, inr, refl, sym, ap, ◌∙◌, subst, arith, All}
+use Rattle.std.proofs.Common.{◌≡◌, ℕ, ◌+◌, ◌-◌, ◌/◌, ◌<◌, ◌≤◌, Bool, true, false, not, eqb, List, [], ◌∷◌, length, map, filter, find, get_or, slice_get, Some, None, option_map, vec_len, inl, inr, refl, sym, ap, ◌∙◌, subst, arith, All}
 use Rattle.std.specs.List.{Contains}
-use Rattle.std.proofs.lemmas.Bool.{cases_Bool, cases_lt}
+use Rattle.std.proofs.lemmas.Bool.{cases_Bool, cases_lt, true_from_ne_false}
 use Rattle.std.specs.FinMap as map_of
 use Rattle.std.specs.FinSet as set
 use Rattle.std.specs.Ordering.{nat_cmp}
@@ -12,11 +12,11 @@ use Rattle.std.proofs.lemmas.Grind.{get_or_default_zero}
 use Rattle.std.proofs.lemmas.List.Folds.{find_at}
 use Rattle.std.proofs.lemmas.List.Sums.{position_or_len_is}
 use Rattle.std.proofs.lemmas.List.Kept.{IsStrictlySortedBy-filter}
-use Rattle.std.proofs.lemmas.Option.{slice_get-get_or}
+use Rattle.std.proofs.lemmas.Option.{get_or_from_slice_get, slice_get-get_or, slice_get_within}
 use Rattle.ordered_set.specs.declared.key.Key.{Key}
 use Rattle.ordered_set.specs.Keys.{IsAscending, is_below, key_cmp, last_of}
 use Rattle.ordered_set.proofs.Sorted.{every_member}
-use Rattle.ordered_set.proofs.Members.{contains_later, filter_from, filter_has}
+use Rattle.ordered_set.proofs.Members.{filter_from, filter_has}
 use Rattle.ordered_set.proofs.Orders.{from_start, last_greatest, start, start_from}
 use Rattle.space_model.specs.declared.parts.Part.{Part}
 use Rattle.space_model.specs.declared.parts.State.{State}
@@ -70,26 +70,20 @@ edge_none t rows page i e =
 -- ---- the first pages
 
 has_slice : {X : Type 0} (xs : List X) (k : ℕ) (x : X) → slice_get xs k ≡ Some x → Contains xs x
-has_slice [] k x e = absurd (cc)
-has_slice (y ∷ ys) zero x e = (zero, omega arith, (let same : y ≡ x = cc in same))
-has_slice (y ∷ ys) (suc k) x e = contains_later y ys x (has_slice ys k x e)
+has_slice xs k x e = (k, slice_get_within xs k x e, get_or_from_slice_get xs k x x e)
 
 no_last : (ks : List Key) (k : Key) → last_of ks ≡ None → Contains ks k → ⊥
-no_last ks k e m =
-    let l = m.1 in
-    let some : slice_get ks (length ks - 1) ≡ Some (get_or ks (length ks - 1) k) = slice_get-get_or ks (length ks - 1) k (omega arith) in
-    let f : None ≡ Some (get_or ks (length ks - 1) k) = sym e ∙ some in cc
+no_last ks k e (i, l, is) =
+    let some = slice_get-get_or ks (length ks - 1) k (omega arith) in
+    let no : None ≡ Some (get_or ks (length ks - 1) k) = sym e ∙ some in cc
 
 is_below_from : (k : Key) (page : ℕ) → k.major < page → is_below (start page) k ≡ true
-is_below_from k page l = elim (cases_Bool (is_below (start page) k)) [
-  | inl t ↦ t
-  | inr f ↦ absurd (let g = from_start k page (rw f refl) in omega arith)
-]
+is_below_from k page l = true_from_ne_false (is_below (start page) k) (λ f. let g = from_start k page (rw f refl) in omega arith)
 
 below_from : (k : Key) (page : ℕ) → is_below (start page) k ≡ true → k.major < page
 below_from k page t = elim (cases_lt k.major page) [
   | inl l ↦ l
-  | inr g ↦ absurd (let u : not (is_below (start page) k) ≡ true = start_from k page g in let v : false ≡ true = rw t at u in cc)
+  | inr g ↦ absurd (let f : not (is_below (start page) k) ≡ true = start_from k page g in let no : false ≡ true = rw t at f in cc)
 ]
 
 -- the row of the last key below a page

@@ -1,10 +1,12 @@
 -- Searches and filters over a list whose elements are told apart by a test.
-use Rattle.std.proofs.Common.{◌≡◌, ℕ, ◌+◌, ◌≤◌, zero, suc, Bool, true, false, cond, not, ◌||◌, List, [], ◌∷◌, length, map, filter, find, get_or, Option, Some, None, option_map, count_by, ◌⊎◌, inl, inr, refl, sym, ap, ◌∙◌, arith, All}
-use Rattle.std.specs.List.{Contains}
-use Rattle.std.proofs.lemmas.Bool.{cases_Bool, false_from_ne_true}
+use Rattle.std.proofs.Common.{◌≡◌, ℕ, ◌+◌, ◌≤◌, zero, suc, Bool, true, false, cond, not, ◌||◌, List, [], ◌∷◌, length, map, filter, find, get_or, Option, Some, None, option_map, count_by, inl, inr, refl, sym, ap, ◌∙◌, arith, All}
+use Rattle.std.specs.List.{Contains, position_or_len}
+use Rattle.std.proofs.lemmas.List.{get_or-map, length-map}
+use Rattle.std.proofs.lemmas.List.Folds.{find_at}
+use Rattle.std.proofs.lemmas.Bool.{cases_Bool, cases_lt, false_from_ne_true}
 use Rattle.std.proofs.lemmas.List.Elements.{Contains-get_or}
 use Rattle.std.proofs.lemmas.List.Filters.{length-filter_both, sum_by-filter_both}
-use Rattle.std.proofs.lemmas.List.Sums.{get_or-le-sum_by, length-filter, sum_by-cons, sum_by-le}
+use Rattle.std.proofs.lemmas.List.Sums.{fails_before_first, get_or-le-sum_by, length-filter, sum_by-cons, sum_by-le}
 use Rattle.std.proofs.lemmas.Option.{slice_get-get_or}
 use Rattle.ordered_set.proofs.Members.{contains_cases, contains_later, every_from, filter_has}
 use Rattle.ordered_set.proofs.Sorted.{filter_agrees, filter_all}
@@ -41,28 +43,22 @@ module _ {X : Type 0} where
     | inr f ↦ let deep = found p ys x (rw f at e) in (contains_later y ys x deep.0, deep.1)
   ]
 
-  -- an element that passes alone is found
-  pub find_is : (p : X → Bool) (xs : List X) (x : X) → Contains xs x → p x ≡ true → ((y : X) → Contains xs y → p y ≡ true → y ≡ x) → find p xs ≡ Some x
-  find_is p [] x m t own = absurd (let l = m.1 in omega arith)
-  find_is p (y ∷ ys) x m t own = elim (cases_Bool (p y)) [
-    | inl u ↦ rw u (ap (λ z. Some z) (own y (head y ys) u))
-    | inr f ↦ rw f (find_is p ys x (deeper f (contains_cases y ys x m)) t (λ z n v. own z (contains_later y ys z n) v))
-  ]
-    where
-      deeper : p y ≡ false → (y ≡ x) ⊎ Contains ys x → Contains ys x
-      deeper f (inl e) = absurd (let b : true ≡ false = sym t ∙ ap p (sym e) ∙ f in cc)
-      deeper f (inr d) = d
-
   -- where nothing is found, no element passes
   pub none_found : (p : X → Bool) (xs : List X) → find p xs ≡ None → (x : X) → Contains xs x → p x ≡ false
-  none_found p xs e x m = false_from_ne_true (p x) (λ t. some p xs x m t e)
+  none_found p xs e x (k, l, is) = elim (cases_lt k (position_or_len p xs)) [
+    | inl before ↦ ap p (sym is) ∙ fails_before_first p xs k x before
+    | inr after ↦ absurd (
+        let some = slice_get-get_or xs (position_or_len p xs) x (omega arith) in
+        let no : None ≡ Some (get_or xs (position_or_len p xs) x) = sym e ∙ find_at p xs ∙ some in cc)
+  ]
+
+  -- an element that passes alone is found
+  pub find_is : (p : X → Bool) (xs : List X) (x : X) → Contains xs x → p x ≡ true → ((y : X) → Contains xs y → p y ≡ true → y ≡ x) → find p xs ≡ Some x
+  find_is p xs x m t own = by (find p xs) refl
     where
-      some : (p : X → Bool) (xs : List X) (x : X) → Contains xs x → p x ≡ true → find p xs ≡ None → ⊥
-      some p [] x m t e = let l = m.1 in omega arith
-      some p (y ∷ ys) x m t e = elim (cases_Bool (p y)) [
-        | inl u ↦ let f : Some y ≡ None = rw u at e in cc
-        | inr f ↦ elim (contains_cases y ys x m) [ inl same ↦ (let g : p x ≡ false = ap p (sym same) ∙ f in cc) | inr d ↦ some p ys x d t (rw f at e) ]
-      ]
+      by : (o : Option X) → find p xs ≡ o → o ≡ Some x
+      by None e = absurd (let f = none_found p xs e x m in cc)
+      by (Some y) e = let is = found p xs y e in ap (λ z. Some z) (own y is.0 is.1)
 
   pub count_some : (p : X → Bool) (xs : List X) (x : X) → Contains xs x → p x ≡ true → 1 ≤ count_by p xs
   count_some p xs x (k, l, e) t =
@@ -146,8 +142,7 @@ module _ {X : Type 0} where
     filter_map_is h p (x ∷ xs) = elim (cases_Bool (p (h x))) [ inl t ↦ rw t (ap (λ ys. h x ∷ ys) (filter_map_is h p xs)) | inr f ↦ rw f (filter_map_is h p xs) ]
 
     pub map_has : (h : X → Y) (xs : List X) (x : X) → Contains xs x → Contains (map h xs) (h x)
-    map_has h [] x m = absurd (let l = m.1 in omega arith)
-    map_has h (y ∷ ys) x m = elim (contains_cases y ys x m) [ inl e ↦ (zero, omega arith, ap h e) | inr d ↦ contains_later (h y) (map h ys) (h x) (map_has h ys x d) ]
+    map_has h xs x (k, l, e) = (k, rw length-map l, get_or-map h xs k x (h x) l ∙ ap h e)
 
     pub map_from : (h : X → Y) (xs : List X) (y : Y) → Contains (map h xs) y → (x : X) × Contains xs x × (h x ≡ y)
     map_from h [] y m = absurd (let l = m.1 in omega arith)
