@@ -16,10 +16,10 @@ use Rattle.call_plan.specs.declared.needs.Answered.TheVariants.{TooLarge, NotHel
 use Rattle.call_plan.specs.declared.needs.Fed.TheVariants.{Begin}
 use Rattle.call_plan.specs.declared.needs.Request.{Request}
 use Rattle.call_plan.specs.declared.needs.Request.TheVariants.{Malloc, Free}
-use Rattle.call_plan.specs.declared.puts.Putting.TheVariants.{Finding, MergeAsked, Merging}
+use Rattle.call_plan.specs.declared.puts.Putting.TheVariants.{Finding}
 use Rattle.call_plan.specs.declared.stages.Stage.{Stage}
 use Rattle.call_plan.specs.declared.stages.Stage.TheVariants.{Get, Give, Put, Ended}
-use Rattle.call_plan.specs.declared.wishes.Getting.TheVariants.{Looking, SkipAsked, SkipCut, TrimAsked, TrimCut, GrowAsked, Growing, GrantAsked, GrantCut, CommitAsked, Committing, Landing}
+use Rattle.call_plan.specs.declared.wishes.Getting.TheVariants.{Looking}
 use Rattle.call_plan.specs.Calls.{reading, IsPlanned, desk_started, stage_after, desk_after, gained}
 use Rattle.call_plan.specs.Knows.{Knows}
 use Rattle.call_plan.specs.Desks.{DeskFacts, holding}
@@ -51,30 +51,14 @@ ended_starts : (desk : DeskFacts) (verb : Verb) (request : Request) (answer : An
     rest_of stage [] ≡ Ends answer [] → Starts desk verb request stage
 ended_starts desk verb request answer (Ended other) same e =
     let is : other ≡ answer = cc in record { at = tt; settled = same ∙ ap (desk_ended desk request) (sym is); flown = λ s none. none; room = λ a. tt }
-ended_starts desk verb request answer (Give held) same e = absurd (cc)
-ended_starts desk verb request answer (Put arena point) same e = absurd (cc)
 ended_starts desk verb request answer (Get wish Looking) same e = absurd (cc)
-ended_starts desk verb request answer (Get wish (SkipAsked span b skip)) same e = absurd (cc)
-ended_starts desk verb request answer (Get wish (SkipCut b asked)) same e = absurd (cc)
-ended_starts desk verb request answer (Get wish (TrimAsked span b)) same e = absurd (cc)
-ended_starts desk verb request answer (Get wish (TrimCut b asked)) same e = absurd (cc)
-ended_starts desk verb request answer (Get wish GrowAsked) same e = absurd (cc)
-ended_starts desk verb request answer (Get wish (Growing asked)) same e = absurd (cc)
-ended_starts desk verb request answer (Get wish (GrantAsked span b)) same e = absurd (cc)
-ended_starts desk verb request answer (Get wish (GrantCut b asked)) same e = absurd (cc)
-ended_starts desk verb request answer (Get wish (CommitAsked span)) same e = absurd (cc)
-ended_starts desk verb request answer (Get wish (Committing span asked)) same e = absurd (cc)
-ended_starts desk verb request answer (Get wish (Landing span)) same e = absurd (cc)
+ended_starts desk verb request answer stage same e = absurd (cc)
 
 -- one that looks
 look_starts : (desk : DeskFacts) (verb : Verb) (size pages align : ℕ) (stage : Stage) → rest_of stage [] ≡ Waits (WantTurn desk.arena (Look pages align) None) → Starts desk verb (Malloc size) stage
 look_starts desk verb size pages align (Get wish Looking) e = let same : wish.arena ≡ desk.arena = cc in record { at = (size, refl, same); settled = refl; flown = λ s none. none; room = λ a. tt }
-look_starts desk verb size pages align (Get wish getting) e = absurd (cc)
-look_starts desk verb size pages align (Give held) e = absurd (cc)
 look_starts desk verb size pages align (Put arena (Finding own tries)) e = absurd (cc)
-look_starts desk verb size pages align (Put arena (MergeAsked low high own_low)) e = absurd (cc)
-look_starts desk verb size pages align (Put arena (Merging asked own_low)) e = absurd (cc)
-look_starts desk verb size pages align (Ended answer) e = absurd (cc)
+look_starts desk verb size pages align stage e = absurd (cc)
 
 malloc_starts : (desk : DeskFacts) (verb : Verb) (size : ℕ) (stage : Stage) → rest_of stage [] ≡ reading desk (Malloc size) [] → Starts desk verb (Malloc size) stage
 malloc_starts desk verb size stage e =
@@ -95,11 +79,8 @@ give_starts desk verb addr held (Give other) found there e =
       room = λ a. tt;
     }
 give_starts desk verb addr held (Get wish Looking) found there e = absurd (cc)
-give_starts desk verb addr held (Get wish getting) found there e = absurd (cc)
 give_starts desk verb addr held (Put arena (Finding own tries)) found there e = absurd (cc)
-give_starts desk verb addr held (Put arena (MergeAsked low high own_low)) found there e = absurd (cc)
-give_starts desk verb addr held (Put arena (Merging asked own_low)) found there e = absurd (cc)
-give_starts desk verb addr held (Ended answer) found there e = absurd (cc)
+give_starts desk verb addr held stage found there e = absurd (cc)
 
 free_starts : (desk : DeskFacts) (verb : Verb) (addr : ℕ) (stage : Stage) → rest_of stage [] ≡ reading desk (Free addr) [] → Starts desk verb (Free addr) stage
 free_starts desk verb addr stage e =

@@ -6,6 +6,9 @@ use Rattle.space_model.proofs.Pieces.{both_true}
 use Rattle.call_plan.specs.declared.needs.Request.{Request}
 use Rattle.call_plan.specs.declared.needs.Request.TheVariants.{Malloc, Free}
 use Rattle.call_plan.specs.Reading.{Item, Replied, Told, WantTurn, WantAsk, Outcome, Ends, Waits, Astray}
+use Rattle.call_plan.specs.declared.stages.Stage.{Stage}
+use Rattle.call_plan.specs.declared.stages.Stage.TheVariants.{Get, Ended}
+use Rattle.call_plan.specs.declared.wishes.Getting.TheVariants.{Looking}
 use Rattle.call_plan.specs.declared.needs.Answered.{Answered}
 use Rattle.call_plan.specs.Rest.{rest_of}
 use Rattle.call_plan.specs.Calls.{reading}
@@ -61,10 +64,7 @@ fits_more w call (Waits (WantTurn arena op asked)) Turned known going e fits are
 fits_more w call (Waits (WantAsk arena wanted)) (Heard_ asked) known going e fits are =
     items_fit-push (reading call.desk call.request) call.items (Told asked) are
     (subst (λ (o : Outcome). ItemFits o (Told asked)) (sym e) fits.0)
-fits_more w call (Waits (WantTurn arena op asked)) (Heard_ told) known going e fits are = absurd fits
-fits_more w call (Waits (WantAsk arena wanted)) Turned known going e fits are = absurd fits
-fits_more w call (Ends answer items) move known going e fits are = absurd fits
-fits_more w call Astray move known going e fits are = absurd fits
+fits_more w call o move known going e fits are = absurd fits
 
 -- so the next world's call is fed such items too
 moved_fed : (w : World) (call : Open) (o : Outcome) (move : Move) → Fits w o move →
@@ -72,10 +72,19 @@ moved_fed : (w : World) (call : Open) (o : Outcome) (move : Move) → Fits w o m
 moved_fed w call (Waits (WantTurn arena op asked)) Turned fits are =
     fed_fed _ (record call { items = call.items ++ Replied (step_of w.space call.client op).reply ∷ [] }) w.lines are
 moved_fed w call (Waits (WantAsk arena wanted)) (Heard_ asked) fits are = fed_fed w (record call { items = call.items ++ Told asked ∷ [] }) w.lines are
-moved_fed w call (Waits (WantTurn arena op asked)) (Heard_ told) fits are = absurd fits
-moved_fed w call (Waits (WantAsk arena wanted)) Turned fits are = absurd fits
-moved_fed w call (Ends answer items) move fits are = absurd fits
-moved_fed w call Astray move fits are = absurd fits
+moved_fed w call o move fits are = absurd fits
+
+-- a call that ended leaves nothing of what it was fed
+nothing_left : (stage : Stage) (answer : Answered) (left : List Item) → rest_of stage [] ≡ Ends answer left → left ≡ []
+nothing_left (Ended other) answer left e = cc
+nothing_left (Get wish Looking) answer left e = absurd (cc)
+nothing_left stage answer left e = absurd (cc)
+
+-- an answer after such items has its cause
+run_explained : (desk : DeskFacts) (request : Request) (items : List Item) (answer : Answered) → reading desk request items ≡ Ends answer [] → AreReplies desk request items →
+    AnswerHasCause desk request items answer
+run_explained desk (Malloc size) items answer run are = mallocs-have_causes desk size items answer run are
+run_explained desk (Free addr) items answer run are = frees-have_causes desk addr items answer run
 
 explained : (s : Space) (call : Open) → Going s call → AreReplies call.desk call.request call.items → IsExplained call.desk call.request call.items
 explained s call going are = λ answer left ends.
@@ -88,10 +97,7 @@ going_after : (w : World) (call : Open) (o : Outcome) (move : Move) → Kept w.s
     (s : Space) × Going s (record call { items = call.items ++ items_in w call o move })
 going_after w call (Waits (WantTurn arena op asked)) Turned known going e fits = (_, turned_going w call arena op asked known going e)
 going_after w call (Waits (WantAsk arena wanted)) (Heard_ asked) known going e fits = (_, heard_going w call arena wanted asked going e fits.0 fits.2)
-going_after w call (Waits (WantTurn arena op asked)) (Heard_ told) known going e fits = absurd fits
-going_after w call (Waits (WantAsk arena wanted)) Turned known going e fits = absurd fits
-going_after w call (Ends answer items) move known going e fits = absurd fits
-going_after w call Astray move known going e fits = absurd fits
+going_after w call o move known going e fits = absurd fits
 
 -- a move, by the open call
 move_at : (w : World) (o : Option Open) (move : Move) → w.call ≡ o → Sane w → IsFed w → IsNext w move →

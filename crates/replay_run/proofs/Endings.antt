@@ -18,11 +18,6 @@ use Rattle.replay_run.specs.Input.{IsUnbuilt, TakesSome}
 use Rattle.replay_run.specs.SoFar.{TellsAnswer}
 use Rattle.replay_run.specs.Replays.{Prints, Leaves, line_limit, refusal_behind, limit_behind}
 
--- want of memory gives status 6
-pub stop_of_memory : (r : Result ℕ Stop) → IsErrAnd r (λ stop. stop ≡ NoMemory) → status_in r ≢ 4
-stop_of_memory (Ok status) is = absurd is
-stop_of_memory (Err stop) is = λ four. let six : status_for stop ≡ 6 = ap status_for is in omega (arith, four, six)
-
 -- a count that stays at 0 didn't rise
 none_rose : Rose 0 0 → ⊥
 none_rose (inl below) = omega (arith, below)
@@ -33,11 +28,6 @@ sink_fault : (stop : Stop) (k k' : ℕ) → HasStopCause stop 0 0 k k' → statu
 sink_fault ReadFault k k' rose = absurd (none_rose rose)
 sink_fault WriteFault k k' rose = λ four. absurd (cc (four))
 sink_fault NoMemory k k' rose = λ four. absurd (cc (four))
-
--- nor is it where it is passed on
-pub stop_of_text : (r : Result ℕ Stop) (stop : Stop) (k k' : ℕ) → IsErrAnd r (λ passed. passed ≡ stop) → HasStopCause stop 0 0 k k' → status_in r ≢ 4
-stop_of_text (Ok status) stop k k' is rose = absurd is
-stop_of_text (Err passed) stop k k' is rose = λ four. sink_fault stop k k' rose (sym (ap status_for is) ∙ four)
 
 pub sink_not_4 : (r : Result ℕ Stop) (n k k' : ℕ) → n ≢ 4 → IfOk r (λ status. status ≡ n) → IfErr r (λ stop. HasStopCause stop 0 0 k k') → status_in r ≢ 4
 sink_not_4 (Ok status) n k k' other is rose = λ four. other (sym is ∙ four)

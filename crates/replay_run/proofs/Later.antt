@@ -72,10 +72,7 @@ moved_later w call (Waits (WantTurn arena op asked)) Turned more fits =
     (record call { items = call.items ++ Replied step.reply ∷ [] }) w.lines more (w.lines ++ more)
 moved_later w call (Waits (WantAsk arena wanted)) (Heard_ asked) more fits =
     fed_later w (record call { items = call.items ++ Told asked ∷ [] }) w.lines more (w.lines ++ more)
-moved_later w call (Waits (WantTurn arena op asked)) (Heard_ told) more fits = absurd fits
-moved_later w call (Waits (WantAsk arena wanted)) Turned more fits = absurd fits
-moved_later w call (Ends answer items) move more fits = absurd fits
-moved_later w call Astray move more fits = absurd fits
+moved_later w call o move more fits = absurd fits
 
 -- the next move of a world is the next one with more lines to come, and leads to the same world with them
 next_later : (w : World) (o : Option Open) (move : Move) (more : List Line) → w.call ≡ o → NextIn w move o →
@@ -156,10 +153,7 @@ moved_grows w call (Waits (WantTurn arena op asked)) Turned =
     fed_grows (record w { space = step.after; kept = w.kept ++ (record { entry = record { client = call.client; op = op }; asked = asked }) ∷ [] })
     (record call { items = call.items ++ Replied step.reply ∷ [] }) w.lines
 moved_grows w call (Waits (WantAsk arena wanted)) (Heard_ asked) = fed_grows w (record call { items = call.items ++ Told asked ∷ [] }) w.lines
-moved_grows w call (Waits (WantTurn arena op asked)) (Heard_ told) = begins_itself w.text
-moved_grows w call (Waits (WantAsk arena wanted)) Turned = begins_itself w.text
-moved_grows w call (Ends answer items) move = begins_itself w.text
-moved_grows w call Astray move = begins_itself w.text
+moved_grows w call o move = begins_itself w.text
 
 after_grows : (w : World) (o : Option Open) (move : Move) → Begins w.text (after_in w move o).text
 after_grows w None move = begins_itself w.text

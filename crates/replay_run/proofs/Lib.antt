@@ -12,4 +12,3 @@ pub mod Endings
 pub mod Later
 pub mod Hands
 pub mod Desks
-pub mod Stops

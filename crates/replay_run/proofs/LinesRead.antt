@@ -1,6 +1,5 @@
 -- The lines of the bytes that a source had.
-use Rattle.std.proofs.Common.{arith, Bool, eqb, true, false, get_or, take, drop, length, inl, inr, ◌+◌, ◌≡◌, ◌≢◌, ◌<◌, ◌≤◌, ℕ, List, [], ◌∷◌, ◌++◌, Option, Some, None, refl, sym, ◌∙◌, ap, append_assoc}
-use Rattle.std.specs.Io.KnownBytes.{IsAtEnd}
+use Rattle.std.proofs.Common.{arith, Bool, eqb, false, get_or, take, drop, length, inl, inr, ◌+◌, ◌≡◌, ◌≢◌, ◌<◌, ◌≤◌, ℕ, List, [], ◌∷◌, ◌++◌, Option, Some, None, refl, sym, ◌∙◌, ap, append_assoc}
 use Rattle.trace_text.specs.declared.lines.Line.{Line as SaidLine}
 use Rattle.trace_text.specs.Lines.{HasNoNewline}
 use Rattle.std.specs.List.{position, position_or_len}
@@ -49,21 +48,9 @@ stands_behind bytes n m at far =
 pub none_in_front : (bytes : List ℕ) (m : ℕ) → HasNoNewline bytes → HasNoNewline (take m bytes)
 none_in_front bytes m none = All-take (λ (b : ℕ). eqb b 10 ≡ false) m bytes none
 
--- no bytes are none
-pub empty_of : (bytes : List ℕ) (len : ℕ) → eqb len 0 ≡ true → len ≡ length bytes → bytes ≡ []
-empty_of [] len is same = refl
-empty_of (b ∷ bytes) len is same = absurd (omega (arith, eqb-true len 0 is, same))
-
--- and some are some
+-- a length other than 0 is that of some bytes
 pub not_empty : (bytes : List ℕ) (len : ℕ) → eqb len 0 ≡ false → len ≡ length bytes → bytes ≢ []
 not_empty bytes len is same none = let zero : len ≡ 0 = omega (arith, same, ap length none) in absurd (cc (is, ap (λ (n : ℕ). eqb n 0) zero))
-
--- where no line is found and no bytes are, the end was met
-pub end_of_none : (found : Found) (bytes : List ℕ) (left : Option (List ℕ)) (met : Bool) → ((n : ℕ) → found ≡ FoundLine n → ⊥) → InBounds found bytes → bytes ≡ [] →
-    MetEnd found left met → IsAtEnd left × (met ≡ true)
-end_of_none (FoundLine n) bytes left met no_line bounds none met_end = absurd (no_line n refl)
-end_of_none TooLong bytes left met no_line bounds none met_end = absurd (omega (arith, bounds, ap length none))
-end_of_none End bytes left met no_line bounds none met_end = met_end
 
 -- where no line is found and bytes are, they can't be carried out
 pub unbuilt_of_none : (found : Found) (bytes : List ℕ) (left : Option (List ℕ)) (met : Bool) → ((n : ℕ) → found ≡ FoundLine n → ⊥) → InBounds found bytes →

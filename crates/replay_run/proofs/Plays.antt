@@ -51,7 +51,7 @@ use Rattle.call_plan.specs.declared.needs.Answered.TheVariants.{TooLarge}
 use Rattle.call_plan.specs.declared.needs.Fed.TheVariants.{Replied as FedReply, Answer}
 use Rattle.call_plan.specs.declared.stages.Stage.{Stage}
 use Rattle.call_plan.specs.declared.stages.Stage.TheVariants.{Get, Ended}
-use Rattle.call_plan.specs.declared.wishes.Getting.TheVariants.{Looking, SkipAsked, SkipCut, TrimAsked, TrimCut, GrowAsked, Growing, GrantAsked, GrantCut, CommitAsked, Committing, Landing}
+use Rattle.call_plan.specs.declared.wishes.Getting.TheVariants.{Looking}
 use Rattle.call_plan.specs.declared.wishes.Wish.{Wish}
 use Rattle.call_plan.specs.Reading.{Item, Replied, Told, WantTurn, WantAsk, Outcome, Ends, Waits, Astray, ends}
 use Rattle.call_plan.specs.Malloc.{look, wish_for}
@@ -242,20 +242,8 @@ begun_sane (Call client verb ∷ lines) w known hands rests carried =
 -- a call that has ended has no extent in flight
 ended_flown : (c : ℕ) (s : Space) (stage : Stage) (answer : Answered) (items : List Item) → rest_of stage [] ≡ Ends answer items → HasFlights c s stage → flights c s ≡ 0
 ended_flown c s (Ended other) answer items e flown = flown
-ended_flown c s (Give held) answer items e flown = absurd (cc)
-ended_flown c s (Put arena point) answer items e flown = absurd (cc)
 ended_flown c s (Get wish Looking) answer items e flown = absurd (cc)
-ended_flown c s (Get wish (SkipAsked span b skip)) answer items e flown = absurd (cc)
-ended_flown c s (Get wish (SkipCut b asked)) answer items e flown = absurd (cc)
-ended_flown c s (Get wish (TrimAsked span b)) answer items e flown = absurd (cc)
-ended_flown c s (Get wish (TrimCut b asked)) answer items e flown = absurd (cc)
-ended_flown c s (Get wish GrowAsked) answer items e flown = absurd (cc)
-ended_flown c s (Get wish (Growing asked)) answer items e flown = absurd (cc)
-ended_flown c s (Get wish (GrantAsked span b)) answer items e flown = absurd (cc)
-ended_flown c s (Get wish (GrantCut b asked)) answer items e flown = absurd (cc)
-ended_flown c s (Get wish (CommitAsked span)) answer items e flown = absurd (cc)
-ended_flown c s (Get wish (Committing span asked)) answer items e flown = absurd (cc)
-ended_flown c s (Get wish (Landing span)) answer items e flown = absurd (cc)
+ended_flown c s stage answer items e flown = absurd (cc)
 
 call_rests : (s : Space) (call : Open) (going : Going s call) (answer : Answered) (items : List Item) → outcome_of call ≡ Ends answer items → flights 0 s ≡ 0
 call_rests s call going answer items e =
@@ -466,10 +454,7 @@ moved_sane : (w : World) (call : Open) (o : Outcome) (move : Move) → Kept w.sp
     outcome_of call ≡ o → Fits w o move → Sane (moved w call o move)
 moved_sane w call (Waits (WantTurn arena op asked)) Turned known going same hands carried e fits = turned_sane w call arena op asked known going same hands carried e
 moved_sane w call (Waits (WantAsk arena wanted)) (Heard_ asked) known going same hands carried e fits = heard_sane w call arena wanted asked known going same hands carried e fits.0 fits.2
-moved_sane w call (Waits (WantTurn arena op asked)) (Heard_ told) known going same hands carried e fits = absurd fits
-moved_sane w call (Waits (WantAsk arena wanted)) Turned known going same hands carried e fits = absurd fits
-moved_sane w call (Ends answer items) move known going same hands carried e fits = absurd fits
-moved_sane w call Astray move known going same hands carried e fits = absurd fits
+moved_sane w call o move known going same hands carried e fits = absurd fits
 
 after_sane_at : (w : World) (o : Option Open) (move : Move) → w.call ≡ o → Sane w → IsNext w move → Sane (after_move w move)
 after_sane_at w None move e sane next = absurd (subst (NextIn w move) e next)

@@ -11,7 +11,7 @@ use Rattle.call_plan.specs.declared.needs.Fed.TheVariants.{Replied as FedReply}
 use Rattle.call_plan.specs.declared.puts.Putting.TheVariants.{Finding, MergeAsked, Merging}
 use Rattle.call_plan.specs.declared.stages.Stage.{Stage}
 use Rattle.call_plan.specs.declared.stages.Stage.TheVariants.{Get, Give, Put, Ended}
-use Rattle.call_plan.specs.declared.wishes.Getting.TheVariants.{Looking, SkipAsked, SkipCut, TrimAsked, TrimCut, GrowAsked, Growing, GrantAsked, GrantCut, CommitAsked, Committing, Landing}
+use Rattle.call_plan.specs.declared.wishes.Getting.TheVariants.{Looking, SkipCut, TrimCut, Growing, GrantCut, Committing, Landing}
 use Rattle.call_plan.specs.Calls.{stage_after}
 use Rattle.call_plan.specs.Flying.{HasFlights}
 use Rattle.call_plan.specs.Left.{steps_left}
@@ -23,20 +23,9 @@ use Rattle.replay_run.specs.Rooms.{HasRoom}
 -- room for the steps that are left is room enough
 pub room_enough : (c : ℕ) (a : Standing) (stage : Stage) → steps_left c a.space stage ≤ room_of c a.rooms → HasRoom c a stage
 room_enough c a (Get wish Looking) most = tt
-room_enough c a (Get wish (SkipAsked span b skip)) most = most
-room_enough c a (Get wish (SkipCut b asked)) most = most
-room_enough c a (Get wish (TrimAsked span b)) most = most
-room_enough c a (Get wish (TrimCut b asked)) most = most
-room_enough c a (Get wish GrowAsked) most = most
-room_enough c a (Get wish (Growing asked)) most = most
-room_enough c a (Get wish (GrantAsked span b)) most = most
-room_enough c a (Get wish (GrantCut b asked)) most = most
-room_enough c a (Get wish (CommitAsked span)) most = most
-room_enough c a (Get wish (Committing span asked)) most = most
-room_enough c a (Get wish (Landing span)) most = most
-room_enough c a (Give held) most = tt
+room_enough c a (Get wish getting) most = most
 room_enough c a (Put arena point) most = most
-room_enough c a (Ended answer) most = tt
+room_enough c a stage most = tt
 
 -- a turn that isn't the first of its unit has room, for all steps that are left
 room_left : (c : ℕ) (a : Standing) (stage : Stage) (arena : ℕ) (op : Op) (asked : Option AskFacts) → rest_of stage [] ≡ Waits (WantTurn arena op asked) → HasRoom c a stage → opens op ≡ false →
@@ -82,12 +71,7 @@ first_room c s (Ended answer) room arena op asked e flown first = absurd (cc)
 later_room : (s : Space) (room c : ℕ) (op : Op) → opens op ≡ false → room_after s room c op ≡ room - 1
 later_room s room c (Look pages align) later = absurd (cc)
 later_room s room c (Back addrs) later = absurd (cc)
-later_room s room c (CutDone heard keep_low) later = refl
-later_room s room c (GrowDone heard found) later = refl
-later_room s room c (CommitDone heard) later = refl
-later_room s room c (Land span class count) later = refl
-later_room s room c (PutLook span tries) later = refl
-later_room s room c (MergeDone heard own_low) later = refl
+later_room s room c op later = refl
 
 pub room_after_turn : (c : ℕ) (a : Standing) (stage : Stage) (arena : ℕ) (op : Op) (asked : Option AskFacts) → rest_of stage [] ≡ Waits (WantTurn arena op asked) → HasRoom c a stage → HasFlights c a.space stage →
     steps_left c (step_of a.space c op).after (stage_after stage (FedReply (step_of a.space c op).reply)) < steps_left c a.space stage →
@@ -101,12 +85,6 @@ room_after_turn c a stage arena op asked e room flown shorter =
 pub room_after_ask : (c : ℕ) (a : Standing) (stage : Stage) (arena : ℕ) (wanted : Ask) (after : ℕ) → rest_of stage [] ≡ Waits (WantAsk arena wanted) → HasRoom c a stage → after < steps_left c a.space stage →
     after ≤ room_of c a.rooms
 room_after_ask c a (Get wish Looking) arena wanted after e room shorter = absurd (cc)
-room_after_ask c a (Get wish (SkipAsked span b skip)) arena wanted after e room shorter = omega (arith, room, shorter)
-room_after_ask c a (Get wish (TrimAsked span b)) arena wanted after e room shorter = omega (arith, room, shorter)
-room_after_ask c a (Get wish GrowAsked) arena wanted after e room shorter = omega (arith, room, shorter)
-room_after_ask c a (Get wish (GrantAsked span b)) arena wanted after e room shorter = omega (arith, room, shorter)
-room_after_ask c a (Get wish (CommitAsked span)) arena wanted after e room shorter = omega (arith, room, shorter)
-room_after_ask c a (Get wish getting) arena wanted after e room shorter = absurd (cc)
-room_after_ask c a (Give held) arena wanted after e room shorter = absurd (cc)
+room_after_ask c a (Get wish getting) arena wanted after e room shorter = omega (arith, room, shorter)
 room_after_ask c a (Put index point) arena wanted after e room shorter = omega (arith, room, shorter)
-room_after_ask c a (Ended answer) arena wanted after e room shorter = absurd (cc)
+room_after_ask c a stage arena wanted after e room shorter = absurd (cc)

@@ -7,7 +7,6 @@ use Rattle.space_model.specs.declared.Space.{Space}
 use Rattle.space_model.specs.Step.{space_after, reply_to, step_of, stands}
 use Rattle.space_model.specs.Sound.{Sound}
 use Rattle.hook_api.specs.Asked.{AskFacts}
-use Rattle.hook_api.specs.Chain.{AskChain}
 use Rattle.hook_api.specs.Hooks.{Answers}
 use Rattle.hook_api.specs.Kept.{KeptFacts, IsKept}
 use Rattle.hook_api.specs.Shelf.{Shelf, AskStep}
@@ -18,8 +17,8 @@ use Rattle.call_plan.specs.declared.needs.Fed.{Fed}
 use Rattle.call_plan.specs.declared.needs.Fed.TheVariants.{Replied as FedReply, Answer}
 use Rattle.call_plan.specs.declared.needs.Request.{Request}
 use Rattle.call_plan.specs.declared.stages.Stage.{Stage}
-use Rattle.call_plan.specs.declared.stages.Stage.TheVariants.{Get, Give, Put, Ended}
-use Rattle.call_plan.specs.declared.wishes.Getting.TheVariants.{Looking, SkipAsked, SkipCut, TrimAsked, TrimCut, GrowAsked, Growing, GrantAsked, GrantCut, CommitAsked, Committing, Landing}
+use Rattle.call_plan.specs.declared.stages.Stage.TheVariants.{Get, Ended}
+use Rattle.call_plan.specs.declared.wishes.Getting.TheVariants.{Looking}
 use Rattle.call_plan.specs.Calls.{IsBuilt, HasNotTold, stage_after, desk_after}
 use Rattle.call_plan.specs.Laws.{GoesOn}
 use Rattle.call_plan.specs.Knows.{Ground}
@@ -32,7 +31,7 @@ use Rattle.trace_text.specs.declared.lines.Verb.{Verb}
 use Rattle.replay_run.specs.Hands.{IsInHands}
 use Rattle.call_plan.specs.Reading.{Item, Want, Replied, Told, WantTurn, WantAsk, Outcome, Ends, Waits, Astray}
 use Rattle.call_plan.specs.Rest.{rest_of, IsFitting, NeedIs}
-use Rattle.replay_run.specs.World.{Open, World, outcome_of, asks_in, idle, printed, fed, call_of, desk_ended, IsCarried}
+use Rattle.replay_run.specs.World.{Open, World, outcome_of, idle, printed, fed, call_of, desk_ended, IsCarried}
 use Rattle.replay_run.specs.Sane.{Sane, desk_at}
 use Rattle.call_plan.specs.Desks.{DeskFacts}
 use Rattle.replay_run.specs.Carried.{Desktop, IsReady, world_of, Carried, Underway, IsUnderway, CarriedOn}
@@ -128,30 +127,16 @@ ask_ready {client} {space} {kept} {heard} {shelf} {desk} {stage} u arena ask nee
 
 -- a call that waits hasn't told its answer
 pub waits_untold : (stage : Stage) (fed : Fed) (want : Want) → rest_of stage [] ≡ Waits want → HasNotTold stage fed
-waits_untold (Get wish getting) fed want e = tt
-waits_untold (Give held) fed want e = tt
-waits_untold (Put arena point) fed want e = tt
 waits_untold (Ended answer) fed want e = absurd (cc)
+waits_untold stage fed want e = tt
 
 -- ---- what is carried out
 
 -- what the client owns where its call has ended
 ended_desk : (call : Open) (stage : Stage) (answer : Answered) (items : List Item) → rest_of stage [] ≡ Ends answer items → desk_at call stage ≡ desk_ended call.desk call.request answer
 ended_desk call (Ended other) answer items e = let same : other ≡ answer = cc in ap (desk_ended call.desk call.request) same
-ended_desk call (Give held) answer items e = absurd (cc)
-ended_desk call (Put arena point) answer items e = absurd (cc)
 ended_desk call (Get wish Looking) answer items e = absurd (cc)
-ended_desk call (Get wish (SkipAsked span b skip)) answer items e = absurd (cc)
-ended_desk call (Get wish (SkipCut b asked)) answer items e = absurd (cc)
-ended_desk call (Get wish (TrimAsked span b)) answer items e = absurd (cc)
-ended_desk call (Get wish (TrimCut b asked)) answer items e = absurd (cc)
-ended_desk call (Get wish GrowAsked) answer items e = absurd (cc)
-ended_desk call (Get wish (Growing asked)) answer items e = absurd (cc)
-ended_desk call (Get wish (GrantAsked span b)) answer items e = absurd (cc)
-ended_desk call (Get wish (GrantCut b asked)) answer items e = absurd (cc)
-ended_desk call (Get wish (CommitAsked span)) answer items e = absurd (cc)
-ended_desk call (Get wish (Committing span asked)) answer items e = absurd (cc)
-ended_desk call (Get wish (Landing span)) answer items e = absurd (cc)
+ended_desk call stage answer items e = absurd (cc)
 
 -- the answer of a call that has ended
 pub carried_end : {client : ℕ} {space : Space} {kept : List KeptFacts} {heard : List AskFacts} {shelf : Shelf} {desk : DeskFacts} {stage : Stage} {E : Type 0} (answer : Answered) (r : Result Answered E) →
@@ -166,25 +151,6 @@ carried_end {client} {space} {kept} {heard} {shelf} {desk} {stage} {E} answer r 
     ends_with client (Waits (WantTurn arena op asked)) answer need = absurd (cc)
     ends_with client (Waits (WantAsk arena wanted)) answer need = absurd (cc)
     ends_with client Astray answer need = absurd need
-
--- a call that finds no memory, where nothing changed
-pub carried_stop : {client : ℕ} {space : Space} {kept : List KeptFacts} {heard : List AskFacts} {shelf : Shelf} {desk : DeskFacts} {stage : Stage} {E : Type 0}
-    (space' : Space) (kept' : List KeptFacts) (heard' : List AskFacts) (shelf' : Shelf) (desk' : DeskFacts) (r : Result Answered E) (e : E) → r ≡ Err e →
-    space' ≡ space → kept' ≡ kept → heard' ≡ heard → shelf' ≡ shelf → CarriedOn client space kept heard shelf desk stage space' kept' heard' shelf' desk' r
-carried_stop {client} {space} {kept} {heard} {shelf} {desk} {stage} {E} space' kept' heard' shelf' desk' r e is a b c d start h0 sh0 top call own way =
-    subst (λ (x : Result Answered E). Carried start h0 sh0 space' kept' heard' shelf' top call desk' x) (sym is)
-    (record {
-      played = record {
-        moves = way.played.moves;
-        play = way.played.play;
-        in_space = way.played.in_space ∙ sym a;
-        in_journal = way.played.in_journal ∙ sym b;
-        hears = c ∙ way.played.hears;
-        chain = subst (AskChain sh0 (asks_in way.played.moves)) (sym d) way.played.chain;
-      };
-      ended = tt;
-      settled = tt;
-    })
 
 -- an underway call after its turn, from any start
 pub turned_way : {client : ℕ} {space : Space} {kept : List KeptFacts} {heard : List AskFacts} {shelf : Shelf} {desk : DeskFacts} {stage : Stage} →
