@@ -38,7 +38,8 @@ use Rattle.call_plan.specs.Knows.{Knows, KnowsGet}
 use Rattle.replay_run.specs.Hands.{IsInHands, IsOther}
 use Rattle.replay_run.specs.World.{Open, hands_at, desk_ended}
 use Rattle.replay_run.specs.Sane.{IsAt, desk_at, hands_now}
-use Rattle.replay_run.proofs.Hands.{hands_given, hands_landed, regions_stay}
+use Rattle.replay_run.proofs.Frames.{regions_stay}
+use Rattle.replay_run.proofs.Hands.{hands_given, hands_landed}
 
 -- a list with one more isn't empty
 pub one_at_least : {X : Type 0} (xs : List X) (x : X) → xs ++ x ∷ [] ≢ []

@@ -1,7 +1,6 @@
 -- What lands and what is given back, in the client's list as in the arena.
-use Rattle.std.proofs.Common.{◌≡◌, ℕ, inl, inr, ◌+◌, ◌*◌, ◌<◌, ◌≤◌, ◌≢◌, Bool, true, false, not, cond, List, [], ◌∷◌, ◌++◌, get_or, Option, Some, None, refl, sym, ◌∙◌, ap, subst, arith, All, filter, find, ◌&&◌, ◌||◌, ◌==◌, ltb as nat_lt, pos}
+use Rattle.std.proofs.Common.{◌≡◌, ℕ, inl, inr, ◌+◌, ◌*◌, ◌<◌, ◌≤◌, ◌≢◌, Bool, true, false, not, List, [], ◌∷◌, ◌++◌, get_or, Option, Some, refl, sym, ◌∙◌, ap, subst, arith, All, filter, find, ◌&&◌, ◌||◌, ◌==◌, ltb as nat_lt}
 use Rattle.std.specs.List.{sum_by, count_by, position_or_len}
-use Rattle.std.specs.Ordering.{int_eq}
 use Rattle.std.proofs.lemmas.List.Sums.{sum_by-cons, sum_by-insert, sum_by_push, sum_by-swap_remove, get_or-le-sum_by}
 use Rattle.std.proofs.lemmas.List.Filters.{sum_by-filter_both}
 use Rattle.std.proofs.lemmas.List.Folds.{find_at}
@@ -11,28 +10,21 @@ use Rattle.std.proofs.lemmas.Bool.{cases_eq, eqb-true}
 use Rattle.std.proofs.lemmas.Bool.Decides.{nat_tests}
 use Rattle.size_classes.specs.Classes.{size_at}
 use Rattle.size_classes.proofs.Table.{size_bounds}
-use Rattle.space_model.specs.declared.Ask.{Ask}
-use Rattle.space_model.specs.declared.Ask.TheVariants.{Alloc, Commit, Split, Merge}
-use Rattle.space_model.specs.declared.Answer.{Answer}
-use Rattle.space_model.specs.declared.Answer.TheVariants.{Done, Refused as Refuses, Placed}
-use Rattle.space_model.specs.declared.Op.{Op}
-use Rattle.space_model.specs.declared.Op.TheVariants.{Look, CutDone, GrowDone, CommitDone, Land, Back, PutLook, MergeDone}
+use Rattle.space_model.specs.declared.Op.TheVariants.{Land, Back}
 use Rattle.space_model.specs.declared.Part.{Part}
 use Rattle.space_model.specs.declared.Region.{Region}
-use Rattle.space_model.specs.declared.Reply.TheVariants.{NoArena, Landed, Purge}
+use Rattle.space_model.specs.declared.Reply.TheVariants.{Landed}
 use Rattle.space_model.specs.declared.Space.{Space}
 use Rattle.space_model.specs.declared.Span.{Span}
-use Rattle.space_model.specs.declared.Why.{Why}
 use Rattle.space_model.specs.Part.{is_flight_at}
 use Rattle.space_model.specs.Region.{address_of, covers, sharers, is_held_by}
-use Rattle.space_model.specs.Fit.{fit}
 use Rattle.space_model.specs.Sound.{Sound}
-use Rattle.space_model.specs.Step.{is_live, stays, look_at, cut_at, whole_at, after_cut, grow_unless, why_not, after_grow, commit_at, after_commit, land_at, is_given_back, staying, is_purged, put_at_rest, put_beside, put_at, neighbour, join_at, apart_at, after_merge, step_of, holds_at}
+use Rattle.space_model.specs.Step.{land_at, is_given_back, staying, step_of, holds_at}
 use Rattle.space_model.proofs.Exchange.{find_passes}
 use Rattle.space_model.proofs.Landing.{ones, nothing_sum, eqb_itself}
 use Rattle.thread_cache.specs.declared.Held.{Held}
 use Rattle.call_plan.specs.Helds.{stands_at, held_at, without}
-use Rattle.replay_run.specs.Hands.{holdings, listings, IsInHands, IsOther}
+use Rattle.replay_run.specs.Hands.{holdings, listings, IsInHands}
 
 -- 1 where the client holds the region, and it is of the class at the address
 abbrev holding_at : ℕ → ℕ → ℕ → Region → ℕ
@@ -207,83 +199,3 @@ hands_landed c s list span class p hands found arena =
           )),
       refl,
     )
-
--- ---- the other operations
-
-look_stays : (s : Space) (c align : ℕ) (o : Option Part) → (look_at s c align o).after.regions ≡ s.regions
-look_stays s c align None = refl
-look_stays s c align (Some p) = refl
-
-cut_stays : (s : Space) (keep_low : Bool) (left : ℕ) (o : Option Part) → (cut_at s keep_low left o).after.regions ≡ s.regions
-cut_stays s keep_low left None = refl
-cut_stays s true left (Some p) = refl
-cut_stays s false left (Some p) = refl
-
-whole_stays : (s : Space) (o : Option Part) → (whole_at s o).after.regions ≡ s.regions
-whole_stays s None = refl
-whole_stays s (Some p) = refl
-
-cut_done_stays : (s : Space) (c : ℕ) (keep_low : Bool) (ask : Ask) (answer : Answer) → (after_cut s c keep_low ask answer).after.regions ≡ s.regions
-cut_done_stays s c keep_low (Split span left) Done = cut_stays s keep_low left (find (is_flight_at c span) s.parts)
-cut_done_stays s c keep_low (Split span left) Refuses = whole_stays s (find (is_flight_at c span) s.parts)
-cut_done_stays s c keep_low ask answer = refl
-
-grow_stays : (s : Space) (c : ℕ) (span : Span) (committed : Bool) (o : Option Why) → (grow_unless s c span committed o).after.regions ≡ s.regions
-grow_stays s c span committed None = refl
-grow_stays s c span committed (Some why) = refl
-
-grow_done_stays : (s : Space) (c : ℕ) (found : Option ℕ) (ask : Ask) (answer : Answer) → (after_grow s c found ask answer).after.regions ≡ s.regions
-grow_done_stays s c found (Alloc at pages align commit) Refuses = refl
-grow_done_stays s c found (Alloc at pages align commit) (Placed first committed zeroed) =
-    grow_stays s c (record { first = first; pages = pages }) committed (why_not found align s.parts (record { first = first; pages = pages }))
-grow_done_stays s c found ask answer = refl
-
-commit_stays : (s : Space) (o : Option Part) → (commit_at s o).after.regions ≡ s.regions
-commit_stays s None = refl
-commit_stays s (Some p) = refl
-
-commit_done_stays : (s : Space) (c : ℕ) (ask : Ask) (answer : Answer) → (after_commit s c ask answer).after.regions ≡ s.regions
-commit_done_stays s c (Commit span) Done = commit_stays s (find (is_flight_at c span) s.parts)
-commit_done_stays s c (Commit span) Refuses = whole_stays s (find (is_flight_at c span) s.parts)
-commit_done_stays s c ask answer = refl
-
-beside_stays : (s : Space) (c : ℕ) (p : Part) (o : Option Part) → (put_beside s c p o).after.regions ≡ s.regions
-beside_stays s c p (Some other) = refl
-beside_stays s c p None =
-    elim (is_purged s p) as (λ b. (cond b (stays s (Purge (not (int_eq s.muzzy.ms (pos 0))))) (put_at_rest s c p)).after.regions ≡ s.regions)
-    [ true ↦ refl | false ↦ refl ]
-
-put_stays : (s : Space) (c tries : ℕ) (o : Option Part) → (put_at s c tries o).after.regions ≡ s.regions
-put_stays s c tries None = refl
-put_stays s c tries (Some p) = beside_stays s c p (neighbour tries p s.parts)
-
-join_stays : (s : Space) (low high : Option Part) → (join_at s low high).after.regions ≡ s.regions
-join_stays s (Some low) (Some high) = refl
-join_stays s None high = refl
-join_stays s (Some low) None = refl
-
-apart_stays : (s : Space) (own_low : Bool) (low high : Option Part) → (apart_at s own_low low high).after.regions ≡ s.regions
-apart_stays s true (Some low) (Some high) = refl
-apart_stays s false (Some low) (Some high) = refl
-apart_stays s true None high = refl
-apart_stays s false None high = refl
-apart_stays s true (Some low) None = refl
-apart_stays s false (Some low) None = refl
-
-merge_done_stays : (s : Space) (c : ℕ) (own_low : Bool) (ask : Ask) (answer : Answer) → (after_merge s c own_low ask answer).after.regions ≡ s.regions
-merge_done_stays s c own_low (Merge low high) Done = join_stays s (find (is_flight_at c low) s.parts) (find (is_flight_at c high) s.parts)
-merge_done_stays s c own_low (Merge low high) Refuses = apart_stays s own_low (find (is_flight_at c low) s.parts) (find (is_flight_at c high) s.parts)
-merge_done_stays s c own_low ask answer = refl
-
--- No other operation changes the regions.
-pub regions_stay : (s : Space) (c : ℕ) (op : Op) → IsOther op → (step_of s c op).after.regions ≡ s.regions
-regions_stay s c (Look pages align) other =
-    elim (is_live s.life) as (λ b. (cond b (look_at s c align (fit pages align s.parts)) (stays s NoArena)).after.regions ≡ s.regions)
-    [ true ↦ look_stays s c align (fit pages align s.parts) | false ↦ refl ]
-regions_stay s c (CutDone heard keep_low) other = cut_done_stays s c keep_low heard.ask heard.answer
-regions_stay s c (GrowDone heard found) other = grow_done_stays s c found heard.ask heard.answer
-regions_stay s c (CommitDone heard) other = commit_done_stays s c heard.ask heard.answer
-regions_stay s c (Land span class count) other = absurd other
-regions_stay s c (Back addrs) other = absurd other
-regions_stay s c (PutLook span tries) other = put_stays s c tries (find (is_flight_at c span) s.parts)
-regions_stay s c (MergeDone heard own_low) other = merge_done_stays s c own_low heard.ask heard.answer
