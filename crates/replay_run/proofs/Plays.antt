@@ -42,7 +42,7 @@ use Rattle.replay_run.specs.Hands.{IsInHands}
 use Rattle.replay_run.specs.World.{hands_at, hands_in, desk_ended, call_of, request_of}
 use Rattle.replay_run.specs.Sane.{hands_now}
 use Rattle.replay_run.proofs.Hands.{hands_listed}
-use Rattle.replay_run.proofs.Desks.{at_reply, at_answer, hands_stage, hands_at_stage, hands_reply, hands_answer}
+use Rattle.replay_run.proofs.Desks.{onto_reply, onto_answer, hands_stage, hands_at_stage, hands_reply, hands_answer}
 use Rattle.hook_api.specs.Asked.{AskFacts}
 use Rattle.hook_api.specs.Hooks.{Answers}
 use Rattle.hook_api.specs.Kept.{KeptFacts}
@@ -376,7 +376,7 @@ turned_going w call arena op asked known going e =
           (λ more. reply-reads going.stage (WantTurn arena op asked) step.reply here law.fitting more);
       planned = planned-reply going.stage step.reply going.planned;
       knows = law.knows;
-      at = at_reply call going.stage step.reply going.at;
+      at = (onto_reply call going.stage arena op asked step.reply here going.at).at;
       flown = turn_flights call.client w.space going.stage arena op asked (ground w.space w.kept call.client known (below_all call.client going.client)) going.planned going.knows going.flown here;
     }
 
@@ -434,7 +434,7 @@ heard_going w call arena wanted asked going e same answers =
           (λ more. answer-reads going.stage (WantAsk arena wanted) asked here law.0 more);
       planned = planned-answer going.stage asked going.planned;
       knows = law.1;
-      at = at_answer call going.stage arena wanted asked here going.at;
+      at = (onto_answer call going.stage arena wanted asked here going.at).at;
       flown = ask_flights call.client w.space going.stage arena wanted asked here going.flown;
     }
 

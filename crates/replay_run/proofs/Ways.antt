@@ -24,7 +24,7 @@ use Rattle.call_plan.proofs.Counted.{turn_flights, ask_flights}
 use Rattle.call_plan.specs.Laws.{GoesOn}
 use Rattle.call_plan.proofs.GoingOn.{asks-go_on}
 use Rattle.replay_run.specs.Sane.{Kept, Going, Sane, IsAt, desk_at}
-use Rattle.replay_run.proofs.Desks.{fed_one, at_reply, at_answer, settles_reply, settles_answer}
+use Rattle.replay_run.proofs.Desks.{fed_one, onto_reply, onto_answer}
 use Rattle.replay_run.specs.Carried.{Desktop, world_of, Underway}
 use Rattle.replay_run.proofs.Plays.{play_sane, planned-reply, planned-answer}
 
@@ -155,7 +155,8 @@ way_turn {start} {h0} {sh0} {space} {kept} {heard} {shelf} {top} {call} {desk} {
     let there = world_after-push start moves Turned ∙ turn.1 in
     let s = (step_of space call.client op).after in
     let k = kept ++ (record { entry = record { client = call.client; op = op }; asked = asked }) ∷ [] in
-    let c = now call (way.items ++ Replied (step_of space call.client op).reply ∷ []) in record {
+    let c = now call (way.items ++ Replied (step_of space call.client op).reply ∷ []) in
+    let onto = onto_reply (now call way.items) stage arena op asked (step_of space call.client op).reply e way.at in record {
       played = record {
         moves = moves ++ Turned ∷ [];
         play = play-push start moves Turned way.played.play turn.0;
@@ -168,12 +169,12 @@ way_turn {start} {h0} {sh0} {space} {kept} {heard} {shelf} {top} {call} {desk} {
       reads = reads_on call way.items (Replied (step_of space call.client op).reply) stage after way.reads reads;
       here = there;
       at = subst (IsAt (fed_one (now call way.items) (Replied (step_of space call.client op).reply))) (sym point)
-          (at_reply (now call way.items) stage (step_of space call.client op).reply way.at);
+          onto.at;
       planned = subst IsPlanned (sym point) (planned-reply stage (step_of space call.client op).reply way.planned);
       knows = subst (Knows call.client (step_of space call.client op).after) (sym point) law.knows;
       flown = subst (HasFlights call.client (step_of space call.client op).after) (sym point) (turn_flights call.client space stage arena op asked base way.planned way.knows way.flown e);
       settled = settled ∙ ap (λ (d : DeskFacts). desk_after d stage (FedReply (step_of space call.client op).reply)) way.settled
-          ∙ settles_reply (now call way.items) stage arena op asked (step_of space call.client op).reply e way.at ∙ ap (desk_at call) (sym point);
+          ∙ onto.owns ∙ ap (desk_at call) (sym point);
     }
 
 -- and by its ask
@@ -187,7 +188,8 @@ way_ask {start} {h0} {sh0} {space} {kept} {heard} {shelf} {top} {call} {desk} {s
     let w : World = world_after start moves in
     let turn = ask_world w space kept top call way.items arena wanted asked way.here (outcome_now call way.items stage way.reads ∙ e) same at answers in
     let there = world_after-push start moves (Heard_ asked) ∙ turn.1 in
-    let c = now call (way.items ++ Told asked ∷ []) in record {
+    let c = now call (way.items ++ Told asked ∷ []) in
+    let onto = onto_answer (now call way.items) stage arena wanted asked e way.at in record {
       played = record {
         moves = moves ++ Heard_ asked ∷ [];
         play = play-push start moves (Heard_ asked) way.played.play turn.0;
@@ -200,12 +202,12 @@ way_ask {start} {h0} {sh0} {space} {kept} {heard} {shelf} {top} {call} {desk} {s
       items = way.items ++ Told asked ∷ [];
       reads = reads_on call way.items (Told asked) stage after way.reads reads;
       here = there;
-      at = subst (IsAt (fed_one (now call way.items) (Told asked))) (sym point) (at_answer (now call way.items) stage arena wanted asked e way.at);
+      at = subst (IsAt (fed_one (now call way.items) (Told asked))) (sym point) onto.at;
       planned = subst IsPlanned (sym point) (planned-answer stage asked way.planned);
       knows = subst (Knows call.client space) (sym point) (asks-go_on call.client space stage arena wanted asked way.knows e same answers).1;
       flown = subst (HasFlights call.client space) (sym point) (ask_flights call.client space stage arena wanted asked e way.flown);
       settled = settled ∙ ap (λ (d : DeskFacts). desk_after d stage (Answer asked)) way.settled
-          ∙ settles_answer (now call way.items) stage arena wanted asked e way.at ∙ ap (desk_at call) (sym point);
+          ∙ onto.owns ∙ ap (desk_at call) (sym point);
     }
 
 -- and its end is the world with its answer printed
