@@ -1,10 +1,10 @@
 -- What a client owns and has in hand, as its call is fed.
-use Rattle.std.proofs.Common.{◌≡◌, ◌≢◌, ℕ, List, [], ◌∷◌, ◌++◌, Option, Some, None, true, false, refl, sym, ◌∙◌, ap, subst}
+use Rattle.std.proofs.Common.{◌≡◌, ◌≢◌, ℕ, List, [], ◌∷◌, ◌++◌, Option, Some, refl, sym, ◌∙◌, ap, subst}
 use Rattle.std.specs.declared.ops.ControlFlow.{ControlFlow}
 use Rattle.std.specs.declared.ops.ControlFlow.TheVariants.{Continue, Break}
 use Rattle.space_model.specs.declared.Ask.{Ask}
 use Rattle.space_model.specs.declared.Op.{Op}
-use Rattle.space_model.specs.declared.Op.TheVariants.{Look, CutDone, GrowDone, CommitDone, Land, Back, PutLook, MergeDone}
+use Rattle.space_model.specs.declared.Op.TheVariants.{Land, Back}
 use Rattle.space_model.specs.declared.Reply.{Reply}
 use Rattle.space_model.specs.declared.Reply.TheVariants.{NoArena, Noted, Took, Cut, Bad, Grown, Landed, Next}
 use Rattle.space_model.specs.declared.Space.{Space}
@@ -12,7 +12,7 @@ use Rattle.space_model.specs.declared.Region.{Region}
 use Rattle.space_model.specs.declared.Span.{Span}
 use Rattle.space_model.specs.Sound.{Sound}
 use Rattle.space_model.specs.Step.{step_of}
-use Rattle.hook_api.specs.Asked.{AskFacts, heard_in}
+use Rattle.hook_api.specs.Asked.{AskFacts}
 use Rattle.thread_cache.specs.declared.Held.{Held}
 use Rattle.call_plan.specs.declared.needs.Answered.{Answered}
 use Rattle.call_plan.specs.declared.needs.Answered.TheVariants.{Ok}
@@ -23,13 +23,13 @@ use Rattle.call_plan.specs.declared.needs.Request.TheVariants.{Malloc, Free}
 use Rattle.call_plan.specs.declared.stages.Stage.{Stage}
 use Rattle.call_plan.specs.declared.stages.Stage.TheVariants.{Get, Give, Put, Ended}
 use Rattle.call_plan.specs.declared.puts.Putting.{Putting}
-use Rattle.call_plan.specs.declared.puts.Putting.TheVariants.{Finding, MergeAsked, Merging}
+use Rattle.call_plan.specs.declared.puts.Putting.TheVariants.{Finding}
 use Rattle.call_plan.specs.declared.wishes.Getting.{Getting}
-use Rattle.call_plan.specs.declared.wishes.Getting.TheVariants.{Looking, SkipAsked, SkipCut, TrimAsked, TrimCut, GrowAsked, Growing, GrantAsked, GrantCut, CommitAsked, Committing, Landing}
+use Rattle.call_plan.specs.declared.wishes.Getting.TheVariants.{Looking, SkipCut, TrimCut, Growing, GrantCut, Committing, Landing}
 use Rattle.call_plan.specs.declared.wishes.Wish.{Wish}
 use Rattle.call_plan.specs.Desks.{DeskFacts, holding}
 use Rattle.call_plan.specs.Helds.{without}
-use Rattle.call_plan.specs.Free.{Onward, To, Over, Nowhere, put_step}
+use Rattle.call_plan.specs.Free.{Onward, To, put_step}
 use Rattle.call_plan.specs.Stages.{after_reply_point}
 use Rattle.call_plan.specs.Reading.{Item, Replied, Told, WantTurn, WantAsk, Outcome, Waits}
 use Rattle.call_plan.specs.Rest.{rest_of}

@@ -1,21 +1,21 @@
 -- A call has room for its turns.
-use Rattle.std.proofs.Common.{arith, ◌≡◌, ◌-◌, ◌<◌, ◌≤◌, ℕ, true, false, [], ◌∷◌, Option, None, refl, ap, subst}
+use Rattle.std.proofs.Common.{Bool, arith, ◌≡◌, ◌-◌, ◌<◌, ◌≤◌, ℕ, true, false, [], ◌∷◌, Option, refl, ap, subst}
 use Rattle.space_model.specs.declared.Ask.{Ask}
 use Rattle.space_model.specs.declared.Op.{Op}
-use Rattle.space_model.specs.declared.Op.TheVariants.{Look, CutDone, GrowDone, CommitDone, Land, Back, PutLook, MergeDone}
+use Rattle.space_model.specs.declared.Op.TheVariants.{Look, Back}
 use Rattle.space_model.specs.declared.Space.{Space}
 use Rattle.space_model.specs.Step.{step_of}
-use Rattle.hook_api.specs.Asked.{AskFacts, heard_in}
+use Rattle.hook_api.specs.Asked.{AskFacts}
 use Rattle.arena_core.specs.Arenas.{Standing, opens, room_of, room_after}
 use Rattle.call_plan.specs.declared.needs.Fed.TheVariants.{Replied as FedReply}
-use Rattle.call_plan.specs.declared.puts.Putting.TheVariants.{Finding, MergeAsked, Merging}
+use Rattle.call_plan.specs.declared.puts.Putting.TheVariants.{Finding}
 use Rattle.call_plan.specs.declared.stages.Stage.{Stage}
-use Rattle.call_plan.specs.declared.stages.Stage.TheVariants.{Get, Give, Put, Ended}
-use Rattle.call_plan.specs.declared.wishes.Getting.TheVariants.{Looking, SkipCut, TrimCut, Growing, GrantCut, Committing, Landing}
+use Rattle.call_plan.specs.declared.stages.Stage.TheVariants.{Get, Give, Put}
+use Rattle.call_plan.specs.declared.wishes.Getting.TheVariants.{Looking}
 use Rattle.call_plan.specs.Calls.{stage_after}
 use Rattle.call_plan.specs.Flying.{HasFlights}
 use Rattle.call_plan.specs.Left.{steps_left}
-use Rattle.call_plan.specs.Reading.{WantTurn, WantAsk, Waits}
+use Rattle.call_plan.specs.Reading.{WantTurn, WantAsk, Outcome, Waits}
 use Rattle.call_plan.specs.Rest.{rest_of}
 use Rattle.call_plan.proofs.Counted.{look_room, back_room}
 use Rattle.replay_run.specs.Rooms.{HasRoom}
@@ -27,20 +27,18 @@ room_enough c a (Get wish getting) most = most
 room_enough c a (Put arena point) most = most
 room_enough c a stage most = tt
 
+-- whether the first turn of a unit is needed
+abbrev wants_opening : Outcome → Bool
+wants_opening (Waits (WantTurn arena op asked)) = opens op
+wants_opening outcome = false
+
 -- a turn that isn't the first of its unit has room, for all steps that are left
 room_left : (c : ℕ) (a : Standing) (stage : Stage) (arena : ℕ) (op : Op) (asked : Option AskFacts) → rest_of stage [] ≡ Waits (WantTurn arena op asked) → HasRoom c a stage → opens op ≡ false →
     steps_left c a.space stage ≤ room_of c a.rooms
-room_left c a (Get wish Looking) arena op asked e room other = let o : Look wish.pages wish.align ≡ op = cc in let opening : true ≡ opens op = ap opens o in absurd (cc (opening, other))
-room_left c a (Give held) arena op asked e room other = let o : Back (held.addr ∷ []) ≡ op = cc in let opening : true ≡ opens op = ap opens o in absurd (cc (opening, other))
-room_left c a (Get wish (SkipCut b told)) arena op asked e room other = room
-room_left c a (Get wish (TrimCut b told)) arena op asked e room other = room
-room_left c a (Get wish (Growing told)) arena op asked e room other = room
-room_left c a (Get wish (GrantCut b told)) arena op asked e room other = room
-room_left c a (Get wish (Committing span told)) arena op asked e room other = room
-room_left c a (Get wish (Landing span)) arena op asked e room other = room
-room_left c a (Get wish getting) arena op asked e room other = absurd (cc)
+room_left c a (Get wish Looking) arena op asked e room other = let opening = ap wants_opening e in absurd (cc)
+room_left c a (Get wish getting) arena op asked e room other = room
 room_left c a (Put index point) arena op asked e room other = room
-room_left c a (Ended answer) arena op asked e room other = absurd (cc)
+room_left c a stage arena op asked e room other = let opening = ap wants_opening e in absurd (cc)
 
 pub room_for : (c : ℕ) (a : Standing) (stage : Stage) (arena : ℕ) (op : Op) (asked : Option AskFacts) (less : ℕ) → rest_of stage [] ≡ Waits (WantTurn arena op asked) → HasRoom c a stage →
     less < steps_left c a.space stage → opens op ≡ false → 0 < room_of c a.rooms
@@ -55,17 +53,8 @@ first_room c s (Get wish Looking) room arena op asked e flown first =
 first_room c s (Give held) room arena op asked e flown first =
     let o : Back (held.addr ∷ []) ≡ op = cc in
     subst (λ (x : Op). steps_left c (step_of s c x).after (stage_after (Give held) (FedReply (step_of s c x).reply)) ≤ room_after s room c x) o (omega (arith, back_room c s held flown))
-first_room c s (Get wish (SkipCut b told)) room arena op asked e flown first = let o : CutDone (heard_in told) false ≡ op = cc in let later : false ≡ opens op = ap opens o in absurd (cc (later, first))
-first_room c s (Get wish (TrimCut b told)) room arena op asked e flown first = let o : CutDone (heard_in told) true ≡ op = cc in let later : false ≡ opens op = ap opens o in absurd (cc (later, first))
-first_room c s (Get wish (Growing told)) room arena op asked e flown first = let o : GrowDone (heard_in told) None ≡ op = cc in let later : false ≡ opens op = ap opens o in absurd (cc (later, first))
-first_room c s (Get wish (GrantCut b told)) room arena op asked e flown first = let o : CutDone (heard_in told) true ≡ op = cc in let later : false ≡ opens op = ap opens o in absurd (cc (later, first))
-first_room c s (Get wish (Committing span told)) room arena op asked e flown first = let o : CommitDone (heard_in told) ≡ op = cc in let later : false ≡ opens op = ap opens o in absurd (cc (later, first))
-first_room c s (Get wish (Landing span)) room arena op asked e flown first = let o : Land span wish.class 1 ≡ op = cc in let later : false ≡ opens op = ap opens o in absurd (cc (later, first))
-first_room c s (Get wish getting) room arena op asked e flown first = absurd (cc)
-first_room c s (Put index (Finding own tries)) room arena op asked e flown first = let o : PutLook own tries ≡ op = cc in let later : false ≡ opens op = ap opens o in absurd (cc (later, first))
-first_room c s (Put index (Merging told own_low)) room arena op asked e flown first = let o : MergeDone (heard_in told) own_low ≡ op = cc in let later : false ≡ opens op = ap opens o in absurd (cc (later, first))
-first_room c s (Put index (MergeAsked low high own_low)) room arena op asked e flown first = absurd (cc)
-first_room c s (Ended answer) room arena op asked e flown first = absurd (cc)
+first_room c s (Put index (Finding own tries)) room arena op asked e flown first = let opening = ap wants_opening e in absurd (cc)
+first_room c s stage room arena op asked e flown first = let opening = ap wants_opening e in absurd (cc)
 
 -- a turn that isn't the first one uses one of the room up
 later_room : (s : Space) (room c : ℕ) (op : Op) → opens op ≡ false → room_after s room c op ≡ room - 1
