@@ -1,10 +1,8 @@
-use Rattle.std.proofs.Common.{arith, ◌≢◌, ℕ, List, [], ◌+◌, length, take, drop, Option, IfSome, ap, refl, sym, ◌∙◌, subst}
+use Rattle.std.proofs.Common.{arith, ◌≢◌, ℕ, List, [], ◌+◌, length, take, drop, ap, refl, sym, ◌∙◌, subst}
 use Rattle.trace_text.specs.declared.lines.Line.TheVariants.{Call}
-use Rattle.trace_text.specs.declared.lines.Verb.{Verb}
-use Rattle.call_plan.specs.Desks.{facts_of}
 use Rattle.replay_run.specs.declared.input.Found.{Found}
 use Rattle.replay_run.specs.declared.input.Found.TheVariants.{Line as FoundLine}
-use Rattle.replay_run.specs.Input.{InBounds, IsFirst, SaysCall, SaysNone}
+use Rattle.replay_run.specs.Input.{IsFirst, SaysNone}
 use Rattle.replay_run.proofs.Replays.{ReadsLine, called_line, so_far_read, so_far_carried, stops_in_line, stops_reading, stops_unread, goes_stop}
 use Rattle.replay_run.proofs.LinesRead.{unbuilt_of_none, unbuilt_line, not_empty}
 use Rattle.replay_run.proofs.lines.next_line.Goals as goal
@@ -12,17 +10,17 @@ use Rattle.replay_run.proofs.lines.next_line.Goals as goal
 pub returns-in_err-end-clause-goes : goal.returns-in_err-end-clause-goes
 returns-in_err-end-clause-goes g c from lines few so =
     goes_stop from lines c.from_residual.result c.in_err-end.field-0.0 _ c.from_residual.ensures.1
-    (stops_reading from lines _ c.find_line.new.pending _ _ c.in_err-end.field-0.0 so few c.in_err-end.ensures.stopped)
+    (stops_reading so c.in_err-end.field-0.0 _ _ (omega (arith, few)) c.in_err-end.ensures.stopped)
 
 pub returns-in_err-verb-clause-goes : goal.returns-in_err-verb-clause-goes
 returns-in_err-verb-clause-goes g c from lines few so =
     goes_stop from lines c.from_residual-in_err-verb.result _ _ c.from_residual-in_err-verb.ensures.1
-    (stops_unread from lines _ (so_far_read from lines _ c.find_line.new.pending _ _ so c.in_ok-end.ensures.moved) few)
+    (stops_unread (so_far_read so c.find_line.new.pending _ _ c.in_ok-end.ensures.moved) few)
 
 pub returns-else-is_empty : goal.returns-else-is_empty
 returns-else-is_empty g c = record {
   goes = λ from lines few so. (
-    so_far_read from lines _ c.find_line.new.pending _ _ so c.in_ok-end.ensures.moved,
+    so_far_read so c.find_line.new.pending _ _ c.in_ok-end.ensures.moved,
     unbuilt_of_none c.in_ok-end.field-0 c.find_line.new.pending _ _ c.in_default.not-Line c.in_ok-end.ensures.bounds c.in_ok-end.ensures.first
         (subst (λ (xs : List ℕ). xs ≢ []) c.as_slice.ensures (not_empty c.as_slice.result.now (length c.as_slice.result.now) (sym c.is_empty.ensures ∙ c.if-is_empty.false) refl)) c.in_ok-end.ensures.end,
   );
@@ -36,50 +34,24 @@ pub returns-in_default-2-clause-goes : goal.returns-in_default-2-clause-goes
 returns-in_default-2-clause-goes g c from lines few so =
     let first : IsFirst (FoundLine c.in-Line.end) c.find_line.new.pending =
     subst (λ (f : Found). IsFirst f c.find_line.new.pending) c.in-Line.is c.in_ok-end.ensures.first in (
-      so_far_read from lines _ c.find_line.new.pending _ _ so c.in_ok-end.ensures.moved,
+      so_far_read so c.find_line.new.pending _ _ c.in_ok-end.ensures.moved,
       unbuilt_line (take c.in-Line.end c.find_line.new.pending) (drop (c.in-Line.end + 1) c.find_line.new.pending) c.find_line.new.pending _ first.0 first.1
           (subst SaysNone (ap (take c.in-Line.end) c.as_slice-2.ensures) (c.in_ok-verb.ensures.none c.in_default-2.is)),
     )
 
 pub returns-in_err-carry_line-clause-goes : goal.returns-in_err-carry_line-clause-goes
 returns-in_err-carry_line-clause-goes g c from lines few so =
-    let first : IsFirst (FoundLine c.in-Line.end) c.find_line.new.pending =
-    subst (λ (f : Found). IsFirst f c.find_line.new.pending) c.in-Line.is c.in_ok-end.ensures.first in
-    let bounds : InBounds (FoundLine c.in-Line.end) c.find_line.new.pending =
-    subst (λ (f : Found). InBounds f c.find_line.new.pending) c.in-Line.is c.in_ok-end.ensures.bounds in
-    let says : SaysCall (take c.in-Line.end c.find_line.new.pending) c.in-Some.verb =
-    subst (λ (xs : List ℕ). SaysCall (take c.in-Line.end xs) c.in-Some.verb) c.as_slice-2.ensures
-    (subst (λ (o : Option Verb). IfSome o (SaysCall (take c.in-Line.end c.as_slice-2.result.now))) c.in-Some.is c.in_ok-verb.ensures.call) in
-    let line = called_line c.find_line.new.pending c.in-Line.end c.in-Some.verb bounds first says in
-    let read = so_far_read from lines _ c.find_line.new.pending (g.S.Source.left c.find_line.new.source) (g.S.Source.ended c.find_line.new.source) so c.in_ok-end.ensures.moved in
+    let line = called_line _ _ c.as_slice-2.result.now c.in-Line.end _ c.in-Some.verb c.in-Line.is c.as_slice-2.ensures c.in-Some.is
+    c.in_ok-end.ensures.bounds c.in_ok-end.ensures.first c.in_ok-verb.ensures.call in
+    let read = so_far_read so c.find_line.new.pending (g.S.Source.left c.find_line.new.source) (g.S.Source.ended c.find_line.new.source) c.in_ok-end.ensures.moved in
     let way = c.in_err-carry_line.ensures.carried read.text in
     goes_stop from lines c.from_residual-in_err-carry_line.result c.in_err-carry_line.field-0.0 _ c.from_residual-in_err-carry_line.ensures.1
-    (stops_in_line from lines _ (record {
-      space = c.carry_line.new.state.arena.space;
-      kept = c.carry_line.new.state.kept.items;
-      heard = c.carry_line.new.state.heard.items;
-      shelf = _;
-      pending = c.find_line.new.pending;
-      left = g.S.Source.left c.find_line.new.source;
-      met = g.S.Source.ended c.find_line.new.source;
-      held = g.K.Sink.held c.carry_line.new.sink;
-      desk = facts_of c.carry_line.new.state.desk;
-      names = c.carry_line.new.state.names;
-    })
-    c.in-Some.verb read few (drop (c.in-Line.end + 1) c.find_line.new.pending) line refl way.0 way.1 c.in_err-carry_line.field-0.0 way.2)
+    (stops_in_line read few line way.1 c.in_err-carry_line.field-0.0 c.carry_line.new.state.names (g.K.Sink.held c.carry_line.new.sink) way.2)
 
 pub returns-clause-goes : goal.returns-clause-goes
 returns-clause-goes g c from lines few so =
-    let first : IsFirst (FoundLine c.in-Line.end) c.find_line.new.pending =
-    subst (λ (f : Found). IsFirst f c.find_line.new.pending) c.in-Line.is c.in_ok-end.ensures.first in
-    let bounds : InBounds (FoundLine c.in-Line.end) c.find_line.new.pending =
-    subst (λ (f : Found). InBounds f c.find_line.new.pending) c.in-Line.is c.in_ok-end.ensures.bounds in
-    let says : SaysCall (take c.in-Line.end c.find_line.new.pending) c.in-Some.verb =
-    subst (λ (xs : List ℕ). SaysCall (take c.in-Line.end xs) c.in-Some.verb) c.as_slice-2.ensures
-    (subst (λ (o : Option Verb). IfSome o (SaysCall (take c.in-Line.end c.as_slice-2.result.now))) c.in-Some.is c.in_ok-verb.ensures.call) in
-    let line = called_line c.find_line.new.pending c.in-Line.end c.in-Some.verb bounds first says in
-    let read = so_far_read from lines _ c.find_line.new.pending (g.S.Source.left c.find_line.new.source) (g.S.Source.ended c.find_line.new.source) so c.in_ok-end.ensures.moved in
-    let way = c.in_ok-carry_line.ensures.carried read.text in (
-      Call 0 (c.in-Some.verb),
-      so_far_carried from lines _ _ c.in-Some.verb read (subst (ReadsLine (Call 0 c.in-Some.verb) c.find_line.new.pending) (sym c.skip.ensures) line) refl way.0 way.1 way.2,
-    )
+    let line = called_line _ _ c.as_slice-2.result.now c.in-Line.end _ c.in-Some.verb c.in-Line.is c.as_slice-2.ensures c.in-Some.is
+    c.in_ok-end.ensures.bounds c.in_ok-end.ensures.first c.in_ok-verb.ensures.call in
+    let read = so_far_read so c.find_line.new.pending (g.S.Source.left c.find_line.new.source) (g.S.Source.ended c.find_line.new.source) c.in_ok-end.ensures.moved in
+    let way = c.in_ok-carry_line.ensures.carried read.text in
+    (Call 0 (c.in-Some.verb), so_far_carried read (subst (ReadsLine (Call 0 c.in-Some.verb) c.find_line.new.pending) (sym c.skip.ensures) line) refl way.1 way.2)

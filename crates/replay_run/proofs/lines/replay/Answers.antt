@@ -1,4 +1,4 @@
-use Rattle.std.proofs.Common.{List, [], ◌∙◌, subst, refl}
+use Rattle.std.proofs.Common.{List, [], subst, refl}
 use Rattle.hook_api.specs.Kept.{KeptFacts}
 use Rattle.replay_run.specs.Replays.{JournalsOf}
 use Rattle.replay_run.specs.Stops.{status_in}
@@ -8,8 +8,7 @@ use Rattle.replay_run.proofs.lines.replay.Goals as goal
 pub returns-clause-replay : goal.returns-clause-replay
 returns-clause-replay g c = (
   c.run_lines-ended.new.state.kept.items,
-  replay_weaker (status_in c.run_lines-ended.result) c.end_of-status.result.status c.run_lines-ended.new.state.kept.items
-      c.run_lines-ended.new.state.heard.items c.from_vec.result _ _ _ _ _ _ _ (c.from_vec.ensures ∙ c.into_books-kept.ensures.heard) c.end_of-status.ensures.of_lines c.run_lines-ended.ensures.replay,
+  rw (c.from_vec.ensures, c.into_books-kept.ensures.heard) (replay_weaker (status_in c.run_lines-ended.result) c.end_of-status.result.status c.end_of-status.ensures.of_lines c.run_lines-ended.ensures.replay),
   λ other. subst (λ (kept : List KeptFacts). JournalsOf kept c.end_of-status.result.journals) c.into_books-kept.ensures.kept (c.end_of-status.ensures.journals other),
 )
 
