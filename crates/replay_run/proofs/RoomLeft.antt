@@ -1,5 +1,5 @@
 -- A call has room for its turns.
-use Rattle.std.proofs.Common.{Bool, arith, ◌≡◌, ◌-◌, ◌<◌, ◌≤◌, ℕ, true, false, [], ◌∷◌, Option, refl, ap, subst}
+use Rattle.std.proofs.Common.{List, Bool, arith, ◌≡◌, ◌-◌, ◌<◌, ◌≤◌, ℕ, true, false, [], ◌∷◌, Option, refl, ap, subst}
 use Rattle.space_model.specs.declared.Ask.{Ask}
 use Rattle.space_model.specs.declared.Op.{Op}
 use Rattle.space_model.specs.declared.Op.TheVariants.{Look, Back}
@@ -18,7 +18,11 @@ use Rattle.call_plan.specs.Left.{steps_left}
 use Rattle.call_plan.specs.Reading.{WantTurn, WantAsk, Outcome, Waits}
 use Rattle.call_plan.specs.Rest.{rest_of}
 use Rattle.call_plan.proofs.Counted.{look_room, back_room}
+use Rattle.call_plan.specs.declared.needs.Turn.{Turn}
+use Rattle.call_plan.specs.Desks.{DeskFacts}
+use Rattle.hook_api.specs.Kept.{KeptFacts}
 use Rattle.replay_run.specs.Rooms.{HasRoom}
+use Rattle.replay_run.proofs.Ways.{TurnMade}
 
 -- room for the steps that are left is room enough
 pub room_enough : (c : ℕ) (a : Standing) (stage : Stage) → steps_left c a.space stage ≤ room_of c a.rooms → HasRoom c a stage
@@ -62,18 +66,27 @@ later_room s room c (Look pages align) later = absurd (cc)
 later_room s room c (Back addrs) later = absurd (cc)
 later_room s room c op later = refl
 
-pub room_after_turn : (c : ℕ) (a : Standing) (stage : Stage) (arena : ℕ) (op : Op) (asked : Option AskFacts) → rest_of stage [] ≡ Waits (WantTurn arena op asked) → HasRoom c a stage → HasFlights c a.space stage →
-    steps_left c (step_of a.space c op).after (stage_after stage (FedReply (step_of a.space c op).reply)) < steps_left c a.space stage →
-    steps_left c (step_of a.space c op).after (stage_after stage (FedReply (step_of a.space c op).reply)) ≤ room_after a.space (room_of c a.rooms) c op
-room_after_turn c a stage arena op asked e room flown shorter =
-    elim (opens op) as (λ b. opens op ≡ b → steps_left c (step_of a.space c op).after (stage_after stage (FedReply (step_of a.space c op).reply)) ≤ room_after a.space (room_of c a.rooms) c op) [
-      | true ↦ λ first. first_room c a.space stage (room_of c a.rooms) arena op asked e flown first
-      | false ↦ λ later. omega (arith, later_room a.space (room_of c a.rooms) c op later, room_left c a stage arena op asked e room later, shorter)
-    ] refl
+pub room_after_turn : {client : ℕ} {kept kept' : List KeptFacts} {heard heard' : List AskFacts} {desk desk' : DeskFacts} {stage stage' : Stage} {turn : Turn} (a b : Standing) →
+    TurnMade client a.space kept heard desk stage turn b.space kept' heard' desk' stage' → HasRoom client a stage → room_of client b.rooms ≡ room_after a.space (room_of client a.rooms) client turn.op →
+    HasRoom client b stage'
+room_after_turn {client} {stage = stage} {stage' = stage'} {turn = turn} a b made room later =
+    let ready = made.ready in
+    let step = step_of a.space client turn.op in
+    let enough : steps_left client step.after (stage_after stage (FedReply step.reply)) ≤ room_after a.space (room_of client a.rooms) client turn.op =
+    elim (opens turn.op) as (λ o. opens turn.op ≡ o → steps_left client step.after (stage_after stage (FedReply step.reply)) ≤ room_after a.space (room_of client a.rooms) client turn.op) [
+      | true ↦ λ first. first_room client a.space stage (room_of client a.rooms) turn.arena turn.op turn.asked ready.waits ready.flown first
+      | false ↦ λ other.
+          omega (arith, later_room a.space (room_of client a.rooms) client turn.op other, room_left client a stage turn.arena turn.op turn.asked ready.waits room other, ready.shorter)
+    ] refl in
+    room_enough client b stage' (rw (later, made.in_space, made.point) enough)
 
-pub room_after_ask : (c : ℕ) (a : Standing) (stage : Stage) (arena : ℕ) (wanted : Ask) (after : ℕ) → rest_of stage [] ≡ Waits (WantAsk arena wanted) → HasRoom c a stage → after < steps_left c a.space stage →
-    after ≤ room_of c a.rooms
-room_after_ask c a (Get wish Looking) arena wanted after e room shorter = absurd (cc)
-room_after_ask c a (Get wish getting) arena wanted after e room shorter = omega (arith, room, shorter)
-room_after_ask c a (Put index point) arena wanted after e room shorter = omega (arith, room, shorter)
-room_after_ask c a stage arena wanted after e room shorter = absurd (cc)
+-- an ask leaves all room
+room_asked : (c : ℕ) (a : Standing) (stage : Stage) (arena : ℕ) (wanted : Ask) → rest_of stage [] ≡ Waits (WantAsk arena wanted) → HasRoom c a stage → steps_left c a.space stage ≤ room_of c a.rooms
+room_asked c a (Get wish Looking) arena wanted e room = absurd (cc)
+room_asked c a (Get wish getting) arena wanted e room = room
+room_asked c a (Put index point) arena wanted e room = room
+room_asked c a stage arena wanted e room = absurd (cc)
+
+pub room_after_ask : (c : ℕ) (a b : Standing) (stage after : Stage) (arena : ℕ) (wanted : Ask) → b ≡ a → rest_of stage [] ≡ Waits (WantAsk arena wanted) → HasRoom c a stage →
+    steps_left c b.space after < steps_left c a.space stage → HasRoom c b after
+room_after_ask c a b stage after arena wanted same e room shorter = rw same (room_enough c a after (omega (arith, rw same at shorter, room_asked c a stage arena wanted e room)))

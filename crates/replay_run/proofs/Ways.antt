@@ -1,22 +1,21 @@
 -- A call that is underway goes on by a turn or an ask, and ends.
-use Rattle.std.proofs.Common.{◌≡◌, ℕ, List, [], ◌∷◌, ◌++◌, Option, Some, refl, sym, ◌∙◌, ap, subst, append-nil, append_assoc}
+use Rattle.std.proofs.Common.{◌≡◌, ◌<◌, ℕ, true, List, [], ◌∷◌, ◌++◌, Some, refl, sym, ◌∙◌, ap, subst, append-nil, append_assoc}
 use Rattle.std.proofs.lemmas.List.Sums.{fold_push}
-use Rattle.space_model.specs.declared.Ask.{Ask}
-use Rattle.space_model.specs.declared.Op.{Op}
 use Rattle.space_model.specs.declared.Space.{Space}
-use Rattle.space_model.specs.Step.{step_of}
+use Rattle.space_model.specs.Step.{step_of, space_after, reply_to, stands}
 use Rattle.hook_api.specs.Asked.{AskFacts}
 use Rattle.hook_api.specs.Chain.{AskChain}
-use Rattle.hook_api.specs.Hooks.{Answers}
-use Rattle.hook_api.specs.Kept.{KeptFacts}
+use Rattle.hook_api.specs.Kept.{KeptFacts, IsKept}
 use Rattle.hook_api.specs.Shelf.{Shelf, AskStep}
 use Rattle.call_plan.specs.declared.needs.Answered.{Answered}
 use Rattle.call_plan.specs.declared.stages.Stage.{Stage}
-use Rattle.call_plan.specs.Reading.{Item, Replied, Told, WantTurn, WantAsk, Outcome, Ends, Waits, Astray}
+use Rattle.call_plan.specs.Reading.{Item, Want, Replied, Told, WantTurn, WantAsk, Outcome, Ends, Waits, Astray}
 use Rattle.call_plan.specs.Rest.{rest_of}
 use Rattle.call_plan.specs.Calls.{reading, IsPlanned, stage_after, desk_after}
 use Rattle.replay_run.specs.World.{Open, World, outcome_of, on_end, idle, printed, begun, fed, Move, Turned, Heard_, moved, after_move, Fits, IsNext, IsPlay, world_after, asks_in}
 use Rattle.call_plan.specs.declared.needs.Fed.TheVariants.{Replied as FedReply, Answer}
+use Rattle.call_plan.specs.declared.needs.Turn.{Turn}
+use Rattle.call_plan.specs.Left.{steps_left}
 use Rattle.call_plan.specs.Desks.{DeskFacts}
 use Rattle.call_plan.specs.Knows.{Knows, Ground}
 use Rattle.call_plan.specs.Flying.{HasFlights}
@@ -106,28 +105,15 @@ reads_on : (call : Open) (items : List Item) (item : Item) (stage after : Stage)
 reads_on call items item stage after reads step more =
     ap (reading call.desk call.request) (append_assoc items (item ∷ []) more) ∙ reads (item ∷ more) ∙ step more
 
--- the world of a waiting call after its turn
-turn_world : (w : World) (space : Space) (kept : List KeptFacts) (top : Desktop) (call : Open) (items : List Item) (arena : ℕ) (op : Op) (asked : Option AskFacts) →
-    w ≡ fed (world_of space kept top) (now call items) [] → outcome_of (now call items) ≡ Waits (WantTurn arena op asked) →
-    IsNext w Turned × (after_move w Turned ≡ fed (world_of (step_of space call.client op).after
-    (kept ++ (record { entry = record { client = call.client; op = op }; asked = asked }) ∷ []) top) (now call (items ++ Replied (step_of space call.client op).reply ∷ [])) [])
-turn_world w space kept top call items arena op asked here e =
-    let open_world : World = record (world_of space kept top) { call = Some (now call items); lines = [] } in
-    let is : w ≡ open_world = here ∙ waiting_world (world_of space kept top) (now call items) (Waits (WantTurn arena op asked)) e tt in (
-      subst (λ (x : World). IsNext x Turned) (sym is) (subst (λ (o : Outcome). Fits open_world o Turned) (sym e) tt),
-      ap (λ (x : World). after_move x Turned) is ∙ ap (λ (o : Outcome). moved open_world (now call items) o Turned) e,
-    )
-
--- the world of a waiting call after its ask
-ask_world : (w : World) (space : Space) (kept : List KeptFacts) (top : Desktop) (call : Open) (items : List Item) (arena : ℕ) (wanted : Ask) (asked : AskFacts) →
-    w ≡ fed (world_of space kept top) (now call items) [] → outcome_of (now call items) ≡ Waits (WantAsk arena wanted) →
-    asked.ask ≡ wanted → asked.box_no ≡ space.box_no → Answers wanted asked.answer →
-    IsNext w (Heard_ asked) × (after_move w (Heard_ asked) ≡ fed (world_of space kept top) (now call (items ++ Told asked ∷ [])) [])
-ask_world w space kept top call items arena wanted asked here e same at answers =
-    let open_world : World = record (world_of space kept top) { call = Some (now call items); lines = [] } in
-    let is : w ≡ open_world = here ∙ waiting_world (world_of space kept top) (now call items) (Waits (WantAsk arena wanted)) e tt in (
-      subst (λ (x : World). IsNext x (Heard_ asked)) (sym is) (subst (λ (o : Outcome). Fits open_world o (Heard_ asked)) (sym e) (same, at, answers)),
-      ap (λ (x : World). after_move x (Heard_ asked)) is ∙ ap (λ (o : Outcome). moved open_world (now call items) o (Heard_ asked)) e,
+-- the world of a waiting call goes on by the move that it needs
+move_world : (w : World) (space : Space) (kept : List KeptFacts) (top : Desktop) (call : Open) (want : Want) (move : Move) →
+    w ≡ fed (world_of space kept top) call [] → outcome_of call ≡ Waits want → Fits (record (world_of space kept top) { call = Some call; lines = [] }) (Waits want) move →
+    IsNext w move × (after_move w move ≡ moved (record (world_of space kept top) { call = Some call; lines = [] }) call (Waits want) move)
+move_world w space kept top call want move here e fits =
+    let open_world : World = record (world_of space kept top) { call = Some call; lines = [] } in
+    let is : w ≡ open_world = here ∙ waiting_world (world_of space kept top) call (Waits want) e tt in (
+      subst (λ (x : World). IsNext x move) (sym is) (subst (λ (o : Outcome). Fits open_world o move) (sym e) fits),
+      ap (λ (x : World). after_move x move) is ∙ ap (λ (o : Outcome). moved open_world call o move) e,
     )
 
 -- the space and the journal in the world of a call
@@ -141,74 +127,109 @@ fed_kept space kept top call =
     elim (outcome_of call) as (λ o. (on_end o (λ answer. begun [] (printed (world_of space kept top) call answer)) (record (world_of space kept top) { call = Some call; lines = [] })).kept ≡ kept)
     [ Ends answer items ↦ refl | Waits want ↦ refl | Astray ↦ refl ]
 
+-- What is known before a needed turn.
+pub record TurnReady (client : ℕ) (space : Space) (stage : Stage) (turn : Turn) : Type 0 where
+  pub waits : rest_of stage [] ≡ Waits (WantTurn turn.arena turn.op turn.asked)
+  pub may : stands space (record { client = client; op = turn.op }) ≡ true
+  pub kept : IsKept (record { client = client; op = turn.op }) turn.asked
+  pub law : GoesOn client space stage turn.op
+  pub base : Ground client space
+  pub flown : HasFlights client space stage
+  pub shorter : steps_left client (step_of space client turn.op).after (stage_after stage (FedReply (step_of space client turn.op).reply)) < steps_left client space stage
+
+-- A needed turn was made, and the call was fed its reply.
+pub record TurnMade (client : ℕ) (space : Space) (kept : List KeptFacts) (heard : List AskFacts) (desk : DeskFacts) (stage : Stage) (turn : Turn)
+    (space' : Space) (kept' : List KeptFacts) (heard' : List AskFacts) (desk' : DeskFacts) (stage' : Stage) : Type 0 where
+  pub ready : TurnReady client space stage turn
+  pub in_space : space' ≡ space_after space (record { client = client; op = turn.op })
+  pub in_journal : kept' ≡ kept ++ (record { entry = record { client = client; op = turn.op }; asked = turn.asked }) ∷ []
+  pub hears : heard' ≡ heard
+  pub point : stage' ≡ stage_after stage (FedReply (reply_to space (record { client = client; op = turn.op })))
+  pub settled : desk' ≡ desk_after desk stage (FedReply (reply_to space (record { client = client; op = turn.op })))
+  pub reads : (more : List Item) → rest_of stage (Replied (reply_to space (record { client = client; op = turn.op })) ∷ more) ≡ rest_of stage' more
+
 -- a call that is underway goes on by its turn
-pub way_turn : {start : World} {h0 : List AskFacts} {sh0 : Shelf} {space : Space} {kept : List KeptFacts} {heard : List AskFacts} {shelf : Shelf} {top : Desktop} {call : Open} {desk : DeskFacts} {stage : Stage} →
-    (way : Underway start h0 sh0 space kept heard shelf top call desk stage) → (arena : ℕ) (op : Op) (asked : Option AskFacts) (desk' : DeskFacts) (after : Stage) →
-    rest_of stage [] ≡ Waits (WantTurn arena op asked) → GoesOn call.client space stage op → Ground call.client space → after ≡ stage_after stage (FedReply (step_of space call.client op).reply) →
-    desk' ≡ desk_after desk stage (FedReply (step_of space call.client op).reply) →
-    ((more : List Item) → rest_of stage (Replied (step_of space call.client op).reply ∷ more) ≡ rest_of after more) →
-    Underway start h0 sh0 (step_of space call.client op).after (kept ++ (record { entry = record { client = call.client; op = op }; asked = asked }) ∷ []) heard shelf top call desk' after
-way_turn {start} {h0} {sh0} {space} {kept} {heard} {shelf} {top} {call} {desk} {stage} way arena op asked desk' after e law base point settled reads =
+pub way_turn : {start : World} {h0 : List AskFacts} {sh0 : Shelf} {space : Space} {kept : List KeptFacts} {heard : List AskFacts} {shelf : Shelf} {top : Desktop} {call : Open} {desk : DeskFacts} {stage : Stage}
+    {client : ℕ} {turn : Turn} {space' : Space} {kept' : List KeptFacts} {heard' : List AskFacts} {desk' : DeskFacts} {stage' : Stage} →
+    call.client ≡ client → Underway start h0 sh0 space kept heard shelf top call desk stage → TurnMade client space kept heard desk stage turn space' kept' heard' desk' stage' →
+    Underway start h0 sh0 space' kept' heard' shelf top call desk' stage'
+way_turn {start} {h0} {sh0} {space} {kept} {heard} {shelf} {top} {call} {desk} {stage} {turn = turn} {stage' = stage'} own way was_made =
+    let made = rw (sym own) at was_made in
+    let ready = made.ready in
     let moves = way.played.moves in
-    let w : World = world_after start moves in
-    let turn = turn_world w space kept top call way.items arena op asked way.here (outcome_now call way.items stage way.reads ∙ e) in
-    let there = world_after-push start moves Turned ∙ turn.1 in
-    let s = (step_of space call.client op).after in
-    let k = kept ++ (record { entry = record { client = call.client; op = op }; asked = asked }) ∷ [] in
-    let c = now call (way.items ++ Replied (step_of space call.client op).reply ∷ []) in
-    let onto = onto_reply (now call way.items) stage arena op asked (step_of space call.client op).reply e way.at in record {
+    let before : Open = now call way.items in
+    let step = step_of space call.client turn.op in
+    let went = move_world (world_after start moves) space kept top before (WantTurn turn.arena turn.op turn.asked) Turned way.here (outcome_now call way.items stage way.reads ∙ ready.waits) tt in
+    let there = world_after-push start moves Turned ∙ went.1 in
+    let grown : List KeptFacts = kept ++ (record { entry = record { client = call.client; op = turn.op }; asked = turn.asked }) ∷ [] in
+    let after : Open = fed_one before (Replied step.reply) in
+    let onto = onto_reply before stage turn.arena turn.op turn.asked step.reply ready.waits way.at in
+    rw (made.in_space, made.in_journal, made.hears) (record {
       played = record {
         moves = moves ++ Turned ∷ [];
-        play = play-push start moves Turned way.played.play turn.0;
-        in_space = ap (λ (x : World). x.space) there ∙ fed_space s k top c;
-        in_journal = ap (λ (x : World). x.kept) there ∙ fed_kept s k top c;
+        play = play-push start moves Turned way.played.play went.0;
+        in_space = ap (λ (x : World). x.space) there ∙ fed_space step.after grown top after;
+        in_journal = ap (λ (x : World). x.kept) there ∙ fed_kept step.after grown top after;
         hears = way.played.hears ∙ ap (λ asks. h0 ++ asks) (sym (asks_in-turned moves));
         chain = subst (λ asks. AskChain sh0 asks shelf) (sym (asks_in-turned moves)) way.played.chain;
       };
-      items = way.items ++ Replied (step_of space call.client op).reply ∷ [];
-      reads = reads_on call way.items (Replied (step_of space call.client op).reply) stage after way.reads reads;
+      items = way.items ++ Replied step.reply ∷ [];
+      reads = reads_on call way.items (Replied step.reply) stage stage' way.reads made.reads;
       here = there;
-      at = subst (IsAt (fed_one (now call way.items) (Replied (step_of space call.client op).reply))) (sym point)
-          onto.at;
-      planned = subst IsPlanned (sym point) (planned-reply stage (step_of space call.client op).reply way.planned);
-      knows = subst (Knows call.client (step_of space call.client op).after) (sym point) law.knows;
-      flown = subst (HasFlights call.client (step_of space call.client op).after) (sym point) (turn_flights call.client space stage arena op asked base way.planned way.knows way.flown e);
-      settled = settled ∙ ap (λ (d : DeskFacts). desk_after d stage (FedReply (step_of space call.client op).reply)) way.settled
-          ∙ onto.owns ∙ ap (desk_at call) (sym point);
-    }
+      at = subst (IsAt after) (sym made.point) onto.at;
+      planned = subst IsPlanned (sym made.point) (planned-reply stage step.reply way.planned);
+      knows = subst (Knows call.client step.after) (sym made.point) ready.law.knows;
+      flown = subst (HasFlights call.client step.after) (sym made.point)
+          (turn_flights call.client space stage turn.arena turn.op turn.asked ready.base way.planned way.knows way.flown ready.waits);
+      settled = made.settled ∙ ap (λ (d : DeskFacts). desk_after d stage (FedReply step.reply)) way.settled ∙ onto.owns ∙ ap (desk_at call) (sym made.point);
+    })
+
+-- A needed ask was made, and the call was fed its answer.
+pub record AskMade (space : Space) (kept : List KeptFacts) (heard : List AskFacts) (shelf : Shelf) (desk : DeskFacts) (stage : Stage) (asked : AskFacts)
+    (space' : Space) (kept' : List KeptFacts) (heard' : List AskFacts) (shelf' : Shelf) (desk' : DeskFacts) (stage' : Stage) : Type 0 where
+  pub arena : ℕ
+  pub waits : rest_of stage [] ≡ Waits (WantAsk arena asked.ask)
+  pub of_box : asked.box_no ≡ space.box_no
+  pub step : AskStep shelf asked shelf'
+  pub in_space : space' ≡ space
+  pub in_journal : kept' ≡ kept
+  pub hears : heard' ≡ heard ++ asked ∷ []
+  pub point : stage' ≡ stage_after stage (Answer asked)
+  pub settled : desk' ≡ desk_after desk stage (Answer asked)
+  pub reads : (more : List Item) → rest_of stage (Told asked ∷ more) ≡ rest_of stage' more
 
 -- and by its ask
-pub way_ask : {start : World} {h0 : List AskFacts} {sh0 : Shelf} {space : Space} {kept : List KeptFacts} {heard : List AskFacts} {shelf : Shelf} {top : Desktop} {call : Open} {desk : DeskFacts} {stage : Stage} →
-    (way : Underway start h0 sh0 space kept heard shelf top call desk stage) → (arena : ℕ) (wanted : Ask) (asked : AskFacts) (shelf' : Shelf) (desk' : DeskFacts) (after : Stage) →
-    rest_of stage [] ≡ Waits (WantAsk arena wanted) → after ≡ stage_after stage (Answer asked) → desk' ≡ desk_after desk stage (Answer asked) → asked.ask ≡ wanted → asked.box_no ≡ space.box_no → Answers wanted asked.answer → AskStep shelf asked shelf' →
-    ((more : List Item) → rest_of stage (Told asked ∷ more) ≡ rest_of after more) →
-    Underway start h0 sh0 space kept (heard ++ asked ∷ []) shelf' top call desk' after
-way_ask {start} {h0} {sh0} {space} {kept} {heard} {shelf} {top} {call} {desk} {stage} way arena wanted asked shelf' desk' after e point settled same at answers step reads =
+pub way_ask : {start : World} {h0 : List AskFacts} {sh0 : Shelf} {space : Space} {kept : List KeptFacts} {heard : List AskFacts} {shelf : Shelf} {top : Desktop} {call : Open} {desk : DeskFacts} {stage : Stage}
+    {asked : AskFacts} {space' : Space} {kept' : List KeptFacts} {heard' : List AskFacts} {shelf' : Shelf} {desk' : DeskFacts} {stage' : Stage} →
+    Underway start h0 sh0 space kept heard shelf top call desk stage → AskMade space kept heard shelf desk stage asked space' kept' heard' shelf' desk' stage' →
+    Underway start h0 sh0 space' kept' heard' shelf' top call desk' stage'
+way_ask {start} {h0} {sh0} {space} {kept} {heard} {shelf} {top} {call} {desk} {stage} {asked} {shelf' = shelf'} {stage' = stage'} way made =
     let moves = way.played.moves in
-    let w : World = world_after start moves in
-    let turn = ask_world w space kept top call way.items arena wanted asked way.here (outcome_now call way.items stage way.reads ∙ e) same at answers in
-    let there = world_after-push start moves (Heard_ asked) ∙ turn.1 in
-    let c = now call (way.items ++ Told asked ∷ []) in
-    let onto = onto_answer (now call way.items) stage arena wanted asked e way.at in record {
+    let before : Open = now call way.items in
+    let went = move_world (world_after start moves) space kept top before (WantAsk made.arena asked.ask) (Heard_ asked) way.here (outcome_now call way.items stage way.reads ∙ made.waits)
+    (refl, made.of_box, made.step.box.answers) in
+    let there = world_after-push start moves (Heard_ asked) ∙ went.1 in
+    let after : Open = fed_one before (Told asked) in
+    let onto = onto_answer before stage made.arena asked.ask asked made.waits way.at in
+    rw (made.in_space, made.in_journal, made.hears) (record {
       played = record {
         moves = moves ++ Heard_ asked ∷ [];
-        play = play-push start moves (Heard_ asked) way.played.play turn.0;
-        in_space = ap (λ (x : World). x.space) there ∙ fed_space space kept top c;
-        in_journal = ap (λ (x : World). x.kept) there ∙ fed_kept space kept top c;
+        play = play-push start moves (Heard_ asked) way.played.play went.0;
+        in_space = ap (λ (x : World). x.space) there ∙ fed_space space kept top after;
+        in_journal = ap (λ (x : World). x.kept) there ∙ fed_kept space kept top after;
         hears = ap (λ asks. asks ++ asked ∷ []) way.played.hears ∙ append_assoc h0 (asks_in moves) (asked ∷ [])
             ∙ ap (λ asks. h0 ++ asks) (sym (asks_in-heard moves asked));
-        chain = subst (λ asks. AskChain sh0 asks shelf') (sym (asks_in-heard moves asked)) (chain-push sh0 shelf shelf' (asks_in moves) asked way.played.chain step);
+        chain = subst (λ asks. AskChain sh0 asks shelf') (sym (asks_in-heard moves asked)) (chain-push sh0 shelf shelf' (asks_in moves) asked way.played.chain made.step);
       };
       items = way.items ++ Told asked ∷ [];
-      reads = reads_on call way.items (Told asked) stage after way.reads reads;
+      reads = reads_on call way.items (Told asked) stage stage' way.reads made.reads;
       here = there;
-      at = subst (IsAt (fed_one (now call way.items) (Told asked))) (sym point) onto.at;
-      planned = subst IsPlanned (sym point) (planned-answer stage asked way.planned);
-      knows = subst (Knows call.client space) (sym point) (asks-go_on call.client space stage arena wanted asked way.knows e same answers).1;
-      flown = subst (HasFlights call.client space) (sym point) (ask_flights call.client space stage arena wanted asked e way.flown);
-      settled = settled ∙ ap (λ (d : DeskFacts). desk_after d stage (Answer asked)) way.settled
-          ∙ onto.owns ∙ ap (desk_at call) (sym point);
-    }
+      at = subst (IsAt after) (sym made.point) onto.at;
+      planned = subst IsPlanned (sym made.point) (planned-answer stage asked way.planned);
+      knows = subst (Knows call.client space) (sym made.point) (asks-go_on call.client space stage made.arena asked.ask asked way.knows made.waits refl made.step.box.answers).1;
+      flown = subst (HasFlights call.client space) (sym made.point) (ask_flights call.client space stage made.arena asked.ask asked made.waits way.flown);
+      settled = made.settled ∙ ap (λ (d : DeskFacts). desk_after d stage (Answer asked)) way.settled ∙ onto.owns ∙ ap (desk_at call) (sym made.point);
+    })
 
 -- and its end is the world with its answer printed
 pub way_end : {start : World} {h0 : List AskFacts} {sh0 : Shelf} {space : Space} {kept : List KeptFacts} {heard : List AskFacts} {shelf : Shelf} {top : Desktop} {call : Open} {desk : DeskFacts} {stage : Stage} →
