@@ -1,14 +1,11 @@
 -- Each answer in a play has its cause.
-use Rattle.std.proofs.Common.{ltb as nat_lt, cond, true, false, ◌^◌, ◌≡◌, List, [], ◌∷◌, ◌++◌, Option, Some, None, IfSome, refl, sym, ap, ◌∙◌, subst}
+use Rattle.std.proofs.Common.{ltb as nat_lt, ◌≡◌, List, [], ◌∷◌, ◌++◌, Option, Some, None, IfSome, refl, sym, ap, ◌∙◌, subst}
 use mathlib.Core.List.{append-nil}
 use Rattle.space_model.specs.Step.{step_of, op_stands}
 use Rattle.space_model.proofs.Pieces.{both_true}
 use Rattle.call_plan.specs.declared.needs.Request.{Request}
 use Rattle.call_plan.specs.declared.needs.Request.TheVariants.{Malloc, Free}
 use Rattle.call_plan.specs.Reading.{Item, Replied, Told, WantTurn, WantAsk, Outcome, Ends, Waits, Astray}
-use Rattle.call_plan.specs.declared.stages.Stage.{Stage}
-use Rattle.call_plan.specs.declared.stages.Stage.TheVariants.{Get, Ended}
-use Rattle.call_plan.specs.declared.wishes.Getting.TheVariants.{Looking}
 use Rattle.call_plan.specs.declared.needs.Answered.{Answered}
 use Rattle.call_plan.specs.Rest.{rest_of}
 use Rattle.call_plan.specs.Calls.{reading}
@@ -17,17 +14,12 @@ use Rattle.call_plan.specs.Causes.{ItemFits, AreReplies}
 use Rattle.call_plan.proofs.Causes.{replies-fit, items_fit-push}
 use Rattle.call_plan.proofs.Ended.{nothing_left, run_explained}
 use Rattle.call_plan.specs.Desks.{DeskFacts}
-use Rattle.call_plan.specs.Helds.{held_at}
-use Rattle.call_plan.specs.Free.{free_of}
-use Rattle.call_plan.specs.Malloc.{look, wish_for}
-use Rattle.call_plan.specs.Reading.{ends}
-use Rattle.call_plan.specs.declared.needs.Answered.TheVariants.{TooLarge}
-use Rattle.size_classes.specs.Classes.{class_for}
 use Rattle.trace_text.specs.declared.lines.Line.{Line}
 use Rattle.trace_text.specs.declared.lines.Line.TheVariants.{Call}
 use Rattle.replay_run.specs.World.{Open, World, Move, Turned, Heard_, outcome_of, on_end, printed, begun, fed, opened, opening, moved, after_in, after_move, Fits, NextIn, IsNext, IsPlay}
 use Rattle.replay_run.specs.Sane.{Kept, Going, Sane}
-use Rattle.replay_run.specs.Causes.{items_in, IsExplained, EndsExplained, AllMoves, PlaysHaveCauses, AnswersAtOnceHaveCauses}
+use Rattle.replay_run.specs.Causes.{items_in, AnswerHasCause, IsExplained, EndsExplained, AllMoves, PlaysHaveCauses, AnswersAtOnceHaveCauses}
+use Rattle.replay_run.proofs.Starts.{ended_only, ends_at_once}
 use Rattle.replay_run.proofs.Plays.{after_sane, opening_sane, first_good, next_turn, turned_going, heard_going}
 
 -- what the open call was fed are replies to its turns and answers to its asks
@@ -74,12 +66,6 @@ moved_fed w call (Waits (WantTurn arena op asked)) Turned fits are =
 moved_fed w call (Waits (WantAsk arena wanted)) (Heard_ asked) fits are = fed_fed w (record call { items = call.items ++ Told asked ∷ [] }) w.lines are
 moved_fed w call o move fits are = absurd fits
 
--- a call that ended leaves nothing of what it was fed
-nothing_left : (stage : Stage) (answer : Answered) (left : List Item) → rest_of stage [] ≡ Ends answer left → left ≡ []
-nothing_left (Ended other) answer left e = cc
-nothing_left (Get wish Looking) answer left e = absurd (cc)
-nothing_left stage answer left e = absurd (cc)
-
 -- an answer after such items has its cause
 run_explained : (desk : DeskFacts) (request : Request) (items : List Item) (answer : Answered) → reading desk request items ≡ Ends answer [] → AreReplies desk request items →
     AnswerHasCause desk request items answer
@@ -90,7 +76,7 @@ explained : (s : Space) (call : Open) → Going s call → AreReplies call.desk 
 explained s call going are = λ answer left ends.
     let here : rest_of going.stage [] ≡ Ends answer left = sym (going.reads []) ∙ ap (reading call.desk call.request) (append-nil call.items) ∙ ends in
     run_explained call.desk call.request call.items answer
-    (subst (λ (xs : List Item). reading call.desk call.request call.items ≡ Ends answer xs) (nothing_left going.stage answer left here) ends) are
+    (subst (λ (xs : List Item). reading call.desk call.request call.items ≡ Ends answer xs) (ended_only going.stage answer left here).1 ends) are
 
 -- the call that a needed move leads on
 going_after : (w : World) (call : Open) (o : Outcome) (move : Move) → Kept w.space w.kept → Going w.space call → outcome_of call ≡ o → Fits w o move →
@@ -121,14 +107,6 @@ moves_explained w (move ∷ moves) sane is play =
 pub plays-have_causes : PlaysHaveCauses
 plays-have_causes lines moves carried play = moves_explained (opening lines) moves (opening_sane lines first_good carried) (begun_fed lines _) play
 
--- what a call that ends at once leaves is nothing
-at_once_left : (desk : DeskFacts) (request : Request) (answer : Answered) (left : List Item) → reading desk request [] ≡ Ends answer left → left ≡ []
-at_once_left desk (Malloc size) answer left e =
-    elim (nat_lt (2 ^ 35) size) as (λ b. cond b (ends TooLarge) (look (wish_for desk.arena (class_for size))) [] ≡ Ends answer left → left ≡ [])
-    [ true ↦ λ h. cc | false ↦ λ h. absurd (cc) ] e
-at_once_left desk (Free addr) answer left e =
-    elim (held_at addr desk.held) as (λ o. free_of addr o [] ≡ Ends answer left → left ≡ []) [ None ↦ λ h. cc | Some held ↦ λ h. absurd (cc) ] e
-
 pub answers-at_once_have_causes : AnswersAtOnceHaveCauses
 answers-at_once_have_causes desk request built = λ answer left ends.
-    run_explained desk request [] answer (subst (λ (xs : List Item). reading desk request [] ≡ Ends answer xs) (at_once_left desk request answer left ends) ends) tt
+    run_explained desk request [] answer (subst (λ (xs : List Item). reading desk request [] ≡ Ends answer xs) (ends_at_once desk request answer left ends).1 ends) tt

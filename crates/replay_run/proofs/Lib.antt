@@ -1,4 +1,5 @@
 pub mod Frames
+pub mod Starts
 pub mod Wants
 pub mod Plays
 pub mod Ways

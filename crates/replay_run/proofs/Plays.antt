@@ -1,11 +1,9 @@
 -- Each world of a play is sound.
-use Rattle.std.proofs.Common.{◌≡◌, ℕ, ◌<◌, ◌≤◌, ◌^◌, true, false, cond, List, [], ◌∷◌, ◌++◌, Option, Some, None, IfSome, refl, sym, ◌∙◌, ap, subst, arith, All, map, ◌&&◌, ◌||◌, ◌==◌, ltb as nat_lt, lt-ltb, append-nil, append_assoc}
+use Rattle.std.proofs.Common.{◌≡◌, ℕ, ◌<◌, true, false, cond, List, [], ◌∷◌, ◌++◌, Option, Some, None, IfSome, refl, sym, ◌∙◌, ap, subst, arith, All, map, ◌&&◌, ◌||◌, ◌==◌, lt-ltb, append-nil, append_assoc}
 use Rattle.std.specs.List.{list_any, range_with_len}
 use Rattle.std.proofs.lemmas.List.Sums.{fold_push}
 use Rattle.std.proofs.lemmas.List.Elements.{All-nil, All-head, All-tail}
 use Rattle.std.proofs.lemmas.Bool.Decides.{nat_tests}
-use Rattle.size_classes.specs.Classes.{class_for, pages_at}
-use Rattle.size_classes.proofs.Least.{class_for_exists}
 use Rattle.space_model.specs.declared.Entry.{Entry}
 use Rattle.space_model.specs.declared.Op.{Op}
 use Rattle.space_model.specs.declared.Reply.{Reply}
@@ -21,11 +19,8 @@ use Rattle.call_plan.proofs.Counted.{turn_flights, ask_flights}
 use Rattle.space_model.specs.declared.Pace.{Pace}
 use Rattle.space_model.specs.declared.Span.{Span}
 use Rattle.space_model.specs.declared.Reply.TheVariants.{Next, Beside, Joined}
-use Rattle.space_model.specs.Step.{holds_at}
-use Rattle.space_model.proofs.Exchange.{find_has, find_passes}
-use Rattle.std.proofs.lemmas.Bool.{eqb-true}
 use Rattle.thread_cache.specs.declared.Held.{Held}
-use Rattle.call_plan.specs.declared.needs.Answered.TheVariants.{NotHeld, Ok as AnswersOk}
+use Rattle.call_plan.specs.declared.needs.Answered.TheVariants.{Ok as AnswersOk}
 use Rattle.call_plan.specs.declared.needs.Given.TheVariants.{Region as GivesRegion, Done as GivesDone}
 use Rattle.space_model.specs.declared.Region.{Region}
 use Rattle.call_plan.specs.declared.needs.Request.{Request}
@@ -34,34 +29,28 @@ use Rattle.call_plan.specs.declared.stages.Stage.TheVariants.{Give, Put}
 use Rattle.call_plan.specs.declared.puts.Putting.{Putting}
 use Rattle.call_plan.specs.declared.puts.Putting.TheVariants.{Finding, MergeAsked, Merging}
 use Rattle.call_plan.specs.Desks.{DeskFacts}
-use Rattle.call_plan.specs.Helds.{stands_at, held_at}
-use Rattle.call_plan.specs.Free.{Onward, To, Over, Nowhere, put_step, beside, is_right, is_left, free_of}
+use Rattle.call_plan.specs.Free.{Onward, To, Over, Nowhere, put_step, beside, is_right, is_left}
 use Rattle.call_plan.specs.Calls.{IsBuilt, IsLook, gave_stage, put_stage}
 use Rattle.trace_text.specs.declared.lines.Verb.{Verb}
 use Rattle.replay_run.specs.Hands.{IsInHands}
 use Rattle.replay_run.specs.World.{hands_at, hands_in, desk_ended, call_of, request_of}
 use Rattle.replay_run.specs.Sane.{hands_now}
-use Rattle.replay_run.proofs.Hands.{hands_listed}
 use Rattle.replay_run.proofs.Desks.{onto_reply, onto_answer, hands_stage, hands_at_stage, hands_reply, hands_answer}
 use Rattle.hook_api.specs.Asked.{AskFacts}
 use Rattle.hook_api.specs.Hooks.{Answers}
 use Rattle.hook_api.specs.Kept.{KeptFacts}
 use Rattle.call_plan.specs.declared.needs.Answered.{Answered}
-use Rattle.call_plan.specs.declared.needs.Answered.TheVariants.{TooLarge}
 use Rattle.call_plan.specs.declared.needs.Fed.TheVariants.{Replied as FedReply, Answer}
 use Rattle.call_plan.specs.declared.stages.Stage.{Stage}
 use Rattle.call_plan.specs.declared.stages.Stage.TheVariants.{Get, Ended}
-use Rattle.call_plan.specs.declared.wishes.Getting.TheVariants.{Looking}
 use Rattle.call_plan.specs.declared.wishes.Wish.{Wish}
-use Rattle.call_plan.specs.Reading.{Item, Replied, Told, WantTurn, WantAsk, Outcome, Ends, Waits, Astray, ends}
-use Rattle.call_plan.specs.Malloc.{look, wish_for}
+use Rattle.call_plan.specs.Reading.{Item, Replied, Told, WantTurn, WantAsk, Outcome, Ends, Waits, Astray}
 use Rattle.hook_api.specs.Kept.{IsKept}
 use Rattle.call_plan.specs.Rest.{rest_of, IsFitting}
 use Rattle.call_plan.specs.Calls.{reading, IsPlanned, IsWish, stage_after, stage_of}
 use Rattle.call_plan.specs.Knows.{Ground}
 use Rattle.call_plan.specs.Laws.{GoesOn}
 use Rattle.replay_run.proofs.Wants.{needed_turn}
-use Rattle.call_plan.proofs.Starts.{malloc-wishes}
 use Rattle.call_plan.proofs.GoingOn.{turns-go_on, asks-go_on}
 use Rattle.call_plan.proofs.Points.{reply-reads, answer-reads}
 use Rattle.call_plan.specs.declared.wishes.Getting.{Getting}
@@ -76,6 +65,8 @@ use Rattle.space_model.proofs.LawLemmas.{first_replays_are_good}
 use Rattle.replay_run.specs.World.{Open, World, outcome_of, on_end, printed, opened, begun, fed, Move, Turned, Heard_, turned, moved, after_in, after_move, Fits, NextIn, IsNext, IsPlay, world_after, empty_world, opening, AllWorlds, entries_of, IsSound, IsCarried}
 use Rattle.replay_run.specs.Sane.{Kept, Going, Sane}
 use Rattle.replay_run.proofs.Frames.{step_frame}
+use Rattle.replay_run.proofs.Starts.{starts, ended_only, ends_at_once}
+use Rattle.call_plan.specs.Calls.{first_stage}
 
 -- ---- journals that grow by an entry
 
@@ -109,93 +100,16 @@ ground s kept client known h = record {
       ∙ ap (λ b. b || list_any (is_held_by client) s.regions) (client_among client h);
 }
 
--- what isn't above is at most
-not_above : (a b : ℕ) → nat_lt a b ≡ false → b ≤ a
-not_above a b h = grind (arith, nat_tests)
-
--- ---- lines begin
-
--- a malloc that a line opens
-opened_malloc : (s : Space) (desk : DeskFacts) (verb : Verb) (size : ℕ) → 14336 < size → flights 0 s ≡ 0 → Going s (call_of desk verb (Malloc size))
-opened_malloc s desk verb size large rests =
-    elim (nat_lt (2 ^ 35) size) as (λ b. nat_lt (2 ^ 35) size ≡ b → Going s (call_of desk verb (Malloc size))) [
-      | true ↦ λ h. record {
-        client = refl;
-        stage = Ended TooLarge;
-        reads = λ more. ap (λ b. cond b (ends TooLarge) (look (wish_for desk.arena (class_for size))) more) h;
-        planned = tt;
-        knows = tt;
-        at = tt;
-        flown = rests;
-      }
-      | false ↦ λ h. record {
-        client = refl;
-        stage = Get (wish_for desk.arena (class_for size)) Looking;
-        reads = λ more. ap (λ b. cond b (ends TooLarge) (look (wish_for desk.arena (class_for size))) more) h;
-        planned = malloc-wishes desk.arena size (class_for size) (pages_at (class_for size)) refl refl (class_for_exists size (not_above _ _ h)) large;
-        knows = tt;
-        at = (size, refl, refl);
-        flown = rests;
-      }
-    ] refl
-
--- a region that is found stands at the address
-pub found_there : (addr : ℕ) (list : List Held) (held : Held) → held_at addr list ≡ Some held → held.addr ≡ addr
-found_there addr list held found = eqb-true _ _ (find_passes (stands_at addr) list held found)
-
--- a free that a line opens
-opened_free : (s : Space) (desk : DeskFacts) (verb : Verb) (addr : ℕ) → IsInHands 0 s.regions desk.held → flights 0 s ≡ 0 → Going s (call_of desk verb (Free addr))
-opened_free s desk verb addr hands rests =
-    elim (held_at addr desk.held) as (λ o. held_at addr desk.held ≡ o → Going s (call_of desk verb (Free addr))) [
-      | None ↦ λ h. record {
-        client = refl;
-        stage = Ended (NotHeld addr);
-        reads = λ more. ap (λ o. free_of addr o more) h;
-        planned = tt;
-        knows = tt;
-        at = tt;
-        flown = rests;
-      }
-      | Some held ↦ λ h.
-          let there : held.addr ≡ addr = found_there addr desk.held held h in record {
-            client = refl;
-            stage = Give held;
-            reads = λ more. ap (λ o. free_of addr o more) h;
-            planned = tt;
-            knows = find_has (λ (x : Held). holds_at 0 s.regions x.addr ≡ true) (stands_at addr) desk.held held (hands_listed 0 s.regions desk.held hands) h;
-            at = (ap Free (sym there), refl, held, ap (λ (n : ℕ). held_at n desk.held) there ∙ h);
-            flown = rests;
-          }
-    ] refl
-
 -- the call that a carried line opens is going
 pub opened_going : (s : Space) (desk : DeskFacts) (verb : Verb) (request : Request) → IsBuilt request → IsInHands 0 s.regions desk.held → flights 0 s ≡ 0 → Going s (call_of desk verb request)
-opened_going s desk verb (Malloc size) built hands rests = opened_malloc s desk verb size built rests
-opened_going s desk verb (Free addr) built hands rests = opened_free s desk verb addr hands rests
+opened_going s desk verb request built hands rests =
+    let at = starts s desk verb request built hands rests in
+    record { client = refl; stage = first_stage desk request; reads = at.reads; planned = at.planned; knows = at.knows; at = at.at; flown = at.flown }
 
 -- what a carried line asks for can be carried out
 pub carried_built : (names : List (List ℕ × ℕ)) (client : ℕ) (verb : Verb) → IsCarried (Call client verb) → IsBuilt (request_of names verb) × (client ≡ 0)
 carried_built names client (MallocVerb name size) is = (is.1, is.0)
 carried_built names client (FreeVerb target) is = (tt, is)
-
--- a call that ends at once leaves what the client owns
-too_large_ends : (desk : DeskFacts) (size : ℕ) (answer : Answered) (items : List Item) → reading desk (Malloc size) [] ≡ Ends answer items → desk_ended desk (Malloc size) answer ≡ desk
-too_large_ends desk size answer items e =
-    elim (nat_lt (2 ^ 35) size) as (λ b. cond b (ends TooLarge) (look (wish_for desk.arena (class_for size))) [] ≡ Ends answer items → desk_ended desk (Malloc size) answer ≡ desk) [
-      | true ↦ λ h. let is : TooLarge ≡ answer = cc in subst (λ (x : Answered). desk_ended desk (Malloc size) x ≡ desk) is refl
-      | false ↦ λ h. absurd (cc)
-    ] e
-
-not_held_ends : (desk : DeskFacts) (addr : ℕ) (answer : Answered) (items : List Item) → reading desk (Free addr) [] ≡ Ends answer items → desk_ended desk (Free addr) answer ≡ desk
-not_held_ends desk addr answer items e =
-    elim (held_at addr desk.held) as (λ o. free_of addr o [] ≡ Ends answer items → desk_ended desk (Free addr) answer ≡ desk) [
-      | None ↦ λ h. let is : NotHeld addr ≡ answer = cc in subst (λ (x : Answered). desk_ended desk (Free addr) x ≡ desk) is refl
-      | Some held ↦ λ h. absurd (cc)
-    ] e
-
-pub ends_at_once : (desk : DeskFacts) (request : Request) (answer : Answered) (items : List Item) → reading desk request [] ≡ Ends answer items → desk_ended desk request answer ≡ desk
-ends_at_once desk (Malloc size) answer items e = too_large_ends desk size answer items e
-ends_at_once desk (Free addr) answer items e = not_held_ends desk addr answer items e
 
 -- a call that was fed nothing has given nothing back
 fresh_hands : (held : List Held) (request : Request) → hands_at held request [] ≡ held
@@ -207,7 +121,7 @@ pub hands_fresh : (desk : DeskFacts) (verb : Verb) (request : Request) (regions 
     IsInHands 0 regions (hands_now (call_of desk verb request) (outcome_of (call_of desk verb request)))
 hands_fresh desk verb request regions hands =
     elim (reading desk request []) as (λ o. reading desk request [] ≡ o → IsInHands 0 regions (hands_now (call_of desk verb request) o)) [
-      | Ends answer items ↦ λ e. subst (λ (d : DeskFacts). IsInHands 0 regions d.held) (sym (ends_at_once desk request answer items e)) hands
+      | Ends answer items ↦ λ e. subst (λ (d : DeskFacts). IsInHands 0 regions d.held) (sym (ends_at_once desk request answer items e).0) hands
       | Waits want ↦ λ e. subst (IsInHands 0 regions) (sym (fresh_hands desk.held request)) hands
       | Astray ↦ λ e. subst (IsInHands 0 regions) (sym (fresh_hands desk.held request)) hands
     ] refl
@@ -234,21 +148,15 @@ begun_sane (Call client verb ∷ lines) w known hands rests carried =
     subst (IsInHands 0 w.space.regions) (sym (fresh_hands w.desk.held (request_of w.names verb))) hands in
     elim (outcome_of call) as (λ o. outcome_of call ≡ o → Sane (on_end o (λ answer. begun lines (printed w call answer)) (record w { call = Some call; lines = lines }))) [
       | Ends answer items ↦ λ e. begun_sane lines (printed w call answer) known
-          (subst (λ (d : DeskFacts). IsInHands 0 w.space.regions d.held) (sym (ends_at_once w.desk (request_of w.names verb) answer items e)) hands) rests later
+          (subst (λ (d : DeskFacts). IsInHands 0 w.space.regions d.held) (sym (ends_at_once w.desk (request_of w.names verb) answer items e).0) hands) rests later
       | Waits want ↦ λ e. record { kept = known; call = going; desk = refl; in_hands = fresh; rests = λ idle. absurd (cc (idle)); lines = later }
       | Astray ↦ λ e. record { kept = known; call = going; desk = refl; in_hands = fresh; rests = λ idle. absurd (cc (idle)); lines = later }
     ] refl
 
--- a call that has ended has no extent in flight
-ended_flown : (c : ℕ) (s : Space) (stage : Stage) (answer : Answered) (items : List Item) → rest_of stage [] ≡ Ends answer items → HasFlights c s stage → flights c s ≡ 0
-ended_flown c s (Ended other) answer items e flown = flown
-ended_flown c s (Get wish Looking) answer items e flown = absurd (cc)
-ended_flown c s stage answer items e flown = absurd (cc)
-
 call_rests : (s : Space) (call : Open) (going : Going s call) (answer : Answered) (items : List Item) → outcome_of call ≡ Ends answer items → flights 0 s ≡ 0
 call_rests s call going answer items e =
-    subst (λ (c : ℕ). flights c s ≡ 0) going.client
-    (ended_flown call.client s going.stage answer items (sym (going.reads []) ∙ ap (reading call.desk call.request) (append-nil call.items) ∙ e) going.flown)
+    let ended = ended_only going.stage answer items (sym (going.reads []) ∙ ap (reading call.desk call.request) (append-nil call.items) ∙ e) in
+    subst (λ (c : ℕ). flights c s ≡ 0) going.client (subst (HasFlights call.client s) ended.0 going.flown)
 
 pub fed_sane : (w : World) (call : Open) (lines : List Line) → Kept w.space w.kept → Going w.space call → call.desk ≡ w.desk →
     IsInHands 0 w.space.regions (hands_now call (outcome_of call)) → All IsCarried lines → Sane (fed w call lines)

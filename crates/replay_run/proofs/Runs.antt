@@ -16,8 +16,7 @@ use Rattle.call_plan.specs.declared.needs.Fed.{Fed}
 use Rattle.call_plan.specs.declared.needs.Fed.TheVariants.{Replied as FedReply, Answer}
 use Rattle.call_plan.specs.declared.needs.Request.{Request}
 use Rattle.call_plan.specs.declared.stages.Stage.{Stage}
-use Rattle.call_plan.specs.declared.stages.Stage.TheVariants.{Get, Ended}
-use Rattle.call_plan.specs.declared.wishes.Getting.TheVariants.{Looking}
+use Rattle.call_plan.specs.declared.stages.Stage.TheVariants.{Ended}
 use Rattle.call_plan.specs.Calls.{IsBuilt, HasNotTold, stage_after, desk_after}
 use Rattle.call_plan.specs.Left.{steps_left}
 use Rattle.call_plan.proofs.GoingOn.{turns-go_on}
@@ -26,10 +25,11 @@ use Rattle.trace_text.specs.declared.lines.Verb.{Verb}
 use Rattle.replay_run.specs.Hands.{IsInHands}
 use Rattle.call_plan.specs.Reading.{Item, Want, Replied, Told, WantTurn, WantAsk, Outcome, Ends, Waits, Astray}
 use Rattle.call_plan.specs.Rest.{rest_of, IsFitting, NeedIs}
-use Rattle.replay_run.specs.World.{Open, World, idle, printed, fed, call_of, desk_ended, IsCarried}
+use Rattle.replay_run.specs.World.{Open, World, idle, printed, fed, call_of, IsCarried}
 use Rattle.replay_run.specs.Sane.{Sane, desk_at}
 use Rattle.call_plan.specs.Desks.{DeskFacts}
 use Rattle.replay_run.specs.Carried.{Desktop, IsReady, world_of, Carried, Underway, IsUnderway, CarriedOn}
+use Rattle.replay_run.proofs.Starts.{ended_only}
 use Rattle.replay_run.proofs.Plays.{play_sane, fed_sane, opened_going, next_turn, ground, below_all, hands_fresh, ended_client}
 use Rattle.replay_run.proofs.Wants.{needed_turn}
 use Rattle.replay_run.proofs.Ways.{TurnReady, TurnMade, AskMade, outcome_now, way_stop, way_end}
@@ -131,19 +131,13 @@ waits_untold stage fed want e = tt
 
 -- ---- what is carried out
 
--- what the client owns where its call has ended
-ended_desk : (call : Open) (stage : Stage) (answer : Answered) (items : List Item) → rest_of stage [] ≡ Ends answer items → desk_at call stage ≡ desk_ended call.desk call.request answer
-ended_desk call (Ended other) answer items e = let same : other ≡ answer = cc in ap (desk_ended call.desk call.request) same
-ended_desk call (Get wish Looking) answer items e = absurd (cc)
-ended_desk call stage answer items e = absurd (cc)
-
 -- the answer of a call that has ended
 pub carried_end : {client : ℕ} {space : Space} {kept : List KeptFacts} {heard : List AskFacts} {shelf : Shelf} {desk : DeskFacts} {stage : Stage} {E : Type 0} (answer : Answered) (r : Result Answered E) →
     NeedIs client (rest_of stage []) (Done answer) → r ≡ Ok answer → CarriedOn client space kept heard shelf desk stage space kept heard shelf desk r
 carried_end {client} {space} {kept} {heard} {shelf} {desk} {stage} {E} answer r need is start h0 sh0 top call own way =
     let ended = ends_with client (rest_of stage []) answer need in
     subst (λ (x : Result Answered E). Carried start h0 sh0 space kept heard shelf top call desk x) (sym is)
-    (record { played = way.played; ended = way_end way answer ended.0 ended.1; settled = way.settled ∙ ended_desk call stage answer ended.0 ended.1 })
+    (record { played = way.played; ended = way_end way answer ended.0 ended.1; settled = way.settled ∙ ap (desk_at call) (ended_only stage answer ended.0 ended.1).0 })
   where
     ends_with : (client : ℕ) (o : Outcome) (answer : Answered) → NeedIs client o (Done answer) → (items : List Item) × (o ≡ Ends answer items)
     ends_with client (Ends a items) answer need = let same : a ≡ answer = cc in (items, ap (λ x. Ends x items) same)
