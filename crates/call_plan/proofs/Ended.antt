@@ -6,8 +6,8 @@ use Rattle.call_plan.specs.declared.needs.Need.{Need}
 use Rattle.call_plan.specs.declared.needs.Request.{Request}
 use Rattle.call_plan.specs.declared.needs.Request.TheVariants.{Malloc, Free}
 use Rattle.call_plan.specs.declared.stages.Stage.{Stage}
-use Rattle.call_plan.specs.declared.stages.Stage.TheVariants.{Get, Give, Put, Ended}
-use Rattle.call_plan.specs.declared.wishes.Getting.TheVariants.{Looking, SkipAsked, SkipCut, TrimAsked, TrimCut, GrowAsked, Growing, GrantAsked, GrantCut, CommitAsked, Committing, Landing}
+use Rattle.call_plan.specs.declared.stages.Stage.TheVariants.{Get, Ended}
+use Rattle.call_plan.specs.declared.wishes.Getting.TheVariants.{Looking}
 use Rattle.call_plan.specs.Desks.{DeskFacts}
 use Rattle.call_plan.specs.Reading.{Item, Outcome, WantTurn, WantAsk, Waits, Ends, Astray}
 use Rattle.call_plan.specs.Rest.{rest_of, NeedIs}
@@ -16,23 +16,11 @@ use Rattle.call_plan.specs.Causes.{AnswerHasCause, AreReplies, IfDone, LeadsTo}
 use Rattle.call_plan.proofs.Causes.{mallocs-have_causes}
 use Rattle.call_plan.proofs.Frees.{frees-have_causes}
 
--- a call that ended leaves nothing of what it was fed
-pub nothing_left : (stage : Stage) (answer : Answered) (left : List Item) → rest_of stage [] ≡ Ends answer left → left ≡ []
-nothing_left (Ended other) answer left e = cc
-nothing_left (Give held) answer left e = absurd (cc)
-nothing_left (Put arena point) answer left e = absurd (cc)
-nothing_left (Get wish Looking) answer left e = absurd (cc)
-nothing_left (Get wish (SkipAsked span is_committed skip)) answer left e = absurd (cc)
-nothing_left (Get wish (SkipCut is_committed asked)) answer left e = absurd (cc)
-nothing_left (Get wish (TrimAsked span is_committed)) answer left e = absurd (cc)
-nothing_left (Get wish (TrimCut is_committed asked)) answer left e = absurd (cc)
-nothing_left (Get wish GrowAsked) answer left e = absurd (cc)
-nothing_left (Get wish (Growing asked)) answer left e = absurd (cc)
-nothing_left (Get wish (GrantAsked span is_committed)) answer left e = absurd (cc)
-nothing_left (Get wish (GrantCut is_committed asked)) answer left e = absurd (cc)
-nothing_left (Get wish (CommitAsked span)) answer left e = absurd (cc)
-nothing_left (Get wish (Committing span asked)) answer left e = absurd (cc)
-nothing_left (Get wish (Landing span)) answer left e = absurd (cc)
+-- a call that has ended is at its end
+pub ended_only : (stage : Stage) (answer : Answered) (items : List Item) → rest_of stage [] ≡ Ends answer items → (stage ≡ Ended answer) × (items ≡ [])
+ended_only (Ended other) answer items e = let same : other ≡ answer = cc in (ap Ended same, cc)
+ended_only (Get wish Looking) answer items e = absurd (cc)
+ended_only stage answer items e = absurd (cc)
 
 -- an answer after such items has its cause
 pub run_explained : (desk : DeskFacts) (request : Request) (items : List Item) (answer : Answered) → reading desk request items ≡ Ends answer [] → AreReplies desk request items →
@@ -44,7 +32,7 @@ run_explained desk (Free addr) items answer run are = frees-have_causes desk add
 ended_explained : (desk : DeskFacts) (request : Request) (items : List Item) (stage : Stage) (answer : Answered) (left : List Item) → LeadsTo desk request items stage → AreReplies desk request items →
     rest_of stage [] ≡ Ends answer left → AnswerHasCause desk request items answer
 ended_explained desk request items stage answer left leads are ends =
-    let empty : left ≡ [] = nothing_left stage answer left ends in
+    let empty : left ≡ [] = (ended_only stage answer left ends).1 in
     let whole : reading desk request items ≡ rest_of stage [] = sym (ap (reading desk request) (append-nil items)) ∙ leads [] in
     run_explained desk request items answer (whole ∙ ends ∙ ap (Ends answer) empty) are
 

@@ -3,23 +3,19 @@ use Rattle.std.proofs.Common.{ltb as nat_lt, ◌≡◌, List, [], ◌∷◌, ◌
 use mathlib.Core.List.{append-nil}
 use Rattle.space_model.specs.Step.{step_of, op_stands}
 use Rattle.space_model.proofs.Pieces.{both_true}
-use Rattle.call_plan.specs.declared.needs.Request.{Request}
-use Rattle.call_plan.specs.declared.needs.Request.TheVariants.{Malloc, Free}
 use Rattle.call_plan.specs.Reading.{Item, Replied, Told, WantTurn, WantAsk, Outcome, Ends, Waits, Astray}
-use Rattle.call_plan.specs.declared.needs.Answered.{Answered}
 use Rattle.call_plan.specs.Rest.{rest_of}
 use Rattle.call_plan.specs.Calls.{reading}
 use Rattle.space_model.specs.declared.Space.{Space}
 use Rattle.call_plan.specs.Causes.{ItemFits, AreReplies}
 use Rattle.call_plan.proofs.Causes.{replies-fit, items_fit-push}
-use Rattle.call_plan.proofs.Ended.{nothing_left, run_explained}
-use Rattle.call_plan.specs.Desks.{DeskFacts}
 use Rattle.trace_text.specs.declared.lines.Line.{Line}
 use Rattle.trace_text.specs.declared.lines.Line.TheVariants.{Call}
 use Rattle.replay_run.specs.World.{Open, World, Move, Turned, Heard_, outcome_of, on_end, printed, begun, fed, opened, opening, moved, after_in, after_move, Fits, NextIn, IsNext, IsPlay}
 use Rattle.replay_run.specs.Sane.{Kept, Going, Sane}
-use Rattle.replay_run.specs.Causes.{items_in, AnswerHasCause, IsExplained, EndsExplained, AllMoves, PlaysHaveCauses, AnswersAtOnceHaveCauses}
-use Rattle.replay_run.proofs.Starts.{ended_only, ends_at_once}
+use Rattle.replay_run.specs.Causes.{items_in, IsExplained, EndsExplained, AllMoves, PlaysHaveCauses, AnswersAtOnceHaveCauses}
+use Rattle.call_plan.proofs.Ended.{ended_only, run_explained}
+use Rattle.replay_run.proofs.Starts.{ends_at_once}
 use Rattle.replay_run.proofs.Plays.{after_sane, opening_sane, first_good, next_turn, turned_going, heard_going}
 
 -- what the open call was fed are replies to its turns and answers to its asks
@@ -65,12 +61,6 @@ moved_fed w call (Waits (WantTurn arena op asked)) Turned fits are =
     fed_fed _ (record call { items = call.items ++ Replied (step_of w.space call.client op).reply ∷ [] }) w.lines are
 moved_fed w call (Waits (WantAsk arena wanted)) (Heard_ asked) fits are = fed_fed w (record call { items = call.items ++ Told asked ∷ [] }) w.lines are
 moved_fed w call o move fits are = absurd fits
-
--- an answer after such items has its cause
-run_explained : (desk : DeskFacts) (request : Request) (items : List Item) (answer : Answered) → reading desk request items ≡ Ends answer [] → AreReplies desk request items →
-    AnswerHasCause desk request items answer
-run_explained desk (Malloc size) items answer run are = mallocs-have_causes desk size items answer run are
-run_explained desk (Free addr) items answer run are = frees-have_causes desk addr items answer run
 
 explained : (s : Space) (call : Open) → Going s call → AreReplies call.desk call.request call.items → IsExplained call.desk call.request call.items
 explained s call going are = λ answer left ends.

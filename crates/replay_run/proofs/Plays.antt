@@ -65,7 +65,8 @@ use Rattle.space_model.proofs.LawLemmas.{first_replays_are_good}
 use Rattle.replay_run.specs.World.{Open, World, outcome_of, on_end, printed, opened, begun, fed, Move, Turned, Heard_, turned, moved, after_in, after_move, Fits, NextIn, IsNext, IsPlay, world_after, empty_world, opening, AllWorlds, entries_of, IsSound, IsCarried}
 use Rattle.replay_run.specs.Sane.{Kept, Going, Sane}
 use Rattle.replay_run.proofs.Frames.{step_frame}
-use Rattle.replay_run.proofs.Starts.{starts, ended_only, ends_at_once}
+use Rattle.call_plan.proofs.Ended.{ended_only}
+use Rattle.replay_run.proofs.Starts.{starts, ends_at_once}
 use Rattle.call_plan.specs.Calls.{first_stage}
 
 -- ---- journals that grow by an entry

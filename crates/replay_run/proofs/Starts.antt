@@ -109,12 +109,6 @@ starts s desk verb (Free addr) built hands rests = free_starts s desk verb addr 
 
 -- ---- the end
 
--- a call that has ended is at its end
-pub ended_only : (stage : Stage) (answer : Answered) (items : List Item) → rest_of stage [] ≡ Ends answer items → (stage ≡ Ended answer) × (items ≡ [])
-ended_only (Ended other) answer items e = let same : other ≡ answer = cc in (ap Ended same, cc)
-ended_only (Get wish Looking) answer items e = absurd (cc)
-ended_only stage answer items e = absurd (cc)
-
 -- a call that ends at once leaves what the client owns, and nothing of what it was fed
 pub ends_at_once : (desk : DeskFacts) (request : Request) (answer : Answered) (items : List Item) → reading desk request [] ≡ Ends answer items →
     (desk_ended desk request answer ≡ desk) × (items ≡ [])

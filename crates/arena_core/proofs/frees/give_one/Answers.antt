@@ -34,7 +34,7 @@ returns-then-emptied-clause-after c =
     let s = space_of c.args.indexes.now in
     let p = c.unwrap-part.result in
     let g = gives c.args.client c.args.addr s c.requires.sound c.requires.held c.holding.ensures.holds c.unwrap-part.ensures c.take.ensures.regions c.begins_within-emptied.ensures in
-    let out = ap (λ rest. exchanged (begins_at p.span.first) s.parts (record p { state = Flight c.args.client rest } ∷ [])) c.rest_of.ensures in
+    let out = ap (λ rest. exchanged (begins_at p.span.first) s.parts (record p { state = Flight c.args.client rest } ∷ [])) c.rest.ensures in
     let parts = c.change.ensures.parts ∙ out ∙ (rw c.if-emptied.true at g.parts) in
     λ i. record s { parts = parts i; regions = c.take.ensures.regions i }
 
