@@ -32,7 +32,6 @@ use Rattle.call_plan.specs.declared.needs.Given.TheVariants.{Region}
 use Rattle.call_plan.specs.declared.wishes.Wish.{Wish}
 use Rattle.call_plan.specs.Reading.{Item, Replied, Told, Starved, Outcome, Ends, turn, ask, ends, astray}
 use Rattle.call_plan.specs.Malloc.{landed, land, committed, commit, grant_cut, grant, answered_span, whole_chunks, grown, grow, trim_cut, trim, skip_cut, skip_to, looked, look, wish_for}
-use Rattle.call_plan.specs.Knows.{with_found}
 use Rattle.call_plan.specs.Causes.{CutFits, WhyFits, BadFits, GrowFits, CommitFits, LandFits, ReplyFits, RepliesFit, ItemFits, ItemsFit, extent, flight_after, in_flight, IsNeeded, BadAnswerCause, HasCause, Explained, MallocsHaveCauses}
 
 -- ---- what an arena replies fits
@@ -115,17 +114,6 @@ replies-fit s c (Land span class count) h = land-fits s c class count (find (is_
 replies-fit s c (Back addrs) h = tt
 replies-fit s c (PutLook span tries) h = tt
 replies-fit s c (MergeDone heard own_low) h = tt
-
--- a chunk that was found in another arena changes nothing of it
-pub fits-found : (found : Option ℕ) (op : Op) (reply : Reply) → ReplyFits (with_found found op) reply → ReplyFits op reply
-fits-found found (Look pages align) reply h = tt
-fits-found found (CutDone heard keep_low) reply h = h
-fits-found found (GrowDone heard _) reply h = h
-fits-found found (CommitDone heard) reply h = h
-fits-found found (Land span class count) reply h = h
-fits-found found (Back addrs) reply h = h
-fits-found found (PutLook span tries) reply h = h
-fits-found found (MergeDone heard own_low) reply h = h
 
 -- one more item that fits
 pub items_fit-push : (read : List Item → Outcome) (items : List Item) (item : Item) → ItemsFit read items → ItemFits (read items) item →

@@ -8,7 +8,7 @@ use Rattle.std.proofs.lemmas.List.Sums.{sum_by-cons, sum_by-append, length-filte
 use Rattle.space_model.specs.declared.Answer.{Answer}
 use Rattle.space_model.specs.declared.Answer.TheVariants.{Done, Refused as Refuses, Placed}
 use Rattle.space_model.specs.declared.Ask.{Ask}
-use Rattle.space_model.specs.declared.Ask.TheVariants.{Alloc, Commit, Split, Merge}
+use Rattle.space_model.specs.declared.Ask.TheVariants.{Alloc, Commit, Split}
 use Rattle.space_model.specs.declared.Op.{Op}
 use Rattle.space_model.specs.declared.Op.TheVariants.{Look, CutDone, GrowDone, CommitDone, Land, Back, PutLook, MergeDone}
 use Rattle.space_model.specs.declared.Part.{Part}
@@ -20,7 +20,7 @@ use Rattle.space_model.specs.declared.Span.{Span}
 use Rattle.space_model.specs.declared.Why.{Why}
 use Rattle.space_model.specs.Part.{is_flight, is_flight_at, taken_out, put_down, begins_at, exchanged, rest_of as belongs_to}
 use Rattle.space_model.specs.Fit.{fit}
-use Rattle.space_model.specs.Step.{Stepped, stays, is_live, look_at, after_look, cut_at, low_piece, high_piece, new_part, whole_at, after_cut, why_not, grow_unless, after_grow, commit_at, after_commit, land_at, staying, is_emptied, taken_in_order, next_flight, after_back, neighbour, is_purged, put_at_rest, put_beside, put_at, join_at, apart_at, after_merge, step_of}
+use Rattle.space_model.specs.Step.{Stepped, stays, is_live, look_at, after_look, cut_at, low_piece, high_piece, new_part, whole_at, after_cut, why_not, grow_unless, after_grow, commit_at, after_commit, land_at, staying, is_emptied, taken_in_order, next_flight, after_back, neighbour, is_purged, put_at_rest, put_beside, put_at, step_of}
 use Rattle.space_model.proofs.Exchange.{sum_by-exchanged, sum_by-replaced}
 use Rattle.space_model.specs.Sound.{Sound}
 use Rattle.space_model.proofs.Giving.{taken_sum, none_flying}
@@ -43,7 +43,7 @@ use Rattle.call_plan.specs.Free.{found, merged, put_step, putting, give}
 use Rattle.call_plan.specs.Rest.{rest_of, rest_of_get}
 use Rattle.call_plan.specs.Stages.{commit_point, grant_point, trim_point, skip_point, looked_point, skip_cut_point, trim_cut_point, grown_point, grant_cut_point, commit_done_point, landed_point, after_reply_point}
 use Rattle.call_plan.specs.Calls.{IsWish, IsLook, IsPlanned, stage_of, gave_stage, put_stage, stage_after}
-use Rattle.call_plan.specs.Knows.{KnowsGet, KnowsPut, Knows, Ground, with_found}
+use Rattle.call_plan.specs.Knows.{KnowsGet, KnowsPut, Knows, Ground}
 use Rattle.call_plan.specs.Left.{flights, steps_left}
 use Rattle.call_plan.specs.Flying.{flying, HasFlights}
 use Rattle.call_plan.proofs.Cutting.{kept_span, CutResult, DidCut, Stayed, cut_result, LookResult, DidTake, FoundNone, look_result, GrowResult, WasRefused, WasBad, DidGrow, grow_result, CommitResult, DidCommit, PutDown, commit_result}
@@ -90,50 +90,9 @@ next_none c (p ∷ ps) e =
           omega (arith, grounded, sum_by-cons (flight c) p ps, next_none c ps k)
     ] refl e
 
--- where a step replies that no extent is next, the client has none in flight
+-- where a put replies that no extent is next, the client has none in flight
 abbrev Over : ℕ → Stepped → Type 0
 Over c step = step.reply ≡ Next None → flights c step.after ≡ 0
-
-look_over : (c : ℕ) (s : Space) (align : ℕ) (o : Option Part) → Over c (look_at s c align o)
-look_over c s align None e = absurd (cc)
-look_over c s align (Some p) e = absurd (cc)
-
-whole_over : (c : ℕ) (s : Space) (o : Option Part) → Over c (whole_at s o)
-whole_over c s None e = absurd (cc)
-whole_over c s (Some p) e = absurd (cc)
-
-cut_at_over : (c : ℕ) (s : Space) (keep_low : Bool) (left : ℕ) (o : Option Part) → Over c (cut_at s keep_low left o)
-cut_at_over c s keep_low left None e = absurd (cc)
-cut_at_over c s true left (Some p) e = absurd (cc)
-cut_at_over c s false left (Some p) e = absurd (cc)
-
-cut_over : (c : ℕ) (s : Space) (keep_low : Bool) (ask : Ask) (answer : Answer) → Over c (after_cut s c keep_low ask answer)
-cut_over c s keep_low (Split span left) Done = cut_at_over c s keep_low left (find (is_flight_at c span) s.parts)
-cut_over c s keep_low (Split span left) Refuses = whole_over c s (find (is_flight_at c span) s.parts)
-cut_over c s keep_low ask answer = λ e. absurd (cc)
-
-grow_unless_over : (c : ℕ) (s : Space) (span : Span) (b : Bool) (o : Option Why) → Over c (grow_unless s c span b o)
-grow_unless_over c s span b None e = absurd (cc)
-grow_unless_over c s span b (Some why) e = absurd (cc)
-
-grow_over : (c : ℕ) (s : Space) (chunk : Option ℕ) (ask : Ask) (answer : Answer) → Over c (after_grow s c chunk ask answer)
-grow_over c s chunk (Alloc at pages align commit) Refuses = λ e. absurd (cc)
-grow_over c s chunk (Alloc at pages align commit) (Placed first b zeroed) =
-    let span : Span = record { first = first; pages = pages } in grow_unless_over c s span b (why_not chunk align s.parts span)
-grow_over c s chunk ask answer = λ e. absurd (cc)
-
-commit_at_over : (c : ℕ) (s : Space) (o : Option Part) → Over c (commit_at s o)
-commit_at_over c s None e = absurd (cc)
-commit_at_over c s (Some p) e = absurd (cc)
-
-commit_over : (c : ℕ) (s : Space) (ask : Ask) (answer : Answer) → Over c (after_commit s c ask answer)
-commit_over c s (Commit span) Done = commit_at_over c s (find (is_flight_at c span) s.parts)
-commit_over c s (Commit span) Refuses = whole_over c s (find (is_flight_at c span) s.parts)
-commit_over c s ask answer = λ e. absurd (cc)
-
-land_over : (c : ℕ) (s : Space) (class count : ℕ) (o : Option Part) → Over c (land_at s c class count o)
-land_over c s class count None e = absurd (cc)
-land_over c s class count (Some p) e = absurd (cc)
 
 -- the reply names the first extent in flight of those that are left
 rests_over : (c : ℕ) (parts : List Part) → Next (next_flight c parts) ≡ Next None → count_by (λ p. is_flight c p.state) parts ≡ 0
@@ -148,33 +107,6 @@ beside_over c s p None =
 put_over : (c : ℕ) (s : Space) (tries : ℕ) (o : Option Part) → Over c (put_at s c tries o)
 put_over c s tries None = λ e. absurd (cc)
 put_over c s tries (Some p) = beside_over c s p (neighbour tries p s.parts)
-
-join_over : (c : ℕ) (s : Space) (o u : Option Part) → Over c (join_at s o u)
-join_over c s (Some p) (Some q) e = absurd (cc)
-join_over c s o u e = absurd (cc)
-
-apart_over : (c : ℕ) (s : Space) (own_low : Bool) (o u : Option Part) → Over c (apart_at s own_low o u)
-apart_over c s true (Some p) (Some q) e = absurd (cc)
-apart_over c s false (Some p) (Some q) e = absurd (cc)
-apart_over c s own_low o u e = absurd (cc)
-
-merge_over : (c : ℕ) (s : Space) (own_low : Bool) (ask : Ask) (answer : Answer) → Over c (after_merge s c own_low ask answer)
-merge_over c s own_low (Merge low high) Done = join_over c s (find (is_flight_at c low) s.parts) (find (is_flight_at c high) s.parts)
-merge_over c s own_low (Merge low high) Refuses = apart_over c s own_low (find (is_flight_at c low) s.parts) (find (is_flight_at c high) s.parts)
-merge_over c s own_low ask answer = λ e. absurd (cc)
-
--- a step that replies that no extent is next leaves the client none in flight
-pub over_reply : (c : ℕ) (s : Space) (op : Op) → (step_of s c op).reply ≡ Next None → flights c (step_of s c op).after ≡ 0
-over_reply c s (Look pages align) =
-    elim (is_live s.life) as (λ b. Over c (cond b (look_at s c align (fit pages align s.parts)) (stays s NoArena)))
-    [ true ↦ look_over c s align (fit pages align s.parts) | false ↦ λ e. absurd (cc) ]
-over_reply c s (CutDone heard keep_low) = cut_over c s keep_low heard.ask heard.answer
-over_reply c s (GrowDone heard chunk) = grow_over c s chunk heard.ask heard.answer
-over_reply c s (CommitDone heard) = commit_over c s heard.ask heard.answer
-over_reply c s (Land span class count) = land_over c s class count (find (is_flight_at c span) s.parts)
-over_reply c s (Back addrs) = rests_over c (after_back s c addrs).after.parts
-over_reply c s (PutLook span tries) = put_over c s tries (find (is_flight_at c span) s.parts)
-over_reply c s (MergeDone heard own_low) = merge_over c s own_low heard.ask heard.answer
 
 -- ---- the steps that are left after the first turn
 
@@ -365,50 +297,50 @@ abbrev Flies : ℕ → Space → Wish → Getting → Op → Type 0
 Flies c s wish getting op = HasFlights c (step_of s c op).after (stage_of wish (after_reply_point wish getting (step_of s c op).reply))
 
 -- the turn that a point of a malloc needs
-get_flights : (c : ℕ) (s : Space) (wish : Wish) (getting : Getting) (arena : ℕ) (op : Op) (asked : Option AskFacts) (found : Option ℕ) → Ground c s → IsWish wish →
-    KnowsGet c s wish getting → flights c s ≡ flying getting → rest_of_get wish getting [] ≡ Waits (WantTurn arena op asked) → Flies c s wish getting (with_found found op)
-get_flights c s wish Looking arena op asked found ground is knows flown e =
+get_flights : (c : ℕ) (s : Space) (wish : Wish) (getting : Getting) (arena : ℕ) (op : Op) (asked : Option AskFacts) → Ground c s → IsWish wish →
+    KnowsGet c s wish getting → flights c s ≡ flying getting → rest_of_get wish getting [] ≡ Waits (WantTurn arena op asked) → Flies c s wish getting op
+get_flights c s wish Looking arena op asked ground is knows flown e =
     let same : Look wish.pages wish.align ≡ op = cc in
     let result = look_result c s wish.pages wish.align ground.sound ground.live (wish_some wish is) is.align in
-    subst (λ (o : Op). Flies c s wish Looking (with_found found o)) same
+    subst (λ (o : Op). Flies c s wish Looking o) same
     (looked_leads c _ wish _ result (omega (arith, flown, look_counts c s wish.pages wish.align ground.sound)))
-get_flights c s wish (SkipCut b told) arena op asked found ground is knows flown e =
+get_flights c s wish (SkipCut b told) arena op asked ground is knows flown e =
     let same : CutDone (heard_in told) false ≡ op = cc in
     let skip = knows.2 in
     let kept : Span = kept_span false knows.1 knows.0 in
     let result = cut_result c s false (heard_in told) knows.0 knows.1 b ground.sound ground.live skip.cuts knows.3 knows.4 in
-    subst (λ (o : Op). Flies c s wish (SkipCut b told) (with_found found o)) same
+    subst (λ (o : Op). Flies c s wish (SkipCut b told) o) same
     (cut_leads c _ wish (skip_cut_point wish b) _ kept b result (λ n. omega (arith, n, trim_flies wish kept b)) (λ n. omega (arith, n)) (omega (arith, flown, cut_counts c s false told.ask told.answer ground.sound)))
-get_flights c s wish (TrimCut b told) arena op asked found ground is knows flown e =
+get_flights c s wish (TrimCut b told) arena op asked ground is knows flown e =
     let same : CutDone (heard_in told) true ≡ op = cc in
     let kept : Span = kept_span true wish.pages knows.span in
     let result = cut_result c s true (heard_in told) knows.span wish.pages b ground.sound ground.live knows.cuts knows.ask knows.answer in
-    subst (λ (o : Op). Flies c s wish (TrimCut b told) (with_found found o)) same
+    subst (λ (o : Op). Flies c s wish (TrimCut b told) o) same
     (cut_leads c _ wish (trim_cut_point b) _ kept b result (λ n. omega (arith, n, commit_flies kept b)) (λ n. omega (arith, n)) (omega (arith, flown, cut_counts c s true told.ask told.answer ground.sound)))
-get_flights c s wish (Growing told) arena op asked found ground is knows flown e =
+get_flights c s wish (Growing told) arena op asked ground is knows flown e =
     let same : GrowDone (heard_in told) None ≡ op = cc in
-    let may = grow_stands_at c s wish told found ground is knows.0 knows.1 in
-    let result = grow_result c s (heard_in told) found None (whole_chunks wish.pages) (max 512 wish.align) false ground.sound may knows.0 knows.1 in
-    subst (λ (o : Op). Flies c s wish (Growing told) (with_found found o)) same
-    (grown_leads c _ wish told _ _ result (omega (arith, flown, grow_counts c s found told.ask told.answer)))
-get_flights c s wish (GrantCut b told) arena op asked found ground is knows flown e =
+    let may = grow_stands_at c s wish told None ground is knows.0 knows.1 in
+    let result = grow_result c s (heard_in told) None None (whole_chunks wish.pages) (max 512 wish.align) false ground.sound may knows.0 knows.1 in
+    subst (λ (o : Op). Flies c s wish (Growing told) o) same
+    (grown_leads c _ wish told _ _ result (omega (arith, flown, grow_counts c s None told.ask told.answer)))
+get_flights c s wish (GrantCut b told) arena op asked ground is knows flown e =
     let same : CutDone (heard_in told) true ≡ op = cc in
     let kept : Span = kept_span true wish.pages knows.span in
     let result = cut_result c s true (heard_in told) knows.span wish.pages b ground.sound ground.live knows.cuts knows.ask knows.answer in
-    subst (λ (o : Op). Flies c s wish (GrantCut b told) (with_found found o)) same
+    subst (λ (o : Op). Flies c s wish (GrantCut b told) o) same
     (cut_leads c _ wish (grant_cut_point b told) _ kept b result (λ n. omega (arith, n, commit_flies kept b)) (λ n. omega (arith, n)) (omega (arith, flown, cut_counts c s true told.ask told.answer ground.sound)))
-get_flights c s wish (Committing span told) arena op asked found ground is knows flown e =
+get_flights c s wish (Committing span told) arena op asked ground is knows flown e =
     let same : CommitDone (heard_in told) ≡ op = cc in
     let may = commit_stands_at c s told span ground knows.0 knows.2 knows.3 in
     let result = commit_result c s (heard_in told) span false ground.sound may knows.0 knows.2 knows.3 in
-    subst (λ (o : Op). Flies c s wish (Committing span told) (with_found found o)) same
+    subst (λ (o : Op). Flies c s wish (Committing span told) o) same
     (committed_leads c _ wish span told _ result (omega (arith, flown, commit_counts c s told.ask told.answer ground.sound)))
-get_flights c s wish (Landing span) arena op asked found ground is knows flown e =
+get_flights c s wish (Landing span) arena op asked ground is knows flown e =
     let same : Land span wish.class 1 ≡ op = cc in
     let o : Option Part = find (is_flight_at c span) s.parts in
-    subst (λ (o : Op). Flies c s wish (Landing span) (with_found found o)) same
+    subst (λ (o : Op). Flies c s wish (Landing span) o) same
     (landing_leads c s wish o knows.0.part knows.0.found (omega (arith, flown, land_counts c s span wish.class 1 o refl ground.sound)))
-get_flights c s wish getting arena op asked found ground is knows flown e = absurd (cc)
+get_flights c s wish getting arena op asked ground is knows flown e = absurd (cc)
 
 -- ---- the turns of a free
 
@@ -416,12 +348,12 @@ gave_flights : (c : ℕ) (t : Space) (arena : ℕ) (next : Option Span) → next
 gave_flights c t arena None e = next_none c t.parts e
 gave_flights c t arena (Some span) e = tt
 
-give_flights : (c : ℕ) (s : Space) (held : Held) (at : ℕ) (op : Op) (asked : Option AskFacts) (found : Option ℕ) → give held [] ≡ Waits (WantTurn at op asked) →
-    HasFlights c (step_of s c (with_found found op)).after (gave_stage held.arena (step_of s c (with_found found op)).reply)
-give_flights c s held at op asked found e =
+give_flights : (c : ℕ) (s : Space) (held : Held) (at : ℕ) (op : Op) (asked : Option AskFacts) → give held [] ≡ Waits (WantTurn at op asked) →
+    HasFlights c (step_of s c op).after (gave_stage held.arena (step_of s c op).reply)
+give_flights c s held at op asked e =
     let same : Back (held.addr ∷ []) ≡ op = cc in
     let t : Space = (after_back s c (held.addr ∷ [])).after in
-    subst (λ (o : Op). HasFlights c (step_of s c (with_found found o)).after (gave_stage held.arena (step_of s c (with_found found o)).reply)) same
+    subst (λ (o : Op). HasFlights c (step_of s c o).after (gave_stage held.arena (step_of s c o).reply)) same
     (gave_flights c t held.arena (next_flight c t.parts) refl)
 
 found_flights : (c : ℕ) (s t : Space) (arena : ℕ) (own : Span) (tries : ℕ) (reply : Reply) → PutResult c s t own tries reply → (reply ≡ Next None → flights c t ≡ 0) →
@@ -436,47 +368,32 @@ found_flights c s t arena own tries reply (IsDown (Some span) e known fewer) ove
     subst (λ (r : Reply). HasFlights c t (put_stage arena (found own tries r))) (sym e) tt
 
 -- the turn that a point of a put needs
-put_flights : (c : ℕ) (s : Space) (arena : ℕ) (point : Putting) (at : ℕ) (op : Op) (asked : Option AskFacts) (chunk : Option ℕ) → Ground c s → IsLook point →
+put_flights : (c : ℕ) (s : Space) (arena : ℕ) (point : Putting) (at : ℕ) (op : Op) (asked : Option AskFacts) → Ground c s → IsLook point →
     KnowsPut c s point → putting arena point [] ≡ Waits (WantTurn at op asked) →
-    HasFlights c (step_of s c (with_found chunk op)).after (put_stage arena (put_step point (Replied (step_of s c (with_found chunk op)).reply)))
-put_flights c s arena (Finding own tries) at op asked chunk ground look knows e =
+    HasFlights c (step_of s c op).after (put_stage arena (put_step point (Replied (step_of s c op).reply)))
+put_flights c s arena (Finding own tries) at op asked ground look knows e =
     let same : PutLook own tries ≡ op = cc in
     let may = find_stands c s own tries knows.0 ground look knows.1 in
-    subst (λ (o : Op). HasFlights c (step_of s c (with_found chunk o)).after (put_stage arena (put_step (Finding own tries) (Replied (step_of s c (with_found chunk o)).reply)))) same
-    (found_flights c s _ arena own tries _ (put_result c s own tries knows.0 ground.sound ground.kept may knows.1) (over_reply c s (PutLook own tries)))
-put_flights c s arena (Merging told own_low) at op asked chunk ground look knows e =
+    subst (λ (o : Op). HasFlights c (step_of s c o).after (put_stage arena (put_step (Finding own tries) (Replied (step_of s c o).reply)))) same
+    (found_flights c s _ arena own tries _ (put_result c s own tries knows.0 ground.sound ground.kept may knows.1) (put_over c s tries (find (is_flight_at c own) s.parts)))
+put_flights c s arena (Merging told own_low) at op asked ground look knows e =
     let same : MergeDone (heard_in told) own_low ≡ op = cc in
     let may = merge_stands_at c s told own_low knows.0 knows.1 ground knows in
     let result = merge_result c s (heard_in told) own_low knows.0 knows.1 ground.sound may knows.2 knows.3 knows.4 in
-    subst (λ (o : Op). HasFlights c (step_of s c (with_found chunk o)).after (put_stage arena (put_step (Merging told own_low) (Replied (step_of s c (with_found chunk o)).reply)))) same
+    subst (λ (o : Op). HasFlights c (step_of s c o).after (put_stage arena (put_step (Merging told own_low) (Replied (step_of s c o).reply)))) same
     (subst (λ (r : Reply). HasFlights c (step_of s c (MergeDone (heard_in told) own_low)).after (put_stage arena (merged own_low r))) (sym result.replied) tt)
-put_flights c s arena (MergeAsked low high own_low) at op asked chunk ground look knows e = absurd (cc)
+put_flights c s arena (MergeAsked low high own_low) at op asked ground look knows e = absurd (cc)
 
 -- ---- the laws
-
--- a turn that a call needs, whatever chunk of another arena is found, leaves the extents in flight that the call has then
-pub found_turn_flights : (c : ℕ) (s : Space) (stage : Stage) (arena : ℕ) (op : Op) (asked : Option AskFacts) (found : Option ℕ) →
-    Ground c s → IsPlanned stage → Knows c s stage → HasFlights c s stage → rest_of stage [] ≡ Waits (WantTurn arena op asked) →
-    HasFlights c (step_of s c (with_found found op)).after (stage_after stage (FedReply (step_of s c (with_found found op)).reply))
-found_turn_flights c s (Get wish getting) arena op asked found ground planned knows flown e = get_flights c s wish getting arena op asked found ground planned knows flown e
-found_turn_flights c s (Give held) arena op asked found ground planned knows flown e = give_flights c s held arena op asked found e
-found_turn_flights c s (Put index point) arena op asked found ground planned knows flown e = put_flights c s index point arena op asked found ground planned knows e
-found_turn_flights c s (Ended answer) arena op asked found ground planned knows flown e = absurd (cc)
-
--- the turn that a call needs carries no chunk of another arena
-none_found : (stage : Stage) (arena : ℕ) (op : Op) (asked : Option AskFacts) → rest_of stage [] ≡ Waits (WantTurn arena op asked) → with_found None op ≡ op
-none_found (Get wish Looking) arena (GrowDone heard (Some chunk)) asked e = absurd (cc)
-none_found (Put index (Finding own tries)) arena (GrowDone heard (Some chunk)) asked e = absurd (cc)
-none_found stage arena (GrowDone heard (Some chunk)) asked e = absurd (cc)
-none_found stage arena op asked e = refl
 
 -- a turn that a call needs leaves the extents in flight that the call has then
 pub turn_flights : (c : ℕ) (s : Space) (stage : Stage) (arena : ℕ) (op : Op) (asked : Option AskFacts) →
     Ground c s → IsPlanned stage → Knows c s stage → HasFlights c s stage → rest_of stage [] ≡ Waits (WantTurn arena op asked) →
     HasFlights c (step_of s c op).after (stage_after stage (FedReply (step_of s c op).reply))
-turn_flights c s stage arena op asked ground planned knows flown e =
-    subst (λ (o : Op). HasFlights c (step_of s c o).after (stage_after stage (FedReply (step_of s c o).reply))) (none_found stage arena op asked e)
-    (found_turn_flights c s stage arena op asked None ground planned knows flown e)
+turn_flights c s (Get wish getting) arena op asked ground planned knows flown e = get_flights c s wish getting arena op asked ground planned knows flown e
+turn_flights c s (Give held) arena op asked ground planned knows flown e = give_flights c s held arena op asked e
+turn_flights c s (Put index point) arena op asked ground planned knows flown e = put_flights c s index point arena op asked ground planned knows e
+turn_flights c s (Ended answer) arena op asked ground planned knows flown e = absurd (cc)
 
 -- an ask changes no extent
 pub ask_flights : (c : ℕ) (s : Space) (stage : Stage) (arena : ℕ) (wanted : Ask) (asked : AskFacts) →

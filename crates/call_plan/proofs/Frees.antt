@@ -38,15 +38,10 @@ over_is : (point : Putting) (item : Item) → put_step point item ≡ Over → i
 over_is (Finding own tries) (Replied (Beside other)) e = absurd (beside_goes own tries other e)
 over_is (Finding own tries) (Replied (Next None)) e = refl
 over_is (Finding own tries) (Replied reply) e = absurd (cc)
-over_is (Finding own tries) (Told asked) e = absurd (cc)
-over_is (Finding own tries) Starved e = absurd (cc)
-over_is (MergeAsked low high own_low) (Replied reply) e = absurd (cc)
-over_is (MergeAsked low high own_low) (Told asked) e = absurd (cc)
-over_is (MergeAsked low high own_low) Starved e = absurd (cc)
 over_is (Merging asked own_low) (Replied (Joined span)) e = absurd (cc)
 over_is (Merging asked own_low) (Replied reply) e = absurd (cc)
-over_is (Merging asked own_low) (Told told) e = absurd (cc)
-over_is (Merging asked own_low) Starved e = absurd (cc)
+over_is (MergeAsked low high own_low) Starved e = absurd (cc)
+over_is point item e = absurd (cc)
 
 -- What a put that has ended answered, and its last item.
 record Finished (items : List Item) (answer : Answered) : Type 0 where
@@ -135,18 +130,11 @@ step_spent : (point : Putting) (item : Item) → IsSpent point item (put_step po
 step_spent (Finding own tries) (Replied (Beside other)) = beside_spent own tries other
 step_spent (Finding own tries) (Replied (Next (Some span))) = (omega arith, omega (arith, any-look 5 3 1 tries (omega arith) (omega arith)))
 step_spent (Finding own tries) (Replied (Next None)) = (omega arith, any-look 5 3 1 tries (omega arith) (omega arith))
-step_spent (Finding own tries) (Replied reply) = tt
-step_spent (Finding own tries) (Told asked) = tt
-step_spent (Finding own tries) Starved = tt
-step_spent (MergeAsked low high own_low) (Replied reply) = tt
 step_spent (MergeAsked low high true) (Told asked) = (omega arith, omega arith)
 step_spent (MergeAsked low high false) (Told asked) = (omega arith, omega arith)
-step_spent (MergeAsked low high own_low) Starved = tt
 step_spent (Merging asked true) (Replied (Joined span)) = (omega arith, omega arith)
 step_spent (Merging asked false) (Replied (Joined span)) = (omega arith, omega arith)
-step_spent (Merging asked own_low) (Replied reply) = tt
-step_spent (Merging asked own_low) (Told told) = tt
-step_spent (Merging asked own_low) Starved = tt
+step_spent point item = tt
 
 -- the items of a put that ends are so many at most
 abbrev PutFew : Putting → List Item → Type 0

@@ -234,11 +234,7 @@ turn_facts c s wish (Landing span) arena op asked found ground is knows e =
     let same : Land span wish.class 1 ≡ op = cc in
     subst (λ (o : Op). TurnFacts c s wish (Landing span) (with_found found o)) same
     (record { stands = land_stands_at c s wish span ground is knows.0 knows.1; goes_on = landed_goes c s wish span knows.0 })
-turn_facts c s wish (SkipAsked span b skip) arena op asked found ground is knows e = absurd (cc)
-turn_facts c s wish (TrimAsked span b) arena op asked found ground is knows e = absurd (cc)
-turn_facts c s wish GrowAsked arena op asked found ground is knows e = absurd (cc)
-turn_facts c s wish (GrantAsked span b) arena op asked found ground is knows e = absurd (cc)
-turn_facts c s wish (CommitAsked span) arena op asked found ground is knows e = absurd (cc)
+turn_facts c s wish getting arena op asked found ground is knows e = absurd (cc)
 
 -- the ask that a point of a malloc needs, answered
 pub ask_facts : (c : ℕ) (s : Space) (wish : Wish) (getting : Getting) (arena : ℕ) (wanted : Ask) (asked : AskFacts) → KnowsGet c s wish getting →
@@ -259,13 +255,7 @@ ask_facts c s wish (GrantAsked span b) arena wanted asked knows e is answers =
 ask_facts c s wish (CommitAsked span) arena wanted asked knows e is answers =
     let same : wanted ≡ Commit span = cc in
     (tt, (knows.0, knows.1, is ∙ same, plain_answer (Commit span) asked.answer (subst (λ (a : Ask). Answers a asked.answer) same answers)))
-ask_facts c s wish Looking arena wanted asked knows e is answers = absurd (cc)
-ask_facts c s wish (SkipCut b told) arena wanted asked knows e is answers = absurd (cc)
-ask_facts c s wish (TrimCut b told) arena wanted asked knows e is answers = absurd (cc)
-ask_facts c s wish (Growing told) arena wanted asked knows e is answers = absurd (cc)
-ask_facts c s wish (GrantCut b told) arena wanted asked knows e is answers = absurd (cc)
-ask_facts c s wish (Committing span told) arena wanted asked knows e is answers = absurd (cc)
-ask_facts c s wish (Landing span) arena wanted asked knows e is answers = absurd (cc)
+ask_facts c s wish getting arena wanted asked knows e is answers = absurd (cc)
 
 -- an operation that takes no memory is none that may find none
 unmarked : {A : Type 0} (op told : Op) (found : Option ℕ) → op ≡ told → is_marked (with_found found op) ≡ true → is_marked (with_found found told) ≡ false → A
@@ -287,8 +277,4 @@ get_starves wish (Committing span told) arena op asked found e marked =
     let same : op ≡ CommitDone (heard_in told) = cc in unmarked op _ found same marked refl
 get_starves wish (Landing span) arena op asked found e marked =
     let same : op ≡ Land span wish.class 1 = cc in unmarked op _ found same marked refl
-get_starves wish (SkipAsked span b skip) arena op asked found e marked = absurd (cc)
-get_starves wish (TrimAsked span b) arena op asked found e marked = absurd (cc)
-get_starves wish GrowAsked arena op asked found e marked = absurd (cc)
-get_starves wish (GrantAsked span b) arena op asked found e marked = absurd (cc)
-get_starves wish (CommitAsked span) arena op asked found e marked = absurd (cc)
+get_starves wish getting arena op asked found e marked = absurd (cc)

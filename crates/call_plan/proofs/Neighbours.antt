@@ -19,7 +19,7 @@ use Rattle.space_model.specs.declared.Reply.TheVariants.{Next, Beside, Joined}
 use Rattle.space_model.specs.declared.Rest.{Rest}
 use Rattle.space_model.specs.declared.Rest.TheVariants.{Dirty as ToDirty, Muzzy as ToMuzzy, Retained as ToRetained}
 use Rattle.space_model.specs.declared.State.{State}
-use Rattle.space_model.specs.declared.State.TheVariants.{Active, Dirty, Muzzy, Retained, Flight}
+use Rattle.space_model.specs.declared.State.TheVariants.{Dirty, Muzzy, Retained}
 use Rattle.space_model.specs.declared.Space.{Space}
 use Rattle.space_model.specs.declared.Span.{Span}
 use Rattle.space_model.specs.Span.{end_of}
@@ -28,7 +28,7 @@ use Rattle.space_model.specs.Step.{is_live, is_yes_or_no, next_flight, is_like, 
 use Rattle.space_model.specs.Sound.{Sound}
 use Rattle.space_model.proofs.Exchange.{find_passes, find_has, sum_by-replaced, sum_by-exchanged, sum_by-either, filter-begins_at}
 use Rattle.space_model.proofs.Idle.{some_pages}
-use Rattle.space_model.proofs.Pieces.{both_true}
+use Rattle.space_model.proofs.Pieces.{both_true, listed-nobody, put_down-nobody}
 use Rattle.space_model.proofs.Steps.{op_keeps}
 use Rattle.call_plan.specs.Free.{is_right, is_left}
 use Rattle.call_plan.specs.Knows.{Flying, Pair}
@@ -51,21 +51,6 @@ next_known c t =
     ] refl
 
 -- ---- states and lists
-
--- an extent that is listed isn't in flight
-listed_grounded : (c : ℕ) (r : Rest) (state : State) → is_listed r state ≡ true → is_flight c state ≡ false
-listed_grounded c r Active h = refl
-listed_grounded c r Dirty h = refl
-listed_grounded c r Muzzy h = refl
-listed_grounded c r Retained h = refl
-listed_grounded c ToDirty (Flight d rest) h = absurd (cc)
-listed_grounded c ToMuzzy (Flight d rest) h = absurd (cc)
-listed_grounded c ToRetained (Flight d rest) h = absurd (cc)
-
-put_down_grounded : (c : ℕ) (r : Rest) → is_flight c (listed r) ≡ false
-put_down_grounded c ToDirty = refl
-put_down_grounded c ToMuzzy = refl
-put_down_grounded c ToRetained = refl
 
 -- an extent that is listed where another one belongs belongs there too
 belongs : (r : Rest) (state : State) → is_listed r state ≡ true → rest_of state ≡ r
@@ -138,6 +123,13 @@ neighbour_near tries p other parts =
 apart : (tries : ℕ) (own other : Span) → 0 < own.pages → 0 < other.pages → (is_right tries own other || is_left tries own other) ≡ true → own.first ≢ other.first
 apart tries own other own_some other_some side same = grind (arith, nat_tests)
 
+-- the client's extent with a span doesn't begin elsewhere
+begins_else : (c : ℕ) (own : Span) (first : ℕ) → own.first ≢ first → (p : Part) → is_flight_at c own p ≡ true → begins_at first p ≡ false
+begins_else c own first differ p h = elsewhere p.span.first (ap (λ (span : Span). span.first) (span_is p.span own (both_true (is_flight c p.state) _ h).1))
+  where
+    elsewhere : (at : ℕ) → at ≡ own.first → (at == first) ≡ false
+    elsewhere at same = grind (arith, nat_tests)
+
 -- ---- the look for a neighbour
 
 -- What a look for a neighbour leaves: both are in flight, side by side, or the extent was put down.
@@ -159,13 +151,13 @@ beside_result c s own tries p other sound found near after =
     let p_some : 0 < p.span.pages = find_has (λ q. 0 < q.span.pages) (is_flight_at c own) s.parts p some found in
     let other_some : 0 < other.span.pages = find_has (λ q. 0 < q.span.pages) near.test s.parts other some near.found in
     let elsewhere = apart tries p.span other.span p_some other_some near.side in
-    let stays : find (is_flight_at c own) t.parts ≡ Some p = find_kept (is_flight_at c own) gone s.parts (taken_out c other ∷ []) p (not_there elsewhere at.0) found in
+    let stays : find (is_flight_at c own) t.parts ≡ Some p = find_kept (is_flight_at c own) gone s.parts (taken_out c other ∷ []) p (begins_else c own other.span.first (λ e. elsewhere (ap (λ (span : Span). span.first) at.0 ∙ e))) found in
     let taken : find (is_flight_at c other.span) t.parts ≡ Some (taken_out c other) =
     last_found c t (filter (λ q. not (gone q)) s.parts) (taken_out c other) after refl (client_itself c) in
     let like = both_true (is_listed (rest_of p.state) other.state) (beq other.committed p.committed) near.like in
     let rest : rest_of other.state ≡ rest_of p.state = belongs (rest_of p.state) other.state like.0 in
     let committed : other.committed ≡ p.committed = same_committed _ _ like.1 in
-    let lands : flight c other ≡ 0 = ap (λ (b : Bool). cond b 1 0) (listed_grounded c (rest_of p.state) other.state like.0) in
+    let lands : flight c other ≡ 0 = ap (λ (b : Bool). cond b 1 0) (listed-nobody c (rest_of p.state) other.state like.0) in
     let flies : flight c (taken_out c other) ≡ 1 = ap (λ (b : Bool). cond b 1 0) (client_itself c) in
     let more : flights c t ≡ flights c s + 1 = omega (
       arith,
@@ -196,14 +188,6 @@ beside_result c s own tries p other sound found near after =
             side_by_side = eqb-true _ _ (both_true (nat_lt tries 2) _ k).1;
           }) more
     ] refl side
-  where
-    begins_else : (q : Part) (first : ℕ) → q.span.first ≢ first → begins_at first q ≡ false
-    begins_else q first differ = grind (arith, nat_tests)
-
-    not_there : p.span.first ≢ other.span.first → p.span ≡ own → (q : Part) → is_flight_at c own q ≡ true → begins_at other.span.first q ≡ false
-    not_there differ same q h =
-        let is : q.span ≡ own = span_is q.span own (both_true (is_flight c q.state) _ h).1 in
-        begins_else q other.span.first (λ e. differ (ap (λ (span : Span). span.first) (same ∙ sym is) ∙ e))
 
 -- the extent was put down
 rest_result : (c : ℕ) (s : Space) (own : Span) (tries : ℕ) (p : Part) → Sound s → find (is_flight_at c own) s.parts ≡ Some p →
@@ -213,7 +197,7 @@ rest_result c s own tries p sound found =
     let some = some_pages s.parts sound.placed in
     let at = found_span c own s.parts p found in
     let flies : flight c p ≡ 1 = ap (λ (b : Bool). cond b 1 0) at.1 in
-    let lands : flight c (put_down p) ≡ 0 = ap (λ (b : Bool). cond b 1 0) (put_down_grounded c (rest_of p.state)) in
+    let lands : flight c (put_down p) ≡ 0 = ap (λ (b : Bool). cond b 1 0) (put_down-nobody c (rest_of p.state)) in
     IsDown (next_flight c t.parts) refl (next_known c t) (omega (
       arith,
       sum_by-replaced (flight c) (is_flight_at c own) s.parts (put_down p ∷ []) p some (sound.owners p.span.first) found,
@@ -318,12 +302,12 @@ apart_result c s own other p q sound own_found other_found differ =
     let at = found_span c own s.parts p own_found in
     let to = found_span c other s.parts q other_found in
     let flies : flight c q ≡ 1 = ap (λ (b : Bool). cond b 1 0) to.1 in
-    let lands : flight c (put_down q) ≡ 0 = ap (λ (b : Bool). cond b 1 0) (put_down_grounded c (rest_of q.state)) in
+    let lands : flight c (put_down q) ≡ 0 = ap (λ (b : Bool). cond b 1 0) (put_down-nobody c (rest_of q.state)) in
     record {
       span = own;
       is_committed = p.committed;
       replied = ap Joined at.0;
-      flies = record { part = p; found = find_kept (is_flight_at c own) (begins_at q.span.first) s.parts (put_down q ∷ []) p not_there own_found; committed = refl };
+      flies = record { part = p; found = find_kept (is_flight_at c own) (begins_at q.span.first) s.parts (put_down q ∷ []) p (begins_else c own q.span.first (λ e. differ (e ∙ ap (λ (span : Span). span.first) to.0))) own_found; committed = refl };
       fewer = omega (
         arith,
         sum_by-replaced (flight c) (is_flight_at c other) s.parts (put_down q ∷ []) q (some_pages s.parts sound.placed) (sound.owners q.span.first) other_found,
@@ -332,15 +316,6 @@ apart_result c s own other p q sound own_found other_found differ =
         sum_by-cons (flight c) (put_down q) [],
       );
     }
-  where
-    begins_else : (x : Part) (first : ℕ) → x.span.first ≢ first → begins_at first x ≡ false
-    begins_else x first elsewhere = grind (arith, nat_tests)
-
-    not_there : (x : Part) → is_flight_at c own x ≡ true → begins_at q.span.first x ≡ false
-    not_there x h =
-        let is : x.span ≡ own = span_is x.span own (both_true (is_flight c x.state) _ h).1 in
-        let to : q.span ≡ other = (found_span c other s.parts q other_found).0 in
-        begins_else x q.span.first (λ e. differ (ap (λ (span : Span). span.first) (sym is) ∙ e ∙ ap (λ (span : Span). span.first) to))
 
 merge_answer : (c : ℕ) (s : Space) (own_low : Bool) (low high : Span) (answer : Answer) → Sound s → Pair c s low high → is_yes_or_no answer ≡ true →
     Sound (after_merge s c own_low (Merge low high) answer).after →

@@ -89,11 +89,7 @@ after_reads wish (Growing told) reply h more = ap (λ f. f more) (grown_reads wi
 after_reads wish (GrantCut b told) reply h more = ap (λ f. f more) (grant_cut_reads wish b told reply h)
 after_reads wish (Committing span told) reply h more = ap (λ f. f more) (committed_reads wish span told reply h)
 after_reads wish (Landing span) reply h more = ap (λ f. f more) (landed_reads wish reply h)
-after_reads wish (SkipAsked span b skip) reply h more = absurd h
-after_reads wish (TrimAsked span b) reply h more = absurd h
-after_reads wish GrowAsked reply h more = absurd h
-after_reads wish (GrantAsked span b) reply h more = absurd h
-after_reads wish (CommitAsked span) reply h more = absurd h
+after_reads wish getting reply h more = absurd h
 
 -- the stage of a flow leaves what the flow leaves
 flow_reads : (wish : Wish) (flow : ControlFlow Answered Getting) → rest_after wish flow ≡ rest_of (stage_of wish flow)
@@ -128,13 +124,7 @@ answer-reads (Get wish (TrimAsked span b)) want asked e h more = refl
 answer-reads (Get wish GrowAsked) want asked e h more = refl
 answer-reads (Get wish (GrantAsked span b)) want asked e h more = refl
 answer-reads (Get wish (CommitAsked span)) want asked e h more = refl
-answer-reads (Get wish Looking) want asked e h more = absurd h
-answer-reads (Get wish (SkipCut b told)) want asked e h more = absurd h
-answer-reads (Get wish (TrimCut b told)) want asked e h more = absurd h
-answer-reads (Get wish (Growing told)) want asked e h more = absurd h
-answer-reads (Get wish (GrantCut b told)) want asked e h more = absurd h
-answer-reads (Get wish (Committing span told)) want asked e h more = absurd h
-answer-reads (Get wish (Landing span)) want asked e h more = absurd h
+answer-reads (Get wish getting) want asked e h more = absurd h
 answer-reads (Give held) want asked e h more = absurd h
 answer-reads (Put arena point) want asked e h more = put_reads arena (put_step point (Told asked)) h more
 answer-reads (Ended answer) want asked e h more = absurd (cc)
