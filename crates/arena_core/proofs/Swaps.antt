@@ -1,5 +1,6 @@
 -- Extents that are apart stay apart, with sums that are known, where one or two of them are exchanged.
 use Rattle.std.proofs.Common.{◌≡◌, ◌≢◌, ℕ, ◌+◌, ◌<◌, ◌≤◌, Bool, true, false, not, cond, List, [], ◌∷◌, ◌++◌, find, filter, Option, Some, IfSome, refl, sym, ◌∙◌, ap, subst, arith, All, append_assoc, inl, inr}
+use Rattle.std.specs.Option.{IsSome}
 use Rattle.std.specs.List.{count_by, list_any, sum_by}
 use Rattle.std.proofs.lemmas.Bool.{cases_Bool, cases_lt}
 use Rattle.std.proofs.lemmas.Bool.Decides.{nat_tests}
@@ -274,57 +275,83 @@ split_swaps parts p left keep_low apart there idle some fewer =
 abbrev pub halves : List Part → Part → ℕ → List Part
 halves parts p left = exchanged (begins_at p.span.first) parts (low_piece left p ∷ high_piece left p ∷ [])
 
+-- the piece that is put down, and the other one
+abbrev pub put_piece : Bool → ℕ → Part → Part
+put_piece keep_low left p = cond keep_low (high_piece left p) (low_piece left p)
+
+abbrev pub kept_piece : Bool → ℕ → Part → Part
+kept_piece keep_low left p = cond keep_low (low_piece left p) (high_piece left p)
+
 -- What the calls that put one piece down and the other one behind it find and leave.
-pub record Settles (parts one final : List Part) (a b : Part) : Type 0 where
-  pub first_there : find (begins_at a.span.first) one ≡ Some a
-  pub second_there : find (begins_at b.span.first) (exchanged (begins_at a.span.first) one (put_down a ∷ [])) ≡ Some b
-  pub left : exchanged (begins_at b.span.first) (exchanged (begins_at a.span.first) one (put_down a ∷ [])) (b ∷ []) ≡ final
+record Settles (one final : List Part) (a b : Part) : Type 0 where
+  first_there : find (begins_at a.span.first) one ≡ Some a
+  second_there : find (begins_at b.span.first) (exchanged (begins_at a.span.first) one (put_down a ∷ [])) ≡ Some b
+  left : exchanged (begins_at b.span.first) (exchanged (begins_at a.span.first) one (put_down a ∷ [])) (b ∷ []) ≡ final
 
--- the high piece is put down, and then the low one
-pub low_settles : (parts : List Part) (p : Part) (left : ℕ) → IsApart parts → IsThere parts p → 0 < left → left < p.span.pages →
-    Settles parts (halves parts p left) (exchanged (begins_at p.span.first) parts (pieces_of true left p)) (high_piece left p) (low_piece left p)
-low_settles parts p left apart there some fewer =
-    let low : Part = low_piece left p in
-    let high : Part = high_piece left p in
-    let placed = there_placed parts p apart there in
-    let others : List Part = filter (λ q. not (begins_at p.span.first q)) parts in
-    let cut = (swapped parts (low ∷ high ∷ []) p apart there (two_fill p low high left placed some fewer refl refl).0).apart in
-    let down = (swapped parts (low ∷ put_down high ∷ []) p apart there (two_fill p low (put_down high) left placed some fewer refl refl).0).apart in
-    let one = behind others low high (put_down high) cut (omega arith) in
-    let two = behind others low (put_down high) low down (omega arith) in record {
-      first_there = one.second_there;
-      second_there = ap (find (begins_at low.span.first)) one.second ∙ two.first_there;
-      left = ap (λ xs. exchanged (begins_at low.span.first) xs (low ∷ [])) one.second ∙ two.first;
+settle : (others one : List Part) (a b : Part) → find (begins_at a.span.first) one ≡ Some a → exchanged (begins_at a.span.first) one (put_down a ∷ []) ≡ others ++ b ∷ put_down a ∷ [] →
+    IsApart (others ++ b ∷ put_down a ∷ []) → b.span.first ≢ a.span.first → Settles one (others ++ put_down a ∷ b ∷ []) a b
+settle others one a b there is apart differ =
+    let two = behind others b (put_down a) b apart differ in record {
+      first_there = there;
+      second_there = ap (find (begins_at b.span.first)) is ∙ two.first_there;
+      left = ap (λ xs. exchanged (begins_at b.span.first) xs (b ∷ [])) is ∙ two.first;
     }
 
--- the low piece is put down, and then the high one
-pub high_settles : (parts : List Part) (p : Part) (left : ℕ) → IsApart parts → IsThere parts p → 0 < left → left < p.span.pages →
-    Settles parts (halves parts p left) (exchanged (begins_at p.span.first) parts (pieces_of false left p)) (low_piece left p) (high_piece left p)
-high_settles parts p left apart there some fewer =
+settles : (parts : List Part) (p : Part) (left : ℕ) (keep_low : Bool) → IsApart parts → IsThere parts p → 0 < left → left < p.span.pages →
+    Settles (halves parts p left) (exchanged (begins_at p.span.first) parts (pieces_of keep_low left p)) (put_piece keep_low left p) (kept_piece keep_low left p)
+settles parts p left keep_low apart there some fewer =
     let low : Part = low_piece left p in
     let high : Part = high_piece left p in
-    let placed = there_placed parts p apart there in
     let others : List Part = filter (λ q. not (begins_at p.span.first q)) parts in
-    let cut = (swapped parts (low ∷ high ∷ []) p apart there (two_fill p low high left placed some fewer refl refl).0).apart in
-    let down = (swapped parts (high ∷ put_down low ∷ []) p apart there (two_fill p (put_down low) high left placed some fewer refl refl).1).apart in
-    let one = behind others low high (put_down low) cut (omega arith) in
-    let two = behind others high (put_down low) high down (omega arith) in record {
-      first_there = one.first_there;
-      second_there = ap (find (begins_at high.span.first)) one.first ∙ two.first_there;
-      left = ap (λ xs. exchanged (begins_at high.span.first) xs (high ∷ [])) one.first ∙ two.first;
-    }
+    let fill = λ (a b : Part) (l : a.span ≡ low.span) (h : b.span ≡ high.span). two_fill p a b left (there_placed parts p apart there) some fewer l h in
+    let cut = (swapped parts (low ∷ high ∷ []) p apart there (fill low high refl refl).0).apart in
+    elim keep_low as (λ b. Settles (halves parts p left) (exchanged (begins_at p.span.first) parts (pieces_of b left p)) (put_piece b left p) (kept_piece b left p)) [
+      | true ↦
+          let one = behind others low high (put_down high) cut (omega arith) in
+          let down = swapped parts (low ∷ put_down high ∷ []) p apart there (fill low (put_down high) refl refl).0 in
+          settle others (halves parts p left) high low one.second_there one.second down.apart (omega arith)
+      | false ↦
+          let one = behind others low high (put_down low) cut (omega arith) in
+          let down = swapped parts (high ∷ put_down low ∷ []) p apart there (fill (put_down low) high refl refl).1 in
+          settle others (halves parts p left) low high one.first_there one.first down.apart (omega arith)
+    ]
 
--- The two calls, by what each says of the extent that it found.
-pub settled : (parts one two three final : List Part) (a b : Part) (down : State) → Settles parts one final a b → down ≡ listed (rest_of a.state) →
-    IfSome (find (begins_at a.span.first) one) (λ q. two ≡ exchanged (begins_at a.span.first) one (record q { state = down; committed = a.committed } ∷ [])) →
-    (find (begins_at b.span.first) two ≡ Some b) × (IfSome (find (begins_at b.span.first) two) (λ q. three ≡ exchanged (begins_at b.span.first) two (record q { state = b.state; committed = b.committed } ∷ [])) → three ≡ final)
-settled parts one two three final a b down s is first =
-    let put : Part = put_down a in
-    let two_is : two ≡ exchanged (begins_at a.span.first) one (put ∷ []) =
-    at_some (λ q. two ≡ exchanged (begins_at a.span.first) one (record q { state = down; committed = a.committed } ∷ [])) _ a s.first_there first
-    ∙ ap (λ st. exchanged (begins_at a.span.first) one (record a { state = st } ∷ [])) is in
-    let there : find (begins_at b.span.first) two ≡ Some b = ap (find (begins_at b.span.first)) two_is ∙ s.second_there in (
-      there,
-      λ second. at_some (λ q. three ≡ exchanged (begins_at b.span.first) two (record q { state = b.state; committed = b.committed } ∷ [])) _ b there second
-          ∙ ap (λ xs. exchanged (begins_at b.span.first) xs (b ∷ [])) two_is ∙ s.left,
-    )
+-- what a call says that gives an extent another state: it was found, and comes last
+abbrev pub Restated : List Part → List Part → ℕ → State → Bool → Type 0
+Restated xs ys page state committed = IfSome (find (begins_at page) xs) (λ q. ys ≡ exchanged (begins_at page) xs (record q { state = state; committed = committed } ∷ []))
+
+-- What the two calls after a cut find and leave, where one piece begins at `at.0` and the other one at `at.1`.
+pub record Splits (one last : List Part) (down : State) (at : ℕ × ℕ) (state : State) (committed : Bool) : Type 0 where
+  pub first : IsSome (find (begins_at at.0) one)
+  pub second : (two : List Part) → Restated one two at.0 down committed → IsSome (find (begins_at at.1) two)
+  pub left : (two three : List Part) → Restated one two at.0 down committed → Restated two three at.1 state committed → three ≡ last
+
+pub splits : {one : List Part} {down : State} (parts : List Part) (p : Part) (left : ℕ) (keep_low : Bool) (at : ℕ × ℕ) → IsApart parts → IsThere parts p → 0 < left → left < p.span.pages →
+    IfSome (find (begins_at p.span.first) parts) (λ q. one ≡ exchanged (begins_at p.span.first) parts (low_piece left q ∷ high_piece left q ∷ [])) →
+    down ≡ listed (rest_of p.state) → at ≡ cond keep_low (p.span.first + left, p.span.first) (p.span.first, p.span.first + left) →
+    Splits one (exchanged (begins_at p.span.first) parts (pieces_of keep_low left p)) down at p.state p.committed
+splits {one} {down} parts p left keep_low at apart there some fewer cut down_is at_is =
+    let last : List Part = exchanged (begins_at p.span.first) parts (pieces_of keep_low left p) in
+    let s = settles parts p left keep_low apart there some fewer in
+    let one_is = at_some (λ q. one ≡ exchanged (begins_at p.span.first) parts (low_piece left q ∷ high_piece left q ∷ [])) _ p there cut in
+    by keep_low (subst (λ xs. Settles xs last (put_piece keep_low left p) (kept_piece keep_low left p)) (sym one_is) s) at_is
+  where
+    halves_split : (last : List Part) (a b : Part) → Settles one last a b → a.committed ≡ b.committed → down ≡ listed (rest_of a.state) → at ≡ (a.span.first, b.span.first) →
+        Splits one last down at b.state b.committed
+    halves_split last a b s same down_is at_is =
+        let restate = λ (xs ys : List Part) (state : State) (q x : Part). ys ≡ exchanged (begins_at q.span.first) xs (record x { state = state; committed = b.committed } ∷ []) in
+        let two_is = λ (two : List Part) (h : Restated one two a.span.first (listed (rest_of a.state)) b.committed).
+        at_some (restate one two (listed (rest_of a.state)) a) _ a s.first_there h
+        ∙ ap (λ c. exchanged (begins_at a.span.first) one (record a { state = listed (rest_of a.state); committed = c } ∷ [])) (sym same) in
+        let second = λ (two : List Part) (h : Restated one two a.span.first (listed (rest_of a.state)) b.committed). ap (find (begins_at b.span.first)) (two_is two h) ∙ s.second_there in
+        subst (λ d. Splits one last d at b.state b.committed) (sym down_is) (subst (λ x. Splits one last (listed (rest_of a.state)) x b.state b.committed) (sym at_is) (record {
+          first = rw s.first_there refl;
+          second = λ two h. rw (second two h) refl;
+          left = λ two three h k. at_some (restate two three b.state b) _ b (second two h) k ∙ ap (λ xs. exchanged (begins_at b.span.first) xs (b ∷ [])) (two_is two h) ∙ s.left;
+        }))
+
+    by : (k : Bool) → Settles one (exchanged (begins_at p.span.first) parts (pieces_of k left p)) (put_piece k left p) (kept_piece k left p) →
+        at ≡ cond k (p.span.first + left, p.span.first) (p.span.first, p.span.first + left) →
+        Splits one (exchanged (begins_at p.span.first) parts (pieces_of k left p)) down at p.state p.committed
+    by true s at_is = halves_split _ (high_piece left p) (low_piece left p) s refl down_is at_is
+    by false s at_is = halves_split _ (low_piece left p) (high_piece left p) s refl down_is at_is

@@ -255,13 +255,8 @@ fn split_in(book: &mut PartBook, part: &Part, left: u64, keep_low: bool)
 {
     let low = part.span.first;
     let high = low + left;
-    let down = part.state.rest().state();
+    let (down, kept) = if keep_low { (high, low) } else { (low, high) };
     book.cut(low, left);
-    if keep_low {
-        book.set_state(high, down, part.committed);
-        book.set_state(low, part.state, part.committed);
-    } else {
-        book.set_state(low, down, part.committed);
-        book.set_state(high, part.state, part.committed);
-    }
+    book.set_state(down, listed(rest_of(part.state)), part.committed);
+    book.set_state(kept, part.state, part.committed);
 }
