@@ -86,7 +86,7 @@ in_flight c s span p sound found =
 
 -- what is the client's flight goes where it says
 flight_state : (c : ℕ) (state : State) → is_flight c state ≡ true → state ≡ Flight c (rest_of state)
-flight_state c (Flight d rest) h = let same : d ≡ c = eqb-true d c h in ap (λ e. Flight e rest) same
+flight_state c (Flight d rest) h = ap (λ e. Flight e rest) (eqb-true d c h)
 flight_state c Active h = absurd (cc)
 flight_state c Dirty h = absurd (cc)
 flight_state c Muzzy h = absurd (cc)

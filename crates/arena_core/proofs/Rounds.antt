@@ -1,8 +1,9 @@
 -- Regions that are given back one after the other, by rising addresses, leave what they leave when given back at once.
-use Rattle.std.proofs.Common.{◌≡◌, ℕ, ◌+◌, ◌*◌, ◌<◌, ◌≤◌, Bool, true, false, not, IsTrue, List, [], ◌∷◌, ◌++◌, append_assoc, append-nil, length, get_or, filter, fold, refl, sym, ◌∙◌, ap, subst, arith, All, ◌&&◌, ◌||◌, eqb, leb as nat_le, ltb as nat_lt, inl, inr}
+use Rattle.std.proofs.Common.{◌≡◌, ℕ, ◌+◌, ◌*◌, ◌<◌, ◌≤◌, Bool, true, false, not, IsTrue, List, [], ◌∷◌, ◌++◌, append_assoc, append-nil, length, get_or, filter, fold, refl, sym, ◌∙◌, ap, subst, arith, All, ◌&&◌, ◌||◌, eqb, leb as nat_le, ltb as nat_lt, inl, inr, drop, add-one, drop-cons}
 use Rattle.std.specs.List.{count_by, list_all, list_any, position_or_len, sum_by}
 use Rattle.std.proofs.lemmas.Bool.{cases_Bool, cases_lt, not-true}
 use Rattle.std.proofs.lemmas.Bool.Decides.{nat_tests}
+use Rattle.std.proofs.lemmas.List.{drop_all}
 use Rattle.std.proofs.lemmas.List.Elements.{All-cons, All-filter, All-head, All-nil, All-tail, All-weaker, filter-append, filter_passes}
 use Rattle.std.proofs.lemmas.List.Filters.{length-filter_both, sum_by-filter_both}
 use Rattle.std.proofs.lemmas.List.Sums.{get_or-le-sum_by, sum_by-cons}
@@ -274,14 +275,24 @@ pub record Left (c : ℕ) (rest all : List ℕ) (start s : Space) (emptied : ℕ
   pub after : (after_back s c rest).after ≡ (after_back start c all).after
   pub count : emptied + length (filter (is_emptied (staying c rest s.regions)) s.parts) ≡ length (filter (is_emptied (staying c all start.regions)) start.parts)
 
--- the first of them is held
-pub left_held : (c addr : ℕ) (rest all : List ℕ) (start s : Space) (n : ℕ) → Left c (addr ∷ rest) all start s n → holds_at c s.regions addr ≡ true
-left_held c addr rest all start s n left = (both_true (holds_at c s.regions addr) (list_all (holds_at c s.regions) rest) left.held).0
+-- ---- as a loop cites them, at place `i` of the addresses
+
+-- what is left is the address there and the others
+left_at : {c i : ℕ} {all : List ℕ} {start s : Space} {n : ℕ} → Left c (drop i all) all start s n → i < length all → Left c (get_or all i 0 ∷ drop (i + 1) all) all start s n
+left_at {c} {i} {all} {start} {s} {n} left h = subst (λ xs. Left c xs all start s n) (drop-cons all i 0 h ∙ ap (λ j. get_or all i 0 ∷ drop j all) (sym (add-one i))) left
+
+-- it is held
+pub left_held : {c i : ℕ} {all : List ℕ} {start s : Space} {n : ℕ} → Left c (drop i all) all start s n → i < length all → holds_at c s.regions (get_or all i 0) ≡ true
+left_held {c} {i} {all} {start} {s} {n} left h =
+    (both_true (holds_at c s.regions (get_or all i 0)) (list_all (holds_at c s.regions) (drop (i + 1) all)) (left_at left h).held).0
 
 -- it is given back
-pub left_step : (c addr : ℕ) (rest all : List ℕ) (start s one : Space) (n k : ℕ) → Left c (addr ∷ rest) all start s n → one ≡ (after_back s c (addr ∷ [])).after →
-    k ≡ length (filter (is_emptied (staying c (addr ∷ []) s.regions)) s.parts) → Left c rest all start one (n + k)
-left_step c addr rest all start s one n k left is counted =
+pub left_step : {c i : ℕ} {all : List ℕ} {start s one : Space} {n k : ℕ} → Left c (drop i all) all start s n → i < length all → one ≡ (after_back s c (get_or all i 0 ∷ [])).after →
+    k ≡ length (filter (is_emptied (staying c (get_or all i 0 ∷ []) s.regions)) s.parts) → Left c (drop (i + 1) all) all start one (n + k)
+left_step {c} {i} {all} {start} {s} {one} {n} {k} old h is counted =
+    let addr = get_or all i 0 in
+    let rest : List ℕ = drop (i + 1) all in
+    let left = left_at old h in
     let held = both_true (holds_at c s.regions addr) (list_all (holds_at c s.regions) rest) left.held in
     let rises = (both_true (nat_le 0 addr) (rises_from (addr + 1) rest) left.rises).1 in
     let above : All (λ a. addr < a) rest = All-weaker (λ a. addr + 1 ≤ a) (λ a. addr < a) (λ a le. omega arith) rest (rising (addr + 1) rest rises) in
@@ -302,6 +313,8 @@ left_step c addr rest all start s one n k left is counted =
     live_is (Dying d) h = absurd (cc)
 
 -- none is left
-pub left_end : (c : ℕ) (all : List ℕ) (start s : Space) (n : ℕ) → Left c [] all start s n →
+pub left_end : {c i : ℕ} {all : List ℕ} {start s : Space} {n : ℕ} → Left c (drop i all) all start s n → length all ≤ i →
     (s ≡ (after_back start c all).after) × (n ≡ length (filter (is_emptied (staying c all start.regions)) start.parts))
-left_end c all start s n left = let none = no_round c s left.sound in (sym none.0 ∙ left.after, omega (arith, none.1, left.count))
+left_end {c} {i} {all} {start} {s} {n} old h =
+    let left = subst (λ xs. Left c xs all start s n) (drop_all i all h) old in
+    let none = no_round c s left.sound in (sym none.0 ∙ left.after, omega (arith, none.1, left.count))
