@@ -17,6 +17,8 @@ use Rattle.space_model.specs.Sound.{Sound, is_in_flight}
 use Rattle.space_model.proofs.Sums.{bytes_le, bytes_pages, mapped_sum, whole_sum}
 use Rattle.part_book.specs.Books.{pages_of}
 use Rattle.arena_core.specs.Extents.{active_pages, all_pages}
+use Rattle.arena_core.specs.declared.indexes.Indexes.{Indexes}
+use Rattle.arena_core.specs.Indexes.{space_of}
 
 -- the pages of an extent whose state passes, or none
 abbrev pages_if : (State → Bool) → Part → ℕ
@@ -66,6 +68,12 @@ summed s sound = record {
   mapped = mapped_sum s.parts;
   fits = omega (arith, bytes_le s sound, bytes_pages s.parts);
 }
+
+-- the pages of an arena's extents are few, and those of each kind are among them
+pub pages_few : (i : Indexes) → Sound (space_of i) →
+    (active_pages i.extents.parts + pages_of ToDirty i.extents.parts + pages_of ToMuzzy i.extents.parts + pages_of ToRetained i.extents.parts ≤ all_pages i.extents.parts)
+    × (4096 * all_pages i.extents.parts ≤ 2 ^ 37)
+pages_few i sound = let sums = summed (space_of i) sound in (omega arith, sums.fits)
 
 -- no extent meets what lies past all chunks
 pub none_past : (s : Space) (chunk : ℕ) → Sound s → 65535 < chunk → list_any (λ p. meets p.span (chunk_span chunk)) s.parts ≡ false

@@ -12,6 +12,7 @@ use size_classes::PAGE_BYTES;
 use space_model::{CHUNK_PAGES, CHUNKS, Counts, Rest, Span};
 
 /// The counts: sums that are kept, and no scan.
+#[tactic(auto, using(crate::proofs::Totals::pages_few))]
 pub fn counts(indexes: &Indexes) -> Counts
     requires { Sound (space_of indexes.now) }
     ensures { result ≡ counts_of (space_of indexes.now) }

@@ -6,33 +6,6 @@ use Rattle.arena_core.specs.Indexes.{space_of}
 use Rattle.arena_core.proofs.Totals.{summed}
 use Rattle.arena_core.proofs.readers.counts.Goals as goal
 
-pub overflow_mul-active : goal.overflow_mul-active
-overflow_mul-active c = omega (arith, summed (space_of c.args.indexes.now) c.requires)
-
-pub overflow_mul-dirty : goal.overflow_mul-dirty
-overflow_mul-dirty c = omega (arith, summed (space_of c.args.indexes.now) c.requires)
-
-pub overflow_mul-muzzy : goal.overflow_mul-muzzy
-overflow_mul-muzzy c = omega (arith, summed (space_of c.args.indexes.now) c.requires)
-
-pub overflow_mul-retained : goal.overflow_mul-retained
-overflow_mul-retained c = omega (arith, summed (space_of c.args.indexes.now) c.requires)
-
-pub overflow_mul-mapped : goal.overflow_mul-mapped
-overflow_mul-mapped c = omega (arith, summed (space_of c.args.indexes.now) c.requires)
-
-pub overflow_sub-mapped : goal.overflow_sub-mapped
-overflow_sub-mapped c = omega (arith, summed (space_of c.args.indexes.now) c.requires)
-
-pub overflow_add-result : goal.overflow_add-result
-overflow_add-result c = omega (arith, summed (space_of c.args.indexes.now) c.requires)
-
-pub overflow_add-result-2 : goal.overflow_add-result-2
-overflow_add-result-2 c = omega (arith, summed (space_of c.args.indexes.now) c.requires)
-
-pub overflow_sub-result : goal.overflow_sub-result
-overflow_sub-result c = omega (arith, summed (space_of c.args.indexes.now) c.requires)
-
 pub returns : goal.returns
 returns c =
     let sums = summed (space_of c.args.indexes.now) c.requires in
