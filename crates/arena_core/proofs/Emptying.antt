@@ -12,7 +12,7 @@ use Rattle.ordered_set.proofs.Sorted.{filter_none}
 use Rattle.space_model.specs.declared.parts.Part.{Part}
 use Rattle.space_model.specs.declared.parts.Region.{Region}
 use Rattle.space_model.specs.declared.spaces.Space.{Space}
-use Rattle.space_model.specs.Span.{IsPlaced, has_page}
+use Rattle.space_model.specs.Span.{IsPlaced, has_page, pages_end}
 use Rattle.space_model.specs.Part.{begins_at, exchanged, holders, is_active, taken_out}
 use Rattle.space_model.specs.Region.{covers, homes, houses, is_held_by, residents}
 use Rattle.space_model.specs.Step.{after_back, holds_at, is_emptied, is_given_back, staying, taken_in_order}
@@ -236,8 +236,8 @@ given_parts c addr s p e b is =
 -- ---- as a program reads it, which found an extent at the address, and asked whether one of the regions that stay begins in it
 
 -- what was found lies in the space
-pub found_placed : {o : Option Part} {p : Part} (test : Part → Bool) (s : Space) → Sound s → o ≡ find test s.parts → o ≡ Some p → IsPlaced p.span
-found_placed {o} {p} test s sound searched found = find_has (λ q. IsPlaced q.span) test s.parts p sound.placed (sym searched ∙ found)
+pub found_fits : {o : Option Part} {p : Part} (addr : ℕ) (s : Space) → Sound s → o ≡ find (λ q. has_page (addr / 4096) q.span) s.parts → o ≡ Some p → p.span.first + p.span.pages ≤ pages_end
+found_fits {o} {p} addr s sound searched found = (find_has (λ q. IsPlaced q.span) (λ q. has_page (addr / 4096) q.span) s.parts p sound.placed (sym searched ∙ found)).2
 
 -- What the return then comes to: how many extents are emptied, and the extents afterwards.
 pub record Gives (c addr : ℕ) (s : Space) (p : Part) (within : Bool) : Type 0 where

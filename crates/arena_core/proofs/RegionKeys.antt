@@ -55,7 +55,7 @@ lies_below high None = false
 lies_below high (Some k) = nat_lt k.major high
 
 -- the first key from an address on tells whether there is one in a range
-pub within_is : (low high : ℕ) (ks : List Key) → IsAscending ks → lies_below high (find (is_from (start low)) ks) ≡ list_any (begins_within low high) (map region_of ks)
+within_is : (low high : ℕ) (ks : List Key) → IsAscending ks → lies_below high (find (is_from (start low)) ks) ≡ list_any (begins_within low high) (map region_of ks)
 unfolding IsStrictlySortedBy
 within_is low high [] ascending = refl
 within_is low high (k ∷ ks) ascending =
@@ -206,6 +206,11 @@ pub take_inside : {ks : List Key} {rs : List Region} (c addr : ℕ) → IsAscend
     (key : Key) × Taken c addr ks key
 take_inside {ks} c addr ascending view alone held =
     take_is c addr ks ascending (subst (λ (xs : List Region). count_by (is_at addr) xs ≤ 1) (sym view) alone) (ap (λ (xs : List Region). holds_at c xs addr) view ∙ held)
+
+-- a search from an address on tells whether a region begins in a range
+pub within_inside : {rs : List Region} {o : Option Key} (low high : ℕ) (ks : List Key) → IsAscending ks → map region_of ks ≡ rs → o ≡ find (is_from (start low)) ks →
+    lies_below high o ≡ list_any (begins_within low high) rs
+within_inside low high ks ascending view found = ap (lies_below high) found ∙ within_is low high ks ascending ∙ ap (list_any (begins_within low high)) view
 
 -- What the key that was found at the address of a client's region is.
 pub record Goes (c addr : ℕ) (ks : List Key) (rs : List Region) (key : Key) : Type 0 where

@@ -189,8 +189,7 @@ keeps_all t (x ∷ xs) none = grind (arith, keeps_all t xs)
 exchanged_behind : (t : Part → Bool) (others tail pieces : List Part) → filter t others ≡ [] →
     exchanged t (others ++ tail) pieces ≡ others ++ exchanged t tail pieces
 exchanged_behind t others tail pieces none =
-    ap (λ xs. xs ++ pieces) (filter-append (λ x. not (t x)) others tail ∙ ap (λ xs. xs ++ filter (λ x. not (t x)) tail) (keeps_all t others none))
-    ∙ append_assoc others (filter (λ x. not (t x)) tail) pieces
+    cc (filter-append (λ x. not (t x)) others tail, keeps_all t others none, append_assoc others (filter (λ x. not (t x)) tail) pieces)
 
 -- where the last two extents begin at different pages, none of the others begins as one of them
 cleared : (page : ℕ) (others tail : List Part) → IsApart (others ++ tail) → count_by (begins_at page) tail ≡ 1 → filter (begins_at page) others ≡ []
@@ -207,16 +206,14 @@ pub record Behind (others : List Part) (a b x : Part) : Type 0 where
 
 pub behind : (others : List Part) (a b x : Part) → IsApart (others ++ a ∷ b ∷ []) → a.span.first ≢ b.span.first → Behind others a b x
 behind others a b x apart differ =
-    let aa : begins_at a.span.first a ≡ true = grind (arith, nat_tests) in
-    let ab : begins_at a.span.first b ≡ false = grind (arith, nat_tests) in
-    let ba : begins_at b.span.first a ≡ false = grind (arith, nat_tests) in
-    let bb : begins_at b.span.first b ≡ true = grind (arith, nat_tests) in
-    let a_none = cleared a.span.first others (a ∷ b ∷ []) apart (rw (aa, ab) refl) in
-    let b_none = cleared b.span.first others (a ∷ b ∷ []) apart (rw (ba, bb) refl) in record {
-      first_there = find_behind (begins_at a.span.first) others (a ∷ b ∷ []) a_none ∙ rw aa refl;
-      first = exchanged_behind (begins_at a.span.first) others (a ∷ b ∷ []) (x ∷ []) a_none ∙ ap (λ xs. others ++ xs) (rw (aa, ab) refl);
-      second_there = find_behind (begins_at b.span.first) others (a ∷ b ∷ []) b_none ∙ rw (ba, bb) refl;
-      second = exchanged_behind (begins_at b.span.first) others (a ∷ b ∷ []) (x ∷ []) b_none ∙ ap (λ xs. others ++ xs) (rw (ba, bb) refl);
+    let t = begins_at a.span.first in
+    let u = begins_at b.span.first in
+    let a_none = cleared a.span.first others (a ∷ b ∷ []) apart (grind (arith, nat_tests)) in
+    let b_none = cleared b.span.first others (a ∷ b ∷ []) apart (grind (arith, nat_tests)) in record {
+      first_there = grind (arith, nat_tests, find_behind t others (a ∷ b ∷ []) a_none);
+      first = grind (arith, nat_tests, exchanged_behind t others (a ∷ b ∷ []) (x ∷ []) a_none);
+      second_there = grind (arith, nat_tests, find_behind u others (a ∷ b ∷ []) b_none);
+      second = grind (arith, nat_tests, exchanged_behind u others (a ∷ b ∷ []) (x ∷ []) b_none);
     }
 
 -- ---- as functions cite them

@@ -1,4 +1,4 @@
-use Rattle.std.proofs.Common.{◌≡◌, ◌∙◌, ◌+◌, ◌<◌, cond, arith, ap}
+use Rattle.std.proofs.Common.{◌∙◌, arith, ap}
 use Rattle.space_model.specs.Part.{listed}
 use Rattle.arena_core.proofs.Swaps.{splits, there_placed}
 use Rattle.arena_core.proofs.extents.split_in.Goals as goal

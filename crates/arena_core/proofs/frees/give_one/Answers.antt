@@ -1,9 +1,8 @@
-use Rattle.std.proofs.Common.{◌∙◌, ◌∷◌, [], ◌/◌, arith, ap, refl}
+use Rattle.std.proofs.Common.{◌∙◌, ◌∷◌, [], arith, ap, refl}
 use Rattle.space_model.specs.declared.parts.State.TheVariants.{Flight}
-use Rattle.space_model.specs.Span.{has_page}
 use Rattle.space_model.specs.Part.{begins_at, exchanged}
 use Rattle.arena_core.specs.Indexes.{space_of}
-use Rattle.arena_core.proofs.Emptying.{begins_alone, empties, found_placed, gives}
+use Rattle.arena_core.proofs.Emptying.{begins_alone, empties, found_fits, gives}
 use Rattle.arena_core.proofs.frees.give_one.Goals as goal
 
 pub take-requires-clause-alone : goal.take-requires-clause-alone
@@ -15,19 +14,13 @@ unwrap-part-requires c =
     rw (c.holding.ensures.holds ∙ e.1.found) refl
 
 pub overflow_mul-low : goal.overflow_mul-low
-overflow_mul-low c =
-    let placed = found_placed (λ q. has_page (c.args.addr / 4096) q.span) (space_of c.args.indexes.now) c.requires.sound c.holding.ensures.holds c.unwrap-part.ensures in
-    omega (arith, placed.2)
+overflow_mul-low c = omega (arith, found_fits c.args.addr (space_of c.args.indexes.now) c.requires.sound c.holding.ensures.holds c.unwrap-part.ensures)
 
 pub overflow_mul-high : goal.overflow_mul-high
-overflow_mul-high c =
-    let placed = found_placed (λ q. has_page (c.args.addr / 4096) q.span) (space_of c.args.indexes.now) c.requires.sound c.holding.ensures.holds c.unwrap-part.ensures in
-    omega (arith, placed.2)
+overflow_mul-high c = omega (arith, found_fits c.args.addr (space_of c.args.indexes.now) c.requires.sound c.holding.ensures.holds c.unwrap-part.ensures)
 
 pub overflow_add-high : goal.overflow_add-high
-overflow_add-high c =
-    let placed = found_placed (λ q. has_page (c.args.addr / 4096) q.span) (space_of c.args.indexes.now) c.requires.sound c.holding.ensures.holds c.unwrap-part.ensures in
-    omega (arith, placed.2)
+overflow_add-high c = omega (arith, found_fits c.args.addr (space_of c.args.indexes.now) c.requires.sound c.holding.ensures.holds c.unwrap-part.ensures)
 
 pub returns-then-emptied-clause-after : goal.returns-then-emptied-clause-after
 returns-then-emptied-clause-after c =
