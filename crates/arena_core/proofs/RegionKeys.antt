@@ -187,19 +187,6 @@ pub free_keys : (addr : ℕ) (ks : List Key) → list_any (is_at addr) (map regi
 free_keys addr [] none = tt
 free_keys addr (k ∷ ks) none = (grind (arith, nat_tests), free_keys addr ks (grind arith))
 
--- the regions after a key was inserted
-pub inserted_is : (r : Region) (ks new : List Key) (key : Key) → new ≡ with_key ks key → key ≡ key_of r → r.class < 121 → IsAscending ks →
-    list_any (is_at r.addr) (map region_of ks) ≡ false → map region_of new ≡ inserted r (map region_of ks)
-inserted_is r ks new key with_it is small ascending none =
-    ap (map region_of) with_it
-    ∙ ap (λ k. map region_of (with_key ks k)) is
-    ∙ insert_is r ks ascending (free_keys r.addr ks none)
-    ∙ ap (λ q. inserted q (map region_of ks)) (region_is r small)
-
--- the bytes with one more region
-pub bytes_with : (r : Region) (rs : List Region) → region_bytes (inserted r rs) ≡ region_bytes rs + size_at r.class
-bytes_with r rs = sum_by-insert (λ (q : Region). size_at q.class) rs (position_or_len (λ (q : Region). nat_lt r.addr q.addr) rs) r
-
 -- ---- as functions cite them, of keys whose regions are `rs`
 
 pub take_inside : {ks : List Key} {rs : List Region} (c addr : ℕ) → IsAscending ks → map region_of ks ≡ rs → count_by (is_at addr) rs ≤ 1 → holds_at c rs addr ≡ true →
@@ -236,4 +223,22 @@ goes {ks} {rs} {o} {key} c addr ascending view alone held classes searched found
       class = All-head (λ r. r.class < 121) (region_of key) [] (subst (All (λ r. r.class < 121)) t.gone one);
       kept = t.kept ∙ ap (staying c (addr ∷ [])) view;
       bytes = omega (arith, kept, gone, sum_by-cons size (region_of key) [], sum_by-filter_both given (λ r. not (given r)) (λ _. refl) size (map region_of ks));
+    }
+
+-- What inserting the key of a region leaves.
+pub record Put (r : Region) (ks new : List Key) (rs : List Region) : Type 0 where
+  pub regions : map region_of new ≡ inserted r rs
+  pub bytes : region_bytes (map region_of new) ≡ region_bytes (map region_of ks) + size_at r.class
+
+pub puts : {ks new : List Key} {rs : List Region} {key : Key} (r : Region) → IsAscending ks → map region_of ks ≡ rs → new ≡ with_key ks key → key ≡ key_of r → r.class < 121 →
+    list_any (is_at r.addr) rs ≡ false → Put r ks new rs
+puts {ks} {new} {rs} {key} r ascending view with_it is small none =
+    let free = free_keys r.addr ks (ap (list_any (is_at r.addr)) view ∙ none) in
+    let moved : map region_of new ≡ inserted r (map region_of ks) =
+    ap (map region_of) with_it
+    ∙ ap (λ k. map region_of (with_key ks k)) is
+    ∙ insert_is r ks ascending free
+    ∙ ap (λ q. inserted q (map region_of ks)) (region_is r small) in record {
+      regions = moved ∙ ap (inserted r) view;
+      bytes = ap region_bytes moved ∙ sum_by-insert (λ (q : Region). size_at q.class) (map region_of ks) (position_or_len (λ (q : Region). nat_lt r.addr q.addr) (map region_of ks)) r;
     }

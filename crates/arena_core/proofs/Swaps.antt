@@ -4,8 +4,8 @@ use Rattle.std.specs.Option.{IsSome}
 use Rattle.std.specs.List.{count_by, list_any, sum_by}
 use Rattle.std.proofs.lemmas.Bool.{cases_Bool, cases_lt}
 use Rattle.std.proofs.lemmas.Bool.Decides.{nat_tests}
-use Rattle.std.proofs.lemmas.List.Sums.{sum_by-append, sum_by-cons, sum_by-le-sum_by}
-use Rattle.std.proofs.lemmas.List.Elements.{All-append, All-cons, All-head, All-nil, All-tail, All-weaker, filter-append}
+use Rattle.std.proofs.lemmas.List.Sums.{sum_by-append, sum_by_push, sum_by-cons, sum_by-le-sum_by}
+use Rattle.std.proofs.lemmas.List.Elements.{All-cons, All-head, All-nil, All-push, All-tail, All-weaker, filter-append}
 use Rattle.space_model.specs.declared.parts.Part.{Part}
 use Rattle.space_model.specs.declared.parts.Span.{Span}
 use Rattle.space_model.specs.declared.parts.State.{State}
@@ -147,13 +147,6 @@ joined_swaps parts p q apart low high alike =
 
 -- ---- a new extent
 
--- extents stay apart with a new one
-pub added_apart : (parts : List Part) (p : Part) → IsApart parts → IsPlaced p.span → ((page : ℕ) → holders page (parts ++ p ∷ []) ≤ 1) → IsApart (parts ++ p ∷ [])
-added_apart parts p apart placed owners = record {
-  placed = All-append (λ x. IsPlaced x.span) parts (p ∷ []) apart.placed (All-cons (λ x. IsPlaced x.span) p [] placed (All-nil (λ x. IsPlaced x.span)));
-  owners = owners;
-}
-
 -- two spans that aren't empty and meet have a page in common
 common_page : (s t : Span) → 0 < s.pages → 0 < t.pages → meets s t ≡ true → (page : ℕ) × (has_page page s ≡ true) × (has_page page t ≡ true)
 common_page s t some other h = elim (cases_lt s.first t.first) [
@@ -174,6 +167,23 @@ none_meets (q ∷ qs) p placed some owners =
           let both = common_page q.span p.span (All-head P q qs placed).0 some t in
           absurd (grind (arith, sum_by-cons (share both.0) q qs, owners both.0, both.1, both.2))
     ]
+
+-- What a new extent that serves no region leaves: no other one meets it, all are apart, and the sums grow by its pages.
+pub record Added (parts : List Part) (p : Part) : Type 0 where
+  pub alone : list_any (λ q. meets q.span p.span) parts ≡ false
+  pub apart : IsApart (parts ++ p ∷ [])
+  pub active : active_pages (parts ++ p ∷ []) ≡ active_pages parts
+  pub pages : all_pages (parts ++ p ∷ []) ≡ all_pages parts + p.span.pages
+
+pub added : {b now : Book} (p : Part) → b ≡ now → IsApart b.parts → is_active p.state ≡ false → IsPlaced p.span → ((page : ℕ) → holders page (now.parts ++ p ∷ []) ≤ 1) → Added b.parts p
+added {b} p view apart idle placed most =
+    let owners = subst (λ (x : Book). (page : ℕ) → holders page (x.parts ++ p ∷ []) ≤ 1) (sym view) most in
+    let sums = λ (f : Part → ℕ). sum_by_push f b.parts p in record {
+      alone = none_meets b.parts p apart.placed placed.0 (λ page. omega (arith, owners page, sums (share page)));
+      apart = record { placed = All-push (λ x. IsPlaced x.span) b.parts p apart.placed placed; owners = owners };
+      active = grind (arith, sums serving, idle);
+      pages = sums pages;
+    }
 
 -- ---- a cut in three calls
 

@@ -20,9 +20,6 @@ loop-addr-init c = record {
 pub give_one-requires-clause-held : goal.give_one-requires-clause-held
 give_one-requires-clause-held c = left_held c.loop-addr.invariant.rest c.loop-addr-test.true
 
-pub give_one-requires-clause-sound : goal.give_one-requires-clause-sound
-give_one-requires-clause-sound c = c.loop-addr.invariant.rest.sound
-
 pub returns-clause-after : goal.returns-clause-after
 returns-clause-after c = (left_end {i = c.loop-addr.addr-index} {all = c.args.addrs.now} c.loop-addr.invariant.rest (omega arith)).0
 
