@@ -27,7 +27,7 @@ use Rattle.part_book.specs.Lists.{CanList}
 use Rattle.part_book.specs.Rows.{IsApart, IsFirsts, Row, is_edge, key_of, part_at, row_at, span_of, spans_in}
 use Rattle.part_book.specs.Tables.{IsTable, Keeps, parts_of, rows_of}
 use Rattle.part_book.proofs.Chunks.{contains_kept, contains_new}
-use Rattle.part_book.proofs.Indexes.{IsLeafed, keeps, parts_in}
+use Rattle.part_book.proofs.Indexes.{IsLeafed, in_slot, keeps, parts_in}
 use Rattle.part_book.proofs.Lists.{all_from, bit, count_some, find_none, map_has, map_same}
 use Rattle.part_book.proofs.Parts.{edge_has}
 use Rattle.part_book.proofs.Rowed.{apart_more, page_meets, row_placed}
@@ -40,7 +40,8 @@ pub record IsFresh (t : Table) (rows : List Row) (row : Row) : Type 0 where
   pub slot : row.number < vec_len t.slots
 
 -- the number that was popped off the free ones is fresh
-pub fresh : (t : Table) (part : Part) (front : List ℕ) (o : Option ℕ) (number : ℕ) → IsTable t (rows_of t) → t.free.items ≡ front ++ option_to_list o → o ≡ Some number → IsPlaced part.span → All (λ p. meets p.span part.span ≡ false) (parts_of t) → IsFresh t (rows_of t) (record { number = number; part = part })
+pub fresh : (t : Table) (part : Part) (front : List ℕ) (o : Option ℕ) (number : ℕ) → IsTable t (rows_of t) → t.free.items ≡ front ++ option_to_list o → o ≡ Some number →
+    IsPlaced part.span → All (λ p. meets p.span part.span ≡ false) (parts_of t) → IsFresh t (rows_of t) (record { number = number; part = part })
 fresh t part front o number i free is placed apart =
     let all = i.free number in
     let last = ap (count_by (λ n. eqb n number)) (free ∙ ap (λ x. front ++ option_to_list x) is) ∙ sum_by_push (λ n. bit (eqb n number)) front number in
@@ -60,9 +61,6 @@ span_apart p q placed_p placed_q f =
     let some_q = placed_q.0 in
     elim (cases_lt q.span.first (p.span.first + p.span.pages)) [ inl l ↦ inr (grind (arith, nat_tests)) | inr g ↦ inl g ]
 
-filter_shorter : {X : Type 0} (test : X → Bool) (xs : List X) → length (filter test xs) ≤ length xs
-filter_shorter test xs = omega (arith, length-filter test xs, count_by-le-length test xs)
-
 -- a page has the number of the extent whose first or last page it is
 pub edge_test : (p : Part) (page : ℕ) → IsPlaced p.span → is_edge page p ≡ (eqb page (end_of p.span - 1) || eqb page p.span.first)
 edge_test p page placed = let some = placed.0 in grind (arith, nat_tests)
@@ -71,7 +69,11 @@ pub twice : (a b : Bool) (x y : Option ℕ) → cond a x (cond b x y) ≡ cond (
 twice true b x y = refl
 twice false b x y = refl
 
-numbers_more : (m : map_of.FinMap nat_cmp ℕ) (p : Part) (number page : ℕ) → IsPlaced p.span → map_of.get (map_of.insert (map_of.insert m p.span.first number) (end_of p.span - 1) number) page ≡ cond (is_edge page p) (Some number) (map_of.get m page)
+-- a map with a number for the first and the last page of an extent
+abbrev pub with_edges : map_of.FinMap nat_cmp ℕ → Part → ℕ → map_of.FinMap nat_cmp ℕ
+with_edges m p number = map_of.insert (map_of.insert m p.span.first number) (end_of p.span - 1) number
+
+numbers_more : (m : map_of.FinMap nat_cmp ℕ) (p : Part) (number page : ℕ) → IsPlaced p.span → map_of.get (with_edges m p number) page ≡ cond (is_edge page p) (Some number) (map_of.get m page)
 numbers_more m p number page placed =
     simp (map_of.get-insert {X = ℕ} nat_cmp_total, unsigned_tied) (
     twice (eqb page (end_of p.span - 1)) (eqb page p.span.first) (Some number) (map_of.get m page)
@@ -86,14 +88,10 @@ leaves_new s first last e = rw e (contains_kept (set.insert s first) last first 
 
 -- a list of the rows that pass gets the new one if it passes
 more : {X : Type 0} (h : Row → X) (test : Row → Bool) (rows : List Row) (row : Row) → map h (filter test (rows ++ row ∷ [])) ≡ map h (filter test rows) ++ cond (test row) (h row ∷ []) []
-more {X} h test rows row =
+more h test rows row =
     ap (map h) (filter-append test rows (row ∷ []))
     ∙ map-append h (filter test rows) (filter test (row ∷ []))
-    ∙ ap (λ xs. map h (filter test rows) ++ xs) (one (test row))
-  where
-    one : (b : Bool) → map h (cond b (row ∷ []) []) ≡ cond b (h row ∷ []) []
-    one true = refl
-    one false = refl
+    ∙ elim (cases_Bool (test row)) [ inl t ↦ rw t refl | inr f ↦ rw f refl ]
 
 -- each index of the second table has the extent besides
 pub record IsAdded (t u : Table) (row : Row) : Type 0 where
@@ -103,7 +101,7 @@ pub record IsAdded (t u : Table) (row : Row) : Type 0 where
   pub retained : u.retained.spans ≡ t.retained.spans ++ cond (is_listed ToRetained row.part.state) (span_of row ∷ []) []
   pub flights : u.flights.items ≡ t.flights.items ++ cond (is_in_flight row.part.state) (row.number ∷ []) []
   pub firsts : u.firsts.keys ≡ with_key t.firsts.keys (key_of row)
-  pub numbers : u.edges.numbers ≡ map_of.insert (map_of.insert t.edges.numbers row.part.span.first row.number) (end_of row.part.span - 1) row.number
+  pub numbers : u.edges.numbers ≡ with_edges t.edges.numbers row.part row.number
   pub chunks : u.edges.chunks ≡ set.insert (set.insert t.edges.chunks (row.part.span.first / 512)) ((end_of row.part.span - 1) / 512)
   pub slots : u.slots.items ≡ set_at t.slots.items row.number row.part
   pub slots_len : vec_len u.slots ≡ vec_len t.slots
@@ -111,17 +109,25 @@ pub record IsAdded (t u : Table) (row : Row) : Type 0 where
   pub free_len : vec_len u.free + 1 ≡ vec_len t.free
   pub room : vec_capacity u.free ≡ vec_capacity t.free
 
+-- no page of the extent is in the span
+abbrev pub Avoids : Row → Listed → Type 0
+Avoids row span = IsSpanApart row.part.span.first row.part.span.pages span
+
+-- what holds of the span of each row holds of those that are listed
+among : (P : Listed → Type 0) (test : Row → Bool) (rows : List Row) → ((r : Row) → Contains rows r → P (span_of r)) → All P (map span_of (filter test rows))
+among P test rows known = All-map P span_of (filter test rows) (All-filter test (λ r. P (span_of r)) rows (all_from (λ r. P (span_of r)) rows known))
+
 module _ (t : Table) (rows : List Row) (row : Row) (i : IsTable t rows) (f : IsFresh t rows row) where
   -- ---- what the indexes ask of a new extent
 
-  row_apart : (r : Row) → Contains rows r → IsSpanApart row.part.span.first row.part.span.pages (span_of r)
+  row_apart : (r : Row) → Contains rows r → Avoids row (span_of r)
   row_apart r m = span_apart r.part row.part (row_placed rows r i.apart m) f.placed (All-contains (λ p. meets p.span row.part.span ≡ false) (parts_in rows) r.part f.apart (map_has (λ x. x.part) rows r m))
 
   pub new_number : All (λ s. s.number ≢ row.number) (map span_of rows)
   new_number = All-map (λ s. s.number ≢ row.number) span_of rows (all_from (λ r. r.number ≢ row.number) rows f.number)
 
-  pub all_apart : All (IsSpanApart row.part.span.first row.part.span.pages) (map span_of rows)
-  all_apart = All-map (IsSpanApart row.part.span.first row.part.span.pages) span_of rows (all_from (λ r. IsSpanApart row.part.span.first row.part.span.pages (span_of r)) rows row_apart)
+  pub all_apart : All (Avoids row) (map span_of rows)
+  all_apart = All-map (Avoids row) span_of rows (all_from (λ r. Avoids row (span_of r)) rows row_apart)
 
   -- a list of some of the extents has a place where it has room for all and one more
   pub can_list : (rest : Rest) (list : Listing) → list.spans ≡ spans_in rest rows → length t.order.spans + 1 ≤ length list.spans + list.spare → CanList list row
@@ -129,13 +135,10 @@ module _ (t : Table) (rows : List Row) (row : Row) (i : IsTable t rows) (f : IsF
       let test : Row → Bool = λ r. is_listed rest r.part.state in
       let all = ap length i.order ∙ length-map rows span_of in
       let some = ap length e ∙ length-map (filter test rows) span_of in
-      let shorter = filter_shorter test rows in
-      let numbers = All-filter test (λ r. r.number ≢ row.number) rows (all_from (λ r. r.number ≢ row.number) rows f.number) in
-      let apart = All-filter test (λ r. IsSpanApart row.part.span.first row.part.span.pages (span_of r)) rows (all_from (λ r. IsSpanApart row.part.span.first row.part.span.pages (span_of r)) rows row_apart) in
       record {
-        room = omega arith;
-        new_number = rw e (All-map (λ s. s.number ≢ row.number) span_of (filter test rows) numbers);
-        apart = rw e (All-map (IsSpanApart row.part.span.first row.part.span.pages) span_of (filter test rows) apart);
+        room = omega (arith, length-filter test rows, count_by-le-length test rows);
+        new_number = rw e (among (λ s. s.number ≢ row.number) test rows f.number);
+        apart = rw e (among (Avoids row) test rows row_apart);
       }
 
   pub absent_first : Contains t.firsts.keys (key_of row) → ⊥
@@ -145,10 +148,10 @@ module _ (t : Table) (rows : List Row) (row : Row) (i : IsTable t rows) (f : IsF
 
   pub flights_fewer : length t.flights.items ≤ length t.order.spans
   flights_fewer =
+      let test : Row → Bool = λ r. is_in_flight r.part.state in
       let all = ap length i.order ∙ length-map rows span_of in
-      let some = ap length i.flights ∙ length-map (filter (λ r. is_in_flight r.part.state) rows) (λ r. r.number) in
-      let shorter = filter_shorter (λ r. is_in_flight r.part.state) rows in
-      omega arith
+      let some = ap length i.flights ∙ length-map (filter test rows) (λ r. r.number) in
+      omega (arith, length-filter test rows, count_by-le-length test rows)
 
   -- ---- the table afterwards
 
@@ -167,7 +170,7 @@ module _ (t : Table) (rows : List Row) (row : Row) (i : IsTable t rows) (f : IsF
     ];
   }
 
-  edges_more : (page : ℕ) → map_of.get (map_of.insert (map_of.insert t.edges.numbers row.part.span.first row.number) (end_of row.part.span - 1) row.number) page ≡ option_map (λ r. r.number) (find (λ r. is_edge page r.part) (rows ++ row ∷ []))
+  edges_more : (page : ℕ) → map_of.get (with_edges t.edges.numbers row.part row.number) page ≡ option_map (λ r. r.number) (find (λ r. is_edge page r.part) (rows ++ row ∷ []))
   edges_more page =
       numbers_more t.edges.numbers row.part row.number page f.placed
       ∙ elim (cases_Bool (is_edge page row.part)) [
@@ -202,6 +205,9 @@ module _ (t : Table) (rows : List Row) (row : Row) (i : IsTable t rows) (f : IsF
   added u a =
       let chunk : Row → ℕ = λ r. r.part.span.first / 512 in
       let last : Row → ℕ = λ r. (end_of r.part.span - 1) / 512 in
+      let kept = λ (c : ℕ). leaves_kept t.edges.chunks (chunk row) (last row) c a.chunks in
+      let leafed : (r : Row) → IsLeafed t.edges.chunks r → IsLeafed u.edges.chunks r = λ r l. (kept (chunk r) l.0, kept (last r) l.1) in
+      let slotted : (r : Row) → Contains rows r → part_at u.slots.items r.number ≡ r.part = λ r m. slot_kept u r.number a.slots (f.number r m) ∙ in_slot t rows r i m in
       record {
         apart = subst IsApart (sym (map-append (λ r. r.part) rows (row ∷ []))) (apart_more (parts_in rows) row.part i.apart f.placed f.apart);
         order = a.order ∙ ap (λ ss. ss ++ span_of row ∷ []) i.order ∙ sym (map-append span_of rows (row ∷ []));
@@ -211,8 +217,8 @@ module _ (t : Table) (rows : List Row) (row : Row) (i : IsTable t rows) (f : IsF
         flights = a.flights ∙ ap (λ ns. ns ++ cond (is_in_flight row.part.state) (row.number ∷ []) []) i.flights ∙ sym (more (λ r. r.number) (λ r. is_in_flight r.part.state) rows row);
         firsts = subst (IsFirsts (rows ++ row ∷ [])) (sym a.firsts) firsts_more;
         edges = λ page. ap (λ m. map_of.get m page) a.numbers ∙ edges_more page;
-        leaves = All-push (IsLeafed u.edges.chunks) rows row (All-weaker (IsLeafed t.edges.chunks) (IsLeafed u.edges.chunks) (λ r l. (leaves_kept t.edges.chunks (chunk row) (last row) (chunk r) a.chunks l.0, leaves_kept t.edges.chunks (chunk row) (last row) (last r) a.chunks l.1)) rows i.leaves) (leaves_new t.edges.chunks (chunk row) (last row) a.chunks);
-        slots = All-push (λ r. part_at u.slots.items r.number ≡ r.part) rows row (all_from (λ r. part_at u.slots.items r.number ≡ r.part) rows (λ r m. slot_kept u r.number a.slots (f.number r m) ∙ All-contains (λ x. part_at t.slots.items x.number ≡ x.part) rows r i.slots m)) (slot_new u a.slots);
+        leaves = All-push (IsLeafed u.edges.chunks) rows row (All-weaker (IsLeafed t.edges.chunks) (IsLeafed u.edges.chunks) leafed rows i.leaves) (leaves_new t.edges.chunks (chunk row) (last row) a.chunks);
+        slots = All-push (λ r. part_at u.slots.items r.number ≡ r.part) rows row (all_from (λ r. part_at u.slots.items r.number ≡ r.part) rows slotted) (slot_new u a.slots);
         free = λ number. free_more u number a;
         places = let was = i.places in let more = length-append rows (row ∷ []) in let less = a.free_len in let same = a.slots_len in omega arith;
         small = let was = i.small in let same = a.slots_len in omega arith;

@@ -1,5 +1,5 @@
 -- The extents of a book after a cut and after a join.
-use Rattle.std.proofs.Common.{◌≡◌, ℕ, ◌+◌, ◌-◌, ◌/◌, ◌<◌, true, false, not, ◌||◌, List, [], ◌∷◌, ◌++◌, filter, find, Option, Some, None, refl, sym, ap, ◌∙◌, subst, arith, All, append_assoc}
+use Rattle.std.proofs.Common.{◌≡◌, ℕ, ◌-◌, ◌/◌, ◌<◌, false, not, ◌||◌, List, [], ◌∷◌, ◌++◌, filter, find, Option, Some, None, refl, sym, ap, ◌∙◌, subst, arith, All, append_assoc}
 use Rattle.std.specs.Option.{IfSome, IsSome}
 use Rattle.std.specs.FinSet as set
 use Rattle.std.proofs.lemmas.Bool.{eqb-true, not_from_false}
@@ -7,7 +7,6 @@ use Rattle.std.proofs.lemmas.Bool.Decides.{nat_tests}
 use Rattle.std.proofs.lemmas.List.Elements.{All-contains, All-filter}
 use Rattle.page_map.specs.Pages.{Pages}
 use Rattle.space_model.specs.declared.parts.Part.{Part}
-use Rattle.space_model.specs.declared.parts.Span.{Span}
 use Rattle.space_model.specs.Span.{IsPlaced, end_of, meets}
 use Rattle.space_model.specs.Part.{begins_at, exchanged}
 use Rattle.space_model.specs.Step.{low_piece, high_piece}
@@ -26,10 +25,6 @@ use Rattle.part_book.proofs.Parts.{placed}
 pub within : (t : Table) (now : List Part) (first left : ℕ) (p : Part) → parts_of t ≡ now → find (begins_at first) (parts_of t) ≡ Some p → IfSome (find (begins_at first) now) (λ q. left < q.span.pages) → left < p.span.pages
 within t now first left p same e fewer = rw (sym (ap (find (begins_at first)) same) ∙ e) at fewer
 
--- the high piece ends where the extent ended
-pub high_end : (left : ℕ) (p : Part) → left < p.span.pages → end_of (high_piece left p).span ≡ end_of p.span
-high_end left p l = omega arith
-
 pub cut_parts : (old now t u v : List Part) (first left : ℕ) (p low high : Part) → old ≡ now → find (begins_at first) old ≡ Some p → t ≡ filter (λ q. not (begins_at first q)) old → u ≡ t ++ low ∷ [] → v ≡ u ++ high ∷ [] → low ≡ low_piece left p → high ≡ high_piece left p →
     IfSome (find (begins_at first) now) (λ q. v ≡ exchanged (begins_at first) now (low_piece left q ∷ high_piece left q ∷ []))
 cut_parts old now t u v first left p low high same e less more last low_is high_is =
@@ -43,10 +38,8 @@ pub record IsNext (low high : ℕ) (old : List Part) (p q : Part) : Type 0 where
   pub alike : AreAlike p q
   pub later : find (begins_at high) (filter (λ x. not (begins_at low x)) old) ≡ Some q
 
-elsewhere : (low high : ℕ) (x : Part) → begins_at high x ≡ true → low < high → begins_at low x ≡ false
-elsewhere low high x t l = grind (arith, nat_tests)
-
-pub next : (low high : ℕ) (old now : List Part) (p : Part) → old ≡ now → IsSome (find (begins_at high) now) → IfSome (find (begins_at low) now) (λ x. IfSome (find (begins_at high) now) (λ y. AreAlike x y)) → find (begins_at low) old ≡ Some p → IsPlaced p.span → (q : Part) × IsNext low high old p q
+pub next : (low high : ℕ) (old now : List Part) (p : Part) → old ≡ now → IsSome (find (begins_at high) now) →
+    IfSome (find (begins_at low) now) (λ x. IfSome (find (begins_at high) now) (λ y. AreAlike x y)) → find (begins_at low) old ≡ Some p → IsPlaced p.span → (q : Part) × IsNext low high old p q
 next low high old now p same some alike e placed = by (find (begins_at high) now) refl
   where
     by : (o : Option Part) → find (begins_at high) now ≡ o → (q : Part) × IsNext low high old p q
@@ -59,10 +52,11 @@ next low high old now p same some alike e placed = by (find (begins_at high) now
         let pages = placed.0 in
         let beside = both.beside in
         let apart : low < high = omega arith in
-        (q, record { found = was; alike = both; later = find_kept (begins_at high) (λ x. not (begins_at low x)) old (λ x m t. not_from_false (begins_at low x) (elsewhere low high x t apart)) ∙ was })
+        (q, record { found = was; alike = both; later = find_kept (begins_at high) (λ x. not (begins_at low x)) old (λ x m t. not_from_false (begins_at low x) (grind (arith, nat_tests))) ∙ was })
 
 -- and it is the one that is taken off then
-pub next_is : (low high : ℕ) (old now : List Part) (p q : Part) → old ≡ now → IsSome (find (begins_at high) now) → IfSome (find (begins_at low) now) (λ x. IfSome (find (begins_at high) now) (λ y. AreAlike x y)) → find (begins_at low) old ≡ Some p → IsPlaced p.span →
+pub next_is : (low high : ℕ) (old now : List Part) (p q : Part) → old ≡ now → IsSome (find (begins_at high) now) →
+    IfSome (find (begins_at low) now) (λ x. IfSome (find (begins_at high) now) (λ y. AreAlike x y)) → find (begins_at low) old ≡ Some p → IsPlaced p.span →
     {left : List Part} → left ≡ filter (λ x. not (begins_at low x)) old → find (begins_at high) left ≡ Some q → IsNext low high old p q
 next_is low high old now p q same some alike e placed less f =
     let n = next low high old now p same some alike e placed in
@@ -73,11 +67,8 @@ next_is low high old now p q same some alike e placed less f =
 pub joined_placed : (p q : Part) → IsPlaced p.span → IsPlaced q.span → AreAlike p q → IsPlaced (joined p q).span
 joined_placed p q placed_p placed_q alike = let some = placed_p.0 in let low = placed_p.1 in let high = placed_q.2 in let next = alike.beside in (omega arith, low, omega arith)
 
-apart_from_spans : (x s t : Span) → 0 < x.pages → end_of s ≡ t.first → meets x s ≡ false → meets x t ≡ false → meets x (record { first = s.first; pages = s.pages + t.pages }) ≡ false
-apart_from_spans x s t some next a b = grind (arith, nat_tests)
-
 apart_from_both : (x p q : Part) → IsPlaced x.span → AreAlike p q → meets x.span p.span ≡ false → meets x.span q.span ≡ false → meets x.span (joined p q).span ≡ false
-apart_from_both x p q placed alike a b = apart_from_spans x.span p.span q.span placed.0 alike.beside a b
+apart_from_both x p q placed alike a b = let some = placed.0 in let next = alike.beside in grind (arith, nat_tests)
 
 pub joined_apart : (t u : List Part) (high : ℕ) (p q : Part) → IsApart u → AreAlike p q → u ≡ filter (λ x. not (begins_at high x)) t → All (λ x. meets x.span p.span ≡ false) t → All (λ x. meets x.span q.span ≡ false) u → All (λ x. meets x.span (joined p q).span ≡ false) u
 joined_apart t u high p q sound alike less from_p from_q =

@@ -28,25 +28,33 @@ contains_new s k = contains_more s k k ∙ ap (λ b. b || set.contains s k) (eq-
 
 -- ---- how many chunks have no leaf
 
--- of some chunks one gets a leaf, and the others are as they were
-lacking_after : (s : set.FinSet nat_cmp) (c : ℕ) (chunks : List ℕ) → count_by (λ k. not (set.contains (set.insert s c) k)) chunks + count_by (λ k. not (set.contains s k)) (filter (λ k. eqb k c) chunks) ≡ count_by (λ k. not (set.contains s k)) chunks
+-- how many of some chunks have none
+abbrev lacking : set.FinSet nat_cmp → List ℕ → ℕ
+lacking s chunks = count_by (λ k. not (set.contains s k)) chunks
+
+-- where one of them gets a leaf, the others are as they were
+lacking_after : (s : set.FinSet nat_cmp) (c : ℕ) (chunks : List ℕ) → lacking (set.insert s c) chunks + lacking s (filter (λ k. eqb k c) chunks) ≡ lacking s chunks
 lacking_after s c chunks =
     let lacks = λ (k : ℕ). not (set.contains s k) in
+    let lacks_then = λ (k : ℕ). not (set.contains (set.insert s c) k) in
     let others = filter (λ k. not (eqb k c)) chunks in
-    let left = filter_agree (λ k. not (set.contains (set.insert s c) k)) (λ k. not (eqb k c || set.contains s k)) (λ k. ap not (contains_more s c k)) chunks ∙ sym (filter_both (λ k. eqb k c) (set.contains s) chunks) in
+    let left = filter_agree lacks_then (λ k. not (eqb k c || set.contains s k)) (λ k. ap not (contains_more s c k)) chunks ∙ sym (filter_both (λ k. eqb k c) (set.contains s) chunks) in
     let same = ap length left in
-    omega (arith, length-filter (λ k. not (set.contains (set.insert s c) k)) chunks, length-filter lacks others, sum_by-filter_both (λ k. eqb k c) (λ k. not (eqb k c)) (λ k. refl) (λ k. bit (lacks k)) chunks)
+    let split = sum_by-filter_both (λ k. eqb k c) (λ k. not (eqb k c)) (λ k. refl) (λ k. bit (lacks k)) chunks in
+    omega (arith, length-filter lacks_then chunks, length-filter lacks others)
 
-lacking_no_more : (s : set.FinSet nat_cmp) (c : ℕ) (chunks : List ℕ) → count_by (λ k. not (set.contains (set.insert s c) k)) chunks ≤ count_by (λ k. not (set.contains s k)) chunks
+lacking_no_more : (s : set.FinSet nat_cmp) (c : ℕ) (chunks : List ℕ) → lacking (set.insert s c) chunks ≤ lacking s chunks
 lacking_no_more s c chunks = omega (arith, lacking_after s c chunks)
 
 -- where that one is in a range and had none, one less lacks a leaf
-lacking_less : (s : set.FinSet nat_cmp) (c n : ℕ) → c < n → set.contains s c ≡ false → count_by (λ k. not (set.contains (set.insert s c) k)) (range_with_len 0 n) + 1 ≤ count_by (λ k. not (set.contains s k)) (range_with_len 0 n)
+lacking_less : (s : set.FinSet nat_cmp) (c n : ℕ) → c < n → set.contains s c ≡ false → lacking (set.insert s c) (range_with_len 0 n) + 1 ≤ lacking s (range_with_len 0 n)
 lacking_less s c n l f =
-    let there : Contains (range_with_len 0 n) c = (c, rw (length-range_with_len 0 n) l, get_or-range_with_len 0 n c c l ∙ omega arith) in
-    let here = filter_has (λ k. eqb k c) (range_with_len 0 n) c there (eq-eqb c c refl) in
-    omega (arith, lacking_after s c (range_with_len 0 n), count_some (λ k. not (set.contains s k)) (filter (λ k. eqb k c) (range_with_len 0 n)) c here (ap not f))
+    let range = range_with_len 0 n in
+    let there : Contains range c = (c, rw (length-range_with_len 0 n) l, get_or-range_with_len 0 n c c l ∙ omega arith) in
+    let here = filter_has (λ k. eqb k c) range c there (eq-eqb c c refl) in
+    omega (arith, lacking_after s c range, count_some (λ k. not (set.contains s k)) (filter (λ k. eqb k c) range) c here (ap not f))
 
+-- a chunk that gets a leaf is missing one no more
 missing_less : (s : set.FinSet nat_cmp) (c : ℕ) → c < 65536 → set.contains s c ≡ false → missing (set.insert s c) + 1 ≤ missing s
 unfolding missing
 missing_less s c l f = lacking_less s c 65536 l f

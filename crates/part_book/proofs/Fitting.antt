@@ -55,7 +55,8 @@ row_listed : (rest : Rest) (rows : List Row) (r : Row) → Contains rows r → i
 row_listed rest rows r m t = map_has span_of (filter (λ row. is_listed rest row.part.state) rows) r (filter_has (λ row. is_listed rest row.part.state) rows r m t)
 
 -- an extent that may serve is listed, and its span holds a run
-serves : (rest : Rest) (rows : List Row) (pages align : ℕ) (x : Part) → 0 < align → Contains (parts_in rows) x → is_candidate rest pages align x ≡ true → (r : Row) × Contains (spans_in rest rows) (span_of r) × HoldsRun pages align (span_of r) × (r.part ≡ x)
+serves : (rest : Rest) (rows : List Row) (pages align : ℕ) (x : Part) → 0 < align → Contains (parts_in rows) x → is_candidate rest pages align x ≡ true →
+    (r : Row) × Contains (spans_in rest rows) (span_of r) × HoldsRun pages align (span_of r) × (r.part ≡ x)
 serves rest rows pages align x some m t =
     let q = map_from (λ row. row.part) rows x m in
     let both = and_parts (is_listed rest x.state) (holds_run pages align x.span) t in

@@ -1,5 +1,5 @@
 -- What the indexes of a table say of its extents.
-use Rattle.std.proofs.Common.{◌≡◌, ℕ, ◌+◌, ◌-◌, ◌/◌, ◌<◌, ◌≤◌, Bool, true, false, not, eqb, List, [], ◌∷◌, length, map, filter, find, get_or, slice_get, Some, None, option_map, vec_len, inl, inr, refl, sym, ap, ◌∙◌, subst, arith, All}
+use Rattle.std.proofs.Common.{◌≡◌, ℕ, ◌-◌, ◌/◌, ◌<◌, ◌≤◌, Bool, true, false, not, eqb, List, [], ◌∷◌, length, map, filter, find, get_or, slice_get, Some, None, option_map, vec_len, inl, inr, refl, sym, ap, ◌∙◌, subst, arith, All}
 use Rattle.std.specs.List.{Contains}
 use Rattle.std.proofs.lemmas.Bool.{cases_Bool, cases_lt, true_from_ne_false}
 use Rattle.std.specs.FinMap as map_of
@@ -50,6 +50,10 @@ in_slots t rows r i m =
 pub in_slot : (t : Table) (rows : List Row) (r : Row) → IsTable t rows → Contains rows r → part_at t.slots.items r.number ≡ r.part
 in_slot t rows r i m = All-contains (λ row. part_at t.slots.items row.number ≡ row.part) rows r i.slots m
 
+-- where a number is that of a row, its slot has the extent
+pub slot_of : (t : Table) (rows : List Row) (r : Row) {number : ℕ} → IsTable t rows → Contains rows r → r.number ≡ number → (number < vec_len t.slots) × (part_at t.slots.items number ≡ r.part)
+slot_of t rows r i m e = (subst (λ n. n < vec_len t.slots) e (in_slots t rows r i m), ap (part_at t.slots.items) (sym e) ∙ in_slot t rows r i m)
+
 -- the row of a number that the map gives for a page
 pub edge_row : (t : Table) (rows : List Row) (page number : ℕ) → IsTable t rows → map_of.get t.edges.numbers page ≡ Some number → (r : Row) × (find (λ row. is_edge page row.part) rows ≡ Some r) × Contains rows r × (r.number ≡ number)
 edge_row t rows page number i e =
@@ -59,8 +63,7 @@ edge_row t rows page number i e =
 pub edge_part : (t : Table) (rows : List Row) (page number : ℕ) → IsTable t rows → map_of.get t.edges.numbers page ≡ Some number → find (is_edge page) (parts_in rows) ≡ Some (part_at t.slots.items number)
 edge_part t rows page number i e =
     let p = edge_row t rows page number i e in
-    let part : part_at t.slots.items number ≡ p.0.part = ap (part_at t.slots.items) (sym p.3) ∙ in_slot t rows p.0 i p.2 in
-    find_map (λ row. row.part) (is_edge page) rows ∙ ap (option_map (λ row. row.part)) p.1 ∙ ap (λ q. Some q) (sym part)
+    find_map (λ row. row.part) (is_edge page) rows ∙ ap (option_map (λ row. row.part)) p.1 ∙ ap (λ q. Some q) (sym (slot_of t rows p.0 i p.2 p.3).1)
 
 pub edge_none : (t : Table) (rows : List Row) (page : ℕ) → IsTable t rows → map_of.get t.edges.numbers page ≡ None → find (is_edge page) (parts_in rows) ≡ None
 edge_none t rows page i e =
@@ -68,9 +71,6 @@ edge_none t rows page i e =
     find_map (λ row. row.part) (is_edge page) rows ∙ ap (option_map (λ row. row.part)) none
 
 -- ---- the first pages
-
-has_slice : {X : Type 0} (xs : List X) (k : ℕ) (x : X) → slice_get xs k ≡ Some x → Contains xs x
-has_slice xs k x e = (k, slice_get_within xs k x e, get_or_from_slice_get xs k x x e)
 
 no_last : (ks : List Key) (k : Key) → last_of ks ≡ None → Contains ks k → ⊥
 no_last ks k e (i, l, is) =
@@ -90,7 +90,7 @@ below_from k page t = elim (cases_lt k.major page) [
 pub last_row : (rows : List Row) (keys : List Key) (page : ℕ) (key : Key) → IsFirsts rows keys → IsAscending keys → last_of (filter (is_below (start page)) keys) ≡ Some key → (r : Row) × Contains rows r × (r.number ≡ key.minor) × IsLastBelow page (parts_in rows) r.part
 last_row rows keys page key firsts ascending e =
     let ks = filter (is_below (start page)) keys in
-    let m = filter_from (is_below (start page)) keys key (has_slice ks (length ks - 1) key e) in
+    let m = filter_from (is_below (start page)) keys key (length ks - 1, slice_get_within ks (length ks - 1) key e, get_or_from_slice_get ks (length ks - 1) key key e) in
     let p = firsts.from key m.0 in
     let first : p.0.part.span.first ≡ key.major = ap (λ k. k.major) p.2 in
     let below = below_from key page m.1 in
@@ -132,7 +132,8 @@ abbrev pub is_flown : List Part → ℕ → ℕ → Bool
 is_flown slots client number = is_flight client (part_at slots number).state
 
 -- the first extent that the client has in flight has the first number of the flights that is the client's
-find_flight : (slots : List Part) (client : ℕ) (rows : List Row) → All (λ row. part_at slots row.number ≡ row.part) rows → find (λ p. is_flight client p.state) (parts_in rows) ≡ option_map (part_at slots) (find (is_flown slots client) (flights_in rows))
+find_flight : (slots : List Part) (client : ℕ) (rows : List Row) → All (λ row. part_at slots row.number ≡ row.part) rows →
+    find (λ p. is_flight client p.state) (parts_in rows) ≡ option_map (part_at slots) (find (is_flown slots client) (flights_in rows))
 find_flight slots client [] all = refl
 find_flight slots client (r ∷ rows) all =
     let slot : part_at slots r.number ≡ r.part = All-head (λ row. part_at slots row.number ≡ row.part) r rows all in
@@ -159,11 +160,7 @@ flights_in_slots t rows i k l =
     let m : Contains t.flights.items (get_or t.flights.items k 0) = Contains-get_or t.flights.items k 0 l in
     let n = map_from (λ row. row.number) (filter (λ row. is_in_flight row.part.state) rows) (get_or t.flights.items k 0) (subst (λ ns. Contains ns (get_or t.flights.items k 0)) i.flights m) in
     let r = filter_from (λ row. is_in_flight row.part.state) rows n.0 n.1 in
-    subst (λ x. x < vec_len t.slots) n.2 (in_slots t rows n.0 i r.0)
-
--- what holds of each number below one and of it
-pub below_next : (P : ℕ → Type 0) (i : ℕ) → ((k : ℕ) → k < i → P k) → P i → (k : ℕ) → k < i + 1 → P k
-below_next P i below here k l = elim (cases_lt k i) [ inl m ↦ below k m | inr g ↦ (let same : i ≡ k = omega arith in subst P same here) ]
+    (slot_of t rows n.0 i r.0 n.2).0
 
 -- ---- a table without extents
 

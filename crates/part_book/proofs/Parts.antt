@@ -35,7 +35,8 @@ pub begins_by_edge : (parts : List Part) (page : ℕ) → IsApart parts → (o :
 begins_by_edge parts page apart o e = find_closer (begins_at page) (is_edge page) parts (λ p m t. or_left (begins_at page p) (ends_at (page + 1) p) t) (one_edge parts apart page) o e
 
 -- and so is the one that ends before the next page
-pub ends_by_edge : (parts : List Part) (last page : ℕ) → last + 1 ≡ page → IsApart parts → (o : Option Part) → find (is_edge last) parts ≡ o → find (ends_at page) parts ≡ elim o [ None ↦ None | Some p ↦ cond (ends_at page p) (Some p) None ]
+pub ends_by_edge : (parts : List Part) (last page : ℕ) → last + 1 ≡ page → IsApart parts → (o : Option Part) →
+    find (is_edge last) parts ≡ o → find (ends_at page) parts ≡ elim o [ None ↦ None | Some p ↦ cond (ends_at page p) (Some p) None ]
 ends_by_edge parts last page next apart o e = find_closer (ends_at page) (is_edge last) parts (λ p m t. rw next (or_right (begins_at last p) (ends_at page p) t)) (one_edge parts apart last) o e
 
 -- none ends before page 0

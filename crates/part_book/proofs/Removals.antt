@@ -26,7 +26,7 @@ use Rattle.part_book.specs.Lists.{CanUnlist}
 use Rattle.part_book.specs.Rows.{IsFirsts, Row, is_edge, key_of, part_at, row_at, span_of, spans_in}
 use Rattle.part_book.specs.Tables.{IsRowAt, IsTable, Keeps, parts_of, rows_of}
 use Rattle.part_book.proofs.Additions.{edge_test, twice}
-use Rattle.part_book.proofs.Indexes.{IsLeafed, edge_none, edge_part, edge_row, in_slot, keeps}
+use Rattle.part_book.proofs.Indexes.{IsLeafed, edge_none, edge_part, edge_row, keeps, slot_of}
 use Rattle.part_book.proofs.Lists.{bit, count_less_one, count_kept, count_map, count_some, filter_all_of, filter_map_is, filter_same, filter_swap, find_kept, find_none, found, kept_length, map_has}
 use Rattle.part_book.proofs.Parts.{begins_by_edge, edge_has}
 use Rattle.part_book.proofs.Rowed.{apart_less, numbers_most, one_number, one_row, other_row, others, others_apart, others_begin, row_placed}
@@ -41,10 +41,11 @@ some_number t first None i some e = absurd (
 some_number t first (Some number) i some e = refl
 
 -- the slot of that number has the extent
-pub row_read : (t : Table) (first number : ℕ) → IsTable t (rows_of t) → IsSome (find (begins_at first) (parts_of t)) → map_of.get t.edges.numbers first ≡ Some number → IsRowAt t first (record { number = number; part = part_at t.slots.items number })
+pub row_read : (t : Table) (first number : ℕ) → IsTable t (rows_of t) → IsSome (find (begins_at first) (parts_of t)) →
+    map_of.get t.edges.numbers first ≡ Some number → IsRowAt t first (record { number = number; part = part_at t.slots.items number })
 row_read t first number i some e =
     let r = edge_row t (rows_of t) first number i e in
-    let part : r.0.part ≡ part_at t.slots.items number = sym (in_slot t (rows_of t) r.0 i r.2) ∙ ap (part_at t.slots.items) r.3 in
+    let part = sym (slot_of t (rows_of t) r.0 i r.2 r.3).1 in
     let row : r.0 ≡ record { number = number; part = part_at t.slots.items number } = λ k. record { number = r.3 k; part = part k } in
     let closer = begins_by_edge (parts_of t) first i.apart _ (edge_part t (rows_of t) first number i e) in
     record {
@@ -74,29 +75,37 @@ can_unlist t row rest spans i m e =
 
 -- ---- the table afterwards
 
+-- the spans but those with a number
+abbrev pub without : ℕ → List Listed → List Listed
+without number spans = filter (λ s. not (eqb s.number number)) spans
+
+-- a map without numbers for the first and the last page of an extent
+abbrev pub without_edges : map_of.FinMap nat_cmp ℕ → Part → map_of.FinMap nat_cmp ℕ
+without_edges m p = map_of.remove (map_of.remove m p.span.first) (end_of p.span - 1)
+
 -- each index of the second table lacks the extent
 pub record IsRemoved (t u : Table) (row : Row) : Type 0 where
-  pub order : u.order.spans ≡ filter (λ s. not (eqb s.number row.number)) t.order.spans
-  pub dirty : u.dirty.spans ≡ cond (is_listed ToDirty row.part.state) (filter (λ s. not (eqb s.number row.number)) t.dirty.spans) t.dirty.spans
-  pub muzzy : u.muzzy.spans ≡ cond (is_listed ToMuzzy row.part.state) (filter (λ s. not (eqb s.number row.number)) t.muzzy.spans) t.muzzy.spans
-  pub retained : u.retained.spans ≡ cond (is_listed ToRetained row.part.state) (filter (λ s. not (eqb s.number row.number)) t.retained.spans) t.retained.spans
+  pub order : u.order.spans ≡ without row.number t.order.spans
+  pub dirty : u.dirty.spans ≡ cond (is_listed ToDirty row.part.state) (without row.number t.dirty.spans) t.dirty.spans
+  pub muzzy : u.muzzy.spans ≡ cond (is_listed ToMuzzy row.part.state) (without row.number t.muzzy.spans) t.muzzy.spans
+  pub retained : u.retained.spans ≡ cond (is_listed ToRetained row.part.state) (without row.number t.retained.spans) t.retained.spans
   pub flights : u.flights.items ≡ cond (is_in_flight row.part.state) (filter (λ n. not (eqb n row.number)) t.flights.items) t.flights.items
   pub firsts : u.firsts.keys ≡ without_key t.firsts.keys (key_of row)
-  pub numbers : u.edges.numbers ≡ map_of.remove (map_of.remove t.edges.numbers row.part.span.first) (end_of row.part.span - 1)
+  pub numbers : u.edges.numbers ≡ without_edges t.edges.numbers row.part
   pub chunks : u.edges.chunks ≡ t.edges.chunks
   pub slots : u.slots ≡ t.slots
   pub free : u.free.items ≡ t.free.items ++ row.number ∷ []
   pub free_len : vec_len u.free ≡ vec_len t.free + 1
   pub room : vec_capacity t.free ≤ vec_capacity u.free
 
-rows_removed : (t u : Table) (number : ℕ) → u.slots ≡ t.slots → u.order.spans ≡ filter (λ s. not (eqb s.number number)) t.order.spans → rows_of u ≡ others number (rows_of t)
+rows_removed : (t u : Table) (number : ℕ) → u.slots ≡ t.slots → u.order.spans ≡ without number t.order.spans → rows_of u ≡ others number (rows_of t)
 unfolding rows_of
 rows_removed t u number slots order =
     ap (λ v. map (row_at v.items) u.order.spans) slots ∙ ap (map (row_at t.slots.items)) order
     ∙ sym (filter_map_is (row_at t.slots.items) (λ r. not (eqb r.number number)) t.order.spans)
 
 -- a page has no number where it was the first or the last one of the extent
-numbers_less : (m : map_of.FinMap nat_cmp ℕ) (p : Part) (page : ℕ) → IsPlaced p.span → map_of.get (map_of.remove (map_of.remove m p.span.first) (end_of p.span - 1)) page ≡ cond (is_edge page p) None (map_of.get m page)
+numbers_less : (m : map_of.FinMap nat_cmp ℕ) (p : Part) (page : ℕ) → IsPlaced p.span → map_of.get (without_edges m p) page ≡ cond (is_edge page p) None (map_of.get m page)
 numbers_less m p page placed =
     simp (map_of.get-remove {X = ℕ} nat_cmp_total, unsigned_tied) (
     twice (eqb page (end_of p.span - 1)) (eqb page p.span.first) None (map_of.get m page)
@@ -120,8 +129,8 @@ module _ (t : Table) (rows : List Row) (row : Row) (i : IsTable t rows) (m : Con
         | inr f ↦ rw f (ap (map h) (filter_all_of (λ r. not (eqb r.number row.number)) (filter test rows) (λ r n. let p = filter_from test rows r n in differs test r p.0 p.1 f)))
       ]
 
-  listed_less : {old new : List Listed} (rest : Rest) → old ≡ spans_in rest rows → new ≡ cond (is_listed rest row.part.state) (filter (λ s. not (eqb s.number row.number)) old) old → new ≡ spans_in rest (others row.number rows)
-  listed_less rest old new = new ∙ ap (λ ss. cond (is_listed rest row.part.state) (filter (λ s. not (eqb s.number row.number)) ss) ss) old ∙ sym (less (λ r. is_listed rest r.part.state) span_of (λ s. s.number) (λ r. refl))
+  listed_less : {old new : List Listed} (rest : Rest) → old ≡ spans_in rest rows → new ≡ cond (is_listed rest row.part.state) (without row.number old) old → new ≡ spans_in rest (others row.number rows)
+  listed_less rest old new = new ∙ ap (λ ss. cond (is_listed rest row.part.state) (without row.number ss) ss) old ∙ sym (less (λ r. is_listed rest r.part.state) span_of (λ s. s.number) (λ r. refl))
 
   firsts_less : IsFirsts (others row.number rows) (without_key t.firsts.keys (key_of row))
   firsts_less = record {
@@ -137,7 +146,7 @@ module _ (t : Table) (rows : List Row) (row : Row) (i : IsTable t rows) (m : Con
         (p.0, filter_has (λ r. not (eqb r.number row.number)) rows p.0 p.1 (not_from_false (eqb p.0.number row.number) other), p.2));
   }
 
-  edges_less : (page : ℕ) → map_of.get (map_of.remove (map_of.remove t.edges.numbers row.part.span.first) (end_of row.part.span - 1)) page ≡ option_map (λ r. r.number) (find (λ r. is_edge page r.part) (others row.number rows))
+  edges_less : (page : ℕ) → map_of.get (without_edges t.edges.numbers row.part) page ≡ option_map (λ r. r.number) (find (λ r. is_edge page r.part) (others row.number rows))
   edges_less page =
       numbers_less t.edges.numbers row.part page (row_placed rows row i.apart m)
       ∙ elim (cases_Bool (is_edge page row.part)) [
@@ -171,7 +180,7 @@ module _ (t : Table) (rows : List Row) (row : Row) (i : IsTable t rows) (m : Con
   removed : (u : Table) → IsRemoved t u row → IsTable u (others row.number rows)
   removed u a = record {
     apart = apart_less row.number rows i.apart;
-    order = a.order ∙ ap (filter (λ s. not (eqb s.number row.number))) i.order ∙ filter_map_is span_of (λ s. not (eqb s.number row.number)) rows;
+    order = a.order ∙ ap (without row.number) i.order ∙ filter_map_is span_of (λ s. not (eqb s.number row.number)) rows;
     dirty = listed_less ToDirty i.dirty a.dirty;
     muzzy = listed_less ToMuzzy i.muzzy a.muzzy;
     retained = listed_less ToRetained i.retained a.retained;
@@ -193,13 +202,14 @@ table_removed t u row first i at a =
     let begins = (found (begins_at first) (parts_of t) row.part at.found).1 in
     subst (Keeps u) (others_begin t (rows_of t) row first i at.there begins) (keeps u (others row.number (rows_of t)) (rows_removed t u row.number a.slots a.order) (removed t (rows_of t) row i at.there u a))
 
-pub apart_removed : (t u : Table) (row : Row) → IsTable t (rows_of t) → Contains (rows_of t) row → u.slots ≡ t.slots → u.order.spans ≡ filter (λ s. not (eqb s.number row.number)) t.order.spans → All (λ p. meets p.span row.part.span ≡ false) (parts_of u)
+pub apart_removed : (t u : Table) (row : Row) → IsTable t (rows_of t) → Contains (rows_of t) row →
+    u.slots ≡ t.slots → u.order.spans ≡ without row.number t.order.spans → All (λ p. meets p.span row.part.span ≡ false) (parts_of u)
 apart_removed t u row i m slots order = rw (rows_removed t u row.number slots order) (others_apart t (rows_of t) row i m)
 
-pub order_fewer : (t : Table) (row : Row) → IsTable t (rows_of t) → Contains (rows_of t) row → {spans : List Listed} → spans ≡ filter (λ s. not (eqb s.number row.number)) t.order.spans → length spans + 1 ≡ length t.order.spans
+pub order_fewer : (t : Table) (row : Row) → IsTable t (rows_of t) → Contains (rows_of t) row → {spans : List Listed} → spans ≡ without row.number t.order.spans → length spans + 1 ≡ length t.order.spans
 order_fewer t row i m e =
     let all = ap length i.order ∙ length-map (rows_of t) span_of in
-    let new = ap length (e ∙ ap (filter (λ s. not (eqb s.number row.number))) i.order ∙ filter_map_is span_of (λ s. not (eqb s.number row.number)) (rows_of t)) ∙ length-map (others row.number (rows_of t)) span_of in
+    let new = ap length (e ∙ ap (without row.number) i.order ∙ filter_map_is span_of (λ s. not (eqb s.number row.number)) (rows_of t)) ∙ length-map (others row.number (rows_of t)) span_of in
     let less = fewer t (rows_of t) row i m in
     omega arith
 

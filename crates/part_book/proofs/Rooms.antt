@@ -1,11 +1,13 @@
 -- A table that was given room keeps its extents.
-use Rattle.std.proofs.Common.{◌≡◌, ℕ, ◌+◌, ◌<◌, ◌≤◌, eqb, ltb, List, map, count_by, vec_len, vec_capacity, sym, ap, ◌∙◌, subst, arith, refl, All}
+use Rattle.std.proofs.Common.{◌≡◌, ℕ, ◌+◌, ◌<◌, ◌≤◌, eqb, ltb, map, count_by, vec_len, vec_capacity, sym, ap, ◌∙◌, subst, arith, refl, All}
 use Rattle.std.specs.FinMap as map_of
-use Rattle.std.proofs.lemmas.List.Elements.{All-contains}
+use Rattle.std.specs.List.{Contains}
+use Rattle.fit_lists.specs.Spans.{Listed}
+use Rattle.space_model.specs.declared.parts.Part.{Part}
 use Rattle.part_book.specs.declared.table.Table.{Table}
 use Rattle.part_book.specs.Rows.{IsFirsts, Row, part_at, row_at}
 use Rattle.part_book.specs.Tables.{HasRoom, IsTable, Keeps, parts_of, rows_of}
-use Rattle.part_book.proofs.Indexes.{IsLeafed, in_slots, keeps}
+use Rattle.part_book.proofs.Indexes.{IsLeafed, in_slot, in_slots, keeps}
 use Rattle.part_book.proofs.Lists.{all_from, bit, map_has, map_same}
 
 -- each index of the second table has the same, and new slots are free
@@ -27,32 +29,32 @@ pub record IsSame (t u : Table) : Type 0 where
 same_rows : (t u : Table) → IsTable t (rows_of t) → IsSame t u → rows_of u ≡ rows_of t
 unfolding rows_of
 same_rows t u i a =
+    let put : ℕ → Part → Row = λ n p. record { number = n; part = p } in
+    let within = λ (s : Listed) (m : Contains t.order.spans s). in_slots t (rows_of t) (row_at t.slots.items s) i (map_has (row_at t.slots.items) t.order.spans s m) in
     ap (map (row_at u.slots.items)) a.order
-    ∙ map_same (row_at u.slots.items) (row_at t.slots.items) t.order.spans (λ s m. ap (λ p. let r : Row = record { number = s.number; part = p } in r) (a.kept s.number (in_slots t (rows_of t) (row_at t.slots.items s) i (map_has (row_at t.slots.items) t.order.spans s m))))
+    ∙ map_same (row_at u.slots.items) (row_at t.slots.items) t.order.spans (λ s m. ap (put s.number) (a.kept s.number (within s m)))
 
-same : (t u : Table) (rows : List Row) → IsTable t rows → IsSame t u → IsTable u rows
-same t u rows i a = record {
+pub same_table : (t u : Table) → IsTable t (rows_of t) → IsSame t u → Keeps u (parts_of t)
+same_table t u i a = keeps u (rows_of t) (same_rows t u i a) (record {
   apart = i.apart;
   order = a.order ∙ i.order;
   dirty = a.dirty ∙ i.dirty;
   muzzy = a.muzzy ∙ i.muzzy;
   retained = a.retained ∙ i.retained;
   flights = a.flights ∙ i.flights;
-  firsts = subst (IsFirsts rows) (sym a.firsts) i.firsts;
+  firsts = subst (IsFirsts (rows_of t)) (sym a.firsts) i.firsts;
   edges = λ page. ap (λ m. map_of.get m page) a.numbers ∙ i.edges page;
-  leaves = subst (λ chunks. All (IsLeafed chunks) rows) (sym a.chunks) i.leaves;
-  slots = all_from (λ r. part_at u.slots.items r.number ≡ r.part) rows (λ r m. a.kept r.number (in_slots t rows r i m) ∙ All-contains (λ x. part_at t.slots.items x.number ≡ x.part) rows r i.slots m);
+  leaves = subst (λ chunks. All (IsLeafed chunks) (rows_of t)) (sym a.chunks) i.leaves;
+  slots = all_from (λ r. part_at u.slots.items r.number ≡ r.part) (rows_of t) (λ r m. a.kept r.number (in_slots t (rows_of t) r i m) ∙ in_slot t (rows_of t) r i m);
   free = λ number. (let was = i.free number in let now = a.free number in omega arith);
   places = let was = i.places in let now = a.places in omega arith;
   small = a.small;
   room = a.room;
-}
-
-pub same_table : (t u : Table) → IsTable t (rows_of t) → IsSame t u → Keeps u (parts_of t)
-same_table t u i a = keeps u (rows_of t) (same_rows t u i a) (same t u (rows_of t) i a)
+})
 
 -- as long as the slots, the free numbers and the flights stay
-pub grown : (t u : Table) → IsTable t (rows_of t) → u.slots ≡ t.slots → u.free ≡ t.free → u.flights ≡ t.flights → u.order.spans ≡ t.order.spans → u.dirty.spans ≡ t.dirty.spans → u.muzzy.spans ≡ t.muzzy.spans → u.retained.spans ≡ t.retained.spans → u.firsts.keys ≡ t.firsts.keys → u.edges ≡ t.edges → Keeps u (parts_of t)
+pub grown : (t u : Table) → IsTable t (rows_of t) → u.slots ≡ t.slots → u.free ≡ t.free → u.flights ≡ t.flights →
+    u.order.spans ≡ t.order.spans → u.dirty.spans ≡ t.dirty.spans → u.muzzy.spans ≡ t.muzzy.spans → u.retained.spans ≡ t.retained.spans → u.firsts.keys ≡ t.firsts.keys → u.edges ≡ t.edges → Keeps u (parts_of t)
 grown t u i slots free flights order dirty muzzy retained firsts edges = same_table t u i (record {
   order = order;
   dirty = dirty;

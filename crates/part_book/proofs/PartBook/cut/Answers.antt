@@ -1,8 +1,9 @@
 use Rattle.std.proofs.Common.{◌≡◌, ◌+◌, ◌-◌, ◌*◌, ◌/◌, ap, subst, arith}
 use Rattle.space_model.specs.Span.{end_of}
+use Rattle.space_model.specs.Step.{high_piece}
 use Rattle.part_book.specs.Leaves.{leaves_for}
-use Rattle.part_book.specs.Tables.{HasRoom, parts_of}
-use Rattle.part_book.proofs.Changed.{cut_parts, high_end, within}
+use Rattle.part_book.specs.Tables.{HasRoom}
+use Rattle.part_book.proofs.Changed.{cut_parts, within}
 use Rattle.part_book.proofs.Chunks.{fewer_leaves, leaves_first, leaves_last, leaves_none, more_leaves}
 use Rattle.part_book.proofs.Rooms.{room_less}
 use Rattle.part_book.proofs.PartBook.cut.Goals as goal
@@ -26,7 +27,8 @@ invariant_of-self c =
     let there = leaves_none t.edges c.take_off-part.result.span c.take_off-part.ensures.leaves in
     let low = leaves_first t.edges c.low_piece.result.span (rw c.low_piece.ensures there.0) in
     let next = c.put_on.ensures.leaves (2 * n - 1) (fewer_leaves t.edges (2 * n) (2 * n - 1 + leaves_for t.edges c.low_piece.result.span) left (omega arith)) in
-    let same = high_end c.args.left c.take_off-part.result (within c.self.inside.table c.args.self.now.parts c.args.first c.args.left c.take_off-part.result (ap (λ b. b.parts) c.self.view_is) c.take_off-part.ensures.part c.requires.fewer) in
+    let fewer = within c.self.inside.table c.args.self.now.parts c.args.first c.args.left c.take_off-part.result (ap (λ b. b.parts) c.self.view_is) c.take_off-part.ensures.part c.requires.fewer in
+    let same : end_of (high_piece c.args.left c.take_off-part.result).span ≡ end_of c.take_off-part.result.span = omega arith in
     let last = c.put_on.ensures.chunks ((end_of c.take_off-part.result.span - 1) / 512) there.1 in
     let high = leaves_last u.edges c.high_piece.result.span (rw (c.high_piece.ensures, same) last) in
     record {
@@ -37,5 +39,5 @@ invariant_of-self c =
 
 pub returns-clause-parts : goal.returns-clause-parts
 returns-clause-parts c =
-    cut_parts (parts_of c.self.inside.table) c.args.self.now.parts (parts_of c.take_off-part.new.self) (parts_of c.put_on.new.self) (parts_of c.put_on-2.new.self) c.args.first c.args.left c.take_off-part.result c.low_piece.result c.high_piece.result
-    (ap (λ b. b.parts) c.self.view_is) c.take_off-part.ensures.part c.take_off-part.ensures.kept.parts c.put_on.ensures.kept.parts c.put_on-2.ensures.kept.parts c.low_piece.ensures c.high_piece.ensures
+    let whole = c.take_off-part.ensures in
+    cut_parts _ _ _ _ _ c.args.first c.args.left _ _ _ (ap (λ b. b.parts) c.self.view_is) whole.part whole.kept.parts c.put_on.ensures.kept.parts c.put_on-2.ensures.kept.parts c.low_piece.ensures c.high_piece.ensures

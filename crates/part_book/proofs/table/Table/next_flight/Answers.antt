@@ -1,8 +1,9 @@
 use Rattle.std.proofs.Common.{◌≡◌, ◌<◌, vec_len, length, get_or, Some, false, sym, ap, subst, ◌∙◌, option_map, arith}
+use borrow.Author.Count.{below_more}
 use Rattle.space_model.specs.Part.{is_flight}
 use Rattle.part_book.specs.Rows.{part_at}
 use Rattle.part_book.specs.Tables.{rows_of}
-use Rattle.part_book.proofs.Indexes.{below_next, flight_of, first_number, flights_in_slots, is_flown, no_number}
+use Rattle.part_book.proofs.Indexes.{flight_of, first_number, flights_in_slots, is_flown, no_number}
 use Rattle.part_book.proofs.table.Table.next_flight.Goals as goal
 
 pub part_at-part-requires : goal.part_at-part-requires
@@ -36,5 +37,5 @@ loop-number-preserved c =
     let t = c.args.self.now in
     let i = c.loop-number.number-index in
     let part = c.part_at-part.ensures ∙ ap (λ ns. part_at t.slots.items (get_or ns i 0)) c.deref-number-items.ensures.value in
-    let other = ap (λ p. is_flight c.args.client p.state) (sym part) ∙ sym c.is_flight_of.ensures ∙ c.if-is_flight_of.false in
-    below_next (λ k. is_flown t.slots.items c.args.client (get_or t.flights.items k 0) ≡ false) i c.loop-number.invariant other
+    let other = ap (λ p. is_flight c.args.client p.state) (sym part) ∙ sym c.is_flight.ensures ∙ c.if-is_flight.false in
+    below_more (λ k. is_flown t.slots.items c.args.client (get_or t.flights.items k 0) ≡ false) i c.loop-number.invariant other
