@@ -112,9 +112,6 @@ wanted_less p q k c chunks = elim (cases_Bool (set.contains p.chunks c)) [
       omega arith
 ]
 
-pub fewer_leaves : (p : Pages) (m n : ℕ) → HasLeaves p m → n ≤ m → HasLeaves p n
-fewer_leaves p m n has le = omega arith
-
 -- the chunks of the first and the last page of a span
 pub chunk_inside : (s : Span) → IsPlaced s → (s.first / 512 < 65536) × ((end_of s - 1) / 512 < 65536)
 chunk_inside s placed = let some = placed.0 in let last = placed.2 in (omega arith, omega arith)

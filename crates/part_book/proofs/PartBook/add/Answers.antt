@@ -1,18 +1,15 @@
 use Rattle.std.proofs.Common.{◌≡◌, ◌+◌, ◌-◌, ◌*◌, ap, subst, arith}
-use Rattle.part_book.specs.Leaves.{leaves_for}
 use Rattle.part_book.specs.Tables.{HasRoom}
-use Rattle.part_book.proofs.Chunks.{fewer_leaves, leaves_most}
+use Rattle.part_book.proofs.Chunks.{leaves_most}
 use Rattle.part_book.proofs.PartBook.add.Goals as goal
 
 pub invariant_of-self : goal.invariant_of-self
 invariant_of-self c =
     let was : c.self.inside.spare ≡ c.args.self.now.spare = ap (λ b. b.spare) c.self.view_is in
-    let some = c.requires.room in
     let back : c.self.inside.spare ≡ c.self.inside.spare - 1 + 1 = omega arith in
-    let e = c.self.inside.table.edges in
-    let most = leaves_most e c.args.part.span in
+    let most = leaves_most c.self.inside.table.edges c.args.part.span in
     record {
       table = c.put_on.ensures.kept.table;
       room = c.put_on.ensures.room (c.self.inside.spare - 1) (subst (HasRoom c.self.inside.table) back c.self.invariant.room);
-      leaves = c.put_on.ensures.leaves (2 * (c.self.inside.spare - 1)) (fewer_leaves e (2 * c.self.inside.spare) (2 * (c.self.inside.spare - 1) + leaves_for e c.args.part.span) c.self.invariant.leaves (omega arith));
+      leaves = c.put_on.ensures.leaves (2 * (c.self.inside.spare - 1)) (omega arith);
     }

@@ -10,5 +10,5 @@ invariant_of-self c =
     record {
       table = c.take_off.ensures.kept.table;
       room = room_less t (n + 1) n (c.take_off.ensures.room n c.self.invariant.room) (omega arith);
-      leaves = more_leaves c.self.inside.table.edges t.edges (2 * n) c.take_off.ensures.chunks (let e = c.take_off.ensures.spare in omega arith) c.self.invariant.leaves;
+      leaves = more_leaves c.self.inside.table.edges t.edges (2 * n) c.take_off.ensures.chunks (omega arith) c.self.invariant.leaves;
     }

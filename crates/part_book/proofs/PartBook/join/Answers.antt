@@ -1,11 +1,9 @@
 use Rattle.std.proofs.Common.{◌+◌, ◌*◌, find, refl, sym, ap, ◌∙◌, subst, arith}
 use Rattle.std.specs.Option.{IsSome}
 use Rattle.space_model.specs.Part.{begins_at}
-use Rattle.part_book.specs.Books.{joined}
-use Rattle.part_book.specs.Leaves.{leaves_for}
 use Rattle.part_book.specs.Tables.{parts_of}
 use Rattle.part_book.proofs.Changed.{join_parts, joined_apart, joined_leaves, joined_placed, next, next_is}
-use Rattle.part_book.proofs.Chunks.{fewer_leaves, more_leaves}
+use Rattle.part_book.proofs.Chunks.{more_leaves}
 use Rattle.part_book.proofs.Rooms.{room_less}
 use Rattle.part_book.proofs.PartBook.join.Goals as goal
 
@@ -45,12 +43,12 @@ invariant_of-self c =
     let t = c.take_off-low.new.self.edges in
     let u = c.take_off-high.new.self.edges in
     let none = joined_leaves t u c.take_off-low.result c.take_off-high.result both.alike high.chunks low.leaves high.leaves in
-    let left = more_leaves t u (2 * n) high.chunks (let e = high.spare in omega arith) (more_leaves c.self.inside.table.edges t (2 * n) low.chunks (let e = low.spare in omega arith) c.self.invariant.leaves) in
+    let left = more_leaves t u (2 * n) high.chunks (omega arith) (more_leaves c.self.inside.table.edges t (2 * n) low.chunks (omega arith) c.self.invariant.leaves) in
     let room = c.put_on.ensures.room (n + 1) (high.room (n + 1) (low.room n c.self.invariant.room)) in
     record {
       table = c.put_on.ensures.kept.table;
       room = room_less c.put_on.new.self (n + 1) n room (omega arith);
-      leaves = c.put_on.ensures.leaves (2 * n) (fewer_leaves u (2 * n) (2 * n + leaves_for u (joined c.take_off-low.result c.take_off-high.result).span) left (omega arith));
+      leaves = c.put_on.ensures.leaves (2 * n) (omega arith);
     }
 
 pub returns-clause-parts : goal.returns-clause-parts

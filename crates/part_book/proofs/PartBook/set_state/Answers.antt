@@ -1,16 +1,14 @@
-use Rattle.std.proofs.Common.{◌+◌, ◌*◌, arith}
-use Rattle.part_book.specs.Leaves.{leaves_for}
-use Rattle.part_book.proofs.Chunks.{fewer_leaves, more_leaves}
+use Rattle.std.proofs.Common.{◌*◌, arith}
+use Rattle.part_book.proofs.Chunks.{more_leaves}
 use Rattle.part_book.proofs.PartBook.set_state.Goals as goal
 
 pub invariant_of-self : goal.invariant_of-self
 invariant_of-self c =
     let t = c.take_off-part.new.self in
     let n = c.self.inside.spare in
-    let none = c.take_off-part.ensures.leaves in
-    let left = more_leaves c.self.inside.table.edges t.edges (2 * n) c.take_off-part.ensures.chunks (let e = c.take_off-part.ensures.spare in omega arith) c.self.invariant.leaves in
+    let left = more_leaves c.self.inside.table.edges t.edges (2 * n) c.take_off-part.ensures.chunks (omega arith) c.self.invariant.leaves in
     record {
       table = c.put_on.ensures.kept.table;
       room = c.put_on.ensures.room n (c.take_off-part.ensures.room n c.self.invariant.room);
-      leaves = c.put_on.ensures.leaves (2 * n) (fewer_leaves t.edges (2 * n) (2 * n + leaves_for t.edges c.take_off-part.result.span) left (omega arith));
+      leaves = c.put_on.ensures.leaves (2 * n) (omega arith);
     }
