@@ -191,7 +191,7 @@ module _ (t : Table) (rows : List Row) (row : Row) (i : IsTable t rows) (f : IsF
   slot_kept u n e ne = rw e (get_or-set_other t.slots.items row.number n row.part _ ne)
 
   slot_new : (u : Table) → u.slots.items ≡ set_at t.slots.items row.number row.part → part_at u.slots.items row.number ≡ row.part
-  slot_new u e = rw e (get_or-set_same t.slots.items row.number row.part _ (let l = f.slot in omega (arith, t.slots.ok.0)))
+  slot_new u e = rw e (get_or-set_same t.slots.items row.number row.part _ (omega (arith, t.slots.ok.0)))
 
   free_more : (u : Table) (number : ℕ) → IsAdded t u row → count_by (λ n. eqb n number) u.free.items + count_by (λ r. eqb r.number number) (rows ++ row ∷ []) ≡ bit (ltb number (vec_len u.slots))
   free_more u number a =
@@ -220,9 +220,9 @@ module _ (t : Table) (rows : List Row) (row : Row) (i : IsTable t rows) (f : IsF
         leaves = All-push (IsLeafed u.edges.chunks) rows row (All-weaker (IsLeafed t.edges.chunks) (IsLeafed u.edges.chunks) leafed rows i.leaves) (leaves_new t.edges.chunks (chunk row) (last row) a.chunks);
         slots = All-push (λ r. part_at u.slots.items r.number ≡ r.part) rows row (all_from (λ r. part_at u.slots.items r.number ≡ r.part) rows slotted) (slot_new u a.slots);
         free = λ number. free_more u number a;
-        places = let was = i.places in let more = length-append rows (row ∷ []) in let less = a.free_len in let same = a.slots_len in omega arith;
-        small = let was = i.small in let same = a.slots_len in omega arith;
-        room = let was = i.room in let same = a.slots_len in let cap = a.room in omega arith;
+        places = omega (arith, length-append rows (row ∷ []));
+        small = omega arith;
+        room = omega arith;
       }
 
 -- ---- in the words of a table

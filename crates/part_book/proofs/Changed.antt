@@ -49,8 +49,6 @@ next low high old now p same some alike e placed = by (find (begins_at high) now
         let both : AreAlike p q = rw (sym (ap (find (begins_at low)) same) ∙ e, f) at alike in
         let q_is = eqb-true q.span.first high (found (begins_at high) old q was).1 in
         let p_is = eqb-true p.span.first low (found (begins_at low) old p e).1 in
-        let pages = placed.0 in
-        let beside = both.beside in
         let apart : low < high = omega arith in
         (q, record { found = was; alike = both; later = find_kept (begins_at high) (λ x. not (begins_at low x)) old (λ x m t. not_from_false (begins_at low x) (grind (arith, nat_tests))) ∙ was })
 
@@ -65,7 +63,7 @@ next_is low high old now p q same some alike e placed less f =
     subst (IsNext low high old p) is n.1
 
 pub joined_placed : (p q : Part) → IsPlaced p.span → IsPlaced q.span → AreAlike p q → IsPlaced (joined p q).span
-joined_placed p q placed_p placed_q alike = let some = placed_p.0 in let low = placed_p.1 in let high = placed_q.2 in let next = alike.beside in (omega arith, low, omega arith)
+joined_placed p q placed_p placed_q alike = (omega arith, placed_p.1, omega arith)
 
 apart_from_both : (x p q : Part) → IsPlaced x.span → AreAlike p q → meets x.span p.span ≡ false → meets x.span q.span ≡ false → meets x.span (joined p q).span ≡ false
 apart_from_both x p q placed alike a b = let some = placed.0 in let next = alike.beside in grind (arith, nat_tests)
@@ -80,7 +78,6 @@ pub joined_leaves : (t u : Pages) (p q : Part) → AreAlike p q → u.chunks ≡
 joined_leaves t u p q alike chunks of_p of_q =
     let low = leaves_none t p.span of_p in
     let high = leaves_none u q.span of_q in
-    let next = alike.beside in
     let end : end_of (joined p q).span ≡ end_of q.span = omega arith in
     leaves_both u (joined p q).span (ap (λ s. set.contains s (p.span.first / 512)) chunks ∙ low.0) (ap (λ n. set.contains u.chunks ((n - 1) / 512)) end ∙ high.1)
 

@@ -114,7 +114,7 @@ wanted_less p q k c chunks = elim (cases_Bool (set.contains p.chunks c)) [
 
 -- the chunks of the first and the last page of a span
 pub chunk_inside : (s : Span) → IsPlaced s → (s.first / 512 < 65536) × ((end_of s - 1) / 512 < 65536)
-chunk_inside s placed = let some = placed.0 in let last = placed.2 in (omega arith, omega arith)
+chunk_inside s placed = (omega arith, omega arith)
 
 missing_most : (s : set.FinSet nat_cmp) → missing s ≤ 65536
 unfolding missing

@@ -178,8 +178,8 @@ empty_table t order dirty muzzy retained flights firsts numbers slots free free_
   retained = retained;
   flights = flights;
   firsts = record {
-    has = λ r m. absurd (let l = m.1 in omega arith);
-    from = λ k m. absurd (let n : Contains {X = Key} [] k = subst (λ ks. Contains ks k) firsts m in let l = n.1 in omega arith);
+    has = λ r m. absurd (omega arith);
+    from = λ k m. absurd (let n : Contains {X = Key} [] k = subst (λ ks. Contains ks k) firsts m in omega arith);
   };
   edges = λ page. ap (λ m. map_of.get m page) numbers ∙ map_of.get-empty nat_cmp page;
   leaves = All-nil (IsLeafed t.edges.chunks);

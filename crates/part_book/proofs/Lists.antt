@@ -145,7 +145,7 @@ module _ {X : Type 0} where
     map_has h xs x (k, l, e) = (k, rw length-map l, get_or-map h xs k x (h x) l ∙ ap h e)
 
     pub map_from : (h : X → Y) (xs : List X) (y : Y) → Contains (map h xs) y → (x : X) × Contains xs x × (h x ≡ y)
-    map_from h [] y m = absurd (let l = m.1 in omega arith)
+    map_from h [] y m = absurd (omega arith)
     map_from h (x ∷ xs) y m = elim (contains_cases (h x) (map h xs) y m) [
       | inl e ↦ (x, head x xs, e)
       | inr d ↦ let p = map_from h xs y d in (p.0, contains_later x xs p.0 p.1, p.2)

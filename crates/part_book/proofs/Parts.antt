@@ -66,13 +66,13 @@ pub held_by_none : (parts : List Part) (page : ℕ) → All (λ p. page + 1 ≤ 
 held_by_none parts page above = find_none (λ q. has_page page q.span) parts (λ x m. let l = All-contains (λ p. page + 1 ≤ p.span.first) parts x above m in grind (arith, nat_tests))
 
 begins_inside : (p : Part) → IsPlaced p.span → p.span.first < 33554432
-begins_inside p placed = let some = placed.0 in let last = placed.2 in omega arith
+begins_inside p placed = omega arith
 
 -- a bound of 64 bits lies above all pages
 pub clamped : (parts : List Part) (p : Part) (page : ℕ) → IsApart parts → IsLastBelow (min page 18446744073709551615) parts p → IsLastBelow page parts p
 clamped parts p page apart last = record {
   listed = last.listed;
-  below = let b = last.below in omega arith;
+  below = omega arith;
   last = all_from (λ q. q.span.first < page → q.span.first ≤ p.span.first) parts (λ q m l.
       let inside = begins_inside q (placed parts q apart m) in
       All-contains (λ q. q.span.first < min page 18446744073709551615 → q.span.first ≤ p.span.first) parts q last.last m (omega arith));

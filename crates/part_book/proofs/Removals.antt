@@ -138,7 +138,7 @@ module _ (t : Table) (rows : List Row) (row : Row) (i : IsTable t rows) (m : Con
         let o = other_row row.number rows r n in
         without_keeps t.firsts.keys (key_of row) (key_of r) (i.firsts.has r o.0) (λ e.
         let same = eq-eqb r.number row.number (ap (λ (k : Key). k.minor) e) in
-        let other = o.1 in let no : true ≡ false = sym same ∙ other in cc));
+        let no : true ≡ false = sym same ∙ o.1 in cc));
     from = λ k n. (
         let o = without_from t.firsts.keys (key_of row) k n in
         let p = i.firsts.from k o.0 in
@@ -157,7 +157,7 @@ module _ (t : Table) (rows : List Row) (row : Row) (i : IsTable t rows) (m : Con
               let has : (x : Row) → Contains rows x → is_edge page x.part ≡ true → has_page page x.part.span ≡ true = λ x k. edge_has x.part page (row_placed rows x i.apart k) in
               let same = one_row rows i.apart page row r m o.0 (has row m e) (has r o.0 g) in
               let is = eq-eqb r.number row.number (ap (λ (x : Row). x.number) same) in
-              let other = o.1 in let no : true ≡ false = sym is ∙ other in cc)),
+              let no : true ≡ false = sym is ∙ o.1 in cc)),
         ) refl
         | inr f ↦ rw f (i.edges page ∙ ap (option_map (λ r. r.number)) (sym (find_kept (λ r. is_edge page r.part) (λ r. not (eqb r.number row.number)) rows (λ r n g. differs (λ x. is_edge page x.part) r n g f))))
       ]
@@ -190,9 +190,9 @@ module _ (t : Table) (rows : List Row) (row : Row) (i : IsTable t rows) (m : Con
     leaves = subst (λ chunks. All (IsLeafed chunks) (others row.number rows)) (sym a.chunks) (All-filter (λ r. not (eqb r.number row.number)) (IsLeafed t.edges.chunks) rows i.leaves);
     slots = subst (λ v. All (λ r. part_at v.items r.number ≡ r.part) (others row.number rows)) (sym a.slots) (All-filter (λ r. not (eqb r.number row.number)) (λ r. part_at t.slots.items r.number ≡ r.part) rows i.slots);
     free = λ number. free_less u.free.items number a.free ∙ ap (λ v. bit (ltb number (vec_len v))) (sym a.slots);
-    places = let was = i.places in let less = fewer in let more = a.free_len in let same = ap vec_len a.slots in omega arith;
+    places = omega (arith, fewer, ap vec_len a.slots);
     small = rw a.slots i.small;
-    room = let was = i.room in let cap = a.room in let same = ap vec_len a.slots in omega arith;
+    room = omega (arith, ap vec_len a.slots);
   }
 
 -- ---- in the words of a table

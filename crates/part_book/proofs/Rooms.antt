@@ -46,8 +46,8 @@ same_table t u i a = keeps u (rows_of t) (same_rows t u i a) (record {
   edges = λ page. ap (λ m. map_of.get m page) a.numbers ∙ i.edges page;
   leaves = subst (λ chunks. All (IsLeafed chunks) (rows_of t)) (sym a.chunks) i.leaves;
   slots = all_from (λ r. part_at u.slots.items r.number ≡ r.part) (rows_of t) (λ r m. a.kept r.number (in_slots t (rows_of t) r i m) ∙ in_slot t (rows_of t) r i m);
-  free = λ number. (let was = i.free number in let now = a.free number in omega arith);
-  places = let was = i.places in let now = a.places in omega arith;
+  free = λ number. omega (arith, i.free number, a.free number);
+  places = omega arith;
   small = a.small;
   room = a.room;
 })

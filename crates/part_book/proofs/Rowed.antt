@@ -113,4 +113,4 @@ others_apart t rows r i m = all_from (λ p. meets p.span r.part.span ≡ false) 
     let page = share_page x.0.part r.part (row_placed rows x.0 i.apart o.0) (row_placed rows r i.apart m) t' in
     let e = one_row rows i.apart page.0 r x.0 m o.0 page.2 page.1 in
     let g : eqb x.0.number r.number ≡ true = eq-eqb x.0.number r.number (ap (λ (y : Row). y.number) e) in
-    let f = o.1 in cc))
+    cc))

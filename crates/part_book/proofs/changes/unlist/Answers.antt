@@ -6,5 +6,4 @@ pub returns-then-is_listed-clause-places : goal.returns-then-is_listed-clause-pl
 returns-then-is_listed-clause-places c =
     let kept = kept_length (λ s. eqb s.number c.args.number) c.args.spans.now.spans in
     let len = ap length c.remove.ensures.spans in
-    let once = c.requires.once in
     omega arith

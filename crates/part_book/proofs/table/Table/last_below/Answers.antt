@@ -11,7 +11,6 @@ pub overflow_cast-key : goal.overflow_cast-key
 overflow_cast-key c =
     let r = last_row (rows_of c.args.self.now) _ c.args.page _ c.requires.table.firsts c.in_ok-key.ensures.ascending (sym c.in_ok-key.ensures.found) in
     let within = (slot_of c.args.self.now _ r.0 c.requires.table r.1 r.2).0 in
-    let small = c.requires.table.small in
     omega arith
 
 pub part_at-requires : goal.part_at-requires

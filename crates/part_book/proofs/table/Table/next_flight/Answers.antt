@@ -10,7 +10,7 @@ pub part_at-part-requires : goal.part_at-part-requires
 part_at-part-requires c =
     let t = c.args.self.now in
     let e = c.deref-number-items.ensures.value in
-    let within : c.loop-number.number-index < length t.flights.items = let l = ap length e in let m = c.loop-number-test.true in omega arith in
+    let within : c.loop-number.number-index < length t.flights.items = omega (arith, ap length e) in
     subst (λ ns. get_or ns c.loop-number.number-index 0 < vec_len t.slots) (sym e) (flights_in_slots t (rows_of t) c.requires.table c.loop-number.number-index within)
 
 pub returns-then-is_flight_of : goal.returns-then-is_flight_of
@@ -19,8 +19,8 @@ returns-then-is_flight_of c =
     let i = c.loop-number.number-index in
     let e = c.deref-number-items.ensures.value in
     let part = c.part_at-part.ensures ∙ ap (λ ns. part_at t.slots.items (get_or ns i 0)) e in
-    let own = ap (λ p. is_flight c.args.client p.state) (sym part) ∙ sym c.is_flight_of.ensures ∙ c.if-is_flight_of.true in
-    let within : i < length t.flights.items = let l = ap length e in let m = c.loop-number-test.true in omega arith in
+    let own = ap (λ p. is_flight c.args.client p.state) (sym part) ∙ sym c.is_flight.ensures ∙ c.if-is_flight.true in
+    let within : i < length t.flights.items = omega (arith, ap length e) in
     let first = first_number (is_flown t.slots.items c.args.client) t.flights.items i within c.loop-number.invariant own in
     ap (λ p. Some p.span) part ∙ sym (ap (option_map (λ p. p.span)) (flight_of t c.args.client c.requires.table ∙ ap (option_map (part_at t.slots.items)) first))
 
@@ -28,7 +28,6 @@ pub returns : goal.returns
 returns c =
     let t = c.args.self.now in
     let len = ap length c.deref-number-items.ensures.value in
-    let all = c.loop-number-test.false in
     let none = no_number (is_flown t.slots.items c.args.client) t.flights.items (λ k l. c.loop-number.invariant k (omega arith)) in
     sym (ap (option_map (λ p. p.span)) (flight_of t c.args.client c.requires.table ∙ ap (option_map (part_at t.slots.items)) none))
 

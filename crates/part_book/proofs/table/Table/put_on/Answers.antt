@@ -43,7 +43,6 @@ launch-requires c =
     let t = c.args.self.now in
     let new = fresh t c.args.part _ _ _ c.requires.table c.pop.ensures.items c.unwrap-number.ensures c.requires.placed c.requires.apart in
     let fewer = flights_fewer t (rows_of t) _ c.requires.table new in
-    let room = c.requires.room.flights in
     omega (arith, t.flights.ok.0)
 
 pub returns-clause-kept : goal.returns-clause-kept

@@ -40,6 +40,4 @@ returns-clause-kept c =
 pub returns-clause-ok_leaves : goal.returns-clause-ok_leaves
 returns-clause-ok_leaves c =
     let spare = ap (λ p. p.spare) c.in_ok-reserve-3.ensures.ok in
-    let least = c.min.ensures in
-    let twice = c.saturating_mul.ensures in
     on_ok_weaker c.reserve_numbers.result (λ _. leaves_enough c.reserve-3.new.self (2 * c.args.more) (omega arith)) c.reserve_numbers.ensures.ok
