@@ -57,13 +57,11 @@ fresh t part front o number i free is placed apart =
 
 span_apart : (p q : Part) → IsPlaced p.span → IsPlaced q.span → meets p.span q.span ≡ false → (p.span.first + p.span.pages ≤ q.span.first) ⊎ (q.span.first + q.span.pages ≤ p.span.first)
 span_apart p q placed_p placed_q f =
-    let some_p = placed_p.0 in
-    let some_q = placed_q.0 in
     elim (cases_lt q.span.first (p.span.first + p.span.pages)) [ inl l ↦ inr (grind (arith, nat_tests)) | inr g ↦ inl g ]
 
 -- a page has the number of the extent whose first or last page it is
 pub edge_test : (p : Part) (page : ℕ) → IsPlaced p.span → is_edge page p ≡ (eqb page (end_of p.span - 1) || eqb page p.span.first)
-edge_test p page placed = let some = placed.0 in grind (arith, nat_tests)
+edge_test p page placed = grind (arith, nat_tests)
 
 pub twice : (a b : Bool) (x y : Option ℕ) → cond a x (cond b x y) ≡ cond (a || b) x y
 twice true b x y = refl

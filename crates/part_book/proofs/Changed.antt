@@ -66,7 +66,7 @@ pub joined_placed : (p q : Part) → IsPlaced p.span → IsPlaced q.span → Are
 joined_placed p q placed_p placed_q alike = (omega arith, placed_p.1, omega arith)
 
 apart_from_both : (x p q : Part) → IsPlaced x.span → AreAlike p q → meets x.span p.span ≡ false → meets x.span q.span ≡ false → meets x.span (joined p q).span ≡ false
-apart_from_both x p q placed alike a b = let some = placed.0 in let next = alike.beside in grind (arith, nat_tests)
+apart_from_both x p q placed alike a b = grind (arith, nat_tests)
 
 pub joined_apart : (t u : List Part) (high : ℕ) (p q : Part) → IsApart u → AreAlike p q → u ≡ filter (λ x. not (begins_at high x)) t → All (λ x. meets x.span p.span ≡ false) t → All (λ x. meets x.span q.span ≡ false) u → All (λ x. meets x.span (joined p q).span ≡ false) u
 joined_apart t u high p q sound alike less from_p from_q =

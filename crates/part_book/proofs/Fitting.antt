@@ -73,7 +73,7 @@ none_fits rest rows pages align some none = find_none (is_best rest pages align 
 -- an extent that isn't smaller, nor as small and at a lower page, is no better
 not_better : (p q : Part) → (p.span.pages < q.span.pages) ⊎ ((p.span.pages ≡ q.span.pages) × (p.span.first ≤ q.span.first)) → is_better q p ≡ false
 not_better p q (inl l) = grind (arith, nat_tests)
-not_better p q (inr e) = let pages = e.0 in let first = e.1 in grind (arith, nat_tests)
+not_better p q (inr e) = grind (arith, nat_tests)
 
 -- of two extents that aren't better than one another both begin at one page
 same_first : (p q : Part) → is_better p q ≡ false → is_better q p ≡ false → p.span.first ≡ q.span.first

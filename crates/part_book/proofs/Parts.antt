@@ -21,10 +21,10 @@ pub one_owner : (parts : List Part) → IsApart parts → (page : ℕ) (x y : Pa
 one_owner parts apart page x y m n t u = only_one (λ p. has_page page p.span) parts x y (apart.owners page) m n t u
 
 pub begins_has : (p : Part) (page : ℕ) → IsPlaced p.span → begins_at page p ≡ true → has_page page p.span ≡ true
-begins_has p page placed t = let some = placed.0 in grind (arith, nat_tests)
+begins_has p page placed t = grind (arith, nat_tests)
 
 pub edge_has : (p : Part) (page : ℕ) → IsPlaced p.span → is_edge page p ≡ true → has_page page p.span ≡ true
-edge_has p page placed t = let some = placed.0 in grind (arith, nat_tests)
+edge_has p page placed t = grind (arith, nat_tests)
 
 -- a page is the first or the last one of one extent
 pub one_edge : (parts : List Part) → IsApart parts → (page : ℕ) (x y : Part) → Contains parts x → Contains parts y → is_edge page x ≡ true → is_edge page y ≡ true → y ≡ x
@@ -50,7 +50,7 @@ pub last_owns : (parts : List Part) (p x : Part) (page other : ℕ) → IsApart 
 last_owns parts p x page other apart last m l le t =
     let up : x.span.first ≤ p.span.first = All-contains (λ q. q.span.first < page → q.span.first ≤ p.span.first) parts x last.last m l in
     let own : has_page p.span.first p.span ≡ true = let some = (placed parts p apart last.listed).0 in grind (arith, nat_tests) in
-    let shared : has_page p.span.first x.span ≡ true = let below = last.below in grind (arith, nat_tests) in
+    let shared : has_page p.span.first x.span ≡ true = grind (arith, nat_tests) in
     one_owner parts apart p.span.first p x last.listed m own shared
 
 -- the extent that has a page is the last one that begins at it or below, or none
@@ -87,7 +87,7 @@ clamped_none parts page apart above = all_from (λ p. page ≤ p.span.first) par
 -- the last extent that begins before a span ends meets it, or none does
 pub met_by_last : (parts : List Part) (s : Span) (p : Part) → IsApart parts → IsLastBelow (end_of s) parts p → list_any (λ q. meets q.span s) parts ≡ ltb s.first (end_of p.span)
 met_by_last parts s p apart last = elim (cases_Bool (ltb s.first (end_of p.span))) [
-  | inl t ↦ rw t (list_any-from_Any (λ q. meets q.span s) parts (let b = last.below in let at = last.listed in (at.0, p, at.1, at.2, grind (arith, nat_tests))))
+  | inl t ↦ rw t (list_any-from_Any (λ q. meets q.span s) parts (let at = last.listed in (at.0, p, at.1, at.2, grind (arith, nat_tests))))
   | inr f ↦ rw f (list_any_none (λ q. meets q.span s) parts (all_from (λ q. meets q.span s ≡ false) parts (λ q m. false_from_ne_true (meets q.span s) (λ t. other q m t f))))
 ]
   where
@@ -95,7 +95,6 @@ met_by_last parts s p apart last = elim (cases_Bool (ltb s.first (end_of p.span)
     other q m t f =
         let in_q = placed parts q apart m in
         let in_p = placed parts p apart last.listed in
-        let some = in_p.0 in
         let under : q.span.first < end_of s = grind (arith, nat_tests) in
         let up : q.span.first ≤ p.span.first = All-contains (λ q. q.span.first < end_of s → q.span.first ≤ p.span.first) parts q last.last m under in
         let same = one_owner parts apart p.span.first p q last.listed m (grind (arith, nat_tests)) (grind (arith, nat_tests)) in

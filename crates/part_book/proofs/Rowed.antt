@@ -45,8 +45,6 @@ other_row number rows x m = let p = filter_from (λ row. not (eqb row.number num
 -- spans that meet share a page
 pub share_page : (p q : Part) → IsPlaced p.span → IsPlaced q.span → meets p.span q.span ≡ true → (page : ℕ) × (has_page page p.span ≡ true) × (has_page page q.span ≡ true)
 share_page p q placed_p placed_q t =
-    let some_p = placed_p.0 in
-    let some_q = placed_q.0 in
     elim (cases_lt p.span.first q.span.first) [
       | inl l ↦ (q.span.first, grind (arith, nat_tests), grind (arith, nat_tests))
       | inr g ↦ (p.span.first, grind (arith, nat_tests), grind (arith, nat_tests))
