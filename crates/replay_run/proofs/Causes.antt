@@ -1,9 +1,11 @@
 -- Each answer in a play has its cause.
-use Rattle.std.proofs.Common.{ltb as nat_lt, ◌≡◌, List, [], ◌∷◌, ◌++◌, Option, Some, None, IfSome, refl, sym, ap, ◌∙◌, subst}
+use Rattle.std.proofs.Common.{◌≡◌, List, [], ◌∷◌, ◌++◌, Option, Some, None, IfSome, refl, sym, ap, ◌∙◌, subst}
 use mathlib.Core.List.{append-nil}
-use Rattle.space_model.specs.Step.{step_of, op_stands}
-use Rattle.space_model.proofs.Pieces.{both_true}
-use Rattle.call_plan.specs.Reading.{Item, Replied, Told, WantTurn, WantAsk, Outcome, Ends, Waits, Astray}
+use Rattle.space_model.specs.Step.{step_of}
+use Rattle.call_plan.specs.declared.needs.Request.{Request}
+use Rattle.call_plan.specs.declared.needs.Request.TheVariants.{Malloc, Free}
+use Rattle.call_plan.specs.Reading.{Item, Replied, Told, WantTurn, WantAsk, Outcome, Ends, Waits}
+use Rattle.call_plan.specs.declared.needs.Answered.{Answered}
 use Rattle.call_plan.specs.Rest.{rest_of}
 use Rattle.call_plan.specs.Calls.{reading}
 use Rattle.space_model.specs.declared.Space.{Space}
@@ -11,12 +13,12 @@ use Rattle.call_plan.specs.Causes.{ItemFits, AreReplies}
 use Rattle.call_plan.proofs.Causes.{replies-fit, items_fit-push}
 use Rattle.trace_text.specs.declared.lines.Line.{Line}
 use Rattle.trace_text.specs.declared.lines.Line.TheVariants.{Call}
-use Rattle.replay_run.specs.World.{Open, World, Move, Turned, Heard_, outcome_of, on_end, printed, begun, fed, opened, opening, moved, after_in, after_move, Fits, NextIn, IsNext, IsPlay}
+use Rattle.replay_run.specs.World.{Open, World, Move, Turned, Heard_, outcome_of, printed, begun, fed, opened, opening, moved, after_in, after_move, Fits, NextIn, IsNext, IsPlay}
 use Rattle.replay_run.specs.Sane.{Kept, Going, Sane}
-use Rattle.replay_run.specs.Causes.{items_in, IsExplained, EndsExplained, AllMoves, PlaysHaveCauses, AnswersAtOnceHaveCauses}
-use Rattle.call_plan.proofs.Ended.{ended_only, run_explained}
-use Rattle.replay_run.proofs.Starts.{ends_at_once}
-use Rattle.replay_run.proofs.Plays.{after_sane, opening_sane, first_good, next_turn, turned_going, heard_going}
+use Rattle.replay_run.specs.Causes.{items_in, AnswerHasCause, IsExplained, EndsExplained, AllMoves, PlaysHaveCauses, AnswersAtOnceHaveCauses}
+use Rattle.replay_run.proofs.Starts.{ended_only, ends_at_once}
+use Rattle.replay_run.proofs.Later.{fed_is}
+use Rattle.replay_run.proofs.Plays.{after_sane, opening_sane, first_good, going_ready, turned_going, heard_going}
 
 -- what the open call was fed are replies to its turns and answers to its asks
 abbrev IsFed : World → Type 0
@@ -25,22 +27,11 @@ IsFed w = IfSome w.call (λ call. AreReplies call.desk call.request call.items)
 -- a line opens a call that was fed nothing
 begun_fed : (lines : List Line) (w : World) → IsFed (begun lines w)
 begun_fed [] w = tt
-begun_fed (Call client verb ∷ lines) w =
-    let call : Open = opened w client verb in
-    elim (outcome_of call) as (λ o. IsFed (on_end o (λ answer. begun lines (printed w call answer)) (record w { call = Some call; lines = lines }))) [
-      | Ends answer items ↦ begun_fed lines (printed w call answer)
-      | Waits want ↦ tt
-      | Astray ↦ tt
-    ]
+begun_fed (Call client verb ∷ lines) w = fed_is IsFed w (opened w client verb) lines (λ answer. begun_fed lines (printed w (opened w client verb) answer)) tt
 
 -- a call that was fed one more
 fed_fed : (w : World) (call : Open) (lines : List Line) → AreReplies call.desk call.request call.items → IsFed (fed w call lines)
-fed_fed w call lines are =
-    elim (outcome_of call) as (λ o. IsFed (on_end o (λ answer. begun lines (printed w call answer)) (record w { call = Some call; lines = lines }))) [
-      | Ends answer items ↦ begun_fed lines (printed w call answer)
-      | Waits want ↦ are
-      | Astray ↦ are
-    ]
+fed_fed w call lines are = fed_is IsFed w call lines (λ answer. begun_fed lines (printed w call answer)) are
 
 -- a move that is needed feeds an item that fits
 fits_more : (w : World) (call : Open) (o : Outcome) (move : Move) → Kept w.space w.kept → Going w.space call → outcome_of call ≡ o → Fits w o move →
@@ -48,7 +39,7 @@ fits_more : (w : World) (call : Open) (o : Outcome) (move : Move) → Kept w.spa
 fits_more w call (Waits (WantTurn arena op asked)) Turned known going e fits are =
     items_fit-push (reading call.desk call.request) call.items (Replied (step_of w.space call.client op).reply) are
     (subst (λ (o : Outcome). ItemFits o (Replied (step_of w.space call.client op).reply)) (sym e) (replies-fit w.space call.client op
-    (both_true (nat_lt call.client 32) (op_stands w.space call.client op) (next_turn w.space w.kept call arena op asked known going e).may).1))
+    (going_ready w.space w.kept call arena op asked known going e).law.stands))
 fits_more w call (Waits (WantAsk arena wanted)) (Heard_ asked) known going e fits are =
     items_fit-push (reading call.desk call.request) call.items (Told asked) are
     (subst (λ (o : Outcome). ItemFits o (Told asked)) (sym e) fits.0)

@@ -5,9 +5,10 @@ use Rattle.hook_api.specs.Asked.{AskFacts}
 use Rattle.hook_api.specs.Chain.{AskChain}
 use Rattle.hook_api.specs.Shelf.{Shelf}
 use Rattle.call_plan.specs.Reading.{Replied, Told, WantTurn, WantAsk, Outcome, Ends, Waits, Astray}
+use Rattle.call_plan.specs.declared.needs.Answered.{Answered}
 use Rattle.trace_text.specs.declared.lines.Line.{Line}
 use Rattle.trace_text.specs.declared.lines.Line.TheVariants.{Call}
-use Rattle.replay_run.specs.World.{Open, World, outcome_of, on_end, idle, printed, opened, begun, fed, Move, Turned, Heard_, moved, after_in, after_move, Fits, NextIn, IsPlay, world_after, asks_in, answer_line}
+use Rattle.replay_run.specs.World.{Open, World, outcome_of, on_end, printed, opened, begun, fed, Move, Turned, Heard_, moved, after_in, after_move, Fits, NextIn, IsPlay, world_after, asks_in, answer_line}
 
 -- the world with more lines to come, by its open call: where none is open, they begin
 abbrev pub later_in : List Line → World → Option Open → World
@@ -17,51 +18,33 @@ later_in more w (Some call) = record w { lines = w.lines ++ more }
 abbrev pub later : List Line → World → World
 later more w = later_in more w w.call
 
--- the lines that begin don't depend on those that were to come
-begun_lines : (lines rest : List Line) (w : World) → begun lines (record w { lines = rest }) ≡ begun lines w
-begun_lines [] rest w = refl
-begun_lines (Call client verb ∷ lines) rest w =
+-- the lines that begin don't depend on those that were to come, nor on the call that was open
+begun_any : (lines rest : List Line) (open_call : Option Open) (w : World) → begun lines (record w { call = open_call; lines = rest }) ≡ begun lines w
+begun_any [] rest open_call w = refl
+begun_any (Call client verb ∷ lines) rest open_call w =
     let call : Open = opened w client verb in
-    elim (outcome_of call) as (λ o. on_end o (λ answer. begun lines (printed (record w { lines = rest }) call answer)) (record w { call = Some call; lines = lines })
+    elim (outcome_of call) as (λ o. on_end o (λ answer. begun lines (printed (record w { call = open_call; lines = rest }) call answer)) (record w { call = Some call; lines = lines })
     ≡ on_end o (λ answer. begun lines (printed w call answer)) (record w { call = Some call; lines = lines })) [
-      | Ends answer items ↦ begun_lines lines rest (printed w call answer)
+      | Ends answer items ↦ begun_any lines rest open_call (printed w call answer)
       | Waits want ↦ refl
       | Astray ↦ refl
     ]
 
--- nor on the call that was open
-begun_idle : (lines : List Line) (w : World) → begun lines (idle w) ≡ begun lines w
-begun_idle [] w = refl
-begun_idle (Call client verb ∷ lines) w =
-    let call : Open = opened w client verb in
-    elim (outcome_of call) as (λ o. on_end o (λ answer. begun lines (printed (idle w) call answer)) (record w { call = Some call; lines = lines })
-    ≡ on_end o (λ answer. begun lines (printed w call answer)) (record w { call = Some call; lines = lines })) [
-      | Ends answer items ↦ begun_idle lines (printed w call answer)
+-- a call that was fed one more, with more lines to come
+fed_later : (w : World) (call : Open) (lines more rest : List Line) → ((v : World) → begun (lines ++ more) v ≡ later more (begun lines v)) →
+    fed (record w { lines = rest }) call (lines ++ more) ≡ later more (fed w call lines)
+fed_later w call lines more rest begin =
+    elim (outcome_of call) as (λ o. on_end o (λ answer. begun (lines ++ more) (printed (record w { lines = rest }) call answer)) (record w { call = Some call; lines = lines ++ more })
+    ≡ later more (on_end o (λ answer. begun lines (printed w call answer)) (record w { call = Some call; lines = lines }))) [
+      | Ends answer items ↦ begun_any (lines ++ more) rest w.call (printed w call answer) ∙ begin (printed w call answer)
       | Waits want ↦ refl
       | Astray ↦ refl
     ]
 
 -- lines and more lines begin as the lines do, and then the others
 pub begun_later : (lines more : List Line) (w : World) → begun (lines ++ more) w ≡ later more (begun lines w)
-begun_later [] more w = sym (begun_idle more w)
-begun_later (Call client verb ∷ lines) more w =
-    let call : Open = opened w client verb in
-    elim (outcome_of call) as (λ o. on_end o (λ answer. begun (lines ++ more) (printed w call answer)) (record w { call = Some call; lines = lines ++ more })
-    ≡ later more (on_end o (λ answer. begun lines (printed w call answer)) (record w { call = Some call; lines = lines }))) [
-      | Ends answer items ↦ begun_later lines more (printed w call answer)
-      | Waits want ↦ refl
-      | Astray ↦ refl
-    ]
-
--- a call that was fed one more, with more lines to come
-fed_later : (w : World) (call : Open) (lines more rest : List Line) → fed (record w { lines = rest }) call (lines ++ more) ≡ later more (fed w call lines)
-fed_later w call lines more rest =
-    elim (outcome_of call) as (λ o. on_end o (λ answer. begun (lines ++ more) (printed (record w { lines = rest }) call answer)) (record w { call = Some call; lines = lines ++ more })
-    ≡ later more (on_end o (λ answer. begun lines (printed w call answer)) (record w { call = Some call; lines = lines }))) [
-      | Ends answer items ↦ begun_lines (lines ++ more) rest (printed w call answer) ∙ begun_later lines more (printed w call answer)
-      | Waits want ↦ refl
-      | Astray ↦ refl
-    ]
+begun_later [] more w = sym (begun_any more [] None w)
+begun_later (Call client verb ∷ lines) more w = fed_later w (opened w client verb) lines more w.lines (begun_later lines more)
 
 -- a move that is needed, with more lines to come
 moved_later : (w : World) (call : Open) (o : Outcome) (move : Move) (more : List Line) → Fits w o move →
@@ -69,9 +52,9 @@ moved_later : (w : World) (call : Open) (o : Outcome) (move : Move) (more : List
 moved_later w call (Waits (WantTurn arena op asked)) Turned more fits =
     let step = step_of w.space call.client op in
     fed_later (record w { space = step.after; kept = w.kept ++ (record { entry = record { client = call.client; op = op }; asked = asked }) ∷ [] })
-    (record call { items = call.items ++ Replied step.reply ∷ [] }) w.lines more (w.lines ++ more)
+    (record call { items = call.items ++ Replied step.reply ∷ [] }) w.lines more (w.lines ++ more) (begun_later w.lines more)
 moved_later w call (Waits (WantAsk arena wanted)) (Heard_ asked) more fits =
-    fed_later w (record call { items = call.items ++ Told asked ∷ [] }) w.lines more (w.lines ++ more)
+    fed_later w (record call { items = call.items ++ Told asked ∷ [] }) w.lines more (w.lines ++ more) (begun_later w.lines more)
 moved_later w call o move more fits = absurd fits
 
 -- the next move of a world is the next one with more lines to come, and leads to the same world with them
@@ -125,34 +108,30 @@ Begins text longer = (more : List ℕ) × (longer ≡ text ++ more)
 begins_itself : (text : List ℕ) → Begins text text
 begins_itself text = ([], sym (append-nil text))
 
+-- a property of a world in which a call was fed: of the one where the next lines begin, and of the one where it waits
+pub fed_is : (P : World → Type 0) (w : World) (call : Open) (lines : List Line) → ((answer : Answered) → P (begun lines (printed w call answer))) → P (record w { call = Some call; lines = lines }) →
+    P (fed w call lines)
+fed_is P w call lines ends waits =
+    elim (outcome_of call) as (λ o. P (on_end o (λ answer. begun lines (printed w call answer)) (record w { call = Some call; lines = lines })))
+    [ Ends answer items ↦ ends answer | Waits want ↦ waits | Astray ↦ waits ]
+
+fed_grows : (w : World) (call : Open) (lines : List Line) → ((v : World) → Begins v.text (begun lines v).text) → Begins w.text (fed w call lines).text
+fed_grows w call lines grows =
+    fed_is (λ (v : World). Begins w.text v.text) w call lines
+    (λ answer. let rest = grows (printed w call answer) in
+    (answer_line call.client call.verb answer ++ rest.0, rest.1 ∙ append_assoc w.text (answer_line call.client call.verb answer) rest.0))
+    (begins_itself w.text)
+
 begun_grows : (lines : List Line) (w : World) → Begins w.text (begun lines w).text
 begun_grows [] w = begins_itself w.text
-begun_grows (Call client verb ∷ lines) w =
-    let call : Open = opened w client verb in
-    elim (outcome_of call) as (λ o. Begins w.text (on_end o (λ answer. begun lines (printed w call answer)) (record w { call = Some call; lines = lines })).text) [
-      | Ends answer items ↦
-          let rest = begun_grows lines (printed w call answer) in
-          (answer_line client verb answer ++ rest.0, rest.1 ∙ append_assoc w.text (answer_line client verb answer) rest.0)
-      | Waits want ↦ begins_itself w.text
-      | Astray ↦ begins_itself w.text
-    ]
-
-fed_grows : (w : World) (call : Open) (lines : List Line) → Begins w.text (fed w call lines).text
-fed_grows w call lines =
-    elim (outcome_of call) as (λ o. Begins w.text (on_end o (λ answer. begun lines (printed w call answer)) (record w { call = Some call; lines = lines })).text) [
-      | Ends answer items ↦
-          let rest = begun_grows lines (printed w call answer) in
-          (answer_line call.client call.verb answer ++ rest.0, rest.1 ∙ append_assoc w.text (answer_line call.client call.verb answer) rest.0)
-      | Waits want ↦ begins_itself w.text
-      | Astray ↦ begins_itself w.text
-    ]
+begun_grows (Call client verb ∷ lines) w = fed_grows w (opened w client verb) lines (begun_grows lines)
 
 moved_grows : (w : World) (call : Open) (o : Outcome) (move : Move) → Begins w.text (moved w call o move).text
 moved_grows w call (Waits (WantTurn arena op asked)) Turned =
     let step = step_of w.space call.client op in
     fed_grows (record w { space = step.after; kept = w.kept ++ (record { entry = record { client = call.client; op = op }; asked = asked }) ∷ [] })
-    (record call { items = call.items ++ Replied step.reply ∷ [] }) w.lines
-moved_grows w call (Waits (WantAsk arena wanted)) (Heard_ asked) = fed_grows w (record call { items = call.items ++ Told asked ∷ [] }) w.lines
+    (record call { items = call.items ++ Replied step.reply ∷ [] }) w.lines (begun_grows w.lines)
+moved_grows w call (Waits (WantAsk arena wanted)) (Heard_ asked) = fed_grows w (record call { items = call.items ++ Told asked ∷ [] }) w.lines (begun_grows w.lines)
 moved_grows w call o move = begins_itself w.text
 
 after_grows : (w : World) (o : Option Open) (move : Move) → Begins w.text (after_in w move o).text

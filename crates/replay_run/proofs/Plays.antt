@@ -1,5 +1,6 @@
 -- Each world of a play is sound.
-use Rattle.std.proofs.Common.{◌≡◌, ℕ, ◌<◌, true, false, cond, List, [], ◌∷◌, ◌++◌, Option, Some, None, IfSome, refl, sym, ◌∙◌, ap, subst, arith, All, map, ◌&&◌, ◌||◌, ◌==◌, lt-ltb, append-nil, append_assoc}
+use Rattle.std.proofs.Common.{◌≡◌, ℕ, ◌<◌, true, false, cond, List, [], ◌∷◌, ◌++◌, Option, Some, None, IfSome, refl, sym, ◌∙◌, ap, subst, arith, All, ◌&&◌, ◌||◌, ◌==◌, lt-ltb, append-nil, append_assoc}
+use Rattle.std.proofs.lemmas.List.{map_push}
 use Rattle.std.specs.List.{list_any, range_with_len}
 use Rattle.std.proofs.lemmas.List.Sums.{fold_push}
 use Rattle.std.proofs.lemmas.List.Elements.{All-nil, All-head, All-tail}
@@ -14,14 +15,14 @@ use Rattle.space_model.specs.Step.{space_after, reply_to, stands, step_of, op_st
 use Rattle.space_model.specs.Region.{is_held_by}
 use Rattle.space_model.proofs.Steps.{Good-step}
 use Rattle.call_plan.specs.Flying.{HasFlights}
-use Rattle.call_plan.specs.Left.{flights}
+use Rattle.call_plan.specs.Left.{flights, steps_left}
 use Rattle.call_plan.proofs.Counted.{turn_flights, ask_flights}
 use Rattle.space_model.specs.declared.Pace.{Pace}
 use Rattle.space_model.specs.declared.Span.{Span}
 use Rattle.space_model.specs.declared.Reply.TheVariants.{Next, Beside, Joined}
 use Rattle.thread_cache.specs.declared.Held.{Held}
 use Rattle.call_plan.specs.declared.needs.Answered.TheVariants.{Ok as AnswersOk}
-use Rattle.call_plan.specs.declared.needs.Given.TheVariants.{Region as GivesRegion, Done as GivesDone}
+use Rattle.call_plan.specs.declared.needs.Given.TheVariants.{Done as GivesDone}
 use Rattle.space_model.specs.declared.Region.{Region}
 use Rattle.call_plan.specs.declared.needs.Request.{Request}
 use Rattle.call_plan.specs.declared.needs.Request.TheVariants.{Malloc, Free}
@@ -29,13 +30,13 @@ use Rattle.call_plan.specs.declared.stages.Stage.TheVariants.{Give, Put}
 use Rattle.call_plan.specs.declared.puts.Putting.{Putting}
 use Rattle.call_plan.specs.declared.puts.Putting.TheVariants.{Finding, MergeAsked, Merging}
 use Rattle.call_plan.specs.Desks.{DeskFacts}
-use Rattle.call_plan.specs.Free.{Onward, To, Over, Nowhere, put_step, beside, is_right, is_left}
+use Rattle.call_plan.specs.Free.{Onward, To, Nowhere, put_step, beside, is_right, is_left}
 use Rattle.call_plan.specs.Calls.{IsBuilt, IsLook, gave_stage, put_stage}
 use Rattle.trace_text.specs.declared.lines.Verb.{Verb}
 use Rattle.replay_run.specs.Hands.{IsInHands}
 use Rattle.replay_run.specs.World.{hands_at, hands_in, desk_ended, call_of, request_of}
 use Rattle.replay_run.specs.Sane.{hands_now}
-use Rattle.replay_run.proofs.Desks.{onto_reply, onto_answer, hands_stage, hands_at_stage, hands_reply, hands_answer}
+use Rattle.replay_run.proofs.Desks.{fed_one, onto_reply, onto_answer, hands_stage, hands_at_stage, hands_reply, hands_answer}
 use Rattle.hook_api.specs.Asked.{AskFacts}
 use Rattle.hook_api.specs.Hooks.{Answers}
 use Rattle.hook_api.specs.Kept.{KeptFacts}
@@ -44,13 +45,14 @@ use Rattle.call_plan.specs.declared.needs.Fed.TheVariants.{Replied as FedReply, 
 use Rattle.call_plan.specs.declared.stages.Stage.{Stage}
 use Rattle.call_plan.specs.declared.stages.Stage.TheVariants.{Get, Ended}
 use Rattle.call_plan.specs.declared.wishes.Wish.{Wish}
-use Rattle.call_plan.specs.Reading.{Item, Replied, Told, WantTurn, WantAsk, Outcome, Ends, Waits, Astray}
+use Rattle.call_plan.specs.Reading.{Item, Want, Replied, Told, WantTurn, WantAsk, Outcome, Ends, Waits, Astray}
 use Rattle.hook_api.specs.Kept.{IsKept}
-use Rattle.call_plan.specs.Rest.{rest_of, IsFitting}
+use Rattle.call_plan.specs.Rest.{rest_of}
 use Rattle.call_plan.specs.Calls.{reading, IsPlanned, IsWish, stage_after, stage_of}
-use Rattle.call_plan.specs.Knows.{Ground}
+use Rattle.call_plan.specs.Knows.{Knows, Ground}
 use Rattle.call_plan.specs.Laws.{GoesOn}
 use Rattle.replay_run.proofs.Wants.{needed_turn}
+use Rattle.call_plan.proofs.Shorter.{turns-shorten}
 use Rattle.call_plan.proofs.GoingOn.{turns-go_on, asks-go_on}
 use Rattle.call_plan.proofs.Points.{reply-reads, answer-reads}
 use Rattle.call_plan.specs.declared.wishes.Getting.{Getting}
@@ -80,10 +82,6 @@ all_stand-push s [] e all here = ap (λ b. b && true) here
 all_stand-push s (x ∷ es) e all here =
     elim (stands s x) as (λ b. (b && all_stand (space_after s x) es) ≡ true → (b && all_stand (space_after s x) (es ++ e ∷ [])) ≡ true)
     [ true ↦ λ h. all_stand-push (space_after s x) es e h here | false ↦ λ h. absurd (cc) ] all
-
-map-push : {X Y : Type 0} (f : X → Y) (xs : List X) (x : X) → map f (xs ++ x ∷ []) ≡ map f xs ++ f x ∷ []
-map-push f [] x = refl
-map-push f (y ∷ ys) x = ap (λ zs. f y ∷ zs) (map-push f ys x)
 
 -- ---- what is kept from world to world
 
@@ -129,44 +127,49 @@ hands_fresh desk verb request regions hands =
 
 -- the client stays who it is
 pub ended_client : (desk : DeskFacts) (request : Request) (answer : Answered) → (desk_ended desk request answer).client ≡ desk.client
-ended_client desk (Malloc size) (AnswersOk (GivesRegion addr class)) = refl
 ended_client desk (Malloc size) (AnswersOk GivesDone) = refl
-ended_client desk (Malloc size) answer = refl
-ended_client desk (Free addr) (AnswersOk (GivesRegion at class)) = refl
 ended_client desk (Free addr) (AnswersOk GivesDone) = refl
-ended_client desk (Free addr) answer = refl
+ended_client desk request answer = refl
 
--- a world in which a line was opened
-pub begun_sane : (lines : List Line) (w : World) → Kept w.space w.kept → IsInHands 0 w.space.regions w.desk.held → flights 0 w.space ≡ 0 → All IsCarried lines → Sane (begun lines w)
-begun_sane [] w known hands rests carried = record { kept = known; call = tt; desk = tt; in_hands = hands; rests = λ idle. rests; lines = All-nil IsCarried }
-begun_sane (Call client verb ∷ lines) w known hands rests carried =
-    let here = carried_built w.names client verb (All-head IsCarried (Call client verb) lines carried) in
-    let later = All-tail IsCarried (Call client verb) lines carried in
-    let call : Open = opened w client verb in
-    let going : Going w.space call =
-    subst (λ (c : ℕ). Going w.space (record (call_of w.desk verb (request_of w.names verb)) { client = c })) (sym here.1) (opened_going w.space w.desk verb (request_of w.names verb) here.0 hands rests) in
-    let fresh : IsInHands 0 w.space.regions (hands_at w.desk.held (request_of w.names verb) []) =
-    subst (IsInHands 0 w.space.regions) (sym (fresh_hands w.desk.held (request_of w.names verb))) hands in
-    elim (outcome_of call) as (λ o. outcome_of call ≡ o → Sane (on_end o (λ answer. begun lines (printed w call answer)) (record w { call = Some call; lines = lines }))) [
-      | Ends answer items ↦ λ e. begun_sane lines (printed w call answer) known
-          (subst (λ (d : DeskFacts). IsInHands 0 w.space.regions d.held) (sym (ends_at_once w.desk (request_of w.names verb) answer items e).0) hands) rests later
-      | Waits want ↦ λ e. record { kept = known; call = going; desk = refl; in_hands = fresh; rests = λ idle. absurd (cc (idle)); lines = later }
-      | Astray ↦ λ e. record { kept = known; call = going; desk = refl; in_hands = fresh; rests = λ idle. absurd (cc (idle)); lines = later }
-    ] refl
-
+-- a call that has ended has no extent in flight
 call_rests : (s : Space) (call : Open) (going : Going s call) (answer : Answered) (items : List Item) → outcome_of call ≡ Ends answer items → flights 0 s ≡ 0
 call_rests s call going answer items e =
     let ended = ended_only going.stage answer items (sym (going.reads []) ∙ ap (reading call.desk call.request) (append-nil call.items) ∙ e) in
     subst (λ (c : ℕ). flights c s ≡ 0) going.client (subst (HasFlights call.client s) ended.0 going.flown)
 
+-- a world in which a call was fed, by the worlds in which the next lines begin
+fed_sane_by : (w : World) (call : Open) (lines : List Line) → Kept w.space w.kept → Going w.space call → call.desk ≡ w.desk →
+    IsInHands 0 w.space.regions (hands_now call (outcome_of call)) → All IsCarried lines →
+    ((v : World) → Kept v.space v.kept → IsInHands 0 v.space.regions v.desk.held → flights 0 v.space ≡ 0 → Sane (begun lines v)) → Sane (fed w call lines)
+fed_sane_by w call lines known going same hands carried later =
+    let waiting : IsInHands 0 w.space.regions (hands_at call.desk.held call.request call.items) → Sane (record w { call = Some call; lines = lines }) = λ has. record {
+      kept = known;
+      call = going;
+      desk = same;
+      in_hands = subst (λ (d : DeskFacts). IsInHands 0 w.space.regions (hands_at d.held call.request call.items)) same has;
+      rests = λ idle. absurd (cc (idle));
+      lines = carried;
+    } in
+    elim (outcome_of call) as (λ o. outcome_of call ≡ o → IsInHands 0 w.space.regions (hands_now call o) → Sane (on_end o (λ answer. begun lines (printed w call answer)) (record w { call = Some call; lines = lines }))) [
+      | Ends answer items ↦ λ e has. later (printed w call answer) known has (call_rests w.space call going answer items e)
+      | Waits want ↦ λ e has. waiting has
+      | Astray ↦ λ e has. waiting has
+    ] refl hands
+
+-- a world in which a line was opened
+pub begun_sane : (lines : List Line) (w : World) → Kept w.space w.kept → IsInHands 0 w.space.regions w.desk.held → flights 0 w.space ≡ 0 → All IsCarried lines → Sane (begun lines w)
+begun_sane [] w known hands rests carried = record { kept = known; call = tt; desk = tt; in_hands = hands; rests = λ idle. rests; lines = All-nil IsCarried }
+begun_sane (Call client verb ∷ lines) w known hands rests carried =
+    let request : Request = request_of w.names verb in
+    let here = carried_built w.names client verb (All-head IsCarried (Call client verb) lines carried) in
+    let later = All-tail IsCarried (Call client verb) lines carried in
+    let going : Going w.space (opened w client verb) =
+    subst (λ (c : ℕ). Going w.space (record (call_of w.desk verb request) { client = c })) (sym here.1) (opened_going w.space w.desk verb request here.0 hands rests) in
+    fed_sane_by w (opened w client verb) lines known going refl (hands_fresh w.desk verb request w.space.regions hands) later (λ v kept held rest. begun_sane lines v kept held rest later)
+
 pub fed_sane : (w : World) (call : Open) (lines : List Line) → Kept w.space w.kept → Going w.space call → call.desk ≡ w.desk →
     IsInHands 0 w.space.regions (hands_now call (outcome_of call)) → All IsCarried lines → Sane (fed w call lines)
-fed_sane w call lines known going same hands carried =
-    elim (outcome_of call) as (λ o. outcome_of call ≡ o → IsInHands 0 w.space.regions (hands_now call o) → Sane (on_end o (λ answer. begun lines (printed w call answer)) (record w { call = Some call; lines = lines }))) [
-      | Ends answer items ↦ λ e has. begun_sane lines (printed w call answer) known has (call_rests w.space call going answer items e) carried
-      | Waits want ↦ λ e has. record { kept = known; call = going; desk = same; in_hands = subst (λ (d : DeskFacts). IsInHands 0 w.space.regions (hands_at d.held call.request call.items)) same has; rests = λ idle. absurd (cc (idle)); lines = carried }
-      | Astray ↦ λ e has. record { kept = known; call = going; desk = same; in_hands = subst (λ (d : DeskFacts). IsInHands 0 w.space.regions (hands_at d.held call.request call.items)) same has; rests = λ idle. absurd (cc (idle)); lines = carried }
-    ] refl hands
+fed_sane w call lines known going same hands carried = fed_sane_by w call lines known going same hands carried (λ v kept held rest. begun_sane lines v kept held rest carried)
 
 -- ---- moves
 
@@ -176,7 +179,7 @@ kept_after : (s : Space) (kept : List KeptFacts) (entry : Entry) (asked : Option
 kept_after s kept entry asked known may =
     let es : List Entry = entries_of kept in
     let grown : entries_of (kept ++ (record { entry = entry; asked = asked }) ∷ []) ≡ es ++ entry ∷ [] =
-    map-push (λ (k : KeptFacts). k.entry) kept (record { entry = entry; asked = asked }) in
+    map_push (λ (k : KeptFacts). k.entry) kept (record { entry = entry; asked = asked }) in
     let at_end : replay first_space (es ++ entry ∷ []) ≡ space_after (replay first_space es) entry = fold_push space_after first_space es entry in
     let here : space_after s entry ≡ replay first_space (es ++ entry ∷ []) = ap (λ (x : Space). space_after x entry) known.replayed ∙ sym at_end in
     let frame = step_frame s entry.client entry.op in record {
@@ -192,7 +195,7 @@ kept_after s kept entry asked known may =
     }
 
 -- the reading after one more item
-reads_more : (call : Open) (item : Item) (stage : Stage) (after : Stage) →
+pub reads_more : (call : Open) (item : Item) (stage : Stage) (after : Stage) →
     ((more : List Item) → reading call.desk call.request (call.items ++ more) ≡ rest_of stage more) →
     ((more : List Item) → rest_of stage (item ∷ more) ≡ rest_of after more) →
     (more : List Item) → reading call.desk call.request ((call.items ++ item ∷ []) ++ more) ≡ rest_of after more
@@ -207,17 +210,14 @@ planned_flow wish (Break answer) is = tt
 -- each look of a put is one of three
 abbrev IsLookOnward : Onward → Type 0
 IsLookOnward (To point) = IsLook point
-IsLookOnward Over = Unit {0}
-IsLookOnward Nowhere = Unit {0}
+IsLookOnward onward = Unit {0}
 
 put_planned : (arena : ℕ) (onward : Onward) → IsLookOnward onward → IsPlanned (put_stage arena onward)
 put_planned arena (To point) is = is
-put_planned arena Over is = tt
-put_planned arena Nowhere is = tt
+put_planned arena onward is = tt
 
 gave_planned : (arena : ℕ) (reply : Reply) → IsPlanned (gave_stage arena reply)
 gave_planned arena (Next (Some span)) = omega (arith)
-gave_planned arena (Next None) = tt
 gave_planned arena reply = tt
 
 beside_looks : (own : Span) (tries : ℕ) (other : Span) → IsLookOnward (beside own tries other)
@@ -230,17 +230,13 @@ beside_looks own tries other =
 reply_looks : (point : Putting) (reply : Reply) → IsLookOnward (put_step point (Replied reply))
 reply_looks (Finding own tries) (Beside other) = beside_looks own tries other
 reply_looks (Finding own tries) (Next (Some span)) = omega (arith)
-reply_looks (Finding own tries) (Next None) = tt
-reply_looks (Finding own tries) reply = tt
-reply_looks (MergeAsked low high own_low) reply = tt
 reply_looks (Merging asked true) (Joined span) = omega (arith)
 reply_looks (Merging asked false) (Joined span) = omega (arith)
-reply_looks (Merging asked own_low) reply = tt
+reply_looks point reply = tt
 
 answer_looks : (point : Putting) (asked : AskFacts) → IsLookOnward (put_step point (Told asked))
 answer_looks (Finding own tries) asked = tt
-answer_looks (MergeAsked low high own_low) asked = tt
-answer_looks (Merging told own_low) asked = tt
+answer_looks point asked = tt
 
 pub planned-reply : (stage : Stage) (reply : Reply) → IsPlanned stage → IsPlanned (stage_after stage (FedReply reply))
 planned-reply (Get wish getting) reply is = planned_flow wish (after_reply_point wish getting reply) is
@@ -250,60 +246,80 @@ planned-reply (Ended answer) reply is = tt
 
 pub planned-answer : (stage : Stage) (asked : AskFacts) → IsPlanned stage → IsPlanned (stage_after stage (Answer asked))
 planned-answer (Get wish getting) asked is = is
-planned-answer (Give held) asked is = is
 planned-answer (Put arena point) asked is = put_planned arena (put_step point (Told asked)) (answer_looks point asked)
-planned-answer (Ended answer) asked is = tt
+planned-answer stage asked is = tt
 
 -- a call that waits is at a point that waits for the same
 waits_there : (call : Open) (stage : Stage) (o : Outcome) → ((more : List Item) → reading call.desk call.request (call.items ++ more) ≡ rest_of stage more) →
     outcome_of call ≡ o → rest_of stage [] ≡ o
 waits_there call stage o reads e = sym (reads []) ∙ ap (reading call.desk call.request) (append-nil call.items) ∙ e
 
--- client 0 is one of the 32
-pub below_all : (c : ℕ) → c ≡ 0 → c < 32
-below_all c is = omega (arith, is)
+-- What is known before a needed turn.
+pub record TurnReady (client : ℕ) (s : Space) (stage : Stage) (arena : ℕ) (op : Op) (asked : Option AskFacts) : Type 0 where
+  pub waits : rest_of stage [] ≡ Waits (WantTurn arena op asked)
+  pub may : stands s (record { client = client; op = op }) ≡ true
+  pub kept : IsKept (record { client = client; op = op }) asked
+  pub law : GoesOn client s stage op
+  pub base : Ground client s
+  pub flown : HasFlights client s stage
+  pub shorter : steps_left client (step_of s client op).after (stage_after stage (FedReply (step_of s client op).reply)) < steps_left client s stage
 
--- the turn that a call in such a world needs goes on
-pub turn_law : (s : Space) (kept : List KeptFacts) (call : Open) (arena : ℕ) (op : Op) (asked : Option AskFacts) → Kept s kept → (going : Going s call) →
-    rest_of going.stage [] ≡ Waits (WantTurn arena op asked) → GoesOn call.client s going.stage op
-turn_law s kept call arena op asked known going here =
-    subst (GoesOn call.client s going.stage) (needed_turn going.stage arena op asked here).found
-    (turns-go_on call.client s going.stage arena op asked None (ground s kept call.client known (below_all call.client going.client)) going.planned going.knows here)
+pub turn_ready_at : (s : Space) (kept : List KeptFacts) (client : ℕ) (stage : Stage) (arena : ℕ) (op : Op) (asked : Option AskFacts) → Kept s kept → client ≡ 0 → IsPlanned stage → Knows client s stage →
+    HasFlights client s stage → rest_of stage [] ≡ Waits (WantTurn arena op asked) → TurnReady client s stage arena op asked
+turn_ready_at s kept client stage arena op asked known first planned knows flown waits =
+    let few : client < 32 = omega (arith, first) in
+    let base = ground s kept client known few in
+    let needed = needed_turn stage arena op asked waits in
+    let law = rw needed.found at (turns-go_on client s stage arena op asked None base planned knows waits) in record {
+      waits = waits;
+      may = ap (λ b. b && op_stands s client op) (lt-ltb _ _ few) ∙ law.stands;
+      kept = needed.kept client;
+      law = law;
+      base = base;
+      flown = flown;
+      shorter = rw needed.found at (turns-shorten client s stage arena op asked None base planned knows waits);
+    }
+
+pub going_ready : (s : Space) (kept : List KeptFacts) (call : Open) (arena : ℕ) (op : Op) (asked : Option AskFacts) → Kept s kept → (going : Going s call) →
+    outcome_of call ≡ Waits (WantTurn arena op asked) → TurnReady call.client s going.stage arena op asked
+going_ready s kept call arena op asked known going e =
+    turn_ready_at s kept call.client going.stage arena op asked known going.client going.planned going.knows going.flown
+    (waits_there call going.stage (Waits (WantTurn arena op asked)) going.reads e)
 
 -- an open call after its turn
 pub turned_going : (w : World) (call : Open) (arena : ℕ) (op : Op) (asked : Option AskFacts) → Kept w.space w.kept → Going w.space call →
     outcome_of call ≡ Waits (WantTurn arena op asked) →
-    Going (step_of w.space call.client op).after (record call { items = call.items ++ Replied (step_of w.space call.client op).reply ∷ [] })
+    Going (step_of w.space call.client op).after (fed_one call (Replied (step_of w.space call.client op).reply))
 turned_going w call arena op asked known going e =
-    let here = waits_there call going.stage (Waits (WantTurn arena op asked)) going.reads e in
-    let law = turn_law w.space w.kept call arena op asked known going here in
+    let ready = going_ready w.space w.kept call arena op asked known going e in
     let step = step_of w.space call.client op in
     let after : Stage = stage_after going.stage (FedReply step.reply) in record {
       client = going.client;
       stage = after;
       reads = reads_more call (Replied step.reply) going.stage after going.reads
-          (λ more. reply-reads going.stage (WantTurn arena op asked) step.reply here law.fitting more);
+          (λ more. reply-reads going.stage (WantTurn arena op asked) step.reply ready.waits ready.law.fitting more);
       planned = planned-reply going.stage step.reply going.planned;
-      knows = law.knows;
-      at = (onto_reply call going.stage arena op asked step.reply here going.at).at;
-      flown = turn_flights call.client w.space going.stage arena op asked (ground w.space w.kept call.client known (below_all call.client going.client)) going.planned going.knows going.flown here;
+      knows = ready.law.knows;
+      at = (onto_reply call going.stage arena op asked step.reply ready.waits going.at).at;
+      flown = turn_flights call.client w.space going.stage arena op asked ready.base going.planned going.knows going.flown ready.waits;
     }
 
--- the regions in hand of a world whose call waits, by the call's point
-abbrev IfWaiting : Outcome → Type 0
-IfWaiting (Waits want) = Unit {0}
-IfWaiting (Ends answer items) = ⊥
-IfWaiting Astray = ⊥
+-- What is known of a world and its open call.
+record Opens (w : World) (call : Open) : Type 0 where
+  kept : Kept w.space w.kept
+  going : Going w.space call
+  desk : call.desk ≡ w.desk
+  in_hands : IsInHands 0 w.space.regions (hands_at w.desk.held call.request call.items)
+  lines : All IsCarried w.lines
 
-hands_before : (w : World) (call : Open) (going : Going w.space call) (o : Outcome) → outcome_of call ≡ o → IfWaiting o → call.desk ≡ w.desk →
-    IsInHands 0 w.space.regions (hands_at w.desk.held call.request call.items) → IsInHands call.client w.space.regions (hands_stage call going.stage)
-hands_before w call going (Waits want) e waits same hands =
-    let here = waits_there call going.stage (Waits want) going.reads e in
-    let alike : hands_at call.desk.held call.request call.items ≡ hands_stage call going.stage = ap (hands_now call) (sym here) ∙ hands_at_stage call going.stage going.at in
-    subst (λ (c : ℕ). IsInHands c w.space.regions (hands_stage call going.stage)) (sym going.client)
-    (subst (IsInHands 0 w.space.regions) alike (subst (λ (d : DeskFacts). IsInHands 0 w.space.regions (hands_at d.held call.request call.items)) (sym same) hands))
-hands_before w call going (Ends answer items) e waits same hands = absurd waits
-hands_before w call going Astray e waits same hands = absurd waits
+-- the regions in hand of a world whose call waits, by the call's point
+hands_before : (w : World) (call : Open) (opens : Opens w call) (want : Want) → outcome_of call ≡ Waits want → IsInHands call.client w.space.regions (hands_stage call opens.going.stage)
+hands_before w call opens want e =
+    let going = opens.going in
+    let alike : hands_at w.desk.held call.request call.items ≡ hands_stage call going.stage =
+    ap (λ (d : DeskFacts). hands_at d.held call.request call.items) (sym opens.desk)
+    ∙ ap (hands_now call) (sym (waits_there call going.stage (Waits want) going.reads e)) ∙ hands_at_stage call going.stage going.at in
+    rw going.client (subst (IsInHands 0 w.space.regions) alike opens.in_hands)
 
 -- and the other way round
 hands_after : (call : Open) (s : Space) (going : Going s call) → IsInHands call.client s.regions (hands_stage call going.stage) → IsInHands 0 s.regions (hands_now call (outcome_of call))
@@ -312,27 +328,24 @@ hands_after call s going hands =
     subst (λ (c : ℕ). IsInHands c s.regions (hands_now call (outcome_of call))) going.client
     (subst (IsInHands call.client s.regions) (sym (ap (hands_now call) here ∙ hands_at_stage call going.stage going.at)) hands)
 
-turned_sane : (w : World) (call : Open) (arena : ℕ) (op : Op) (asked : Option AskFacts) → Kept w.space w.kept → Going w.space call → call.desk ≡ w.desk →
-    IsInHands 0 w.space.regions (hands_at w.desk.held call.request call.items) → All IsCarried w.lines →
-    outcome_of call ≡ Waits (WantTurn arena op asked) → Sane (turned w call op asked)
+turned_sane : (w : World) (call : Open) (arena : ℕ) (op : Op) (asked : Option AskFacts) → Opens w call → outcome_of call ≡ Waits (WantTurn arena op asked) → Sane (turned w call op asked)
 unfolding turned_going
-turned_sane w call arena op asked known going same hands carried e =
-    let s = w.space in
-    let here = waits_there call going.stage (Waits (WantTurn arena op asked)) going.reads e in
-    let law = turn_law s w.kept call arena op asked known going here in
-    let step = step_of s call.client op in
+turned_sane w call arena op asked opens e =
+    let going = opens.going in
+    let ready = going_ready w.space w.kept call arena op asked opens.kept going e in
+    let step = step_of w.space call.client op in
     let entry : Entry = record { client = call.client; op = op } in
-    let may : stands s entry ≡ true = ap (λ b. b && op_stands s call.client op) (lt-ltb _ _ (below_all call.client going.client)) ∙ law.stands in
-    fed_sane (record w { space = step.after; kept = w.kept ++ (record { entry = entry; asked = asked }) ∷ [] })
-    (record call { items = call.items ++ Replied step.reply ∷ [] }) w.lines
-    (kept_after s w.kept entry asked known may) (turned_going w call arena op asked known going e) same
-    (hands_after (record call { items = call.items ++ Replied step.reply ∷ [] }) step.after (turned_going w call arena op asked known going e)
-    (hands_reply call.client s call going.stage arena op asked known.good.sound going.knows going.at here (hands_before w call going (Waits (WantTurn arena op asked)) e tt same hands))) carried
+    let after = turned_going w call arena op asked opens.kept going e in
+    fed_sane (record w { space = step.after; kept = w.kept ++ (record { entry = entry; asked = asked }) ∷ [] }) (fed_one call (Replied step.reply)) w.lines
+    (kept_after w.space w.kept entry asked opens.kept ready.may) after opens.desk
+    (hands_after (fed_one call (Replied step.reply)) step.after after
+    (hands_reply call.client w.space call going.stage arena op asked opens.kept.good.sound going.knows going.at ready.waits (hands_before w call opens (WantTurn arena op asked) e)))
+    opens.lines
 
 -- an open call after its ask
 pub heard_going : (w : World) (call : Open) (arena : ℕ) (wanted : Ask) (asked : AskFacts) → Going w.space call →
     outcome_of call ≡ Waits (WantAsk arena wanted) → asked.ask ≡ wanted → Answers wanted asked.answer →
-    Going w.space (record call { items = call.items ++ Told asked ∷ [] })
+    Going w.space (fed_one call (Told asked))
 heard_going w call arena wanted asked going e same answers =
     let here = waits_there call going.stage (Waits (WantAsk arena wanted)) going.reads e in
     let law = asks-go_on call.client w.space going.stage arena wanted asked going.knows here same answers in
@@ -347,33 +360,34 @@ heard_going w call arena wanted asked going e same answers =
       flown = ask_flights call.client w.space going.stage arena wanted asked here going.flown;
     }
 
-heard_sane : (w : World) (call : Open) (arena : ℕ) (wanted : Ask) (asked : AskFacts) → Kept w.space w.kept → Going w.space call → call.desk ≡ w.desk →
-    IsInHands 0 w.space.regions (hands_at w.desk.held call.request call.items) → All IsCarried w.lines →
-    outcome_of call ≡ Waits (WantAsk arena wanted) → asked.ask ≡ wanted → Answers wanted asked.answer →
-    Sane (fed w (record call { items = call.items ++ Told asked ∷ [] }) w.lines)
+heard_sane : (w : World) (call : Open) (arena : ℕ) (wanted : Ask) (asked : AskFacts) → Opens w call → outcome_of call ≡ Waits (WantAsk arena wanted) → asked.ask ≡ wanted → Answers wanted asked.answer →
+    Sane (fed w (fed_one call (Told asked)) w.lines)
 unfolding heard_going
-heard_sane w call arena wanted asked known going own hands carried e same answers =
-    let here = waits_there call going.stage (Waits (WantAsk arena wanted)) going.reads e in
-    fed_sane w (record call { items = call.items ++ Told asked ∷ [] }) w.lines known (heard_going w call arena wanted asked going e same answers) own
-    (hands_after (record call { items = call.items ++ Told asked ∷ [] }) w.space (heard_going w call arena wanted asked going e same answers)
-    (hands_answer call.client call going.stage arena wanted asked w.space.regions here going.at (hands_before w call going (Waits (WantAsk arena wanted)) e tt own hands))) carried
+heard_sane w call arena wanted asked opens e same answers =
+    let going = opens.going in
+    let after = heard_going w call arena wanted asked going e same answers in
+    fed_sane w (fed_one call (Told asked)) w.lines opens.kept after opens.desk
+    (hands_after (fed_one call (Told asked)) w.space after
+    (hands_answer call.client call going.stage arena wanted asked w.space.regions (waits_there call going.stage (Waits (WantAsk arena wanted)) going.reads e) going.at
+    (hands_before w call opens (WantAsk arena wanted) e)))
+    opens.lines
 
-moved_sane : (w : World) (call : Open) (o : Outcome) (move : Move) → Kept w.space w.kept → Going w.space call → call.desk ≡ w.desk →
-    IsInHands 0 w.space.regions (hands_at w.desk.held call.request call.items) → All IsCarried w.lines →
-    outcome_of call ≡ o → Fits w o move → Sane (moved w call o move)
-moved_sane w call (Waits (WantTurn arena op asked)) Turned known going same hands carried e fits = turned_sane w call arena op asked known going same hands carried e
-moved_sane w call (Waits (WantAsk arena wanted)) (Heard_ asked) known going same hands carried e fits = heard_sane w call arena wanted asked known going same hands carried e fits.0 fits.2
-moved_sane w call o move known going same hands carried e fits = absurd fits
+moved_sane : (w : World) (call : Open) (o : Outcome) (move : Move) → Opens w call → outcome_of call ≡ o → Fits w o move → Sane (moved w call o move)
+moved_sane w call (Waits (WantTurn arena op asked)) Turned opens e fits = turned_sane w call arena op asked opens e
+moved_sane w call (Waits (WantAsk arena wanted)) (Heard_ asked) opens e fits = heard_sane w call arena wanted asked opens e fits.0 fits.2
+moved_sane w call o move opens e fits = absurd fits
 
 after_sane_at : (w : World) (o : Option Open) (move : Move) → w.call ≡ o → Sane w → IsNext w move → Sane (after_move w move)
 after_sane_at w None move e sane next = absurd (subst (NextIn w move) e next)
 after_sane_at w (Some call) move e sane next =
-    let going : Going w.space call = subst (λ (o : Option Open). IfSome o (Going w.space)) e sane.call in
-    let fits : Fits w (outcome_of call) move = subst (NextIn w move) e next in
-    let same : call.desk ≡ w.desk = subst (λ (o : Option Open). IfSome o (λ call. call.desk ≡ w.desk)) e sane.desk in
-    let hands : IsInHands 0 w.space.regions (hands_at w.desk.held call.request call.items) = subst (λ (o : Option Open). IsInHands 0 w.space.regions (hands_in w.desk.held o)) e sane.in_hands in
-    let here : Sane (moved w call (outcome_of call) move) = moved_sane w call (outcome_of call) move sane.kept going same hands sane.lines refl fits in
-    subst (λ (o : Option Open). Sane (after_in w move o)) (sym e) here
+    let opens : Opens w call = record {
+      kept = sane.kept;
+      going = subst (λ (o : Option Open). IfSome o (Going w.space)) e sane.call;
+      desk = subst (λ (o : Option Open). IfSome o (λ call. call.desk ≡ w.desk)) e sane.desk;
+      in_hands = subst (λ (o : Option Open). IsInHands 0 w.space.regions (hands_in w.desk.held o)) e sane.in_hands;
+      lines = sane.lines;
+    } in
+    subst (λ (o : Option Open). Sane (after_in w move o)) (sym e) (moved_sane w call (outcome_of call) move opens refl (subst (NextIn w move) e next))
 
 pub after_sane : (w : World) (move : Move) → Sane w → IsNext w move → Sane (after_move w move)
 after_sane w move sane next = after_sane_at w w.call move refl sane next
@@ -399,29 +413,3 @@ first_good = first_replays_are_good [] refl
 -- the opening world
 pub opening_sane : (lines : List Line) → Good [] first_space → All IsCarried lines → Sane (opening lines)
 opening_sane lines good carried = begun_sane lines empty_world (record { replayed = refl; stand = refl; good = good; live = refl; bound = refl; stays = λ same. absurd (cc (same)) }) (λ addr class. refl) refl carried
-
--- ---- what a runner needs of the turn or the ask that comes next
-
--- What is known of the turn that a call needs next.
-pub record NextTurn (s : Space) (call : Open) (op : Op) (asked : Option AskFacts) : Type 0 where
-  pub may : stands s (record { client = call.client; op = op }) ≡ true
-  pub fitting : IsFitting (reading call.desk call.request (call.items ++ Replied (step_of s call.client op).reply ∷ []))
-  pub kept : IsKept (record { client = call.client; op = op }) asked
-
-pub next_turn : (s : Space) (kept : List KeptFacts) (call : Open) (arena : ℕ) (op : Op) (asked : Option AskFacts) → Kept s kept → Going s call →
-    outcome_of call ≡ Waits (WantTurn arena op asked) → NextTurn s call op asked
-next_turn s kept call arena op asked known going e =
-    let here = waits_there call going.stage (Waits (WantTurn arena op asked)) going.reads e in
-    let law = turn_law s kept call arena op asked known going here in record {
-      may = ap (λ b. b && op_stands s call.client op) (lt-ltb _ _ (below_all call.client going.client)) ∙ law.stands;
-      fitting = subst IsFitting (sym (going.reads (Replied (step_of s call.client op).reply ∷ []))) law.fitting;
-      kept = (needed_turn going.stage arena op asked here).kept call.client;
-    }
-
-pub next_ask : (s : Space) (call : Open) (arena : ℕ) (wanted : Ask) (asked : AskFacts) → Going s call →
-    outcome_of call ≡ Waits (WantAsk arena wanted) → asked.ask ≡ wanted → Answers wanted asked.answer →
-    IsFitting (reading call.desk call.request (call.items ++ Told asked ∷ []))
-next_ask s call arena wanted asked going e same answers =
-    let here = waits_there call going.stage (Waits (WantAsk arena wanted)) going.reads e in
-    let law = asks-go_on call.client s going.stage arena wanted asked going.knows here same answers in
-    subst IsFitting (sym (going.reads (Told asked ∷ []))) law.0

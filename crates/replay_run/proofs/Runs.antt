@@ -1,5 +1,5 @@
 -- The turn, the ask or the answer of a call that is underway, from its need.
-use Rattle.std.proofs.Common.{◌≡◌, ◌<◌, ℕ, List, [], ◌∷◌, ◌++◌, None, Result, Ok, Err, OnOk, refl, sym, ◌∙◌, ap, subst}
+use Rattle.std.proofs.Common.{◌≡◌, ◌<◌, ℕ, List, [], ◌∷◌, ◌++◌, Result, Ok, Err, OnOk, refl, sym, ◌∙◌, ap, subst}
 use Rattle.std.proofs.lemmas.List.Elements.{All-nil}
 use Rattle.space_model.specs.declared.Ask.{Ask}
 use Rattle.space_model.specs.declared.Reply.{Reply}
@@ -19,8 +19,7 @@ use Rattle.call_plan.specs.declared.stages.Stage.{Stage}
 use Rattle.call_plan.specs.declared.stages.Stage.TheVariants.{Ended}
 use Rattle.call_plan.specs.Calls.{IsBuilt, HasNotTold, stage_after, desk_after}
 use Rattle.call_plan.specs.Left.{steps_left}
-use Rattle.call_plan.proofs.GoingOn.{turns-go_on}
-use Rattle.call_plan.proofs.Shorter.{turns-shorten, asks-shorten}
+use Rattle.call_plan.proofs.Shorter.{asks-shorten}
 use Rattle.trace_text.specs.declared.lines.Verb.{Verb}
 use Rattle.replay_run.specs.Hands.{IsInHands}
 use Rattle.call_plan.specs.Reading.{Item, Want, Replied, Told, WantTurn, WantAsk, Outcome, Ends, Waits, Astray}
@@ -29,10 +28,9 @@ use Rattle.replay_run.specs.World.{Open, World, idle, printed, fed, call_of, IsC
 use Rattle.replay_run.specs.Sane.{Sane, desk_at}
 use Rattle.call_plan.specs.Desks.{DeskFacts}
 use Rattle.replay_run.specs.Carried.{Desktop, IsReady, world_of, Carried, Underway, IsUnderway, CarriedOn}
-use Rattle.call_plan.proofs.Ended.{ended_only}
-use Rattle.replay_run.proofs.Plays.{play_sane, fed_sane, opened_going, next_turn, ground, below_all, hands_fresh, ended_client}
-use Rattle.replay_run.proofs.Wants.{needed_turn}
-use Rattle.replay_run.proofs.Ways.{TurnReady, TurnMade, AskMade, outcome_now, way_stop, way_end}
+use Rattle.replay_run.proofs.Starts.{ended_only}
+use Rattle.replay_run.proofs.Plays.{TurnReady, turn_ready_at, play_sane, fed_sane, opened_going, hands_fresh, ended_client}
+use Rattle.replay_run.proofs.Ways.{TurnMade, AskMade, way_stop, way_end}
 
 -- a field of a needed turn
 turn_field : {A : Type 0} (f : Turn → A) (turn other : Turn) → NeedsTurn turn ≡ NeedsTurn other → f turn ≡ f other
@@ -55,40 +53,26 @@ wants_ask client (Ends answer items) arena ask need = absurd (cc)
 wants_ask client Astray arena ask need = absurd need
 
 -- what is known before a needed turn
-turn_ready_own : {space : Space} {kept : List KeptFacts} {heard : List AskFacts} {shelf : Shelf} {desk : DeskFacts} {stage : Stage} {start : World} {h0 : List AskFacts} {sh0 : Shelf} {top : Desktop} {call : Open} →
-    Sane start → Underway start h0 sh0 space kept heard shelf top call desk stage → (turn : Turn) → rest_of stage [] ≡ Waits (WantTurn turn.arena turn.op turn.asked) →
-    TurnReady call.client space stage turn
-turn_ready_own {space} {kept} {stage = stage} {call = call} sane way turn waits =
-    let stop = way_stop way sane (Waits (WantTurn turn.arena turn.op turn.asked)) waits tt in
-    let next = next_turn space kept (record call { items = way.items }) turn.arena turn.op turn.asked stop.arena stop.going (outcome_now call way.items stage way.reads ∙ waits) in
-    let base = ground space kept call.client stop.arena (below_all call.client stop.going.client) in
-    let found = (needed_turn stage turn.arena turn.op turn.asked waits).found in record {
-      waits = waits;
-      may = next.may;
-      kept = next.kept;
-      base = base;
-      flown = way.flown;
-      law = rw found at (turns-go_on call.client space stage turn.arena turn.op turn.asked None base way.planned way.knows waits);
-      shorter = rw found at (turns-shorten call.client space stage turn.arena turn.op turn.asked None base way.planned way.knows waits);
-    }
-
 pub turn_ready : {client : ℕ} {space : Space} {kept : List KeptFacts} {heard : List AskFacts} {shelf : Shelf} {desk : DeskFacts} {stage : Stage} {need : Need} {turn : Turn} →
-    IsUnderway client space kept heard shelf desk stage → need ≡ NeedsTurn turn → NeedIs client (rest_of stage []) need → TurnReady client space stage turn
-turn_ready {client} {space} {stage = stage} {turn = turn} u is need =
-    rw (sym u.own) (turn_ready_own u.sane u.way turn (wants_turn client (rest_of stage []) turn (rw is at need)))
+    IsUnderway client space kept heard shelf desk stage → need ≡ NeedsTurn turn → NeedIs client (rest_of stage []) need → TurnReady client space stage turn.arena turn.op turn.asked
+turn_ready {client} {space} {kept} {stage = stage} {turn = turn} u is need =
+    let way = u.way in
+    let waits = wants_turn client (rest_of stage []) turn (rw is at need) in
+    let stop = way_stop way u.sane (WantTurn turn.arena turn.op turn.asked) waits in
+    rw (sym u.own) (turn_ready_at space kept u.call.client stage turn.arena turn.op turn.asked stop.0 stop.1 way.planned way.knows way.flown waits)
 
 -- its reply is one that the call could need
-pub turn_fits : {client n : ℕ} {space : Space} {stage : Stage} {turn : Turn} {reply : Reply} → TurnReady client space stage turn → n ≡ client →
+pub turn_fits : {client n : ℕ} {space : Space} {stage : Stage} {reply : Reply} (turn : Turn) → TurnReady client space stage turn.arena turn.op turn.asked → n ≡ client →
     reply ≡ reply_to space (record { client = n; op = turn.op }) → IsFitting (rest_of stage (Replied reply ∷ []))
-turn_fits ready own is_reply = rw (is_reply, own) ready.law.fitting
+turn_fits turn ready own is_reply = rw (is_reply, own) ready.law.fitting
 
 -- the turn was made by the client, on its arena
-pub turn_made : {client n : ℕ} {space space' : Space} {kept' : List KeptFacts} {heard heard' : List AskFacts} {desk mid desk' : DeskFacts} {stage stage' : Stage} {turn : Turn} {reply : Reply} (kept : List KeptFacts) →
-    TurnReady client space stage turn → n ≡ client → space' ≡ space_after space (record { client = n; op = turn.op }) → reply ≡ reply_to space (record { client = n; op = turn.op }) →
+pub turn_made : {client n : ℕ} {space space' : Space} {kept' : List KeptFacts} {heard heard' : List AskFacts} {desk mid desk' : DeskFacts} {stage stage' : Stage} {reply : Reply} (kept : List KeptFacts) (turn : Turn) →
+    TurnReady client space stage turn.arena turn.op turn.asked → n ≡ client → space' ≡ space_after space (record { client = n; op = turn.op }) → reply ≡ reply_to space (record { client = n; op = turn.op }) →
     kept' ≡ kept ++ (record { entry = record { client = n; op = turn.op }; asked = turn.asked }) ∷ [] → heard' ≡ heard → mid ≡ desk → stage' ≡ stage_after stage (FedReply reply) →
     desk' ≡ desk_after mid stage (FedReply reply) → ((more : List Item) → rest_of stage (Replied reply ∷ more) ≡ rest_of stage' more) →
     TurnMade client space kept heard desk stage turn space' kept' heard' desk' stage'
-turn_made kept ready own in_space is_reply in_journal hears same point settled reads = record {
+turn_made kept turn ready own in_space is_reply in_journal hears same point settled reads = record {
   ready = ready;
   in_space = rw own at in_space;
   in_journal = rw own at in_journal;

@@ -1,11 +1,10 @@
 -- A call that is underway goes on by a turn or an ask, and ends.
-use Rattle.std.proofs.Common.{◌≡◌, ◌<◌, ℕ, true, List, [], ◌∷◌, ◌++◌, Some, refl, sym, ◌∙◌, ap, subst, append-nil, append_assoc}
-use Rattle.std.proofs.lemmas.List.Sums.{fold_push}
+use Rattle.std.proofs.Common.{◌≡◌, ℕ, List, [], ◌∷◌, ◌++◌, Some, refl, sym, ◌∙◌, ap, subst, append-nil, append_assoc}
 use Rattle.space_model.specs.declared.Space.{Space}
-use Rattle.space_model.specs.Step.{step_of, space_after, reply_to, stands}
+use Rattle.space_model.specs.Step.{step_of, space_after, reply_to}
 use Rattle.hook_api.specs.Asked.{AskFacts}
 use Rattle.hook_api.specs.Chain.{AskChain}
-use Rattle.hook_api.specs.Kept.{KeptFacts, IsKept}
+use Rattle.hook_api.specs.Kept.{KeptFacts}
 use Rattle.hook_api.specs.Shelf.{Shelf, AskStep}
 use Rattle.call_plan.specs.declared.needs.Answered.{Answered}
 use Rattle.call_plan.specs.declared.stages.Stage.{Stage}
@@ -15,41 +14,25 @@ use Rattle.call_plan.specs.Calls.{reading, IsPlanned, stage_after, desk_after}
 use Rattle.replay_run.specs.World.{Open, World, outcome_of, on_end, idle, printed, begun, fed, Move, Turned, Heard_, moved, after_move, Fits, IsNext, IsPlay, world_after, asks_in}
 use Rattle.call_plan.specs.declared.needs.Fed.TheVariants.{Replied as FedReply, Answer}
 use Rattle.call_plan.specs.declared.needs.Turn.{Turn}
-use Rattle.call_plan.specs.Left.{steps_left}
 use Rattle.call_plan.specs.Desks.{DeskFacts}
-use Rattle.call_plan.specs.Knows.{Knows, Ground}
+use Rattle.call_plan.specs.Knows.{Knows}
 use Rattle.call_plan.specs.Flying.{HasFlights}
 use Rattle.call_plan.proofs.Counted.{turn_flights, ask_flights}
-use Rattle.call_plan.specs.Laws.{GoesOn}
 use Rattle.call_plan.proofs.GoingOn.{asks-go_on}
-use Rattle.replay_run.specs.Sane.{Kept, Going, Sane, IsAt, desk_at}
+use Rattle.replay_run.specs.Sane.{Kept, Sane, IsAt, desk_at}
 use Rattle.replay_run.proofs.Desks.{fed_one, onto_reply, onto_answer}
 use Rattle.replay_run.specs.Carried.{Desktop, world_of, Underway}
-use Rattle.replay_run.proofs.Plays.{play_sane, planned-reply, planned-answer}
+use Rattle.replay_run.proofs.Later.{play-append, world_after-append, asks_in-append, ask_chain-append}
+use Rattle.replay_run.proofs.Plays.{TurnReady, reads_more, play_sane, planned-reply, planned-answer}
 
--- ---- plays that grow by a move
+-- ---- a play that grows by a move
 
 play-push : (w : World) (moves : List Move) (move : Move) → IsPlay w moves → IsNext (world_after w moves) move → IsPlay w (moves ++ move ∷ [])
-play-push w [] move play next = (next, tt)
-play-push w (m ∷ moves) move play next = (play.0, play-push (after_move w m) moves move play.1 next)
+play-push w moves move play next = play-append w moves (move ∷ []) play (next, tt)
 
-world_after-push : (w : World) (moves : List Move) (move : Move) → world_after w (moves ++ move ∷ []) ≡ after_move (world_after w moves) move
-world_after-push w moves move = fold_push after_move w moves move
-
+-- a turn asks for nothing
 asks_in-turned : (moves : List Move) → asks_in (moves ++ Turned ∷ []) ≡ asks_in moves
-asks_in-turned [] = refl
-asks_in-turned (Turned ∷ moves) = asks_in-turned moves
-asks_in-turned (Heard_ asked ∷ moves) = ap (λ asks. asked ∷ asks) (asks_in-turned moves)
-
-asks_in-heard : (moves : List Move) (asked : AskFacts) → asks_in (moves ++ Heard_ asked ∷ []) ≡ asks_in moves ++ asked ∷ []
-asks_in-heard [] asked = refl
-asks_in-heard (Turned ∷ moves) asked = asks_in-heard moves asked
-asks_in-heard (Heard_ a ∷ moves) asked = ap (λ asks. a ∷ asks) (asks_in-heard moves asked)
-
--- a chain of asks goes on by a step
-chain-push : (old mid new : Shelf) (asks : List AskFacts) (asked : AskFacts) → AskChain old asks mid → AskStep mid asked new → AskChain old (asks ++ asked ∷ []) new
-chain-push old mid new [] asked chain step = (new, subst (λ (s : Shelf). AskStep s asked new) chain step, refl)
-chain-push old mid new (a ∷ asks) asked chain step = (chain.0, chain.1, chain-push chain.0 mid new asks asked chain.2 step)
+asks_in-turned moves = asks_in-append moves (Turned ∷ []) ∙ append-nil (asks_in moves)
 
 -- ---- the call that is underway
 
@@ -62,48 +45,21 @@ pub outcome_now : (call : Open) (items : List Item) (stage : Stage) → ((more :
     outcome_of (now call items) ≡ rest_of stage []
 outcome_now call items stage reads = ap (reading call.desk call.request) (sym (append-nil items)) ∙ reads []
 
--- the outcome waits
-abbrev IfWaits : Outcome → Type 0
-IfWaits (Waits want) = Unit {0}
-IfWaits (Ends answer items) = ⊥
-IfWaits Astray = ⊥
-
 -- a call that waits is open in its world
-waiting_world : (w : World) (call : Open) (o : Outcome) → outcome_of call ≡ o → IfWaits o → fed w call [] ≡ record w { call = Some call; lines = [] }
-waiting_world w call (Waits want) e waits = ap (λ (o : Outcome). on_end o (λ answer. begun [] (printed w call answer)) (record w { call = Some call; lines = [] })) e
-waiting_world w call (Ends answer items) e waits = absurd waits
-waiting_world w call Astray e waits = absurd waits
+waiting_world : (w : World) (call : Open) (want : Want) → outcome_of call ≡ Waits want → fed w call [] ≡ record w { call = Some call; lines = [] }
+waiting_world w call want e = ap (λ (o : Outcome). on_end o (λ answer. begun [] (printed w call answer)) (record w { call = Some call; lines = [] })) e
 
 -- a call that has ended is answered in its world
 ended_world : (w : World) (call : Open) (answer : Answered) (items : List Item) → outcome_of call ≡ Ends answer items → fed w call [] ≡ idle (printed w call answer)
 ended_world w call answer items e = ap (λ (o : Outcome). on_end o (λ answer. begun [] (printed w call answer)) (record w { call = Some call; lines = [] })) e
 
--- What is known where a call that is underway waits.
-pub record Stop (space : Space) (kept : List KeptFacts) (call : Open) (items : List Item) : Type 0 where
-  pub arena : Kept space kept
-  pub going : Going space (now call items)
-
-stop_at : (w : World) (space : Space) (kept : List KeptFacts) (top : Desktop) (call : Open) (items : List Item) (o : Outcome) → Sane w →
-    w ≡ fed (world_of space kept top) (now call items) [] → outcome_of (now call items) ≡ o → IfWaits o → Stop space kept call items
-stop_at w space kept top call items o sane here e waits =
-    let there : Sane (record (world_of space kept top) { call = Some (now call items); lines = [] }) =
-    subst Sane (here ∙ waiting_world (world_of space kept top) (now call items) o e waits) sane in
-    record { arena = there.kept; going = there.call }
-
+-- what is known where a call that is underway waits
 pub way_stop : {start : World} {h0 : List AskFacts} {sh0 : Shelf} {space : Space} {kept : List KeptFacts} {heard : List AskFacts} {shelf : Shelf} {top : Desktop} {call : Open} {desk : DeskFacts} {stage : Stage} →
-    (way : Underway start h0 sh0 space kept heard shelf top call desk stage) → Sane start → (o : Outcome) → rest_of stage [] ≡ o → IfWaits o →
-    Stop space kept call way.items
-way_stop {start} {h0} {sh0} {space} {kept} {heard} {shelf} {top} {call} {desk} {stage} way sane o e waits =
-    stop_at (world_after start way.played.moves) space kept top call way.items o (play_sane start way.played.moves sane way.played.play) way.here
-    (outcome_now call way.items stage way.reads ∙ e) waits
-
--- reading behind one more item
-reads_on : (call : Open) (items : List Item) (item : Item) (stage after : Stage) →
-    ((more : List Item) → reading call.desk call.request (items ++ more) ≡ rest_of stage more) →
-    ((more : List Item) → rest_of stage (item ∷ more) ≡ rest_of after more) →
-    (more : List Item) → reading call.desk call.request ((items ++ item ∷ []) ++ more) ≡ rest_of after more
-reads_on call items item stage after reads step more =
-    ap (reading call.desk call.request) (append_assoc items (item ∷ []) more) ∙ reads (item ∷ more) ∙ step more
+    (way : Underway start h0 sh0 space kept heard shelf top call desk stage) → Sane start → (want : Want) → rest_of stage [] ≡ Waits want → Kept space kept × (call.client ≡ 0)
+way_stop {start} {space = space} {kept = kept} {top = top} {call = call} {stage = stage} way sane want e =
+    let here = way.here ∙ waiting_world (world_of space kept top) (now call way.items) want (outcome_now call way.items stage way.reads ∙ e) in
+    let there : Sane (record (world_of space kept top) { call = Some (now call way.items); lines = [] }) = subst Sane here (play_sane start way.played.moves sane way.played.play) in
+    (there.kept, there.call.client)
 
 -- the world of a waiting call goes on by the move that it needs
 move_world : (w : World) (space : Space) (kept : List KeptFacts) (top : Desktop) (call : Open) (want : Want) (move : Move) →
@@ -111,7 +67,7 @@ move_world : (w : World) (space : Space) (kept : List KeptFacts) (top : Desktop)
     IsNext w move × (after_move w move ≡ moved (record (world_of space kept top) { call = Some call; lines = [] }) call (Waits want) move)
 move_world w space kept top call want move here e fits =
     let open_world : World = record (world_of space kept top) { call = Some call; lines = [] } in
-    let is : w ≡ open_world = here ∙ waiting_world (world_of space kept top) call (Waits want) e tt in (
+    let is : w ≡ open_world = here ∙ waiting_world (world_of space kept top) call want e in (
       subst (λ (x : World). IsNext x move) (sym is) (subst (λ (o : Outcome). Fits open_world o move) (sym e) fits),
       ap (λ (x : World). after_move x move) is ∙ ap (λ (o : Outcome). moved open_world call o move) e,
     )
@@ -127,20 +83,10 @@ fed_kept space kept top call =
     elim (outcome_of call) as (λ o. (on_end o (λ answer. begun [] (printed (world_of space kept top) call answer)) (record (world_of space kept top) { call = Some call; lines = [] })).kept ≡ kept)
     [ Ends answer items ↦ refl | Waits want ↦ refl | Astray ↦ refl ]
 
--- What is known before a needed turn.
-pub record TurnReady (client : ℕ) (space : Space) (stage : Stage) (turn : Turn) : Type 0 where
-  pub waits : rest_of stage [] ≡ Waits (WantTurn turn.arena turn.op turn.asked)
-  pub may : stands space (record { client = client; op = turn.op }) ≡ true
-  pub kept : IsKept (record { client = client; op = turn.op }) turn.asked
-  pub law : GoesOn client space stage turn.op
-  pub base : Ground client space
-  pub flown : HasFlights client space stage
-  pub shorter : steps_left client (step_of space client turn.op).after (stage_after stage (FedReply (step_of space client turn.op).reply)) < steps_left client space stage
-
 -- A needed turn was made, and the call was fed its reply.
 pub record TurnMade (client : ℕ) (space : Space) (kept : List KeptFacts) (heard : List AskFacts) (desk : DeskFacts) (stage : Stage) (turn : Turn)
     (space' : Space) (kept' : List KeptFacts) (heard' : List AskFacts) (desk' : DeskFacts) (stage' : Stage) : Type 0 where
-  pub ready : TurnReady client space stage turn
+  pub ready : TurnReady client space stage turn.arena turn.op turn.asked
   pub in_space : space' ≡ space_after space (record { client = client; op = turn.op })
   pub in_journal : kept' ≡ kept ++ (record { entry = record { client = client; op = turn.op }; asked = turn.asked }) ∷ []
   pub hears : heard' ≡ heard
@@ -160,7 +106,7 @@ way_turn {start} {h0} {sh0} {space} {kept} {heard} {shelf} {top} {call} {desk} {
     let before : Open = now call way.items in
     let step = step_of space call.client turn.op in
     let went = move_world (world_after start moves) space kept top before (WantTurn turn.arena turn.op turn.asked) Turned way.here (outcome_now call way.items stage way.reads ∙ ready.waits) tt in
-    let there = world_after-push start moves Turned ∙ went.1 in
+    let there = world_after-append start moves (Turned ∷ []) ∙ went.1 in
     let grown : List KeptFacts = kept ++ (record { entry = record { client = call.client; op = turn.op }; asked = turn.asked }) ∷ [] in
     let after : Open = fed_one before (Replied step.reply) in
     let onto = onto_reply before stage turn.arena turn.op turn.asked step.reply ready.waits way.at in
@@ -174,7 +120,7 @@ way_turn {start} {h0} {sh0} {space} {kept} {heard} {shelf} {top} {call} {desk} {
         chain = subst (λ asks. AskChain sh0 asks shelf) (sym (asks_in-turned moves)) way.played.chain;
       };
       items = way.items ++ Replied step.reply ∷ [];
-      reads = reads_on call way.items (Replied step.reply) stage stage' way.reads made.reads;
+      reads = reads_more before (Replied step.reply) stage stage' way.reads made.reads;
       here = there;
       at = subst (IsAt after) (sym made.point) onto.at;
       planned = subst IsPlanned (sym made.point) (planned-reply stage step.reply way.planned);
@@ -208,7 +154,7 @@ way_ask {start} {h0} {sh0} {space} {kept} {heard} {shelf} {top} {call} {desk} {s
     let before : Open = now call way.items in
     let went = move_world (world_after start moves) space kept top before (WantAsk made.arena asked.ask) (Heard_ asked) way.here (outcome_now call way.items stage way.reads ∙ made.waits)
     (refl, made.of_box, made.step.box.answers) in
-    let there = world_after-push start moves (Heard_ asked) ∙ went.1 in
+    let there = world_after-append start moves (Heard_ asked ∷ []) ∙ went.1 in
     let after : Open = fed_one before (Told asked) in
     let onto = onto_answer before stage made.arena asked.ask asked made.waits way.at in
     rw (made.in_space, made.in_journal, made.hears) (record {
@@ -218,11 +164,11 @@ way_ask {start} {h0} {sh0} {space} {kept} {heard} {shelf} {top} {call} {desk} {s
         in_space = ap (λ (x : World). x.space) there ∙ fed_space space kept top after;
         in_journal = ap (λ (x : World). x.kept) there ∙ fed_kept space kept top after;
         hears = ap (λ asks. asks ++ asked ∷ []) way.played.hears ∙ append_assoc h0 (asks_in moves) (asked ∷ [])
-            ∙ ap (λ asks. h0 ++ asks) (sym (asks_in-heard moves asked));
-        chain = subst (λ asks. AskChain sh0 asks shelf') (sym (asks_in-heard moves asked)) (chain-push sh0 shelf shelf' (asks_in moves) asked way.played.chain made.step);
+            ∙ ap (λ asks. h0 ++ asks) (sym (asks_in-append moves (Heard_ asked ∷ [])));
+        chain = subst (λ asks. AskChain sh0 asks shelf') (sym (asks_in-append moves (Heard_ asked ∷ []))) (ask_chain-append sh0 shelf shelf' (asks_in moves) (asked ∷ []) way.played.chain (shelf', made.step, refl));
       };
       items = way.items ++ Told asked ∷ [];
-      reads = reads_on call way.items (Told asked) stage stage' way.reads made.reads;
+      reads = reads_more before (Told asked) stage stage' way.reads made.reads;
       here = there;
       at = subst (IsAt after) (sym made.point) onto.at;
       planned = subst IsPlanned (sym made.point) (planned-answer stage asked way.planned);

@@ -18,7 +18,7 @@ turn-requires g t c =
 
 pub next-need-requires-clause-fitting : goal.next-need-requires-clause-fitting
 next-need-requires-clause-fitting g t c =
-    turn_fits (turn_ready c.requires.underway c.in-Turn.is c.requires.need) c.client.ensures c.in_ok-reply-in-Turn.ensures.reply
+    turn_fits c.in-Turn.turn (turn_ready c.requires.underway c.in-Turn.is c.requires.need) c.client.ensures c.in_ok-reply-in-Turn.ensures.reply
 
 pub next-need-requires-clause-goes_on : goal.next-need-requires-clause-goes_on
 next-need-requires-clause-goes_on g t c =
@@ -28,7 +28,7 @@ pub go_on-requires : goal.go_on-requires
 go_on-requires g t c =
     let e = c.in_ok-reply-in-Turn.ensures in
     let next = c.next-need.ensures in
-    let made = turn_made c.args.state.now.kept.items (turn_ready c.requires.underway c.in-Turn.is c.requires.need) c.client.ensures e.space e.reply e.kept c.turn.ensures.heard
+    let made = turn_made c.args.state.now.kept.items c.in-Turn.turn (turn_ready c.requires.underway c.in-Turn.is c.requires.need) c.client.ensures e.space e.reply e.kept c.turn.ensures.heard
     (ap facts_of c.turn.ensures.desk) next.point next.desk next.reads in
     rw next.client (
       omega (arith, turn_shorter made, c.decreases),
@@ -57,7 +57,7 @@ pub returns-in_ok-reply-in-Turn-clause-carried : goal.returns-in_ok-reply-in-Tur
 returns-in_ok-reply-in-Turn-clause-carried g t c = λ start h0 sh0 top call own way.
     let e = c.in_ok-reply-in-Turn.ensures in
     let next = c.next-need.ensures in
-    let made = turn_made c.args.state.now.kept.items (turn_ready c.requires.underway c.in-Turn.is c.requires.need) c.client.ensures e.space e.reply e.kept c.turn.ensures.heard
+    let made = turn_made c.args.state.now.kept.items c.in-Turn.turn (turn_ready c.requires.underway c.in-Turn.is c.requires.need) c.client.ensures e.space e.reply e.kept c.turn.ensures.heard
     (ap facts_of c.turn.ensures.desk) next.point next.desk next.reads in
     c.go_on.ensures.carried start h0 sh0 top call (own ∙ sym next.client) (way_turn own way made)
 
