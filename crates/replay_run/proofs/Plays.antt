@@ -26,29 +26,26 @@ use Rattle.call_plan.specs.declared.needs.Given.TheVariants.{Done as GivesDone}
 use Rattle.space_model.specs.declared.Region.{Region}
 use Rattle.call_plan.specs.declared.needs.Request.{Request}
 use Rattle.call_plan.specs.declared.needs.Request.TheVariants.{Malloc, Free}
-use Rattle.call_plan.specs.declared.stages.Stage.TheVariants.{Give, Put}
+use Rattle.call_plan.specs.declared.stages.Stage.TheVariants.{Give, Put, Get, Ended}
 use Rattle.call_plan.specs.declared.puts.Putting.{Putting}
 use Rattle.call_plan.specs.declared.puts.Putting.TheVariants.{Finding, MergeAsked, Merging}
 use Rattle.call_plan.specs.Desks.{DeskFacts}
 use Rattle.call_plan.specs.Free.{Onward, To, Nowhere, put_step, beside, is_right, is_left}
-use Rattle.call_plan.specs.Calls.{IsBuilt, IsLook, gave_stage, put_stage}
+use Rattle.call_plan.specs.Calls.{IsBuilt, IsLook, gave_stage, put_stage, reading, IsPlanned, IsWish, stage_after, stage_of, first_stage}
 use Rattle.trace_text.specs.declared.lines.Verb.{Verb}
 use Rattle.replay_run.specs.Hands.{IsInHands}
-use Rattle.replay_run.specs.World.{hands_at, hands_in, desk_ended, call_of, request_of}
-use Rattle.replay_run.specs.Sane.{hands_now}
+use Rattle.replay_run.specs.World.{hands_at, hands_in, desk_ended, call_of, request_of, Open, World, outcome_of, on_end, printed, opened, begun, fed, Move, Turned, Heard_, turned, moved, after_in, after_move, Fits, NextIn, IsNext, IsPlay, world_after, empty_world, opening, AllWorlds, entries_of, IsSound, IsCarried}
+use Rattle.replay_run.specs.Sane.{hands_now, Kept, Going, Sane}
 use Rattle.replay_run.proofs.Desks.{fed_one, onto_reply, onto_answer, hands_stage, hands_at_stage, hands_reply, hands_answer}
 use Rattle.hook_api.specs.Asked.{AskFacts}
 use Rattle.hook_api.specs.Hooks.{Answers}
-use Rattle.hook_api.specs.Kept.{KeptFacts}
+use Rattle.hook_api.specs.Kept.{KeptFacts, IsKept}
 use Rattle.call_plan.specs.declared.needs.Answered.{Answered}
 use Rattle.call_plan.specs.declared.needs.Fed.TheVariants.{Replied as FedReply, Answer}
 use Rattle.call_plan.specs.declared.stages.Stage.{Stage}
-use Rattle.call_plan.specs.declared.stages.Stage.TheVariants.{Get, Ended}
 use Rattle.call_plan.specs.declared.wishes.Wish.{Wish}
 use Rattle.call_plan.specs.Reading.{Item, Want, Replied, Told, WantTurn, WantAsk, Outcome, Ends, Waits, Astray}
-use Rattle.hook_api.specs.Kept.{IsKept}
 use Rattle.call_plan.specs.Rest.{rest_of}
-use Rattle.call_plan.specs.Calls.{reading, IsPlanned, IsWish, stage_after, stage_of}
 use Rattle.call_plan.specs.Knows.{Knows, Ground}
 use Rattle.call_plan.specs.Laws.{GoesOn}
 use Rattle.replay_run.proofs.Wants.{needed_turn}
@@ -64,12 +61,8 @@ use Rattle.trace_text.specs.declared.lines.Line.{Line}
 use Rattle.trace_text.specs.declared.lines.Line.TheVariants.{Call}
 use Rattle.trace_text.specs.declared.lines.Verb.TheVariants.{Malloc as MallocVerb, Free as FreeVerb}
 use Rattle.space_model.proofs.LawLemmas.{first_replays_are_good}
-use Rattle.replay_run.specs.World.{Open, World, outcome_of, on_end, printed, opened, begun, fed, Move, Turned, Heard_, turned, moved, after_in, after_move, Fits, NextIn, IsNext, IsPlay, world_after, empty_world, opening, AllWorlds, entries_of, IsSound, IsCarried}
-use Rattle.replay_run.specs.Sane.{Kept, Going, Sane}
 use Rattle.replay_run.proofs.Frames.{step_frame}
-use Rattle.call_plan.proofs.Ended.{ended_only}
-use Rattle.replay_run.proofs.Starts.{starts, ends_at_once}
-use Rattle.call_plan.specs.Calls.{first_stage}
+use Rattle.replay_run.proofs.Starts.{starts, ended_only, ends_at_once}
 
 -- ---- journals that grow by an entry
 

@@ -7,10 +7,11 @@ use Rattle.hook_api.specs.Kept.{KeptFacts}
 use Rattle.hook_api.specs.Shelf.{Shelf}
 use Rattle.edge_io.specs.Bytes.{Appends, AppendsPrefix, Consumes, IsAtEnd}
 use Rattle.call_plan.specs.declared.needs.Answered.{Answered}
-use Rattle.call_plan.specs.Desks.{DeskFacts}
+use Rattle.call_plan.specs.Desks.{DeskFacts, facts_of}
 use Rattle.trace_text.specs.declared.lines.Line.{Line}
 use Rattle.trace_text.specs.declared.lines.Verb.{Verb}
 use Rattle.replay_run.specs.declared.input.Stop.{Stop}
+use Rattle.replay_run.specs.declared.state.State.{State}
 use Rattle.replay_run.specs.declared.lines.Next.{Next}
 use Rattle.replay_run.specs.declared.lines.Next.TheVariants.{Carried as CarriedNext, Refused, Over}
 use Rattle.replay_run.specs.Input.{ReadsTo, IsUnbuilt}
@@ -32,6 +33,21 @@ pub record Moment : Type 0 where
   pub held : Option (List ℕ)
   pub desk : DeskFacts
   pub names : List (List ℕ × ℕ)
+
+-- the moment of a state, with what stands beside it
+abbrev pub moment_of : State → Shelf → List ℕ → Option (List ℕ) → Bool → Option (List ℕ) → Moment
+moment_of state shelf pending left met held = record {
+  space = state.arena.space;
+  kept = state.kept.items;
+  heard = state.heard.items;
+  shelf = shelf;
+  pending = pending;
+  left = left;
+  met = met;
+  held = held;
+  desk = facts_of state.desk;
+  names = state.names;
+}
 
 -- what stands beside the arena at a moment, with this text printed
 abbrev pub top_at : Moment → List ℕ → Desktop

@@ -18,7 +18,7 @@ ghost use Rattle.replay_run.specs.World.{fed, call_of, request_of, answer_line, 
 ghost use Rattle.replay_run.specs.Carried.{Desktop, world_of, Carried, IsReady};
 ghost use Rattle.replay_run.specs.Stops.{HasStopCause, IsReplayStatus, status_for, status_in};
 ghost use Rattle.replay_run.specs.declared.input.Stop.TheVariants.{ReadFault, WriteFault};
-ghost use Rattle.replay_run.specs.SoFar.{Outset, SoFar, Goes, TellsAnswer};
+ghost use Rattle.replay_run.specs.SoFar.{Outset, moment_of, SoFar, Goes, TellsAnswer};
 ghost use Rattle.replay_run.specs.Replays.{ReplayOf, JournalsOf, line_limit};
 
 use crate::calls::carry_call;
@@ -208,30 +208,9 @@ fn next_line<S: Source, K: Sink>(
     pending: &mut Pending,
 ) -> Result<Next, Stop>
     requires ready { IsReady state.old.arena.space state.old.kept.items (facts_of state.old.desk) }
-    ensures goes { (from : Outset) (lines : List Line) → length lines < line_limit → SoFar from lines (record {
-      space = state.old.arena.space;
-      kept = state.old.kept.items;
-      heard = state.old.heard.items;
-      shelf = shelf_of ExtentHooks-dyn shelf.old;
-      pending = pending.old;
-      left = S.left source.old;
-      met = S.ended source.old;
-      held = K.held sink.old;
-      desk = facts_of state.old.desk;
-      names = state.old.names;
-    })
-        → Goes from lines result (record {
-          space = state.new.arena.space;
-          kept = state.new.kept.items;
-          heard = state.new.heard.items;
-          shelf = shelf_of ExtentHooks-dyn shelf.new;
-          pending = pending.new;
-          left = S.left source.new;
-          met = S.ended source.new;
-          held = K.held sink.new;
-          desk = facts_of state.new.desk;
-          names = state.new.names;
-        }) }
+    ensures goes { (from : Outset) (lines : List Line) → length lines < line_limit
+        → SoFar from lines (moment_of state.old (shelf_of ExtentHooks-dyn shelf.old) pending.old (S.left source.old) (S.ended source.old) (K.held sink.old))
+        → Goes from lines result (moment_of state.new (shelf_of ExtentHooks-dyn shelf.new) pending.new (S.left source.new) (S.ended source.new) (K.held sink.new)) }
     ensures ready { OnOk result (IsReady state.new.arena.space state.new.kept.items (facts_of state.new.desk)) }
     ensures cause { IfErr result (λ stop. HasStopCause stop (S.faults source.old) (S.faults source.new) (K.faults sink.old) (K.faults sink.new)) }
     ensures source_counts { S.faults source.old ≤ S.faults source.new }

@@ -32,8 +32,10 @@ go_on-requires g t c =
     (ap facts_of c.turn.ensures.desk) next.point next.desk next.reads in
     rw next.client (
       omega (arith, turn_shorter made, c.decreases),
-      (underway_on c.requires.underway (λ start h0 sh0 top call own way. way_turn own way made),
-      (next.places, (room_after_turn c.args.state.now.arena c.turn.new.self.arena made c.requires.room (rw c.client.ensures at e.room), rw next.client at next.need))),
+      (
+        underway_on c.requires.underway (λ start h0 sh0 top call own way. way_turn own way made),
+        (next.places, (room_after_turn c.args.state.now.arena c.turn.new.self.arena made c.requires.room (rw c.client.ensures at e.room), rw next.client at next.need)),
+      ),
     )
 
 pub go_on-requires-in-Ask : goal.go_on-requires-in-Ask
@@ -45,9 +47,17 @@ go_on-requires-in-Ask g t c =
     c.ask.ensures.kept e.heard (ap facts_of c.ask.ensures.desk) next.point next.desk next.reads in
     rw next.client (
       omega (arith, ask_shorter c.args.call.client made, c.decreases),
-      (underway_on c.requires.underway (λ start h0 sh0 top call own way. way_ask way made),
-      (next.places, (room_after_ask c.args.call.client c.args.state.now.arena c.ask.new.self.arena c.args.call.stage c.next-need-in-Ask.new.self.stage c.in-Ask.arena c.in-Ask.ask c.ask.ensures.arena
-      waits c.requires.room (ask_shorter c.args.call.client made), rw next.client at next.need))),
+      (
+        underway_on c.requires.underway (λ start h0 sh0 top call own way. way_ask way made),
+        (
+          next.places,
+          (
+            room_after_ask c.args.call.client c.args.state.now.arena c.ask.new.self.arena c.args.call.stage c.next-need-in-Ask.new.self.stage c.in-Ask.arena c.in-Ask.ask c.ask.ensures.arena
+                waits c.requires.room (ask_shorter c.args.call.client made),
+            rw next.client at next.need,
+          ),
+        ),
+      ),
     )
 
 pub returns-in-Done-clause-carried : goal.returns-in-Done-clause-carried
