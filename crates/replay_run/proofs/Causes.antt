@@ -18,7 +18,7 @@ use Rattle.replay_run.specs.Sane.{Kept, Going, Sane}
 use Rattle.replay_run.specs.Causes.{items_in, AnswerHasCause, IsExplained, EndsExplained, AllMoves, PlaysHaveCauses, AnswersAtOnceHaveCauses}
 use Rattle.replay_run.proofs.Starts.{ended_only, ends_at_once}
 use Rattle.replay_run.proofs.Later.{fed_is}
-use Rattle.replay_run.proofs.Plays.{after_sane, opening_sane, first_good, going_ready, turned_going, heard_going}
+use Rattle.replay_run.proofs.Plays.{after_sane, opening_sane, going_ready, turned_going, heard_going}
 
 -- what the open call was fed are replies to its turns and answers to its asks
 abbrev IsFed : World → Type 0
@@ -86,7 +86,7 @@ moves_explained w (move ∷ moves) sane is play =
     (here.0, moves_explained (after_move w move) moves (after_sane w move sane play.0) here.1 play.1)
 
 pub plays-have_causes : PlaysHaveCauses
-plays-have_causes lines moves carried play = moves_explained (opening lines) moves (opening_sane lines first_good carried) (begun_fed lines _) play
+plays-have_causes lines moves carried play = moves_explained (opening lines) moves (opening_sane lines carried) (begun_fed lines _) play
 
 pub answers-at_once_have_causes : AnswersAtOnceHaveCauses
 answers-at_once_have_causes desk request built = λ answer left ends.

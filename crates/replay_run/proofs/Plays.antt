@@ -400,9 +400,13 @@ play_sound w [] sane play = sane-sound w sane
 play_sound w (move ∷ moves) sane play = (sane-sound w sane, play_sound (after_move w move) moves (after_sane w move sane play.0) play.1)
 
 -- the first space is good
-pub first_good : Good [] first_space
+first_good : Good [] first_space
 first_good = first_replays_are_good [] refl
 
+-- and what is known of an arena there
+pub first_kept : Kept first_space []
+first_kept = record { replayed = refl; stand = refl; good = first_good; live = refl; bound = refl; stays = λ same. absurd (cc (same)) }
+
 -- the opening world
-pub opening_sane : (lines : List Line) → Good [] first_space → All IsCarried lines → Sane (opening lines)
-opening_sane lines good carried = begun_sane lines empty_world (record { replayed = refl; stand = refl; good = good; live = refl; bound = refl; stays = λ same. absurd (cc (same)) }) (λ addr class. refl) refl carried
+pub opening_sane : (lines : List Line) → All IsCarried lines → Sane (opening lines)
+opening_sane lines carried = begun_sane lines empty_world first_kept (λ addr class. refl) refl carried

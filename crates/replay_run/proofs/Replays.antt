@@ -24,40 +24,26 @@ use Rattle.call_plan.specs.declared.needs.Request.{Request}
 use Rattle.call_plan.specs.Desks.{DeskFacts}
 use Rattle.trace_text.specs.Lines.{HasNoNewline}
 use Rattle.std.specs.Result.{IsErrAnd}
-use Rattle.call_plan.specs.Left.{flights}
 use Rattle.replay_run.specs.declared.input.Stop.{Stop}
 use Rattle.replay_run.specs.declared.input.Stop.TheVariants.{ReadFault, NoMemory}
 use Rattle.replay_run.specs.declared.lines.Next.{Next}
 use Rattle.replay_run.specs.declared.input.Found.{Found}
 use Rattle.replay_run.specs.declared.input.Found.TheVariants.{Line as FoundLine}
 use Rattle.replay_run.specs.Input.{IsUnbuilt, InBounds, IsFirst, SaysCall, IsBuilt, ReadsTo, TakesMore, TakesSome}
-use Rattle.replay_run.specs.Hands.{IsInHands}
 use Rattle.replay_run.specs.Stops.{HasStopCause, status_for, status_in}
 use Rattle.replay_run.specs.World.{World, Open, Move, IsPlay, idle, printed, fed, begun, call_of, request_of, answer_line, names_ended, desk_ended, first_desk, opening, empty_world, closing, world_after, asks_in, IsCarried, IsComplete}
-use Rattle.replay_run.specs.Sane.{Kept}
 use Rattle.replay_run.specs.Carried.{Desktop, IsReady, world_of, Played, Carried}
 use Rattle.replay_run.specs.SoFar.{Moment, top_at, Outset, SoFar, EndsHere, Goes, TellsAnswer}
 use Rattle.replay_run.specs.Replays.{ReplayOf, Prints, Leaves, JournalsOf, line_limit}
-use Rattle.replay_run.proofs.Plays.{play_sound, opening_sane, first_good}
+use Rattle.replay_run.proofs.Plays.{play_sound, opening_sane, first_kept}
 use Rattle.replay_run.proofs.Causes.{plays-have_causes}
 use Rattle.replay_run.proofs.Later.{later, begun_text, begun_later, play_later, play-append, world_after-append, asks_in-append, ask_chain-append}
 use Rattle.replay_run.proofs.LinesRead.{reads_one_more, reads_further}
 use Rattle.replay_run.proofs.Endings.{IsLast, last_text, read_fault, longer, behind, all_of, prints_stopped, leaves_stopped, prints_last, leaves_last}
 
--- what is known of an arena at the start
-pub first_kept : (s : Space) (kept : List KeptFacts) → s ≡ first_space → kept ≡ [] → Kept s kept
-first_kept s kept is none =
-    subst (λ (t : Space). Kept t kept) (sym is) (subst (λ (k : List KeptFacts). Kept first_space k) (sym none)
-    (record { replayed = refl; stand = refl; good = first_good; live = refl; bound = refl; stays = λ same. absurd (cc (same)) }))
-
--- and of the client
+-- what is known of an arena and of the client at the start
 pub first_ready : (s : Space) (kept : List KeptFacts) (desk : DeskFacts) → s ≡ first_space → kept ≡ [] → desk ≡ first_desk → IsReady s kept desk
-first_ready s kept desk is none own = record {
-  arena = first_kept s kept is none;
-  client = ap (λ (d : DeskFacts). d.client) own;
-  rests = subst (λ (t : Space). flights 0 t ≡ 0) (sym is) refl;
-  in_hands = subst (λ (t : Space). IsInHands 0 t.regions desk.held) (sym is) (subst (λ (d : DeskFacts). IsInHands 0 first_space.regions d.held) (sym own) (λ addr class. refl));
-}
+first_ready s kept desk is none own = rw (is, none, own) (record { arena = first_kept; client = refl; rests = refl; in_hands = λ addr class. refl })
 
 -- before the first line nothing was carried out
 pub so_far_none : (from : Outset) (now : Moment) → now.space ≡ first_space → now.kept ≡ [] → now.heard ≡ [] → now.pending ≡ [] →
@@ -67,16 +53,13 @@ so_far_none from now first no_entries no_asks no_bytes shelf left held desk name
   moves = [];
   play = tt;
   text = [];
-  here = subst (λ (s : Space). opening [] ≡ world_of s now.kept (top_at now [])) (sym first)
-      (subst (λ (k : List KeptFacts). opening [] ≡ world_of first_space k (top_at now [])) (sym no_entries)
-      (subst (λ (d : DeskFacts). opening [] ≡ world_of first_space [] (record { text = []; desk = d; names = now.names })) (sym desk)
-      (subst (λ (n : List (List ℕ × ℕ)). opening [] ≡ world_of first_space [] (record { text = []; desk = first_desk; names = n })) (sym names) refl)));
+  here = rw (first, no_entries, desk, names) refl;
   hears = sym no_asks;
-  chain = subst (λ (asks : List AskFacts). AskChain from.shelf asks now.shelf) (sym no_asks) shelf;
+  chain = rw no_asks shelf;
   taken = [];
-  takes = subst (λ (l : Option (List ℕ)). Consumes from.left l []) (sym left) (Consumes-nil from.left);
+  takes = rw left (Consumes-nil from.left);
   reads = sym no_bytes;
-  prints = subst (λ (h : Option (List ℕ)). Appends from.held h []) (sym held) (Appends-nil from.held);
+  prints = rw held (Appends-nil from.held);
 }
 
 -- more bytes were taken
@@ -106,7 +89,7 @@ ends_here {from} {lines} {now} so status left held met bytes takes leaves prints
   carried = so.carried;
   moves = so.moves;
   play = so.play;
-  sound = play_sound (opening lines) so.moves (opening_sane lines first_good so.carried) so.play;
+  sound = play_sound (opening lines) so.moves (opening_sane lines so.carried) so.play;
   causes = plays-have_causes lines so.moves so.carried so.play;
   in_journal = ap (λ (w : World). w.kept) so.here;
   hears = so.hears;
@@ -263,7 +246,7 @@ stops_in_line {from} {lines} {before} {space} {kept} {heard} {shelf} {desk} {ver
       carried = more.carried;
       moves = more.moves;
       play = more.play;
-      sound = play_sound (opening (lines ++ said ∷ [])) more.moves (opening_sane (lines ++ said ∷ []) first_good more.carried) more.play;
+      sound = play_sound (opening (lines ++ said ∷ [])) more.moves (opening_sane (lines ++ said ∷ []) more.carried) more.play;
       causes = plays-have_causes (lines ++ said ∷ []) more.moves more.carried more.play;
       in_journal = ap (λ (x : World). x.kept) more.after ∙ way.played.in_journal;
       hears = more.hears;

@@ -8,10 +8,10 @@ use Rattle.hook_api.specs.Kept.{KeptFacts}
 use Rattle.hook_api.specs.Shelf.{Shelf, AskStep}
 use Rattle.call_plan.specs.declared.needs.Answered.{Answered}
 use Rattle.call_plan.specs.declared.stages.Stage.{Stage}
-use Rattle.call_plan.specs.Reading.{Item, Want, Replied, Told, WantTurn, WantAsk, Outcome, Ends, Waits, Astray}
+use Rattle.call_plan.specs.Reading.{Item, Want, Replied, Told, WantTurn, WantAsk, Outcome, Ends, Waits}
 use Rattle.call_plan.specs.Rest.{rest_of}
 use Rattle.call_plan.specs.Calls.{reading, IsPlanned, stage_after, desk_after}
-use Rattle.replay_run.specs.World.{Open, World, outcome_of, on_end, idle, printed, begun, fed, Move, Turned, Heard_, moved, after_move, Fits, IsNext, IsPlay, world_after, asks_in}
+use Rattle.replay_run.specs.World.{Open, World, outcome_of, on_end, idle, printed, begun, fed, Move, Turned, Heard_, moved, after_move, Fits, IsNext, world_after, asks_in}
 use Rattle.call_plan.specs.declared.needs.Fed.TheVariants.{Replied as FedReply, Answer}
 use Rattle.call_plan.specs.declared.needs.Turn.{Turn}
 use Rattle.call_plan.specs.Desks.{DeskFacts}
@@ -22,17 +22,8 @@ use Rattle.call_plan.proofs.GoingOn.{asks-go_on}
 use Rattle.replay_run.specs.Sane.{Kept, Sane, IsAt, desk_at}
 use Rattle.replay_run.proofs.Desks.{fed_one, onto_reply, onto_answer}
 use Rattle.replay_run.specs.Carried.{Desktop, world_of, Underway}
-use Rattle.replay_run.proofs.Later.{play-append, world_after-append, asks_in-append, ask_chain-append}
+use Rattle.replay_run.proofs.Later.{fed_is, play-append, world_after-append, asks_in-append, ask_chain-append}
 use Rattle.replay_run.proofs.Plays.{TurnReady, reads_more, play_sane, planned-reply, planned-answer}
-
--- ---- a play that grows by a move
-
-play-push : (w : World) (moves : List Move) (move : Move) → IsPlay w moves → IsNext (world_after w moves) move → IsPlay w (moves ++ move ∷ [])
-play-push w moves move play next = play-append w moves (move ∷ []) play (next, tt)
-
--- a turn asks for nothing
-asks_in-turned : (moves : List Move) → asks_in (moves ++ Turned ∷ []) ≡ asks_in moves
-asks_in-turned moves = asks_in-append moves (Turned ∷ []) ∙ append-nil (asks_in moves)
 
 -- ---- the call that is underway
 
@@ -74,14 +65,40 @@ move_world w space kept top call want move here e fits =
 
 -- the space and the journal in the world of a call
 fed_space : (space : Space) (kept : List KeptFacts) (top : Desktop) (call : Open) → (fed (world_of space kept top) call []).space ≡ space
-fed_space space kept top call =
-    elim (outcome_of call) as (λ o. (on_end o (λ answer. begun [] (printed (world_of space kept top) call answer)) (record (world_of space kept top) { call = Some call; lines = [] })).space ≡ space)
-    [ Ends answer items ↦ refl | Waits want ↦ refl | Astray ↦ refl ]
+fed_space space kept top call = fed_is (λ (v : World). v.space ≡ space) (world_of space kept top) call [] (λ answer. refl) refl
 
 fed_kept : (space : Space) (kept : List KeptFacts) (top : Desktop) (call : Open) → (fed (world_of space kept top) call []).kept ≡ kept
-fed_kept space kept top call =
-    elim (outcome_of call) as (λ o. (on_end o (λ answer. begun [] (printed (world_of space kept top) call answer)) (record (world_of space kept top) { call = Some call; lines = [] })).kept ≡ kept)
-    [ Ends answer items ↦ refl | Waits want ↦ refl | Astray ↦ refl ]
+fed_kept space kept top call = fed_is (λ (v : World). v.kept ≡ kept) (world_of space kept top) call [] (λ answer. refl) refl
+
+-- a call that is underway goes on by a move that feeds it an item
+way_moved : {start : World} {h0 : List AskFacts} {sh0 : Shelf} {space : Space} {kept : List KeptFacts} {heard : List AskFacts} {shelf : Shelf} {top : Desktop} {call : Open} {desk : DeskFacts} {stage : Stage}
+    (way : Underway start h0 sh0 space kept heard shelf top call desk stage) (space' : Space) (kept' : List KeptFacts) (shelf' : Shelf) (desk' : DeskFacts) (stage' : Stage) (move : Move) (item : Item) →
+    IsNext (world_after start way.played.moves) move → after_move (world_after start way.played.moves) move ≡ fed (world_of space' kept' top) (fed_one (now call way.items) item) [] →
+    AskChain shelf (asks_in (move ∷ [])) shelf' → ((more : List Item) → rest_of stage (item ∷ more) ≡ rest_of stage' more) → IsAt (fed_one (now call way.items) item) stage' →
+    IsPlanned stage' → Knows call.client space' stage' → HasFlights call.client space' stage' → desk' ≡ desk_at call stage' →
+    Underway start h0 sh0 space' kept' (heard ++ asks_in (move ∷ [])) shelf' top call desk' stage'
+way_moved {start} {h0} {sh0} {shelf = shelf} {top = top} {call = call} {stage = stage} way space' kept' shelf' desk' stage' move item next leads chain reads at planned knows flown settled =
+    let moves = way.played.moves in
+    let asks : asks_in (moves ++ move ∷ []) ≡ asks_in moves ++ asks_in (move ∷ []) = asks_in-append moves (move ∷ []) in
+    let there = world_after-append start moves (move ∷ []) ∙ leads in
+    let after : Open = fed_one (now call way.items) item in record {
+      played = record {
+        moves = moves ++ move ∷ [];
+        play = play-append start moves (move ∷ []) way.played.play (next, tt);
+        in_space = ap (λ (x : World). x.space) there ∙ fed_space space' kept' top after;
+        in_journal = ap (λ (x : World). x.kept) there ∙ fed_kept space' kept' top after;
+        hears = ap (λ xs. xs ++ asks_in (move ∷ [])) way.played.hears ∙ append_assoc h0 (asks_in moves) (asks_in (move ∷ [])) ∙ ap (λ xs. h0 ++ xs) (sym asks);
+        chain = rw asks (ask_chain-append sh0 shelf shelf' (asks_in moves) (asks_in (move ∷ [])) way.played.chain chain);
+      };
+      items = way.items ++ item ∷ [];
+      reads = reads_more (now call way.items) item stage stage' way.reads reads;
+      here = there;
+      at = at;
+      planned = planned;
+      knows = knows;
+      flown = flown;
+      settled = settled;
+    }
 
 -- A needed turn was made, and the call was fed its reply.
 pub record TurnMade (client : ℕ) (space : Space) (kept : List KeptFacts) (heard : List AskFacts) (desk : DeskFacts) (stage : Stage) (turn : Turn)
@@ -94,41 +111,22 @@ pub record TurnMade (client : ℕ) (space : Space) (kept : List KeptFacts) (hear
   pub settled : desk' ≡ desk_after desk stage (FedReply (reply_to space (record { client = client; op = turn.op })))
   pub reads : (more : List Item) → rest_of stage (Replied (reply_to space (record { client = client; op = turn.op })) ∷ more) ≡ rest_of stage' more
 
--- a call that is underway goes on by its turn
+-- so by its turn
 pub way_turn : {start : World} {h0 : List AskFacts} {sh0 : Shelf} {space : Space} {kept : List KeptFacts} {heard : List AskFacts} {shelf : Shelf} {top : Desktop} {call : Open} {desk : DeskFacts} {stage : Stage}
     {client : ℕ} {turn : Turn} {space' : Space} {kept' : List KeptFacts} {heard' : List AskFacts} {desk' : DeskFacts} {stage' : Stage} →
     call.client ≡ client → Underway start h0 sh0 space kept heard shelf top call desk stage → TurnMade client space kept heard desk stage turn space' kept' heard' desk' stage' →
     Underway start h0 sh0 space' kept' heard' shelf top call desk' stage'
-way_turn {start} {h0} {sh0} {space} {kept} {heard} {shelf} {top} {call} {desk} {stage} {turn = turn} {stage' = stage'} own way was_made =
+way_turn {start} {h0} {sh0} {space} {kept} {heard} {shelf} {top} {call} {desk} {stage} {turn = turn} {desk' = desk'} own way was_made =
     let made = rw (sym own) at was_made in
     let ready = made.ready in
-    let moves = way.played.moves in
-    let before : Open = now call way.items in
     let step = step_of space call.client turn.op in
-    let went = move_world (world_after start moves) space kept top before (WantTurn turn.arena turn.op turn.asked) Turned way.here (outcome_now call way.items stage way.reads ∙ ready.waits) tt in
-    let there = world_after-append start moves (Turned ∷ []) ∙ went.1 in
-    let grown : List KeptFacts = kept ++ (record { entry = record { client = call.client; op = turn.op }; asked = turn.asked }) ∷ [] in
-    let after : Open = fed_one before (Replied step.reply) in
-    let onto = onto_reply before stage turn.arena turn.op turn.asked step.reply ready.waits way.at in
-    rw (made.in_space, made.in_journal, made.hears) (record {
-      played = record {
-        moves = moves ++ Turned ∷ [];
-        play = play-push start moves Turned way.played.play went.0;
-        in_space = ap (λ (x : World). x.space) there ∙ fed_space step.after grown top after;
-        in_journal = ap (λ (x : World). x.kept) there ∙ fed_kept step.after grown top after;
-        hears = way.played.hears ∙ ap (λ asks. h0 ++ asks) (sym (asks_in-turned moves));
-        chain = subst (λ asks. AskChain sh0 asks shelf) (sym (asks_in-turned moves)) way.played.chain;
-      };
-      items = way.items ++ Replied step.reply ∷ [];
-      reads = reads_more before (Replied step.reply) stage stage' way.reads made.reads;
-      here = there;
-      at = subst (IsAt after) (sym made.point) onto.at;
-      planned = subst IsPlanned (sym made.point) (planned-reply stage step.reply way.planned);
-      knows = subst (Knows call.client step.after) (sym made.point) ready.law.knows;
-      flown = subst (HasFlights call.client step.after) (sym made.point)
-          (turn_flights call.client space stage turn.arena turn.op turn.asked ready.base way.planned way.knows way.flown ready.waits);
-      settled = made.settled ∙ ap (λ (d : DeskFacts). desk_after d stage (FedReply step.reply)) way.settled ∙ onto.owns ∙ ap (desk_at call) (sym made.point);
-    })
+    let went = move_world (world_after start way.played.moves) space kept top (now call way.items) (WantTurn turn.arena turn.op turn.asked) Turned way.here
+    (outcome_now call way.items stage way.reads ∙ ready.waits) tt in
+    let onto = onto_reply (now call way.items) stage turn.arena turn.op turn.asked step.reply ready.waits way.at in
+    rw (made.in_space, made.in_journal, made.hears ∙ sym (append-nil heard), made.point)
+    (way_moved way step.after _ shelf desk' (stage_after stage (FedReply step.reply)) Turned (Replied step.reply) went.0 went.1 refl (rw made.point at made.reads) onto.at
+    (planned-reply stage step.reply way.planned) ready.law.knows (turn_flights call.client space stage turn.arena turn.op turn.asked ready.base way.planned way.knows way.flown ready.waits)
+    (made.settled ∙ ap (λ (d : DeskFacts). desk_after d stage (FedReply step.reply)) way.settled ∙ onto.owns))
 
 -- A needed ask was made, and the call was fed its answer.
 pub record AskMade (space : Space) (kept : List KeptFacts) (heard : List AskFacts) (shelf : Shelf) (desk : DeskFacts) (stage : Stage) (asked : AskFacts)
@@ -149,33 +147,15 @@ pub way_ask : {start : World} {h0 : List AskFacts} {sh0 : Shelf} {space : Space}
     {asked : AskFacts} {space' : Space} {kept' : List KeptFacts} {heard' : List AskFacts} {shelf' : Shelf} {desk' : DeskFacts} {stage' : Stage} →
     Underway start h0 sh0 space kept heard shelf top call desk stage → AskMade space kept heard shelf desk stage asked space' kept' heard' shelf' desk' stage' →
     Underway start h0 sh0 space' kept' heard' shelf' top call desk' stage'
-way_ask {start} {h0} {sh0} {space} {kept} {heard} {shelf} {top} {call} {desk} {stage} {asked} {shelf' = shelf'} {stage' = stage'} way made =
-    let moves = way.played.moves in
-    let before : Open = now call way.items in
-    let went = move_world (world_after start moves) space kept top before (WantAsk made.arena asked.ask) (Heard_ asked) way.here (outcome_now call way.items stage way.reads ∙ made.waits)
-    (refl, made.of_box, made.step.box.answers) in
-    let there = world_after-append start moves (Heard_ asked ∷ []) ∙ went.1 in
-    let after : Open = fed_one before (Told asked) in
-    let onto = onto_answer before stage made.arena asked.ask asked made.waits way.at in
-    rw (made.in_space, made.in_journal, made.hears) (record {
-      played = record {
-        moves = moves ++ Heard_ asked ∷ [];
-        play = play-push start moves (Heard_ asked) way.played.play went.0;
-        in_space = ap (λ (x : World). x.space) there ∙ fed_space space kept top after;
-        in_journal = ap (λ (x : World). x.kept) there ∙ fed_kept space kept top after;
-        hears = ap (λ asks. asks ++ asked ∷ []) way.played.hears ∙ append_assoc h0 (asks_in moves) (asked ∷ [])
-            ∙ ap (λ asks. h0 ++ asks) (sym (asks_in-append moves (Heard_ asked ∷ [])));
-        chain = subst (λ asks. AskChain sh0 asks shelf') (sym (asks_in-append moves (Heard_ asked ∷ []))) (ask_chain-append sh0 shelf shelf' (asks_in moves) (asked ∷ []) way.played.chain (shelf', made.step, refl));
-      };
-      items = way.items ++ Told asked ∷ [];
-      reads = reads_more before (Told asked) stage stage' way.reads made.reads;
-      here = there;
-      at = subst (IsAt after) (sym made.point) onto.at;
-      planned = subst IsPlanned (sym made.point) (planned-answer stage asked way.planned);
-      knows = subst (Knows call.client space) (sym made.point) (asks-go_on call.client space stage made.arena asked.ask asked way.knows made.waits refl made.step.box.answers).1;
-      flown = subst (HasFlights call.client space) (sym made.point) (ask_flights call.client space stage made.arena asked.ask asked made.waits way.flown);
-      settled = made.settled ∙ ap (λ (d : DeskFacts). desk_after d stage (Answer asked)) way.settled ∙ onto.owns ∙ ap (desk_at call) (sym made.point);
-    })
+way_ask {start} {h0} {sh0} {space} {kept} {heard} {shelf} {top} {call} {desk} {stage} {asked} {shelf' = shelf'} {desk' = desk'} way made =
+    let went = move_world (world_after start way.played.moves) space kept top (now call way.items) (WantAsk made.arena asked.ask) (Heard_ asked) way.here
+    (outcome_now call way.items stage way.reads ∙ made.waits) (refl, made.of_box, made.step.box.answers) in
+    let onto = onto_answer (now call way.items) stage made.arena asked.ask asked made.waits way.at in
+    rw (made.in_space, made.in_journal, made.hears, made.point)
+    (way_moved way space kept shelf' desk' (stage_after stage (Answer asked)) (Heard_ asked) (Told asked) went.0 went.1 (shelf', made.step, refl) (rw made.point at made.reads) onto.at
+    (planned-answer stage asked way.planned) (asks-go_on call.client space stage made.arena asked.ask asked way.knows made.waits refl made.step.box.answers).1
+    (ask_flights call.client space stage made.arena asked.ask asked made.waits way.flown)
+    (made.settled ∙ ap (λ (d : DeskFacts). desk_after d stage (Answer asked)) way.settled ∙ onto.owns))
 
 -- and its end is the world with its answer printed
 pub way_end : {start : World} {h0 : List AskFacts} {sh0 : Shelf} {space : Space} {kept : List KeptFacts} {heard : List AskFacts} {shelf : Shelf} {top : Desktop} {call : Open} {desk : DeskFacts} {stage : Stage} →

@@ -30,12 +30,10 @@ go_on-requires g t c =
     let next = c.next-need.ensures in
     let made = turn_made c.args.state.now.kept.items c.in-Turn.turn (turn_ready c.requires.underway c.in-Turn.is c.requires.need) c.client.ensures e.space e.reply e.kept c.turn.ensures.heard
     (ap facts_of c.turn.ensures.desk) next.point next.desk next.reads in
+    let room = room_after_turn c.args.state.now.arena c.turn.new.self.arena made c.requires.room (rw c.client.ensures at e.room) in
     rw next.client (
       omega (arith, turn_shorter made, c.decreases),
-      (
-        underway_on c.requires.underway (λ start h0 sh0 top call own way. way_turn own way made),
-        (next.places, (room_after_turn c.args.state.now.arena c.turn.new.self.arena made c.requires.room (rw c.client.ensures at e.room), rw next.client at next.need)),
-      ),
+      (underway_on c.requires.underway (λ start h0 sh0 top call own way. way_turn own way made), (next.places, (room, rw next.client at next.need))),
     )
 
 pub go_on-requires-in-Ask : goal.go_on-requires-in-Ask
@@ -45,19 +43,12 @@ go_on-requires-in-Ask g t c =
     let waits = wants_ask c.args.call.client (rest_of c.args.call.stage []) c.in-Ask.arena c.in-Ask.ask (rw c.in-Ask.is at c.requires.need) in
     let made = ask_made c.args.state.now.heard.items c.args.call.stage c.in_ok-asked-in-Ask.asked c.in-Ask.arena waits e.ask e.of_box e.step (ap (λ (a : Standing). a.space) c.ask.ensures.arena)
     c.ask.ensures.kept e.heard (ap facts_of c.ask.ensures.desk) next.point next.desk next.reads in
+    let shorter = ask_shorter c.args.call.client made in
+    let room = room_after_ask c.args.call.client c.args.state.now.arena c.ask.new.self.arena c.args.call.stage c.next-need-in-Ask.new.self.stage c.in-Ask.arena c.in-Ask.ask c.ask.ensures.arena
+    waits c.requires.room shorter in
     rw next.client (
-      omega (arith, ask_shorter c.args.call.client made, c.decreases),
-      (
-        underway_on c.requires.underway (λ start h0 sh0 top call own way. way_ask way made),
-        (
-          next.places,
-          (
-            room_after_ask c.args.call.client c.args.state.now.arena c.ask.new.self.arena c.args.call.stage c.next-need-in-Ask.new.self.stage c.in-Ask.arena c.in-Ask.ask c.ask.ensures.arena
-                waits c.requires.room (ask_shorter c.args.call.client made),
-            rw next.client at next.need,
-          ),
-        ),
-      ),
+      omega (arith, shorter, c.decreases),
+      (underway_on c.requires.underway (λ start h0 sh0 top call own way. way_ask way made), (next.places, (room, rw next.client at next.need))),
     )
 
 pub returns-in-Done-clause-carried : goal.returns-in-Done-clause-carried
