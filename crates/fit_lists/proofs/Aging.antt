@@ -1,6 +1,6 @@
 -- One row gets a lower age that keeps its place.
 use Rattle.std.proofs.Common.{◌≡◌, ℕ, ◌+◌, ◌<◌, ◌≤◌, suc, zero, true, false, not, List, [], ◌∷◌, ◌++◌, length, map, filter, find, Some, Less, Equal, Greater, is_lt, is_gt, ltb, eqb, ◌^◌, ◌⊎◌, inl, inr, refl, sym, ap, ◌∙◌, subst, arith, length-append, add-zero}
-use Rattle.std.specs.List.{Any, Contains, AllByRecursion as Every}
+use Rattle.std.specs.List.{Contains, AllByRecursion as Every}
 use Rattle.std.specs.Ordering.{ordering_reverse}
 use Rattle.std.proofs.lemmas.Bool.{cases_Bool, cases_eq, cases_lt, lt-ltb, le-ltb, eq-eqb, ne_eqb, not_from_false}
 use Rattle.std.proofs.lemmas.List.{append-nil, map-append}
@@ -12,11 +12,10 @@ use Rattle.ordered_set.proofs.KeyOrder.{key_total}
 use Rattle.ordered_set.proofs.Sorted.{every_map, every_member, filter_all, filter_none, sorted_rest, sorted_right}
 use Rattle.fit_lists.specs.declared.table.Row.{Row}
 use Rattle.fit_lists.specs.declared.table.Table.{Table}
-use Rattle.fit_lists.specs.Rows.{IsIndex, IsSound, IsTable, age_key, length_key, listed, number_key, owner_key, size_key, with_age}
+use Rattle.fit_lists.specs.Rows.{IsIndex, IsSound, IsTable, age_key, listed, number_key, size_key, span_key, with_age}
 use Rattle.ordered_set.proofs.Members.{contains_cases, contains_later, every_from, with_from, with_keeps, with_self, without_from, without_keeps}
 use Rattle.ordered_set.proofs.Orders.{from_start, less_major, major_less, start, start_from}
-use Rattle.fit_lists.proofs.Tables.{age_present, ages_without, any_key, map_member, other_rows, two_rows, one_row}
-use Rattle.fit_lists.proofs.Totals.{owner_row}
+use Rattle.fit_lists.proofs.Tables.{age_present, ages_without, keys_each, map_every, map_member, other_rows, two_rows, one_row}
 
 -- a row with another age
 abbrev pub aged : Row → ℕ → Row
@@ -85,15 +84,6 @@ module _ (xs : List Row) (r : Row) (ys : List Row) where
 
   pub mid_self : Contains (xs ++ r ∷ ys) r
   mid_self = Contains-append_right xs (r ∷ ys) r (zero, omega arith, refl)
-
--- the keys of the rows
-pub keys_each : (P : Key → Type 0) (rows : List Row) → Every P (map age_key rows) → Every (λ x. P (age_key x)) rows
-keys_each P [] e = tt
-keys_each P (x ∷ xs) e = (e.0, keys_each P xs e.1)
-
-each_keys : (P : Key → Type 0) (rows : List Row) → Every (λ x. P (age_key x)) rows → Every P (map age_key rows)
-each_keys P [] e = tt
-each_keys P (x ∷ xs) e = (e.0, each_keys P xs e.1)
 
 -- ---- the table with the row's new age
 
@@ -210,8 +200,8 @@ module _ (xs : List Row) (r : Row) (ys : List Row) (age : ℕ) (young : Every (�
   -- the set by age
   pub ages_aged : with_key (without_key (map age_key was) (age_key r)) (age_key new) ≡ map age_key (xs ++ new ∷ ys)
   ages_aged =
-      let low : Every (λ k. key_cmp k (age_key new) ≡ Less) (map age_key xs) = each_keys _ xs (every_map _ _ (λ x l. major_less (age_key x) (age_key new) l) xs young) in
-      let high : Every (λ k. key_cmp k (age_key new) ≡ Greater) (map age_key ys) = each_keys _ ys (every_from _ ys (λ y m.
+      let low : Every (λ k. key_cmp k (age_key new) ≡ Less) (map age_key xs) = map_every _ xs (every_map _ _ (λ x l. major_less (age_key x) (age_key new) l) xs young) in
+      let high : Every (λ k. key_cmp k (age_key new) ≡ Greater) (map age_key ys) = map_every _ ys (every_from _ ys (λ y m.
       let l : key_cmp (age_key new) (age_key y) ≡ Less = major_less (age_key new) (age_key y) (later y m) in
       key_total.antisymm (age_key y) (age_key new) ∙ ap ordering_reverse l)) in
       let rest : without_key (map age_key was) (age_key r) ≡ map age_key xs ++ map age_key ys =
@@ -233,51 +223,41 @@ module _ (t : Table) (rows : List Row) (age : ℕ) (key : Key) (i : IsTable t ro
   pub key_in : Contains t.ages.keys key
   key_in = subst (Contains t.ages.keys) p.key_is (age_present t rows p.row i row_in)
 
-  pub owner_known : Any (λ k. k.major ≡ key.minor) t.owners.keys
-  owner_known = any_key t.owners.keys (owner_key p.row) key.minor (i.owners.has p.row row_in) (ap (λ k. k.minor) p.key_is)
-
   pub no_age_key : Contains (without_key t.ages.keys key) (record { major = age; minor = key.minor }) → ⊥
   no_age_key m =
       let q = without_from t.ages.keys key _ m in
       let x = map_member age_key rows _ (subst (λ ks. Contains ks (record { major = age; minor = key.minor })) i.ages q.0) in
-      let same : x.0 ≡ p.row = i.sound.firsts x.0 p.row x.1 row_in (ap (λ k. k.minor) x.2 ∙ sym (ap (λ k. k.minor) p.key_is)) in
+      let same : x.0 ≡ p.row = i.sound.numbers x.0 p.row x.1 row_in (ap (λ k. k.minor) x.2 ∙ sym (ap (λ k. k.minor) p.key_is)) in
       q.1 (sym x.2 ∙ ap age_key same ∙ p.key_is)
 
-  module _ (number : ℕ) (own : Contains t.owners.keys (record { major = key.minor; minor = number })) where
-    number_of_row : p.row.number ≡ number
-    number_of_row =
-        let x = owner_row t rows key.minor number i own in
-        ap (λ (y : Row). y.number) (i.sound.firsts p.row x.0 row_in x.1 (ap (λ k. k.minor) p.key_is ∙ sym x.2)) ∙ x.3
+  key_of_number : number_key p.row ≡ record { major = key.minor; minor = key.major }
+  key_of_number = λ j. record { major = (p.key_is j).minor; minor = (p.key_is j).major }
 
-    key_of_number : number_key p.row ≡ record { major = number; minor = key.major }
-    key_of_number = λ j. record { major = number_of_row j; minor = (p.key_is j).major }
+  pub number_key_in : Contains t.numbers.keys (record { major = key.minor; minor = key.major })
+  number_key_in = subst (Contains t.numbers.keys) key_of_number (i.numbers.has p.row row_in)
 
-    pub number_key_in : Contains t.numbers.keys (record { major = number; minor = key.major })
-    number_key_in = subst (Contains t.numbers.keys) key_of_number (i.numbers.has p.row row_in)
+  pub no_number_key : Contains (without_key t.numbers.keys (record { major = key.minor; minor = key.major })) (record { major = key.minor; minor = age }) → ⊥
+  no_number_key m =
+      let q = without_from t.numbers.keys _ _ m in
+      let x = i.numbers.from _ q.0 in
+      let same : x.0 ≡ p.row = i.sound.numbers x.0 p.row x.1 row_in (ap (λ k. k.major) x.2 ∙ sym (ap (λ k. k.minor) p.key_is)) in
+      q.1 (sym x.2 ∙ ap number_key same ∙ key_of_number)
 
-    pub no_number_key : Contains (without_key t.numbers.keys (record { major = number; minor = key.major })) (record { major = number; minor = age }) → ⊥
-    no_number_key m =
-        let q = without_from t.numbers.keys _ _ m in
-        let x = i.numbers.from _ q.0 in
-        let same : x.0 ≡ p.row = i.sound.numbers x.0 p.row x.1 row_in (ap (λ k. k.major) x.2 ∙ sym number_of_row) in
-        q.1 (sym x.2 ∙ ap number_key same ∙ key_of_number)
-
-    pub table_aged : (t' : Table) → t'.ages.keys ≡ with_key (without_key t.ages.keys key) (record { major = age; minor = key.minor }) → IsAscending t'.ages.keys → t'.numbers.keys ≡ with_key (without_key t.numbers.keys (record { major = number; minor = key.major })) (record { major = number; minor = age }) → IsAscending t'.numbers.keys → t'.owners.keys ≡ t.owners.keys → t'.lengths.keys ≡ t.lengths.keys → t'.sizes.keys ≡ t.sizes.keys → IsTable t' (with_age rows age)
-    table_aged t' a up' n ns o l s =
-        let was' : IsTable t (p.before ++ p.row ∷ p.after) = subst (IsTable t) p.is i in
-        let up : IsAscending (map age_key (p.before ++ p.row ∷ p.after)) = subst IsAscending was'.ages i.ascending in
-        let new_age : age_key (aged p.row age) ≡ record { major = age; minor = key.minor } = λ j. record { major = age; minor = (p.key_is j).minor } in
-        let new_number : number_key (aged p.row age) ≡ record { major = number; minor = age } = λ j. record { major = number_of_row j; minor = age } in
-        let kept = λ (f : Row → Key) (ks : List Key) (e : f (aged p.row age) ≡ f p.row) (x : IsIndex f (p.before ++ p.row ∷ p.after) ks). index_kept p.before p.row p.after age p.young p.from was'.sound up f ks e x in
-        rw p.now (record {
-          sound = sound_aged p.before p.row p.after age p.young p.from was'.sound up;
-          ages = a ∙ rw (was'.ages, ← p.key_is) (ages_aged p.before p.row p.after age p.young p.from was'.sound up);
-          ascending = up';
-          numbers = index_aged p.before p.row p.after age p.young p.from was'.sound up t.numbers.keys t'.numbers.keys was'.numbers (n ∙ rw (← key_of_number, ← new_number)) ns;
-          owners = rw o (kept owner_key t.owners.keys refl was'.owners);
-          lengths = rw l (kept length_key t.lengths.keys refl was'.lengths);
-          sizes = rw s (kept size_key t.sizes.keys refl was'.sizes);
-        })
+  pub table_aged : (t' : Table) → t'.ages.keys ≡ with_key (without_key t.ages.keys key) (record { major = age; minor = key.minor }) → IsAscending t'.ages.keys → t'.numbers.keys ≡ with_key (without_key t.numbers.keys (record { major = key.minor; minor = key.major })) (record { major = key.minor; minor = age }) → IsAscending t'.numbers.keys → t'.spans.keys ≡ t.spans.keys → t'.sizes.keys ≡ t.sizes.keys → IsTable t' (with_age rows age)
+  table_aged t' a up' n ns o s =
+      let was' : IsTable t (p.before ++ p.row ∷ p.after) = subst (IsTable t) p.is i in
+      let up : IsAscending (map age_key (p.before ++ p.row ∷ p.after)) = subst IsAscending was'.ages i.ascending in
+      let new_age : age_key (aged p.row age) ≡ record { major = age; minor = key.minor } = λ j. record { major = age; minor = (p.key_is j).minor } in
+      let new_number : number_key (aged p.row age) ≡ record { major = key.minor; minor = age } = λ j. record { major = (p.key_is j).minor; minor = age } in
+      let kept = λ (f : Row → Key) (ks : List Key) (e : f (aged p.row age) ≡ f p.row) (x : IsIndex f (p.before ++ p.row ∷ p.after) ks). index_kept p.before p.row p.after age p.young p.from was'.sound up f ks e x in
+      rw p.now (record {
+        sound = sound_aged p.before p.row p.after age p.young p.from was'.sound up;
+        ages = a ∙ rw (was'.ages, ← p.key_is) (ages_aged p.before p.row p.after age p.young p.from was'.sound up);
+        ascending = up';
+        numbers = index_aged p.before p.row p.after age p.young p.from was'.sound up t.numbers.keys t'.numbers.keys was'.numbers (n ∙ rw (← key_of_number, ← new_number)) ns;
+        spans = rw o (kept span_key t.spans.keys refl was'.spans);
+        sizes = rw s (kept size_key t.sizes.keys refl was'.sizes);
+      })
 
 -- ---- all ages
 

@@ -1,6 +1,6 @@
 -- The walk through the set by size finds the first fit.
-use Rattle.std.proofs.Common.{◌≡◌, ℕ, ◌<◌, zero, Bool, true, false, List, [], ◌∷◌, length, map, filter, find, Some, None, Ordering, Less, Equal, Greater, is_gt, inl, inr, refl, sym, ap, ◌∙◌, subst, arith}
-use Rattle.std.specs.List.{All, Any, Contains, AllByRecursion as Every}
+use Rattle.std.proofs.Common.{◌≡◌, ℕ, ◌%◌, ◌^◌, ◌<◌, ◌≤◌, zero, Bool, true, false, List, [], ◌∷◌, length, map, filter, find, Some, None, Ordering, Less, Equal, Greater, is_gt, inl, inr, refl, sym, ap, ◌∙◌, subst, arith}
+use Rattle.std.specs.List.{All, Contains, AllByRecursion as Every}
 use Rattle.std.specs.List.Sorted.{IsStrictlySortedBy}
 use Rattle.std.specs.Ordering.{ordering_reverse}
 use Rattle.std.proofs.lemmas.Bool.{cases_Bool, cases_lt}
@@ -12,15 +12,12 @@ use Rattle.ordered_set.proofs.KeyOrder.{key_tie, key_total}
 use Rattle.ordered_set.proofs.Sorted.{every_map, every_member, filter_all}
 use Rattle.fit_lists.specs.declared.table.Row.{Row}
 use Rattle.fit_lists.specs.declared.table.Table.{Table}
-use Rattle.fit_lists.specs.Rows.{IsTable, listed, size_key}
-use Rattle.fit_lists.specs.Spans.{HoldsRun, IsFirstFit, IsNoLater, Listed}
+use Rattle.fit_lists.specs.Rows.{IsTable, listed, packed, size_key, span_of}
+use Rattle.fit_lists.specs.Spans.{HoldsRun, IsFirstFit, IsNoLater}
 use Rattle.ordered_set.proofs.Members.{contains_cases, contains_later, every_from}
 use Rattle.ordered_set.proofs.Orders.{less_parts, start, start_from}
-use Rattle.fit_lists.proofs.Totals.{any_first, listed_from, listed_has, number_is}
-
--- the span of a key of the set by size, but for its number
-abbrev pub span_of : Key → Listed
-span_of key = record { number = 0; first = key.minor; pages = key.major }
+use Rattle.fit_lists.proofs.Tables.{high_of, low_of}
+use Rattle.fit_lists.proofs.Totals.{listed_from, listed_has}
 
 -- ---- the first key that passes
 
@@ -116,32 +113,41 @@ goes_on pages align ks size y s below here e = let p = find_some (is_above size)
 
 -- ---- what is found
 
+-- the span of a row is that of its key
+span_is : (t : Table) (rows : List Row) (r : Row) → IsTable t rows → Contains rows r → span_of (size_key r) ≡ listed r
+span_is t rows r i m =
+    let small = i.sound.number r m in
+    let number = low_of r.first r.number small in
+    let first = high_of r.first r.number small in
+    λ j. record { number = number j; first = first j; pages = r.pages }
+
 -- no span holds a run where no key's does
 pub none_listed : (t : Table) (rows : List Row) (pages align : ℕ) → IsTable t rows → ((k : Key) → Contains t.sizes.keys k → HoldsRun pages align (span_of k) → ⊥) → All (λ span. HoldsRun pages align span → ⊥) (map listed rows)
-none_listed t rows pages align i none = All-from_recursion _ (map listed rows) (every_from _ (map listed rows) (λ s m. let p = listed_from rows s m in subst (λ z. HoldsRun pages align z → ⊥) p.2 (none (size_key p.0) (i.sizes.has p.0 p.1))))
+none_listed t rows pages align i none = All-from_recursion _ (map listed rows) (every_from _ (map listed rows) (λ s m. let p = listed_from rows s m in
+    subst (λ z. HoldsRun pages align z → ⊥) (span_is t rows p.0 i p.1 ∙ p.2) (none (size_key p.0) (i.sizes.has p.0 p.1))))
 
-pub size_row : (t : Table) (rows : List Row) (size : Key) → IsTable t rows → Contains t.sizes.keys size → Any (λ r. r.first ≡ size.minor) rows
-size_row t rows size i m = let p = i.sizes.from size m in any_first rows p.0 size.minor p.1 (ap (λ k. k.minor) p.2)
-
-pub fit_found : (t : Table) (rows : List Row) (pages align number : ℕ) (size : Key) → IsTable t rows → Contains t.sizes.keys size → NoneBelow t.sizes.keys size pages align → HoldsRun pages align (span_of size) → Any (λ x. (x.first ≡ size.minor) × (x.number ≡ number)) rows → IsFirstFit (map listed rows) pages align number
-fit_found t rows pages align number size i m below holds own =
+pub fit_found : (t : Table) (rows : List Row) (pages align : ℕ) (size : Key) → IsTable t rows → Contains t.sizes.keys size → NoneBelow t.sizes.keys size pages align → HoldsRun pages align (span_of size) → IsFirstFit (map listed rows) pages align (size.minor % 2 ^ 32)
+fit_found t rows pages align size i m below holds =
     let p = i.sizes.from size m in
     let r = p.0 in
-    let first : r.first ≡ size.minor = ap (λ k. k.minor) p.2 in
+    let is : span_of size ≡ listed r = ap span_of (sym p.2) ∙ span_is t rows r i p.1 in
     record {
       span = listed r;
       listed = listed_has rows r p.1;
-      number_is = number_is rows r number i.sound p.1 (subst (λ f. Any (λ x. (x.first ≡ f) × (x.number ≡ number)) rows) (sym first) own);
-      holds = subst (λ k. HoldsRun pages align (span_of k)) (sym p.2) holds;
-      least = All-from_recursion _ (map listed rows) (every_from _ (map listed rows) (λ s n. let q = listed_from rows s n in subst (λ z. HoldsRun pages align z → IsNoLater (listed r) z) q.2 (later r p.2 q.0 q.1)));
+      number_is = ap (λ s. s.number) (sym is);
+      holds = subst (HoldsRun pages align) is holds;
+      least = All-from_recursion _ (map listed rows) (every_from _ (map listed rows) (λ s n. let q = listed_from rows s n in subst (λ z. HoldsRun pages align z → IsNoLater (listed r) z) q.2 (later r p.1 p.2 q.0 q.1)));
     }
   where
-    later : (r : Row) → size_key r ≡ size → (y : Row) → Contains rows y → HoldsRun pages align (listed y) → IsNoLater (listed r) (listed y)
-    later r e y n h = by (key_cmp (size_key y) size) refl
+    first_le : (r : Row) → Contains rows r → (y : Row) → Contains rows y → packed r.first r.number ≤ packed y.first y.number → r.first ≤ y.first
+    first_le r o y n l = let small = i.sound.number r o in let too = i.sound.number y n in omega arith
+
+    later : (r : Row) → Contains rows r → size_key r ≡ size → (y : Row) → Contains rows y → HoldsRun pages align (listed y) → IsNoLater (listed r) (listed y)
+    later r o e y n h = by (key_cmp (size_key y) size) refl
       where
         by : (o : Ordering) → key_cmp (size_key y) size ≡ o → IsNoLater (listed r) (listed y)
-        by Less l = absurd (below (size_key y) (i.sizes.has y n) l h)
-        by Equal l = let same = key_tie (size_key y) size l ∙ sym e in inr (sym (ap (λ k. k.major) same), (let f = ap (λ (k : Key). k.minor) same in omega arith))
+        by Less l = absurd (below (size_key y) (i.sizes.has y n) l (subst (HoldsRun pages align) (sym (span_is t rows y i n)) h))
+        by Equal l = let same = key_tie (size_key y) size l ∙ sym e in inr (sym (ap (λ k. k.major) same), let f : packed y.first y.number ≡ packed r.first r.number = ap (λ (k : Key). k.minor) same in first_le r o y n (omega arith))
         by Greater l =
             let up : key_cmp size (size_key y) ≡ Less = key_total.antisymm size (size_key y) ∙ ap ordering_reverse l in
-            elim (less_parts (size_key r) (size_key y) (subst (λ k. key_cmp k (size_key y) ≡ Less) (sym e) up)) [ inl a ↦ inl a | inr b ↦ inr (b.0, (let f = b.1 in omega arith)) ]
+            elim (less_parts (size_key r) (size_key y) (subst (λ k. key_cmp k (size_key y) ≡ Less) (sym e) up)) [ inl a ↦ inl a | inr b ↦ inr (b.0, let f = b.1 in first_le r o y n (omega arith)) ]

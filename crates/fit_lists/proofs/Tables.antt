@@ -1,7 +1,7 @@
 -- A table's rows and the keys of its sets, after an insertion and after a removal.
-use Rattle.std.proofs.Common.{◌≡◌, ◌==◌, ℕ, ◌+◌, ◌^◌, ◌<◌, ◌≤◌, suc, zero, Bool, true, false, not, List, [], ◌∷◌, ◌++◌, map, filter, find, option_map, unwrap_or, Less, Equal, is_lt, is_gt, ◌≢◌, ◌⊎◌, inl, inr, refl, sym, ap, ◌∙◌, subst, arith}
+use Rattle.std.proofs.Common.{◌≡◌, ◌==◌, ℕ, ◌+◌, ◌-◌, ◌/◌, ◌%◌, ◌^◌, ◌<◌, ◌≤◌, suc, zero, Bool, true, false, not, List, [], ◌∷◌, ◌++◌, map, filter, find, option_map, unwrap_or, Less, Equal, is_lt, is_gt, ◌≢◌, ◌⊎◌, inl, inr, refl, sym, ap, ◌∙◌, subst, arith}
 use Rattle.std.specs.List.{Any, Contains, AllByRecursion as Every}
-use Rattle.std.proofs.lemmas.Bool.{cases_Bool, eqb-true, eq-eqb, ne_eqb, not_from_false, lt-ltb}
+use Rattle.std.proofs.lemmas.Bool.{cases_Bool, eqb-true, eq-eqb, ne_eqb, not_from_false}
 use Rattle.std.proofs.lemmas.List.{map_push}
 use Rattle.std.proofs.lemmas.List.Elements.{Contains-append_left, Contains-append_right}
 use Rattle.std.proofs.lemmas.Cmp.{tied_itself}
@@ -12,13 +12,21 @@ use Rattle.ordered_set.proofs.KeyOrder.{key_total}
 use Rattle.ordered_set.proofs.Sorted.{filter_all, filter_none, every_map}
 use Rattle.fit_lists.specs.declared.table.Row.{Row}
 use Rattle.fit_lists.specs.declared.table.Table.{Table}
-use Rattle.fit_lists.specs.Rows.{IsIndex, IsNext, IsSound, IsTable, age_key, length_key, minor_of, number_key, owner_key, row_at, rows_of, size_key}
+use Rattle.fit_lists.specs.Rows.{IsIndex, IsNext, IsSound, IsTable, age_key, minor_of, number_key, packed, row_at, rows_of, size_key, span_key}
 use Rattle.ordered_set.proofs.Orders.{major_less}
 use Rattle.ordered_set.proofs.Members.{contains_cases, contains_later, every_from, filter_from, filter_has, other_from, push_cases, with_from, with_keeps, with_self, without_from, without_keeps}
 
 -- the rows but those of a number
 abbrev pub other_rows : ℕ → List Row → List Row
 other_rows n rows = filter (λ x. not (x.number == n)) rows
+
+-- ---- two numbers in one
+
+pub high_of : (high low : ℕ) → low < 2 ^ 32 → packed high low / 2 ^ 32 ≡ high
+high_of high low l = omega arith
+
+pub low_of : (high low : ℕ) → low < 2 ^ 32 → packed high low % 2 ^ 32 ≡ low
+low_of high low l = omega arith
 
 -- ---- one set
 
@@ -81,9 +89,14 @@ rows_are t rows i = ap (map (row_at t)) i.ages ∙ map_each (row_at t) rows (eve
   where
     each : (x : Row) → Contains rows x → row_at t (age_key x) ≡ x
     each x m =
-        let number : minor_of t.owners.keys x.first ≡ x.number = minor_is t.owners.keys x.first x.number (i.owners.has x m) (λ k n same. let p = i.owners.from k n in sym (ap (λ y. y.minor) p.2) ∙ ap (λ (y : Row). y.number) (i.sound.firsts p.0 x p.1 m (ap (λ y. y.major) p.2 ∙ same))) in
-        let pages : minor_of t.lengths.keys x.first ≡ x.pages = minor_is t.lengths.keys x.first x.pages (i.lengths.has x m) (λ k n same. let p = i.lengths.from k n in sym (ap (λ y. y.minor) p.2) ∙ ap (λ (y : Row). y.pages) (i.sound.firsts p.0 x p.1 m (ap (λ y. y.major) p.2 ∙ same))) in
-        λ j. record { number = number j; first = x.first; pages = pages j; age = x.age }
+        let own : (k : Key) → Contains t.spans.keys k → k.major ≡ x.number → k.minor ≡ (span_key x).minor = λ k n e. let p = i.spans.from k n in
+        sym (ap (λ y. y.minor) p.2) ∙ ap (λ y. (span_key y).minor) (i.sound.numbers p.0 x p.1 m (ap (λ y. y.major) p.2 ∙ e)) in
+        let span = minor_is t.spans.keys x.number (span_key x).minor (i.spans.has x m) own in
+        let some = i.sound.some x m in
+        let within = i.sound.within x m in
+        let first : minor_of t.spans.keys x.number / 2 ^ 32 ≡ x.first = ap (λ n. n / 2 ^ 32) span ∙ high_of x.first (x.pages - 1) (omega arith) in
+        let pages : minor_of t.spans.keys x.number % 2 ^ 32 + 1 ≡ x.pages = ap (λ n. n % 2 ^ 32 + 1) span ∙ ap (λ n. n + 1) (low_of x.first (x.pages - 1) (omega arith)) ∙ omega arith in
+        λ j. record { number = x.number; first = first j; pages = pages j; age = x.age }
 
 -- ---- soundness
 
@@ -140,7 +153,12 @@ sound_with rows r s n = record {
 
 -- ---- the set by age
 
-map_every : (P : Key → Type 0) (rows : List Row) → Every (λ x. P (age_key x)) rows → Every P (map age_key rows)
+-- the keys of the rows
+pub keys_each : (P : Key → Type 0) (rows : List Row) → Every P (map age_key rows) → Every (λ x. P (age_key x)) rows
+keys_each P [] e = tt
+keys_each P (x ∷ xs) e = (e.0, keys_each P xs e.1)
+
+pub map_every : (P : Key → Type 0) (rows : List Row) → Every (λ x. P (age_key x)) rows → Every P (map age_key rows)
 map_every P [] e = tt
 map_every P (x ∷ xs) e = (e.0, map_every P xs e.1)
 
@@ -173,27 +191,25 @@ ages_without rows r s m = filter_map (is_other (age_key r)) (λ x. not (x.number
 pub settled : (t : Table) (rows : List Row) → IsTable t rows → IsTable t (rows_of t)
 settled t rows i = subst (IsTable t) (sym (rows_are t rows i)) i
 
-pub table_new : (t : Table) → t.ages.keys ≡ [] → t.numbers.keys ≡ [] → t.owners.keys ≡ [] → t.lengths.keys ≡ [] → t.sizes.keys ≡ [] → IsTable t []
+pub table_new : (t : Table) → t.ages.keys ≡ [] → t.numbers.keys ≡ [] → t.spans.keys ≡ [] → t.sizes.keys ≡ [] → IsTable t []
 unfolding IsStrictlySortedBy
-table_new t a n o l s = record {
+table_new t a n p s = record {
   sound = sound_new;
   ages = a;
   ascending = rw a tt;
   numbers = rw n (index_new number_key);
-  owners = rw o (index_new owner_key);
-  lengths = rw l (index_new length_key);
+  spans = rw p (index_new span_key);
   sizes = rw s (index_new size_key);
 }
 
 -- other sets with the same keys
-pub table_same : (t t' : Table) (rows : List Row) → IsTable t rows → t'.ages.keys ≡ t.ages.keys → t'.numbers.keys ≡ t.numbers.keys → t'.owners.keys ≡ t.owners.keys → t'.lengths.keys ≡ t.lengths.keys → t'.sizes.keys ≡ t.sizes.keys → IsTable t' rows
-table_same t t' rows i a n o l s = record {
+pub table_same : (t t' : Table) (rows : List Row) → IsTable t rows → t'.ages.keys ≡ t.ages.keys → t'.numbers.keys ≡ t.numbers.keys → t'.spans.keys ≡ t.spans.keys → t'.sizes.keys ≡ t.sizes.keys → IsTable t' rows
+table_same t t' rows i a n p s = record {
   sound = i.sound;
   ages = a ∙ i.ages;
   ascending = rw a i.ascending;
   numbers = rw n i.numbers;
-  owners = rw o i.owners;
-  lengths = rw l i.lengths;
+  spans = rw p i.spans;
   sizes = rw s i.sizes;
 }
 
@@ -204,29 +220,30 @@ Gains ks ks' key = (ks' ≡ with_key ks key) × IsAscending ks'
 abbrev pub Loses : List Key → List Key → Key → Type 0
 Loses ks ks' key = (ks' ≡ without_key ks key) × IsAscending ks'
 
-pub table_with : (t t' : Table) (rows : List Row) (r : Row) → IsTable t rows → IsNext rows r → Gains t.ages.keys t'.ages.keys (age_key r) → Gains t.numbers.keys t'.numbers.keys (number_key r) → Gains t.owners.keys t'.owners.keys (owner_key r) → Gains t.lengths.keys t'.lengths.keys (length_key r) → Gains t.sizes.keys t'.sizes.keys (size_key r) → IsTable t' (rows ++ r ∷ [])
-table_with t t' rows r i next a n o l s = record {
+pub table_with : (t t' : Table) (rows : List Row) (r : Row) → IsTable t rows → IsNext rows r → Gains t.ages.keys t'.ages.keys (age_key r) → Gains t.numbers.keys t'.numbers.keys (number_key r) → Gains t.spans.keys t'.spans.keys (span_key r) → Gains t.sizes.keys t'.sizes.keys (size_key r) → IsTable t' (rows ++ r ∷ [])
+table_with t t' rows r i next a n p s = record {
   sound = sound_with rows r i.sound next;
   ages = a.0 ∙ ap (λ ks. with_key ks (age_key r)) i.ages ∙ ages_with rows r next.later;
   ascending = a.1;
   numbers = index_with number_key rows t.numbers.keys t'.numbers.keys r i.numbers n.1 n.0;
-  owners = index_with owner_key rows t.owners.keys t'.owners.keys r i.owners o.1 o.0;
-  lengths = index_with length_key rows t.lengths.keys t'.lengths.keys r i.lengths l.1 l.0;
+  spans = index_with span_key rows t.spans.keys t'.spans.keys r i.spans p.1 p.0;
   sizes = index_with size_key rows t.sizes.keys t'.sizes.keys r i.sizes s.1 s.0;
 }
 
-pub table_without : (t t' : Table) (rows : List Row) (r : Row) → IsTable t rows → Contains rows r → Loses t.ages.keys t'.ages.keys (age_key r) → Loses t.numbers.keys t'.numbers.keys (number_key r) → Loses t.owners.keys t'.owners.keys (owner_key r) → Loses t.lengths.keys t'.lengths.keys (length_key r) → Loses t.sizes.keys t'.sizes.keys (size_key r) → IsTable t' (other_rows r.number rows)
-table_without t t' rows r i m a n o l s =
+-- the number of a row is in its key in the set by size
+size_number : (x y : Row) → x.number < 2 ^ 32 → y.number < 2 ^ 32 → size_key x ≡ size_key y → x.number ≡ y.number
+size_number x y l m e = let minor : (size_key x).minor ≡ (size_key y).minor = ap (λ k. k.minor) e in omega arith
+
+pub table_without : (t t' : Table) (rows : List Row) (r : Row) → IsTable t rows → Contains rows r → Loses t.ages.keys t'.ages.keys (age_key r) → Loses t.numbers.keys t'.numbers.keys (number_key r) → Loses t.spans.keys t'.spans.keys (span_key r) → Loses t.sizes.keys t'.sizes.keys (size_key r) → IsTable t' (other_rows r.number rows)
+table_without t t' rows r i m a n p s =
     let own : (x : Row) → Contains rows x → x.number ≡ r.number → x ≡ r = λ x k e. i.sound.numbers x r k m e in
-    let by_first : (x : Row) → Contains rows x → x.first ≡ r.first → x.number ≡ r.number = λ x k e. ap (λ (y : Row). y.number) (i.sound.firsts x r k m e) in
     record {
       sound = sound_filter _ rows i.sound;
       ages = a.0 ∙ ap (λ ks. without_key ks (age_key r)) i.ages ∙ ages_without rows r i.sound m;
       ascending = a.1;
       numbers = index_without number_key rows t.numbers.keys t'.numbers.keys r i.numbers n.1 n.0 (λ x k e. ap (λ y. y.major) e) own;
-      owners = index_without owner_key rows t.owners.keys t'.owners.keys r i.owners o.1 o.0 (λ x k e. by_first x k (ap (λ y. y.major) e)) own;
-      lengths = index_without length_key rows t.lengths.keys t'.lengths.keys r i.lengths l.1 l.0 (λ x k e. by_first x k (ap (λ y. y.major) e)) own;
-      sizes = index_without size_key rows t.sizes.keys t'.sizes.keys r i.sizes s.1 s.0 (λ x k e. by_first x k (ap (λ y. y.minor) e)) own;
+      spans = index_without span_key rows t.spans.keys t'.spans.keys r i.spans p.1 p.0 (λ x k e. ap (λ y. y.major) e) own;
+      sizes = index_without size_key rows t.sizes.keys t'.sizes.keys r i.sizes s.1 s.0 (λ x k e. size_number x r (i.sound.number x k) (i.sound.number r m) e) own;
     }
 
 -- ---- a new row has no key yet
@@ -248,14 +265,11 @@ age_absent t rows r i next m =
 pub number_absent : (t : Table) (rows : List Row) (r : Row) → IsTable t rows → IsNext rows r → Contains t.numbers.keys (number_key r) → ⊥
 number_absent t rows r i next = index_absent number_key rows t.numbers.keys r i.numbers (λ x m e. next.new x m (ap (λ k. k.major) e))
 
-pub owner_absent : (t : Table) (rows : List Row) (r : Row) → IsTable t rows → IsNext rows r → Contains t.owners.keys (owner_key r) → ⊥
-owner_absent t rows r i next = index_absent owner_key rows t.owners.keys r i.owners (λ x m e. first_new rows r i.sound next x m (ap (λ k. k.major) e))
-
-pub length_absent : (t : Table) (rows : List Row) (r : Row) → IsTable t rows → IsNext rows r → Contains t.lengths.keys (length_key r) → ⊥
-length_absent t rows r i next = index_absent length_key rows t.lengths.keys r i.lengths (λ x m e. first_new rows r i.sound next x m (ap (λ k. k.major) e))
+pub span_absent : (t : Table) (rows : List Row) (r : Row) → IsTable t rows → IsNext rows r → Contains t.spans.keys (span_key r) → ⊥
+span_absent t rows r i next = index_absent span_key rows t.spans.keys r i.spans (λ x m e. next.new x m (ap (λ k. k.major) e))
 
 pub size_absent : (t : Table) (rows : List Row) (r : Row) → IsTable t rows → IsNext rows r → Contains t.sizes.keys (size_key r) → ⊥
-size_absent t rows r i next = index_absent size_key rows t.sizes.keys r i.sizes (λ x m e. first_new rows r i.sound next x m (ap (λ k. k.minor) e))
+size_absent t rows r i next = index_absent size_key rows t.sizes.keys r i.sizes (λ x m e. next.new x m (size_number x r (i.sound.number x m) next.number e))
 
 -- ---- a row that is there has its keys
 
@@ -270,30 +284,20 @@ age_present t rows r i m = rw i.ages (map_has rows m)
 -- ---- a row by its number
 
 -- the sets lead from the number of a row to its other parts
-pub row_found : (t : Table) (rows : List Row) (number age first pages : ℕ) → IsTable t rows → Contains t.numbers.keys (record { major = number; minor = age }) → Contains t.ages.keys (record { major = age; minor = first }) → Contains t.lengths.keys (record { major = first; minor = pages }) → Contains rows (record { number = number; first = first; pages = pages; age = age })
-row_found t rows number age first pages i n a l =
+pub row_found : (t : Table) (rows : List Row) (number age span : ℕ) → IsTable t rows → Contains t.numbers.keys (record { major = number; minor = age }) → Contains t.spans.keys (record { major = number; minor = span }) →
+    Contains rows (record { number = number; first = span / 2 ^ 32; pages = span % 2 ^ 32 + 1; age = age })
+row_found t rows number age span i n p =
     let x = i.numbers.from _ n in
-    let y = map_member age_key rows (record { major = age; minor = first }) (subst (λ ks. Contains ks (record { major = age; minor = first })) i.ages a) in
-    let z = i.lengths.from _ l in
-    let xy : x.0 ≡ y.0 = i.sound.ages x.0 y.0 x.1 y.1 (ap (λ k. k.minor) x.2 ∙ sym (ap (λ k. k.major) y.2)) in
-    let zy : z.0 ≡ y.0 = i.sound.firsts z.0 y.0 z.1 y.1 (ap (λ k. k.major) z.2 ∙ sym (ap (λ k. k.minor) y.2)) in
-    let is_number : y.0.number ≡ number = ap (λ (r : Row). r.number) (sym xy) ∙ ap (λ k. k.major) x.2 in
-    let is_first : y.0.first ≡ first = ap (λ k. k.minor) y.2 in
-    let is_pages : y.0.pages ≡ pages = ap (λ (r : Row). r.pages) (sym zy) ∙ ap (λ k. k.minor) z.2 in
-    let is_age : y.0.age ≡ age = ap (λ k. k.major) y.2 in
-    let is : y.0 ≡ record { number = number; first = first; pages = pages; age = age } = λ j. record { number = is_number j; first = is_first j; pages = is_pages j; age = is_age j } in
-    subst (Contains rows) is y.1
+    let y = i.spans.from _ p in
+    let same : y.0 ≡ x.0 = i.sound.numbers y.0 x.0 y.1 x.1 (ap (λ k. k.major) y.2 ∙ sym (ap (λ k. k.major) x.2)) in
+    let is_span : (span_key x.0).minor ≡ span = ap (λ r. (span_key r).minor) (sym same) ∙ ap (λ k. k.minor) y.2 in
+    let some = i.sound.some x.0 x.1 in
+    let within = i.sound.within x.0 x.1 in
+    let is_first : x.0.first ≡ span / 2 ^ 32 = omega arith in
+    let is_pages : x.0.pages ≡ span % 2 ^ 32 + 1 = omega arith in
+    let is : x.0 ≡ record { number = number; first = span / 2 ^ 32; pages = span % 2 ^ 32 + 1; age = age } = λ j. record { number = (x.2 j).major; first = is_first j; pages = is_pages j; age = (x.2 j).minor } in
+    subst (Contains rows) is x.1
 
 -- a key by its major number
 pub any_key : (ks : List Key) (k : Key) (major : ℕ) → Contains ks k → k.major ≡ major → Any (λ y. y.major ≡ major) ks
 any_key ks k major (n, l, e) f = (n, k, l, e, f)
-
-pub age_known : (t : Table) (rows : List Row) (number age : ℕ) → IsTable t rows → Contains t.numbers.keys (record { major = number; minor = age }) → Any (λ k. k.major ≡ age) t.ages.keys
-age_known t rows number age i n =
-    let x = i.numbers.from _ n in
-    any_key t.ages.keys (age_key x.0) age (age_present t rows x.0 i x.1) (ap (λ k. k.minor) x.2)
-
-pub first_known : (t : Table) (rows : List Row) (age first : ℕ) → IsTable t rows → Contains t.ages.keys (record { major = age; minor = first }) → (y : Row) × Contains rows y × (y.first ≡ first)
-first_known t rows age first i a =
-    let y = map_member age_key rows (record { major = age; minor = first }) (subst (λ ks. Contains ks (record { major = age; minor = first })) i.ages a) in
-    (y.0, y.1, ap (λ k. k.minor) y.2)

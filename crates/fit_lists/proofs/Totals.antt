@@ -1,24 +1,24 @@
 -- The spans of the rows, and the sums of their pages.
-use Rattle.std.proofs.Common.{◌≡◌, ◌==◌, ℕ, ◌+◌, ◌^◌, ◌<◌, ◌≤◌, suc, zero, true, not, List, [], ◌∷◌, ◌++◌, length, map, filter, Less, Equal, inl, inr, refl, sym, ap, ◌∙◌, subst, arith, Some, slice_get, add-zero}
+use Rattle.std.proofs.Common.{◌≡◌, ◌==◌, ℕ, ◌+◌, ◌^◌, ◌<◌, ◌≤◌, zero, true, not, List, [], ◌∷◌, length, map, filter, Less, Equal, ◌⊎◌, inl, inr, refl, sym, ap, ◌∙◌, subst, arith, Some, slice_get}
 use Rattle.std.specs.List.{All, Any, Contains, sum_by}
 use Rattle.std.specs.List.Sorted.{IsStrictlySortedBy}
-use Rattle.std.proofs.lemmas.Bool.{cases_Bool, eqb-true, eq-eqb, ne_eqb, not_from_false}
+use Rattle.std.proofs.lemmas.Bool.{cases_Bool, cases_order, eqb-true, eq-eqb, ne_eqb, not_from_false}
 use Rattle.std.proofs.lemmas.List.{length-map}
 use Rattle.std.proofs.lemmas.List.Elements.{All-contains}
 use Rattle.std.proofs.lemmas.List.Sums.{sum_by-cons, sum_by-append}
 use Rattle.std.proofs.lemmas.Cmp.{tied_itself}
 use Rattle.ordered_set.specs.declared.key.Key.{Key}
-use Rattle.ordered_set.specs.Keys.{key_cmp, IsAscending, is_above, is_below, is_from, with_key, without_key}
+use Rattle.ordered_set.specs.Keys.{key_cmp, IsAscending, is_above, is_below, is_from, with_key}
 use Rattle.ordered_set.proofs.Calls.{length_without}
 use Rattle.ordered_set.proofs.KeyOrder.{key_tie, key_total}
-use Rattle.ordered_set.proofs.Sorted.{absent, every_member, filter_all, others_is, parts, present}
+use Rattle.ordered_set.proofs.Sorted.{absent, every_member, filter_all, parts, sorted_with}
 use Rattle.fit_lists.specs.declared.table.Row.{Row}
 use Rattle.fit_lists.specs.declared.table.Table.{Table}
-use Rattle.fit_lists.specs.Rows.{IsNext, IsSound, IsTable, age_key, length_key, listed}
+use Rattle.fit_lists.specs.Rows.{IsNext, IsSound, IsTable, age_key, listed}
 use Rattle.fit_lists.specs.Spans.{IsApart, Listed}
-use Rattle.ordered_set.proofs.Members.{contains_cases, contains_later, every_from}
-use Rattle.ordered_set.proofs.Orders.{less_parts}
-use Rattle.fit_lists.proofs.Tables.{age_present, ages_without, length_absent, other_rows}
+use Rattle.ordered_set.proofs.Members.{contains_cases, contains_later, every_from, with_from}
+use Rattle.ordered_set.proofs.Orders.{less_major}
+use Rattle.fit_lists.proofs.Tables.{age_present, ages_without, keys_each, other_rows}
 
 -- ---- spans and rows
 
@@ -48,13 +48,22 @@ listed_others (x ∷ xs) n = elim (cases_Bool (x.number == n)) [
 
 -- ---- a row less
 
+-- a row is listed once
+once : (x : Row) (xs : List Row) → IsAscending (map age_key (x ∷ xs)) → (y : Row) → Contains xs y → y ≡ x → ⊥
+unfolding IsStrictlySortedBy
+once x xs s y m e =
+    let l = keys_each _ xs s.0 in
+    let less : key_cmp (age_key x) (age_key y) ≡ Less = every_member _ xs l y m in
+    let itself : key_cmp (age_key x) (age_key y) ≡ Equal = subst (λ (z : Row). key_cmp (age_key x) (age_key z) ≡ Equal) (sym e) (tied_itself key_total (age_key x)) in
+    let f : Less ≡ Equal = sym less ∙ itself in cc
+
 rows_less : (f : Row → ℕ) (rows : List Row) (r : Row) → IsAscending (map age_key rows) → ((y : Row) → Contains rows y → y.number ≡ r.number → y ≡ r) → Contains rows r → sum_by f (other_rows r.number rows) + f r ≡ sum_by f rows
 unfolding IsStrictlySortedBy
 rows_less f [] r s own (k, l, e) = absurd (omega arith)
 rows_less f (x ∷ xs) r s own m = elim (cases_Bool (x.number == r.number)) [
   | inl t ↦
       let same : x ≡ r = own x (zero, omega arith, refl) (eqb-true x.number r.number t) in
-      let rest : other_rows r.number xs ≡ xs = filter_all _ xs (every_from _ xs (λ y n. not_from_false _ (ne_eqb y.number r.number (λ e. twice y n (own y (contains_later x xs y n) e ∙ sym same))))) in
+      let rest : other_rows r.number xs ≡ xs = filter_all _ xs (every_from _ xs (λ y n. not_from_false _ (ne_eqb y.number r.number (λ e. once x xs s y n (own y (contains_later x xs y n) e ∙ sym same))))) in
       let sum = sum_by-cons f x xs in
       let value = ap f same in
       rw (t, rest) (omega arith)
@@ -68,17 +77,6 @@ rows_less f (x ∷ xs) r s own m = elim (cases_Bool (x.number == r.number)) [
       let kept = sum_by-cons f x (other_rows r.number xs) in
       rw b (omega arith)
 ]
-  where
-    keys_has : (ys : List Row) (y : Row) → Contains ys y → Contains (map age_key ys) (age_key y)
-    keys_has [] y (k, l, e) = absurd (omega arith)
-    keys_has (z ∷ zs) y (zero, l, e) = (zero, omega arith, ap age_key e)
-    keys_has (z ∷ zs) y (suc k, l, e) = contains_later (age_key z) (map age_key zs) (age_key y) (keys_has zs y (k, omega arith, e))
-
-    twice : (y : Row) → Contains xs y → y ≡ x → ⊥
-    twice y n e =
-        let l : key_cmp (age_key x) (age_key y) ≡ Less = every_member _ (map age_key xs) s.0 (age_key y) (keys_has xs y n) in
-        let itself : key_cmp (age_key x) (age_key y) ≡ Equal = subst (λ (z : Row). key_cmp (age_key x) (age_key z) ≡ Equal) (sym e) (tied_itself key_total (age_key x)) in
-        let f : Less ≡ Equal = sym l ∙ itself in cc
 
 pub sum_less : (f : Row → ℕ) (t : Table) (rows : List Row) (r : Row) → IsTable t rows → Contains rows r → sum_by f (other_rows r.number rows) + f r ≡ sum_by f rows
 sum_less f t rows r i m = rows_less f rows r (subst IsAscending i.ages i.ascending) (λ y n e. i.sound.numbers y r n m e) m
@@ -100,13 +98,6 @@ sum_with f ks key s none =
     let more = sum_by-cons f key (filter (is_above key) ks) in
     omega arith
 
-pub sum_without : (f : Key → ℕ) (ks : List Key) (key : Key) → IsAscending ks → Contains ks key → sum_by f (without_key ks key) + f key ≡ sum_by f ks
-sum_without f ks key s m =
-    let whole = ap (sum_by f) (parts key_cmp key_total key ks s) ∙ sum_by-append f (filter (is_below key) ks) (filter (is_from key) ks) in
-    let same = ap (sum_by f) (present key_cmp key_total key key_tie ks s m) ∙ sum_by-cons f key (filter (is_above key) ks) in
-    let new = ap (sum_by f) (others_is key_cmp key_total key ks s) ∙ sum_by-append f (filter (is_below key) ks) (filter (is_above key) ks) in
-    omega arith
-
 -- ---- spans that don't meet have no more pages than the space
 
 abbrev minors : List Key → ℕ
@@ -122,45 +113,104 @@ spread b (k ∷ ks) m s within apart le low =
     let start = low k first in
     omega arith
 
-pub pages_bound : (t : Table) (rows : List Row) → IsTable t rows → sum_by (λ k. k.minor) t.lengths.keys ≤ 2 ^ 32
-pages_bound t rows i =
-    let bound = spread (2 ^ 32) t.lengths.keys 0 i.lengths.ascending (λ k m. inside k m) (λ k l m n e. apart k l m n e) (omega arith) (λ k m. omega arith) in omega arith
+-- the place of a row, as a key
+abbrev place_key : Row → Key
+place_key row = record { major = row.first; minor = row.pages }
+
+-- places in ascending order that don't meet
+record IsLaid (ks : List Key) : Type 0 where
+  ascending : IsAscending ks
+  some : (k : Key) → Contains ks k → 0 < k.minor
+  within : (k : Key) → Contains ks k → k.major + k.minor ≤ 2 ^ 32
+  apart : (k l : Key) → Contains ks k → Contains ks l → key_cmp k l ≡ Less → k.major + k.minor ≤ l.major
+
+-- one more place
+laid_with : (ks : List Key) (key : Key) → IsLaid ks → 0 < key.minor → key.major + key.minor ≤ 2 ^ 32 → ((k : Key) → Contains ks k → (k.major + k.minor ≤ key.major) ⊎ (key.major + key.minor ≤ k.major)) → IsLaid (with_key ks key)
+laid_with ks key laid some within free = record {
+  ascending = sorted_with key_cmp key_total key ks laid.ascending;
+  some = λ k m. elim (with_from ks key k m) [ inl e ↦ rw e some | inr d ↦ laid.some k d ];
+  within = λ k m. elim (with_from ks key k m) [ inl e ↦ rw e within | inr d ↦ laid.within k d ];
+  apart = λ k l m n less. elim (with_from ks key k m) [
+    | inl e ↦ elim (with_from ks key l n) [
+      | inl f ↦ absurd (let itself : key_cmp k l ≡ Equal = rw (e, f) (tied_itself key_total key) in let g : Less ≡ Equal = sym less ∙ itself in cc)
+      | inr d ↦ rw e (new_first l d (subst (λ z. key_cmp z l ≡ Less) e less))
+    ]
+    | inr c ↦ elim (with_from ks key l n) [
+      | inl f ↦ rw f (new_last k c (subst (λ z. key_cmp k z ≡ Less) f less))
+      | inr d ↦ laid.apart k l c d less
+    ]
+  ];
+}
   where
-    inside : (k : Key) → Contains t.lengths.keys k → k.major + k.minor ≤ 2 ^ 32
-    inside k m = let p = i.lengths.from k m in subst (λ (y : Key). y.major + y.minor ≤ 2 ^ 32) p.2 (i.sound.within p.0 p.1)
+    new_first : (l : Key) → Contains ks l → key_cmp key l ≡ Less → key.major + key.minor ≤ l.major
+    new_first l d less = let positive = laid.some l d in let le = less_major key l less in elim (free l d) [ inl a ↦ absurd (omega arith) | inr b ↦ b ]
 
-    apart : (k l : Key) → Contains t.lengths.keys k → Contains t.lengths.keys l → key_cmp k l ≡ Less → k.major + k.minor ≤ l.major
-    apart k l m n e =
-        let p = i.lengths.from k m in
-        let q = i.lengths.from l n in
-        let pf : p.0.first ≡ k.major = ap (λ y. y.major) p.2 in
-        let pp : p.0.pages ≡ k.minor = ap (λ y. y.minor) p.2 in
-        let qf : q.0.first ≡ l.major = ap (λ y. y.major) q.2 in
-        elim (less_parts k l e) [
-          | inl less ↦ let a = i.sound.apart p.0 q.0 p.1 q.1 (omega arith) in omega arith
-          | inr ties ↦ absurd (
-              let same : p.0 ≡ q.0 = i.sound.firsts p.0 q.0 p.1 q.1 (pf ∙ ties.0 ∙ sym qf) in
-              let one : k ≡ l = sym p.2 ∙ ap length_key same ∙ q.2 in
-              let minor = ap (λ (y : Key). y.minor) one in
-              omega (arith, ties.1))
-        ]
+    new_last : (k : Key) → Contains ks k → key_cmp k key ≡ Less → k.major + k.minor ≤ key.major
+    new_last k c less = let le = less_major k key less in elim (free k c) [ inl a ↦ a | inr b ↦ absurd (omega arith) ]
 
--- ---- the owner of a page, and the first row
+-- no place is free where a key is
+not_free : (ks : List Key) (key : Key) → 0 < key.minor → ((k : Key) → Contains ks k → (k.major + k.minor ≤ key.major) ⊎ (key.major + key.minor ≤ k.major)) → Contains ks key → ⊥
+not_free ks key some free m = elim (free key m) [ inl a ↦ omega arith | inr b ↦ omega arith ]
 
-pub owner_row : (t : Table) (rows : List Row) (first number : ℕ) → IsTable t rows → Contains t.owners.keys (record { major = first; minor = number }) → (x : Row) × Contains rows x × (x.first ≡ first) × (x.number ≡ number)
-owner_row t rows first number i m =
-    let p = i.owners.from _ m in (p.0, p.1, ap (λ k. k.major) p.2, ap (λ k. k.minor) p.2)
+-- rows in the order of their places
+record Layout (rows : List Row) : Type 0 where
+  keys : List Key
+  laid : IsLaid keys
+  from : (k : Key) → Contains keys k → (x : Row) × Contains rows x × (place_key x ≡ k)
+  sum : minors keys ≡ sum_by (λ x. x.pages) rows
+
+layout : (all : List Row) (sound : IsSound all) (rows : List Row) → ((x : Row) → Contains rows x → Contains all x) → IsAscending (map age_key rows) → Layout rows
+unfolding IsStrictlySortedBy
+layout all sound [] into s = record {
+  keys = [];
+  laid = record { ascending = tt; some = λ k (n, l, e). absurd (omega arith); within = λ k (n, l, e). absurd (omega arith); apart = λ k l (n, i, e). absurd (omega arith) };
+  from = λ k (n, l, e). absurd (omega arith);
+  sum = refl;
+}
+layout all sound (x ∷ xs) into s =
+    let rest = layout all sound xs (λ y m. into y (contains_later x xs y m)) s.1 in
+    let here = into x (zero, omega arith, refl) in
+    let other : (y : Row) → Contains xs y → (y.first + y.pages ≤ x.first) ⊎ (x.first + x.pages ≤ y.first) = λ y m.
+    let there = into y (contains_later x xs y m) in
+    elim (cases_order y.first x.first) [
+      | inl e ↦ absurd (once x xs s y m (sound.firsts y x there here e))
+      | inr c ↦ elim c [ inl l ↦ inl (sound.apart y x there here l) | inr g ↦ inr (sound.apart x y here there g) ]
+    ] in
+    let free : (k : Key) → Contains rest.keys k → (k.major + k.minor ≤ x.first) ⊎ (x.first + x.pages ≤ k.major) = λ k m.
+    let q = rest.from k m in subst (λ (z : Key). (z.major + z.minor ≤ x.first) ⊎ (x.first + x.pages ≤ z.major)) q.2 (other q.0 q.1) in
+    let some = sound.some x here in
+    record {
+      keys = with_key rest.keys (place_key x);
+      laid = laid_with rest.keys (place_key x) rest.laid some (sound.within x here) free;
+      from = λ k m. elim (with_from rest.keys (place_key x) k m) [
+        | inl e ↦ (x, (zero, omega arith, refl), sym e)
+        | inr d ↦ let q = rest.from k d in (q.0, contains_later x xs q.0 q.1, q.2)
+      ];
+      sum =
+          let more = sum_with (λ k. k.minor) rest.keys (place_key x) rest.laid.ascending (not_free rest.keys (place_key x) some free) in
+          let were = rest.sum in
+          let now = sum_by-cons (λ (y : Row). y.pages) x xs in
+          omega arith;
+    }
+
+-- there is room for the pages of one more span
+pub pages_bound : (t : Table) (rows : List Row) (first pages : ℕ) → IsTable t rows → 0 < pages → first + pages ≤ 2 ^ 32 → ((x : Row) → Contains rows x → (x.first + x.pages ≤ first) ⊎ (first + pages ≤ x.first)) → sum_by (λ x. x.pages) rows + pages ≤ 2 ^ 32
+pages_bound t rows first pages i some within apart =
+    let all = layout rows i.sound rows (λ x m. m) (subst IsAscending i.ages i.ascending) in
+    let key : Key = record { major = first; minor = pages } in
+    let free : (k : Key) → Contains all.keys k → (k.major + k.minor ≤ first) ⊎ (first + pages ≤ k.major) = λ k m.
+    let q = all.from k m in subst (λ (z : Key). (z.major + z.minor ≤ first) ⊎ (first + pages ≤ z.major)) q.2 (apart q.0 q.1) in
+    let laid = laid_with all.keys key all.laid some within free in
+    let more = sum_with (λ k. k.minor) all.keys key all.laid.ascending (not_free all.keys key some free) in
+    let bound = spread (2 ^ 32) (with_key all.keys key) 0 laid.ascending laid.within laid.apart (omega arith) (λ k m. omega arith) in
+    let were = all.sum in
+    omega arith
+
+-- ---- the first row
 
 pub first_row : (f : Row → Key) (rows : List Row) (k : Key) → slice_get (map f rows) 0 ≡ Some k → (r : Row) × (slice_get rows 0 ≡ Some r) × Contains rows r × (f r ≡ k)
 first_row f [] k e = cc
 first_row f (r ∷ rs) k e = (r, refl, (zero, omega arith, refl), cc)
-
-pub any_first : (rows : List Row) (r : Row) (first : ℕ) → Contains rows r → r.first ≡ first → Any (λ x. x.first ≡ first) rows
-any_first rows r first (k, l, e) f = (k, r, l, e, f)
-
--- the number that the owners give for the first page of a row
-pub number_is : (rows : List Row) (r : Row) (number : ℕ) → IsSound rows → Contains rows r → Any (λ x. (x.first ≡ r.first) × (x.number ≡ number)) rows → r.number ≡ number
-number_is rows r number s m (k, x, l, e, f) = ap (λ (y : Row). y.number) (s.firsts r x m (k, l, e) (sym f.0)) ∙ f.1
 
 -- ---- a row more
 
@@ -185,21 +235,4 @@ next_row rows spans r e number some within fresh apart later =
       new = λ x m. All-contains (λ s. s.number ≡ r.number → ⊥) spans (listed x) fresh (span x m);
       apart = λ x m. All-contains (IsApart r.first r.pages) spans (listed x) apart (span x m);
       later = λ x m. All-contains (λ x. x.age < r.age) rows x later m;
-    }
-
--- the sums after an insertion
-pub record Grown (t : Table) (rows : List Row) (pages : ℕ) : Type 0 where
-  pub sum : sum_by (λ r. r.pages) rows ≡ pages
-  pub keys : sum_by (λ k. k.minor) t.lengths.keys ≡ pages
-  pub bound : pages ≤ 2 ^ 32
-
-pub grown : (t t' : Table) (rows rows' : List Row) (r : Row) → IsTable t rows → IsNext rows r → IsTable t' rows' → rows' ≡ rows ++ r ∷ [] → t'.lengths.keys ≡ with_key t.lengths.keys (length_key r) → sum_by (λ k. k.minor) t.lengths.keys ≡ sum_by (λ x. x.pages) rows → Grown t' rows' (sum_by (λ x. x.pages) rows + r.pages)
-grown t t' rows rows' r i next i' e l same =
-    let keys : sum_by (λ k. k.minor) t'.lengths.keys ≡ sum_by (λ x. x.pages) rows + r.pages =
-    ap (sum_by (λ k. k.minor)) l ∙ sum_with (λ k. k.minor) t.lengths.keys (length_key r) i.lengths.ascending (length_absent t rows r i next) ∙ ap (λ n. n + r.pages) same in
-    let bound = pages_bound t' rows' i' in
-    record {
-      sum = ap (sum_by (λ x. x.pages)) e ∙ sum_by-append (λ (x : Row). x.pages) rows (r ∷ []) ∙ ap (λ n. sum_by (λ (x : Row). x.pages) rows + n) (sum_by-cons (λ (x : Row). x.pages) r [] ∙ add-zero r.pages);
-      keys = keys;
-      bound = omega arith;
     }

@@ -12,6 +12,5 @@ shown list = record { spans = map listed (rows_of list.table); spare = list.spar
 pub record IsList (list : Inside) : Type 0 where
   pub table : IsTable list.table (rows_of list.table)
   pub pages : list.pages ≡ sum_by (λ row. row.pages) (rows_of list.table)
-  pub lengths : list.pages ≡ sum_by (λ key. key.minor) list.table.lengths.keys
   pub room : HasRoom list.table list.spare
   pub small : length (rows_of list.table) + list.spare < 2 ^ 64

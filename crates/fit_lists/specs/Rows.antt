@@ -1,26 +1,31 @@
 -- The rows of a table, and the sets of keys that it keeps them in.
-use Rattle.std.specs.Prelude.{◌≡◌, ◌==◌, ℕ, ◌+◌, ◌^◌, ◌<◌, ◌≤◌, ◌⊎◌, List, [], ◌∷◌, map, find, option_map, unwrap_or, Contains, nat_lt, if◌then◌else◌}
+use Rattle.std.specs.Prelude.{◌≡◌, ◌==◌, ℕ, ◌+◌, ◌-◌, ◌*◌, ◌/◌, ◌%◌, ◌^◌, ◌<◌, ◌≤◌, ◌⊎◌, List, [], ◌∷◌, map, find, option_map, unwrap_or, Contains, nat_lt, if◌then◌else◌}
 use Rattle.ordered_set.specs.declared.key.Key.{Key}
 use Rattle.ordered_set.specs.Keys.{IsAscending}
 use Rattle.fit_lists.specs.declared.table.Row.{Row}
 use Rattle.fit_lists.specs.declared.table.Table.{Table}
 use Rattle.fit_lists.specs.Spans.{Listed}
 
+-- two numbers below 2 ^ 32 in one
+abbrev pub packed : ℕ → ℕ → ℕ
+packed high low = high * 2 ^ 32 + low
+
 -- the keys of a row in each of the sets
 abbrev pub age_key : Row → Key
-age_key row = record { major = row.age; minor = row.first }
+age_key row = record { major = row.age; minor = row.number }
 
 abbrev pub number_key : Row → Key
 number_key row = record { major = row.number; minor = row.age }
 
-abbrev pub owner_key : Row → Key
-owner_key row = record { major = row.first; minor = row.number }
-
-abbrev pub length_key : Row → Key
-length_key row = record { major = row.first; minor = row.pages }
+abbrev pub span_key : Row → Key
+span_key row = record { major = row.number; minor = packed row.first (row.pages - 1) }
 
 abbrev pub size_key : Row → Key
-size_key row = record { major = row.pages; minor = row.first }
+size_key row = record { major = row.pages; minor = packed row.first row.number }
+
+-- the span of a key of the set by size
+abbrev pub span_of : Key → Listed
+span_of key = record { number = key.minor % 2 ^ 32; first = key.minor / 2 ^ 32; pages = key.major }
 
 -- the minor number of the first key with this major number
 unfoldable pub minor_of : List Key → ℕ → ℕ
@@ -28,7 +33,7 @@ minor_of keys major = unwrap_or (option_map (λ k. k.minor) (find (λ k. k.major
 
 -- the row of a key of the set by age
 abbrev pub row_at : Table → Key → Row
-row_at table key = record { number = minor_of table.owners.keys key.minor; first = key.minor; pages = minor_of table.lengths.keys key.minor; age = key.major }
+row_at table key = record { number = key.minor; first = minor_of table.spans.keys key.minor / 2 ^ 32; pages = minor_of table.spans.keys key.minor % 2 ^ 32 + 1; age = key.major }
 
 -- all rows, in the order of their ages
 unfoldable pub rows_of : Table → List Row
@@ -65,16 +70,14 @@ pub record IsTable (table : Table) (rows : List Row) : Type 0 where
   pub ages : table.ages.keys ≡ map age_key rows
   pub ascending : IsAscending table.ages.keys
   pub numbers : IsIndex number_key rows table.numbers.keys
-  pub owners : IsIndex owner_key rows table.owners.keys
-  pub lengths : IsIndex length_key rows table.lengths.keys
+  pub spans : IsIndex span_key rows table.spans.keys
   pub sizes : IsIndex size_key rows table.sizes.keys
 
 -- each set has room for so many more keys
 pub record HasRoom (table : Table) (more : ℕ) : Type 0 where
   pub ages : more ≤ table.ages.spare
   pub numbers : more ≤ table.numbers.spare
-  pub owners : more ≤ table.owners.spare
-  pub lengths : more ≤ table.lengths.spare
+  pub spans : more ≤ table.spans.spare
   pub sizes : more ≤ table.sizes.spare
 
 -- a row that may come next: its number and its pages are free, and it is younger than all

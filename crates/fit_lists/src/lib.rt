@@ -3,9 +3,10 @@
 #![tactic(auto)]
 
 ghost use Rattle.std.specs.Prelude.{◌≡◌, ◌==◌, ℕ, ◌+◌, ◌*◌, ◌^◌, ◌<◌, ◌≤◌, ◌≢◌, ◌↔◌, [], ◌∷◌, ◌++◌, not, length, max, filter, sum_by, slice_get, option_map, All, Any, IsTrue, IsNone, IfSome, OnOk, OnErr};
+ghost use Rattle.fit_lists.specs.Rows.{span_of};
 ghost use Rattle.fit_lists.specs.Spans.{HoldsRun, IsApart, IsFirstFit};
 
-use crate::table::{Row, Table};
+use crate::table::{HALF, Row, Table};
 use ordered_set::Key;
 use std::alloc::{AllocError as NoMemory, Global};
 use std::marker::Model;
@@ -133,7 +134,7 @@ impl FitList {
         ensures { result ≡ option_map (λ span. span.number) (slice_get self.now.spans 0) }
     {
         let key = self.table.ages.first()?;
-        Some(self.table.number_at(key.minor))
+        Some(key.minor as u32)
     }
 
     /// The number of the smallest span that holds a run of `pages` pages from a multiple of
@@ -153,7 +154,7 @@ impl FitList {
         while !holds_run(size, pages, align) {
             size = self.table.sizes.after(size)?;
         }
-        Some(self.table.number_at(size.minor))
+        Some((size.minor % HALF) as u32)
     }
 }
 
@@ -170,8 +171,8 @@ fn pages_to_multiple(page: u64, align: u64) -> u64
 // Whether a span, given by its key in the set by size, holds such a run.
 fn holds_run(size: Key, pages: u64, align: u64) -> bool
     requires { 0 < align }
-    ensures { IsTrue result ↔ HoldsRun pages align (record { number = 0; first = size.minor; pages = size.major }) }
+    ensures { IsTrue result ↔ HoldsRun pages align (span_of size) }
 {
-    let skipped = pages_to_multiple(size.minor, align);
+    let skipped = pages_to_multiple(size.minor / HALF, align);
     skipped <= size.major && pages <= size.major - skipped
 }

@@ -1,10 +1,22 @@
-//! The rows of a list, kept in five ordered sets of pairs of numbers.
-ghost use Rattle.std.specs.Prelude.{◌≡◌, ◌==◌, All, length, find, Some, ℕ, ◌+◌, ◌<◌, ◌≤◌, [], ◌∷◌, ◌++◌, not, map, max, filter, Any, Contains, OnOk};
-ghost use Rattle.ordered_set.specs.Keys.{is_from, with_key, without_key};
-ghost use Rattle.fit_lists.specs.Rows.{HasRoom, IsNext, IsTable, age_key, length_key, listed, number_key, owner_key, rows_of, size_key, with_age};
+//! The rows of a list, kept in four ordered sets of pairs of numbers.
+ghost use Rattle.std.specs.Prelude.{◌≡◌, ◌==◌, All, length, find, Some, ℕ, ◌+◌, ◌<◌, ◌≤◌, ◌^◌, [], ◌∷◌, ◌++◌, not, map, max, filter, Any, Contains, OnOk};
+ghost use Rattle.ordered_set.specs.Keys.{is_from};
+ghost use Rattle.fit_lists.specs.Rows.{HasRoom, IsNext, IsTable, age_key, listed, number_key, packed, rows_of, size_key, span_key, with_age};
 
 use ordered_set::{Key, OrderedSet};
 use std::alloc::{AllocError as NoMemory, Global};
+
+/// Numbers below this are packed in pairs, two in one.
+pub const HALF: u64 = 1 << 32;
+
+// Two numbers below 2 ^ 32 in one.
+fn packed(high: u64, low: u64) -> u64
+    requires high { high < 2 ^ 32 }
+    requires low { low < 2 ^ 32 }
+    ensures { result ≡ packed high low }
+{
+    high * HALF + low
+}
 
 /// A span with its number and its age.
 #[derive(Clone, Copy)]
@@ -21,7 +33,7 @@ impl Row {
     {
         Key {
             major: self.age,
-            minor: self.first,
+            minor: u64::from(self.number),
         }
     }
 
@@ -34,42 +46,36 @@ impl Row {
         }
     }
 
-    fn owner_key(self) -> Key
-        ensures { result ≡ owner_key self }
+    fn span_key(self) -> Key
+        requires some { 0 < self.pages }
+        requires within { self.first + self.pages ≤ 2 ^ 32 }
+        ensures { result ≡ span_key self }
     {
         Key {
-            major: self.first,
-            minor: u64::from(self.number),
-        }
-    }
-
-    fn length_key(self) -> Key
-        ensures { result ≡ length_key self }
-    {
-        Key {
-            major: self.first,
-            minor: self.pages,
+            major: u64::from(self.number),
+            minor: packed(self.first, self.pages - 1),
         }
     }
 
     fn size_key(self) -> Key
+        requires some { 0 < self.pages }
+        requires within { self.first + self.pages ≤ 2 ^ 32 }
         ensures { result ≡ size_key self }
     {
         Key {
             major: self.pages,
-            minor: self.first,
+            minor: packed(self.first, u64::from(self.number)),
         }
     }
 }
 
-// The five sets: from age to first page, from number to age, from first page to number and to
-// pages, and by pages and first page.
+// The four sets: from age to number, from number to age and to the span, and by pages, first page
+// and number.
 #[derive(Drop)]
 pub struct Table {
     pub ages: OrderedSet,
     pub numbers: OrderedSet,
-    pub owners: OrderedSet,
-    pub lengths: OrderedSet,
+    pub spans: OrderedSet,
     pub sizes: OrderedSet,
 }
 
@@ -85,13 +91,11 @@ impl Table {
     pub fn new(alloc: Global) -> Self
         ensures table { IsTable result (rows_of result) }
         ensures rows { rows_of result ≡ [] }
-        ensures lengths { result.lengths.keys ≡ [] }
     {
         Table {
             ages: OrderedSet::new(alloc),
             numbers: OrderedSet::new(alloc),
-            owners: OrderedSet::new(alloc),
-            lengths: OrderedSet::new(alloc),
+            spans: OrderedSet::new(alloc),
             sizes: OrderedSet::new(alloc),
         }
     }
@@ -100,14 +104,12 @@ impl Table {
         requires { IsTable self.old (rows_of self.old) }
         ensures table { IsTable self.new (rows_of self.new) }
         ensures rows { rows_of self.new ≡ rows_of self.old }
-        ensures lengths { self.new.lengths.keys ≡ self.old.lengths.keys }
         ensures room { (n : ℕ) → HasRoom self.old n → HasRoom self.new n }
         ensures ok { OnOk result (HasRoom self.new more) }
     {
         self.ages.reserve(more)?;
         self.numbers.reserve(more)?;
-        self.owners.reserve(more)?;
-        self.lengths.reserve(more)?;
+        self.spans.reserve(more)?;
         self.sizes.reserve(more)
     }
 
@@ -119,23 +121,13 @@ impl Table {
         ensures number { result.number ≡ number }
     {
         let age = minor_at(&self.numbers, u64::from(number));
-        let first = minor_at(&self.ages, age);
-        let pages = minor_at(&self.lengths, first);
+        let span = minor_at(&self.spans, u64::from(number));
         Row {
             number,
-            first,
-            pages,
+            first: span / HALF,
+            pages: span % HALF + 1,
             age,
         }
-    }
-
-    // The number of the span that begins at this page.
-    pub fn number_at(&self, first: u64) -> u32
-        requires table { IsTable self.now (rows_of self.now) }
-        requires listed { Any (λ row. row.first ≡ first) (rows_of self.now) }
-        ensures { Any (λ row. (row.first ≡ first) × (row.number ≡ result)) (rows_of self.now) }
-    {
-        minor_at(&self.owners, first) as u32
     }
 
     // An age above all others. Where the ages are used up, the rows first get new ones.
@@ -144,7 +136,6 @@ impl Table {
         ensures table { IsTable self.new (rows_of self.new) }
         ensures rows { map listed (rows_of self.new) ≡ map listed (rows_of self.old) }
         ensures later { All (λ row. row.age < result) (rows_of self.new) }
-        ensures lengths { self.new.lengths.keys ≡ self.old.lengths.keys }
         ensures room { (n : ℕ) → HasRoom self.old n → HasRoom self.new n }
     {
         match self.ages.last() {
@@ -163,7 +154,6 @@ impl Table {
         ensures table { IsTable self.new (rows_of self.new) }
         ensures rows { map listed (rows_of self.new) ≡ map listed (rows_of self.old) }
         ensures later { All (λ row. row.age < length (rows_of self.new)) (rows_of self.new) }
-        ensures lengths { self.new.lengths.keys ≡ self.old.lengths.keys }
         ensures room { (n : ℕ) → HasRoom self.old n → HasRoom self.new n }
     {
         for age in 0..self.ages.len() {
@@ -184,21 +174,19 @@ impl Table {
         requires key { find (is_from (record { major = age; minor = 0 })) self.old.ages.keys ≡ Some key }
         ensures table { IsTable self.new (rows_of self.new) }
         ensures rows { rows_of self.new ≡ with_age (rows_of self.old) age }
-        ensures lengths { self.new.lengths.keys ≡ self.old.lengths.keys }
         ensures room { (n : ℕ) → HasRoom self.old n → HasRoom self.new n }
     {
-        let number = minor_at(&self.owners, key.minor);
         self.ages.remove(key);
         self.ages.insert(Key {
             major: age,
             minor: key.minor,
         });
         self.numbers.remove(Key {
-            major: number,
+            major: key.minor,
             minor: key.major,
         });
         self.numbers.insert(Key {
-            major: number,
+            major: key.minor,
             minor: age,
         });
     }
@@ -209,13 +197,11 @@ impl Table {
         requires room { HasRoom self.old 1 }
         ensures table { IsTable self.new (rows_of self.new) }
         ensures rows { rows_of self.new ≡ rows_of self.old ++ row ∷ [] }
-        ensures lengths { self.new.lengths.keys ≡ with_key self.old.lengths.keys (length_key row) }
         ensures room { (n : ℕ) → HasRoom self.old (n + 1) → HasRoom self.new n }
     {
         self.ages.insert(row.age_key());
         self.numbers.insert(row.number_key());
-        self.owners.insert(row.owner_key());
-        self.lengths.insert(row.length_key());
+        self.spans.insert(row.span_key());
         self.sizes.insert(row.size_key());
     }
 
@@ -224,13 +210,11 @@ impl Table {
         requires listed { Contains (rows_of self.old) row }
         ensures table { IsTable self.new (rows_of self.new) }
         ensures rows { rows_of self.new ≡ filter (λ x. not (x.number == row.number)) (rows_of self.old) }
-        ensures lengths { self.new.lengths.keys ≡ without_key self.old.lengths.keys (length_key row) }
         ensures room { (n : ℕ) → HasRoom self.old n → HasRoom self.new (n + 1) }
     {
         self.ages.remove(row.age_key());
         self.numbers.remove(row.number_key());
-        self.owners.remove(row.owner_key());
-        self.lengths.remove(row.length_key());
+        self.spans.remove(row.span_key());
         self.sizes.remove(row.size_key());
     }
 }

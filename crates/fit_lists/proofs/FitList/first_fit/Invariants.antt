@@ -4,11 +4,11 @@ use Rattle.ordered_set.specs.Keys.{is_above}
 use Rattle.fit_lists.proofs.Fits.{NoneBelow}
 use Rattle.fit_lists.proofs.FitList.first_fit.Given as goal
 
-abbrev pub invariant-loop-size : goal.invariant-loop-size
-invariant-loop-size l = record {
+abbrev pub invariant-loop-self : goal.invariant-loop-self
+invariant-loop-self l = record {
   listed : Contains l.self-inside.table.sizes.keys l.size;
   below : NoneBelow l.self-inside.table.sizes.keys l.size l.pages l.align;
 }
 
-abbrev pub decreases-loop-size : goal.decreases-loop-size
-decreases-loop-size l = length (filter (is_above l.size) l.self-inside.table.sizes.keys)
+abbrev pub decreases-loop-self : goal.decreases-loop-self
+decreases-loop-self l = length (filter (is_above l.size) l.self-inside.table.sizes.keys)

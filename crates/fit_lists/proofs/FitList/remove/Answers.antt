@@ -1,8 +1,8 @@
 use Rattle.std.proofs.Common.{◌≡◌, ◌==◌, not, map, filter, ap, sym, ◌∙◌, subst, arith, length}
 use Rattle.std.specs.List.{Any, sum_by}
-use Rattle.fit_lists.specs.Rows.{rows_of, listed, length_key}
+use Rattle.fit_lists.specs.Rows.{rows_of, listed}
 use Rattle.fit_lists.proofs.Tables.{other_rows}
-use Rattle.fit_lists.proofs.Totals.{any_listed, length_less, listed_others, sum_less, sum_without}
+use Rattle.fit_lists.proofs.Totals.{any_listed, length_less, listed_others, sum_less}
 use Rattle.fit_lists.proofs.FitList.remove.Goals as goal
 
 pub row_of-row-requires-clause-listed : goal.row_of-row-requires-clause-listed
@@ -18,12 +18,9 @@ invariant_of-self c =
     let sum = sum_less (λ r. r.pages) t (rows_of t) row i.table m in
     let now : sum_by (λ r. r.pages) (rows_of c.remove.new.self) ≡ sum_by (λ r. r.pages) (other_rows row.number (rows_of t)) = ap (sum_by (λ r. r.pages)) c.remove.ensures.rows in
     let was = i.pages in
-    let keys = sum_without (λ k. k.minor) t.lengths.keys (length_key row) i.table.lengths.ascending (i.table.lengths.has row m) in
-    let keys_now = ap (sum_by (λ k. k.minor)) c.remove.ensures.lengths in
-    let keys_were = i.lengths in
     let less = length_less t (rows_of t) row i.table m in
     let len : length (rows_of c.remove.new.self) ≡ length (other_rows row.number (rows_of t)) = ap length c.remove.ensures.rows in
-    record { table = c.remove.ensures.table; pages = omega arith; lengths = omega arith; room = c.remove.ensures.room _ i.room; small = omega arith }
+    record { table = c.remove.ensures.table; pages = omega arith; room = c.remove.ensures.room _ i.room; small = omega arith }
 
 pub returns-clause-spans : goal.returns-clause-spans
 returns-clause-spans c =

@@ -9,7 +9,6 @@ invariant_of-self c =
     record {
       table = c.reserve.ensures.table;
       pages = i.pages ∙ ap (sum_by (λ r. r.pages)) (sym c.reserve.ensures.rows);
-      lengths = i.lengths ∙ ap (sum_by (λ k. k.minor)) (sym c.reserve.ensures.lengths);
       room = c.reserve.ensures.room _ i.room;
       small = omega arith;
     }

@@ -1,8 +1,8 @@
-use Rattle.std.proofs.Common.{◌++◌, ◌∷◌, [], ap, subst, ◌∙◌}
+use Rattle.std.proofs.Common.{◌++◌, ◌∷◌, [], ap, subst, ◌∙◌, arith}
 use Rattle.std.specs.List.{Contains}
 use Rattle.ordered_set.specs.Keys.{with_key}
 use Rattle.fit_lists.specs.Rows.{rows_of}
-use Rattle.fit_lists.proofs.Tables.{rows_are, settled, table_with, age_absent, number_absent, owner_absent, length_absent, size_absent}
+use Rattle.fit_lists.proofs.Tables.{rows_are, settled, table_with, age_absent, number_absent, span_absent, size_absent}
 use Rattle.fit_lists.proofs.table.Table.insert.Goals as goal
 
 pub insert-requires-clause-absent : goal.insert-requires-clause-absent
@@ -12,26 +12,20 @@ pub insert-requires-2-clause-absent : goal.insert-requires-2-clause-absent
 insert-requires-2-clause-absent c = λ m. number_absent c.args.self.now (rows_of c.args.self.now) c.args.row c.requires.table c.requires.next (subst (Contains c.args.self.now.numbers.keys) c.number_key.ensures m)
 
 pub insert-requires-3-clause-absent : goal.insert-requires-3-clause-absent
-insert-requires-3-clause-absent c = λ m. owner_absent c.args.self.now (rows_of c.args.self.now) c.args.row c.requires.table c.requires.next (subst (Contains c.args.self.now.owners.keys) c.owner_key.ensures m)
+insert-requires-3-clause-absent c = λ m. span_absent c.args.self.now (rows_of c.args.self.now) c.args.row c.requires.table c.requires.next (subst (Contains c.args.self.now.spans.keys) c.span_key.ensures m)
 
 pub insert-requires-4-clause-absent : goal.insert-requires-4-clause-absent
-insert-requires-4-clause-absent c = λ m. length_absent c.args.self.now (rows_of c.args.self.now) c.args.row c.requires.table c.requires.next (subst (Contains c.args.self.now.lengths.keys) c.length_key.ensures m)
+insert-requires-4-clause-absent c = λ m. size_absent c.args.self.now (rows_of c.args.self.now) c.args.row c.requires.table c.requires.next (subst (Contains c.args.self.now.sizes.keys) c.size_key.ensures m)
 
-pub insert-requires-5-clause-absent : goal.insert-requires-5-clause-absent
-insert-requires-5-clause-absent c = λ m. size_absent c.args.self.now (rows_of c.args.self.now) c.args.row c.requires.table c.requires.next (subst (Contains c.args.self.now.sizes.keys) c.size_key.ensures m)
-
-pub returns-clause-table : goal.returns-clause-table
-returns-clause-table c = settled _ (rows_of c.args.self.now ++ c.args.row ∷ []) (table_with c.args.self.now _ (rows_of c.args.self.now) c.args.row c.requires.table c.requires.next
+pub returns : goal.returns
+returns c =
+    let i = table_with c.args.self.now _ (rows_of c.args.self.now) c.args.row c.requires.table c.requires.next
     (c.insert.ensures.keys ∙ ap (with_key c.args.self.now.ages.keys) c.age_key.ensures, c.insert.ensures.ascending)
     (c.insert-2.ensures.keys ∙ ap (with_key c.args.self.now.numbers.keys) c.number_key.ensures, c.insert-2.ensures.ascending)
-    (c.insert-3.ensures.keys ∙ ap (with_key c.args.self.now.owners.keys) c.owner_key.ensures, c.insert-3.ensures.ascending)
-    (c.insert-4.ensures.keys ∙ ap (with_key c.args.self.now.lengths.keys) c.length_key.ensures, c.insert-4.ensures.ascending)
-    (c.insert-5.ensures.keys ∙ ap (with_key c.args.self.now.sizes.keys) c.size_key.ensures, c.insert-5.ensures.ascending))
-
-pub returns-clause-rows : goal.returns-clause-rows
-returns-clause-rows c = rows_are _ (rows_of c.args.self.now ++ c.args.row ∷ []) (table_with c.args.self.now _ (rows_of c.args.self.now) c.args.row c.requires.table c.requires.next
-    (c.insert.ensures.keys ∙ ap (with_key c.args.self.now.ages.keys) c.age_key.ensures, c.insert.ensures.ascending)
-    (c.insert-2.ensures.keys ∙ ap (with_key c.args.self.now.numbers.keys) c.number_key.ensures, c.insert-2.ensures.ascending)
-    (c.insert-3.ensures.keys ∙ ap (with_key c.args.self.now.owners.keys) c.owner_key.ensures, c.insert-3.ensures.ascending)
-    (c.insert-4.ensures.keys ∙ ap (with_key c.args.self.now.lengths.keys) c.length_key.ensures, c.insert-4.ensures.ascending)
-    (c.insert-5.ensures.keys ∙ ap (with_key c.args.self.now.sizes.keys) c.size_key.ensures, c.insert-5.ensures.ascending))
+    (c.insert-3.ensures.keys ∙ ap (with_key c.args.self.now.spans.keys) c.span_key.ensures, c.insert-3.ensures.ascending)
+    (c.insert-4.ensures.keys ∙ ap (with_key c.args.self.now.sizes.keys) c.size_key.ensures, c.insert-4.ensures.ascending) in
+    record {
+      table = settled _ (rows_of c.args.self.now ++ c.args.row ∷ []) i;
+      rows = rows_are _ (rows_of c.args.self.now ++ c.args.row ∷ []) i;
+      room = λ n h. record { ages = omega arith; numbers = omega arith; spans = omega arith; sizes = omega arith };
+    }

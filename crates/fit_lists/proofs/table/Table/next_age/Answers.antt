@@ -1,7 +1,7 @@
 use Rattle.std.proofs.Common.{◌+◌, ◌<◌, arith}
 use Rattle.std.proofs.lemmas.List.Elements.{All-from_recursion}
 use Rattle.fit_lists.specs.Rows.{rows_of}
-use Rattle.fit_lists.proofs.Aging.{keys_each}
+use Rattle.fit_lists.proofs.Tables.{keys_each}
 use Rattle.ordered_set.proofs.Orders.{last_greatest}
 use Rattle.ordered_set.proofs.Sorted.{every_map}
 use Rattle.fit_lists.proofs.table.Table.next_age.Goals as goal

@@ -12,7 +12,6 @@ pub loop-age-init : goal.loop-age-init
 loop-age-init c = record {
   table = c.requires;
   rows = refl;
-  lengths = refl;
   room = λ n h. h;
   end = c.len-age-end.ensures.len ∙ ap length c.requires.ages ∙ length-map (rows_of c.args.self.now) age_key;
   count = none_young (rows_of c.args.self.now);
@@ -37,7 +36,6 @@ loop-age-preserved c =
     record {
       table = c.set_age.ensures.table;
       rows = ap (map listed) c.set_age.ensures.rows ∙ listed_aged rows age ∙ i.rows;
-      lengths = c.set_age.ensures.lengths ∙ i.lengths;
       room = λ n h. c.set_age.ensures.room n (i.room n h);
       end = i.end;
       count = ap (λ xs. length (young_rows (age + 1) xs)) c.set_age.ensures.rows ∙ count_aged c.loop-age.self rows age c.unwrap-key.result i.table p ∙ ap (λ n. n + 1) i.count;

@@ -7,7 +7,6 @@ abbrev pub invariant-loop-age : goal.invariant-loop-age
 invariant-loop-age l = record {
   table : IsTable l.self (rows_of l.self);
   rows : map listed (rows_of l.self) ≡ map listed (rows_of l.fn.self);
-  lengths : l.self.lengths.keys ≡ l.fn.self.lengths.keys;
   room : (n : ℕ) → HasRoom l.fn.self n → HasRoom l.self n;
   end : l.age-end ≡ length (rows_of l.fn.self);
   count : length (young_rows l.age (rows_of l.self)) ≡ l.age;

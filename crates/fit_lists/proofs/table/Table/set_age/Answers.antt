@@ -1,16 +1,11 @@
-use Rattle.std.proofs.Common.{find, ap, sym, ◌∙◌, subst, refl}
+use Rattle.std.proofs.Common.{find, ap, sym, ◌∙◌, subst, refl, arith}
 use Rattle.std.specs.List.{Contains}
 use Rattle.ordered_set.specs.Keys.{is_from, with_key}
 use Rattle.fit_lists.specs.Rows.{rows_of, with_age}
-use Rattle.fit_lists.proofs.Aging.{split, key_in, owner_known, no_age_key, number_key_in, no_number_key, table_aged}
+use Rattle.fit_lists.proofs.Aging.{split, key_in, no_age_key, number_key_in, no_number_key, table_aged}
 use Rattle.ordered_set.proofs.Orders.{start}
 use Rattle.fit_lists.proofs.Tables.{rows_are, settled}
 use Rattle.fit_lists.proofs.table.Table.set_age.Goals as goal
-
-pub minor_at-number-requires : goal.minor_at-number-requires
-minor_at-number-requires c =
-    owner_known c.args.self.now (rows_of c.args.self.now) c.args.age c.args.key c.requires.table
-    (split (rows_of c.args.self.now) c.args.age c.args.key (ap (find (is_from (start c.args.age))) (sym c.requires.table.ages) ∙ c.requires.key))
 
 pub remove-requires : goal.remove-requires
 remove-requires c =
@@ -27,27 +22,21 @@ pub remove-requires-2 : goal.remove-requires-2
 remove-requires-2 c =
     number_key_in c.args.self.now (rows_of c.args.self.now) c.args.age c.args.key c.requires.table
     (split (rows_of c.args.self.now) c.args.age c.args.key (ap (find (is_from (start c.args.age))) (sym c.requires.table.ages) ∙ c.requires.key))
-    c.minor_at-number.result c.minor_at-number.ensures
 
 pub insert-requires-2-clause-absent : goal.insert-requires-2-clause-absent
 insert-requires-2-clause-absent c = λ m.
     no_number_key c.args.self.now (rows_of c.args.self.now) c.args.age c.args.key c.requires.table
     (split (rows_of c.args.self.now) c.args.age c.args.key (ap (find (is_from (start c.args.age))) (sym c.requires.table.ages) ∙ c.requires.key))
-    c.minor_at-number.result c.minor_at-number.ensures
-    (subst (λ ks. Contains ks (record { major = c.minor_at-number.result; minor = c.args.age })) c.remove-2.ensures.keys m)
+    (subst (λ ks. Contains ks (record { major = c.args.key.minor; minor = c.args.age })) c.remove-2.ensures.keys m)
 
-pub returns-clause-table : goal.returns-clause-table
-returns-clause-table c = settled _ (with_age (rows_of c.args.self.now) c.args.age)
-    (table_aged c.args.self.now (rows_of c.args.self.now) c.args.age c.args.key c.requires.table
-    (split (rows_of c.args.self.now) c.args.age c.args.key (ap (find (is_from (start c.args.age))) (sym c.requires.table.ages) ∙ c.requires.key))
-    c.minor_at-number.result c.minor_at-number.ensures _
+pub returns : goal.returns
+returns c =
+    let i = table_aged c.args.self.now (rows_of c.args.self.now) c.args.age c.args.key c.requires.table
+    (split (rows_of c.args.self.now) c.args.age c.args.key (ap (find (is_from (start c.args.age))) (sym c.requires.table.ages) ∙ c.requires.key)) _
     (c.insert.ensures.keys ∙ ap (λ ks. with_key ks (record { major = c.args.age; minor = c.args.key.minor })) c.remove.ensures.keys) c.insert.ensures.ascending
-    (c.insert-2.ensures.keys ∙ ap (λ ks. with_key ks (record { major = c.minor_at-number.result; minor = c.args.age })) c.remove-2.ensures.keys) c.insert-2.ensures.ascending refl refl refl)
-
-pub returns-clause-rows : goal.returns-clause-rows
-returns-clause-rows c = rows_are _ (with_age (rows_of c.args.self.now) c.args.age)
-    (table_aged c.args.self.now (rows_of c.args.self.now) c.args.age c.args.key c.requires.table
-    (split (rows_of c.args.self.now) c.args.age c.args.key (ap (find (is_from (start c.args.age))) (sym c.requires.table.ages) ∙ c.requires.key))
-    c.minor_at-number.result c.minor_at-number.ensures _
-    (c.insert.ensures.keys ∙ ap (λ ks. with_key ks (record { major = c.args.age; minor = c.args.key.minor })) c.remove.ensures.keys) c.insert.ensures.ascending
-    (c.insert-2.ensures.keys ∙ ap (λ ks. with_key ks (record { major = c.minor_at-number.result; minor = c.args.age })) c.remove-2.ensures.keys) c.insert-2.ensures.ascending refl refl refl)
+    (c.insert-2.ensures.keys ∙ ap (λ ks. with_key ks (record { major = c.args.key.minor; minor = c.args.age })) c.remove-2.ensures.keys) c.insert-2.ensures.ascending refl refl in
+    record {
+      table = settled _ (with_age (rows_of c.args.self.now) c.args.age) i;
+      rows = rows_are _ (with_age (rows_of c.args.self.now) c.args.age) i;
+      room = λ n h. record { ages = omega arith; numbers = omega arith; spans = omega arith; sizes = omega arith };
+    }
