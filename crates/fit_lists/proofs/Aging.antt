@@ -12,10 +12,11 @@ use Rattle.ordered_set.proofs.KeyOrder.{key_total}
 use Rattle.ordered_set.proofs.Sorted.{every_map, every_member, filter_all, filter_none, sorted_rest, sorted_right}
 use Rattle.fit_lists.specs.declared.table.Row.{Row}
 use Rattle.fit_lists.specs.declared.table.Table.{Table}
-use Rattle.fit_lists.specs.Rows.{IsIndex, IsSound, IsTable, age_key, listed, number_key, size_key, span_key, with_age}
+use Rattle.fit_lists.specs.Rows.{IsIndex, IsSound, IsTable, age_key, listed, span_key, size_key, with_age}
 use Rattle.ordered_set.proofs.Members.{contains_cases, contains_later, every_from, with_from, with_keeps, with_self, without_from, without_keeps}
 use Rattle.ordered_set.proofs.Orders.{from_start, less_major, major_less, start, start_from}
-use Rattle.fit_lists.proofs.Tables.{age_present, ages_without, keys_each, map_every, map_member, other_rows, two_rows, one_row}
+use Rattle.fit_lists.proofs.Finds.{find_some}
+use Rattle.fit_lists.proofs.Tables.{ages_without, keys_each, map_every, map_member, other_rows, row_number, two_rows, one_row}
 
 -- a row with another age
 abbrev pub aged : Row → ℕ → Row
@@ -158,6 +159,7 @@ module _ (xs : List Row) (r : Row) (ys : List Row) (age : ℕ) (young : Every (�
         ages = λ x y m n. two_rows others new (λ x y. x.age ≡ y.age → x ≡ y) (λ x y a b. sound.ages x y (old x a) (old y b)) (λ x a e. absurd (other_age x a e)) (λ y b e. absurd (other_age y b (sym e))) (λ e. refl) x y (into x m) (into y n);
         firsts = λ x y m n. two_rows others new (λ x y. x.first ≡ y.first → x ≡ y) (λ x y a b. sound.firsts x y (old x a) (old y b)) (λ x a e. absurd (other_first x a e)) (λ y b e. absurd (other_first y b (sym e))) (λ e. refl) x y (into x m) (into y n);
         apart = λ x y m n. two_rows others new (λ x y. x.first < y.first → x.first + x.pages ≤ y.first) (λ x y a b. sound.apart x y (old x a) (old y b)) (λ x a. sound.apart x r (old x a) self) (λ y b. sound.apart r y self (old y b)) (λ l. absurd (omega arith)) x y (into x m) (into y n);
+        age = λ x m. one_row others new (λ x. x.age < 2 ^ 32) (λ x a. sound.age x (old x a)) (let was_small = sound.age r self in omega arith) x (into x m);
         number = λ x m. one_row others new (λ x. x.number < 2 ^ 32) (λ x a. sound.number x (old x a)) (sound.number r self) x (into x m);
         some = λ x m. one_row others new (λ x. 0 < x.pages) (λ x a. sound.some x (old x a)) (sound.some r self) x (into x m);
         within = λ x m. one_row others new (λ x. x.first + x.pages ≤ 2 ^ 32) (λ x a. sound.within x (old x a)) (sound.within r self) x (into x m);
@@ -174,20 +176,20 @@ module _ (xs : List Row) (r : Row) (ys : List Row) (age : ℕ) (young : Every (�
     ];
   }
 
-  -- the set from number to age
-  pub index_aged : (ks ks' : List Key) → IsIndex number_key was ks → ks' ≡ with_key (without_key ks (number_key r)) (number_key new) → IsAscending ks' → IsIndex number_key (xs ++ new ∷ ys) ks'
+  -- the set of rows
+  pub index_aged : (ks ks' : List Key) → IsIndex span_key was ks → ks' ≡ with_key (without_key ks (span_key r)) (span_key new) → IsAscending ks' → IsIndex span_key (xs ++ new ∷ ys) ks'
   index_aged ks ks' i e s = record {
     ascending = s;
     has = λ x m. rw e (elim (mid_cases xs new ys x m) [
-      | inl n ↦ rw n (with_self (without_key ks (number_key r)) (number_key new))
-      | inr o ↦ with_keeps _ (number_key new) (number_key x) (without_keeps ks (number_key r) (number_key x) (i.has x (mid_other xs r ys x o)) (λ f. other_number x o (ap (λ k. k.major) f)))
+      | inl n ↦ rw n (with_self (without_key ks (span_key r)) (span_key new))
+      | inr o ↦ with_keeps _ (span_key new) (span_key x) (without_keeps ks (span_key r) (span_key x) (i.has x (mid_other xs r ys x o)) (λ f. other_number x o (row_number x r (sound.age x (mid_other xs r ys x o)) (sound.age r (mid_self xs r ys)) (ap (λ k. k.major) f))))
     ]);
-    from = λ k m. elim (with_from (without_key ks (number_key r)) (number_key new) k (subst (λ z. Contains z k) e m)) [
+    from = λ k m. elim (with_from (without_key ks (span_key r)) (span_key new) k (subst (λ z. Contains z k) e m)) [
       | inl n ↦ (new, mid_self xs new ys, sym n)
       | inr o ↦
-          let q = without_from ks (number_key r) k o in
+          let q = without_from ks (span_key r) k o in
           let p = i.from k q.0 in
-          elim (mid_cases xs r ys p.0 p.1) [ inl n ↦ absurd (q.1 (sym p.2 ∙ ap number_key n)) | inr d ↦ (p.0, mid_other xs new ys p.0 d, p.2) ]
+          elim (mid_cases xs r ys p.0 p.1) [ inl n ↦ absurd (q.1 (sym p.2 ∙ ap span_key n)) | inr d ↦ (p.0, mid_other xs new ys p.0 d, p.2) ]
     ];
   }
 
@@ -216,48 +218,64 @@ module _ (xs : List Row) (r : Row) (ys : List Row) (age : ℕ) (young : Every (�
 
 -- ---- the steps of a change of age
 
-module _ (t : Table) (rows : List Row) (age : ℕ) (key : Key) (i : IsTable t rows) (p : Split rows age key) where
-  pub row_in : Contains rows p.row
-  row_in = subst (λ xs. Contains xs p.row) (sym p.is) (mid_self p.before p.row p.after)
+module _ (t : Table) (rows : List Row) (age : ℕ) (row : Row) (i : IsTable t rows) (m : Contains rows row) (first : find (is_from (start age)) t.ages.keys ≡ Some (age_key row)) where
+  p : Split rows age (age_key row)
+  p = split rows age (age_key row) (ap (find (is_from (start age))) (sym i.ages) ∙ first)
 
-  pub key_in : Contains t.ages.keys key
-  key_in = subst (Contains t.ages.keys) p.key_is (age_present t rows p.row i row_in)
+  is_row : p.row ≡ row
+  is_row = i.sound.numbers p.row row (subst (λ xs. Contains xs p.row) (sym p.is) (mid_self p.before p.row p.after)) m (ap (λ k. k.minor) p.key_is)
 
-  pub no_age_key : Contains (without_key t.ages.keys key) (record { major = age; minor = key.minor }) → ⊥
-  no_age_key m =
-      let q = without_from t.ages.keys key _ m in
-      let x = map_member age_key rows _ (subst (λ ks. Contains ks (record { major = age; minor = key.minor })) i.ages q.0) in
-      let same : x.0 ≡ p.row = i.sound.numbers x.0 p.row x.1 row_in (ap (λ k. k.minor) x.2 ∙ sym (ap (λ k. k.minor) p.key_is)) in
-      q.1 (sym x.2 ∙ ap age_key same ∙ p.key_is)
+  pub not_older : age ≤ row.age
+  not_older = subst (λ x. age ≤ x.age) is_row p.from
 
-  key_of_number : number_key p.row ≡ record { major = key.minor; minor = key.major }
-  key_of_number = λ j. record { major = (p.key_is j).minor; minor = (p.key_is j).major }
+  pub no_age_key : Contains (without_key t.ages.keys (age_key row)) (age_key (aged row age)) → ⊥
+  no_age_key n =
+      let q = without_from t.ages.keys (age_key row) _ n in
+      let x = map_member age_key rows _ (subst (λ ks. Contains ks (age_key (aged row age))) i.ages q.0) in
+      q.1 (sym x.2 ∙ ap age_key (i.sound.numbers x.0 row x.1 m (ap (λ k. k.minor) x.2)))
 
-  pub number_key_in : Contains t.numbers.keys (record { major = key.minor; minor = key.major })
-  number_key_in = subst (Contains t.numbers.keys) key_of_number (i.numbers.has p.row row_in)
+  pub no_span_key : Contains (without_key t.spans.keys (span_key row)) (span_key (aged row age)) → ⊥
+  no_span_key n =
+      let q = without_from t.spans.keys (span_key row) _ n in
+      let x = i.spans.from _ q.0 in
+      let old = i.sound.age row m in
+      let le = not_older in
+      let number = row_number x.0 (aged row age) (i.sound.age x.0 x.1) (omega arith) (ap (λ k. k.major) x.2) in
+      q.1 (sym x.2 ∙ ap span_key (i.sound.numbers x.0 row x.1 m number))
 
-  pub no_number_key : Contains (without_key t.numbers.keys (record { major = key.minor; minor = key.major })) (record { major = key.minor; minor = age }) → ⊥
-  no_number_key m =
-      let q = without_from t.numbers.keys _ _ m in
-      let x = i.numbers.from _ q.0 in
-      let same : x.0 ≡ p.row = i.sound.numbers x.0 p.row x.1 row_in (ap (λ k. k.major) x.2 ∙ sym (ap (λ k. k.minor) p.key_is)) in
-      q.1 (sym x.2 ∙ ap number_key same ∙ key_of_number)
-
-  pub table_aged : (t' : Table) → t'.ages.keys ≡ with_key (without_key t.ages.keys key) (record { major = age; minor = key.minor }) → IsAscending t'.ages.keys → t'.numbers.keys ≡ with_key (without_key t.numbers.keys (record { major = key.minor; minor = key.major })) (record { major = key.minor; minor = age }) → IsAscending t'.numbers.keys → t'.spans.keys ≡ t.spans.keys → t'.sizes.keys ≡ t.sizes.keys → IsTable t' (with_age rows age)
-  table_aged t' a up' n ns o s =
+  pub table_aged : (t' : Table) → t'.ages.keys ≡ with_key (without_key t.ages.keys (age_key row)) (age_key (aged row age)) → IsAscending t'.ages.keys → t'.spans.keys ≡ with_key (without_key t.spans.keys (span_key row)) (span_key (aged row age)) → IsAscending t'.spans.keys → t'.sizes.keys ≡ t.sizes.keys → IsTable t' (with_age rows age)
+  table_aged t' a up' r rs s =
       let was' : IsTable t (p.before ++ p.row ∷ p.after) = subst (IsTable t) p.is i in
       let up : IsAscending (map age_key (p.before ++ p.row ∷ p.after)) = subst IsAscending was'.ages i.ascending in
-      let new_age : age_key (aged p.row age) ≡ record { major = age; minor = key.minor } = λ j. record { major = age; minor = (p.key_is j).minor } in
-      let new_number : number_key (aged p.row age) ≡ record { major = key.minor; minor = age } = λ j. record { major = (p.key_is j).minor; minor = age } in
-      let kept = λ (f : Row → Key) (ks : List Key) (e : f (aged p.row age) ≡ f p.row) (x : IsIndex f (p.before ++ p.row ∷ p.after) ks). index_kept p.before p.row p.after age p.young p.from was'.sound up f ks e x in
+      let ages : t'.ages.keys ≡ with_key (without_key t.ages.keys (age_key p.row)) (age_key (aged p.row age)) =
+      subst (λ x. t'.ages.keys ≡ with_key (without_key t.ages.keys (age_key x)) (age_key (aged x age))) (sym is_row) a in
+      let rows' : t'.spans.keys ≡ with_key (without_key t.spans.keys (span_key p.row)) (span_key (aged p.row age)) =
+      subst (λ x. t'.spans.keys ≡ with_key (without_key t.spans.keys (span_key x)) (span_key (aged x age))) (sym is_row) r in
       rw p.now (record {
         sound = sound_aged p.before p.row p.after age p.young p.from was'.sound up;
-        ages = a ∙ rw (was'.ages, ← p.key_is) (ages_aged p.before p.row p.after age p.young p.from was'.sound up);
+        ages = ages ∙ ap (λ ks. with_key (without_key ks (age_key p.row)) (age_key (aged p.row age))) was'.ages ∙ ages_aged p.before p.row p.after age p.young p.from was'.sound up;
         ascending = up';
-        numbers = index_aged p.before p.row p.after age p.young p.from was'.sound up t.numbers.keys t'.numbers.keys was'.numbers (n ∙ rw (← key_of_number, ← new_number)) ns;
-        spans = rw o (kept span_key t.spans.keys refl was'.spans);
-        sizes = rw s (kept size_key t.sizes.keys refl was'.sizes);
+        spans = index_aged p.before p.row p.after age p.young p.from was'.sound up t.spans.keys t'.spans.keys was'.spans rows' rs;
+        sizes = rw s (index_kept p.before p.row p.after age p.young p.from was'.sound up size_key t.sizes.keys refl was'.sizes);
       })
+
+  -- one more row is younger than the next age
+  pub count_aged : length (young_rows (age + 1) (with_age rows age)) ≡ length (young_rows age rows) + 1
+  count_aged =
+      let was' : IsTable t (p.before ++ p.row ∷ p.after) = subst (IsTable t) p.is i in
+      ap (λ xs. length (young_rows (age + 1) xs)) p.now
+      ∙ count_mid p.before p.row p.after age p.young p.from was'.sound (subst IsAscending was'.ages i.ascending)
+      ∙ ap (λ xs. length (young_rows age xs) + 1) (sym p.is)
+
+-- the first key from an age on is that of a row
+pub key_row : (t : Table) (rows : List Row) (age : ℕ) (key : Key) → IsTable t rows → find (is_from (start age)) t.ages.keys ≡ Some key → (x : Row) × Contains rows x × (age_key x ≡ key)
+key_row t rows age key i e = map_member age_key rows key (subst (λ ks. Contains ks key) i.ages (find_some (is_from (start age)) t.ages.keys key i.ascending e).0)
+
+-- that key is the one of a row with its number
+pub row_is_first : (t : Table) (rows : List Row) (age : ℕ) (key : Key) (row : Row) → IsTable t rows → Contains rows row → row.number ≡ key.minor → find (is_from (start age)) t.ages.keys ≡ Some key → find (is_from (start age)) t.ages.keys ≡ Some (age_key row)
+row_is_first t rows age key row i m n e =
+    let x = key_row t rows age key i e in
+    e ∙ ap (λ k. Some k) (sym x.2 ∙ ap age_key (i.sound.numbers x.0 row x.1 m (ap (λ k. k.minor) x.2 ∙ sym n)))
 
 -- ---- all ages
 
@@ -271,13 +289,6 @@ next_key (x ∷ xs) age l = elim (cases_lt x.age age) [
       (p.0, rw later p.1)
   | inr g ↦ (age_key x, rw (start_from (age_key x) age g))
 ]
-
-pub count_aged : (t : Table) (rows : List Row) (age : ℕ) (key : Key) → IsTable t rows → Split rows age key → length (young_rows (age + 1) (with_age rows age)) ≡ length (young_rows age rows) + 1
-count_aged t rows age key i p =
-    let was' : IsTable t (p.before ++ p.row ∷ p.after) = subst (IsTable t) p.is i in
-    ap (λ xs. length (young_rows (age + 1) xs)) p.now
-    ∙ count_mid p.before p.row p.after age p.young p.from was'.sound (subst IsAscending was'.ages i.ascending)
-    ∙ ap (λ xs. length (young_rows age xs) + 1) (sym p.is)
 
 pub listed_aged : (rows : List Row) (age : ℕ) → map listed (with_age rows age) ≡ map listed rows
 listed_aged [] age = refl

@@ -1,4 +1,5 @@
 pub mod Aging
+pub mod Finds
 pub mod Fits
 pub mod Tables
 pub mod Totals

@@ -1,19 +1,20 @@
 -- A table's rows and the keys of its sets, after an insertion and after a removal.
-use Rattle.std.proofs.Common.{◌≡◌, ◌==◌, ℕ, ◌+◌, ◌-◌, ◌/◌, ◌%◌, ◌^◌, ◌<◌, ◌≤◌, suc, zero, Bool, true, false, not, List, [], ◌∷◌, ◌++◌, map, filter, find, option_map, unwrap_or, Less, Equal, is_lt, is_gt, ◌≢◌, ◌⊎◌, inl, inr, refl, sym, ap, ◌∙◌, subst, arith}
-use Rattle.std.specs.List.{Any, Contains, AllByRecursion as Every}
-use Rattle.std.proofs.lemmas.Bool.{cases_Bool, eqb-true, eq-eqb, ne_eqb, not_from_false}
+use Rattle.std.proofs.Common.{◌≡◌, ◌==◌, ℕ, ◌+◌, ◌-◌, ◌/◌, ◌%◌, ◌^◌, ◌<◌, ◌≤◌, suc, zero, Bool, true, false, not, List, [], ◌∷◌, ◌++◌, map, filter, find, Some, option_map, unwrap_or, Less, Equal, is_lt, is_gt, ◌≢◌, ◌⊎◌, inl, inr, refl, sym, ap, ◌∙◌, subst, arith}
+use Rattle.std.specs.List.{Contains, AllByRecursion as Every}
+use Rattle.std.proofs.lemmas.Bool.{cases_Bool, cases_lt, eqb-true, eq-eqb, ne_eqb, not_from_false}
 use Rattle.std.proofs.lemmas.List.{map_push}
 use Rattle.std.proofs.lemmas.List.Elements.{Contains-append_left, Contains-append_right}
 use Rattle.std.proofs.lemmas.Cmp.{tied_itself}
 use Rattle.std.specs.List.Sorted.{IsStrictlySortedBy}
 use Rattle.ordered_set.specs.declared.key.Key.{Key}
-use Rattle.ordered_set.specs.Keys.{key_cmp, IsAscending, is_above, is_below, is_other, with_key, without_key}
+use Rattle.ordered_set.specs.Keys.{key_cmp, IsAscending, is_above, is_below, is_from, is_other, with_key, without_key}
 use Rattle.ordered_set.proofs.KeyOrder.{key_total}
 use Rattle.ordered_set.proofs.Sorted.{filter_all, filter_none, every_map}
+use Rattle.fit_lists.proofs.Finds.{find_any, find_some}
 use Rattle.fit_lists.specs.declared.table.Row.{Row}
 use Rattle.fit_lists.specs.declared.table.Table.{Table}
-use Rattle.fit_lists.specs.Rows.{IsIndex, IsNext, IsSound, IsTable, age_key, minor_of, number_key, packed, row_at, rows_of, size_key, span_key}
-use Rattle.ordered_set.proofs.Orders.{major_less}
+use Rattle.fit_lists.specs.Rows.{IsIndex, IsNext, IsSound, IsTable, age_key, minor_of, packed, row_at, span_key, row_of_keys, rows_of, size_key}
+use Rattle.ordered_set.proofs.Orders.{from_start, major_less, start, start_from}
 use Rattle.ordered_set.proofs.Members.{contains_cases, contains_later, every_from, filter_from, filter_has, other_from, push_cases, with_from, with_keeps, with_self, without_from, without_keeps}
 
 -- the rows but those of a number
@@ -82,6 +83,19 @@ map_each : (g : Key → Row) (rows : List Row) → Every (λ x. g (age_key x) �
 map_each g [] e = refl
 map_each g (x ∷ xs) e = λ i. e.0 i ∷ map_each g xs e.1 i
 
+-- a row from its keys
+pub row_back : (rows : List Row) (x : Row) → IsSound rows → Contains rows x → row_of_keys (age_key x) (span_key x).minor ≡ x
+row_back rows x s m =
+    let some = s.some x m in
+    let within = s.within x m in
+    let first = high_of x.first (x.pages - 1) (omega arith) in
+    let pages : packed x.first (x.pages - 1) % 2 ^ 32 + 1 ≡ x.pages = ap (λ n. n + 1) (low_of x.first (x.pages - 1) (omega arith)) ∙ omega arith in
+    λ j. record { number = x.number; first = first j; pages = pages j; age = x.age }
+
+-- a row by the major number of its key in the set of rows
+pub one_span_key : (rows : List Row) (x y : Row) → IsSound rows → Contains rows x → Contains rows y → (span_key x).major ≡ (span_key y).major → x ≡ y
+one_span_key rows x y s m n e = let old = s.age x m in let new = s.age y n in s.numbers x y m n (omega arith)
+
 -- the sets determine the rows
 pub rows_are : (t : Table) (rows : List Row) → IsTable t rows → rows_of t ≡ rows
 unfolding rows_of
@@ -89,14 +103,11 @@ rows_are t rows i = ap (map (row_at t)) i.ages ∙ map_each (row_at t) rows (eve
   where
     each : (x : Row) → Contains rows x → row_at t (age_key x) ≡ x
     each x m =
-        let own : (k : Key) → Contains t.spans.keys k → k.major ≡ x.number → k.minor ≡ (span_key x).minor = λ k n e. let p = i.spans.from k n in
-        sym (ap (λ y. y.minor) p.2) ∙ ap (λ y. (span_key y).minor) (i.sound.numbers p.0 x p.1 m (ap (λ y. y.major) p.2 ∙ e)) in
-        let span = minor_is t.spans.keys x.number (span_key x).minor (i.spans.has x m) own in
-        let some = i.sound.some x m in
-        let within = i.sound.within x m in
-        let first : minor_of t.spans.keys x.number / 2 ^ 32 ≡ x.first = ap (λ n. n / 2 ^ 32) span ∙ high_of x.first (x.pages - 1) (omega arith) in
-        let pages : minor_of t.spans.keys x.number % 2 ^ 32 + 1 ≡ x.pages = ap (λ n. n % 2 ^ 32 + 1) span ∙ ap (λ n. n + 1) (low_of x.first (x.pages - 1) (omega arith)) ∙ omega arith in
-        λ j. record { number = x.number; first = first j; pages = pages j; age = x.age }
+        let major : ℕ = packed x.number x.age in
+        let own : (k : Key) → Contains t.spans.keys k → k.major ≡ major → k.minor ≡ (span_key x).minor = λ k n e.
+        let p = i.spans.from k n in
+        sym (ap (λ y. y.minor) p.2) ∙ ap (λ y. (span_key y).minor) (one_span_key rows p.0 x i.sound p.1 m (ap (λ y. y.major) p.2 ∙ e)) in
+        ap (row_of_keys (age_key x)) (minor_is t.spans.keys major (span_key x).minor (i.spans.has x m) own) ∙ row_back rows x i.sound m
 
 -- ---- soundness
 
@@ -107,6 +118,7 @@ sound_new = record {
   firsts = λ x y (k, l, e) n. absurd (omega arith);
   apart = λ x y (k, l, e) n. absurd (omega arith);
   number = λ x (k, l, e). absurd (omega arith);
+  age = λ x (k, l, e). absurd (omega arith);
   some = λ x (k, l, e). absurd (omega arith);
   within = λ x (k, l, e). absurd (omega arith);
 }
@@ -120,6 +132,7 @@ sound_filter p rows s =
       firsts = λ x y m n. s.firsts x y (in' x m) (in' y n);
       apart = λ x y m n. s.apart x y (in' x m) (in' y n);
       number = λ x m. s.number x (in' x m);
+      age = λ x m. s.age x (in' x m);
       some = λ x m. s.some x (in' x m);
       within = λ x m. s.within x (in' x m);
     }
@@ -147,6 +160,7 @@ sound_with rows r s n = record {
       (λ y m l. let more = s.some y m in elim (n.apart y m) [ inl a ↦ omega arith | inr b ↦ b ])
       (λ l. absurd (omega arith));
   number = one_row rows r (λ x. x.number < 2 ^ 32) s.number n.number;
+  age = one_row rows r (λ x. x.age < 2 ^ 32) s.age n.age;
   some = one_row rows r (λ x. 0 < x.pages) s.some n.some;
   within = one_row rows r (λ x. x.first + x.pages ≤ 2 ^ 32) s.within n.within;
 }
@@ -191,25 +205,23 @@ ages_without rows r s m = filter_map (is_other (age_key r)) (λ x. not (x.number
 pub settled : (t : Table) (rows : List Row) → IsTable t rows → IsTable t (rows_of t)
 settled t rows i = subst (IsTable t) (sym (rows_are t rows i)) i
 
-pub table_new : (t : Table) → t.ages.keys ≡ [] → t.numbers.keys ≡ [] → t.spans.keys ≡ [] → t.sizes.keys ≡ [] → IsTable t []
+pub table_new : (t : Table) → t.ages.keys ≡ [] → t.spans.keys ≡ [] → t.sizes.keys ≡ [] → IsTable t []
 unfolding IsStrictlySortedBy
-table_new t a n p s = record {
+table_new t a r s = record {
   sound = sound_new;
   ages = a;
   ascending = rw a tt;
-  numbers = rw n (index_new number_key);
-  spans = rw p (index_new span_key);
+  spans = rw r (index_new span_key);
   sizes = rw s (index_new size_key);
 }
 
 -- other sets with the same keys
-pub table_same : (t t' : Table) (rows : List Row) → IsTable t rows → t'.ages.keys ≡ t.ages.keys → t'.numbers.keys ≡ t.numbers.keys → t'.spans.keys ≡ t.spans.keys → t'.sizes.keys ≡ t.sizes.keys → IsTable t' rows
-table_same t t' rows i a n p s = record {
+pub table_same : (t t' : Table) (rows : List Row) → IsTable t rows → t'.ages.keys ≡ t.ages.keys → t'.spans.keys ≡ t.spans.keys → t'.sizes.keys ≡ t.sizes.keys → IsTable t' rows
+table_same t t' rows i a r s = record {
   sound = i.sound;
   ages = a ∙ i.ages;
   ascending = rw a i.ascending;
-  numbers = rw n i.numbers;
-  spans = rw p i.spans;
+  spans = rw r i.spans;
   sizes = rw s i.sizes;
 }
 
@@ -220,29 +232,31 @@ Gains ks ks' key = (ks' ≡ with_key ks key) × IsAscending ks'
 abbrev pub Loses : List Key → List Key → Key → Type 0
 Loses ks ks' key = (ks' ≡ without_key ks key) × IsAscending ks'
 
-pub table_with : (t t' : Table) (rows : List Row) (r : Row) → IsTable t rows → IsNext rows r → Gains t.ages.keys t'.ages.keys (age_key r) → Gains t.numbers.keys t'.numbers.keys (number_key r) → Gains t.spans.keys t'.spans.keys (span_key r) → Gains t.sizes.keys t'.sizes.keys (size_key r) → IsTable t' (rows ++ r ∷ [])
-table_with t t' rows r i next a n p s = record {
+pub table_with : (t t' : Table) (rows : List Row) (r : Row) → IsTable t rows → IsNext rows r → Gains t.ages.keys t'.ages.keys (age_key r) → Gains t.spans.keys t'.spans.keys (span_key r) → Gains t.sizes.keys t'.sizes.keys (size_key r) → IsTable t' (rows ++ r ∷ [])
+table_with t t' rows r i next a p s = record {
   sound = sound_with rows r i.sound next;
   ages = a.0 ∙ ap (λ ks. with_key ks (age_key r)) i.ages ∙ ages_with rows r next.later;
   ascending = a.1;
-  numbers = index_with number_key rows t.numbers.keys t'.numbers.keys r i.numbers n.1 n.0;
   spans = index_with span_key rows t.spans.keys t'.spans.keys r i.spans p.1 p.0;
   sizes = index_with size_key rows t.sizes.keys t'.sizes.keys r i.sizes s.1 s.0;
 }
+
+-- the number of a row is in its key in the set of rows
+pub row_number : (x y : Row) → x.age < 2 ^ 32 → y.age < 2 ^ 32 → (span_key x).major ≡ (span_key y).major → x.number ≡ y.number
+row_number x y l m e = omega arith
 
 -- the number of a row is in its key in the set by size
 size_number : (x y : Row) → x.number < 2 ^ 32 → y.number < 2 ^ 32 → size_key x ≡ size_key y → x.number ≡ y.number
 size_number x y l m e = let minor : (size_key x).minor ≡ (size_key y).minor = ap (λ k. k.minor) e in omega arith
 
-pub table_without : (t t' : Table) (rows : List Row) (r : Row) → IsTable t rows → Contains rows r → Loses t.ages.keys t'.ages.keys (age_key r) → Loses t.numbers.keys t'.numbers.keys (number_key r) → Loses t.spans.keys t'.spans.keys (span_key r) → Loses t.sizes.keys t'.sizes.keys (size_key r) → IsTable t' (other_rows r.number rows)
-table_without t t' rows r i m a n p s =
+pub table_without : (t t' : Table) (rows : List Row) (r : Row) → IsTable t rows → Contains rows r → Loses t.ages.keys t'.ages.keys (age_key r) → Loses t.spans.keys t'.spans.keys (span_key r) → Loses t.sizes.keys t'.sizes.keys (size_key r) → IsTable t' (other_rows r.number rows)
+table_without t t' rows r i m a p s =
     let own : (x : Row) → Contains rows x → x.number ≡ r.number → x ≡ r = λ x k e. i.sound.numbers x r k m e in
     record {
       sound = sound_filter _ rows i.sound;
       ages = a.0 ∙ ap (λ ks. without_key ks (age_key r)) i.ages ∙ ages_without rows r i.sound m;
       ascending = a.1;
-      numbers = index_without number_key rows t.numbers.keys t'.numbers.keys r i.numbers n.1 n.0 (λ x k e. ap (λ y. y.major) e) own;
-      spans = index_without span_key rows t.spans.keys t'.spans.keys r i.spans p.1 p.0 (λ x k e. ap (λ y. y.major) e) own;
+      spans = index_without span_key rows t.spans.keys t'.spans.keys r i.spans p.1 p.0 (λ x k e. row_number x r (i.sound.age x k) (i.sound.age r m) (ap (λ y. y.major) e)) own;
       sizes = index_without size_key rows t.sizes.keys t'.sizes.keys r i.sizes s.1 s.0 (λ x k e. size_number x r (i.sound.number x k) (i.sound.number r m) e) own;
     }
 
@@ -262,11 +276,8 @@ age_absent t rows r i next m =
     let same : p.0.age ≡ r.age = ap (λ k. k.major) p.2 in
     omega arith
 
-pub number_absent : (t : Table) (rows : List Row) (r : Row) → IsTable t rows → IsNext rows r → Contains t.numbers.keys (number_key r) → ⊥
-number_absent t rows r i next = index_absent number_key rows t.numbers.keys r i.numbers (λ x m e. next.new x m (ap (λ k. k.major) e))
-
 pub span_absent : (t : Table) (rows : List Row) (r : Row) → IsTable t rows → IsNext rows r → Contains t.spans.keys (span_key r) → ⊥
-span_absent t rows r i next = index_absent span_key rows t.spans.keys r i.spans (λ x m e. next.new x m (ap (λ k. k.major) e))
+span_absent t rows r i next = index_absent span_key rows t.spans.keys r i.spans (λ x m e. next.new x m (row_number x r (i.sound.age x m) next.age (ap (λ k. k.major) e)))
 
 pub size_absent : (t : Table) (rows : List Row) (r : Row) → IsTable t rows → IsNext rows r → Contains t.sizes.keys (size_key r) → ⊥
 size_absent t rows r i next = index_absent size_key rows t.sizes.keys r i.sizes (λ x m e. next.new x m (size_number x r (i.sound.number x m) next.number e))
@@ -283,21 +294,31 @@ age_present t rows r i m = rw i.ages (map_has rows m)
 
 -- ---- a row by its number
 
--- the sets lead from the number of a row to its other parts
-pub row_found : (t : Table) (rows : List Row) (number age span : ℕ) → IsTable t rows → Contains t.numbers.keys (record { major = number; minor = age }) → Contains t.spans.keys (record { major = number; minor = span }) →
-    Contains rows (record { number = number; first = span / 2 ^ 32; pages = span % 2 ^ 32 + 1; age = age })
-row_found t rows number age span i n p =
-    let x = i.numbers.from _ n in
-    let y = i.spans.from _ p in
-    let same : y.0 ≡ x.0 = i.sound.numbers y.0 x.0 y.1 x.1 (ap (λ k. k.major) y.2 ∙ sym (ap (λ k. k.major) x.2)) in
-    let is_span : (span_key x.0).minor ≡ span = ap (λ r. (span_key r).minor) (sym same) ∙ ap (λ k. k.minor) y.2 in
-    let some = i.sound.some x.0 x.1 in
-    let within = i.sound.within x.0 x.1 in
-    let is_first : x.0.first ≡ span / 2 ^ 32 = omega arith in
-    let is_pages : x.0.pages ≡ span % 2 ^ 32 + 1 = omega arith in
-    let is : x.0 ≡ record { number = number; first = span / 2 ^ 32; pages = span % 2 ^ 32 + 1; age = age } = λ j. record { number = (x.2 j).major; first = is_first j; pages = is_pages j; age = (x.2 j).minor } in
-    subst (Contains rows) is x.1
+-- a key that doesn't come before another has no smaller major number
+not_less : (k y : Key) → (key_cmp k y ≡ Less → ⊥) → y.major ≤ k.major
+not_less k y f = elim (cases_lt k.major y.major) [ inl l ↦ absurd (f (major_less k y l)) | inr g ↦ g ]
 
--- a key by its major number
-pub any_key : (ks : List Key) (k : Key) (major : ℕ) → Contains ks k → k.major ≡ major → Any (λ y. y.major ≡ major) ks
-any_key ks k major (n, l, e) f = (n, k, l, e, f)
+-- the first key from a number on is that of its row
+pub row_first : (t : Table) (rows : List Row) (x : Row) → IsTable t rows → Contains rows x → find (is_from (start (packed x.number 0))) t.spans.keys ≡ Some (span_key x)
+row_first t rows x i m =
+    let pass = start_from (span_key x) (packed x.number 0) (omega arith) in
+    let f = find_any (is_from (start (packed x.number 0))) t.spans.keys (span_key x) (i.spans.has x m) pass in
+    let p = find_some (is_from (start (packed x.number 0))) t.spans.keys f.0 i.spans.ascending f.1 in
+    let z = i.spans.from f.0 p.0 in
+    let low = from_start f.0 (packed x.number 0) p.1 in
+    let high = not_less (span_key x) f.0 (λ less. let none = p.2 (span_key x) (i.spans.has x m) less in cc) in
+    let is : (span_key z.0).major ≡ f.0.major = ap (λ k. k.major) z.2 in
+    let old = i.sound.age x m in
+    let age = i.sound.age z.0 z.1 in
+    let same : z.0 ≡ x = i.sound.numbers z.0 x z.1 m (omega arith) in
+    f.1 ∙ ap (λ k. Some k) (sym z.2 ∙ ap span_key same)
+
+-- the parts of a row are those of its key
+pub row_found : (rows : List Row) (x : Row) (number : ℕ) (key : Key) → IsSound rows → Contains rows x → x.number ≡ number → key ≡ span_key x →
+    Contains rows (record { number = number; first = key.minor / 2 ^ 32; pages = key.minor % 2 ^ 32 + 1; age = key.major % 2 ^ 32 })
+row_found rows x number key s m n e =
+    let back : row_of_keys (age_key x) key.minor ≡ x = ap (λ k. row_of_keys (age_key x) k.minor) e ∙ row_back rows x s m in
+    let age : key.major % 2 ^ 32 ≡ x.age = ap (λ k. k.major % 2 ^ 32) e ∙ low_of x.number x.age (s.age x m) in
+    let is : record { number = number; first = key.minor / 2 ^ 32; pages = key.minor % 2 ^ 32 + 1; age = key.major % 2 ^ 32 } ≡ x =
+    λ j. record { number = (sym n) j; first = (back j).first; pages = (back j).pages; age = age j } in
+    subst (Contains rows) (sym is) m

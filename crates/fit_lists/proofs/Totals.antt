@@ -193,17 +193,37 @@ layout all sound (x ∷ xs) into s =
           omega arith;
     }
 
+-- no row meets pages that are apart from its span
+rows_apart : (rows : List Row) (spans : List Listed) (first pages : ℕ) → map listed rows ≡ spans → All (IsApart first pages) spans → (x : Row) → Contains rows x → IsApart first pages (listed x)
+rows_apart rows spans first pages e apart x m = All-contains (IsApart first pages) spans (listed x) apart (subst (λ ss. Contains ss (listed x)) e (listed_has rows x m))
+
 -- there is room for the pages of one more span
-pub pages_bound : (t : Table) (rows : List Row) (first pages : ℕ) → IsTable t rows → 0 < pages → first + pages ≤ 2 ^ 32 → ((x : Row) → Contains rows x → (x.first + x.pages ≤ first) ⊎ (first + pages ≤ x.first)) → sum_by (λ x. x.pages) rows + pages ≤ 2 ^ 32
-pages_bound t rows first pages i some within apart =
+pub pages_bound : (t : Table) (rows : List Row) (spans : List Listed) (first pages : ℕ) → IsTable t rows → map listed rows ≡ spans → 0 < pages → first + pages ≤ 2 ^ 32 → All (IsApart first pages) spans → sum_by (λ x. x.pages) rows + pages ≤ 2 ^ 32
+pages_bound t rows spans first pages i e some within apart =
     let all = layout rows i.sound rows (λ x m. m) (subst IsAscending i.ages i.ascending) in
     let key : Key = record { major = first; minor = pages } in
     let free : (k : Key) → Contains all.keys k → (k.major + k.minor ≤ first) ⊎ (first + pages ≤ k.major) = λ k m.
-    let q = all.from k m in subst (λ (z : Key). (z.major + z.minor ≤ first) ⊎ (first + pages ≤ z.major)) q.2 (apart q.0 q.1) in
+    let q = all.from k m in subst (λ (z : Key). (z.major + z.minor ≤ first) ⊎ (first + pages ≤ z.major)) q.2 (rows_apart rows spans first pages e apart q.0 q.1) in
     let laid = laid_with all.keys key all.laid some within free in
     let more = sum_with (λ k. k.minor) all.keys key all.laid.ascending (not_free all.keys key some free) in
     let bound = spread (2 ^ 32) (with_key all.keys key) 0 laid.ascending laid.within laid.apart (omega arith) (λ k m. omega arith) in
     let were = all.sum in
+    omega arith
+
+-- there are no more rows than pages
+rows_pages : (rows : List Row) → ((x : Row) → Contains rows x → 0 < x.pages) → length rows ≤ sum_by (λ x. x.pages) rows
+rows_pages [] some = omega arith
+rows_pages (x ∷ xs) some =
+    let rest = rows_pages xs (λ y m. some y (contains_later x xs y m)) in
+    let here = some x (zero, omega arith, refl) in
+    let sum = sum_by-cons (λ (y : Row). y.pages) x xs in
+    omega arith
+
+-- there are fewer rows than numbers below 2 ^ 32
+pub rows_bound : (t : Table) (rows : List Row) (spans : List Listed) (first pages : ℕ) → IsTable t rows → map listed rows ≡ spans → 0 < pages → first + pages ≤ 2 ^ 32 → All (IsApart first pages) spans → length rows < 2 ^ 32
+rows_bound t rows spans first pages i e some within apart =
+    let bound = pages_bound t rows spans first pages i e some within apart in
+    let less = rows_pages rows i.sound.some in
     omega arith
 
 -- ---- the first row
@@ -225,14 +245,13 @@ pub same_length : (rows rows' : List Row) → map listed rows' ≡ map listed ro
 same_length rows rows' e = sym (length-map rows' listed) ∙ ap length e ∙ length-map rows listed
 
 -- what the spans say of a row that may come next
-pub next_row : (rows : List Row) (spans : List Listed) (r : Row) → map listed rows ≡ spans → r.number < 2 ^ 32 → 0 < r.pages → r.first + r.pages ≤ 2 ^ 32 → All (λ s. s.number ≡ r.number → ⊥) spans → All (IsApart r.first r.pages) spans → All (λ x. x.age < r.age) rows → IsNext rows r
-next_row rows spans r e number some within fresh apart later =
-    let span : (x : Row) → Contains rows x → Contains spans (listed x) = λ x m. subst (λ ss. Contains ss (listed x)) e (listed_has rows x m) in
-    record {
-      number = number;
-      some = some;
-      within = within;
-      new = λ x m. All-contains (λ s. s.number ≡ r.number → ⊥) spans (listed x) fresh (span x m);
-      apart = λ x m. All-contains (IsApart r.first r.pages) spans (listed x) apart (span x m);
-      later = λ x m. All-contains (λ x. x.age < r.age) rows x later m;
-    }
+pub next_row : (rows : List Row) (spans : List Listed) (r : Row) → map listed rows ≡ spans → r.number < 2 ^ 32 → r.age < 2 ^ 32 → 0 < r.pages → r.first + r.pages ≤ 2 ^ 32 → All (λ s. s.number ≡ r.number → ⊥) spans → All (IsApart r.first r.pages) spans → All (λ x. x.age < r.age) rows → IsNext rows r
+next_row rows spans r e number age some within fresh apart later = record {
+  number = number;
+  age = age;
+  some = some;
+  within = within;
+  new = λ x m. All-contains (λ s. s.number ≡ r.number → ⊥) spans (listed x) fresh (subst (λ ss. Contains ss (listed x)) e (listed_has rows x m));
+  apart = rows_apart rows spans r.first r.pages e apart;
+  later = λ x m. All-contains (λ x. x.age < r.age) rows x later m;
+}

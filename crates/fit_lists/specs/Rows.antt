@@ -14,11 +14,8 @@ packed high low = high * 2 ^ 32 + low
 abbrev pub age_key : Row → Key
 age_key row = record { major = row.age; minor = row.number }
 
-abbrev pub number_key : Row → Key
-number_key row = record { major = row.number; minor = row.age }
-
 abbrev pub span_key : Row → Key
-span_key row = record { major = row.number; minor = packed row.first (row.pages - 1) }
+span_key row = record { major = packed row.number row.age; minor = packed row.first (row.pages - 1) }
 
 abbrev pub size_key : Row → Key
 size_key row = record { major = row.pages; minor = packed row.first row.number }
@@ -31,9 +28,13 @@ span_of key = record { number = key.minor % 2 ^ 32; first = key.minor / 2 ^ 32; 
 unfoldable pub minor_of : List Key → ℕ → ℕ
 minor_of keys major = unwrap_or (option_map (λ k. k.minor) (find (λ k. k.major == major) keys)) 0
 
+-- a row from its key in the set by age and the minor number of its key in the set of rows
+abbrev pub row_of_keys : Key → ℕ → Row
+row_of_keys key place = record { number = key.minor; first = place / 2 ^ 32; pages = place % 2 ^ 32 + 1; age = key.major }
+
 -- the row of a key of the set by age
 abbrev pub row_at : Table → Key → Row
-row_at table key = record { number = key.minor; first = minor_of table.spans.keys key.minor / 2 ^ 32; pages = minor_of table.spans.keys key.minor % 2 ^ 32 + 1; age = key.major }
+row_at table key = row_of_keys key (minor_of table.spans.keys (packed key.minor key.major))
 
 -- all rows, in the order of their ages
 unfoldable pub rows_of : Table → List Row
@@ -61,6 +62,7 @@ pub record IsSound (rows : List Row) : Type 0 where
   pub firsts : (x y : Row) → Contains rows x → Contains rows y → x.first ≡ y.first → x ≡ y
   pub apart : (x y : Row) → Contains rows x → Contains rows y → x.first < y.first → x.first + x.pages ≤ y.first
   pub number : (x : Row) → Contains rows x → x.number < 2 ^ 32
+  pub age : (x : Row) → Contains rows x → x.age < 2 ^ 32
   pub some : (x : Row) → Contains rows x → 0 < x.pages
   pub within : (x : Row) → Contains rows x → x.first + x.pages ≤ 2 ^ 32
 
@@ -69,20 +71,19 @@ pub record IsTable (table : Table) (rows : List Row) : Type 0 where
   pub sound : IsSound rows
   pub ages : table.ages.keys ≡ map age_key rows
   pub ascending : IsAscending table.ages.keys
-  pub numbers : IsIndex number_key rows table.numbers.keys
   pub spans : IsIndex span_key rows table.spans.keys
   pub sizes : IsIndex size_key rows table.sizes.keys
 
 -- each set has room for so many more keys
 pub record HasRoom (table : Table) (more : ℕ) : Type 0 where
   pub ages : more ≤ table.ages.spare
-  pub numbers : more ≤ table.numbers.spare
   pub spans : more ≤ table.spans.spare
   pub sizes : more ≤ table.sizes.spare
 
 -- a row that may come next: its number and its pages are free, and it is younger than all
 pub record IsNext (rows : List Row) (row : Row) : Type 0 where
   pub number : row.number < 2 ^ 32
+  pub age : row.age < 2 ^ 32
   pub some : 0 < row.pages
   pub within : row.first + row.pages ≤ 2 ^ 32
   pub new : (x : Row) → Contains rows x → x.number ≡ row.number → ⊥

@@ -1,7 +1,7 @@
-//! The rows of a list, kept in four ordered sets of pairs of numbers.
+//! The rows of a list, kept in three ordered sets of pairs of numbers.
 ghost use Rattle.std.specs.Prelude.{◌≡◌, ◌==◌, All, length, find, Some, ℕ, ◌+◌, ◌<◌, ◌≤◌, ◌^◌, [], ◌∷◌, ◌++◌, not, map, max, filter, Any, Contains, OnOk};
 ghost use Rattle.ordered_set.specs.Keys.{is_from};
-ghost use Rattle.fit_lists.specs.Rows.{HasRoom, IsNext, IsTable, age_key, listed, number_key, packed, rows_of, size_key, span_key, with_age};
+ghost use Rattle.fit_lists.specs.Rows.{HasRoom, IsNext, IsTable, age_key, listed, packed, span_key, rows_of, size_key, with_age};
 
 use ordered_set::{Key, OrderedSet};
 use std::alloc::{AllocError as NoMemory, Global};
@@ -37,22 +37,14 @@ impl Row {
         }
     }
 
-    fn number_key(self) -> Key
-        ensures { result ≡ number_key self }
-    {
-        Key {
-            major: u64::from(self.number),
-            minor: self.age,
-        }
-    }
-
     fn span_key(self) -> Key
+        requires age { self.age < 2 ^ 32 }
         requires some { 0 < self.pages }
         requires within { self.first + self.pages ≤ 2 ^ 32 }
         ensures { result ≡ span_key self }
     {
         Key {
-            major: u64::from(self.number),
+            major: packed(u64::from(self.number), self.age),
             minor: packed(self.first, self.pages - 1),
         }
     }
@@ -69,22 +61,13 @@ impl Row {
     }
 }
 
-// The four sets: from age to number, from number to age and to the span, and by pages, first page
-// and number.
+// The three sets: by age, with the number; by number and age, with the first page and the last
+// page's distance from it; and by pages, first page and number.
 #[derive(Drop)]
 pub struct Table {
     pub ages: OrderedSet,
-    pub numbers: OrderedSet,
     pub spans: OrderedSet,
     pub sizes: OrderedSet,
-}
-
-// The minor number of a key with this major number.
-pub fn minor_at(set: &OrderedSet, major: u64) -> u64
-    requires { Any (λ k. k.major ≡ major) set.now.keys }
-    ensures { Contains set.now.keys (record { major = major; minor = result }) }
-{
-    set.at_or_after(Key { major, minor: 0 }).unwrap().minor
 }
 
 impl Table {
@@ -94,7 +77,6 @@ impl Table {
     {
         Table {
             ages: OrderedSet::new(alloc),
-            numbers: OrderedSet::new(alloc),
             spans: OrderedSet::new(alloc),
             sizes: OrderedSet::new(alloc),
         }
@@ -108,7 +90,6 @@ impl Table {
         ensures ok { OnOk result (HasRoom self.new more) }
     {
         self.ages.reserve(more)?;
-        self.numbers.reserve(more)?;
         self.spans.reserve(more)?;
         self.sizes.reserve(more)
     }
@@ -120,27 +101,32 @@ impl Table {
         ensures row { Contains (rows_of self.now) result }
         ensures number { result.number ≡ number }
     {
-        let age = minor_at(&self.numbers, u64::from(number));
-        let span = minor_at(&self.spans, u64::from(number));
+        let start = Key {
+            major: packed(u64::from(number), 0),
+            minor: 0,
+        };
+        let key = self.spans.at_or_after(start).unwrap();
         Row {
             number,
-            first: span / HALF,
-            pages: span % HALF + 1,
-            age,
+            first: key.minor / HALF,
+            pages: key.minor % HALF + 1,
+            age: key.major % HALF,
         }
     }
 
     // An age above all others. Where the ages are used up, the rows first get new ones.
     pub fn next_age(&mut self) -> u64
-        requires { IsTable self.old (rows_of self.old) }
+        requires table { IsTable self.old (rows_of self.old) }
+        requires small { length (rows_of self.old) < 2 ^ 32 }
         ensures table { IsTable self.new (rows_of self.new) }
         ensures rows { map listed (rows_of self.new) ≡ map listed (rows_of self.old) }
         ensures later { All (λ row. row.age < result) (rows_of self.new) }
+        ensures small { result < 2 ^ 32 }
         ensures room { (n : ℕ) → HasRoom self.old n → HasRoom self.new n }
     {
         match self.ages.last() {
             None => 0,
-            Some(last) if last.major < u64::MAX => last.major + 1,
+            Some(last) if last.major < HALF - 1 => last.major + 1,
             Some(_) => {
                 self.renumber();
                 self.ages.len()
@@ -164,31 +150,25 @@ impl Table {
                     minor: 0,
                 })
                 .unwrap();
-            self.set_age(key, age);
+            let row = self.row_of(key.minor as u32);
+            self.set_age(row, age);
         }
     }
 
     // Gives the first row that isn't younger than an age just this age.
-    fn set_age(&mut self, key: Key, age: u64)
+    fn set_age(&mut self, row: Row, age: u64)
         requires table { IsTable self.old (rows_of self.old) }
-        requires key { find (is_from (record { major = age; minor = 0 })) self.old.ages.keys ≡ Some key }
+        requires listed { Contains (rows_of self.old) row }
+        requires first { find (is_from (record { major = age; minor = 0 })) self.old.ages.keys ≡ Some (age_key row) }
         ensures table { IsTable self.new (rows_of self.new) }
         ensures rows { rows_of self.new ≡ with_age (rows_of self.old) age }
         ensures room { (n : ℕ) → HasRoom self.old n → HasRoom self.new n }
     {
-        self.ages.remove(key);
-        self.ages.insert(Key {
-            major: age,
-            minor: key.minor,
-        });
-        self.numbers.remove(Key {
-            major: key.minor,
-            minor: key.major,
-        });
-        self.numbers.insert(Key {
-            major: key.minor,
-            minor: age,
-        });
+        let aged = Row { age, ..row };
+        self.ages.remove(row.age_key());
+        self.ages.insert(aged.age_key());
+        self.spans.remove(row.span_key());
+        self.spans.insert(aged.span_key());
     }
 
     pub fn insert(&mut self, row: Row)
@@ -200,7 +180,6 @@ impl Table {
         ensures room { (n : ℕ) → HasRoom self.old (n + 1) → HasRoom self.new n }
     {
         self.ages.insert(row.age_key());
-        self.numbers.insert(row.number_key());
         self.spans.insert(row.span_key());
         self.sizes.insert(row.size_key());
     }
@@ -213,7 +192,6 @@ impl Table {
         ensures room { (n : ℕ) → HasRoom self.old n → HasRoom self.new (n + 1) }
     {
         self.ages.remove(row.age_key());
-        self.numbers.remove(row.number_key());
         self.spans.remove(row.span_key());
         self.sizes.remove(row.size_key());
     }

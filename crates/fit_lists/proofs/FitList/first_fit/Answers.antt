@@ -4,7 +4,8 @@ use Rattle.std.proofs.lemmas.Bool.{iff_false}
 use Rattle.std.proofs.lemmas.List.Elements.{All-contains}
 use Rattle.fit_lists.specs.Rows.{rows_of}
 use Rattle.fit_lists.specs.Spans.{HoldsRun, IsFirstFit}
-use Rattle.fit_lists.proofs.Fits.{begins, fewer_above, fit_found, goes_on, none_after, none_at_start, none_listed}
+use Rattle.fit_lists.proofs.Finds.{fewer_above}
+use Rattle.fit_lists.proofs.Fits.{begins, fit_found, goes_on, none_after, none_at_start, none_listed}
 use Rattle.fit_lists.proofs.FitList.first_fit.Goals as goal
 
 pub returns-in_err-size-clause-none : goal.returns-in_err-size-clause-none

@@ -2,22 +2,23 @@ use Rattle.std.proofs.Common.{◌≡◌, ◌+◌, ◌-◌, ap, ◌∙◌, subst,
 use Rattle.std.specs.List.{sum_by}
 use Rattle.std.proofs.lemmas.List.Sums.{sum_by-cons, sum_by-append}
 use Rattle.fit_lists.specs.declared.table.Row.{Row}
-use Rattle.fit_lists.specs.Rows.{HasRoom, IsNext, rows_of}
-use Rattle.fit_lists.proofs.Totals.{next_row, pages_bound, same_length, same_sum}
+use Rattle.fit_lists.specs.Rows.{HasRoom, rows_of}
+use Rattle.fit_lists.proofs.Totals.{next_row, pages_bound, rows_bound, same_length, same_sum}
 use Rattle.fit_lists.proofs.FitList.insert.Goals as goal
+
+pub next_age-age-requires-clause-small : goal.next_age-age-requires-clause-small
+next_age-age-requires-clause-small c =
+    rows_bound c.self.inside.table (rows_of c.self.inside.table) c.args.self.now.spans c.args.first c.args.pages c.self.invariant.table (ap (λ v. v.spans) c.self.view_is) c.requires.some c.requires.within c.requires.apart
 
 pub insert-requires-clause-next : goal.insert-requires-clause-next
 insert-requires-clause-next c =
-    next_row (rows_of c.next_age-age.new.self) c.args.self.now.spans _ (c.next_age-age.ensures.rows ∙ ap (λ v. v.spans) c.self.view_is) (omega arith) c.requires.some c.requires.within c.requires.new_number c.requires.apart c.next_age-age.ensures.later
+    next_row (rows_of c.next_age-age.new.self) c.args.self.now.spans _ (c.next_age-age.ensures.rows ∙ ap (λ v. v.spans) c.self.view_is) (omega arith) c.next_age-age.ensures.small c.requires.some c.requires.within c.requires.new_number c.requires.apart c.next_age-age.ensures.later
 
 pub overflow_add-self : goal.overflow_add-self
 overflow_add-self c =
-    let t = c.next_age-age.new.self in
-    let row : Row = record { number = c.args.number; first = c.args.first; pages = c.args.pages; age = c.next_age-age.result } in
-    let next : IsNext (rows_of t) row = next_row (rows_of t) c.args.self.now.spans row (c.next_age-age.ensures.rows ∙ ap (λ v. v.spans) c.self.view_is) (omega arith) c.requires.some c.requires.within c.requires.new_number c.requires.apart c.next_age-age.ensures.later in
-    let sum = same_sum (rows_of c.self.inside.table) (rows_of t) c.next_age-age.ensures.rows in
-    let bound = pages_bound t (rows_of t) c.args.first c.args.pages c.next_age-age.ensures.table c.requires.some c.requires.within next.apart in
-    let were = c.self.invariant.pages in
+    let i = c.self.invariant in
+    let bound = pages_bound c.self.inside.table (rows_of c.self.inside.table) c.args.self.now.spans c.args.first c.args.pages i.table (ap (λ v. v.spans) c.self.view_is) c.requires.some c.requires.within c.requires.apart in
+    let were = i.pages in
     omega arith
 
 pub invariant_of-self : goal.invariant_of-self

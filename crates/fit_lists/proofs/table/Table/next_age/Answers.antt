@@ -9,6 +9,6 @@ use Rattle.fit_lists.proofs.table.Table.next_age.Goals as goal
 pub returns-in-Some-clause-later : goal.returns-in-Some-clause-later
 returns-in-Some-clause-later c =
     let last = c.in-Some.last in
-    let keys = last_greatest c.args.self.now.ages.keys last c.requires.ascending c.in-Some.ensures.last in
-    let rows = keys_each _ (rows_of c.args.self.now) (rw c.requires.ages at keys) in
+    let keys = last_greatest c.args.self.now.ages.keys last c.requires.table.ascending c.in-Some.ensures.last in
+    let rows = keys_each _ (rows_of c.args.self.now) (rw c.requires.table.ages at keys) in
     All-from_recursion (λ x. x.age < last.major + 1) (rows_of c.args.self.now) (every_map _ _ (λ x le. omega arith) (rows_of c.args.self.now) rows)
