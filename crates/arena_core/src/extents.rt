@@ -257,6 +257,6 @@ fn split_in(book: &mut PartBook, part: &Part, left: u64, keep_low: bool)
     let high = low + left;
     let (down, kept) = if keep_low { (high, low) } else { (low, high) };
     book.cut(low, left);
-    book.set_state(down, listed(rest_of(part.state)), part.committed);
+    book.set_state(down, part.state.rest().state(), part.committed);
     book.set_state(kept, part.state, part.committed);
 }

@@ -19,7 +19,7 @@ returns-then-is_flight_of c =
     let i = c.loop-number.number-index in
     let e = c.deref-number-items.ensures.value in
     let part = c.part_at-part.ensures ∙ ap (λ ns. part_at t.slots.items (get_or ns i 0)) e in
-    let own = ap (λ p. is_flight c.args.client p.state) (sym part) ∙ sym c.is_flight.ensures ∙ c.if-is_flight.true in
+    let own = ap (λ p. is_flight c.args.client p.state) (sym part) ∙ sym c.is_flight_of.ensures ∙ c.if-is_flight_of.true in
     let within : i < length t.flights.items = omega (arith, ap length e) in
     let first = first_number (is_flown t.slots.items c.args.client) t.flights.items i within c.loop-number.invariant own in
     ap (λ p. Some p.span) part ∙ sym (ap (option_map (λ p. p.span)) (flight_of t c.args.client c.requires.table ∙ ap (option_map (part_at t.slots.items)) first))
@@ -36,5 +36,5 @@ loop-number-preserved c =
     let t = c.args.self.now in
     let i = c.loop-number.number-index in
     let part = c.part_at-part.ensures ∙ ap (λ ns. part_at t.slots.items (get_or ns i 0)) c.deref-number-items.ensures.value in
-    let other = ap (λ p. is_flight c.args.client p.state) (sym part) ∙ sym c.is_flight.ensures ∙ c.if-is_flight.false in
+    let other = ap (λ p. is_flight c.args.client p.state) (sym part) ∙ sym c.is_flight_of.ensures ∙ c.if-is_flight_of.false in
     below_more (λ k. is_flown t.slots.items c.args.client (get_or t.flights.items k 0) ≡ false) i c.loop-number.invariant other
