@@ -31,7 +31,7 @@ use Rattle.replay_run.specs.declared.input.Found.{Found}
 use Rattle.replay_run.specs.declared.input.Found.TheVariants.{Line as FoundLine}
 use Rattle.replay_run.specs.Input.{IsUnbuilt, InBounds, IsFirst, SaysCall, IsBuilt, ReadsTo, TakesMore, TakesSome}
 use Rattle.replay_run.specs.Stops.{HasStopCause, status_for, status_in}
-use Rattle.replay_run.specs.World.{World, Open, Move, IsPlay, idle, printed, fed, begun, call_of, request_of, answer_line, names_ended, desk_ended, first_desk, opening, empty_world, closing, world_after, asks_in, IsCarried, IsComplete}
+use Rattle.replay_run.specs.World.{World, Open, Move, IsPlay, fed, begun, call_of, request_of, answer_line, first_desk, opening, empty_world, closing, world_after, asks_in, IsCarried, IsComplete}
 use Rattle.replay_run.specs.Carried.{Desktop, IsReady, world_of, Played, Carried}
 use Rattle.replay_run.specs.SoFar.{Moment, top_at, Outset, SoFar, EndsHere, Goes, TellsAnswer}
 use Rattle.replay_run.specs.Replays.{ReplayOf, Prints, Leaves, JournalsOf, line_limit}
@@ -155,13 +155,11 @@ one_more from lines before so line space kept heard shelf is played =
     let asks : asks_in all ≡ heard = asks_in-append so.moves played.moves ∙ ap (λ (xs : List AskFacts). xs ++ asks_in played.moves) so.hears ∙ sym played.hears in record {
       carried = All-append IsCarried lines (line ∷ []) so.carried (All-cons IsCarried line [] is (All-nil IsCarried));
       moves = all;
-      play = subst (λ (w : World). IsPlay w all) (sym opens)
-          (play-append (later (line ∷ []) (opening lines)) so.moves played.moves long.play (subst (λ (w : World). IsPlay w played.moves) (sym at) played.play));
+      play = rw opens (play-append (later (line ∷ []) (opening lines)) so.moves played.moves long.play (rw at played.play));
       after = ap (λ (w : World). world_after w all) opens ∙ world_after-append (later (line ∷ []) (opening lines)) so.moves played.moves
           ∙ ap (λ (w : World). world_after w played.moves) at;
       hears = asks;
-      chain = subst (λ (xs : List AskFacts). AskChain from.shelf xs shelf) (sym played.hears)
-          (ask_chain-append from.shelf before.shelf shelf before.heard (asks_in played.moves) so.chain played.chain);
+      chain = rw played.hears (ask_chain-append from.shelf before.shelf shelf before.heard (asks_in played.moves) so.chain played.chain);
     }
 
 -- What a line was read from.
@@ -170,7 +168,6 @@ pub record ReadsLine (line : Line) (pending behind : List ℕ) : Type 0 where
   pub plain : HasNoNewline text
   pub built : IsBuilt text line
   pub are : pending ≡ text ++ 10 ∷ behind
-  pub carried : IsCarried line
 
 -- a line that was found and says a call
 pub called_line : (found : Found) (pending slice : List ℕ) (n : ℕ) (said : Option Verb) (verb : Verb) → found ≡ FoundLine n → slice ≡ pending → said ≡ Some verb →
@@ -183,7 +180,6 @@ called_line found pending slice n said verb is same some within begins call =
       plain = first.0;
       built = record { short = omega (arith, length-take-le n pending (omega (arith, bounds.1)), bounds.0); says = says.0; carried = says.1 };
       are = first.1;
-      carried = says.1;
     }
 
 -- the call of a line, at a moment
@@ -197,25 +193,20 @@ pub so_far_carried : {from : Outset} {lines : List Line} {before now : Moment} {
     TellsAnswer verb r (Ok tt) before.names now.names before.held now.held → SoFar from (lines ++ Call 0 verb ∷ []) now
 so_far_carried {from} {lines} {before} {now} {verb} {r} so line same way tells =
     let said : Line = Call 0 verb in
-    let more = one_more from lines before so said now.space now.kept now.heard now.shelf line.carried way.played in
+    let more = one_more from lines before so said now.space now.kept now.heard now.shelf line.built.carried way.played in
     let answer = tells.0 in
-    let start : World = fed (world_of before.space before.kept (top_at before so.text)) (call_at before verb) [] in
-    let ended : world_after start way.played.moves ≡ idle (printed (world_of now.space now.kept (top_at before so.text)) (call_at before verb) answer) =
-    subst (λ (x : Result Answered (Unit {0})). IfOk x (λ told. world_after start way.played.moves ≡ idle (printed (world_of now.space now.kept (top_at before so.text)) (call_at before verb) told))) tells.1 way.ended in
-    let settled : now.desk ≡ desk_ended before.desk (request_of before.names verb) answer =
-    subst (λ (x : Result Answered (Unit {0})). IfOk x (λ told. now.desk ≡ desk_ended before.desk (request_of before.names verb) told)) tells.1 way.settled in record {
+    let ended = rw tells.1 at way.ended in
+    let settled = rw tells.1 at way.settled in record {
       carried = more.carried;
       moves = more.moves;
       play = more.play;
       text = so.text ++ answer_line 0 verb answer;
-      here = more.after ∙ ended
-          ∙ ap (λ (d : DeskFacts). world_of now.space now.kept (record { text = so.text ++ answer_line 0 verb answer; desk = d; names = names_ended before.names verb answer })) (sym settled)
-          ∙ ap (λ (n : List (List ℕ × ℕ)). world_of now.space now.kept (record { text = so.text ++ answer_line 0 verb answer; desk = now.desk; names = n })) (sym tells.3);
+      here = rw (settled, tells.3) (more.after ∙ ended);
       hears = more.hears;
       chain = more.chain;
       taken = so.taken;
-      takes = subst (λ (l : Option (List ℕ)). Consumes from.left l so.taken) (sym same) so.takes;
-      reads = reads_one_more lines so.taken line.text now.pending said line.plain line.built (subst (ReadsTo lines so.taken) line.are so.reads);
+      takes = rw same so.takes;
+      reads = reads_one_more lines so.taken line.text now.pending said line.plain line.built (rw line.are at so.reads);
       prints = Appends-trans from.held before.held now.held so.text (answer_line 0 verb answer) so.prints tells.2;
     }
 
@@ -228,18 +219,15 @@ pub stops_in_line : {from : Outset} {lines : List Line} {before : Moment} {space
     ReplayOf (status_for stop) kept heard from.shelf shelf before.met from.left before.left from.held held
 stops_in_line {from} {lines} {before} {space} {kept} {heard} {shelf} {desk} {verb} {rest} {r} so few line way stop names held tells =
     let said : Line = Call 0 verb in
-    let more = one_more from lines before so said space kept heard shelf line.carried way.played in
+    let more = one_more from lines before so said space kept heard shelf line.built.carried way.played in
     let count : length (lines ++ said ∷ []) ≡ length lines + 1 = length-append lines (said ∷ []) in
-    let start : World = fed (world_of before.space before.kept (top_at before so.text)) (call_at before verb) [] in
     let w : World = world_after (opening (lines ++ said ∷ [])) more.moves in
     let begun : AppendsPrefix from.held held w.text = elim tells.1 [
       | inl nothing ↦
           let grows = begun_text (said ∷ []) (world_of before.space before.kept (top_at before so.text)) way.played.moves in
           rw (ap (λ (x : World). x.text) more.after, grows.1) (behind from.held before.held held so.text grows.0 so.prints (0, omega arith, nothing))
       | inr half ↦
-          let ended : w ≡ idle (printed (world_of space kept (top_at before so.text)) (call_at before verb) half.0) =
-          more.after ∙ subst (λ (x : Result Answered (Unit {0})). IfOk x (λ told. world_after start way.played.moves
-          ≡ idle (printed (world_of space kept (top_at before so.text)) (call_at before verb) told))) half.1 way.ended in
+          let ended = more.after ∙ (rw half.1 at way.ended) in
           rw (ap (λ (x : World). x.text) ended) (behind from.held before.held held so.text (answer_line 0 verb half.0) so.prints half.2)
     ] in record {
       lines = lines ++ said ∷ [];
@@ -254,7 +242,7 @@ stops_in_line {from} {lines} {before} {space} {kept} {heard} {shelf} {desk} {ver
       taken = so.taken;
       takes = so.takes;
       rest = rest;
-      reads = reads_one_more lines so.taken line.text rest said line.plain line.built (subst (ReadsTo lines so.taken) line.are so.reads);
+      reads = reads_one_more lines so.taken line.text rest said line.plain line.built (rw line.are at so.reads);
       leaves = leaves_stopped stop (length (lines ++ said ∷ [])) rest before.left before.met (omega (arith, few, count)) (λ four. absurd (tells.0 four));
       prints = prints_stopped stop (IsComplete w) w.text (closing w) (length (lines ++ said ∷ [])) from.held held (inl (longer from.held held w.text (closing w) begun)) (λ four. absurd (tells.0 four));
     }
