@@ -112,6 +112,7 @@ gave_onto : (call : Open) (arena addr : ℕ) (reply : Reply) → call.request �
 gave_onto call arena addr (Next (Some span)) is some = record { at = (addr, is, some); owns = refl; hands = refl }
 gave_onto call arena addr reply is some = over_onto call addr is
 
+-- what is known after a reply
 pub onto_reply : (call : Open) (stage : Stage) (arena : ℕ) (op : Op) (asked : Option AskFacts) (reply : Reply) → rest_of stage [] ≡ Waits (WantTurn arena op asked) → IsAt call stage →
     Onto (fed_one call (Replied reply)) (desk_after (desk_at call stage) stage (FedReply reply)) (stage_after stage (FedReply reply))
 onto_reply call (Get wish getting) arena op asked reply e at =
@@ -121,6 +122,7 @@ onto_reply call (Put index point) arena op asked reply e at =
     put_onto (fed_one call (Replied reply)) index at.0 (put_step point (Replied reply)) at.1 (one_at_least call.items (Replied reply))
 onto_reply call (Ended answer) arena op asked reply e at = absurd (cc)
 
+-- and after an answer to an ask
 pub onto_answer : (call : Open) (stage : Stage) (arena : ℕ) (wanted : Ask) (asked : AskFacts) → rest_of stage [] ≡ Waits (WantAsk arena wanted) → IsAt call stage →
     Onto (fed_one call (Told asked)) (desk_after (desk_at call stage) stage (Answer asked)) (stage_after stage (Answer asked))
 onto_answer call (Get wish getting) arena wanted asked e at = record { at = at; owns = refl; hands = refl }
@@ -153,6 +155,7 @@ asked_same : (call : Open) (stage : Stage) (arena : ℕ) (wanted : Ask) (asked :
 asked_same call (Give held) arena wanted asked e = absurd (cc)
 asked_same call stage arena wanted asked e = refl
 
+-- the regions in hand after an answer to an ask
 pub hands_answer : (c : ℕ) (call : Open) (stage : Stage) (arena : ℕ) (wanted : Ask) (asked : AskFacts) (regions : List Region) → rest_of stage [] ≡ Waits (WantAsk arena wanted) → IsAt call stage →
     IsInHands c regions (hands_stage call stage) → IsInHands c regions (hands_stage (fed_one call (Told asked)) (stage_after stage (Answer asked)))
 hands_answer c call stage arena wanted asked regions e at hands =
@@ -189,6 +192,7 @@ turn_hands c s call (Give held) arena op asked sound knows at e hands =
 turn_hands c s call (Put index (Finding own tries)) arena op asked sound knows at e hands = stay c s (Put index (Finding own tries)) arena op asked (desk_started call.desk call.request).held e tt hands
 turn_hands c s call stage arena op asked sound knows at e hands = stay c s stage arena op asked (hands_stage call stage) e tt hands
 
+-- and after a reply
 pub hands_reply : (c : ℕ) (s : Space) (call : Open) (stage : Stage) (arena : ℕ) (op : Op) (asked : Option AskFacts) → Sound s → Knows c s stage → IsAt call stage →
     rest_of stage [] ≡ Waits (WantTurn arena op asked) → IsInHands c s.regions (hands_stage call stage) →
     IsInHands c (step_of s c op).after.regions (hands_stage (fed_one call (Replied (step_of s c op).reply)) (stage_after stage (FedReply (step_of s c op).reply)))

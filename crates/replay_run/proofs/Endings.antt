@@ -93,6 +93,7 @@ prints_stopped stop complete answers closing count before after begun cut =
       cut_off = cut;
     }
 
+-- what stands behind the lines then
 pub leaves_stopped : (stop : Stop) (count : ℕ) (rest : List ℕ) (left : Option (List ℕ)) (met : Bool) → count ≤ line_limit → (status_for stop ≡ 4 → HasNoNewline rest) →
     Leaves (status_for stop) count rest left met
 leaves_stopped stop count rest left met few cut =

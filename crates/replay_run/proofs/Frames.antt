@@ -94,6 +94,7 @@ step_rest s c (PutLook span tries) other = put_rest s c tries (find (is_flight_a
 step_rest s c (MergeDone heard own_low) other = merge_done_rest s c own_low heard.ask heard.answer
 step_rest s c op other = absurd other
 
+-- so the regions stay
 pub regions_stay : (s : Space) (c : ℕ) (op : Op) → IsOther op → (step_of s c op).after.regions ≡ s.regions
 regions_stay s c op other = ap (λ (t : Space). t.regions) (step_rest s c op other)
 
@@ -107,6 +108,7 @@ land_frame : (s : Space) (c class count : ℕ) (o : Option Part) → SameFrame s
 land_frame s c class count None = record { life = refl; bound = refl; dirty = refl }
 land_frame s c class count (Some p) = record { life = refl; bound = refl; dirty = refl }
 
+-- any operation keeps the life, the clients and the dirty time
 pub step_frame : (s : Space) (c : ℕ) (op : Op) → SameFrame s (step_of s c op).after
 step_frame s c (Land span class count) = land_frame s c class count (find (is_flight_at c span) s.parts)
 step_frame s c (Back addrs) = record { life = refl; bound = refl; dirty = refl }

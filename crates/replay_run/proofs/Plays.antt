@@ -160,6 +160,7 @@ begun_sane (Call client verb ∷ lines) w known hands rests carried =
     subst (λ (c : ℕ). Going w.space (record (call_of w.desk verb request) { client = c })) (sym here.1) (opened_going w.space w.desk verb request here.0 hands rests) in
     fed_sane_by w (opened w client verb) lines known going refl (hands_fresh w.desk verb request w.space.regions hands) later (λ v kept held rest. begun_sane lines v kept held rest later)
 
+-- a world in which a call was fed
 pub fed_sane : (w : World) (call : Open) (lines : List Line) → Kept w.space w.kept → Going w.space call → call.desk ≡ w.desk →
     IsInHands 0 w.space.regions (hands_now call (outcome_of call)) → All IsCarried lines → Sane (fed w call lines)
 fed_sane w call lines known going same hands carried = fed_sane_by w call lines known going same hands carried (λ v kept held rest. begun_sane lines v kept held rest carried)
@@ -257,6 +258,7 @@ pub record TurnReady (client : ℕ) (s : Space) (stage : Stage) (arena : ℕ) (o
   pub flown : HasFlights client s stage
   pub shorter : steps_left client (step_of s client op).after (stage_after stage (FedReply (step_of s client op).reply)) < steps_left client s stage
 
+-- it is known at each point of a call in a sane arena
 pub turn_ready_at : (s : Space) (kept : List KeptFacts) (client : ℕ) (stage : Stage) (arena : ℕ) (op : Op) (asked : Option AskFacts) → Kept s kept → client ≡ 0 → IsPlanned stage → Knows client s stage →
     HasFlights client s stage → rest_of stage [] ≡ Waits (WantTurn arena op asked) → TurnReady client s stage arena op asked
 turn_ready_at s kept client stage arena op asked known first planned knows flown waits =
@@ -273,6 +275,7 @@ turn_ready_at s kept client stage arena op asked known first planned knows flown
       shorter = rw needed.found at (turns-shorten client s stage arena op asked None base planned knows waits);
     }
 
+-- so it is where the open call waits for a turn
 pub going_ready : (s : Space) (kept : List KeptFacts) (call : Open) (arena : ℕ) (op : Op) (asked : Option AskFacts) → Kept s kept → (going : Going s call) →
     outcome_of call ≡ Waits (WantTurn arena op asked) → TurnReady call.client s going.stage arena op asked
 going_ready s kept call arena op asked known going e =

@@ -22,6 +22,7 @@ use Rattle.call_plan.specs.declared.needs.Turn.{Turn}
 use Rattle.call_plan.specs.Desks.{DeskFacts}
 use Rattle.hook_api.specs.Kept.{KeptFacts}
 use Rattle.replay_run.specs.Rooms.{HasRoom}
+use Rattle.replay_run.proofs.Plays.{TurnReady}
 use Rattle.replay_run.proofs.Ways.{TurnMade}
 
 -- room for the steps that are left is room enough
@@ -44,9 +45,10 @@ room_left c a (Get wish getting) arena op asked e room other = room
 room_left c a (Put index point) arena op asked e room other = room
 room_left c a stage arena op asked e room other = let opening = ap wants_opening e in absurd (cc)
 
-pub room_for : (c : ℕ) (a : Standing) (stage : Stage) (arena : ℕ) (op : Op) (asked : Option AskFacts) (less : ℕ) → rest_of stage [] ≡ Waits (WantTurn arena op asked) → HasRoom c a stage →
-    less < steps_left c a.space stage → opens op ≡ false → 0 < room_of c a.rooms
-room_for c a stage arena op asked less e room shorter other = omega (arith, shorter, room_left c a stage arena op asked e room other)
+-- so it has room for itself
+pub room_for : {client : ℕ} {stage : Stage} {arena : ℕ} {op : Op} {asked : Option AskFacts} (a : Standing) → TurnReady client a.space stage arena op asked → HasRoom client a stage → opens op ≡ false →
+    0 < room_of client a.rooms
+room_for {client} {stage} {arena} {op} {asked} a ready room other = omega (arith, ready.shorter, room_left client a stage arena op asked ready.waits room other)
 
 -- what is left after the first turn of a unit
 first_room : (c : ℕ) (s : Space) (stage : Stage) (room : ℕ) (arena : ℕ) (op : Op) (asked : Option AskFacts) → rest_of stage [] ≡ Waits (WantTurn arena op asked) → HasFlights c s stage → opens op ≡ true →
@@ -66,6 +68,7 @@ later_room s room c (Look pages align) later = absurd (cc)
 later_room s room c (Back addrs) later = absurd (cc)
 later_room s room c op later = refl
 
+-- after a turn the client has room for the turns that are left
 pub room_after_turn : {client : ℕ} {kept kept' : List KeptFacts} {heard heard' : List AskFacts} {desk desk' : DeskFacts} {stage stage' : Stage} {turn : Turn} (a b : Standing) →
     TurnMade client a.space kept heard desk stage turn b.space kept' heard' desk' stage' → HasRoom client a stage → room_of client b.rooms ≡ room_after a.space (room_of client a.rooms) client turn.op →
     HasRoom client b stage'
@@ -87,6 +90,7 @@ room_asked c a (Get wish getting) arena wanted e room = room
 room_asked c a (Put index point) arena wanted e room = room
 room_asked c a stage arena wanted e room = absurd (cc)
 
+-- and after an ask
 pub room_after_ask : (c : ℕ) (a b : Standing) (stage after : Stage) (arena : ℕ) (wanted : Ask) → b ≡ a → rest_of stage [] ≡ Waits (WantAsk arena wanted) → HasRoom c a stage →
     steps_left c b.space after < steps_left c a.space stage → HasRoom c b after
 room_after_ask c a b stage after arena wanted same e room shorter = rw same (room_enough c a after (omega (arith, rw same at shorter, room_asked c a stage arena wanted e room)))

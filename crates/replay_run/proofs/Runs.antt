@@ -42,15 +42,14 @@ wants_turn client (Waits (WantTurn arena op asked)) turn need =
     let a : turn.arena ≡ arena = turn_field (λ t. t.arena) turn _ need in
     let b : turn.op ≡ op = turn_field (λ t. t.op) turn _ need in
     let d : turn.asked ≡ asked = turn_field (λ t. t.asked) turn _ need in cc
-wants_turn client (Waits (WantAsk arena wanted)) turn need = absurd (cc)
-wants_turn client (Ends answer items) turn need = absurd (cc)
 wants_turn client Astray turn need = absurd need
+wants_turn client o turn need = absurd (cc)
 
+-- an ask that is needed, likewise
 pub wants_ask : (client : ℕ) (o : Outcome) (arena : ℕ) (ask : Ask) → NeedIs client o (NeedsAsk arena ask) → o ≡ Waits (WantAsk arena ask)
-wants_ask client (Waits (WantTurn a op asked)) arena ask need = absurd (cc)
 wants_ask client (Waits (WantAsk a wanted)) arena ask need = let x : a ≡ arena = cc in let y : wanted ≡ ask = cc in cc
-wants_ask client (Ends answer items) arena ask need = absurd (cc)
 wants_ask client Astray arena ask need = absurd need
+wants_ask client o arena ask need = absurd (cc)
 
 -- what is known before a needed turn
 pub turn_ready : {client : ℕ} {space : Space} {kept : List KeptFacts} {heard : List AskFacts} {shelf : Shelf} {desk : DeskFacts} {stage : Stage} {need : Need} {turn : Turn} →
@@ -82,6 +81,7 @@ turn_made kept turn ready own in_space is_reply in_journal hears same point sett
   reads = rw (is_reply, own) at reads;
 }
 
+-- it brought the call nearer to its end
 pub turn_shorter : {client : ℕ} {space space' : Space} {kept kept' : List KeptFacts} {heard heard' : List AskFacts} {desk desk' : DeskFacts} {stage stage' : Stage} {turn : Turn} →
     TurnMade client space kept heard desk stage turn space' kept' heard' desk' stage' → steps_left client space' stage' < steps_left client space stage
 turn_shorter made = rw (made.in_space, made.point) made.ready.shorter
@@ -104,6 +104,7 @@ ask_made heard stage asked arena waits is of_box step in_space in_journal hears 
   reads = reads;
 }
 
+-- it brought the call nearer to its end
 pub ask_shorter : {space space' : Space} {kept kept' : List KeptFacts} {heard heard' : List AskFacts} {shelf shelf' : Shelf} {desk desk' : DeskFacts} {stage stage' : Stage} {asked : AskFacts} (client : ℕ) →
     AskMade space kept heard shelf desk stage asked space' kept' heard' shelf' desk' stage' → steps_left client space' stage' < steps_left client space stage
 ask_shorter {space} {stage = stage} {asked = asked} client made = rw (made.in_space, made.point) (asks-shorten client space stage made.arena asked.ask asked made.waits)

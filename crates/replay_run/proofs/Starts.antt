@@ -102,6 +102,7 @@ free_starts s desk verb addr hands rests =
           }
     ] refl
 
+-- each call that can be carried out starts so
 pub starts : (s : Space) (desk : DeskFacts) (verb : Verb) (request : Request) → IsBuilt request → IsInHands 0 s.regions desk.held → flights 0 s ≡ 0 →
     Starts s desk verb request (first_stage desk request)
 starts s desk verb (Malloc size) built hands rests = malloc_starts s desk verb size built rests

@@ -26,5 +26,6 @@ needed_in (Get wish Looking) = search rules
 needed_in (Put from (Finding own tries)) = search rules
 needed_in stage = search rules
 
+-- so it is of a turn that is needed
 pub needed_turn : (stage : Stage) (arena : ℕ) (op : Op) (asked : Option AskFacts) → rest_of stage [] ≡ Waits (WantTurn arena op asked) → Needed op asked
 needed_turn stage arena op asked e = subst IsNeeded e (needed_in stage)

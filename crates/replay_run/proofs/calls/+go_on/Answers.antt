@@ -12,7 +12,7 @@ pub turn-requires : goal.turn-requires
 turn-requires g t c =
     let ready = turn_ready c.requires.underway c.in-Turn.is c.requires.need in rw c.client.ensures (record {
       stands = ready.may;
-      room = room_for c.args.call.client c.args.state.now.arena c.args.call.stage c.in-Turn.turn.arena c.in-Turn.turn.op c.in-Turn.turn.asked _ ready.waits c.requires.room ready.shorter;
+      room = room_for c.args.state.now.arena ready c.requires.room;
       kept = ready.kept;
     })
 
