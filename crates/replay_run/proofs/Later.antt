@@ -70,6 +70,7 @@ pub record Longer (w : World) (moves : List Move) (more : List Line) : Type 0 wh
   pub play : IsPlay (later more w) moves
   pub after : world_after (later more w) moves ≡ later more (world_after w moves)
 
+-- it stays a play, and comes to the same world with those lines to come
 pub play_later : (w : World) (moves : List Move) (more : List Line) → IsPlay w moves → Longer w moves more
 play_later w [] more play = record { play = tt; after = refl }
 play_later w (move ∷ moves) more play =
@@ -81,6 +82,7 @@ play_later w (move ∷ moves) more play =
 
 -- ---- one play behind another
 
+-- a play goes on where another one has come to
 pub play-append : (w : World) (moves more : List Move) → IsPlay w moves → IsPlay (world_after w moves) more → IsPlay w (moves ++ more)
 play-append w [] more play next = next
 play-append w (move ∷ moves) more play next = (play.0, play-append (after_move w move) moves more play.1 next)
@@ -108,6 +110,9 @@ Begins text longer = (more : List ℕ) × (longer ≡ text ++ more)
 begins_itself : (text : List ℕ) → Begins text text
 begins_itself text = ([], sym (append-nil text))
 
+begins_further : (text longer longest : List ℕ) → Begins text longer → Begins longer longest → Begins text longest
+begins_further text longer longest here rest = (here.0 ++ rest.0, rest.1 ∙ ap (λ (xs : List ℕ). xs ++ rest.0) here.1 ∙ append_assoc text here.0 rest.0)
+
 -- a property of a world in which a call was fed: of the one where the next lines begin, and of the one where it waits
 pub fed_is : (P : World → Type 0) (w : World) (call : Open) (lines : List Line) → ((answer : Answered) → P (begun lines (printed w call answer))) → P (record w { call = Some call; lines = lines }) →
     P (fed w call lines)
@@ -118,9 +123,7 @@ fed_is P w call lines ends waits =
 fed_grows : (w : World) (call : Open) (lines : List Line) → ((v : World) → Begins v.text (begun lines v).text) → Begins w.text (fed w call lines).text
 fed_grows w call lines grows =
     fed_is (λ (v : World). Begins w.text v.text) w call lines
-    (λ answer. let rest = grows (printed w call answer) in
-    (answer_line call.client call.verb answer ++ rest.0, rest.1 ∙ append_assoc w.text (answer_line call.client call.verb answer) rest.0))
-    (begins_itself w.text)
+    (λ answer. begins_further w.text (printed w call answer).text _ (answer_line call.client call.verb answer, refl) (grows (printed w call answer))) (begins_itself w.text)
 
 begun_grows : (lines : List Line) (w : World) → Begins w.text (begun lines w).text
 begun_grows [] w = begins_itself w.text
@@ -138,16 +141,11 @@ after_grows : (w : World) (o : Option Open) (move : Move) → Begins w.text (aft
 after_grows w None move = begins_itself w.text
 after_grows w (Some call) move = moved_grows w call (outcome_of call) move
 
+-- the text only grows in a play
 pub text_grows : (w : World) (moves : List Move) → Begins w.text (world_after w moves).text
 text_grows w [] = begins_itself w.text
-text_grows w (move ∷ moves) =
-    let here = after_grows w w.call move in
-    let rest = text_grows (after_move w move) moves in
-    (here.0 ++ rest.0, rest.1 ∙ ap (λ (xs : List ℕ). xs ++ rest.0) here.1 ∙ append_assoc w.text here.0 rest.0)
+text_grows w (move ∷ moves) = begins_further w.text (after_move w move).text _ (after_grows w w.call move) (text_grows (after_move w move) moves)
 
 -- the text in which a line begins
 pub begun_text : (lines : List Line) (w : World) (moves : List Move) → Begins w.text (world_after (begun lines w) moves).text
-begun_text lines w moves =
-    let here = begun_grows lines w in
-    let rest = text_grows (begun lines w) moves in
-    (here.0 ++ rest.0, rest.1 ∙ ap (λ (xs : List ℕ). xs ++ rest.0) here.1 ∙ append_assoc w.text here.0 rest.0)
+begun_text lines w moves = begins_further w.text (begun lines w).text _ (begun_grows lines w) (text_grows (begun lines w) moves)
