@@ -1,5 +1,5 @@
 -- A call that just started.
-use Rattle.std.proofs.Common.{◌≡◌, List, [], None, refl, sym, ◌∙◌, ap}
+use Rattle.std.proofs.Common.{append-nil, ◌≡◌, List, [], None, refl, sym, ◌∙◌, ap}
 use Rattle.space_model.specs.declared.Space.{Space}
 use Rattle.hook_api.specs.Asked.{AskFacts}
 use Rattle.hook_api.specs.Kept.{KeptFacts}
@@ -16,7 +16,7 @@ use Rattle.trace_text.specs.declared.lines.Verb.{Verb}
 use Rattle.replay_run.specs.World.{Open, fed, call_of}
 use Rattle.replay_run.specs.Sane.{desk_at}
 use Rattle.replay_run.specs.Carried.{Desktop, world_of, Underway, IsReady}
-use Rattle.replay_run.proofs.Ways.{way_start}
+use Rattle.replay_run.proofs.Ways.{fed_space, fed_kept}
 use Rattle.trace_text.specs.declared.lines.Ptr.TheVariants.{At}
 use Rattle.trace_text.specs.declared.lines.Verb.TheVariants.{Free as FreeVerb}
 use Rattle.replay_run.proofs.Starts.{starts}
@@ -41,7 +41,24 @@ way_begun {space} {kept} {facts} {mid} {desk} {stage} {after} heard shelf top ve
     let same : after ≡ first_stage top.desk request = point ∙ begins_there stage ∙ first ∙ ap (λ (f : DeskFacts). first_stage f request) (sym own) in
     let left : desk ≡ desk_at call (first_stage top.desk request) =
     settled ∙ ap (holding mid) (gains_nothing stage) ∙ started ∙ ap (λ (f : DeskFacts). desk_started f request) (sym own) ∙ begun.settled in
-    rw same (way_start space kept heard shelf top call desk (first_stage top.desk request) refl begun.reads begun.at begun.planned begun.knows begun.flown left)
+    rw same (record {
+      played = record {
+        moves = [];
+        play = tt;
+        in_space = fed_space space kept top call;
+        in_journal = fed_kept space kept top call;
+        hears = sym (append-nil heard);
+        chain = refl;
+      };
+      items = [];
+      reads = begun.reads;
+      here = refl;
+      at = begun.at;
+      planned = begun.planned;
+      knows = begun.knows;
+      flown = begun.flown;
+      settled = left;
+    })
 
 -- and needs no room yet
 pub room_begun : {space : Space} {kept : List KeptFacts} {facts : DeskFacts} {stage after : Stage} (a : Standing) (request : Request) → IsReady space kept facts → IsBuilt request →

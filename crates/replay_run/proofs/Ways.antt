@@ -64,10 +64,10 @@ move_world w space kept top call want move here e fits =
     )
 
 -- the space and the journal in the world of a call
-fed_space : (space : Space) (kept : List KeptFacts) (top : Desktop) (call : Open) → (fed (world_of space kept top) call []).space ≡ space
+pub fed_space : (space : Space) (kept : List KeptFacts) (top : Desktop) (call : Open) → (fed (world_of space kept top) call []).space ≡ space
 fed_space space kept top call = fed_is (λ (v : World). v.space ≡ space) (world_of space kept top) call [] (λ answer. refl) refl
 
-fed_kept : (space : Space) (kept : List KeptFacts) (top : Desktop) (call : Open) → (fed (world_of space kept top) call []).kept ≡ kept
+pub fed_kept : (space : Space) (kept : List KeptFacts) (top : Desktop) (call : Open) → (fed (world_of space kept top) call []).kept ≡ kept
 fed_kept space kept top call = fed_is (λ (v : World). v.kept ≡ kept) (world_of space kept top) call [] (λ answer. refl) refl
 
 -- a call that is underway goes on by a move that feeds it an item
@@ -163,26 +163,3 @@ pub way_end : {start : World} {h0 : List AskFacts} {sh0 : Shelf} {space : Space}
     world_after start way.played.moves ≡ idle (printed (world_of space kept top) call answer)
 way_end {start} {h0} {sh0} {space} {kept} {heard} {shelf} {top} {call} {desk} {stage} way answer items e =
     way.here ∙ ended_world (world_of space kept top) (now call way.items) answer items (outcome_now call way.items stage way.reads ∙ e)
-
--- a call that was just opened is underway
-pub way_start : (space : Space) (kept : List KeptFacts) (heard : List AskFacts) (shelf : Shelf) (top : Desktop) (call : Open) (desk : DeskFacts) (stage : Stage) →
-    call.items ≡ [] → ((more : List Item) → reading call.desk call.request more ≡ rest_of stage more) → IsAt call stage → IsPlanned stage → Knows call.client space stage → HasFlights call.client space stage → desk ≡ desk_at call stage →
-    Underway (fed (world_of space kept top) call []) heard shelf space kept heard shelf top call desk stage
-way_start space kept heard shelf top call desk stage none reads at planned knows flown settled = record {
-  played = record {
-    moves = [];
-    play = tt;
-    in_space = fed_space space kept top call;
-    in_journal = fed_kept space kept top call;
-    hears = sym (append-nil heard);
-    chain = refl;
-  };
-  items = [];
-  reads = reads;
-  here = ap (λ (items : List Item). fed (world_of space kept top) (now call items) []) none;
-  at = subst (λ (items : List Item). IsAt (now call items) stage) none at;
-  planned = planned;
-  knows = knows;
-  flown = flown;
-  settled = settled;
-}
