@@ -42,7 +42,7 @@ use Rattle.replay_run.proofs.Frames.{regions_stay}
 use Rattle.replay_run.proofs.Hands.{hands_given, hands_landed}
 
 -- a list with one more isn't empty
-pub one_at_least : {X : Type 0} (xs : List X) (x : X) → xs ++ x ∷ [] ≢ []
+one_at_least : {X : Type 0} (xs : List X) (x : X) → xs ++ x ∷ [] ≢ []
 one_at_least [] x e = absurd (cc)
 one_at_least (y ∷ ys) x e = absurd (cc)
 

@@ -142,7 +142,7 @@ after_grows w None move = begins_itself w.text
 after_grows w (Some call) move = moved_grows w call (outcome_of call) move
 
 -- the text only grows in a play
-pub text_grows : (w : World) (moves : List Move) → Begins w.text (world_after w moves).text
+text_grows : (w : World) (moves : List Move) → Begins w.text (world_after w moves).text
 text_grows w [] = begins_itself w.text
 text_grows w (move ∷ moves) = begins_further w.text (after_move w move).text _ (after_grows w w.call move) (text_grows (after_move w move) moves)
 

@@ -25,7 +25,7 @@ first_line bytes n at =
     )
 
 -- where the first newline stands so far behind, none stands before
-pub no_newline_before : (bytes : List ℕ) (m : ℕ) → m ≤ position_or_len (λ (b : ℕ). eqb b 10) bytes → HasNoNewline (take m bytes)
+no_newline_before : (bytes : List ℕ) (m : ℕ) → m ≤ position_or_len (λ (b : ℕ). eqb b 10) bytes → HasNoNewline (take m bytes)
 no_newline_before bytes m far = λ k d below.
     let near : k < m = grind (arith, common_steps) in
     let plain : eqb (get_or bytes k d) 10 ≡ false = fails_before_first (λ (b : ℕ). eqb b 10) bytes k d (omega (arith, near, far)) in

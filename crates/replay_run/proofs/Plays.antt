@@ -83,7 +83,7 @@ client_among : (client : ℕ) → client < 32 → list_any (λ b. b == client) (
 client_among client h = grind (arith, nat_tests)
 
 -- so each client allocates from the arena
-pub ground : (s : Space) (kept : List KeptFacts) (client : ℕ) → Kept s kept → client < 32 → Ground client s
+ground : (s : Space) (kept : List KeptFacts) (client : ℕ) → Kept s kept → client < 32 → Ground client s
 ground s kept client known h = record {
   sound = known.good.sound;
   live = known.live;
@@ -99,7 +99,7 @@ opened_going s desk verb request built hands rests =
     record { client = refl; stage = first_stage desk request; reads = at.reads; planned = at.planned; knows = at.knows; at = at.at; flown = at.flown }
 
 -- what a carried line asks for can be carried out
-pub carried_built : (names : List (List ℕ × ℕ)) (client : ℕ) (verb : Verb) → IsCarried (Call client verb) → IsBuilt (request_of names verb) × (client ≡ 0)
+carried_built : (names : List (List ℕ × ℕ)) (client : ℕ) (verb : Verb) → IsCarried (Call client verb) → IsBuilt (request_of names verb) × (client ≡ 0)
 carried_built names client (MallocVerb name size) is = (is.1, is.0)
 carried_built names client (FreeVerb target) is = (tt, is)
 
@@ -150,7 +150,7 @@ fed_sane_by w call lines known going same hands carried later =
     ] refl hands
 
 -- a world in which a line was opened
-pub begun_sane : (lines : List Line) (w : World) → Kept w.space w.kept → IsInHands 0 w.space.regions w.desk.held → flights 0 w.space ≡ 0 → All IsCarried lines → Sane (begun lines w)
+begun_sane : (lines : List Line) (w : World) → Kept w.space w.kept → IsInHands 0 w.space.regions w.desk.held → flights 0 w.space ≡ 0 → All IsCarried lines → Sane (begun lines w)
 begun_sane [] w known hands rests carried = record { kept = known; call = tt; desk = tt; in_hands = hands; rests = λ idle. rests; lines = All-nil IsCarried }
 begun_sane (Call client verb ∷ lines) w known hands rests carried =
     let request : Request = request_of w.names verb in

@@ -110,7 +110,7 @@ without_cause (Ok answer) = Ok answer
 without_cause (Err error) = Err tt
 
 -- a call that was carried out, whatever the cause of an error
-pub carried_anyway : {E : Type 0} (start : World) (h0 : List AskFacts) (sh0 : Shelf) (space : Space) (kept : List KeptFacts) (heard : List AskFacts) (shelf : Shelf) (top : Desktop) (call : Open) (desk : DeskFacts) (r : Result Answered E) →
+carried_anyway : {E : Type 0} (start : World) (h0 : List AskFacts) (sh0 : Shelf) (space : Space) (kept : List KeptFacts) (heard : List AskFacts) (shelf : Shelf) (top : Desktop) (call : Open) (desk : DeskFacts) (r : Result Answered E) →
     Carried start h0 sh0 space kept heard shelf top call desk r → Carried start h0 sh0 space kept heard shelf top call desk (without_cause r)
 carried_anyway {E} start h0 sh0 space kept heard shelf top call desk (Ok answer) way = record { played = way.played; ended = way.ended; settled = way.settled }
 carried_anyway {E} start h0 sh0 space kept heard shelf top call desk (Err error) way = record { played = way.played; ended = tt; settled = tt }

@@ -26,7 +26,7 @@ use Rattle.replay_run.proofs.Plays.{TurnReady}
 use Rattle.replay_run.proofs.Ways.{TurnMade}
 
 -- room for the steps that are left is room enough
-pub room_enough : (c : ℕ) (a : Standing) (stage : Stage) → steps_left c a.space stage ≤ room_of c a.rooms → HasRoom c a stage
+room_enough : (c : ℕ) (a : Standing) (stage : Stage) → steps_left c a.space stage ≤ room_of c a.rooms → HasRoom c a stage
 room_enough c a (Get wish Looking) most = tt
 room_enough c a (Get wish getting) most = most
 room_enough c a (Put arena point) most = most

@@ -32,7 +32,7 @@ abbrev now : Open → List Item → Open
 now call items = record call { items = items }
 
 -- its outcome is what is left to read
-pub outcome_now : (call : Open) (items : List Item) (stage : Stage) → ((more : List Item) → reading call.desk call.request (items ++ more) ≡ rest_of stage more) →
+outcome_now : (call : Open) (items : List Item) (stage : Stage) → ((more : List Item) → reading call.desk call.request (items ++ more) ≡ rest_of stage more) →
     outcome_of (now call items) ≡ rest_of stage []
 outcome_now call items stage reads = ap (reading call.desk call.request) (sym (append-nil items)) ∙ reads []
 
