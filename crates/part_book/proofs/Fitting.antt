@@ -111,11 +111,9 @@ fits rest rows pages align number apart some fit =
         let b = and_parts (is_candidate rest pages align p) _ u in
         let f = any_member _ (parts_in rows) r.part (not-true _ b.1) own in
         let g = any_member _ (parts_in rows) p (not-true _ a.1) m in
-        let f' : is_better r.part p ≡ false = rw a.0 at f in
-        let g' : is_better p r.part ≡ false = rw b.0 at g in
-        let first = same_first r.part p f' g' in
-        let some_r = (placed (parts_in rows) r.part apart own).0 in
-        let some_p = (placed (parts_in rows) p apart m).0 in
+        let first = same_first r.part p (rw a.0 at f) (rw b.0 at g) in
+        let some_r = placed (parts_in rows) r.part apart own in
+        let some_p = placed (parts_in rows) p apart m in
         one_owner (parts_in rows) apart r.part.span.first r.part p own m (grind (arith, nat_tests)) (grind (arith, nat_tests))
 
 -- ---- the oldest, and the pages

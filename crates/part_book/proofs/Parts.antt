@@ -41,7 +41,7 @@ ends_by_edge parts last page next apart o e = find_closer (ends_at page) (is_edg
 
 -- none ends before page 0
 pub none_ends : (parts : List Part) (page : ℕ) → IsApart parts → page < 1 → find (ends_at page) parts ≡ None
-none_ends parts page apart l = find_none (ends_at page) parts (λ p m. let some = (placed parts p apart m).0 in grind (arith, nat_tests))
+none_ends parts page apart l = find_none (ends_at page) parts (λ p m. let some = placed parts p apart m in grind (arith, nat_tests))
 
 -- ---- the last extent that begins below a page
 
@@ -49,7 +49,7 @@ none_ends parts page apart l = find_none (ends_at page) parts (λ p m. let some 
 pub last_owns : (parts : List Part) (p x : Part) (page other : ℕ) → IsApart parts → IsLastBelow page parts p → Contains parts x → x.span.first < page → page ≤ other + 1 → has_page other x.span ≡ true → x ≡ p
 last_owns parts p x page other apart last m l le t =
     let up : x.span.first ≤ p.span.first = All-contains (λ q. q.span.first < page → q.span.first ≤ p.span.first) parts x last.last m l in
-    let own : has_page p.span.first p.span ≡ true = let some = (placed parts p apart last.listed).0 in grind (arith, nat_tests) in
+    let own : has_page p.span.first p.span ≡ true = let some = placed parts p apart last.listed in grind (arith, nat_tests) in
     let shared : has_page p.span.first x.span ≡ true = grind (arith, nat_tests) in
     one_owner parts apart p.span.first p x last.listed m own shared
 
@@ -65,22 +65,19 @@ held_by_last parts page p apart last = elim (cases_Bool (has_page page p.span)) 
 pub held_by_none : (parts : List Part) (page : ℕ) → All (λ p. page + 1 ≤ p.span.first) parts → find (λ q. has_page page q.span) parts ≡ None
 held_by_none parts page above = find_none (λ q. has_page page q.span) parts (λ x m. let l = All-contains (λ p. page + 1 ≤ p.span.first) parts x above m in grind (arith, nat_tests))
 
-begins_inside : (p : Part) → IsPlaced p.span → p.span.first < 33554432
-begins_inside p placed = omega arith
-
 -- a bound of 64 bits lies above all pages
 pub clamped : (parts : List Part) (p : Part) (page : ℕ) → IsApart parts → IsLastBelow (min page 18446744073709551615) parts p → IsLastBelow page parts p
 clamped parts p page apart last = record {
   listed = last.listed;
   below = omega arith;
   last = all_from (λ q. q.span.first < page → q.span.first ≤ p.span.first) parts (λ q m l.
-      let inside = begins_inside q (placed parts q apart m) in
+      let inside = placed parts q apart m in
       All-contains (λ q. q.span.first < min page 18446744073709551615 → q.span.first ≤ p.span.first) parts q last.last m (omega arith));
 }
 
 pub clamped_none : (parts : List Part) (page : ℕ) → IsApart parts → All (λ p. min page 18446744073709551615 ≤ p.span.first) parts → All (λ p. page ≤ p.span.first) parts
 clamped_none parts page apart above = all_from (λ p. page ≤ p.span.first) parts (λ q m.
-    let inside = begins_inside q (placed parts q apart m) in
+    let inside = placed parts q apart m in
     let l = All-contains (λ p. min page 18446744073709551615 ≤ p.span.first) parts q above m in
     omega arith)
 
@@ -106,4 +103,4 @@ met_by_none parts s above = list_any_none (λ q. meets q.span s) parts (All-weak
 
 -- none begins above all pages
 pub none_begins : (parts : List Part) (page : ℕ) → IsApart parts → 33554432 ≤ page → find (begins_at page) parts ≡ None
-none_begins parts page apart far = find_none (begins_at page) parts (λ p m. let inside = begins_inside p (placed parts p apart m) in grind (arith, nat_tests))
+none_begins parts page apart far = find_none (begins_at page) parts (λ p m. let inside = placed parts p apart m in grind (arith, nat_tests))

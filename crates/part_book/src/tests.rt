@@ -5,6 +5,7 @@ use super::PartBook;
 use space_model::{Part, Rest, Span, State};
 use std::test::Fail;
 
+// `rt try`, which checks each access, takes far longer for so many than its minute.
 const MANY: u64 = 1 << 20;
 
 fn dirty(first: u64, pages: u64) -> Part
