@@ -1,5 +1,5 @@
 //! An extent is taken off all indexes, or put on all of them.
-ghost use Rattle.std.specs.Prelude.{◌≡◌, ◌==◌, ◌≢◌, ℕ, ◌+◌, ◌-◌, ◌/◌, ◌^◌, ◌<◌, ◌≤◌, true, false, [], ◌∷◌, ◌++◌, not, cond, count_by, length, find, filter, All, Any, IsSome, IsTrue, Some, vec_len, vec_capacity};
+ghost use Rattle.std.specs.Prelude.{◌≡◌, ◌==◌, ℕ, ◌+◌, ◌-◌, ◌/◌, ◌<◌, ◌≤◌, true, false, [], ◌∷◌, ◌++◌, not, cond, length, find, filter, All, IsSome, Some, vec_len, vec_capacity};
 ghost use Rattle.std.specs.FinMap as map_of;
 ghost use Rattle.std.specs.FinSet as set;
 ghost use Rattle.space_model.specs.Span.{IsPlaced, end_of, meets};

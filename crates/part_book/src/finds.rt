@@ -1,5 +1,5 @@
 //! The searches for an extent.
-ghost use Rattle.std.specs.Prelude.{◌≡◌, ◌<◌, ◌≤◌, ◌^◌, find, option_map, sum_by, vec_len, All, IfSome, IsNone};
+ghost use Rattle.std.specs.Prelude.{◌≡◌, ◌<◌, ◌≤◌, find, option_map, vec_len, All, IfSome, IsNone};
 ghost use Rattle.std.specs.List.{list_any};
 ghost use Rattle.space_model.specs.Span.{has_page, meets};
 ghost use Rattle.space_model.specs.Part.{begins_at, is_flight, is_listed};

@@ -2,7 +2,7 @@
 //! `reserve` take memory.
 #![tactic(auto)]
 
-ghost use Rattle.std.specs.Prelude.{◌≡◌, ◌==◌, ◌<◌, ◌+◌, ◌*◌, ◌||◌, ◌≤◌, false, [], ◌∷◌, ◌++◌, not, length, max, find, filter, option_map, IfSome, IsSome, OnOk, OnErr, IfOk};
+ghost use Rattle.std.specs.Prelude.{◌≡◌, ◌==◌, ◌<◌, ◌+◌, ◌||◌, false, [], ◌∷◌, ◌++◌, not, length, max, find, filter, option_map, IfSome, IsSome, OnOk, OnErr, IfOk};
 ghost use Rattle.std.specs.List.{list_any};
 ghost use Rattle.space_model.specs.Span.{IsPlaced, has_page, meets};
 ghost use Rattle.space_model.specs.Part.{begins_at, exchanged, is_flight, is_listed};

@@ -1,5 +1,5 @@
 //! What is read of one extent: its pages, and the lists in which its state puts it.
-ghost use Rattle.std.specs.Prelude.{◌≡◌, ◌-◌, ◌<◌, ◌+◌};
+ghost use Rattle.std.specs.Prelude.{◌≡◌, ◌-◌, ◌+◌};
 ghost use Rattle.space_model.specs.Span.{IsPlaced, end_of};
 
 use space_model::Span;
