@@ -55,6 +55,7 @@ fresh t part front o number i free is placed apart =
       slot = slot;
     }
 
+-- spans that share no page lie one before the other
 span_apart : (p q : Part) → IsPlaced p.span → IsPlaced q.span → meets p.span q.span ≡ false → (p.span.first + p.span.pages ≤ q.span.first) ⊎ (q.span.first + q.span.pages ≤ p.span.first)
 span_apart p q placed_p placed_q f =
     elim (cases_lt q.span.first (p.span.first + p.span.pages)) [ inl l ↦ inr (grind (arith, nat_tests)) | inr g ↦ inl g ]
@@ -63,6 +64,7 @@ span_apart p q placed_p placed_q f =
 pub edge_test : (p : Part) (page : ℕ) → IsPlaced p.span → is_edge page p ≡ (eqb page (end_of p.span - 1) || eqb page p.span.first)
 edge_test p page placed = grind (arith, nat_tests)
 
+-- a choice after a choice
 pub twice : (a b : Bool) (x y : Option ℕ) → cond a x (cond b x y) ≡ cond (a || b) x y
 twice true b x y = refl
 twice false b x y = refl
@@ -71,6 +73,7 @@ twice false b x y = refl
 abbrev pub with_edges : map_of.FinMap nat_cmp ℕ → Part → ℕ → map_of.FinMap nat_cmp ℕ
 with_edges m p number = map_of.insert (map_of.insert m p.span.first number) (end_of p.span - 1) number
 
+-- a page has the number where it is the first or the last one of the extent
 numbers_more : (m : map_of.FinMap nat_cmp ℕ) (p : Part) (number page : ℕ) → IsPlaced p.span → map_of.get (with_edges m p number) page ≡ cond (is_edge page p) (Some number) (map_of.get m page)
 numbers_more m p number page placed =
     simp (map_of.get-insert {X = ℕ} nat_cmp_total, unsigned_tied) (
@@ -118,12 +121,15 @@ among P test rows known = All-map P span_of (filter test rows) (All-filter test 
 module _ (t : Table) (rows : List Row) (row : Row) (i : IsTable t rows) (f : IsFresh t rows row) where
   -- ---- what the indexes ask of a new extent
 
+  -- each extent lies before the new one or after it
   row_apart : (r : Row) → Contains rows r → Avoids row (span_of r)
   row_apart r m = span_apart r.part row.part (row_placed rows r i.apart m) f.placed (All-contains (λ p. meets p.span row.part.span ≡ false) (parts_in rows) r.part f.apart (map_has (λ x. x.part) rows r m))
 
+  -- no extent has its number
   pub new_number : All (λ s. s.number ≢ row.number) (map span_of rows)
   new_number = All-map (λ s. s.number ≢ row.number) span_of rows (all_from (λ r. r.number ≢ row.number) rows f.number)
 
+  -- no extent has a page of it
   pub all_apart : All (Avoids row) (map span_of rows)
   all_apart = All-map (Avoids row) span_of rows (all_from (λ r. Avoids row (span_of r)) rows row_apart)
 
@@ -139,11 +145,13 @@ module _ (t : Table) (rows : List Row) (row : Row) (i : IsTable t rows) (f : IsF
         apart = rw e (among (Avoids row) test rows row_apart);
       }
 
+  -- its key is not among the first pages
   pub absent_first : Contains t.firsts.keys (key_of row) → ⊥
   absent_first m =
       let p = i.firsts.from (key_of row) m in
       f.number p.0 p.1 (ap (λ (k : Key). k.minor) p.2)
 
+  -- there are no more flights than extents
   pub flights_fewer : length t.flights.items ≤ length t.order.spans
   flights_fewer =
       let test : Row → Bool = λ r. is_in_flight r.part.state in
@@ -153,9 +161,11 @@ module _ (t : Table) (rows : List Row) (row : Row) (i : IsTable t rows) (f : IsF
 
   -- ---- the table afterwards
 
+  -- a list of a rest gets its span if it is listed there
   listed_more : {old new : List Listed} (rest : Rest) → old ≡ spans_in rest rows → new ≡ old ++ cond (is_listed rest row.part.state) (span_of row ∷ []) [] → new ≡ spans_in rest (rows ++ row ∷ [])
   listed_more rest old new = new ∙ ap (λ ss. ss ++ cond (is_listed rest row.part.state) (span_of row ∷ []) []) old ∙ sym (more span_of (λ r. is_listed rest r.part.state) rows row)
 
+  -- the first pages get its key
   firsts_more : IsFirsts (rows ++ row ∷ []) (with_key t.firsts.keys (key_of row))
   firsts_more = record {
     has = λ r m. elim (Contains-push_cases rows row r m) [
@@ -168,6 +178,7 @@ module _ (t : Table) (rows : List Row) (row : Row) (i : IsTable t rows) (f : IsF
     ];
   }
 
+  -- its first and its last page get its number
   edges_more : (page : ℕ) → map_of.get (with_edges t.edges.numbers row.part row.number) page ≡ option_map (λ r. r.number) (find (λ r. is_edge page r.part) (rows ++ row ∷ []))
   edges_more page =
       numbers_more t.edges.numbers row.part row.number page f.placed
@@ -188,9 +199,11 @@ module _ (t : Table) (rows : List Row) (row : Row) (i : IsTable t rows) (f : IsF
   slot_kept : (u : Table) (n : ℕ) → u.slots.items ≡ set_at t.slots.items row.number row.part → n ≢ row.number → part_at u.slots.items n ≡ part_at t.slots.items n
   slot_kept u n e ne = rw e (get_or-set_other t.slots.items row.number n row.part _ ne)
 
+  -- and the new one has the extent
   slot_new : (u : Table) → u.slots.items ≡ set_at t.slots.items row.number row.part → part_at u.slots.items row.number ≡ row.part
   slot_new u e = rw e (get_or-set_same t.slots.items row.number row.part _ (omega (arith, t.slots.ok.0)))
 
+  -- its number is free no more
   free_more : (u : Table) (number : ℕ) → IsAdded t u row → count_by (λ n. eqb n number) u.free.items + count_by (λ r. eqb r.number number) (rows ++ row ∷ []) ≡ bit (ltb number (vec_len u.slots))
   free_more u number a =
       let all = i.free number in
@@ -199,6 +212,7 @@ module _ (t : Table) (rows : List Row) (row : Row) (i : IsTable t rows) (f : IsF
       let len = ap (λ n. bit (ltb number n)) a.slots_len in
       omega arith
 
+  -- each index has what it shall have
   added : (u : Table) → IsAdded t u row → IsTable u (rows ++ row ∷ [])
   added u a =
       let chunk : Row → ℕ = λ r. r.part.span.first / 512 in
@@ -236,5 +250,6 @@ rows_added t u row i f a =
     ∙ ap (λ xs. xs ++ row_at u.slots.items (span_of row) ∷ []) kept
     ∙ ap (λ p. map (row_at t.slots.items) t.order.spans ++ put row.number p ∷ []) (slot_new t (rows_of t) row i f u a.slots)
 
+-- so the table keeps its extents and that one
 pub table_added : (t u : Table) (row : Row) → IsTable t (rows_of t) → IsFresh t (rows_of t) row → IsAdded t u row → Keeps u (parts_of t ++ row.part ∷ [])
 table_added t u row i f a = subst (Keeps u) (map-append (λ r. r.part) (rows_of t) (row ∷ [])) (keeps u (rows_of t ++ row ∷ []) (rows_added t u row i f a) (added t (rows_of t) row i f u a))

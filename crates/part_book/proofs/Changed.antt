@@ -25,6 +25,7 @@ use Rattle.part_book.proofs.Parts.{placed}
 pub within : (t : Table) (now : List Part) (first left : ℕ) (p : Part) → parts_of t ≡ now → find (begins_at first) (parts_of t) ≡ Some p → IfSome (find (begins_at first) now) (λ q. left < q.span.pages) → left < p.span.pages
 within t now first left p same e fewer = rw (sym (ap (find (begins_at first)) same) ∙ e) at fewer
 
+-- the extents after a cut
 pub cut_parts : (old now t u v : List Part) (first left : ℕ) (p low high : Part) → old ≡ now → find (begins_at first) old ≡ Some p → t ≡ filter (λ q. not (begins_at first q)) old → u ≡ t ++ low ∷ [] → v ≡ u ++ high ∷ [] → low ≡ low_piece left p → high ≡ high_piece left p →
     IfSome (find (begins_at first) now) (λ q. v ≡ exchanged (begins_at first) now (low_piece left q ∷ high_piece left q ∷ []))
 cut_parts old now t u v first left p low high same e less more last low_is high_is =
@@ -62,12 +63,15 @@ next_is low high old now p q same some alike e placed less f =
     let is : n.0 ≡ q = cc in
     subst (IsNext low high old p) is n.1
 
+-- two extents of the space as one lie in the space
 pub joined_placed : (p q : Part) → IsPlaced p.span → IsPlaced q.span → AreAlike p q → IsPlaced (joined p q).span
 joined_placed p q placed_p placed_q alike = (omega arith, placed_p.1, omega arith)
 
+-- what meets neither of two does not meet both as one
 apart_from_both : (x p q : Part) → IsPlaced x.span → AreAlike p q → meets x.span p.span ≡ false → meets x.span q.span ≡ false → meets x.span (joined p q).span ≡ false
 apart_from_both x p q placed alike a b = grind (arith, nat_tests)
 
+-- the two as one meet no other extent
 pub joined_apart : (t u : List Part) (high : ℕ) (p q : Part) → IsApart u → AreAlike p q → u ≡ filter (λ x. not (begins_at high x)) t → All (λ x. meets x.span p.span ≡ false) t → All (λ x. meets x.span q.span ≡ false) u → All (λ x. meets x.span (joined p q).span ≡ false) u
 joined_apart t u high p q sound alike less from_p from_q =
     let a = subst (λ xs. All (λ x. meets x.span p.span ≡ false) xs) (sym less) (All-filter (λ x. not (begins_at high x)) (λ x. meets x.span p.span ≡ false) t from_p) in
@@ -81,6 +85,7 @@ joined_leaves t u p q alike chunks of_p of_q =
     let end : end_of (joined p q).span ≡ end_of q.span = omega arith in
     leaves_both u (joined p q).span (ap (λ s. set.contains s (p.span.first / 512)) chunks ∙ low.0) (ap (λ n. set.contains u.chunks ((n - 1) / 512)) end ∙ high.1)
 
+-- the extents after a join
 pub join_parts : (old now t u v : List Part) (low high : ℕ) (p q : Part) → old ≡ now → find (begins_at low) old ≡ Some p → find (begins_at high) old ≡ Some q → t ≡ filter (λ x. not (begins_at low x)) old → u ≡ filter (λ x. not (begins_at high x)) t → v ≡ u ++ joined p q ∷ [] →
     IfSome (find (begins_at low) now) (λ x. IfSome (find (begins_at high) now) (λ y. v ≡ exchanged (λ r. begins_at low r || begins_at high r) now (joined x y ∷ [])))
 join_parts old now t u v low high p q same e f less fewer more =

@@ -43,6 +43,7 @@ lacking_after s c chunks =
     let split = sum_by-filter_both (λ k. eqb k c) (λ k. not (eqb k c)) (λ k. refl) (λ k. bit (lacks k)) chunks in
     omega (arith, length-filter lacks_then chunks, length-filter lacks others)
 
+-- no more of them lack one then
 lacking_no_more : (s : set.FinSet nat_cmp) (c : ℕ) (chunks : List ℕ) → lacking (set.insert s c) chunks ≤ lacking s chunks
 lacking_no_more s c chunks = omega (arith, lacking_after s c chunks)
 
@@ -59,6 +60,7 @@ missing_less : (s : set.FinSet nat_cmp) (c : ℕ) → c < 65536 → set.contains
 unfolding missing
 missing_less s c l f = lacking_less s c 65536 l f
 
+-- and no other one is missing then
 missing_no_more : (s : set.FinSet nat_cmp) (c : ℕ) → missing (set.insert s c) ≤ missing s
 unfolding missing
 missing_no_more s c = lacking_no_more s c (range_with_len 0 65536)
@@ -67,6 +69,7 @@ missing_no_more s c = lacking_no_more s c (range_with_len 0 65536)
 abbrev want : Bool → ℕ
 want b = cond b 0 1
 
+-- a chunk wants one leaf at most
 want_le : (b : Bool) → want b ≤ 1
 want_le true = omega arith
 want_le false = omega arith
@@ -129,6 +132,7 @@ more_leaves p q n chunks le has = let same = ap missing chunks in omega arith
 
 -- ---- the leaves for a span
 
+-- two chunks that want none have leaves
 none_wanted : (a b : Bool) → want a + want b ≡ 0 → (a ≡ true) × (b ≡ true)
 none_wanted true true e = (refl, refl)
 none_wanted true false e = absurd (omega arith)

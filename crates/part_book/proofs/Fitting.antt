@@ -91,18 +91,17 @@ fits rest rows pages align number apart some fit =
     let holds = holds_from r pages align some (subst (HoldsRun pages align) (sym q.3) fit.holds) in
     (r, q.1, ap (λ s. s.number) q.3 ∙ fit.number_is, find_is (is_best rest pages align (parts_in rows)) (parts_in rows) r.part own (best r q.2 holds q.3) (alone r own (best r q.2 holds q.3)))
   where
-    later : (r : Row) → span_of r ≡ fit.span → (x : Part) → Contains (parts_in rows) x → is_candidate rest pages align x ≡ true → is_better x r.part ≡ false
-    later r e x m t =
-        let y = serves rest rows pages align x some m t in
+    no_better : (r : Row) → span_of r ≡ fit.span → (x : Part) → Contains (parts_in rows) x → (is_candidate rest pages align x && is_better x r.part) ≡ false
+    no_better r e x m = false_from_ne_true (is_candidate rest pages align x && is_better x r.part) (λ t.
+        let both = and_parts (is_candidate rest pages align x) (is_better x r.part) t in
+        let y = serves rest rows pages align x some m both.0 in
         let no_later = All-contains (λ other. HoldsRun pages align other → IsNoLater fit.span other) (spans_in rest rows) (span_of y.0) fit.least y.1 y.2 in
-        ap (λ z. is_better z r.part) (sym y.3) ∙ not_better r.part y.0.part (subst (λ s. IsNoLater s (span_of y.0)) (sym e) no_later)
+        let worse = ap (λ z. is_better z r.part) (sym y.3) ∙ not_better r.part y.0.part (subst (λ s. IsNoLater s (span_of y.0)) (sym e) no_later) in cc)
 
     best : (r : Row) → is_listed rest r.part.state ≡ true → holds_run pages align r.part.span ≡ true → span_of r ≡ fit.span → is_best rest pages align (parts_in rows) r.part ≡ true
     best r l h e =
-        let none = list_any_none (λ x. is_candidate rest pages align x && is_better x r.part) (parts_in rows) (all_from (λ x. (is_candidate rest pages align x && is_better x r.part) ≡ false) (parts_in rows) (λ x n.
-        false_from_ne_true (is_candidate rest pages align x && is_better x r.part) (λ t.
-        let both = and_parts (is_candidate rest pages align x) (is_better x r.part) t in
-        let worse = later r e x n both.0 in cc))) in
+        let better : Part → Bool = λ x. is_candidate rest pages align x && is_better x r.part in
+        let none = list_any_none better (parts_in rows) (all_from (λ x. better x ≡ false) (parts_in rows) (no_better r e)) in
         rw (l, h, none) refl
 
     alone : (r : Row) → Contains (parts_in rows) r.part → is_best rest pages align (parts_in rows) r.part ≡ true → (p : Part) → Contains (parts_in rows) p → is_best rest pages align (parts_in rows) p ≡ true → p ≡ r.part

@@ -47,6 +47,7 @@ in_slots t rows r i m =
     let all = i.free r.number in
     grind (arith, nat_tests)
 
+-- the slot of a number has the extent
 pub in_slot : (t : Table) (rows : List Row) (r : Row) → IsTable t rows → Contains rows r → part_at t.slots.items r.number ≡ r.part
 in_slot t rows r i m = All-contains (λ row. part_at t.slots.items row.number ≡ row.part) rows r i.slots m
 
@@ -60,11 +61,13 @@ edge_row t rows page number i e =
     let p = mapped_some (λ row. row.number) (find (λ row. is_edge page row.part) rows) number (sym (i.edges page) ∙ e) in
     (p.0, p.1, (found (λ row. is_edge page row.part) rows p.0 p.1).0, p.2)
 
+-- the slot of that number has the extent whose first or last page it is
 pub edge_part : (t : Table) (rows : List Row) (page number : ℕ) → IsTable t rows → map_of.get t.edges.numbers page ≡ Some number → find (is_edge page) (parts_in rows) ≡ Some (part_at t.slots.items number)
 edge_part t rows page number i e =
     let p = edge_row t rows page number i e in
     find_map (λ row. row.part) (is_edge page) rows ∙ ap (option_map (λ row. row.part)) p.1 ∙ ap (λ q. Some q) (sym (slot_of t rows p.0 i p.2 p.3).1)
 
+-- a page without a number is no first or last page
 pub edge_none : (t : Table) (rows : List Row) (page : ℕ) → IsTable t rows → map_of.get t.edges.numbers page ≡ None → find (is_edge page) (parts_in rows) ≡ None
 edge_none t rows page i e =
     let none = mapped_none (λ row. row.number) (find (λ row. is_edge page row.part) rows) (sym (i.edges page) ∙ e) in
@@ -72,6 +75,7 @@ edge_none t rows page i e =
 
 -- ---- the first pages
 
+-- a list without a last key has none
 no_last : (ks : List Key) (k : Key) → last_of ks ≡ None → Contains ks k → ⊥
 no_last ks k e (i, l, is) =
     let some = slice_get-get_or ks (length ks - 1) k (omega arith) in
@@ -109,6 +113,7 @@ last_row rows keys page key firsts ascending e =
       },
     )
 
+-- where there is no last key below a page, no extent begins below it
 pub no_row : (rows : List Row) (keys : List Key) (page : ℕ) → IsFirsts rows keys → last_of (filter (is_below (start page)) keys) ≡ None → All (λ p. page ≤ p.span.first) (parts_in rows)
 no_row rows keys page firsts e = all_from (λ p. page ≤ p.span.first) (parts_in rows) (λ q n.
     let r = map_from (λ row. row.part) rows q n in
@@ -120,6 +125,7 @@ no_row rows keys page firsts e = all_from (λ p. page ≤ p.span.first) (parts_i
 
 -- ---- the flights
 
+-- an extent that is not in flight is in flight for nobody
 grounded : (client : ℕ) (state : State) → is_in_flight state ≡ false → is_flight client state ≡ false
 grounded client Active e = refl
 grounded client Dirty e = refl
@@ -144,6 +150,7 @@ find_flight slots client (r ∷ rows) all =
       | inr f ↦ rw (f, grounded client r.part.state f) rest
     ]
 
+-- so the flights of the table tell the first one
 pub flight_of : (t : Table) (client : ℕ) → IsTable t (rows_of t) → find (λ p. is_flight client p.state) (parts_in (rows_of t)) ≡ option_map (part_at t.slots.items) (find (is_flown t.slots.items client) t.flights.items)
 flight_of t client i = find_flight t.slots.items client (rows_of t) i.slots ∙ ap (λ ns. option_map (part_at t.slots.items) (find (is_flown t.slots.items client) ns)) (sym i.flights)
 
@@ -151,6 +158,7 @@ flight_of t client i = find_flight t.slots.items client (rows_of t) i.slots ∙ 
 pub first_number : (p : ℕ → Bool) (ns : List ℕ) (i : ℕ) → i < length ns → ((k : ℕ) → k < i → p (get_or ns k 0) ≡ false) → p (get_or ns i 0) ≡ true → find p ns ≡ Some (get_or ns i 0)
 first_number p ns i l earlier here = find_at p ns ∙ ap (slice_get ns) (position_or_len_is p ns i 0 (omega arith) earlier (λ _. here)) ∙ slice_get-get_or ns i 0 l
 
+-- or finds that none passes
 pub no_number : (p : ℕ → Bool) (ns : List ℕ) → ((k : ℕ) → k < length ns → p (get_or ns k 0) ≡ false) → find p ns ≡ None
 no_number p ns none = find_none p ns (λ n (k, l, e). ap p (sym e ∙ get_or_default_zero ns k n l) ∙ none k l)
 

@@ -16,6 +16,7 @@ abbrev pub bit : Bool → ℕ
 bit b = cond b 1 0
 
 module _ {X : Type 0} where
+  -- the first element is in the list
   pub head : (x : X) (xs : List X) → Contains (x ∷ xs) x
   head x xs = (zero, omega arith, refl)
 
@@ -23,6 +24,7 @@ module _ {X : Type 0} where
   pub all_from : (P : X → Type 0) (xs : List X) → ((x : X) → Contains xs x → P x) → All P xs
   all_from P xs known = λ k d l. known (get_or xs k d) (Contains-get_or xs k d l)
 
+  -- a filter keeps all where each passes
   pub filter_all_of : (p : X → Bool) (xs : List X) → ((x : X) → Contains xs x → p x ≡ true) → filter p xs ≡ xs
   filter_all_of p xs all = filter_all p xs (every_from (λ x. p x ≡ true) xs all)
 
@@ -60,11 +62,13 @@ module _ {X : Type 0} where
       by None e = absurd (let f = none_found p xs e x m in cc)
       by (Some y) e = let is = found p xs y e in ap (λ z. Some z) (own y is.0 is.1)
 
+  -- one that passes counts
   pub count_some : (p : X → Bool) (xs : List X) (x : X) → Contains xs x → p x ≡ true → 1 ≤ count_by p xs
   count_some p xs x (k, l, e) t =
       let one : bit (p (get_or xs k x)) ≡ 1 = ap (λ z. bit (p z)) e ∙ ap bit t in
       omega (arith, get_or-le-sum_by (λ z. bit (p z)) xs k x l)
 
+  -- where none passes, none counts
   pub count_none : (p : X → Bool) (xs : List X) → ((x : X) → Contains xs x → p x ≡ false) → count_by p xs ≡ 0
   count_none p xs fails = omega (arith, sum_by-le (λ x. bit (p x)) 0 xs (all_from (λ x. bit (p x) ≤ 0) xs (λ x m. let none : bit (p x) ≡ 0 = ap bit (fails x m) in omega arith)))
 

@@ -58,9 +58,11 @@ row_read t first number i some e =
 
 -- ---- what the indexes ask
 
+-- its number is among those of the spans
 pub any_span : (rows : List Row) (r : Row) → Contains rows r → Any (λ s. s.number ≡ r.number) (map span_of rows)
 any_span rows r m = let n = map_has span_of rows r m in (n.0, span_of r, n.1, n.2, refl)
 
+-- it can be taken off the list of each rest
 pub can_unlist : (t : Table) (row : Row) (rest : Rest) (spans : List Listed) → IsTable t (rows_of t) → Contains (rows_of t) row → spans ≡ spans_in rest (rows_of t) → CanUnlist rest spans row
 can_unlist t row rest spans i m e =
     let test : Row → Bool = λ r. is_listed rest r.part.state in
@@ -98,6 +100,7 @@ pub record IsRemoved (t u : Table) (row : Row) : Type 0 where
   pub free_len : vec_len u.free ≡ vec_len t.free + 1
   pub room : vec_capacity t.free ≤ vec_capacity u.free
 
+-- the extents are those with another number
 rows_removed : (t u : Table) (number : ℕ) → u.slots ≡ t.slots → u.order.spans ≡ without number t.order.spans → rows_of u ≡ others number (rows_of t)
 unfolding rows_of
 rows_removed t u number slots order =
@@ -129,9 +132,11 @@ module _ (t : Table) (rows : List Row) (row : Row) (i : IsTable t rows) (m : Con
         | inr f ↦ rw f (ap (map h) (filter_all_of (λ r. not (eqb r.number row.number)) (filter test rows) (λ r n. let p = filter_from test rows r n in differs test r p.0 p.1 f)))
       ]
 
+  -- a list of a rest lacks its span
   listed_less : {old new : List Listed} (rest : Rest) → old ≡ spans_in rest rows → new ≡ cond (is_listed rest row.part.state) (without row.number old) old → new ≡ spans_in rest (others row.number rows)
   listed_less rest old new = new ∙ ap (λ ss. cond (is_listed rest row.part.state) (without row.number ss) ss) old ∙ sym (less (λ r. is_listed rest r.part.state) span_of (λ s. s.number) (λ r. refl))
 
+  -- the first pages lack its key
   firsts_less : IsFirsts (others row.number rows) (without_key t.firsts.keys (key_of row))
   firsts_less = record {
     has = λ r n. (
@@ -146,6 +151,7 @@ module _ (t : Table) (rows : List Row) (row : Row) (i : IsTable t rows) (m : Con
         (p.0, filter_has (λ r. not (eqb r.number row.number)) rows p.0 p.1 (not_from_false (eqb p.0.number row.number) other), p.2));
   }
 
+  -- its first and its last page have no number
   edges_less : (page : ℕ) → map_of.get (without_edges t.edges.numbers row.part) page ≡ option_map (λ r. r.number) (find (λ r. is_edge page r.part) (others row.number rows))
   edges_less page =
       numbers_less t.edges.numbers row.part page (row_placed rows row i.apart m)
@@ -162,6 +168,7 @@ module _ (t : Table) (rows : List Row) (row : Row) (i : IsTable t rows) (m : Con
         | inr f ↦ rw f (i.edges page ∙ ap (option_map (λ r. r.number)) (sym (find_kept (λ r. is_edge page r.part) (λ r. not (eqb r.number row.number)) rows (λ r n g. differs (λ x. is_edge page x.part) r n g f))))
       ]
 
+  -- its number is free
   free_less : (free : List ℕ) (number : ℕ) → free ≡ t.free.items ++ row.number ∷ [] → count_by (λ n. eqb n number) free + count_by (λ r. eqb r.number number) (others row.number rows) ≡ bit (ltb number (vec_len t.slots))
   free_less free number e =
       let all = i.free number in
@@ -177,6 +184,7 @@ module _ (t : Table) (rows : List Row) (row : Row) (i : IsTable t rows) (m : Con
       let most = numbers_most t rows row.number i in
       omega arith
 
+  -- each index has what it shall have
   removed : (u : Table) → IsRemoved t u row → IsTable u (others row.number rows)
   removed u a = record {
     apart = apart_less row.number rows i.apart;
@@ -197,15 +205,18 @@ module _ (t : Table) (rows : List Row) (row : Row) (i : IsTable t rows) (m : Con
 
 -- ---- in the words of a table
 
+-- so the table keeps those that begin elsewhere
 pub table_removed : (t u : Table) (row : Row) (first : ℕ) → IsTable t (rows_of t) → IsRowAt t first row → IsRemoved t u row → Keeps u (filter (λ p. not (begins_at first p)) (parts_of t))
 table_removed t u row first i at a =
     let begins = (found (begins_at first) (parts_of t) row.part at.found).1 in
     subst (Keeps u) (others_begin t (rows_of t) row first i at.there begins) (keeps u (others row.number (rows_of t)) (rows_removed t u row.number a.slots a.order) (removed t (rows_of t) row i at.there u a))
 
+-- and none of them meets the one that was taken
 pub apart_removed : (t u : Table) (row : Row) → IsTable t (rows_of t) → Contains (rows_of t) row →
     u.slots ≡ t.slots → u.order.spans ≡ without row.number t.order.spans → All (λ p. meets p.span row.part.span ≡ false) (parts_of u)
 apart_removed t u row i m slots order = rw (rows_removed t u row.number slots order) (others_apart t (rows_of t) row i m)
 
+-- there is one less
 pub order_fewer : (t : Table) (row : Row) → IsTable t (rows_of t) → Contains (rows_of t) row → {spans : List Listed} → spans ≡ without row.number t.order.spans → length spans + 1 ≡ length t.order.spans
 order_fewer t row i m e =
     let all = ap length i.order ∙ length-map (rows_of t) span_of in

@@ -26,6 +26,7 @@ pub record IsSame (t u : Table) : Type 0 where
   pub small : vec_len u.slots ≤ 4294967296
   pub room : vec_len u.slots ≤ vec_capacity u.free
 
+-- the extents are the same
 same_rows : (t u : Table) → IsTable t (rows_of t) → IsSame t u → rows_of u ≡ rows_of t
 unfolding rows_of
 same_rows t u i a =
@@ -34,6 +35,7 @@ same_rows t u i a =
     ap (map (row_at u.slots.items)) a.order
     ∙ map_same (row_at u.slots.items) (row_at t.slots.items) t.order.spans (λ s m. ap (put s.number) (a.kept s.number (within s m)))
 
+-- so the table keeps them
 pub same_table : (t u : Table) → IsTable t (rows_of t) → IsSame t u → Keeps u (parts_of t)
 same_table t u i a = keeps u (rows_of t) (same_rows t u i a) (record {
   apart = i.apart;
@@ -71,6 +73,7 @@ grown t u i slots free flights order dirty muzzy retained firsts edges = same_ta
   room = rw (slots, free) i.room;
 })
 
+-- room for some is room for fewer
 pub room_less : (t : Table) (m n : ℕ) → HasRoom t m → n ≤ m → HasRoom t n
 room_less t m n room le = record {
   order = omega arith;
