@@ -1,9 +1,7 @@
 -- A table to whose indexes an extent was added keeps its extents and that one.
-use Rattle.std.proofs.Common.{◌≡◌, ◌≢◌, ℕ, ◌+◌, ◌-◌, ◌/◌, ◌<◌, ◌≤◌, Bool, true, false, cond, eqb, ltb, ◌||◌, List, [], ◌∷◌, ◌++◌, map, filter, find, length, count_by, Option, Some, None, option_map, set as set_at, vec_len, vec_capacity, inl, inr, ◌⊎◌, refl, sym, ap, ◌∙◌, subst, arith, All, length-append}
-use Rattle.std.specs.List.{Contains}
-use Rattle.std.specs.Option.{option_or, option_to_list}
+use Rattle.std.proofs.Common.{◌≡◌, ◌≢◌, ℕ, ◌+◌, ◌-◌, ◌/◌, ◌<◌, ◌≤◌, Bool, true, false, cond, eqb, ltb, ◌||◌, List, [], ◌∷◌, ◌++◌, map, filter, find, length, count_by, Option, Some, None, option_map, set as set_at, vec_len, vec_capacity, inl, inr, ◌⊎◌, refl, sym, ap, ◌∙◌, subst, arith, All, length-append, Contains, option_to_list, nat_cmp}
+use Rattle.std.specs.Option.{option_or}
 use Rattle.std.specs.Cmp.{unsigned_tied, nat_cmp_total}
-use Rattle.std.specs.Ordering.{nat_cmp}
 use Rattle.std.specs.FinMap as map_of
 use Rattle.std.specs.FinSet as set
 use Rattle.std.proofs.lemmas.Bool.{cases_Bool, cases_lt, eq-eqb, false_from_ne_true}

@@ -1,6 +1,5 @@
 -- The extents of a book after a cut and after a join.
-use Rattle.std.proofs.Common.{◌≡◌, ℕ, ◌-◌, ◌/◌, ◌<◌, false, not, ◌||◌, List, [], ◌∷◌, ◌++◌, filter, find, Option, Some, None, refl, sym, ap, ◌∙◌, subst, arith, All, append_assoc}
-use Rattle.std.specs.Option.{IfSome, IsSome}
+use Rattle.std.proofs.Common.{◌≡◌, ℕ, ◌-◌, ◌/◌, ◌<◌, false, not, ◌||◌, List, [], ◌∷◌, ◌++◌, filter, find, Option, Some, None, refl, sym, ap, ◌∙◌, subst, arith, All, append_assoc, IfSome, IsSome}
 use Rattle.std.specs.FinSet as set
 use Rattle.std.proofs.lemmas.Bool.{eqb-true, not_from_false}
 use Rattle.std.proofs.lemmas.Bool.Decides.{nat_tests}

@@ -1,10 +1,8 @@
 -- What the indexes of a table say of its extents.
-use Rattle.std.proofs.Common.{◌≡◌, ℕ, ◌-◌, ◌/◌, ◌<◌, ◌≤◌, Bool, true, false, not, eqb, List, [], ◌∷◌, length, map, filter, find, get_or, slice_get, Some, None, option_map, vec_len, inl, inr, refl, sym, ap, ◌∙◌, subst, arith, All}
-use Rattle.std.specs.List.{Contains}
+use Rattle.std.proofs.Common.{◌≡◌, ℕ, ◌-◌, ◌/◌, ◌<◌, ◌≤◌, Bool, true, false, not, eqb, List, [], ◌∷◌, length, map, filter, find, get_or, slice_get, Some, None, option_map, vec_len, inl, inr, refl, sym, ap, ◌∙◌, subst, arith, All, Contains, nat_cmp}
 use Rattle.std.proofs.lemmas.Bool.{cases_Bool, cases_lt, true_from_ne_false}
 use Rattle.std.specs.FinMap as map_of
 use Rattle.std.specs.FinSet as set
-use Rattle.std.specs.Ordering.{nat_cmp}
 use Rattle.space_model.specs.Span.{IsPlaced, end_of}
 use Rattle.std.proofs.lemmas.Bool.Decides.{nat_tests}
 use Rattle.std.proofs.lemmas.List.Elements.{All-contains, All-head, All-nil, All-tail, Contains-get_or}

@@ -1,6 +1,6 @@
 -- Searches and filters over a list whose elements are told apart by a test.
-use Rattle.std.proofs.Common.{◌≡◌, ℕ, ◌+◌, ◌≤◌, zero, suc, Bool, true, false, cond, not, ◌||◌, List, [], ◌∷◌, length, map, filter, find, get_or, Option, Some, None, option_map, count_by, inl, inr, refl, sym, ap, ◌∙◌, arith, All}
-use Rattle.std.specs.List.{Contains, position_or_len}
+use Rattle.std.proofs.Common.{◌≡◌, ℕ, ◌+◌, ◌≤◌, zero, suc, Bool, true, false, cond, not, ◌||◌, List, [], ◌∷◌, length, map, filter, find, get_or, Option, Some, None, option_map, count_by, inl, inr, refl, sym, ap, ◌∙◌, arith, All, Contains}
+use Rattle.std.specs.List.{position_or_len}
 use Rattle.std.proofs.lemmas.List.{get_or-map, length-map}
 use Rattle.std.proofs.lemmas.List.Folds.{find_at}
 use Rattle.std.proofs.lemmas.Bool.{cases_Bool, cases_lt, false_from_ne_true}

@@ -1,9 +1,6 @@
 -- A table from whose indexes an extent was taken keeps the others.
-use Rattle.std.proofs.Common.{◌≡◌, ℕ, ◌+◌, ◌-◌, ◌≤◌, Bool, true, false, not, cond, eqb, ltb, List, [], ◌∷◌, ◌++◌, map, filter, find, length, count_by, Option, Some, None, option_map, vec_len, vec_capacity, inl, inr, refl, sym, ap, ◌∙◌, subst, arith, All}
-use Rattle.std.specs.List.{Any, Contains}
-use Rattle.std.specs.Option.{IsSome}
+use Rattle.std.proofs.Common.{◌≡◌, ℕ, ◌+◌, ◌-◌, ◌≤◌, Bool, true, false, not, cond, eqb, ltb, List, [], ◌∷◌, ◌++◌, map, filter, find, length, count_by, Option, Some, None, option_map, vec_len, vec_capacity, inl, inr, refl, sym, ap, ◌∙◌, subst, arith, All, Any, Contains, IsSome, nat_cmp}
 use Rattle.std.specs.Cmp.{unsigned_tied, nat_cmp_total}
-use Rattle.std.specs.Ordering.{nat_cmp}
 use Rattle.std.specs.FinMap as map_of
 use Rattle.std.proofs.lemmas.Bool.{cases_Bool, eq-eqb, eqb-true, false_from_ne_true, not_from_false}
 use Rattle.std.proofs.lemmas.List.Elements.{All-contains, All-filter}

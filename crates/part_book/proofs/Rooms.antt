@@ -1,7 +1,6 @@
 -- A table that was given room keeps its extents.
-use Rattle.std.proofs.Common.{◌≡◌, ℕ, ◌+◌, ◌<◌, ◌≤◌, eqb, ltb, map, count_by, vec_len, vec_capacity, sym, ap, ◌∙◌, subst, arith, refl, All}
+use Rattle.std.proofs.Common.{◌≡◌, ℕ, ◌+◌, ◌<◌, ◌≤◌, eqb, ltb, map, count_by, vec_len, vec_capacity, sym, ap, ◌∙◌, subst, arith, refl, All, Contains}
 use Rattle.std.specs.FinMap as map_of
-use Rattle.std.specs.List.{Contains}
 use Rattle.fit_lists.specs.Spans.{Listed}
 use Rattle.space_model.specs.declared.parts.Part.{Part}
 use Rattle.part_book.specs.declared.table.Table.{Table}

@@ -1,5 +1,4 @@
-use Rattle.std.proofs.Common.{◌+◌, ◌*◌, find, refl, sym, ap, ◌∙◌, subst, arith}
-use Rattle.std.specs.Option.{IsSome}
+use Rattle.std.proofs.Common.{◌+◌, ◌*◌, find, refl, sym, ap, ◌∙◌, subst, arith, IsSome}
 use Rattle.space_model.specs.Part.{begins_at}
 use Rattle.part_book.specs.Tables.{parts_of}
 use Rattle.part_book.proofs.Changed.{join_parts, joined_apart, joined_leaves, joined_placed, next, next_is}

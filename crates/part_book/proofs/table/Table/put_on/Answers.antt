@@ -1,5 +1,4 @@
-use Rattle.std.proofs.Common.{◌++◌, ap, ◌∙◌, refl, arith}
-use Rattle.std.specs.Option.{option_to_list}
+use Rattle.std.proofs.Common.{◌++◌, ap, ◌∙◌, refl, arith, option_to_list}
 use Rattle.space_model.specs.declared.parts.Rest.TheVariants.{Dirty as ToDirty, Muzzy as ToMuzzy, Retained as ToRetained}
 use Rattle.part_book.specs.Tables.{rows_of}
 use Rattle.part_book.proofs.Additions.{absent_first, all_apart, can_list, flights_fewer, fresh, leaves_kept, new_number, table_added}
