@@ -9,20 +9,14 @@ use Rattle.space_model.specs.declared.parts.Part.{Part}
 use Rattle.space_model.specs.Span.{IsPlaced, end_of, meets}
 use Rattle.space_model.specs.Part.{begins_at, exchanged}
 use Rattle.space_model.specs.Step.{low_piece, high_piece}
-use Rattle.part_book.specs.declared.table.Table.{Table}
 use Rattle.part_book.specs.Books.{AreAlike, joined}
 use Rattle.part_book.specs.Leaves.{leaves_for}
 use Rattle.part_book.specs.Rows.{IsApart}
-use Rattle.part_book.specs.Tables.{parts_of}
 use Rattle.part_book.proofs.Chunks.{leaves_both, leaves_none}
 use Rattle.part_book.proofs.Lists.{all_from, filter_both, find_kept, found}
 use Rattle.part_book.proofs.Parts.{placed}
 
 -- ---- a cut
-
--- the cut lies inside of the extent that is found
-pub within : (t : Table) (now : List Part) (first left : ℕ) (p : Part) → parts_of t ≡ now → find (begins_at first) (parts_of t) ≡ Some p → IfSome (find (begins_at first) now) (λ q. left < q.span.pages) → left < p.span.pages
-within t now first left p same e fewer = rw (sym (ap (find (begins_at first)) same) ∙ e) at fewer
 
 -- the extents after a cut
 pub cut_parts : (old now t u v : List Part) (first left : ℕ) (p low high : Part) → old ≡ now → find (begins_at first) old ≡ Some p → t ≡ filter (λ q. not (begins_at first q)) old → u ≡ t ++ low ∷ [] → v ≡ u ++ high ∷ [] → low ≡ low_piece left p → high ≡ high_piece left p →

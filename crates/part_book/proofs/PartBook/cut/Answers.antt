@@ -1,8 +1,9 @@
-use Rattle.std.proofs.Common.{◌≡◌, ◌+◌, ◌-◌, ◌*◌, ◌/◌, ap, subst, arith}
+use Rattle.std.proofs.Common.{◌≡◌, ◌+◌, ◌-◌, ◌*◌, ◌/◌, find, sym, ap, ◌∙◌, subst, arith}
 use Rattle.space_model.specs.Span.{end_of}
+use Rattle.space_model.specs.Part.{begins_at}
 use Rattle.space_model.specs.Step.{high_piece}
 use Rattle.part_book.specs.Tables.{HasRoom}
-use Rattle.part_book.proofs.Changed.{cut_parts, within}
+use Rattle.part_book.proofs.Changed.{cut_parts}
 use Rattle.part_book.proofs.Chunks.{leaves_first, leaves_last, leaves_none, more_leaves}
 use Rattle.part_book.proofs.Rooms.{room_less}
 use Rattle.part_book.proofs.PartBook.cut.Goals as goal
@@ -24,7 +25,7 @@ invariant_of-self c =
     let there = leaves_none t.edges c.take_off-part.result.span c.take_off-part.ensures.leaves in
     let low = leaves_first t.edges c.low_piece.result.span (rw c.low_piece.ensures there.0) in
     let next = c.put_on.ensures.leaves (2 * n - 1) (omega arith) in
-    let fewer = within c.self.inside.table c.args.self.now.parts c.args.first c.args.left c.take_off-part.result (ap (λ b. b.parts) c.self.view_is) c.take_off-part.ensures.part c.requires.fewer in
+    let fewer = rw (sym (ap (λ b. find (begins_at c.args.first) b.parts) c.self.view_is) ∙ c.take_off-part.ensures.part) at c.requires.fewer in
     let same : end_of (high_piece c.args.left c.take_off-part.result).span ≡ end_of c.take_off-part.result.span = omega arith in
     let last = c.put_on.ensures.chunks ((end_of c.take_off-part.result.span - 1) / 512) there.1 in
     let high = leaves_last u.edges c.high_piece.result.span (rw (c.high_piece.ensures, same) last) in
