@@ -16,7 +16,7 @@ use Rattle.fit_lists.specs.Rows.{IsIndex, IsSound, IsTable, age_key, listed, spa
 use Rattle.ordered_set.proofs.Members.{contains_cases, contains_later, every_from, with_from, with_keeps, with_self, without_from, without_keeps}
 use Rattle.ordered_set.proofs.Orders.{from_start, less_major, major_less, start, start_from}
 use Rattle.fit_lists.proofs.Finds.{find_some}
-use Rattle.fit_lists.proofs.Tables.{ages_without, keys_each, map_every, map_member, other_rows, row_number, two_rows, one_row}
+use Rattle.fit_lists.proofs.Tables.{ages_without, keys_each, map_every, map_member, other_rows, span_number, two_rows, one_row}
 
 -- a row with another age
 abbrev pub aged : Row → ℕ → Row
@@ -176,13 +176,13 @@ module _ (xs : List Row) (r : Row) (ys : List Row) (age : ℕ) (young : Every (�
     ];
   }
 
-  -- the set of rows
+  -- the set by number
   pub index_aged : (ks ks' : List Key) → IsIndex span_key was ks → ks' ≡ with_key (without_key ks (span_key r)) (span_key new) → IsAscending ks' → IsIndex span_key (xs ++ new ∷ ys) ks'
   index_aged ks ks' i e s = record {
     ascending = s;
     has = λ x m. rw e (elim (mid_cases xs new ys x m) [
       | inl n ↦ rw n (with_self (without_key ks (span_key r)) (span_key new))
-      | inr o ↦ with_keeps _ (span_key new) (span_key x) (without_keeps ks (span_key r) (span_key x) (i.has x (mid_other xs r ys x o)) (λ f. other_number x o (row_number x r (sound.age x (mid_other xs r ys x o)) (sound.age r (mid_self xs r ys)) (ap (λ k. k.major) f))))
+      | inr o ↦ with_keeps _ (span_key new) (span_key x) (without_keeps ks (span_key r) (span_key x) (i.has x (mid_other xs r ys x o)) (λ f. other_number x o (span_number x r (sound.age x (mid_other xs r ys x o)) (sound.age r (mid_self xs r ys)) (ap (λ k. k.major) f))))
     ]);
     from = λ k m. elim (with_from (without_key ks (span_key r)) (span_key new) k (subst (λ z. Contains z k) e m)) [
       | inl n ↦ (new, mid_self xs new ys, sym n)
@@ -240,22 +240,20 @@ module _ (t : Table) (rows : List Row) (age : ℕ) (row : Row) (i : IsTable t ro
       let x = i.spans.from _ q.0 in
       let old = i.sound.age row m in
       let le = not_older in
-      let number = row_number x.0 (aged row age) (i.sound.age x.0 x.1) (omega arith) (ap (λ k. k.major) x.2) in
+      let number = span_number x.0 (aged row age) (i.sound.age x.0 x.1) (omega arith) (ap (λ k. k.major) x.2) in
       q.1 (sym x.2 ∙ ap span_key (i.sound.numbers x.0 row x.1 m number))
 
   pub table_aged : (t' : Table) → t'.ages.keys ≡ with_key (without_key t.ages.keys (age_key row)) (age_key (aged row age)) → IsAscending t'.ages.keys → t'.spans.keys ≡ with_key (without_key t.spans.keys (span_key row)) (span_key (aged row age)) → IsAscending t'.spans.keys → t'.sizes.keys ≡ t.sizes.keys → IsTable t' (with_age rows age)
   table_aged t' a up' r rs s =
       let was' : IsTable t (p.before ++ p.row ∷ p.after) = subst (IsTable t) p.is i in
       let up : IsAscending (map age_key (p.before ++ p.row ∷ p.after)) = subst IsAscending was'.ages i.ascending in
-      let ages : t'.ages.keys ≡ with_key (without_key t.ages.keys (age_key p.row)) (age_key (aged p.row age)) =
-      subst (λ x. t'.ages.keys ≡ with_key (without_key t.ages.keys (age_key x)) (age_key (aged x age))) (sym is_row) a in
-      let rows' : t'.spans.keys ≡ with_key (without_key t.spans.keys (span_key p.row)) (span_key (aged p.row age)) =
-      subst (λ x. t'.spans.keys ≡ with_key (without_key t.spans.keys (span_key x)) (span_key (aged x age))) (sym is_row) r in
+      let ages : t'.ages.keys ≡ with_key (without_key t.ages.keys (age_key p.row)) (age_key (aged p.row age)) = subst (λ x. t'.ages.keys ≡ with_key (without_key t.ages.keys (age_key x)) (age_key (aged x age))) (sym is_row) a in
+      let spans : t'.spans.keys ≡ with_key (without_key t.spans.keys (span_key p.row)) (span_key (aged p.row age)) = subst (λ x. t'.spans.keys ≡ with_key (without_key t.spans.keys (span_key x)) (span_key (aged x age))) (sym is_row) r in
       rw p.now (record {
         sound = sound_aged p.before p.row p.after age p.young p.from was'.sound up;
         ages = ages ∙ ap (λ ks. with_key (without_key ks (age_key p.row)) (age_key (aged p.row age))) was'.ages ∙ ages_aged p.before p.row p.after age p.young p.from was'.sound up;
         ascending = up';
-        spans = index_aged p.before p.row p.after age p.young p.from was'.sound up t.spans.keys t'.spans.keys was'.spans rows' rs;
+        spans = index_aged p.before p.row p.after age p.young p.from was'.sound up t.spans.keys t'.spans.keys was'.spans spans rs;
         sizes = rw s (index_kept p.before p.row p.after age p.young p.from was'.sound up size_key t.sizes.keys refl was'.sizes);
       })
 

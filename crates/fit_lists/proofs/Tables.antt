@@ -29,6 +29,14 @@ high_of high low l = omega arith
 pub low_of : (high low : ℕ) → low < 2 ^ 32 → packed high low % 2 ^ 32 ≡ low
 low_of high low l = omega arith
 
+-- the number of a row is in its key by number and age
+pub span_number : (x y : Row) → x.age < 2 ^ 32 → y.age < 2 ^ 32 → (span_key x).major ≡ (span_key y).major → x.number ≡ y.number
+span_number x y l m e = omega arith
+
+-- the number of a row is in its key in the set by size
+size_number : (x y : Row) → x.number < 2 ^ 32 → y.number < 2 ^ 32 → size_key x ≡ size_key y → x.number ≡ y.number
+size_number x y l m e = let minor : (size_key x).minor ≡ (size_key y).minor = ap (λ k. k.minor) e in omega arith
+
 -- ---- one set
 
 pub index_new : (f : Row → Key) → IsIndex f [] []
@@ -92,22 +100,23 @@ row_back rows x s m =
     let pages : packed x.first (x.pages - 1) % 2 ^ 32 + 1 ≡ x.pages = ap (λ n. n + 1) (low_of x.first (x.pages - 1) (omega arith)) ∙ omega arith in
     λ j. record { number = x.number; first = first j; pages = pages j; age = x.age }
 
--- a row by the major number of its key in the set of rows
+-- rows with one key by number and age are the same
 pub one_span_key : (rows : List Row) (x y : Row) → IsSound rows → Contains rows x → Contains rows y → (span_key x).major ≡ (span_key y).major → x ≡ y
-one_span_key rows x y s m n e = let old = s.age x m in let new = s.age y n in s.numbers x y m n (omega arith)
+one_span_key rows x y s m n e = s.numbers x y m n (span_number x y (s.age x m) (s.age y n) e)
 
 -- the sets determine the rows
 pub rows_are : (t : Table) (rows : List Row) → IsTable t rows → rows_of t ≡ rows
 unfolding rows_of
 rows_are t rows i = ap (map (row_at t)) i.ages ∙ map_each (row_at t) rows (every_from _ rows (λ x m. each x m))
   where
+    own : (x : Row) → Contains rows x → (k : Key) → Contains t.spans.keys k → k.major ≡ (span_key x).major → k.minor ≡ (span_key x).minor
+    own x m k n e =
+        let p = i.spans.from k n in
+        sym (ap (λ y. y.minor) p.2) ∙ ap (λ y. (span_key y).minor) (one_span_key rows p.0 x i.sound p.1 m (ap (λ y. y.major) p.2 ∙ e))
+
     each : (x : Row) → Contains rows x → row_at t (age_key x) ≡ x
     each x m =
-        let major : ℕ = packed x.number x.age in
-        let own : (k : Key) → Contains t.spans.keys k → k.major ≡ major → k.minor ≡ (span_key x).minor = λ k n e.
-        let p = i.spans.from k n in
-        sym (ap (λ y. y.minor) p.2) ∙ ap (λ y. (span_key y).minor) (one_span_key rows p.0 x i.sound p.1 m (ap (λ y. y.major) p.2 ∙ e)) in
-        ap (row_of_keys (age_key x)) (minor_is t.spans.keys major (span_key x).minor (i.spans.has x m) own) ∙ row_back rows x i.sound m
+        ap (row_of_keys (age_key x)) (minor_is t.spans.keys (span_key x).major (span_key x).minor (i.spans.has x m) (own x m)) ∙ row_back rows x i.sound m
 
 -- ---- soundness
 
@@ -202,26 +211,27 @@ ages_without rows r s m = filter_map (is_other (age_key r)) (λ x. not (x.number
 
 -- ---- the whole table
 
+-- the table keeps the rows that are read off it
 pub settled : (t : Table) (rows : List Row) → IsTable t rows → IsTable t (rows_of t)
 settled t rows i = subst (IsTable t) (sym (rows_are t rows i)) i
 
 pub table_new : (t : Table) → t.ages.keys ≡ [] → t.spans.keys ≡ [] → t.sizes.keys ≡ [] → IsTable t []
 unfolding IsStrictlySortedBy
-table_new t a r s = record {
+table_new t a p s = record {
   sound = sound_new;
   ages = a;
   ascending = rw a tt;
-  spans = rw r (index_new span_key);
+  spans = rw p (index_new span_key);
   sizes = rw s (index_new size_key);
 }
 
 -- other sets with the same keys
 pub table_same : (t t' : Table) (rows : List Row) → IsTable t rows → t'.ages.keys ≡ t.ages.keys → t'.spans.keys ≡ t.spans.keys → t'.sizes.keys ≡ t.sizes.keys → IsTable t' rows
-table_same t t' rows i a r s = record {
+table_same t t' rows i a p s = record {
   sound = i.sound;
   ages = a ∙ i.ages;
   ascending = rw a i.ascending;
-  spans = rw r i.spans;
+  spans = rw p i.spans;
   sizes = rw s i.sizes;
 }
 
@@ -241,14 +251,6 @@ table_with t t' rows r i next a p s = record {
   sizes = index_with size_key rows t.sizes.keys t'.sizes.keys r i.sizes s.1 s.0;
 }
 
--- the number of a row is in its key in the set of rows
-pub row_number : (x y : Row) → x.age < 2 ^ 32 → y.age < 2 ^ 32 → (span_key x).major ≡ (span_key y).major → x.number ≡ y.number
-row_number x y l m e = omega arith
-
--- the number of a row is in its key in the set by size
-size_number : (x y : Row) → x.number < 2 ^ 32 → y.number < 2 ^ 32 → size_key x ≡ size_key y → x.number ≡ y.number
-size_number x y l m e = let minor : (size_key x).minor ≡ (size_key y).minor = ap (λ k. k.minor) e in omega arith
-
 pub table_without : (t t' : Table) (rows : List Row) (r : Row) → IsTable t rows → Contains rows r → Loses t.ages.keys t'.ages.keys (age_key r) → Loses t.spans.keys t'.spans.keys (span_key r) → Loses t.sizes.keys t'.sizes.keys (size_key r) → IsTable t' (other_rows r.number rows)
 table_without t t' rows r i m a p s =
     let own : (x : Row) → Contains rows x → x.number ≡ r.number → x ≡ r = λ x k e. i.sound.numbers x r k m e in
@@ -256,7 +258,7 @@ table_without t t' rows r i m a p s =
       sound = sound_filter _ rows i.sound;
       ages = a.0 ∙ ap (λ ks. without_key ks (age_key r)) i.ages ∙ ages_without rows r i.sound m;
       ascending = a.1;
-      spans = index_without span_key rows t.spans.keys t'.spans.keys r i.spans p.1 p.0 (λ x k e. row_number x r (i.sound.age x k) (i.sound.age r m) (ap (λ y. y.major) e)) own;
+      spans = index_without span_key rows t.spans.keys t'.spans.keys r i.spans p.1 p.0 (λ x k e. span_number x r (i.sound.age x k) (i.sound.age r m) (ap (λ y. y.major) e)) own;
       sizes = index_without size_key rows t.sizes.keys t'.sizes.keys r i.sizes s.1 s.0 (λ x k e. size_number x r (i.sound.number x k) (i.sound.number r m) e) own;
     }
 
@@ -277,7 +279,7 @@ age_absent t rows r i next m =
     omega arith
 
 pub span_absent : (t : Table) (rows : List Row) (r : Row) → IsTable t rows → IsNext rows r → Contains t.spans.keys (span_key r) → ⊥
-span_absent t rows r i next = index_absent span_key rows t.spans.keys r i.spans (λ x m e. next.new x m (row_number x r (i.sound.age x m) next.age (ap (λ k. k.major) e)))
+span_absent t rows r i next = index_absent span_key rows t.spans.keys r i.spans (λ x m e. next.new x m (span_number x r (i.sound.age x m) next.age (ap (λ k. k.major) e)))
 
 pub size_absent : (t : Table) (rows : List Row) (r : Row) → IsTable t rows → IsNext rows r → Contains t.sizes.keys (size_key r) → ⊥
 size_absent t rows r i next = index_absent size_key rows t.sizes.keys r i.sizes (λ x m e. next.new x m (size_number x r (i.sound.number x m) next.number e))
@@ -301,24 +303,25 @@ not_less k y f = elim (cases_lt k.major y.major) [ inl l ↦ absurd (f (major_le
 -- the first key from a number on is that of its row
 pub row_first : (t : Table) (rows : List Row) (x : Row) → IsTable t rows → Contains rows x → find (is_from (start (packed x.number 0))) t.spans.keys ≡ Some (span_key x)
 row_first t rows x i m =
+    let from : Key → Bool = is_from (start (packed x.number 0)) in
+    let there = i.spans.has x m in
     let pass = start_from (span_key x) (packed x.number 0) (omega arith) in
-    let f = find_any (is_from (start (packed x.number 0))) t.spans.keys (span_key x) (i.spans.has x m) pass in
-    let p = find_some (is_from (start (packed x.number 0))) t.spans.keys f.0 i.spans.ascending f.1 in
-    let z = i.spans.from f.0 p.0 in
+    let f = find_any from t.spans.keys (span_key x) there pass in
+    let p = find_some from t.spans.keys f.0 i.spans.ascending f.1 in
     let low = from_start f.0 (packed x.number 0) p.1 in
-    let high = not_less (span_key x) f.0 (λ less. let none = p.2 (span_key x) (i.spans.has x m) less in cc) in
+    let high = not_less (span_key x) f.0 (λ less. let none = p.2 (span_key x) there less in cc) in
+    let z = i.spans.from f.0 p.0 in
     let is : (span_key z.0).major ≡ f.0.major = ap (λ k. k.major) z.2 in
-    let old = i.sound.age x m in
-    let age = i.sound.age z.0 z.1 in
-    let same : z.0 ≡ x = i.sound.numbers z.0 x z.1 m (omega arith) in
-    f.1 ∙ ap (λ k. Some k) (sym z.2 ∙ ap span_key same)
+    let small = i.sound.age x m in
+    let too = i.sound.age z.0 z.1 in
+    f.1 ∙ ap (λ k. Some k) (sym z.2 ∙ ap span_key (i.sound.numbers z.0 x z.1 m (omega arith)))
 
 -- the parts of a row are those of its key
 pub row_found : (rows : List Row) (x : Row) (number : ℕ) (key : Key) → IsSound rows → Contains rows x → x.number ≡ number → key ≡ span_key x →
     Contains rows (record { number = number; first = key.minor / 2 ^ 32; pages = key.minor % 2 ^ 32 + 1; age = key.major % 2 ^ 32 })
 row_found rows x number key s m n e =
-    let back : row_of_keys (age_key x) key.minor ≡ x = ap (λ k. row_of_keys (age_key x) k.minor) e ∙ row_back rows x s m in
-    let age : key.major % 2 ^ 32 ≡ x.age = ap (λ k. k.major % 2 ^ 32) e ∙ low_of x.number x.age (s.age x m) in
-    let is : record { number = number; first = key.minor / 2 ^ 32; pages = key.minor % 2 ^ 32 + 1; age = key.major % 2 ^ 32 } ≡ x =
-    λ j. record { number = (sym n) j; first = (back j).first; pages = (back j).pages; age = age j } in
-    subst (Contains rows) (sym is) m
+    let back = row_back rows x s m in
+    let age = low_of x.number x.age (s.age x m) in
+    let is : x ≡ record { number = x.number; first = (span_key x).minor / 2 ^ 32; pages = (span_key x).minor % 2 ^ 32 + 1; age = (span_key x).major % 2 ^ 32 } =
+    sym (λ j. record { number = x.number; first = (back j).first; pages = (back j).pages; age = age j }) in
+    rw (← n, e) (subst (Contains rows) is m)

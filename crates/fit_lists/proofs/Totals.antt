@@ -1,5 +1,5 @@
 -- The spans of the rows, and the sums of their pages.
-use Rattle.std.proofs.Common.{◌≡◌, ◌==◌, ℕ, ◌+◌, ◌^◌, ◌<◌, ◌≤◌, zero, true, not, List, [], ◌∷◌, length, map, filter, Less, Equal, ◌⊎◌, inl, inr, refl, sym, ap, ◌∙◌, subst, arith, Some, slice_get}
+use Rattle.std.proofs.Common.{◌≡◌, ◌==◌, ℕ, ◌+◌, ◌^◌, ◌<◌, ◌≤◌, zero, true, not, List, [], ◌∷◌, ◌++◌, length, map, filter, Less, Equal, ◌⊎◌, inl, inr, refl, sym, ap, ◌∙◌, subst, arith, Some, slice_get}
 use Rattle.std.specs.List.{All, Any, Contains, sum_by}
 use Rattle.std.specs.List.Sorted.{IsStrictlySortedBy}
 use Rattle.std.proofs.lemmas.Bool.{cases_Bool, cases_order, eqb-true, eq-eqb, ne_eqb, not_from_false}
@@ -243,6 +243,13 @@ same_sum rows rows' e = sym (sum_listed rows') ∙ ap (sum_by (λ s. s.pages)) e
 
 pub same_length : (rows rows' : List Row) → map listed rows' ≡ map listed rows → length rows' ≡ length rows
 same_length rows rows' e = sym (length-map rows' listed) ∙ ap length e ∙ length-map rows listed
+
+-- the pages of one more row
+pub sum_more : (rows : List Row) (r : Row) → sum_by (λ x. x.pages) (rows ++ r ∷ []) ≡ sum_by (λ x. x.pages) rows + r.pages
+sum_more rows r =
+    let whole = sum_by-append (λ (x : Row). x.pages) rows (r ∷ []) in
+    let last = sum_by-cons (λ (x : Row). x.pages) r [] in
+    omega arith
 
 -- what the spans say of a row that may come next
 pub next_row : (rows : List Row) (spans : List Listed) (r : Row) → map listed rows ≡ spans → r.number < 2 ^ 32 → r.age < 2 ^ 32 → 0 < r.pages → r.first + r.pages ≤ 2 ^ 32 → All (λ s. s.number ≡ r.number → ⊥) spans → All (IsApart r.first r.pages) spans → All (λ x. x.age < r.age) rows → IsNext rows r

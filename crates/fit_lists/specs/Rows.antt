@@ -28,7 +28,7 @@ span_of key = record { number = key.minor % 2 ^ 32; first = key.minor / 2 ^ 32; 
 unfoldable pub minor_of : List Key → ℕ → ℕ
 minor_of keys major = unwrap_or (option_map (λ k. k.minor) (find (λ k. k.major == major) keys)) 0
 
--- a row from its key in the set by age and the minor number of its key in the set of rows
+-- a row from its key in the set by age and the minor number of its key in the set by number
 abbrev pub row_of_keys : Key → ℕ → Row
 row_of_keys key place = record { number = key.minor; first = place / 2 ^ 32; pages = place % 2 ^ 32 + 1; age = key.major }
 
@@ -55,7 +55,7 @@ pub record IsIndex (key_of : Row → Key) (rows : List Row) (keys : List Key) : 
   pub has : (row : Row) → Contains rows row → Contains keys (key_of row)
   pub from : (key : Key) → Contains keys key → (row : Row) × Contains rows row × (key_of row ≡ key)
 
--- each row is a span in range, its number, its age and its pages are its own
+-- each row is a span in range, its number and its age are below 2 ^ 32, and they and its pages are its own
 pub record IsSound (rows : List Row) : Type 0 where
   pub numbers : (x y : Row) → Contains rows x → Contains rows y → x.number ≡ y.number → x ≡ y
   pub ages : (x y : Row) → Contains rows x → Contains rows y → x.age ≡ y.age → x ≡ y

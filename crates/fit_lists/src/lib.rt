@@ -6,7 +6,7 @@ ghost use Rattle.std.specs.Prelude.{◌≡◌, ◌==◌, ℕ, ◌+◌, ◌*◌, 
 ghost use Rattle.fit_lists.specs.Rows.{span_of};
 ghost use Rattle.fit_lists.specs.Spans.{HoldsRun, IsApart, IsFirstFit};
 
-use crate::table::{HALF, Row, Table};
+use crate::table::{RADIX, Row, Table};
 use ordered_set::Key;
 use std::alloc::{AllocError as NoMemory, Global};
 use std::marker::Model;
@@ -17,9 +17,10 @@ mod tests;
 
 /// Spans of pages with their numbers, in order of insertion.
 ///
-/// `first_fit`, `oldest`, `insert` and `remove` look up and change a few ordered sets; `pages` and
-/// `len` are kept. `reserve` makes room for a number of insertions, and each removal gives its
-/// place back.
+/// Three ordered sets have them by age, by number and by size. `first_fit` and `oldest` read the
+/// number off a key, `insert` puts a key in each set and `remove` takes it out; `pages` and `len`
+/// are kept. `reserve` makes room for a number of insertions, and each removal gives its place
+/// back.
 #[derive(Drop)]
 pub struct FitList {
     table: Table,
@@ -154,7 +155,7 @@ impl FitList {
         while !holds_run(size, pages, align) {
             size = self.table.sizes.after(size)?;
         }
-        Some((size.minor % HALF) as u32)
+        Some((size.minor % RADIX) as u32)
     }
 }
 
@@ -173,6 +174,6 @@ fn holds_run(size: Key, pages: u64, align: u64) -> bool
     requires { 0 < align }
     ensures { IsTrue result ↔ HoldsRun pages align (span_of size) }
 {
-    let skipped = pages_to_multiple(size.minor / HALF, align);
+    let skipped = pages_to_multiple(size.minor / RADIX, align);
     skipped <= size.major && pages <= size.major - skipped
 }

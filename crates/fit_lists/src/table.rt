@@ -1,4 +1,4 @@
-//! The rows of a list, kept in three ordered sets of pairs of numbers.
+//! The rows of a list, kept in three ordered sets of pairs of numbers, of which most pack two.
 ghost use Rattle.std.specs.Prelude.{◌≡◌, ◌==◌, All, length, find, Some, ℕ, ◌+◌, ◌<◌, ◌≤◌, ◌^◌, [], ◌∷◌, ◌++◌, not, map, max, filter, Any, Contains, OnOk};
 ghost use Rattle.ordered_set.specs.Keys.{is_from};
 ghost use Rattle.fit_lists.specs.Rows.{HasRoom, IsNext, IsTable, age_key, listed, packed, span_key, rows_of, size_key, with_age};
@@ -6,16 +6,16 @@ ghost use Rattle.fit_lists.specs.Rows.{HasRoom, IsNext, IsTable, age_key, listed
 use ordered_set::{Key, OrderedSet};
 use std::alloc::{AllocError as NoMemory, Global};
 
-/// Numbers below this are packed in pairs, two in one.
-pub const HALF: u64 = 1 << 32;
+/// Two numbers below this are packed in one, as its two digits.
+pub const RADIX: u64 = 1 << 32;
 
-// Two numbers below 2 ^ 32 in one.
+// Two numbers in one.
 fn packed(high: u64, low: u64) -> u64
     requires high { high < 2 ^ 32 }
     requires low { low < 2 ^ 32 }
     ensures { result ≡ packed high low }
 {
-    high * HALF + low
+    high * RADIX + low
 }
 
 /// A span with its number and its age.
@@ -61,8 +61,8 @@ impl Row {
     }
 }
 
-// The three sets: by age, with the number; by number and age, with the first page and the last
-// page's distance from it; and by pages, first page and number.
+// Three sets, each with a key for each row. The one by age gives the number, the one by number and
+// age gives the span, and the one by pages and first page gives the number.
 #[derive(Drop)]
 pub struct Table {
     pub ages: OrderedSet,
@@ -108,9 +108,9 @@ impl Table {
         let key = self.spans.at_or_after(start).unwrap();
         Row {
             number,
-            first: key.minor / HALF,
-            pages: key.minor % HALF + 1,
-            age: key.major % HALF,
+            first: key.minor / RADIX,
+            pages: key.minor % RADIX + 1,
+            age: key.major % RADIX,
         }
     }
 
@@ -126,7 +126,7 @@ impl Table {
     {
         match self.ages.last() {
             None => 0,
-            Some(last) if last.major < HALF - 1 => last.major + 1,
+            Some(last) if last.major < RADIX - 1 => last.major + 1,
             Some(_) => {
                 self.renumber();
                 self.ages.len()
