@@ -16,7 +16,8 @@ use Rattle.trace_text.specs.declared.lines.Line.TheVariants.{Call}
 use Rattle.replay_run.specs.World.{Open, World, Move, Turned, Heard_, outcome_of, printed, begun, fed, opened, opening, moved, after_in, after_move, Fits, NextIn, IsNext, IsPlay}
 use Rattle.replay_run.specs.Sane.{Kept, Going, Sane}
 use Rattle.replay_run.specs.Causes.{items_in, IsExplained, EndsExplained, AllMoves, PlaysHaveCauses, AnswersAtOnceHaveCauses}
-use Rattle.replay_run.proofs.Starts.{ended_only, ends_at_once}
+use Rattle.call_plan.proofs.Ended.{ended_only, run_explained}
+use Rattle.replay_run.proofs.Starts.{ends_at_once}
 use Rattle.replay_run.proofs.Later.{fed_is}
 use Rattle.replay_run.proofs.Plays.{after_sane, opening_sane, going_ready, turned_going, heard_going}
 

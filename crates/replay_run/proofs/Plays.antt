@@ -62,7 +62,8 @@ use Rattle.trace_text.specs.declared.lines.Line.TheVariants.{Call}
 use Rattle.trace_text.specs.declared.lines.Verb.TheVariants.{Malloc as MallocVerb, Free as FreeVerb}
 use Rattle.space_model.proofs.LawLemmas.{first_replays_are_good}
 use Rattle.replay_run.proofs.Frames.{step_frame}
-use Rattle.replay_run.proofs.Starts.{starts, ended_only, ends_at_once}
+use Rattle.call_plan.proofs.Ended.{ended_only}
+use Rattle.replay_run.proofs.Starts.{starts, ends_at_once}
 
 -- ---- journals that grow by an entry
 

@@ -28,7 +28,7 @@ use Rattle.replay_run.specs.World.{Open, World, idle, printed, fed, call_of, IsC
 use Rattle.replay_run.specs.Sane.{Sane, desk_at}
 use Rattle.call_plan.specs.Desks.{DeskFacts}
 use Rattle.replay_run.specs.Carried.{Desktop, IsReady, world_of, Carried, Underway, IsUnderway, CarriedOn}
-use Rattle.replay_run.proofs.Starts.{ended_only}
+use Rattle.call_plan.proofs.Ended.{ended_only}
 use Rattle.replay_run.proofs.Plays.{TurnReady, turn_ready_at, play_sane, fed_sane, opened_going, hands_fresh, ended_client}
 use Rattle.replay_run.proofs.Ways.{TurnMade, AskMade, way_stop, way_end}
 

@@ -1,6 +1,5 @@
 use Rattle.std.proofs.Common.{◌≡◌, ◌+◌, ◌-◌, ap, ◌∙◌, subst, arith, length, length-append, [], ◌∷◌}
 use Rattle.std.specs.List.{sum_by}
-use Rattle.std.proofs.lemmas.List.Sums.{sum_by-cons, sum_by-append}
 use Rattle.fit_lists.specs.declared.table.Row.{Row}
 use Rattle.fit_lists.specs.Rows.{HasRoom, rows_of}
 use Rattle.fit_lists.proofs.Totals.{next_row, pages_bound, rows_bound, same_length, same_sum, sum_more}
