@@ -22,8 +22,8 @@ enum Short {
     Look(u64, u64),
     /// The page that came for a chunk, whether it is committed, and a chunk of another arena.
     Grow(u64, bool, Option<u64>),
-    /// No page came for a chunk.
-    Stay,
+    /// A chunk was refused.
+    Refuse,
     /// A split at so many pages, and whether the lower piece stays in flight.
     Cut(Span, u64, bool, Answer),
     /// A commit.
@@ -107,9 +107,9 @@ const TOOK_TEN: Reply = Reply::Took {
 const FIVE_CLASS: u8 = 37;
 
 /// A chunk grows and is cut. Hooks refuse, and answer pages that can't be.
-const GROWTH: [Line; 16] = [
+const GROWTH: [Line; 21] = [
     (Short::Look(5, 1), Some(Reply::Grow)),
-    (Short::Stay, Some(Reply::Refused)),
+    (Short::Refuse, Some(Reply::Refused)),
     (Short::Grow(0, true, None), Some(Reply::Bad(Why::OffSpace))),
     (
         Short::Grow(513, true, None),
@@ -124,8 +124,18 @@ const GROWTH: [Line; 16] = [
         Short::Cut(CHUNK, 5, true, Answer::Done),
         Some(Reply::Cut(FIVE)),
     ),
+    // The pieces merge while they are committed alike.
+    (Short::Put(FIVE, 0), Some(Reply::Beside(REST))),
+    (
+        Short::Merge(FIVE, REST, Answer::Done, true),
+        Some(Reply::Joined(CHUNK)),
+    ),
+    (Short::Cut(CHUNK, 5, true, Answer::Done), None),
     (Short::Commit(FIVE, Answer::Done), Some(Reply::Noted)),
+    (Short::Put(FIVE, 0), Some(Reply::Next(None))),
+    (Short::Look(5, 1), None),
     (Short::Land(FIVE, FIVE_CLASS), Some(LANDED)),
+    // What is left is taken at a multiple of 4 pages, and its higher piece stays in flight.
     (Short::Look(4, 4), Some(TOOK_REST)),
     (
         Short::Cut(REST, 3, false, Answer::Done),
@@ -213,7 +223,7 @@ fn op_of(alloc: Global, short: Short) -> Op {
             }),
             found,
         },
-        Short::Stay => Op::GrowDone {
+        Short::Refuse => Op::GrowDone {
             heard: chunk_heard(Answer::Refused),
             found: None,
         },
