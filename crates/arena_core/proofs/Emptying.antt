@@ -32,6 +32,7 @@ use Rattle.arena_core.proofs.Swaps.{keeps_all}
 abbrev pub ones : Bool → ℕ
 ones b = cond b 1 0
 
+-- what such a number says of its test
 pub most_one : (b : Bool) → ones b ≤ 1
 most_one b = grind arith
 

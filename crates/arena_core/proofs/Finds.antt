@@ -38,6 +38,7 @@ search_there parts test (Some p) apart e = found_there parts test p apart (sym e
 pub found_inside : {b now : Book} {o : Option Part} (test : Part → Bool) → b ≡ now → IsApart b.parts → o ≡ find test b.parts → IfSome o (IsThere now.parts)
 found_inside {b} {now} {o} test view apart e = subst (λ (x : Book). IfSome o (IsThere x.parts)) view (search_there b.parts test o apart e)
 
+-- so is the unused extent that serves a request
 pub fit_inside : {b now : Book} {o : Option Part} (pages align : ℕ) → b ≡ now → IsApart b.parts → o ≡ fit pages align b.parts → IfSome o (IsThere now.parts)
 fit_inside {b} {now} {o} pages align view apart e = subst (λ (x : Book). IfSome o (IsThere x.parts)) view (there o e)
   where
@@ -85,6 +86,7 @@ pub record Kept (got : Option Part) (both : Part → Bool) (now : Book) : Type 0
   pub found : got ≡ find both now.parts
   pub there : IfSome got (IsThere now.parts)
 
+-- it is the only one that the first test can find
 kept_inside : {b now : Book} {near got : Option Part} (a t both : Part → Bool) → b ≡ now → IsApart b.parts → count_by t b.parts ≤ 1 → ((p : Part) → (a p && t p) ≡ both p) →
     near ≡ find t b.parts → got ≡ kept a near → Kept got both now
 kept_inside {b} {now} {near} {got} a t both view apart once same near_is got_is =

@@ -113,6 +113,7 @@ held_still : (c addr other : ℕ) (regions : List Region) → addr < other → h
 held_still c addr other [] less h = absurd (cc)
 held_still c addr other (r ∷ rs) less h = grind (arith, nat_tests, held_still c addr other rs less)
 
+-- so are all that are held at higher addresses
 all_still : (c addr : ℕ) (addrs : List ℕ) (regions : List Region) → All (λ a. addr < a) addrs → list_all (holds_at c regions) addrs ≡ true → list_all (holds_at c (staying c (addr ∷ []) regions)) addrs ≡ true
 all_still c addr [] regions above h = refl
 all_still c addr (a ∷ more) regions above h =
