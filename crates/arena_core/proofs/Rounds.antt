@@ -79,10 +79,7 @@ filter_twice f g [] = refl
 filter_twice f g (x ∷ xs) = grind (arith, filter_twice f g xs)
 
 pub filters_swap : {X : Type 0} (f g : X → Bool) (xs : List X) → filter f (filter g xs) ≡ filter g (filter f xs)
-filters_swap f g xs = filter_twice f g xs ∙ filter_alike (λ x. g x && f x) (λ x. f x && g x) xs (λ k d h. and_swaps (g _) (f _)) ∙ sym (filter_twice g f xs)
-  where
-    and_swaps : (a b : Bool) → (a && b) ≡ (b && a)
-    and_swaps a b = grind arith
+filters_swap f g xs = filter_twice f g xs ∙ filter_alike (λ x. g x && f x) (λ x. f x && g x) xs (λ k d h. grind arith) ∙ sym (filter_twice g f xs)
 
 -- ---- the regions
 
@@ -252,7 +249,7 @@ round c addr addrs s sound held above =
 pub no_round : (c : ℕ) (s : Space) → Sound s → ((after_back s c []).after ≡ s) × (length (filter (is_emptied (staying c [] s.regions)) s.parts) ≡ 0)
 no_round c s sound =
     let given = is_given_back c [] in
-    let regions : staying c [] s.regions ≡ s.regions = keeps_all given s.regions (none_kept given s.regions (λ k d h. nobody (is_held_by c (get_or s.regions k d)))) in
+    let regions : staying c [] s.regions ≡ s.regions = keeps_all given s.regions (none_kept given s.regions (λ k d h. grind arith)) in
     let none = none_kept (is_emptied s.regions) s.parts (λ k d h. serves_still (get_or s.parts k d) (sound.used k d h)) in
     let all : filter (λ p. not (is_emptied s.regions p)) s.parts ≡ s.parts = keeps_all (is_emptied s.regions) s.parts none in
     let parts : exchanged (is_emptied s.regions) s.parts (taken_in_order c (filter (is_emptied s.regions) s.parts)) ≡ s.parts = cc (none, all, append-nil s.parts) in (
@@ -261,9 +258,6 @@ no_round c s sound =
       ap (λ (rs : List Region). length (filter (is_emptied rs) s.parts)) regions ∙ ap length none,
     )
   where
-    nobody : (b : Bool) → (b && false) ≡ false
-    nobody b = grind arith
-
     serves_still : (p : Part) → (IsTrue (is_active p.state) → 0 < residents p s.regions) → is_emptied s.regions p ≡ false
     serves_still p used = grind (arith, used, counts_any (houses p) s.regions)
 

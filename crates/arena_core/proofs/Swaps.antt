@@ -251,8 +251,7 @@ there_within parts p apart there = (
 
 -- two extents of one use, as one, serve as many pages
 pub joined_active : (p q : Part) → AreAlike p q → active_pages (joined p q ∷ []) ≡ serving p + serving q
-joined_active p q alike =
-    grind (arith, ap is_active alike.state, sum_by-cons serving (joined p q) [])
+joined_active p q alike = grind (arith, ap is_active alike.state, sum_by-cons serving (joined p q) [])
 
 -- the pieces of a cut, of which the one that keeps the state comes last
 abbrev pub pieces_of : Bool → ℕ → Part → List Part
