@@ -1,9 +1,9 @@
 //! The extents of an arena, with running sums of their pages.
 
-ghost use Rattle.std.specs.Prelude.{◌≡◌, ◌==◌, ◌&&◌, ◌+◌, ◌^◌, ◌<◌, ◌≤◌, ℕ, [], ◌∷◌, ◌++◌, max, find, option_map, IfOk, IfSome, OnOk, OnErr, cond, Bool, true, false};
+ghost use Rattle.std.specs.Prelude.{◌≡◌, ◌==◌, ◌&&◌, ◌+◌, ◌^◌, ◌<◌, ◌≤◌, ℕ, [], ◌∷◌, ◌++◌, max, find, IfOk, IfSome, OnOk, OnErr, cond, true, false};
 ghost use Rattle.std.specs.List.{list_any};
-ghost use Rattle.space_model.specs.Span.{IsPlaced, end_of, has_page, meets};
-ghost use Rattle.space_model.specs.Part.{begins_at, exchanged, holders, is_active, is_flight, is_flight_at, is_listed, listed, put_down, rest_of};
+ghost use Rattle.space_model.specs.Span.{IsPlaced, has_page, meets};
+ghost use Rattle.space_model.specs.Part.{begins_at, exchanged, holders, is_active, is_flight, is_flight_at, listed, put_down};
 ghost use Rattle.space_model.specs.Fit.{fit};
 ghost use Rattle.space_model.specs.Step.{begins_either, high_piece, is_left_of, is_like, is_right_of, joined, low_piece, neighbour, next_flight};
 ghost use Rattle.part_book.specs.Books.{AreAlike, pages_of};

@@ -1,9 +1,9 @@
 //! What giving regions back does to the indexes, and the merges that follow it.
 
-ghost use Rattle.std.specs.Prelude.{◌≡◌, ℕ, ◌+◌, ◌≤◌, ◌<◌, true, cond, IsTrue, [], ◌∷◌, filter, find, length, take, IfSome};
+ghost use Rattle.std.specs.Prelude.{◌≡◌, ℕ, ◌+◌, ◌≤◌, true, cond, IsTrue, [], ◌∷◌, filter, find, length, take};
 ghost use Rattle.std.specs.List.{list_all};
 ghost use Rattle.space_model.specs.Part.{is_flight_at};
-ghost use Rattle.space_model.specs.Step.{after_back, after_merge, back_stands, holds_at, is_emptied, is_live, is_purged, merge_stands, put_at, rises_from, staying};
+ghost use Rattle.space_model.specs.Step.{after_back, after_merge, holds_at, is_emptied, is_live, is_purged, merge_stands, put_at, rises_from, staying};
 ghost use Rattle.space_model.specs.Sound.{Sound};
 ghost use Rattle.arena_core.specs.Indexes.{HasPlaces, space_of};
 

@@ -1,8 +1,7 @@
 //! What the operations of a malloc do to the indexes.
 
 ghost use Rattle.std.specs.Prelude.{◌≡◌, ℕ, ◌+◌, ◌≤◌, ◌<◌, ◌^◌, false, IsTrue, Some, find, IfSome};
-ghost use Rattle.std.specs.List.{list_any};
-ghost use Rattle.space_model.specs.Span.{IsPlaced, pages_end, end_of, run_start, chunk_span, chunks_of};
+ghost use Rattle.space_model.specs.Span.{IsPlaced, pages_end, end_of, run_start, chunks_of};
 ghost use Rattle.space_model.specs.Part.{is_active, is_flight_at};
 ghost use Rattle.space_model.specs.Step.{cut_stands, grow_stands, land_stands, land_at, after_look, after_cut, after_grow, after_commit, cut_at, whole_at, is_found, is_owned, is_in_space, why_not};
 ghost use Rattle.space_model.specs.Sound.{Sound};

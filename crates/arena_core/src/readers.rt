@@ -1,6 +1,6 @@
 //! What is read of an arena's indexes.
 
-ghost use Rattle.std.specs.Prelude.{◌≡◌, ◌<◌, ◌^◌};
+ghost use Rattle.std.specs.Prelude.{◌≡◌};
 ghost use Rattle.std.specs.List.{list_any};
 ghost use Rattle.space_model.specs.Span.{chunk_span, has_page, meets};
 ghost use Rattle.space_model.specs.Counts.{counts_of};

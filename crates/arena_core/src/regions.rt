@@ -1,12 +1,12 @@
 //! The regions of an arena by address.
 
-ghost use Rattle.std.specs.Prelude.{◌≡◌, ◌==◌, ◌+◌, ◌<◌, ◌≤◌, ◌^◌, ℕ, false, true, [], ◌∷◌, max, All, IfOk, IfSome, OnOk, OnErr, count_by};
+ghost use Rattle.std.specs.Prelude.{◌≡◌, ◌==◌, ◌+◌, ◌<◌, ◌≤◌, ◌^◌, false, true, [], ◌∷◌, max, All, OnOk, OnErr, count_by};
 ghost use Rattle.std.specs.List.{list_any};
 ghost use Rattle.size_classes.specs.Classes.{size_at};
 ghost use Rattle.space_model.specs.Region.{inserted};
 ghost use Rattle.space_model.specs.Counts.{region_bytes};
 ghost use Rattle.space_model.specs.Step.{holds_at, staying};
-ghost use Rattle.arena_core.specs.RegionLists.{begins_within, code_of, key_of};
+ghost use Rattle.arena_core.specs.RegionLists.{begins_within, key_of};
 
 use ordered_set::{Key, OrderedSet};
 use size_classes::size_of;

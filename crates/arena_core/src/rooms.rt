@@ -1,6 +1,6 @@
 //! The room of each client: how many more operations it may make that take no memory.
 
-ghost use Rattle.std.specs.Prelude.{◌≡◌, ◌+◌, ◌-◌, ◌<◌, ◌≤◌, ◌^◌, length, slice_index_or, slice_set, IfSome, List, replicate};
+ghost use Rattle.std.specs.Prelude.{◌≡◌, ◌+◌, ◌-◌, ◌<◌, ◌^◌, slice_set, IfSome, List, replicate};
 ghost use Rattle.arena_core.specs.Arenas.{all_rooms, room_of};
 
 use std::marker::Model;

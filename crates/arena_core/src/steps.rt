@@ -1,10 +1,9 @@
 //! One step of an arena: the operation, and the room that it makes or uses up.
 
-ghost use Rattle.std.specs.Prelude.{◌≡◌, ℕ, ◌+◌, ◌*◌, ◌<◌, ◌≤◌, ◌^◌, true, false, length, max, IsTrue, IsOk, IfOk, OnOk, OnErr, slice_set};
-ghost use Rattle.space_model.specs.Span.{run_start};
-ghost use Rattle.space_model.specs.Step.{after_look, is_live, op_stands, step_of};
+ghost use Rattle.std.specs.Prelude.{◌≡◌, ℕ, ◌+◌, ◌*◌, ◌<◌, ◌^◌, false, length, max, IsTrue, IsOk, IfOk, OnOk, OnErr, slice_set};
+ghost use Rattle.space_model.specs.Step.{op_stands, step_of};
 ghost use Rattle.space_model.specs.Sound.{Sound};
-ghost use Rattle.arena_core.specs.Arenas.{IsBody, all_rooms, opens, room_of, room_after, rooms_after, standing_of};
+ghost use Rattle.arena_core.specs.Arenas.{IsBody, all_rooms, opens, room_of, rooms_after, standing_of};
 ghost use Rattle.arena_core.specs.Indexes.{HasPlaces, space_of};
 
 use crate::indexes::{self, Indexes};

@@ -1,6 +1,6 @@
 //! The points at which a free waits that puts extents down.
 
-ghost use Rattle.std.specs.Prelude.{◌≡◌, [], ◌∷◌, IfSome};
+ghost use Rattle.std.specs.Prelude.{◌≡◌, [], IfSome};
 ghost use Rattle.space_model.specs.Span.{end_of};
 ghost use Rattle.call_plan.specs.Reading.{Replied, Told};
 ghost use Rattle.call_plan.specs.Free.{To, beside, found, merged, put_step, putting, Goes, to_or_over};

@@ -1,6 +1,6 @@
 //! The extent that a malloc needs, and the points at which it waits for it.
 
-ghost use Rattle.std.specs.Prelude.{◌≡◌, ◌+◌, ◌≤◌, ◌^◌, ℕ, List, [], ◌∷◌, max};
+ghost use Rattle.std.specs.Prelude.{◌≡◌, ◌≤◌, ◌^◌, List, [], ◌∷◌, max};
 ghost use Rattle.call_plan.specs.Reading.{Item, Replied, Told, ends};
 ghost use Rattle.call_plan.specs.Malloc.{whole_chunks, answered_span, commit, grant, trim, skip_to, grow, looked, skip_cut, trim_cut, grown, grant_cut, committed, landed};
 ghost use Rattle.call_plan.specs.Stages.{commit_point, grant_point, trim_point, skip_point, looked_point, skip_cut_point, trim_cut_point, grown_point, grant_cut_point, commit_done_point, landed_point, after_reply_point, after_answer_point};

@@ -1,6 +1,6 @@
 //! A source and a sink that live in memory and fail at planned calls.
-ghost use Rattle.std.specs.Prelude.{◌≡◌, ℕ, ◌+◌, ◌-◌, ◌^◌, ◌<◌, ◌≤◌, ◌↔◌, ◌||◌, min, List, [], ◌++◌, length, take, drop, false, true, Some, IfOk, OnOk, OnErr, IsErr, IsTrue};
-ghost use Rattle.edge_io.specs.Bytes.{Consumes, Appends, Keeps, IsAtEnd, Rose, is_end};
+ghost use Rattle.std.specs.Prelude.{◌≡◌, ◌+◌, ◌-◌, ◌^◌, ◌<◌, ◌≤◌, ◌↔◌, ◌||◌, min, [], ◌++◌, length, take, drop, false, true, Some, IfOk, OnOk, OnErr, IsErr, IsTrue};
+ghost use Rattle.edge_io.specs.Bytes.{Rose, is_end};
 ghost use Rattle.edge_io.specs.Planned.{FailsNext};
 
 use crate::traits::count_fault;

@@ -1,5 +1,5 @@
 //! The rows of a list, kept in three ordered sets of pairs of numbers, of which most pack two.
-ghost use Rattle.std.specs.Prelude.{◌≡◌, ◌==◌, All, length, find, Some, ℕ, ◌+◌, ◌<◌, ◌≤◌, ◌^◌, [], ◌∷◌, ◌++◌, not, map, max, filter, Any, Contains, OnOk};
+ghost use Rattle.std.specs.Prelude.{◌≡◌, ◌==◌, All, length, find, Some, ℕ, ◌+◌, ◌<◌, ◌≤◌, ◌^◌, [], ◌∷◌, ◌++◌, not, map, filter, Any, Contains, OnOk};
 ghost use Rattle.ordered_set.specs.Keys.{is_from};
 ghost use Rattle.fit_lists.specs.Rows.{HasRoom, IsNext, IsTable, age_key, listed, packed, span_key, rows_of, size_key, with_age};
 

@@ -1,6 +1,6 @@
 //! What a shelf keeps for each box number.
 
-ghost use Rattle.std.specs.Prelude.{◌≡◌, ◌+◌, length};
+ghost use Rattle.std.specs.Prelude.{◌≡◌, ◌+◌};
 ghost use Rattle.hook_api.specs.Counts.{capped};
 ghost use Rattle.hook_api.specs.Plans.{kind_of, plan_at, plan_of, plans_after, refuses, with_plan};
 

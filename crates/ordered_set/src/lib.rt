@@ -2,7 +2,7 @@
 //! `new` and `reserve` take memory.
 #![tactic(auto)]
 
-ghost use Rattle.std.specs.Prelude.{◌≡◌, ◌+◌, ◌<◌, ◌≤◌, ◌↔◌, [], length, max, slice_get, filter, find, Contains, IsTrue, OnOk, OnErr};
+ghost use Rattle.std.specs.Prelude.{◌≡◌, ◌+◌, ◌<◌, ◌↔◌, [], length, max, slice_get, filter, find, Contains, IsTrue, OnOk, OnErr};
 ghost use Rattle.ordered_set.specs.Keys.{IsAscending, is_above, is_below, is_from, last_of, with_key, without_key};
 
 use crate::index::Index;

@@ -1,6 +1,6 @@
 //! One call, from its first need to its answer.
 
-ghost use Rattle.std.specs.Prelude.{◌≡◌, ◌≤◌, ℕ, List, [], OnOk};
+ghost use Rattle.std.specs.Prelude.{◌≡◌, ◌≤◌, [], OnOk};
 ghost use Rattle.hook_api.specs.ShelfOf.{shelf_of};
 ghost use Rattle.call_plan.specs.Calls.{IsBuilt, places_of};
 ghost use Rattle.call_plan.specs.Desks.{facts_of};

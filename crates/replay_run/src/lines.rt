@@ -1,7 +1,6 @@
 //! The replay of a trace: its lines are carried out, and what they answer is printed.
 
-ghost use Rattle.std.specs.Prelude.{⊤, ◌≡◌, ◌≢◌, ◌≤◌, ◌<◌, ◌⊎◌, ℕ, true, List, [], ◌∷◌, ◌++◌, length, Option, Result, Err, IfOk, IfErr, OnOk, OnErr, map};
-ghost use Rattle.std.specs.List.{range_with_len};
+ghost use Rattle.std.specs.Prelude.{⊤, ◌≡◌, ◌≢◌, ◌≤◌, ◌<◌, ◌⊎◌, ℕ, true, List, [], length, Result, Err, IfOk, IfErr, OnOk, OnErr};
 ghost use Rattle.space_model.specs.Counts.{counts_of};
 ghost use Rattle.space_model.specs.Opening.{first_space};
 ghost use Rattle.hook_api.specs.Kept.{KeptFacts};

@@ -1,6 +1,6 @@
 //! What a replay keeps: the arena, its journal, and the asks so far.
 
-ghost use Rattle.std.specs.Prelude.{false, ◌≡◌, ◌<◌, ◌++◌, ◌∷◌, [], ℕ, IsTrue, IfOk, OnOk, OnErr};
+ghost use Rattle.std.specs.Prelude.{false, ◌≡◌, ◌<◌, ◌++◌, ◌∷◌, [], IsTrue, IfOk, OnOk, OnErr};
 ghost use Rattle.space_model.specs.Step.{stands, space_after, reply_to};
 ghost use Rattle.space_model.specs.Opening.{first_space};
 ghost use Rattle.arena_core.specs.Arenas.{opens, room_of, room_after};

@@ -1,5 +1,5 @@
 //! The class table, computed: sizes, pages and regions by shifts, with no table at run time.
-ghost use Rattle.std.specs.Prelude.{◌≡◌, ℕ, ◌+◌, ◌*◌, ◌%◌, ◌^◌, ◌<◌, ◌≤◌, ◌↔◌, IsTrue, IfOk, IfErr, OnOk};
+ghost use Rattle.std.specs.Prelude.{◌≡◌, ◌+◌, ◌*◌, ◌%◌, ◌^◌, ◌<◌, ◌≤◌, ◌↔◌, IsTrue, IfOk, IfErr, OnOk};
 ghost use Rattle.size_classes.specs.Classes.{size_at, class_for, IsSmall, pages_at, regions_at, slots_at, align_at, IsAlignment, aligned_for};
 
 /// How many size classes there are.

@@ -1,6 +1,6 @@
 //! A script of entries whose replies, extents and counts were worked out by hand.
 
-ghost use Rattle.std.specs.Prelude.{◌+◌, ◌<◌, ◌^◌};
+ghost use Rattle.std.specs.Prelude.{◌<◌};
 ghost use Rattle.space_model.specs.Sound.{Sound};
 
 use super::*;

@@ -2,8 +2,8 @@
 
 ghost use Rattle.std.specs.Prelude.{◌≡◌, ◌+◌, ◌≤◌, ◌<◌, ◌^◌, ◌&&◌, find, IfSome};
 ghost use Rattle.std.specs.List.{list_any};
-ghost use Rattle.space_model.specs.Span.{IsPlaced, pages_end, end_of, run_start, holds_run, meets, chunk_span, chunks_of};
-ghost use Rattle.space_model.specs.Part.{is_active, is_listed, is_flight, is_flight_at, rest_of, listed};
+ghost use Rattle.space_model.specs.Span.{pages_end, end_of, run_start, meets, chunks_of};
+ghost use Rattle.space_model.specs.Part.{is_listed, is_flight, is_flight_at, listed};
 ghost use Rattle.space_model.specs.Fit.{is_candidate, is_better, is_best, fit_of, fit};
 ghost use Rattle.space_model.specs.Step.{is_found, is_owned, is_in_space, next_flight, is_like, is_right_of, is_left_of, neighbour, why_not};
 

@@ -1,12 +1,12 @@
 //! What an entry does.
 
-ghost use Rattle.std.specs.Prelude.{◌≡◌, ◌≢◌, ℕ, ◌+◌, ◌≤◌, ◌<◌, ◌^◌, Bool, true, IsTrue, List, [], ◌∷◌, ◌++◌, All, find, length, IfOk, IsOk, OnOk, OnErr, None, Some, filter, not, nat_lt, vec_len, vec_capacity};
+ghost use Rattle.std.specs.Prelude.{◌≡◌, ◌≢◌, ℕ, ◌+◌, ◌≤◌, ◌<◌, ◌^◌, true, IsTrue, [], ◌∷◌, ◌++◌, length, IfOk, IsOk, OnOk, OnErr, None, Some, filter, not, nat_lt, vec_len, vec_capacity};
 ghost use Rattle.std.specs.List.{position_or_len};
-ghost use Rattle.space_model.specs.Span.{IsPlaced, run_start};
-ghost use Rattle.space_model.specs.Part.{exchanged, begins_at, is_flight_at, put_down, taken_out};
+ghost use Rattle.space_model.specs.Span.{run_start};
+ghost use Rattle.space_model.specs.Part.{exchanged, begins_at, put_down, taken_out};
 ghost use Rattle.space_model.specs.Region.{inserted};
 ghost use Rattle.space_model.specs.Fit.{fit};
-ghost use Rattle.space_model.specs.Step.{cut_stands, grow_stands, land_stands, Stepped, replaced, look_at, after_look, low_piece, high_piece, cut_at, whole_at, after_cut, new_part, grow_unless, after_grow, commit_at, after_commit, landed, land_at, step_of, space_after, reply_to, stands, op_stands};
+ghost use Rattle.space_model.specs.Step.{cut_stands, grow_stands, land_stands, replaced, after_look, low_piece, high_piece, cut_at, whole_at, after_cut, grow_unless, after_grow, after_commit, land_at, step_of, space_after, reply_to, stands, op_stands};
 ghost use Rattle.space_model.specs.Sound.{Sound};
 ghost use Rattle.space_model.specs.Journal.{Good};
 ghost use Rattle.space_model.specs.Own.{mine};

@@ -2,7 +2,6 @@
 
 ghost use Rattle.std.specs.Prelude.{◌≡◌, ◌==◌, ◌&&◌};
 ghost use Rattle.std.specs.List.{list_any, list_all};
-ghost use Rattle.space_model.specs.Part.{is_flight_at};
 ghost use Rattle.space_model.specs.Region.{is_held_by};
 ghost use Rattle.space_model.specs.Step.{is_live, is_yes_or_no, is_range_or_no, is_customer, cut_stands, grow_stands, commit_stands, land_stands, rises_from, holds_at, back_stands, may_merge, merge_stands, op_stands, stands};
 
