@@ -1,44 +1,28 @@
-use Rattle.std.proofs.Common.{◌≡◌, ◌/◌, None, is_some, not, arith, map as each, sym, ap, ◌∙◌}
-use Rattle.std.proofs.lemmas.List.{get_or_read}
-use Rattle.page_map.specs.Table.{leaf_of}
-use Rattle.page_map.proofs.TableLemmas.{chunk_in_root, spare_there, none_of, IsTable-given, pages_in-given, pages_with_leaf}
+use Rattle.std.proofs.Common.{◌/◌, sym, ◌∙◌, arith}
+use Rattle.std.proofs.lemmas.Grind.{common_steps}
+use Rattle.page_map.proofs.TableLemmas.{of_view, view_of, chunk_in_root, given, kept}
 use Rattle.page_map.proofs.table.PageMap.give_leaf.Goals as goal
 
 pub index-requires : goal.index-requires
-index-requires c =
-    let a = c.self.inside in
-    omega (arith, a.root.ok.0, chunk_in_root a.root.items (each (λ v. v.items) a.leaves.items) a.used c.args.page c.args.self.now c.self.invariant c.self.view_is c.requires.page c.requires.room)
+index-requires c = let lt = chunk_in_root (of_view c.self.invariant c.self.view_is) c.args.page c.requires.page c.requires.room in omega arith
 
 pub index_mut-requires : goal.index_mut-requires
-index_mut-requires c =
-    let a = c.self.inside in
-    omega (arith, a.root.ok.0, chunk_in_root a.root.items (each (λ v. v.items) a.leaves.items) a.used c.args.page c.args.self.now c.self.invariant c.self.view_is c.requires.page c.requires.room)
+index_mut-requires c = let lt = chunk_in_root (of_view c.self.invariant c.self.view_is) c.args.page c.requires.page c.requires.room in omega arith
 
 pub invariant_of-self : goal.invariant_of-self
 invariant_of-self c =
-    let a = c.self.inside in
-    let leaves = each (λ v. v.items) a.leaves.items in
-    let chunk = c.args.page / 512 in
-    let lt = chunk_in_root a.root.items leaves a.used c.args.page c.args.self.now c.self.invariant c.self.view_is c.requires.page c.requires.room in
-    let free : leaf_of a.root.items chunk ≡ None =
-    sym (get_or_read a.root.items chunk c.index.result.now lt c.index.ensures None) ∙ none_of c.index.result.now (c.is_none.ensures ∙ ap not c.if-is_none.true) in
-    IsTable-given a.root.items leaves a.used chunk c.self.invariant lt free (spare_there a.root.items leaves a.used chunk c.args.self.now c.self.view_is free c.requires.room)
+    let of = of_view c.self.invariant c.self.view_is in
+    let lt = chunk_in_root of c.args.page c.requires.page c.requires.room in
+    (given of (c.args.page / 512) lt c.requires.room (grind (arith, common_steps))).table
 
 pub returns-then-is_none : goal.returns-then-is_none
 returns-then-is_none c =
-    let a = c.self.inside in
-    let leaves = each (λ v. v.items) a.leaves.items in
-    let chunk = c.args.page / 512 in
-    let lt = chunk_in_root a.root.items leaves a.used c.args.page c.args.self.now c.self.invariant c.self.view_is c.requires.page c.requires.room in
-    let free : leaf_of a.root.items chunk ≡ None =
-    sym (get_or_read a.root.items chunk c.index.result.now lt c.index.ensures None) ∙ none_of c.index.result.now (c.is_none.ensures ∙ ap not c.if-is_none.true) in
-    pages_in-given a.root.items leaves a.used chunk c.args.self.now c.self.invariant c.self.view_is lt free
+    let of = of_view c.self.invariant c.self.view_is in
+    let lt = chunk_in_root of c.args.page c.requires.page c.requires.room in
+    view_of (given of (c.args.page / 512) lt c.requires.room (grind (arith, common_steps)))
 
 pub returns-else-is_none : goal.returns-else-is_none
 returns-else-is_none c =
-    let a = c.self.inside in
-    let leaves = each (λ v. v.items) a.leaves.items in
-    let chunk = c.args.page / 512 in
-    let lt = chunk_in_root a.root.items leaves a.used c.args.page c.args.self.now c.self.invariant c.self.view_is c.requires.page c.requires.room in
-    let taken = ap is_some (sym (get_or_read a.root.items chunk c.index.result.now lt c.index.ensures None)) ∙ c.is_none.ensures ∙ ap not c.if-is_none.false in
-    pages_with_leaf a.root.items leaves a.used chunk c.args.self.now c.self.view_is taken
+    let of = of_view c.self.invariant c.self.view_is in
+    let lt = chunk_in_root of c.args.page c.requires.page c.requires.room in
+    sym c.self.view_is ∙ view_of (kept of (c.args.page / 512) (grind (arith, common_steps)))
