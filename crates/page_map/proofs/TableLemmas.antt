@@ -16,16 +16,21 @@ use Rattle.page_map.specs.Pages.{Pages, put, with_leaf}
 use Rattle.page_map.specs.Table.{leaf_of, place_of, number_of, numbers_in, chunks_in, pages_in, IsTable, IsBlankLeaf, IsRootAfter}
 use Rattle.page_map.specs.declared.table.TheConstants.{CHUNKS, PAGES}
 
+-- places in a row: a root, or a leaf
+abbrev pub Places : Type 0
+Places = List (Option ℕ)
+
+-- what is found with one more entry, if it has a value
+find_cons : (o : Option ℕ) (a q : ℕ) (es : List (ℕ × ℕ))
+    → map.find nat_cmp q (cons_option (option_map (λ value. (a, value)) o) es) ≡ cond (eqb q a && is_some o) o (map.find nat_cmp q es)
+find_cons None a q es = grind (arith, nat_tests)
+find_cons (Some x) a q es = grind (arith, nat_tests, unsigned_tied q a)
+
 -- what is found among the entries for each key of a range that has a value
-find-range : {X : Type 0} (f : ℕ → Option X) (a n q : ℕ)
+find-range : (f : ℕ → Option ℕ) (a n q : ℕ)
     → map.find nat_cmp q (filter_map (λ key. option_map (λ value. (key, value)) (f key)) (range_with_len a n)) ≡ cond (leb a q && ltb q (a + n)) (f q) None
 find-range f a zero q = grind (arith, nat_tests)
-find-range f a (suc n) q =
-    let entries = filter_map (λ key. option_map (λ value. (key, value)) (f key)) in
-    elim (f a) as (λ o. f a ≡ o → map.find nat_cmp q (cons_option (option_map (λ value. (a, value)) o) (entries (range_with_len (a + 1) n))) ≡ cond (leb a q && ltb q (a + suc n)) (f q) None) [
-      | None ↦ λ is. grind (arith, nat_tests, find-range f (a + 1) n q)
-      | Some x ↦ λ is. grind (arith, nat_tests, unsigned_tied q a, find-range f (a + 1) n q)
-    ] refl
+find-range f a (suc n) q = grind (arith, nat_tests, find_cons (f a) a q, find-range f (a + 1) n q)
 
 -- the numbers of a range that pass
 list_any-range : (p : ℕ → Bool) (a n q : ℕ) → list_any (λ y. nat_eq y q) (filter p (range_with_len a n)) ≡ (leb a q && ltb q (a + n) && p q)
@@ -33,14 +38,14 @@ list_any-range p a zero q = grind (arith, nat_tests)
 list_any-range p a (suc n) q = grind (arith, nat_tests, list_any-range p (a + 1) n q)
 
 -- the number at each page
-get-numbers_in : (root : List (Option ℕ)) (leaves : List (List (Option ℕ))) (page : ℕ) → map.get (numbers_in root leaves) page ≡ number_of root leaves page
+get-numbers_in : (root : Places) (leaves : List Places) (page : ℕ) → map.get (numbers_in root leaves) page ≡ number_of root leaves page
 unfolding numbers_in
 get-numbers_in root leaves page =
     let past : length root ≤ page / 512 → leaf_of root (page / 512) ≡ None = get_or_past root (page / 512) None in
     map.get-from_entries nat_cmp_total _ page ∙ find-range (number_of root leaves) 0 (512 * length root) page ∙ grind (arith, nat_tests, past)
 
 -- which chunks have a leaf
-contains-chunks_in : (root : List (Option ℕ)) (chunk : ℕ) → set.contains (chunks_in root) chunk ≡ is_some (leaf_of root chunk)
+contains-chunks_in : (root : Places) (chunk : ℕ) → set.contains (chunks_in root) chunk ≡ is_some (leaf_of root chunk)
 unfolding chunks_in
 contains-chunks_in root chunk =
     set.contains-from_list_nat _ chunk ∙ list_any-range (λ c. is_some (leaf_of root c)) 0 (length root) chunk
@@ -52,29 +57,30 @@ get-put numbers page None q = grind (arith, map.gets, unsigned_tied q page)
 get-put numbers page (Some n) q = grind (arith, map.gets, unsigned_tied q page)
 
 -- a bare root has no leaf
-none_counted : (root : List (Option ℕ)) → ((chunk : ℕ) → leaf_of root chunk ≡ None) → count_by is_some root ≡ 0
+none_counted : (root : Places) → ((chunk : ℕ) → leaf_of root chunk ≡ None) → count_by is_some root ≡ 0
 none_counted [] bare = refl
 none_counted (o ∷ root) bare = grind (arith, sum_by-append (λ p. cond (is_some p) 1 0) (o ∷ []) root, bare 0, none_counted root (λ chunk. bare (suc chunk)))
 
 -- a write to a place of a leaf keeps what stands at other places
-place_kept : (leaves : List (List (Option ℕ))) (leaf place i at : ℕ) (number : Option ℕ) → (i ≡ leaf → at ≢ place)
+place_kept : (leaves : List Places) (leaf place i at : ℕ) (number : Option ℕ) → (i ≡ leaf → at ≢ place)
     → place_of (put_at leaves leaf (put_at (get_or leaves leaf []) place number)) i at ≡ place_of leaves i at
 place_kept leaves leaf place i at number other = grind (arith, common_steps)
 
 -- a table, and what it holds
-pub record IsTableOf (root : List (Option ℕ)) (leaves : List (List (Option ℕ))) (used : ℕ) (pages : Pages) : Type 0 where
+pub record IsTableOf (root : Places) (leaves : List Places) (used : ℕ) (pages : Pages) : Type 0 where
   pub table : IsTable root leaves used
   pub numbers : (page : ℕ) → map.get pages.numbers page ≡ number_of root leaves page
   pub chunks : (chunk : ℕ) → set.contains pages.chunks chunk ≡ is_some (leaf_of root chunk)
   pub spare : pages.spare ≡ length leaves - used
 
 -- a table is one of what it shows
-pub of_view : {root : List (Option ℕ)} {leaves : List (List (Option ℕ))} {used : ℕ} {pages : Pages} → IsTable root leaves used → pages_in root leaves used ≡ pages
+pub of_view : {root : Places} {leaves : List Places} {used : ℕ} {pages : Pages} → IsTable root leaves used → pages_in root leaves used ≡ pages
     → IsTableOf root leaves used pages
 of_view {root = root} {leaves = leaves} table is =
     rw (← is) (record { table = table; numbers = get-numbers_in root leaves; chunks = contains-chunks_in root; spare = refl })
 
-module _ {root : List (Option ℕ)} {leaves : List (List (Option ℕ))} {used : ℕ} {pages : Pages} (of : IsTableOf root leaves used pages) where
+-- what a table holds, and what each change of it leaves
+module _ {root : Places} {leaves : List Places} {used : ℕ} {pages : Pages} (of : IsTableOf root leaves used pages) where
   -- what a table shows is what it holds
   pub view_of : pages_in root leaves used ≡ pages
   view_of = λ i. record {
@@ -88,35 +94,45 @@ module _ {root : List (Option ℕ)} {leaves : List (List (Option ℕ))} {used : 
   chunk_in_root page small room = grind (arith, of.chunks (page / 512), get_or_past root (page / 512) None, of.table.rooted, of.spare, of.table.within)
 
   -- a chunk without a leaf takes the first spare one
-  pub given : (chunk : ℕ) → chunk < length root → (set.contains pages.chunks chunk ≡ false → 0 < pages.spare) → leaf_of root chunk ≡ None
-      → IsTableOf (put_at root chunk (Some used)) leaves (used + 1) (with_leaf pages chunk)
-  given chunk lt room free =
+  pub given : (page : ℕ) (place : Option ℕ) → page < PAGES → (set.contains pages.chunks (page / 512) ≡ false → 0 < pages.spare)
+      → place ≡ get_or root (page / 512) place → is_some place ≡ false
+      → IsTableOf (put_at root (page / 512) (Some used)) leaves (used + 1) (with_leaf pages (page / 512))
+  given page place small room read bare =
       let table = of.table in
+      let chunk = page / 512 in
+      let within : chunk < length root = chunk_in_root page small room in
+      let free : leaf_of root chunk ≡ None = grind (arith, common_steps) in
       let some : used < length leaves = grind (arith, of.chunks chunk, of.spare) in
       record {
         table = record {
           rooted = λ some. grind (arith, common_steps, table.rooted);
           sized = λ some. grind (arith, common_steps, table.sized);
           within = omega arith;
-          counted = omega (arith, sum_by-set (λ o. cond (is_some o) 1 0) root chunk (Some used) None lt, ap {B = ℕ} (λ o. cond (is_some o) 1 0) free, table.counted);
+          counted = grind (arith, sum_by-set (λ o. cond (is_some o) 1 0) root chunk (Some used) None, table.counted);
           taken = λ c leaf has. grind (arith, common_steps, table.taken c leaf);
           apart = λ c o leaf has also. grind (arith, common_steps, table.taken c leaf, table.taken o leaf, table.apart c o leaf);
           full = table.full;
           blank = λ leaf place le. table.blank leaf place (omega arith);
         };
-        numbers = λ page. grind (arith, common_steps, of.numbers page, table.blank used (page % 512));
+        numbers = λ q. grind (arith, common_steps, of.numbers q, table.blank used (q % 512));
         chunks = λ q. grind (arith, common_steps, set.members, unsigned_tied q chunk, of.chunks q);
         spare = grind (arith, of.chunks chunk);
       }
 
   -- a chunk that has a leaf keeps it
-  pub kept : (chunk : ℕ) → is_some (leaf_of root chunk) ≡ true → IsTableOf root leaves used (with_leaf pages chunk)
-  kept chunk has = record {
-    table = of.table;
-    numbers = of.numbers;
-    chunks = λ q. grind (arith, set.members, nat_tests, unsigned_tied q chunk, of.chunks q, of.chunks chunk);
-    spare = grind (arith, of.chunks chunk, of.spare);
-  }
+  pub kept : (page : ℕ) (place : Option ℕ) → page < PAGES → (set.contains pages.chunks (page / 512) ≡ false → 0 < pages.spare)
+      → place ≡ get_or root (page / 512) place → is_some place ≡ true
+      → IsTableOf root leaves used (with_leaf pages (page / 512))
+  kept page place small room read there =
+      let chunk = page / 512 in
+      let within : chunk < length root = chunk_in_root page small room in
+      let has : is_some (leaf_of root chunk) ≡ true = grind (arith, common_steps) in
+      record {
+        table = of.table;
+        numbers = of.numbers;
+        chunks = λ q. grind (arith, set.members, nat_tests, unsigned_tied q chunk, of.chunks q, of.chunks chunk);
+        spare = grind (arith, of.chunks chunk, of.spare);
+      }
 
   -- a page whose chunk has no leaf may be removed
   pub removed : (page : ℕ) → leaf_of root (page / 512) ≡ None → IsTableOf root leaves used (record pages { numbers = map.remove pages.numbers page })
@@ -146,44 +162,38 @@ module _ {root : List (Option ℕ)} {leaves : List (List (Option ℕ))} {used : 
         };
         numbers = λ q. elim (cases_eq q page) [
           | inl e ↦ grind (arith, common_steps, get-put pages.numbers page number q, table.full leaf, table.within)
-          | inr ne ↦
-              let elsewhere = λ (i : ℕ) (is : leaf_of root (q / 512) ≡ Some i).
-              place_kept leaves leaf (page % 512) i (q % 512) number (λ e. λ at. ne (let chunk = table.apart (q / 512) (page / 512) leaf (is ∙ ap Some e) has in omega arith)) in
-              grind (arith, get-put pages.numbers page number q, of.numbers q, elsewhere)
+          | inr ne ↦ grind (arith, get-put pages.numbers page number q, of.numbers q, place_kept leaves leaf (page % 512), table.apart (q / 512) (page / 512) leaf)
         ];
         chunks = of.chunks;
         spare = grind (arith, common_steps, of.spare);
       }
 
   -- a root that is made where there was none holds the same
-  pub rooted : {new : List (Option ℕ)} → IsRootAfter root new → IsTableOf new leaves used pages × (length new ≡ CHUNKS)
+  pub rooted : {new : Places} → IsRootAfter root new → IsTableOf new leaves used pages × (length new ≡ CHUNKS)
   rooted {new = new} after =
-      elim (cases_eq (length root) 0) [
-        | inl none ↦
-            let gone : (chunk : ℕ) → leaf_of root chunk ≡ None = λ chunk. get_or_past root chunk None (omega arith) in
-            let bare = after.bare none in (
-              record {
-                table = record {
-                  rooted = λ _. after.made none;
-                  sized = λ _. after.made none;
-                  within = of.table.within;
-                  counted = of.table.counted ∙ ap (count_by is_some) (nil_from_length root none) ∙ sym (none_counted new bare);
-                  taken = λ chunk leaf has. grind (arith, bare chunk);
-                  apart = λ chunk other leaf has also. grind (arith, bare chunk);
-                  full = of.table.full;
-                  blank = of.table.blank;
-                };
-                numbers = λ page. grind (arith, of.numbers page, bare (page / 512), gone (page / 512));
-                chunks = λ chunk. grind (arith, of.chunks chunk, bare chunk, gone chunk);
-                spare = of.spare;
-              },
-              after.made none,
-            )
-        | inr some ↦ rw (after.kept (omega arith)) (of, of.table.sized (omega arith))
-      ]
+      let table = of.table in
+      let long : length new ≡ CHUNKS = grind (arith, after.kept, after.made, table.sized) in
+      let none : length root ≡ 0 → count_by is_some new ≡ 0 = λ e. none_counted new (after.bare e) in
+      let same : (chunk : ℕ) → leaf_of new chunk ≡ leaf_of root chunk = λ chunk. grind (arith, after.kept, after.bare, get_or_past root chunk None) in
+      let holds : IsTableOf new leaves used pages = record {
+        table = record {
+          rooted = λ _. long;
+          sized = λ _. long;
+          within = table.within;
+          counted = grind (arith, none, after.kept, nil_from_length root, table.counted);
+          taken = λ chunk leaf has. table.taken chunk leaf (sym (same chunk) ∙ has);
+          apart = λ chunk other leaf has also. table.apart chunk other leaf (sym (same chunk) ∙ has) (sym (same other) ∙ also);
+          full = table.full;
+          blank = table.blank;
+        };
+        numbers = λ page. grind (arith, of.numbers page, same (page / 512));
+        chunks = λ chunk. grind (arith, of.chunks chunk, same chunk);
+        spare = of.spare;
+      } in
+      (holds, long)
 
   -- more blank leaves are more spare ones
-  pub appended : (more : List (List (Option ℕ))) (n : ℕ) → length root ≡ CHUNKS → All IsBlankLeaf more → length more ≡ n - pages.spare
+  pub appended : (more : List Places) (n : ℕ) → length root ≡ CHUNKS → All IsBlankLeaf more → length more ≡ n - pages.spare
       → IsTableOf root (leaves ++ more) used (record pages { spare = max pages.spare n })
   appended more n long blank filled =
       let table = of.table in
@@ -204,7 +214,7 @@ module _ {root : List (Option ℕ)} {leaves : List (List (Option ℕ))} {used : 
       }
 
 -- the lists of all, where elements hold the leaves of a table
-module _ {V : Type 0} (vs : List V) (f : V → List (Option ℕ)) {root : List (Option ℕ)} {used : ℕ} {pages : Pages} (of : IsTableOf root (each f vs) used pages) where
+module _ {V : Type 0} (vs : List V) (f : V → Places) {root : Places} {used : ℕ} {pages : Pages} (of : IsTableOf root (each f vs) used pages) where
   -- a leaf that a chunk has, as it was read
   pub leaf_read : (chunk leaf : ℕ) (v : V) → leaf_of root chunk ≡ Some leaf → v ≡ get_or vs leaf v → (get_or (each f vs) leaf [] ≡ f v) × (length (f v) ≡ 512)
   leaf_read chunk leaf v has read =
@@ -219,7 +229,7 @@ module _ {V : Type 0} (vs : List V) (f : V → List (Option ℕ)) {root : List (
       rw (map-set f vs leaf w, wrote, ← (leaf_read (page / 512) leaf v has read).0, here) (written of leaf page number has)
 
   -- blank leaves behind the others, under a root that is there
-  pub reserved : (more : List V) {new : List (Option ℕ)} (n : ℕ) → IsRootAfter root new → All (λ v. IsBlankLeaf (f v)) more → length more ≡ n - pages.spare
+  pub reserved : (more : List V) {new : Places} (n : ℕ) → IsRootAfter root new → All (λ v. IsBlankLeaf (f v)) more → length more ≡ n - pages.spare
       → IsTableOf new (each f (vs ++ more)) used (record pages { spare = max pages.spare n })
   reserved more n after blank filled =
       let there = rooted of after in

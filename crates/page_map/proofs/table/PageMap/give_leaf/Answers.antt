@@ -1,5 +1,4 @@
-use Rattle.std.proofs.Common.{◌/◌, sym, ◌∙◌, arith}
-use Rattle.std.proofs.lemmas.Grind.{common_steps}
+use Rattle.std.proofs.Common.{sym, ◌∙◌, arith}
 use Rattle.page_map.proofs.TableLemmas.{of_view, view_of, chunk_in_root, given, kept}
 use Rattle.page_map.proofs.table.PageMap.give_leaf.Goals as goal
 
@@ -12,17 +11,14 @@ index_mut-requires c = let lt = chunk_in_root (of_view c.self.invariant c.self.v
 pub invariant_of-self : goal.invariant_of-self
 invariant_of-self c =
     let of = of_view c.self.invariant c.self.view_is in
-    let lt = chunk_in_root of c.args.page c.requires.page c.requires.room in
-    (given of (c.args.page / 512) lt c.requires.room (grind (arith, common_steps))).table
+    (given of c.args.page c.index.result.now c.requires.page c.requires.room c.index.ensures (grind arith)).table
 
 pub returns-then-is_none : goal.returns-then-is_none
 returns-then-is_none c =
     let of = of_view c.self.invariant c.self.view_is in
-    let lt = chunk_in_root of c.args.page c.requires.page c.requires.room in
-    view_of (given of (c.args.page / 512) lt c.requires.room (grind (arith, common_steps)))
+    view_of (given of c.args.page c.index.result.now c.requires.page c.requires.room c.index.ensures (grind arith))
 
 pub returns-else-is_none : goal.returns-else-is_none
 returns-else-is_none c =
     let of = of_view c.self.invariant c.self.view_is in
-    let lt = chunk_in_root of c.args.page c.requires.page c.requires.room in
-    sym c.self.view_is ∙ view_of (kept of (c.args.page / 512) (grind (arith, common_steps)))
+    sym c.self.view_is ∙ view_of (kept of c.args.page c.index.result.now c.requires.page c.requires.room c.index.ensures (grind arith))

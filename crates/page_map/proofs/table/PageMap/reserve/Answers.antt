@@ -18,9 +18,9 @@ returns-in_err-append-clause-err c =
 pub invariant_of-self-2 : goal.invariant_of-self-2
 invariant_of-self-2 c =
     let of = of_view c.self.invariant c.self.view_is in
-    rw c.in_ok-append.ensures.items (reserved _ (λ v. v.items) of c.in_ok-fresh.fresh.items c.args.leaves c.in_ok-make_root.ensures.ok c.in_ok-fresh.ensures.blank (omega (arith, c.in_ok-fresh.ensures.len))).table
+    rw c.in_ok-append.ensures.items (reserved _ _ of _ c.args.leaves c.in_ok-make_root.ensures.ok c.in_ok-fresh.ensures.blank (omega (arith, c.in_ok-fresh.ensures.len))).table
 
 pub returns-clause-ok : goal.returns-clause-ok
 returns-clause-ok c =
     let of = of_view c.self.invariant c.self.view_is in
-    rw c.in_ok-append.ensures.items (view_of (reserved _ (λ v. v.items) of c.in_ok-fresh.fresh.items c.args.leaves c.in_ok-make_root.ensures.ok c.in_ok-fresh.ensures.blank (omega (arith, c.in_ok-fresh.ensures.len))))
+    rw c.in_ok-append.ensures.items (view_of (reserved _ _ of _ c.args.leaves c.in_ok-make_root.ensures.ok c.in_ok-fresh.ensures.blank (omega (arith, c.in_ok-fresh.ensures.len))))

@@ -1,5 +1,4 @@
 use Rattle.std.proofs.Common.{◌/◌, refl, arith}
-use Rattle.std.specs.Vec.{with_item}
 use Rattle.page_map.proofs.TableLemmas.{of_view, view_of, leaf_read, written_leaf}
 use Rattle.page_map.proofs.table.PageMap.write.Goals as goal
 
@@ -12,12 +11,12 @@ index_mut-requires-in-Some c =
 pub invariant_of-self : goal.invariant_of-self
 invariant_of-self c =
     let of = of_view c.self.invariant c.self.view_is in
-    (written_leaf _ (λ v. v.items) of c.in-Some.leaf c.args.page c.place_at.result c.index_mut.result.now (with_item c.index_mut.result.now c.place_at.result c.args.number) c.args.number (cc) c.index_mut.ensures.value refl c.place_at.ensures).table
+    (written_leaf _ _ of _ _ _ _ _ _ (cc) c.index_mut.ensures.value refl c.place_at.ensures).table
 
 pub returns : goal.returns
 returns c =
     let of = of_view c.self.invariant c.self.view_is in
-    view_of (written_leaf _ (λ v. v.items) of c.in-Some.leaf c.args.page c.place_at.result c.index_mut.result.now (with_item c.index_mut.result.now c.place_at.result c.args.number) c.args.number (cc) c.index_mut.ensures.value refl c.place_at.ensures)
+    view_of (written_leaf _ _ of _ _ _ _ _ _ (cc) c.index_mut.ensures.value refl c.place_at.ensures)
 
 pub unreachable-requires : goal.unreachable-requires
 unreachable-requires c =
