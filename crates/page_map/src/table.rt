@@ -1,5 +1,5 @@
 //! A root with a place for each chunk of pages, and a leaf with a place for each page of one chunk.
-ghost use Rattle.std.specs.Prelude.{true, ◌≡◌, ◌+◌, ◌-◌, ◌/◌, ◌%◌, ◌<◌, ◌≤◌, ℕ, false, None, if◌then◌else◌, length, slice_index_or, vec_len, IfOk, IsOkAnd, IsSome, OnOk, OnErr, All, max};
+ghost use Rattle.std.specs.Prelude.{true, ◌≡◌, ◌-◌, ◌/◌, ◌%◌, ◌<◌, ℕ, false, None, if◌then◌else◌, slice_index_or, vec_len, IfOk, IsOkAnd, IsSome, OnOk, OnErr, All, max};
 ghost use Rattle.page_map.specs.Table.{IsBlankLeaf, IsRootAfter};
 ghost use Rattle.std.specs.FinMap as map;
 ghost use Rattle.std.specs.FinSet as set;
