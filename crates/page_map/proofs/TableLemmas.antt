@@ -52,14 +52,15 @@ contains-chunks_in root chunk =
     ∙ grind (arith, nat_tests, get_or_past root chunk None)
 
 -- what stands at each page after a put
-get-put : (numbers : map.FinMap nat_cmp ℕ) (page : ℕ) (number : Option ℕ) (q : ℕ) → map.get (put numbers page number) q ≡ cond (eqb q page) number (map.get numbers q)
+get-put : (numbers : map.FinMap nat_cmp ℕ) (page : ℕ) (number : Option ℕ) (q : ℕ)
+    → map.get (put numbers page number) q ≡ cond (eqb q page) number (map.get numbers q)
 get-put numbers page None q = grind (arith, map.gets, unsigned_tied q page)
 get-put numbers page (Some n) q = grind (arith, map.gets, unsigned_tied q page)
 
 -- a bare root has no leaf
 none_counted : (root : Places) → ((chunk : ℕ) → leaf_of root chunk ≡ None) → count_by is_some root ≡ 0
 none_counted [] bare = refl
-none_counted (o ∷ root) bare = grind (arith, sum_by-append (λ p. cond (is_some p) 1 0) (o ∷ []) root, bare 0, none_counted root (λ chunk. bare (suc chunk)))
+none_counted (o ∷ root) bare = grind (arith, sum_by-append (λ p. cond (is_some p) 1 0) (o ∷ []), bare 0, none_counted root (λ chunk. bare (suc chunk)))
 
 -- a write to a place of a leaf keeps what stands at other places
 place_kept : (leaves : List Places) (leaf place i at : ℕ) (number : Option ℕ) → (i ≡ leaf → at ≢ place)
@@ -84,8 +85,8 @@ module _ {root : Places} {leaves : List Places} {used : ℕ} {pages : Pages} (of
   -- what a table shows is what it holds
   pub view_of : pages_in root leaves used ≡ pages
   view_of = λ i. record {
-    numbers = map.same_map nat_cmp_total map.nat_cmp-IsAntisymmetric (numbers_in root leaves) pages.numbers (λ q. get-numbers_in root leaves q ∙ sym (of.numbers q)) i;
-    chunks = set.same_set nat_cmp_total set.nat_cmp-IsAntisymmetric (chunks_in root) pages.chunks (λ q. contains-chunks_in root q ∙ sym (of.chunks q)) i;
+    numbers = map.same_map nat_cmp_total map.nat_cmp-IsAntisymmetric _ _ (λ q. get-numbers_in root leaves q ∙ sym (of.numbers q)) i;
+    chunks = set.same_set nat_cmp_total set.nat_cmp-IsAntisymmetric _ _ (λ q. contains-chunks_in root q ∙ sym (of.chunks q)) i;
     spare = sym of.spare i;
   }
 
@@ -162,7 +163,7 @@ module _ {root : Places} {leaves : List Places} {used : ℕ} {pages : Pages} (of
         };
         numbers = λ q. elim (cases_eq q page) [
           | inl e ↦ grind (arith, common_steps, get-put pages.numbers page number q, table.full leaf, table.within)
-          | inr ne ↦ grind (arith, get-put pages.numbers page number q, of.numbers q, place_kept leaves leaf (page % 512), table.apart (q / 512) (page / 512) leaf)
+          | inr ne ↦ grind (arith, get-put pages.numbers page number q, of.numbers q, place_kept leaves leaf (page % 512), table.apart (q / 512) (page / 512))
         ];
         chunks = of.chunks;
         spare = grind (arith, common_steps, of.spare);
@@ -216,14 +217,16 @@ module _ {root : Places} {leaves : List Places} {used : ℕ} {pages : Pages} (of
 -- the lists of all, where elements hold the leaves of a table
 module _ {V : Type 0} (vs : List V) (f : V → Places) {root : Places} {used : ℕ} {pages : Pages} (of : IsTableOf root (each f vs) used pages) where
   -- a leaf that a chunk has, as it was read
-  pub leaf_read : (chunk leaf : ℕ) (v : V) → leaf_of root chunk ≡ Some leaf → v ≡ get_or vs leaf v → (get_or (each f vs) leaf [] ≡ f v) × (length (f v) ≡ 512)
+  pub leaf_read : (chunk leaf : ℕ) (v : V) → leaf_of root chunk ≡ Some leaf → v ≡ get_or vs leaf v
+      → (get_or (each f vs) leaf [] ≡ f v) × (length (f v) ≡ 512)
   leaf_read chunk leaf v has read =
       let small : leaf < length vs = omega (arith, of.table.taken chunk leaf has, of.table.within, length-map vs f) in
       let line : get_or (each f vs) leaf [] ≡ f v = get_or-map f vs leaf v [] small ∙ sym (ap f read) in
       (line, ap length (sym line) ∙ of.table.full leaf (omega (arith, length-map vs f)))
 
   -- a write to a leaf that was read
-  pub written_leaf : (leaf page place : ℕ) (v w : V) (number : Option ℕ) → leaf_of root (page / 512) ≡ Some leaf → v ≡ get_or vs leaf v → f w ≡ put_at (f v) place number → place ≡ page % 512
+  pub written_leaf : (leaf page place : ℕ) (v w : V) (number : Option ℕ) → leaf_of root (page / 512) ≡ Some leaf → v ≡ get_or vs leaf v
+      → f w ≡ put_at (f v) place number → place ≡ page % 512
       → IsTableOf root (each f (put_at vs leaf w)) used (record pages { numbers = put pages.numbers page number })
   written_leaf leaf page place v w number has read wrote here =
       rw (map-set f vs leaf w, wrote, ← (leaf_read (page / 512) leaf v has read).0, here) (written of leaf page number has)

@@ -3,10 +3,10 @@ use Rattle.page_map.proofs.TableLemmas.{of_view, view_of, chunk_in_root, given, 
 use Rattle.page_map.proofs.table.PageMap.give_leaf.Goals as goal
 
 pub index-requires : goal.index-requires
-index-requires c = let lt = chunk_in_root (of_view c.self.invariant c.self.view_is) c.args.page c.requires.page c.requires.room in omega arith
+index-requires c = omega (arith, chunk_in_root (of_view c.self.invariant c.self.view_is) c.args.page c.requires.page c.requires.room)
 
 pub index_mut-requires : goal.index_mut-requires
-index_mut-requires c = let lt = chunk_in_root (of_view c.self.invariant c.self.view_is) c.args.page c.requires.page c.requires.room in omega arith
+index_mut-requires c = omega (arith, chunk_in_root (of_view c.self.invariant c.self.view_is) c.args.page c.requires.page c.requires.room)
 
 pub invariant_of-self : goal.invariant_of-self
 invariant_of-self c =

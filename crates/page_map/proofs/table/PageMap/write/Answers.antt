@@ -5,7 +5,7 @@ use Rattle.page_map.proofs.table.PageMap.write.Goals as goal
 pub index_mut-requires-in-Some : goal.index_mut-requires-in-Some
 index_mut-requires-in-Some c =
     let of = of_view c.self.invariant c.self.view_is in
-    let read = leaf_read _ (λ v. v.items) of (c.args.page / 512) c.in-Some.leaf c.index_mut.result.now (cc) c.index_mut.ensures.value in
+    let read = leaf_read _ _ of (c.args.page / 512) _ _ (cc) c.index_mut.ensures.value in
     grind arith
 
 pub invariant_of-self : goal.invariant_of-self
