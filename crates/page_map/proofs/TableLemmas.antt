@@ -1,5 +1,5 @@
 -- Lemmas on the table of two levels.
-use Rattle.std.proofs.Common.{◌≡◌, ◌≢◌, inl, inr, ℕ, zero, suc, ◌+◌, ◌-◌, ◌*◌, ◌/◌, ◌%◌, ◌<◌, ◌≤◌, max, Bool, true, false, ◌&&◌, cond, leb, ltb, eqb, nat_eq, Option, Some, None, is_some, List, [], ◌∷◌, ◌++◌, length, get_or, set as put_at, map as each, count_by, refl, sym, ap, ◌∙◌, arith}
+use Rattle.std.proofs.Common.{◌≡◌, ◌≢◌, inl, inr, ℕ, zero, suc, ◌+◌, ◌-◌, ◌*◌, ◌/◌, ◌%◌, ◌<◌, max, Bool, true, false, ◌&&◌, cond, leb, ltb, eqb, nat_eq, Option, Some, None, is_some, List, [], ◌∷◌, ◌++◌, length, get_or, set as put_at, map as each, count_by, refl, sym, ap, ◌∙◌, arith}
 use Rattle.std.specs.Option.{option_map}
 use Rattle.std.specs.List.{filter, filter_map, cons_option, range_with_len, list_any, All}
 use Rattle.std.specs.Ordering.{nat_cmp}
@@ -41,8 +41,8 @@ list_any-range p a (suc n) q = grind (arith, nat_tests, list_any-range p (a + 1)
 get-numbers_in : (root : Places) (leaves : List Places) (page : ℕ) → map.get (numbers_in root leaves) page ≡ number_of root leaves page
 unfolding numbers_in
 get-numbers_in root leaves page =
-    let past : length root ≤ page / 512 → leaf_of root (page / 512) ≡ None = get_or_past root (page / 512) None in
-    map.get-from_entries nat_cmp_total _ page ∙ find-range (number_of root leaves) 0 (512 * length root) page ∙ grind (arith, nat_tests, past)
+    map.get-from_entries nat_cmp_total _ page ∙ find-range (number_of root leaves) 0 (512 * length root) page
+    ∙ grind (arith, nat_tests, get_or_past root (page / 512) None)
 
 -- which chunks have a leaf
 contains-chunks_in : (root : Places) (chunk : ℕ) → set.contains (chunks_in root) chunk ≡ is_some (leaf_of root chunk)
@@ -92,7 +92,7 @@ module _ {root : Places} {leaves : List Places} {used : ℕ} {pages : Pages} (of
 
   -- where a leaf is there or spare, the root has a place for the page's chunk
   pub chunk_in_root : (page : ℕ) → page < PAGES → (set.contains pages.chunks (page / 512) ≡ false → 0 < pages.spare) → page / 512 < length root
-  chunk_in_root page small room = grind (arith, of.chunks (page / 512), get_or_past root (page / 512) None, of.table.rooted, of.spare, of.table.within)
+  chunk_in_root page small room = grind (arith, of.chunks (page / 512), get_or_past root (page / 512) None)
 
   -- a chunk without a leaf takes the first spare one
   pub given : (page : ℕ) (place : Option ℕ) → page < PAGES → (set.contains pages.chunks (page / 512) ≡ false → 0 < pages.spare)
@@ -103,13 +103,13 @@ module _ {root : Places} {leaves : List Places} {used : ℕ} {pages : Pages} (of
       let chunk = page / 512 in
       let within : chunk < length root = chunk_in_root page small room in
       let free : leaf_of root chunk ≡ None = grind (arith, common_steps) in
-      let some : used < length leaves = grind (arith, of.chunks chunk, of.spare) in
+      let some : used < length leaves = grind (arith, of.chunks chunk) in
       record {
         table = record {
-          rooted = λ some. grind (arith, common_steps, table.rooted);
-          sized = λ some. grind (arith, common_steps, table.sized);
+          rooted = λ some. grind (arith, common_steps);
+          sized = λ some. grind (arith, common_steps);
           within = omega arith;
-          counted = grind (arith, sum_by-set (λ o. cond (is_some o) 1 0) root chunk (Some used) None, table.counted);
+          counted = grind (arith, sum_by-set (λ o. cond (is_some o) 1 0) root chunk (Some used) None);
           taken = λ c leaf has. grind (arith, common_steps, table.taken c leaf);
           apart = λ c o leaf has also. grind (arith, common_steps, table.taken c leaf, table.taken o leaf, table.apart c o leaf);
           full = table.full;
@@ -132,7 +132,7 @@ module _ {root : Places} {leaves : List Places} {used : ℕ} {pages : Pages} (of
         table = of.table;
         numbers = of.numbers;
         chunks = λ q. grind (arith, set.members, nat_tests, unsigned_tied q chunk, of.chunks q, of.chunks chunk);
-        spare = grind (arith, of.chunks chunk, of.spare);
+        spare = grind (arith, of.chunks chunk);
       }
 
   -- a page whose chunk has no leaf may be removed
@@ -152,9 +152,9 @@ module _ {root : Places} {leaves : List Places} {used : ℕ} {pages : Pages} (of
       let lt : leaf < used = table.taken (page / 512) leaf has in
       record {
         table = record {
-          rooted = λ some. grind (arith, common_steps, table.rooted);
+          rooted = λ some. grind (arith, common_steps);
           sized = table.sized;
-          within = grind (arith, common_steps, table.within);
+          within = grind (arith, common_steps);
           counted = table.counted;
           taken = table.taken;
           apart = table.apart;
@@ -162,26 +162,26 @@ module _ {root : Places} {leaves : List Places} {used : ℕ} {pages : Pages} (of
           blank = λ i at le. grind (arith, common_steps, table.blank i at le);
         };
         numbers = λ q. elim (cases_eq q page) [
-          | inl e ↦ grind (arith, common_steps, get-put pages.numbers page number q, table.full leaf, table.within)
+          | inl e ↦ grind (arith, common_steps, get-put pages.numbers page number q, table.full leaf)
           | inr ne ↦ grind (arith, get-put pages.numbers page number q, of.numbers q, place_kept leaves leaf (page % 512), table.apart (q / 512) (page / 512))
         ];
         chunks = of.chunks;
-        spare = grind (arith, common_steps, of.spare);
+        spare = grind (arith, common_steps);
       }
 
   -- a root that is made where there was none holds the same
   pub rooted : {new : Places} → IsRootAfter root new → IsTableOf new leaves used pages × (length new ≡ CHUNKS)
   rooted {new = new} after =
       let table = of.table in
-      let long : length new ≡ CHUNKS = grind (arith, after.kept, after.made, table.sized) in
+      let long : length new ≡ CHUNKS = grind arith in
       let none : length root ≡ 0 → count_by is_some new ≡ 0 = λ e. none_counted new (after.bare e) in
-      let same : (chunk : ℕ) → leaf_of new chunk ≡ leaf_of root chunk = λ chunk. grind (arith, after.kept, after.bare, get_or_past root chunk None) in
+      let same : (chunk : ℕ) → leaf_of new chunk ≡ leaf_of root chunk = λ chunk. grind (arith, after.bare, get_or_past root chunk None) in
       let holds : IsTableOf new leaves used pages = record {
         table = record {
           rooted = λ _. long;
           sized = λ _. long;
           within = table.within;
-          counted = grind (arith, none, after.kept, nil_from_length root, table.counted);
+          counted = grind (arith, nil_from_length root);
           taken = λ chunk leaf has. table.taken chunk leaf (sym (same chunk) ∙ has);
           apart = λ chunk other leaf has also. table.apart chunk other leaf (sym (same chunk) ∙ has) (sym (same other) ∙ also);
           full = table.full;
@@ -202,7 +202,7 @@ module _ {root : Places} {leaves : List Places} {used : ℕ} {pages : Pages} (of
         table = record {
           rooted = λ _. long;
           sized = table.sized;
-          within = grind (arith, common_steps, table.within);
+          within = grind (arith, common_steps);
           counted = table.counted;
           taken = table.taken;
           apart = table.apart;
@@ -211,7 +211,7 @@ module _ {root : Places} {leaves : List Places} {used : ℕ} {pages : Pages} (of
         };
         numbers = λ q. grind (arith, common_steps, of.numbers q, table.taken (q / 512));
         chunks = of.chunks;
-        spare = grind (arith, common_steps, of.spare, table.within);
+        spare = grind (arith, common_steps);
       }
 
 -- the lists of all, where elements hold the leaves of a table
@@ -220,7 +220,7 @@ module _ {V : Type 0} (vs : List V) (f : V → Places) {root : Places} {used : �
   pub leaf_read : (chunk leaf : ℕ) (v : V) → leaf_of root chunk ≡ Some leaf → v ≡ get_or vs leaf v
       → (get_or (each f vs) leaf [] ≡ f v) × (length (f v) ≡ 512)
   leaf_read chunk leaf v has read =
-      let small : leaf < length vs = omega (arith, of.table.taken chunk leaf has, of.table.within, length-map vs f) in
+      let small : leaf < length vs = omega (arith, of.table.taken chunk leaf has, length-map vs f) in
       let line : get_or (each f vs) leaf [] ≡ f v = get_or-map f vs leaf v [] small ∙ sym (ap f read) in
       (line, ap length (sym line) ∙ of.table.full leaf (omega (arith, length-map vs f)))
 

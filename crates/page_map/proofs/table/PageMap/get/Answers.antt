@@ -6,14 +6,14 @@ use Rattle.page_map.proofs.table.PageMap.get.Goals as goal
 pub index-requires-in-Some : goal.index-requires-in-Some
 index-requires-in-Some c =
     let of = of_view c.self.invariant c.self.view_is in
-    let read = leaf_read _ (λ v. v.items) of (c.args.page / 512) _ _ (cc) c.index.ensures in
+    let read = leaf_read _ _ of (c.args.page / 512) _ _ (cc) c.index.ensures in
     grind arith
 
 pub returns-in-Some-clause-number : goal.returns-in-Some-clause-number
 returns-in-Some-clause-number c =
     let of = of_view c.self.invariant c.self.view_is in
     let number = of.numbers c.args.page in
-    let read = leaf_read _ (λ v. v.items) of (c.args.page / 512) _ _ (cc) c.index.ensures in
+    let read = leaf_read _ _ of (c.args.page / 512) _ _ (cc) c.index.ensures in
     grind (arith, common_steps)
 
 pub returns-in-None-clause-number : goal.returns-in-None-clause-number
