@@ -92,7 +92,7 @@ module _ {root : Places} {leaves : List Places} {used : ℕ} {pages : Pages} (of
 
   -- where a leaf is there or spare, the root has a place for the page's chunk
   pub chunk_in_root : (page : ℕ) → page < PAGES → (set.contains pages.chunks (page / 512) ≡ false → 0 < pages.spare) → page / 512 < length root
-  chunk_in_root page small room = grind (arith, of.chunks (page / 512), get_or_past root (page / 512) None)
+  chunk_in_root page small room = grind (arith, get_or_past root (page / 512) None)
 
   -- a chunk without a leaf takes the first spare one
   pub given : (page : ℕ) (place : Option ℕ) → page < PAGES → (set.contains pages.chunks (page / 512) ≡ false → 0 < pages.spare)
@@ -103,21 +103,21 @@ module _ {root : Places} {leaves : List Places} {used : ℕ} {pages : Pages} (of
       let chunk = page / 512 in
       let within : chunk < length root = chunk_in_root page small room in
       let free : leaf_of root chunk ≡ None = grind (arith, common_steps) in
-      let some : used < length leaves = grind (arith, of.chunks chunk) in
+      let some : used < length leaves = grind arith in
       record {
         table = record {
           rooted = λ some. grind (arith, common_steps);
           sized = λ some. grind (arith, common_steps);
           within = omega arith;
           counted = grind (arith, sum_by-set (λ o. cond (is_some o) 1 0) root chunk (Some used) None);
-          taken = λ c leaf has. grind (arith, common_steps, table.taken c leaf);
+          taken = λ c leaf has. grind (arith, common_steps);
           apart = λ c o leaf has also. grind (arith, common_steps, table.taken c leaf, table.taken o leaf, table.apart c o leaf);
           full = table.full;
           blank = λ leaf place le. table.blank leaf place (omega arith);
         };
-        numbers = λ q. grind (arith, common_steps, of.numbers q, table.blank used (q % 512));
-        chunks = λ q. grind (arith, common_steps, set.members, unsigned_tied q chunk, of.chunks q);
-        spare = grind (arith, of.chunks chunk);
+        numbers = λ q. grind (arith, common_steps);
+        chunks = λ q. grind (arith, common_steps, set.members, unsigned_tied q chunk);
+        spare = grind arith;
       }
 
   -- a chunk that has a leaf keeps it
@@ -131,15 +131,15 @@ module _ {root : Places} {leaves : List Places} {used : ℕ} {pages : Pages} (of
       record {
         table = of.table;
         numbers = of.numbers;
-        chunks = λ q. grind (arith, set.members, nat_tests, unsigned_tied q chunk, of.chunks q, of.chunks chunk);
-        spare = grind (arith, of.chunks chunk);
+        chunks = λ q. grind (arith, set.members, nat_tests, unsigned_tied q chunk);
+        spare = grind arith;
       }
 
   -- a page whose chunk has no leaf may be removed
   pub removed : (page : ℕ) → leaf_of root (page / 512) ≡ None → IsTableOf root leaves used (record pages { numbers = map.remove pages.numbers page })
   removed page free = record {
     table = of.table;
-    numbers = λ q. grind (arith, map.gets, nat_tests, unsigned_tied q page, of.numbers q, of.numbers page);
+    numbers = λ q. grind (arith, map.gets, nat_tests, unsigned_tied q page);
     chunks = of.chunks;
     spare = of.spare;
   }
@@ -158,12 +158,12 @@ module _ {root : Places} {leaves : List Places} {used : ℕ} {pages : Pages} (of
           counted = table.counted;
           taken = table.taken;
           apart = table.apart;
-          full = λ i within. grind (arith, common_steps, table.full i);
-          blank = λ i at le. grind (arith, common_steps, table.blank i at le);
+          full = λ i within. grind (arith, common_steps);
+          blank = λ i at le. grind (arith, common_steps);
         };
         numbers = λ q. elim (cases_eq q page) [
-          | inl e ↦ grind (arith, common_steps, get-put pages.numbers page number q, table.full leaf)
-          | inr ne ↦ grind (arith, get-put pages.numbers page number q, of.numbers q, place_kept leaves leaf (page % 512), table.apart (q / 512) (page / 512))
+          | inl e ↦ grind (arith, common_steps, get-put pages.numbers page number q)
+          | inr ne ↦ grind (arith, get-put pages.numbers page number q, place_kept leaves leaf (page % 512))
         ];
         chunks = of.chunks;
         spare = grind (arith, common_steps);
@@ -175,7 +175,7 @@ module _ {root : Places} {leaves : List Places} {used : ℕ} {pages : Pages} (of
       let table = of.table in
       let long : length new ≡ CHUNKS = grind arith in
       let none : length root ≡ 0 → count_by is_some new ≡ 0 = λ e. none_counted new (after.bare e) in
-      let same : (chunk : ℕ) → leaf_of new chunk ≡ leaf_of root chunk = λ chunk. grind (arith, after.bare, get_or_past root chunk None) in
+      let same : (chunk : ℕ) → leaf_of new chunk ≡ leaf_of root chunk = λ chunk. grind (arith, get_or_past root chunk None) in
       let holds : IsTableOf new leaves used pages = record {
         table = record {
           rooted = λ _. long;
@@ -187,8 +187,8 @@ module _ {root : Places} {leaves : List Places} {used : ℕ} {pages : Pages} (of
           full = table.full;
           blank = table.blank;
         };
-        numbers = λ page. grind (arith, of.numbers page, same (page / 512));
-        chunks = λ chunk. grind (arith, of.chunks chunk, same chunk);
+        numbers = λ page. grind arith;
+        chunks = λ chunk. grind arith;
         spare = of.spare;
       } in
       (holds, long)
@@ -206,8 +206,8 @@ module _ {root : Places} {leaves : List Places} {used : ℕ} {pages : Pages} (of
           counted = table.counted;
           taken = table.taken;
           apart = table.apart;
-          full = λ i lt. grind (arith, common_steps, table.full i, blank (i - length leaves) []);
-          blank = λ i place le. grind (arith, common_steps, table.blank i place le, blank (i - length leaves) []);
+          full = λ i lt. grind (arith, common_steps);
+          blank = λ i place le. grind (arith, common_steps);
         };
         numbers = λ q. grind (arith, common_steps, of.numbers q, table.taken (q / 512));
         chunks = of.chunks;
