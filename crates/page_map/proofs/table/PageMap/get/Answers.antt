@@ -12,18 +12,11 @@ index-requires-in-Some c =
 pub returns-in-Some-clause-number : goal.returns-in-Some-clause-number
 returns-in-Some-clause-number c =
     let of = of_view c.self.invariant c.self.view_is in
-    let number = of.numbers c.args.page in
     let read = leaf_read _ _ of (c.args.page / 512) _ _ (cc) c.index.ensures in
     grind (arith, common_steps)
 
 pub returns-in-None-clause-number : goal.returns-in-None-clause-number
-returns-in-None-clause-number c =
-    let of = of_view c.self.invariant c.self.view_is in
-    let number = of.numbers c.args.page in
-    grind arith
+returns-in-None-clause-number c = let of = of_view c.self.invariant c.self.view_is in grind arith
 
 pub returns-in-Some-clause-leaf : goal.returns-in-Some-clause-leaf
-returns-in-Some-clause-leaf c found =
-    let of = of_view c.self.invariant c.self.view_is in
-    let has = of.chunks (c.args.page / 512) in
-    grind arith
+returns-in-Some-clause-leaf c found = let of = of_view c.self.invariant c.self.view_is in grind arith

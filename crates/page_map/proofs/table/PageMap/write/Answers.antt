@@ -19,7 +19,4 @@ returns c =
     view_of (written_leaf _ _ of _ _ _ _ _ _ (cc) c.index_mut.ensures.value refl c.place_at.ensures)
 
 pub unreachable-requires : goal.unreachable-requires
-unreachable-requires c =
-    let of = of_view c.self.invariant c.self.view_is in
-    let has = of.chunks (c.args.page / 512) in
-    grind arith
+unreachable-requires c = let of = of_view c.self.invariant c.self.view_is in grind arith
