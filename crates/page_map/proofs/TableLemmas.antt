@@ -90,50 +90,48 @@ module _ {root : Places} {leaves : List Places} {used : ℕ} {pages : Pages} (of
     spare = sym of.spare i;
   }
 
-  -- where a leaf is there or spare, the root has a place for the page's chunk
-  pub chunk_in_root : (page : ℕ) → page < PAGES → (set.contains pages.chunks (page / 512) ≡ false → 0 < pages.spare) → page / 512 < length root
-  chunk_in_root page small room = grind (arith, get_or_past root (page / 512) None)
+  -- a page whose chunk has a leaf, or may take a spare one
+  module _ (page : ℕ) (small : page < PAGES) (room : set.contains pages.chunks (page / 512) ≡ false → 0 < pages.spare) where
+    -- the root has a place for its chunk
+    pub chunk_in_root : page / 512 < length root
+    chunk_in_root = grind (arith, get_or_past root (page / 512) None)
 
-  -- a chunk without a leaf takes the first spare one
-  pub given : (page : ℕ) (place : Option ℕ) → page < PAGES → (set.contains pages.chunks (page / 512) ≡ false → 0 < pages.spare)
-      → place ≡ get_or root (page / 512) place → is_some place ≡ false
-      → IsTableOf (put_at root (page / 512) (Some used)) leaves (used + 1) (with_leaf pages (page / 512))
-  given page place small room read bare =
-      let table = of.table in
-      let chunk = page / 512 in
-      let within : chunk < length root = chunk_in_root page small room in
-      let free : leaf_of root chunk ≡ None = grind (arith, common_steps) in
-      let some : used < length leaves = grind arith in
-      record {
-        table = record {
-          rooted = λ some. grind (arith, common_steps);
-          sized = λ some. grind (arith, common_steps);
-          within = omega arith;
-          counted = grind (arith, sum_by-set (λ o. cond (is_some o) 1 0) root chunk (Some used) None);
-          taken = λ c leaf has. grind (arith, common_steps);
-          apart = λ c o leaf has also. grind (arith, common_steps, table.taken c leaf, table.taken o leaf, table.apart c o leaf);
-          full = table.full;
-          blank = λ leaf place le. table.blank leaf place (omega arith);
-        };
-        numbers = λ q. grind (arith, common_steps);
-        chunks = λ q. grind (arith, common_steps, set.members, unsigned_tied q chunk);
-        spare = grind arith;
-      }
+    -- a chunk without a leaf takes the first spare one
+    pub given : (place : Option ℕ) → place ≡ get_or root (page / 512) place → is_some place ≡ false
+        → IsTableOf (put_at root (page / 512) (Some used)) leaves (used + 1) (with_leaf pages (page / 512))
+    given place read bare =
+        let table = of.table in
+        let chunk = page / 512 in
+        let within : chunk < length root = chunk_in_root in
+        let free : leaf_of root chunk ≡ None = grind (arith, common_steps) in
+        let some : used < length leaves = grind arith in
+        record {
+          table = record {
+            rooted = λ some. grind (arith, common_steps);
+            sized = λ some. grind (arith, common_steps);
+            within = omega arith;
+            counted = grind (arith, sum_by-set (λ o. cond (is_some o) 1 0) root chunk (Some used) None);
+            taken = λ c leaf has. grind (arith, common_steps);
+            apart = λ c o leaf has also. grind (arith, common_steps, table.taken c leaf, table.taken o leaf, table.apart c o leaf);
+            full = table.full;
+            blank = λ leaf place le. table.blank leaf place (omega arith);
+          };
+          numbers = λ q. grind (arith, common_steps);
+          chunks = λ q. grind (arith, common_steps, set.members, unsigned_tied q chunk);
+          spare = grind arith;
+        }
 
-  -- a chunk that has a leaf keeps it
-  pub kept : (page : ℕ) (place : Option ℕ) → page < PAGES → (set.contains pages.chunks (page / 512) ≡ false → 0 < pages.spare)
-      → place ≡ get_or root (page / 512) place → is_some place ≡ true
-      → IsTableOf root leaves used (with_leaf pages (page / 512))
-  kept page place small room read there =
-      let chunk = page / 512 in
-      let within : chunk < length root = chunk_in_root page small room in
-      let has : is_some (leaf_of root chunk) ≡ true = grind (arith, common_steps) in
-      record {
-        table = of.table;
-        numbers = of.numbers;
-        chunks = λ q. grind (arith, set.members, nat_tests, unsigned_tied q chunk);
-        spare = grind arith;
-      }
+    -- a chunk that has a leaf keeps it
+    pub kept : (place : Option ℕ) → place ≡ get_or root (page / 512) place → is_some place ≡ true → IsTableOf root leaves used (with_leaf pages (page / 512))
+    kept place read there =
+        let within : page / 512 < length root = chunk_in_root in
+        let has : is_some (leaf_of root (page / 512)) ≡ true = grind (arith, common_steps) in
+        record {
+          table = of.table;
+          numbers = of.numbers;
+          chunks = λ q. grind (arith, set.members, nat_tests, unsigned_tied q (page / 512));
+          spare = grind arith;
+        }
 
   -- a page whose chunk has no leaf may be removed
   pub removed : (page : ℕ) → leaf_of root (page / 512) ≡ None → IsTableOf root leaves used (record pages { numbers = map.remove pages.numbers page })
@@ -174,14 +172,13 @@ module _ {root : Places} {leaves : List Places} {used : ℕ} {pages : Pages} (of
   rooted {new = new} after =
       let table = of.table in
       let long : length new ≡ CHUNKS = grind arith in
-      let none : length root ≡ 0 → count_by is_some new ≡ 0 = λ e. none_counted new (after.bare e) in
       let same : (chunk : ℕ) → leaf_of new chunk ≡ leaf_of root chunk = λ chunk. grind (arith, get_or_past root chunk None) in
       let holds : IsTableOf new leaves used pages = record {
         table = record {
           rooted = λ _. long;
           sized = λ _. long;
           within = table.within;
-          counted = grind (arith, nil_from_length root);
+          counted = grind (arith, nil_from_length root, λ (e : length root ≡ 0). none_counted new (after.bare e));
           taken = λ chunk leaf has. table.taken chunk leaf (sym (same chunk) ∙ has);
           apart = λ chunk other leaf has also. table.apart chunk other leaf (sym (same chunk) ∙ has) (sym (same other) ∙ also);
           full = table.full;

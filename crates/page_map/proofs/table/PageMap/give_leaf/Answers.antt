@@ -11,14 +11,14 @@ index_mut-requires c = omega (arith, chunk_in_root (of_view c.self.invariant c.s
 pub invariant_of-self : goal.invariant_of-self
 invariant_of-self c =
     let of = of_view c.self.invariant c.self.view_is in
-    (given of c.args.page c.index.result.now c.requires.page c.requires.room c.index.ensures (grind arith)).table
+    (given of c.args.page c.requires.page c.requires.room _ c.index.ensures (grind arith)).table
 
 pub returns-then-is_none : goal.returns-then-is_none
 returns-then-is_none c =
     let of = of_view c.self.invariant c.self.view_is in
-    view_of (given of c.args.page c.index.result.now c.requires.page c.requires.room c.index.ensures (grind arith))
+    view_of (given of c.args.page c.requires.page c.requires.room _ c.index.ensures (grind arith))
 
 pub returns-else-is_none : goal.returns-else-is_none
 returns-else-is_none c =
     let of = of_view c.self.invariant c.self.view_is in
-    sym c.self.view_is ∙ view_of (kept of c.args.page c.index.result.now c.requires.page c.requires.room c.index.ensures (grind arith))
+    sym c.self.view_is ∙ view_of (kept of c.args.page c.requires.page c.requires.room _ c.index.ensures (grind arith))
