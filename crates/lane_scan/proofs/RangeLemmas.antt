@@ -1,30 +1,17 @@
 -- Lemmas on ranges, over lists.
-use Rattle.std.proofs.Common.{◌≡◌, inl, inr, ℕ, zero, suc, ◌+◌, ◌-◌, ◌*◌, ◌/◌, ◌%◌, ◌^◌, ◌<◌, ◌≤◌, Bool, true, false, not, ◌&&◌, ◌||◌, leb, ltb, eqb, List, [], ◌∷◌, ◌++◌, length, get_or, map, take, take-add, drop, replicate, refl, sym, ap, subst, ◌∙◌, arith, Fits, w64, bit_and, bit_or}
+use Rattle.std.proofs.Common.{◌≡◌, inl, inr, ℕ, zero, suc, ◌+◌, ◌-◌, ◌*◌, ◌/◌, ◌%◌, ◌^◌, ◌<◌, ◌≤◌, Bool, true, false, ◌||◌, eqb, List, [], ◌∷◌, ◌++◌, length, get_or, map, take, take-add, drop, replicate, refl, sym, ap, subst, ◌∙◌, arith, bit_or}
 use Rattle.std.specs.Int.{bit_at}
 use Rattle.std.specs.List.{list_any, zip}
-use Rattle.std.proofs.lemmas.Bool.{cases_lt, lt-leb, leb-false}
-use Rattle.std.proofs.lemmas.Bool.Decides.{nat_tests}
-use Rattle.std.proofs.lemmas.List.{length-map, map-append, drop_more, get_or-map, length-take-le, get_or_append_left, get_or_past, take-map, drop-map, get_or-take, get_or-drop, get_or-append_right, ext_get_or, length-append, length-replicate}
-use Rattle.std.proofs.lemmas.Simd.{mask_l-lt, zip2_splat, Each1-weaker, map-map, get_or-zip2, get_or-chunk}
+use Rattle.std.proofs.lemmas.Bool.{cases_lt}
+use Rattle.std.proofs.lemmas.List.{length-map, map-append, drop_more, length-take-le, get_or_append_left, get_or_past, take-map, drop-map, get_or-take, get_or-drop, get_or-append_right, ext_get_or, length-append, length-replicate}
+use Rattle.std.proofs.lemmas.Simd.{mask_l-lt}
 use native.Mathlib.Nat.{pow-suc, lt_of_lt_of_le}
 use lib.Pow.{pow_mono}
 use lib.Bits.{or_shifted_r}
 use mir.Val.{bool_byte}
-use lib.Lanes.{zip2, Each1, mask_l, chunk, fold_l}
+use lib.Lanes.{mask_l}
 use Rattle.lane_scan.specs.Bits.{bits_of}
-use Rattle.lane_scan.specs.Ranges.{is_inside, meets}
 use Rattle.lane_scan.proofs.BitLemmas.{bit_of_mask, length-bits_of, get_or-bits_of_at}
-use Rattle.lane_scan.proofs.LaneLemmas.{map_agree, offset_inside, tops_without, lane-le-fold_or}
-
--- the values whose offset is below the width of the range are those inside
-pub offsets_below : (xs : List ℕ) (lo hi width n : ℕ) → Each1 (Fits w64) xs → lo < 2 ^ 64 → hi < 2 ^ 64 → length xs ≡ n → width ≡ hi - lo
-    → map (λ x. ltb x width) (zip2 (λ x y. (x + (2 ^ 64 - y)) % 2 ^ 64) xs (replicate n lo)) ≡ map (is_inside lo hi) xs
-offsets_below xs lo hi width n fits hlo hhi long wide =
-    let offset : ℕ → ℕ = λ x. (x + (2 ^ 64 - lo)) % 2 ^ 64 in
-    ap (map (λ x. ltb x width)) (zip2_splat (λ x y. (x + (2 ^ 64 - y)) % 2 ^ 64) xs n lo long)
-    ∙ map-map (λ x. ltb x width) offset xs
-    ∙ map_agree (λ x. ltb (offset x) width) (is_inside lo hi) xs
-    (Each1-weaker (Fits w64) (λ x. ltb (offset x) width ≡ is_inside lo hi x) (λ x f. ap (ltb (offset x)) wide ∙ offset_inside x lo hi f.fits hlo hhi) xs fits)
 
 -- the mask of two lists, one after the other
 pub mask_l-append : (ms ns : List Bool) → mask_l (ms ++ ns) ≡ mask_l ns * 2 ^ length ms + mask_l ms
@@ -49,42 +36,6 @@ mask_more f xs at n word block room small before here =
     let short : mask_l front < 2 ^ at = let P : ℕ → Type 0 = λ k. mask_l front < 2 ^ k in subst P long (mask_l-lt front) in
     let fits : word < 2 ^ at = omega arith in
     ap (bit_or word) (omega arith) ∙ or_shifted_r block at word fits ∙ sym whole
-
--- where the disjunction of all lanes has no top bit, no lane has
-clear_tops : (zs : List ℕ) → leb (2 ^ 63) (fold_l bit_or 0 zs) ≡ false → (i : ℕ) → get_or (map (leb (2 ^ 63)) zs) i false ≡ false
-clear_tops zs none i =
-    elim (cases_lt i (length zs)) [
-      | inl h ↦ get_or-map (leb (2 ^ 63)) zs i 0 false h ∙ lt-leb (2 ^ 63) (get_or zs i 0) (omega (arith, leb-false (2 ^ 63) (fold_l bit_or 0 zs) none, lane-le-fold_or 0 zs i))
-      | inr h ↦ get_or_past (map (leb (2 ^ 63)) zs) i false (omega (arith, length-map zs (leb (2 ^ 63))))
-    ]
-
--- what the two comparisons with bounds say of a pair
-meets_by_tests : (f e lo hi : ℕ) → (ltb f hi && not (ltb e (lo + 1))) ≡ false → meets lo hi (f, e) ≡ false
-meets_by_tests f e lo hi h = grind (arith, nat_tests)
-
--- where no top bit is set, no pair of a block meets
-pub none_meets : (fs es : List ℕ) (lo hi : ℕ) (xs ys : List ℕ) → length fs ≡ length es → Each1 (λ lane. lane < 2 ^ 64) xs → Each1 (λ lane. lane < 2 ^ 64) ys
-    → map (leb (2 ^ 63)) xs ≡ map (λ x. ltb x hi) fs → map (leb (2 ^ 63)) ys ≡ map (λ y. ltb y (lo + 1)) es
-    → leb (2 ^ 63) (fold_l bit_or 0 (zip2 bit_and xs (map (λ y. 2 ^ 64 - 1 - y) ys))) ≡ false
-    → (i : ℕ) → i < length fs → meets lo hi (get_or fs i 0, get_or es i 0) ≡ false
-none_meets fs es lo hi xs ys paired hx hy begins ended none i lt =
-    let below_hi : ℕ → Bool = λ x. ltb x hi in
-    let to_lo : ℕ → Bool = λ y. ltb y (lo + 1) in
-    let zs = zip2 bit_and xs (map (λ y. 2 ^ 64 - 1 - y) ys) in
-    let same : length xs ≡ length ys =
-    sym (length-map xs (leb (2 ^ 63))) ∙ ap length begins ∙ length-map fs below_hi ∙ paired ∙ sym (length-map es to_lo) ∙ sym (ap length ended) ∙ length-map ys (leb (2 ^ 63)) in
-    let tops : map (leb (2 ^ 63)) zs ≡ zip2 (λ a b. a && not b) (map below_hi fs) (map to_lo es) =
-    tops_without xs ys same hx hy ∙ ap (λ ts. zip2 (λ a b. a && not b) ts (map (leb (2 ^ 63)) ys)) begins ∙ ap (zip2 (λ a b. a && not b) (map below_hi fs)) ended in
-    let clear : get_or (map (leb (2 ^ 63)) zs) i false ≡ false = clear_tops zs none i in
-    let here : get_or (zip2 (λ a b. a && not b) (map below_hi fs) (map to_lo es)) i false ≡ (below_hi (get_or fs i 0) && not (to_lo (get_or es i 0))) =
-    get_or-zip2 (λ a b. a && not b) (map below_hi fs) (map to_lo es) i false false false (omega (arith, length-map fs below_hi)) (omega (arith, length-map es to_lo))
-    ∙ ap (λ t. t && not (get_or (map to_lo es) i false)) (get_or-map below_hi fs i 0 false lt)
-    ∙ ap (λ t. below_hi (get_or fs i 0) && not t) (get_or-map to_lo es i 0 false (omega arith)) in
-    meets_by_tests (get_or fs i 0) (get_or es i 0) lo hi (sym here ∙ ap (λ ts. get_or ts i false) (sym tops) ∙ clear)
-
--- the element of a list that a block has
-pub get_or-in_chunk : (at n : ℕ) (xs : List ℕ) (k : ℕ) → at ≤ k → k < at + n → get_or xs k 0 ≡ get_or (chunk at n xs) (k - at) 0
-get_or-in_chunk at n xs k above below = ap (λ i. get_or xs i 0) (omega arith) ∙ sym (get_or-chunk at n xs (k - at) 0 (omega arith))
 
 -- where the first pairs don't meet, the search may begin after them
 pub list_any-zip-drop : (p : ℕ × ℕ → Bool) (fs es : List ℕ) (at : ℕ) → ((k : ℕ) → k < at → p (get_or fs k 0, get_or es k 0) ≡ false) → at ≤ length fs → length fs ≡ length es
