@@ -1,7 +1,6 @@
-use Rattle.std.proofs.Common.{◌+◌, arith, take, refl}
-use Rattle.std.proofs.lemmas.List.{length-take-le}
+use Rattle.std.proofs.Common.{arith, refl}
 use Rattle.lane_scan.specs.Bits.{bits_of}
-use Rattle.lane_scan.proofs.BitLemmas.{count_more, count_more_word, count-bits_of-le}
+use Rattle.lane_scan.proofs.BitLemmas.{count_more, count_word}
 use Rattle.lane_scan.proofs.words.count_set.Goals as goal
 
 pub loop-at-init : goal.loop-at-init
@@ -9,23 +8,20 @@ unfolding bits_of
 loop-at-init c = record { within = omega arith; counted = refl }
 
 pub overflow_add-count : goal.overflow_add-count
-overflow_add-count c =
-    let ws = c.args.words.now in
-    let at = c.loop-at.at in
-    record { fits = omega (arith, count_more ws at 8, c.block_ones-count.ensures, c.loop-at.invariant.counted, count-bits_of-le (take (at + 8) ws), length-take-le (at + 8) ws (omega arith)) }
+overflow_add-count c = record { fits = omega (arith, count_more c.args.words.now c.loop-at.at 8 (omega arith), c.block_ones-count.ensures) }
 
 pub loop-at-preserved-then-words-at-ge-LANES : goal.loop-at-preserved-then-words-at-ge-LANES
 loop-at-preserved-then-words-at-ge-LANES c =
-    record { within = omega arith; counted = omega (arith, count_more c.args.words.now c.loop-at.at 8, c.block_ones-count.ensures, c.loop-at.invariant.counted) }
+    record { within = omega arith; counted = omega (arith, count_more c.args.words.now c.loop-at.at 8 (omega arith), c.block_ones-count.ensures) }
 
 pub overflow_add-count-else-words-at-ge-LANES : goal.overflow_add-count-else-words-at-ge-LANES
 overflow_add-count-else-words-at-ge-LANES c =
     let ws = c.args.words.now in
     let at = c.loop-at.at in
-    record { fits = omega (arith, count_more_word ws at (omega arith) (c.type_inv.words at).fits, c.loop-at.invariant.counted, count-bits_of-le (take (at + 1) ws), length-take-le (at + 1) ws (omega arith)) }
+    record { fits = omega (arith, count_more ws at 1 (omega arith), count_word ws at (omega arith) (c.type_inv.words at).fits) }
 
 pub loop-at-preserved : goal.loop-at-preserved
 loop-at-preserved c =
     let ws = c.args.words.now in
     let at = c.loop-at.at in
-    record { within = omega arith; counted = omega (arith, count_more_word ws at (omega arith) (c.type_inv.words at).fits, c.loop-at.invariant.counted) }
+    record { within = omega arith; counted = omega (arith, count_more ws at 1 (omega arith), count_word ws at (omega arith) (c.type_inv.words at).fits) }
