@@ -4,7 +4,7 @@ use Rattle.std.specs.Int.{bit_at}
 use Rattle.std.specs.Int.RustNames.{count_ones}
 use Rattle.std.specs.List.{position_or_len}
 use Rattle.std.proofs.lemmas.Grind.{common_steps}
-use Rattle.std.proofs.lemmas.List.{append-nil, length-take-le, length-append, get_or-append_right, get_or_append_left, map-id, drop_more}
+use Rattle.std.proofs.lemmas.List.{append-nil, length-take, length-append, get_or-append_right, get_or_append_left, map-id, drop_more}
 use Rattle.std.proofs.lemmas.List.FromFn.{length-map-range_with_len, get_or-map-range_with_len}
 use Rattle.std.proofs.lemmas.List.Concat.{flat_map-append}
 use Rattle.std.proofs.lemmas.Nat.Bits.{same_from_bits_below, bit_at-lt, bit_at-zero, bit_at-trailing_zeros}
@@ -85,14 +85,13 @@ lowest_none ws zeros =
     grind (arith, nat_tests)
 
 -- what a count over words becomes n words further on, and a bound
-pub count_more : (ws : List ℕ) (at n : ℕ) → at + n ≤ length ws
+pub count_more : (ws : List ℕ) (at n : ℕ)
     → (count_by (λ bit. bit) (bits_of (take (at + n) ws)) ≡ count_by (λ bit. bit) (bits_of (take at ws)) + count_by (λ bit. bit) (bits_of (take n (drop at ws))))
     × (count_by (λ bit. bit) (bits_of (take (at + n) ws)) ≤ 64 * length ws)
 unfolding bits_of
-count_more ws at n room =
-    let all = take (at + n) ws in
-    let bound = count_by-le-length (λ bit. bit) (bits_of all) in
-    (simp (take-add, flat_map-append, sum_by-append), omega (arith, length-bits_of all, length-take-le (at + n) ws room))
+count_more ws at n =
+    let bound = count_by-le-length (λ bit. bit) (bits_of (take (at + n) ws)) in
+    (simp (take-add, flat_map-append, sum_by-append), omega (arith, length-bits_of (take (at + n) ws), length-take (at + n) ws))
 
 -- the bits that one word counts
 pub count_word : (ws : List ℕ) (at : ℕ) → at < length ws → get_or ws at 0 < 2 ^ 64

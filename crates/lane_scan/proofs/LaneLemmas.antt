@@ -1,5 +1,5 @@
 -- Lemmas on lanes: the comparison by the top bit.
-use Rattle.std.proofs.Common.{◌≡◌, ℕ, zero, suc, ◌+◌, ◌-◌, ◌%◌, ◌^◌, ◌<◌, ◌≤◌, Bool, false, ◌&&◌, leb, ltb, List, [], ◌∷◌, length, get_or, map, replicate, refl, ◌∙◌, arith, Fits, w64, bit_and, bit_or}
+use Rattle.std.proofs.Common.{◌≡◌, max, ap, ℕ, zero, suc, ◌+◌, ◌-◌, ◌%◌, ◌^◌, ◌<◌, ◌≤◌, Bool, false, ◌&&◌, leb, ltb, List, [], ◌∷◌, length, get_or, map, replicate, refl, ◌∙◌, arith, Fits, w64, bit_and, bit_or}
 use Rattle.std.proofs.lemmas.Bool.Decides.{nat_tests}
 use Rattle.std.proofs.lemmas.List.{length-map, get_or-map}
 use Rattle.std.proofs.lemmas.Nat.{le_or_l, le_or_r}
@@ -30,16 +30,11 @@ Each1-and_complements [] ys = tt
 Each1-and_complements (x ∷ xs) [] = tt
 Each1-and_complements (x ∷ xs) (y ∷ ys) = (omega (arith, and_le_r x (2 ^ 64 - 1 - y)), Each1-and_complements xs ys)
 
--- each lane is at most the disjunction of all
-le-fold_or : (a : ℕ) (xs : List ℕ) → a ≤ fold_l bit_or a xs
-le-fold_or a [] = omega arith
-le-fold_or a (x ∷ xs) = omega (arith, le_or_l a x, le-fold_or (bit_or a x) xs)
-
--- the same of any lane
-lane-le-fold_or : (a : ℕ) (xs : List ℕ) (i : ℕ) → get_or xs i 0 ≤ fold_l bit_or a xs
-lane-le-fold_or a [] i = omega arith
-lane-le-fold_or a (x ∷ xs) zero = omega (arith, le_or_r a x, le-fold_or (bit_or a x) xs)
-lane-le-fold_or a (x ∷ xs) (suc i) = lane-le-fold_or (bit_or a x) xs i
+-- a disjunction is at least what it begins with, and at least each of its lanes
+le-fold_or : (a : ℕ) (xs : List ℕ) (i : ℕ) → max a (get_or xs i 0) ≤ fold_l bit_or a xs
+le-fold_or a [] i = omega arith
+le-fold_or a (x ∷ xs) zero = omega (arith, le_or_l a x, le_or_r a x, le-fold_or (bit_or a x) xs zero)
+le-fold_or a (x ∷ xs) (suc i) = omega (arith, le_or_l a x, le-fold_or (bit_or a x) xs i)
 
 -- how far a value lies above the first one inside tells whether it is inside
 offset_inside : (x lo hi width : ℕ) → x < 2 ^ 64 → lo < 2 ^ 64 → hi < 2 ^ 64 → width ≡ hi - lo
@@ -57,10 +52,9 @@ offsets_below lo hi width (suc n) (x ∷ xs) fits hlo hhi wide long =
 -- a lane's top bit, where the top bits of all lanes are the answers of a test
 lane_top : (f : ℕ → Bool) (fs xs : List ℕ) (i : ℕ) → map (leb (2 ^ 63)) xs ≡ map f fs → i < length fs
     → (i < length xs) × (leb (2 ^ 63) (get_or xs i 0) ≡ f (get_or fs i 0))
-lane_top f [] xs i tops lt = absurd (omega arith)
-lane_top f (v ∷ fs) [] i tops lt = cc
-lane_top f (v ∷ fs) (x ∷ xs) zero tops lt = (omega arith, cc)
-lane_top f (v ∷ fs) (x ∷ xs) (suc i) tops lt = grind (arith, lane_top f fs xs i (cc) (omega arith))
+lane_top f fs xs i tops lt =
+    let long : length xs ≡ length fs = omega (arith, length-map xs (leb (2 ^ 63)), length-map fs f, ap length tops) in
+    (omega arith, grind (arith, get_or-map (leb (2 ^ 63)) xs i 0 false, get_or-map f fs i 0 false))
 
 -- where no lane of the conjunction has its top bit, no pair meets
 pub none_meets : (fs es : List ℕ) (lo hi : ℕ) (xs ys : List ℕ) → length fs ≡ length es → Each1 (λ lane. lane < 2 ^ 64) xs → Each1 (λ lane. lane < 2 ^ 64) ys
@@ -73,6 +67,6 @@ none_meets fs es lo hi xs ys paired hx hy begins ended none i lt =
     let end = lane_top (λ y. ltb y (lo + 1)) es ys i ended (omega arith) in
     let other = get_or-map (λ y. 2 ^ 64 - 1 - y) ys i 0 0 end.0 in
     let lane = get_or-zip2 bit_and xs others i 0 0 0 begin.0 (omega (arith, length-map ys (λ y. 2 ^ 64 - 1 - y))) in
-    let below = lane-le-fold_or 0 (zip2 bit_and xs others) i in
+    let below = le-fold_or 0 (zip2 bit_and xs others) i in
     let top = top-bit_and (get_or xs i 0) (get_or others i 0) (Each1-get_or (λ x. x < 2 ^ 64) xs i 0 begin.0 hx) (omega arith) in
     grind (arith, nat_tests)

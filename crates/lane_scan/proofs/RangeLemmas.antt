@@ -1,6 +1,7 @@
 -- Lemmas on ranges, over lists.
-use Rattle.std.proofs.Common.{◌≡◌, ℕ, zero, suc, ◌+◌, ◌-◌, ◌*◌, ◌/◌, ◌%◌, ◌^◌, ◌<◌, ◌≤◌, Bool, true, false, List, [], ◌∷◌, ◌++◌, length, get_or, map, take, take-add, drop, replicate, refl, sym, ap, ◌∙◌, arith, bit_or}
+use Rattle.std.proofs.Common.{◌≡◌, ℕ, zero, suc, ◌+◌, ◌-◌, ◌*◌, ◌/◌, ◌%◌, ◌^◌, ◌<◌, ◌≤◌, Bool, false, List, [], ◌∷◌, ◌++◌, length, get_or, map, take, take-add, drop, replicate, refl, sym, ap, ◌∙◌, arith, bit_or}
 use Rattle.std.specs.List.{list_any, zip}
+use Rattle.std.proofs.lemmas.Bool.Decides.{nat_tests}
 use Rattle.std.proofs.lemmas.List.{length-map, map-append, drop_more, length-take-le, get_or_append_left, get_or_past, take-map, drop-map, get_or-append_right, get_or-replicate, ext_get_or, length-append, length-replicate}
 use Rattle.std.proofs.lemmas.Simd.{mask_l-lt, mask_l-mod, get_or-chunk}
 use native.Mathlib.Nat.{pow-suc}
@@ -35,14 +36,9 @@ list_any-zip-drop p (f ∷ fs) (e ∷ es) (suc at) none le paired =
     rw (none zero (omega arith)) (list_any-zip-drop p fs es at (λ k lt. none (suc k) (omega arith)) (omega arith) (omega arith))
 list_any-zip-drop p fs es (suc at) none le paired = absurd (omega arith)
 
--- a test as a number is its mask
-byte_of : (b : Bool) → bool_byte b ≡ mask_l (b ∷ [])
-byte_of true = refl
-byte_of false = refl
-
 -- the mask of one value
 pub mask_one : (f : ℕ → Bool) (xs : List ℕ) (at : ℕ) → at < length xs → bool_byte (f (get_or xs at 0)) ≡ mask_l (map f (take 1 (drop at xs)))
-mask_one f xs at lt = rw (drop_more xs at 0 lt) (byte_of (f (get_or xs at 0)))
+mask_one f xs at lt = rw (drop_more xs at 0 lt) (grind (arith, nat_tests))
 
 -- the answers for the values of one word
 map_word : (f : ℕ → Bool) (xs : List ℕ) (j k : ℕ) → k < 64 → get_or (map f (take 64 (drop (64 * j) xs))) k false ≡ get_or (map f xs) (64 * j + k) false

@@ -11,8 +11,6 @@ returns c none k above below =
     let at = c.args.at in
     let long = length-chunk at 16 fs c.requires.firsts in
     let same = length-chunk at 16 es c.requires.ends in
-    let first = get_or-chunk at 16 fs (k - at) 0 (omega arith) in
-    let end = get_or-chunk at 16 es (k - at) 0 (omega arith) in
-    let apart = none_meets (chunk at 16 fs) (chunk at 16 es) c.args.lo c.args.hi c.below-begins.result c.below-ended.result (omega arith)
+    let apart = none_meets (chunk at 16 fs) (chunk at 16 es) c.args.lo c.args.hi _ _ (omega arith)
       c.below-begins.ensures.words c.below-ended.ensures.words c.below-begins.ensures.tops c.below-ended.ensures.tops none (k - at) (omega arith) in
-    grind arith
+    grind (arith, get_or-chunk at 16 fs (k - at) 0, get_or-chunk at 16 es (k - at) 0)

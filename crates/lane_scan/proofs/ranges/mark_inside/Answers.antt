@@ -1,5 +1,4 @@
-use Rattle.std.proofs.Common.{◌≡◌, ◌*◌, min, inl, inr, length, ◌∙◌, arith}
-use Rattle.std.proofs.lemmas.Bool.{cases_eq}
+use Rattle.std.proofs.Common.{◌≡◌, ◌*◌, min, length, ◌∙◌, arith}
 use Rattle.std.proofs.lemmas.Grind.{common_steps}
 use Rattle.std.proofs.lemmas.List.{take_min, drop_min, drop-drop}
 use Rattle.lane_scan.specs.Ranges.{is_inside}
@@ -14,10 +13,7 @@ loop-word-preserved c =
     let count : c.min.result ≡ min 64 (length rest) = omega arith in
     record {
       left = c.split_at.ensures.back ∙ grind (arith, drop_min 64 rest, drop-drop 64 (64 * i) xs);
-      marked = λ j before. elim (cases_eq j i) [
-        | inl e ↦ grind (arith, common_steps, take_min 64 rest, c.split_at.ensures.front, c.marks_of.ensures)
-        | inr ne ↦ grind (arith, common_steps, c.loop-word.invariant.marked j)
-      ];
+      marked = λ j before. grind (arith, common_steps, take_min 64 rest, c.split_at.ensures.front, c.marks_of.ensures, c.loop-word.invariant.marked j);
     }
 
 pub returns : goal.returns

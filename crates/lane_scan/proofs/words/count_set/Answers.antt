@@ -8,20 +8,18 @@ unfolding bits_of
 loop-at-init c = record { within = omega arith; counted = refl }
 
 pub overflow_add-count : goal.overflow_add-count
-overflow_add-count c = record { fits = omega (arith, count_more c.args.words.now c.loop-at.at 8 (omega arith), c.block_ones-count.ensures) }
+overflow_add-count c = record { fits = omega (arith, count_more c.args.words.now c.loop-at.at 8) }
 
 pub loop-at-preserved-then-words-at-ge-LANES : goal.loop-at-preserved-then-words-at-ge-LANES
-loop-at-preserved-then-words-at-ge-LANES c =
-    record { within = omega arith; counted = omega (arith, count_more c.args.words.now c.loop-at.at 8 (omega arith), c.block_ones-count.ensures) }
+loop-at-preserved-then-words-at-ge-LANES c = record { within = omega arith; counted = omega (arith, count_more c.args.words.now c.loop-at.at 8) }
 
 pub overflow_add-count-else-words-at-ge-LANES : goal.overflow_add-count-else-words-at-ge-LANES
-overflow_add-count-else-words-at-ge-LANES c =
-    let ws = c.args.words.now in
-    let at = c.loop-at.at in
-    record { fits = omega (arith, count_more ws at 1 (omega arith), count_word ws at (omega arith) (c.type_inv.words at).fits) }
+overflow_add-count-else-words-at-ge-LANES c = record {
+  fits = omega (arith, count_more c.args.words.now c.loop-at.at 1, count_word c.args.words.now c.loop-at.at, c.type_inv.words c.loop-at.at);
+}
 
 pub loop-at-preserved : goal.loop-at-preserved
-loop-at-preserved c =
-    let ws = c.args.words.now in
-    let at = c.loop-at.at in
-    record { within = omega arith; counted = omega (arith, count_more ws at 1 (omega arith), count_word ws at (omega arith) (c.type_inv.words at).fits) }
+loop-at-preserved c = record {
+  within = omega arith;
+  counted = omega (arith, count_more c.args.words.now c.loop-at.at 1, count_word c.args.words.now c.loop-at.at, c.type_inv.words c.loop-at.at);
+}
