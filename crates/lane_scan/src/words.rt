@@ -1,5 +1,5 @@
 //! The set bits of a list of words.
-ghost use Rattle.std.specs.Prelude.{◌≡◌, ◌≤◌, ◌^◌, ◌*◌, ◌+◌, ◌<◌, ℕ, length, slice_index, count_by, position};
+ghost use Rattle.std.specs.Prelude.{◌≡◌, ◌≤◌, ◌^◌, ◌+◌, ◌<◌, ℕ, length, slice_index, count_by, position};
 ghost use Rattle.std.specs.Simd.Lanes.{chunk};
 ghost use Rattle.lane_scan.specs.Bits.{bits_of};
 
