@@ -1,5 +1,5 @@
 -- Lemmas on the bits of words.
-use Rattle.std.proofs.Common.{◌≡◌, ℕ, ◌+◌, ◌*◌, ◌/◌, ◌%◌, ◌^◌, ◌<◌, ◌≤◌, inl, inr, Bool, false, cond, eqb, List, [], ◌-◌, ◌∷◌, length, get_or, map, take, drop, refl, sym, ◌∙◌, arith, take-add, count_by, position, Some, None, Fits, w64}
+use Rattle.std.proofs.Common.{◌≡◌, ℕ, ◌+◌, ◌-◌, ◌*◌, ◌/◌, ◌%◌, ◌^◌, ◌<◌, ◌≤◌, inl, inr, Bool, false, cond, eqb, List, [], ◌∷◌, length, get_or, map, take, drop, refl, sym, ◌∙◌, arith, take-add, count_by, position, Some, None, Fits, w64}
 use Rattle.std.specs.Int.{bit_at}
 use Rattle.std.specs.Int.RustNames.{count_ones}
 use Rattle.std.specs.List.{position_or_len}
@@ -55,11 +55,16 @@ get_or-bits_of_at (w ∷ ws) i = elim (cases_lt i 64) [
   | inr ge ↦ get_or-append_right (word_bits w) (bits_of ws) 64 i false (length-word_bits w) ge ∙ grind (arith, common_steps, get_or-bits_of_at ws (i - 64))
 ]
 
+-- how many bits of words are set
+abbrev pub ones : List ℕ → ℕ
+ones ws = count_by (λ bit. bit) (bits_of ws)
+
 -- the lanes' counts add up to the number of set bits
-pub lane_sum : (a : ℕ) (ws : List ℕ) → Each1 (Fits w64) ws → fold_l (λ s x. s + x) a (map (λ x. x) (map count_ones ws)) ≡ a + count_by (λ bit. bit) (bits_of ws)
+pub lane_sum : (a : ℕ) (ws : List ℕ) → Each1 (Fits w64) ws → fold_l (λ s x. s + x) a (map (λ x. x) (map count_ones ws)) ≡ a + ones ws
 unfolding bits_of
 lane_sum a [] h = omega arith
-lane_sum a (w ∷ ws) h = omega (arith, lane_sum (a + count_ones w) ws h.1, count-word_bits w h.0.fits, sum_by-append (λ bit. cond bit 1 0) (word_bits w) (bits_of ws))
+lane_sum a (w ∷ ws) h =
+    omega (arith, lane_sum (a + count_ones w) ws h.1, count-word_bits w h.0.fits, sum_by-append (λ bit. cond bit 1 0) (word_bits w) (bits_of ws))
 
 -- the lowest set bit stands in the first word that is not zero
 pub lowest_at : (ws : List ℕ) (i : ℕ) → i < length ws → ((k : ℕ) → k < i → get_or ws k 0 ≡ 0)
@@ -84,17 +89,16 @@ lowest_none ws zeros =
       (λ lt. absurd (omega arith)) in
     grind (arith, nat_tests)
 
+-- words have at most as many set bits as they have bits
+pub ones-le : (ws : List ℕ) → ones ws ≤ 64 * length ws
+ones-le ws = omega (arith, count_by-le-length (λ bit. bit) (bits_of ws), length-bits_of ws)
+
 -- what a count over words becomes n words further on, and a bound
-pub count_more : (ws : List ℕ) (at n : ℕ)
-    → (count_by (λ bit. bit) (bits_of (take (at + n) ws)) ≡ count_by (λ bit. bit) (bits_of (take at ws)) + count_by (λ bit. bit) (bits_of (take n (drop at ws))))
-    × (count_by (λ bit. bit) (bits_of (take (at + n) ws)) ≤ 64 * length ws)
+pub ones_more : (ws : List ℕ) (at n : ℕ) → (ones (take (at + n) ws) ≡ ones (take at ws) + ones (take n (drop at ws))) × (ones (take (at + n) ws) ≤ 64 * length ws)
 unfolding bits_of
-count_more ws at n =
-    let bound = count_by-le-length (λ bit. bit) (bits_of (take (at + n) ws)) in
-    (simp (take-add, flat_map-append, sum_by-append), omega (arith, length-bits_of (take (at + n) ws), length-take (at + n) ws))
+ones_more ws at n = (simp (take-add, flat_map-append, sum_by-append), omega (arith, ones-le (take (at + n) ws), length-take (at + n) ws))
 
 -- the bits that one word counts
-pub count_word : (ws : List ℕ) (at : ℕ) → at < length ws → get_or ws at 0 < 2 ^ 64
-    → count_ones (get_or ws at 0) ≡ count_by (λ bit. bit) (bits_of (take 1 (drop at ws)))
+pub ones_word : (ws : List ℕ) (at : ℕ) → at < length ws → get_or ws at 0 < 2 ^ 64 → count_ones (get_or ws at 0) ≡ ones (take 1 (drop at ws))
 unfolding bits_of
-count_word ws at lt fits = rw (drop_more ws at 0 lt, append-nil) (sym (count-word_bits (get_or ws at 0) fits))
+ones_word ws at lt fits = rw (drop_more ws at 0 lt, append-nil) (sym (count-word_bits (get_or ws at 0) fits))
