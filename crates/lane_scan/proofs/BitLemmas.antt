@@ -10,7 +10,7 @@ use Rattle.std.proofs.lemmas.List.Concat.{flat_map-append}
 use Rattle.std.proofs.lemmas.Nat.Bits.{same_from_bits_below, bit_at-lt, bit_at-zero, bit_at-trailing_zeros}
 use Rattle.std.proofs.lemmas.Simd.{mask_l-lt, bit_mask_l, ones-mask_l}
 use Rattle.std.proofs.lemmas.Bool.Decides.{nat_tests}
-use Rattle.std.proofs.lemmas.List.Sums.{sum_by-append, position_or_len_is, count_by-le-length}
+use Rattle.std.proofs.lemmas.List.Sums.{sum_by-append, passes_at_first, position_or_len_is, count_by-le-length}
 use Rattle.std.proofs.lemmas.Bool.{cases_lt}
 use lib.Count.{count_trailing_zeros}
 use lib.Lanes.{mask_l, Each1, fold_l}
@@ -82,12 +82,9 @@ lowest_at ws i lt zero_before nonzero fits =
 -- where every word is zero no bit is set
 pub lowest_none : (ws : List ℕ) → ((k : ℕ) → k < length ws → get_or ws k 0 ≡ 0) → position (λ bit. bit) (bits_of ws) ≡ None
 lowest_none ws zeros =
-    let long = length-bits_of ws in
-    let none : position_or_len (λ bit. bit) (bits_of ws) ≡ length (bits_of ws) =
-      position_or_len_is (λ bit. bit) (bits_of ws) (length (bits_of ws)) false (omega arith)
-      (λ k lt. grind (arith, nat_tests, get_or-bits_of_at ws k, zeros (k / 64), bit_at-zero (k % 64)))
-      (λ lt. absurd (omega arith)) in
-    grind (arith, nat_tests)
+    let first = position_or_len (λ bit. bit) (bits_of ws) in
+    let passes = passes_at_first (λ bit. bit) (bits_of ws) false in
+    grind (arith, nat_tests, passes, length-bits_of ws, get_or-bits_of_at ws first, zeros (first / 64), bit_at-zero (first % 64))
 
 -- words have at most as many set bits as they have bits
 pub ones-le : (ws : List ℕ) → ones ws ≤ 64 * length ws

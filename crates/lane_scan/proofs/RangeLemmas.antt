@@ -14,7 +14,7 @@ use Rattle.lane_scan.proofs.BitLemmas.{bit_of_mask, length-bits_of, get_or-bits_
 -- the mask of two lists, one after the other
 mask_l-append : (ms ns : List Bool) → mask_l (ms ++ ns) ≡ mask_l ns * 2 ^ length ms + mask_l ms
 mask_l-append [] ns = omega arith
-mask_l-append (m ∷ ms) ns = omega (arith, mask_l-append ms ns, ap (λ p. mask_l ns * p) (pow-suc 2 (length ms)))
+mask_l-append (m ∷ ms) ns = rw pow-suc (omega (arith, mask_l-append ms ns))
 
 -- the mask of the values up to the end of one more block
 pub mask_more : (f : ℕ → Bool) (xs : List ℕ) (at n word block : ℕ) → at + n ≤ length xs → at + n ≤ 64
@@ -29,7 +29,8 @@ mask_more f xs at n word block room small before here =
     ap (bit_or word) (omega arith) ∙ or_shifted_r block at word (omega arith) ∙ sym whole
 
 -- where the first pairs don't meet, the search may begin after them
-pub list_any-zip-drop : (p : ℕ × ℕ → Bool) (fs es : List ℕ) (at : ℕ) → ((k : ℕ) → k < at → p (get_or fs k 0, get_or es k 0) ≡ false) → at ≤ length fs → length fs ≡ length es
+pub list_any-zip-drop : (p : ℕ × ℕ → Bool) (fs es : List ℕ) (at : ℕ) → ((k : ℕ) → k < at → p (get_or fs k 0, get_or es k 0) ≡ false)
+    → at ≤ length fs → length fs ≡ length es
     → list_any p (zip (drop at fs) (drop at es)) ≡ list_any p (zip fs es)
 list_any-zip-drop p fs es zero none le paired = refl
 list_any-zip-drop p (f ∷ fs) (e ∷ es) (suc at) none le paired =
