@@ -47,12 +47,12 @@ length-bits_of [] = refl
 length-bits_of (w ∷ ws) = omega (arith, length-append (word_bits w) (bits_of ws), length-word_bits w, length-bits_of ws)
 
 -- each bit by its place
-pub get_or-bits_of_at : (ws : List ℕ) (i : ℕ) → get_or (bits_of ws) i false ≡ eqb (bit_at (get_or ws (i / 64) 0) (i % 64)) 1
+pub get_or-bits_of : (ws : List ℕ) (i : ℕ) → get_or (bits_of ws) i false ≡ eqb (bit_at (get_or ws (i / 64) 0) (i % 64)) 1
 unfolding bits_of
-get_or-bits_of_at [] i = grind (arith, nat_tests, bit_at-zero (i % 64))
-get_or-bits_of_at (w ∷ ws) i = elim (cases_lt i 64) [
+get_or-bits_of [] i = grind (arith, nat_tests, bit_at-zero (i % 64))
+get_or-bits_of (w ∷ ws) i = elim (cases_lt i 64) [
   | inl lt ↦ get_or_append_left (word_bits w) (bits_of ws) false i (omega (arith, length-word_bits w)) ∙ grind (arith, common_steps, get_or-word_bits w i lt)
-  | inr ge ↦ get_or-append_right (word_bits w) (bits_of ws) 64 i false (length-word_bits w) ge ∙ grind (arith, common_steps, get_or-bits_of_at ws (i - 64))
+  | inr ge ↦ get_or-append_right (word_bits w) (bits_of ws) 64 i false (length-word_bits w) ge ∙ grind (arith, common_steps, get_or-bits_of ws (i - 64))
 ]
 
 -- how many bits of words are set
@@ -73,10 +73,9 @@ lowest_at ws i lt zero_before nonzero fits =
     let t = count_trailing_zeros 64 (get_or ws i 0) in
     let at = bit_at-trailing_zeros w64 (get_or ws i 0) nonzero fits in
     let long = length-bits_of ws in
-    let found : position_or_len (λ bit. bit) (bits_of ws) ≡ 64 * i + t =
-      position_or_len_is (λ bit. bit) (bits_of ws) (64 * i + t) false (omega (arith, at.0))
-      (λ k before. grind (arith, nat_tests, get_or-bits_of_at ws k, zero_before (k / 64), bit_at-zero (k % 64), at.2 (k % 64)))
-      (λ within. grind (arith, nat_tests, get_or-bits_of_at ws (64 * i + t))) in
+    let found = position_or_len_is (λ bit. bit) (bits_of ws) (64 * i + t) false (omega (arith, at.0))
+    (λ k before. grind (arith, nat_tests, get_or-bits_of ws k, zero_before (k / 64), bit_at-zero (k % 64), at.2 (k % 64)))
+    (λ within. grind (arith, nat_tests, get_or-bits_of ws (64 * i + t))) in
     grind (arith, nat_tests)
 
 -- where every word is zero no bit is set
@@ -84,14 +83,15 @@ pub lowest_none : (ws : List ℕ) → ((k : ℕ) → k < length ws → get_or ws
 lowest_none ws zeros =
     let first = position_or_len (λ bit. bit) (bits_of ws) in
     let passes = passes_at_first (λ bit. bit) (bits_of ws) false in
-    grind (arith, nat_tests, passes, length-bits_of ws, get_or-bits_of_at ws first, zeros (first / 64), bit_at-zero (first % 64))
+    grind (arith, nat_tests, passes, length-bits_of ws, get_or-bits_of ws first, zeros (first / 64), bit_at-zero (first % 64))
 
 -- words have at most as many set bits as they have bits
 pub ones-le : (ws : List ℕ) → ones ws ≤ 64 * length ws
 ones-le ws = omega (arith, count_by-le-length (λ bit. bit) (bits_of ws), length-bits_of ws)
 
 -- what a count over words becomes n words further on, and a bound
-pub ones_more : (ws : List ℕ) (at n : ℕ) → (ones (take (at + n) ws) ≡ ones (take at ws) + ones (take n (drop at ws))) × (ones (take (at + n) ws) ≤ 64 * length ws)
+pub ones_more : (ws : List ℕ) (at n : ℕ)
+    → (ones (take (at + n) ws) ≡ ones (take at ws) + ones (take n (drop at ws))) × (ones (take (at + n) ws) ≤ 64 * length ws)
 unfolding bits_of
 ones_more ws at n = (simp (take-add, flat_map-append, sum_by-append), omega (arith, ones-le (take (at + n) ws), length-take (at + n) ws))
 

@@ -9,7 +9,7 @@ use lib.Bits.{or_shifted_r}
 use mir.Val.{bool_byte}
 use lib.Lanes.{mask_l}
 use Rattle.lane_scan.specs.Bits.{bits_of}
-use Rattle.lane_scan.proofs.BitLemmas.{bit_of_mask, length-bits_of, get_or-bits_of_at}
+use Rattle.lane_scan.proofs.BitLemmas.{bit_of_mask, length-bits_of, get_or-bits_of}
 
 -- the mask of two lists, one after the other
 mask_l-append : (ms ns : List Bool) → mask_l (ms ++ ns) ≡ mask_l ns * 2 ^ length ms + mask_l ms
@@ -58,7 +58,7 @@ bits_of_marked f xs out room marked =
     ext_get_or false (bits_of out) (map f xs ++ pad)
     (omega (arith, length-bits_of out, length-append (map f xs) pad, length-map xs f, length-replicate (64 * length out - length xs) false))
     (λ i lt.
-      let word = marked (i / 64) (omega (arith, length-bits_of out)) in
-      let bit = bit_of_mask (map f (take 64 (drop (64 * (i / 64)) xs))) (i % 64) in
-      let answer = map_word f xs (i / 64) (i % 64) (omega arith) in
-      grind (arith, get_or-bits_of_at out i, get_or-padded (map f xs) (64 * length out - length xs) i))
+    let word = marked (i / 64) (omega (arith, length-bits_of out)) in
+    let bit = bit_of_mask (map f (take 64 (drop (64 * (i / 64)) xs))) (i % 64) in
+    let answer = map_word f xs (i / 64) (i % 64) (omega arith) in
+    grind (arith, get_or-bits_of out i, get_or-padded (map f xs) (64 * length out - length xs) i))

@@ -10,4 +10,5 @@ returns c =
     let block = chunk c.args.at 16 xs in
     let long = length-chunk c.args.at 16 xs c.requires in
     bitmask_splat w64 ltb _ 16 c.saturating_sub.result (length-zip2 _ block _ (omega arith) ∙ long) (omega arith)
-    ∙ ap mask_l (offsets_below c.args.lo c.args.hi _ 16 block (chunk-fits w64 c.args.at 16 xs c.type_inv.values) c.ranges.lo.fits c.ranges.hi.fits c.saturating_sub.ensures long)
+    ∙ ap mask_l (offsets_below c.args.lo c.args.hi _ 16 block (chunk-fits w64 c.args.at 16 xs c.type_inv.values)
+    c.ranges.lo.fits c.ranges.hi.fits c.saturating_sub.ensures long)

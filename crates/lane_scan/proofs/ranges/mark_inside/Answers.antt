@@ -19,5 +19,5 @@ loop-word-preserved c =
 pub returns : goal.returns
 returns c =
     let marked = bits_of_marked (is_inside c.args.lo c.args.hi) c.args.values.now c.loop-word.out (omega arith)
-      (λ j before. c.loop-word.invariant.marked j (omega arith)) in
+    (λ j before. c.loop-word.invariant.marked j (omega arith)) in
     cc
