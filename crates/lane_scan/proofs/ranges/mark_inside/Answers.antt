@@ -1,19 +1,17 @@
 use Rattle.std.proofs.Common.{◌≡◌, ◌*◌, min, length, ◌∙◌, arith}
-use Rattle.std.proofs.lemmas.Grind.{common_steps}
-use Rattle.std.proofs.lemmas.List.{take_min, drop_min, drop-drop}
+use Rattle.std.proofs.lemmas.Grind.{get_or-set_at}
+use Rattle.std.proofs.lemmas.List.{get_or-set_other, take_min, drop_min, drop-drop}
 use Rattle.lane_scan.specs.Ranges.{is_inside}
 use Rattle.lane_scan.proofs.RangeLemmas.{bits_of_marked}
 use Rattle.lane_scan.proofs.ranges.mark_inside.Goals as goal
 
 pub loop-word-preserved : goal.loop-word-preserved
 loop-word-preserved c =
-    let i = c.loop-word.word-index in
     let rest = c.loop-word.rest.now in
-    let xs = c.args.values.now in
     let count : c.min.result ≡ min 64 (length rest) = omega arith in
     record {
-      left = c.split_at.ensures.back ∙ grind (arith, drop_min 64 rest, drop-drop 64 (64 * i) xs);
-      marked = λ j before. grind (arith, common_steps, take_min 64 rest, c.split_at.ensures.front, c.marks_of.ensures, c.loop-word.invariant.marked j);
+      left = c.split_at.ensures.back ∙ grind (arith, drop_min 64 rest, drop-drop 64 (64 * c.loop-word.word-index) c.args.values.now);
+      marked = λ j before. grind (arith, get_or-set_at, get_or-set_other, take_min 64 rest, c.split_at.ensures.front, c.marks_of.ensures, c.loop-word.invariant.marked j);
     }
 
 pub returns : goal.returns
