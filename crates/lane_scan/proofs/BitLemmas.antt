@@ -3,7 +3,7 @@ use Rattle.std.proofs.Common.{◌≡◌, ℕ, ◌+◌, ◌-◌, ◌*◌, ◌/◌
 use Rattle.std.specs.Int.{bit_at}
 use Rattle.std.specs.Int.RustNames.{count_ones}
 use Rattle.std.specs.List.{position_or_len}
-use Rattle.std.proofs.lemmas.Grind.{common_steps}
+use Rattle.std.proofs.lemmas.Grind.{get_or_head, get_or_tail}
 use Rattle.std.proofs.lemmas.List.{append-nil, length-take, length-append, get_or-append_right, get_or_append_left, map-id, drop_more}
 use Rattle.std.proofs.lemmas.List.FromFn.{length-map-range_with_len, get_or-map-range_with_len}
 use Rattle.std.proofs.lemmas.List.Concat.{flat_map-append}
@@ -51,8 +51,8 @@ pub get_or-bits_of : (ws : List ℕ) (i : ℕ) → get_or (bits_of ws) i false �
 unfolding bits_of
 get_or-bits_of [] i = grind (arith, nat_tests, bit_at-zero (i % 64))
 get_or-bits_of (w ∷ ws) i = elim (cases_lt i 64) [
-  | inl lt ↦ get_or_append_left (word_bits w) (bits_of ws) false i (omega (arith, length-word_bits w)) ∙ grind (arith, common_steps, get_or-word_bits w i lt)
-  | inr ge ↦ get_or-append_right (word_bits w) (bits_of ws) 64 i false (length-word_bits w) ge ∙ grind (arith, common_steps, get_or-bits_of ws (i - 64))
+  | inl lt ↦ get_or_append_left (word_bits w) (bits_of ws) false i (omega (arith, length-word_bits w)) ∙ grind (arith, get_or_head, get_or-word_bits w i lt)
+  | inr ge ↦ get_or-append_right (word_bits w) (bits_of ws) 64 i false (length-word_bits w) ge ∙ grind (arith, get_or_tail, get_or-bits_of ws (i - 64))
 ]
 
 -- how many bits of words are set
