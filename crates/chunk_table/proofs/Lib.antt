@@ -1,0 +1,3 @@
+mod Dealing
+mod Gathering
+mod Keeps

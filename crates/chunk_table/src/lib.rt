@@ -1,0 +1,18 @@
+//! Which arena owns each chunk of the space, one atomic word a chunk.
+#![tactic(auto)]
+
+mod claims;
+mod gathers;
+mod laws;
+mod lists;
+mod makes;
+mod rule;
+mod table;
+#[cfg(test)]
+mod tests;
+mod view;
+
+pub use claims::Claim;
+pub use laws::words_name_owners;
+pub use table::{CHUNKS, ChunkBook, ChunkSeat, ChunkSeats, ChunkTable};
+pub use view::{Share, Taken};
