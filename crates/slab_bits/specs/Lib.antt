@@ -1,0 +1,2 @@
+pub mod Slabs
+pub mod Words

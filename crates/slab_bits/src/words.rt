@@ -1,0 +1,48 @@
+//! Single bits of eight words.
+ghost use Rattle.std.specs.Prelude.{◌≡◌, ◌&&◌, ℕ, ◌<◌, ◌≤◌, false, true, length, nat_le, nat_lt, slice_index_or, slice_set};
+ghost use Rattle.lane_scan.specs.Bits.{bits_of};
+ghost use Rattle.slab_bits.specs.Words.{OnesBelow};
+
+/// How many words a slab has, for at most 512 regions.
+pub const WORDS: usize = 8;
+
+// A word whose lowest bits, so many, are 1.
+fn ones_below(count: u32) -> u64
+    ensures { OnesBelow count result }
+{
+    if count >= 64 {
+        u64::MAX
+    } else {
+        (1 << count) - 1
+    }
+}
+
+/// Words whose bits from `from` up to but not including `to` are 1.
+pub fn fill_between(from: u32, to: u32) -> [u64; WORDS]
+    requires { to ≤ 512 }
+    ensures long { length result ≡ 8 }
+    ensures bits { (i : ℕ) → slice_index_or (bits_of result) i false ≡ (nat_le from i && nat_lt i to) }
+{
+    let mut words = [0; WORDS];
+    for i in 0..WORDS {
+        let start = 64 * i as u32;
+        words[i] = ones_below(to.saturating_sub(start)) & !ones_below(from.saturating_sub(start));
+    }
+    words
+}
+
+/// Makes a bit 0.
+pub fn clear_bit(words: &mut [u64; WORDS], i: u32)
+    requires { i < 512 }
+    ensures { bits_of words.new ≡ slice_set (bits_of words.old) i false }
+{
+    words[i as usize / 64] &= !(1 << (i % 64));
+}
+
+/// Makes a bit 1.
+pub fn set_bit(words: &mut [u64; WORDS], i: u32)
+    requires { i < 512 }
+    ensures { bits_of words.new ≡ slice_set (bits_of words.old) i true }
+{
+    words[i as usize / 64] |= 1 << (i % 64);
+}
