@@ -18,8 +18,8 @@ use Rattle.space_model.specs.Region.{covers, homes, houses, is_held_by, resident
 use Rattle.space_model.specs.Step.{after_back, holds_at, is_emptied, is_given_back, staying, taken_in_order}
 use Rattle.space_model.specs.Sound.{Sound}
 use Rattle.space_model.proofs.Exchange.{filter-begins_at, find_has, find_passes}
-use Rattle.space_model.proofs.Idle.{serves, some_pages}
-use Rattle.space_model.proofs.Landing.{serves-le-share, sum_nothing}
+use Rattle.space_model.proofs.Settled.{serves, some_pages}
+use Rattle.space_model.proofs.Settled.{serves-le-share, sum_nothing}
 use Rattle.arena_core.specs.RegionLists.{begins_within}
 use Rattle.arena_core.proofs.Finds.{fewer_pass}
 use Rattle.arena_core.proofs.Homes.{home_shares}

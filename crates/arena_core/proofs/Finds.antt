@@ -12,7 +12,7 @@ use Rattle.space_model.specs.Part.{begins_at, is_flight, is_flight_at}
 use Rattle.space_model.specs.Fit.{fit}
 use Rattle.space_model.specs.Step.{is_left_of, is_like, is_right_of}
 use Rattle.space_model.proofs.Exchange.{filter-begins_at}
-use Rattle.space_model.proofs.Idle.{some_pages}
+use Rattle.space_model.proofs.Settled.{some_pages}
 use Rattle.space_model.proofs.Pieces.{fit-listed}
 use Rattle.part_book.specs.Books.{Book, ends_at, is_beside}
 use Rattle.arena_core.specs.Extents.{IsApart, IsThere, kept}

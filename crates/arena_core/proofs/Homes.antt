@@ -24,8 +24,8 @@ use Rattle.space_model.specs.Region.{covers, homes}
 use Rattle.space_model.specs.Step.{both_merge, is_yes_or_no, may_merge, merge_stands}
 use Rattle.space_model.specs.Sound.{Sound}
 use Rattle.space_model.proofs.Exchange.{find_has, find_passes, share}
-use Rattle.space_model.proofs.Idle.{idle-serves, serves}
-use Rattle.space_model.proofs.Landing.{serves-le-share}
+use Rattle.space_model.proofs.Settled.{idle-serves, serves}
+use Rattle.space_model.proofs.Settled.{serves-le-share}
 use Rattle.space_model.proofs.Pieces.{both_true, flight-idle}
 use Rattle.part_book.specs.Books.{AreAlike}
 

@@ -1,3 +1,4 @@
+mod ByClass
 pub mod Emptying
 pub mod Finds
 pub mod Homes

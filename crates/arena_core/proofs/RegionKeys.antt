@@ -15,11 +15,9 @@ use Rattle.ordered_set.proofs.Sorted.{every_map, every_member, filter_all, filte
 use Rattle.ordered_set.proofs.KeyOrder.{key_total}
 use Rattle.ordered_set.proofs.Orders.{start, from_start, start_from, less_major, major_less}
 use Rattle.ordered_set.proofs.Members.{contains_later}
-use Rattle.size_classes.specs.Classes.{size_at}
 use Rattle.space_model.specs.declared.parts.Region.{Region}
 use Rattle.space_model.specs.Region.{inserted}
 use Rattle.space_model.specs.Step.{is_given_back, staying, holds_at}
-use Rattle.space_model.specs.Counts.{region_bytes}
 use Rattle.arena_core.specs.RegionLists.{begins_within, code_of, holder_of, key_of, region_of}
 
 -- a region is that of its key
@@ -202,9 +200,10 @@ within_inside low high ks ascending view found = ap (lies_below high) found ∙ 
 -- What the key that was found at the address of a client's region is.
 pub record Goes (c addr : ℕ) (ks : List Key) (rs : List Region) (key : Key) : Type 0 where
   pub has : Contains ks key
+  pub large : All (λ r. 36 ≤ r.class) (map region_of ks) → 36 ≤ (region_of key).class
   pub class : (region_of key).class < 121
   pub kept : map region_of (without_key ks key) ≡ staying c (addr ∷ []) rs
-  pub bytes : region_bytes (map region_of (without_key ks key)) + size_at (region_of key).class ≡ region_bytes (map region_of ks)
+  pub sums : (f : Region → ℕ) → sum_by f (map region_of (without_key ks key)) + f (region_of key) ≡ sum_by f (map region_of ks)
 
 pub goes : {ks : List Key} {rs : List Region} {o : Option Key} {key : Key} (c addr : ℕ) → IsAscending ks → map region_of ks ≡ rs → count_by (is_at addr) rs ≤ 1 →
     holds_at c rs addr ≡ true → All (λ r. r.class < 121) rs → o ≡ find (is_from (start addr)) ks → o ≡ Some key → Goes c addr ks rs key
@@ -214,21 +213,21 @@ goes {ks} {rs} {o} {key} c addr ascending view alone held classes searched found
     let same : first.0 ≡ key = cc in
     let t = subst (Taken c addr ks) same first.1 in
     let given = is_given_back c (addr ∷ []) in
-    let size : Region → ℕ = λ r. size_at r.class in
-    let kept : region_bytes (map region_of (without_key ks key)) ≡ sum_by size (filter (λ r. not (given r)) (map region_of ks)) = ap region_bytes t.kept in
-    let gone : sum_by size (filter given (map region_of ks)) ≡ sum_by size (region_of key ∷ []) = ap (sum_by size) t.gone in
-    let one : All (λ r. r.class < 121) (filter given (map region_of ks)) =
-    All-filter given (λ r. r.class < 121) (map region_of ks) (subst (All (λ r. r.class < 121)) (sym view) classes) in record {
+    let each : (P : Region → Type 0) → All P (map region_of ks) → P (region_of key) = λ P all. All-head P (region_of key) [] (subst (All P) t.gone (All-filter given P (map region_of ks) all)) in record {
       has = t.has;
-      class = All-head (λ r. r.class < 121) (region_of key) [] (subst (All (λ r. r.class < 121)) t.gone one);
+      large = each (λ r. 36 ≤ r.class);
+      class = each (λ r. r.class < 121) (subst (All (λ r. r.class < 121)) (sym view) classes);
       kept = t.kept ∙ ap (staying c (addr ∷ [])) view;
-      bytes = omega (arith, kept, gone, sum_by-cons size (region_of key) [], sum_by-filter_both given (λ r. not (given r)) (λ _. refl) size (map region_of ks));
+      sums = λ f.
+          let stay : sum_by f (map region_of (without_key ks key)) ≡ sum_by f (filter (λ r. not (given r)) (map region_of ks)) = ap (sum_by f) t.kept in
+          let gone : sum_by f (filter given (map region_of ks)) ≡ sum_by f (region_of key ∷ []) = ap (sum_by f) t.gone in
+          omega (arith, stay, gone, sum_by-cons f (region_of key) [], sum_by-filter_both given (λ r. not (given r)) (λ _. refl) f (map region_of ks));
     }
 
 -- What inserting the key of a region leaves.
 pub record Put (r : Region) (ks new : List Key) (rs : List Region) : Type 0 where
   pub regions : map region_of new ≡ inserted r rs
-  pub bytes : region_bytes (map region_of new) ≡ region_bytes (map region_of ks) + size_at r.class
+  pub sums : (f : Region → ℕ) → sum_by f (map region_of new) ≡ sum_by f (map region_of ks) + f r
 
 pub puts : {ks new : List Key} {rs : List Region} {key : Key} (r : Region) → IsAscending ks → map region_of ks ≡ rs → new ≡ with_key ks key → key ≡ key_of r → r.class < 121 →
     list_any (is_at r.addr) rs ≡ false → Put r ks new rs
@@ -240,5 +239,5 @@ puts {ks} {new} {rs} {key} r ascending view with_it is small none =
     ∙ insert_is r ks ascending free
     ∙ ap (λ q. inserted q (map region_of ks)) (region_is r small) in record {
       regions = moved ∙ ap (inserted r) view;
-      bytes = ap region_bytes moved ∙ sum_by-insert (λ (q : Region). size_at q.class) (map region_of ks) (position_or_len (λ (q : Region). nat_lt r.addr q.addr) (map region_of ks)) r;
+      sums = λ f. ap (sum_by f) moved ∙ sum_by-insert f (map region_of ks) (position_or_len (λ (q : Region). nat_lt r.addr q.addr) (map region_of ks)) r;
     }

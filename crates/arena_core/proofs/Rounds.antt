@@ -18,8 +18,9 @@ use Rattle.space_model.specs.Region.{houses, is_held_by, residents}
 use Rattle.space_model.specs.Step.{after_back, holds_at, is_emptied, is_given_back, is_live, placed, rises_from, staying, taken_in_order}
 use Rattle.space_model.specs.Sound.{Sound}
 use Rattle.space_model.proofs.Exchange.{filter-without, find_has, find_passes, share}
-use Rattle.space_model.proofs.Giving.{back_keeps}
-use Rattle.space_model.proofs.Idle.{serves}
+use Rattle.space_model.proofs.Changes.{lawful_sound}
+use Rattle.space_model.proofs.Giving.{back_does}
+use Rattle.space_model.proofs.Settled.{serves}
 use Rattle.space_model.proofs.Landing.{All-insert}
 use Rattle.space_model.proofs.Pieces.{both_true}
 use Rattle.arena_core.proofs.Emptying.{Empties, any_counts, counts_any, empties, filter_alike, given_parts, is_left, none_kept, ones, some_found}
@@ -292,9 +293,8 @@ left_step {c} {i} {all} {start} {s} {one} {n} {k} old h is counted =
     let rises = (both_true (nat_le 0 addr) (rises_from (addr + 1) rest) left.rises).1 in
     let above : All (λ a. addr < a) rest = All-weaker (λ a. addr + 1 ≤ a) (λ a. addr < a) (λ a le. omega arith) rest (rising (addr + 1) rest rises) in
     let r = round c addr rest s left.sound held.0 above in
-    let keeps = back_keeps c s (addr ∷ []) left.sound (live_is s.life left.live) in
     subst (λ x. Left c rest all start x (n + k)) (sym is) (record {
-      sound = keeps.sound;
+      sound = lawful_sound (back_does c s (addr ∷ []) left.sound (live_is s.life left.live)).lawful left.sound;
       live = left.live;
       rises = rises_lower (addr + 1) 0 rest (omega arith) rises;
       held = all_still c addr rest s.regions above held.1;

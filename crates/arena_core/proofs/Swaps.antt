@@ -13,7 +13,7 @@ use Rattle.space_model.specs.Span.{IsPlaced, end_of, has_page, meets, pages_end}
 use Rattle.space_model.specs.Part.{begins_at, exchanged, holders, is_active, listed, put_down, rest_of}
 use Rattle.space_model.specs.Step.{begins_either, high_piece, joined, low_piece}
 use Rattle.space_model.proofs.Exchange.{All-exchanged, filter-begins_at, filter_nothing, find-le-sum_by, find_has, share, sum_by-either, sum_by-exchanged, sum_by-replaced}
-use Rattle.space_model.proofs.Idle.{some_pages}
+use Rattle.space_model.proofs.Settled.{some_pages}
 use Rattle.space_model.proofs.Pieces.{put_down-idle}
 use Rattle.space_model.proofs.Intervals.{lengths-le}
 use Rattle.part_book.specs.Books.{AreAlike, Book}

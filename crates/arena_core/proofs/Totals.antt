@@ -56,7 +56,7 @@ pub record Summed (parts : List Part) : Type 0 where
   pub whole : 4096 * all_pages parts ≡ bytes_where is_mapped parts + bytes_where (is_listed ToRetained) parts
   pub mapped : bytes_where is_mapped parts
       ≡ bytes_where is_active parts + bytes_where (is_listed ToDirty) parts + bytes_where (is_listed ToMuzzy) parts + bytes_where is_in_flight parts
-  pub fits : 4096 * all_pages parts ≤ 2 ^ 37
+  pub fits : 4096 * all_pages parts ≤ 2 ^ 41
 
 pub summed : (s : Space) → Sound s → Summed s.parts
 summed s sound = record {
@@ -72,11 +72,11 @@ summed s sound = record {
 -- the pages of an arena's extents are few, and those of each kind are among them
 pub pages_few : (i : Indexes) → Sound (space_of i) →
     (active_pages i.extents.parts + pages_of ToDirty i.extents.parts + pages_of ToMuzzy i.extents.parts + pages_of ToRetained i.extents.parts ≤ all_pages i.extents.parts)
-    × (4096 * all_pages i.extents.parts ≤ 2 ^ 37)
+    × (4096 * all_pages i.extents.parts ≤ 2 ^ 41)
 pages_few i sound = let sums = summed (space_of i) sound in (omega arith, sums.fits)
 
 -- no extent meets what lies past all chunks
-pub none_past : (s : Space) (chunk : ℕ) → Sound s → 65535 < chunk → list_any (λ p. meets p.span (chunk_span chunk)) s.parts ≡ false
+pub none_past : (s : Space) (chunk : ℕ) → Sound s → 1048575 < chunk → list_any (λ p. meets p.span (chunk_span chunk)) s.parts ≡ false
 none_past s chunk sound past =
     list_any_none (λ p. meets p.span (chunk_span chunk)) s.parts (λ k d h.
     let p : Part = get_or s.parts k d in

@@ -1,5 +1,5 @@
 -- What callers see of an arena, and the room that its clients have.
-use Rattle.std.specs.Prelude.{◌≡◌, ℕ, ◌-◌, ◌*◌, Bool, true, false, List, filter, length, max, slice_index_or, slice_set}
+use Rattle.std.specs.Prelude.{◌≡◌, ℕ, ◌-◌, ◌*◌, Bool, true, false, nat_le, List, filter, length, max, slice_index_or, slice_set}
 use Rattle.std.specs.List.{sum_by}
 use Rattle.space_model.specs.declared.entries.Entry.{Entry}
 use Rattle.space_model.specs.declared.entries.Op.{Op}
@@ -27,12 +27,19 @@ all_rooms rooms = sum_by (λ room. room) rooms
 abbrev pub opens : Op → Bool
 opens (Look pages align) = true
 opens (Back addrs) = true
-opens (CutDone heard keep_low) = false
-opens (GrowDone heard found) = false
-opens (CommitDone heard) = false
-opens (Land span class count) = false
-opens (PutLook span tries) = false
-opens (MergeDone heard own_low) = false
+opens _ = false
+
+-- whether an arena over indexes carries an operation out: those of large mallocs and of frees, so far
+abbrev pub is_carried : Op → Bool
+is_carried (Look pages align) = true
+is_carried (CutDone heard keep_low) = true
+is_carried (GrowDone heard found) = true
+is_carried (CommitDone heard) = true
+is_carried (Land span class count) = nat_le 36 class
+is_carried (Back addrs) = true
+is_carried (PutLook span tries) = true
+is_carried (MergeDone heard own_low) = true
+is_carried _ = false
 
 -- how many extents are emptied when the client gives regions back
 abbrev pub emptied : ℕ → List ℕ → Space → ℕ

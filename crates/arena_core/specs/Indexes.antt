@@ -14,6 +14,9 @@ space_of i = record {
   box_no = i.box_no;
   dirty = i.dirty;
   muzzy = i.muzzy;
+  grow = i.grow;
+  grow_limit = i.grow_limit;
+  trims = i.trims;
 }
 
 -- there is a place for so many more extents and so many more regions

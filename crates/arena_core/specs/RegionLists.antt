@@ -1,9 +1,9 @@
 -- Regions as keys of an ordered set: the address first, the class and the holder in one number.
-use Rattle.std.specs.Prelude.{◌≡◌, Bool, ℕ, ◌+◌, ◌-◌, ◌*◌, ◌/◌, ◌%◌, ◌==◌, ◌&&◌, List, map, nat_le, nat_lt, Option, None, Some, if◌then◌else◌}
+use Rattle.std.specs.Prelude.{◌≡◌, Bool, ℕ, ◌+◌, ◌-◌, ◌*◌, ◌/◌, ◌%◌, ◌==◌, ◌&&◌, List, map, nat_le, nat_lt, Option, None, Some, if◌then◌else◌, All, ◌≤◌}
 use Rattle.ordered_set.specs.declared.key.Key.{Key}
 use Rattle.ordered_set.specs.Keys.{IsAscending}
 use Rattle.space_model.specs.declared.parts.Region.{Region}
-use Rattle.space_model.specs.Counts.{region_bytes}
+use Rattle.space_model.specs.Counts.{region_bytes, regions_by_class}
 use Rattle.arena_core.specs.declared.regions.RegionSet.TheInside.{Inside}
 
 -- what callers see of a set of regions: the regions by address, and how many more it has memory for
@@ -36,7 +36,13 @@ begins_within low high r = nat_le low r.addr && nat_lt r.addr high
 abbrev pub shown : Inside → RegionList
 shown set = record { regions = map region_of set.keys.keys; spare = set.keys.spare }
 
--- the keys ascend, and the number of bytes is that of the regions
+-- all regions are of large classes
+abbrev pub IsLarge : List Region → Type 0
+IsLarge regions = All (λ r. 36 ≤ r.class) regions
+
+-- the keys ascend, and the number of bytes and the numbers of the large classes are those of the regions, none of which is small
 pub record IsRegions (set : Inside) : Type 0 where
   pub ascending : IsAscending set.keys.keys
   pub bytes : set.bytes ≡ region_bytes (map region_of set.keys.keys)
+  pub large : IsLarge (map region_of set.keys.keys)
+  pub classes : set.classes ≡ regions_by_class 36 85 (map region_of set.keys.keys)

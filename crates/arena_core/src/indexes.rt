@@ -19,6 +19,9 @@ pub struct Indexes {
     pub box_no: u32,
     pub dirty: Pace,
     pub muzzy: Pace,
+    pub grow: u64,
+    pub grow_limit: u64,
+    pub trims: Clients,
 }
 
 /// Makes places for at least so many further extents and regions. The space stays.

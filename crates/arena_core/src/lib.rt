@@ -1,7 +1,7 @@
 //! One arena over its indexes: the step of `space_model`, by look-ups and never by scans.
 #![tactic(auto)]
 
-ghost use Rattle.std.specs.Prelude.{◌≡◌, ◌≢◌, ◌⊎◌, ◌<◌, ◌++◌, ◌∷◌, [], ℕ, false, replicate, IsTrue, IsOk, IfOk, OnOk, OnErr};
+ghost use Rattle.std.specs.Prelude.{◌≡◌, ◌≢◌, ◌⊎◌, ◌<◌, ◌++◌, ◌∷◌, [], ℕ, false, true, replicate, IsTrue, IsOk, IfOk, OnOk, OnErr};
 ghost use Rattle.std.specs.List.{list_any};
 ghost use Rattle.space_model.specs.Span.{chunk_span, has_page, meets};
 ghost use Rattle.space_model.specs.Opening.{absent_space, first_space};
@@ -10,7 +10,7 @@ ghost use Rattle.space_model.specs.Sound.{Sound};
 ghost use Rattle.space_model.specs.Journal.{Good};
 ghost use Rattle.space_model.specs.Own.{mine};
 ghost use Rattle.space_model.specs.Counts.{counts_of};
-ghost use Rattle.arena_core.specs.Arenas.{entry_of, opens, room_after, room_of};
+ghost use Rattle.arena_core.specs.Arenas.{entry_of, is_carried, opens, room_after, room_of};
 
 mod extents;
 mod frees;
@@ -27,6 +27,7 @@ use extents::Extents;
 use indexes::Indexes;
 use regions::RegionSet;
 use rooms::Rooms;
+use size_classes::SMALL_CLASSES;
 use space_model::{Counts, Life, Op, Reply, Space, Span};
 use std::alloc::{AllocError as NoMemory, Global};
 use std::marker::Model;
@@ -69,6 +70,9 @@ impl Arena {
                     box_no: space.box_no,
                     dirty: space.dirty,
                     muzzy: space.muzzy,
+                    grow: space.grow,
+                    grow_limit: space.grow_limit,
+                    trims: space.trims,
                 },
                 rooms: Rooms::none(),
             },
@@ -81,6 +85,7 @@ impl Arena {
     /// Where memory is wanting, nothing changes; that comes at a look or a return alone.
     pub fn step(&mut self, client: u32, op: &Op) -> Result<Reply, NoMemory>
         requires stands { IsTrue (stands self.old.space (entry_of client op.now)) }
+        requires carried { is_carried op.now ≡ true }
         requires room { opens op.now ≡ false → 0 < room_of client self.old.rooms }
         ensures after { OnOk result (self.new.space ≡ space_after self.old.space (entry_of client op.now)) }
         ensures reply { IfOk result (λ told. told ≡ reply_to self.old.space (entry_of client op.now)) }
@@ -93,6 +98,23 @@ impl Arena {
         ensures others { (other : ℕ) → other ≢ client → mine other self.new.space ≡ mine other self.old.space }
     {
         steps::step(&mut self.body, client, op)
+    }
+
+    /// Whether [`Arena::step`] carries an operation out. So far it does those of large mallocs and of frees.
+    pub fn carries_out(op: &Op) -> bool
+        ensures { result ≡ is_carried op.now }
+    {
+        match op {
+            Op::Look { .. }
+            | Op::CutDone { .. }
+            | Op::GrowDone { .. }
+            | Op::CommitDone { .. }
+            | Op::Back { .. }
+            | Op::PutLook { .. }
+            | Op::MergeDone { .. } => true,
+            Op::Land { class, .. } => *class >= SMALL_CLASSES,
+            _ => false,
+        }
     }
 
     /// The counts, which are kept and not summed up anew.

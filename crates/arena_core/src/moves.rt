@@ -3,7 +3,7 @@
 ghost use Rattle.std.specs.Prelude.{◌≡◌, ℕ, ◌+◌, ◌≤◌, ◌<◌, ◌^◌, false, IsTrue, Some, find, IfSome};
 ghost use Rattle.space_model.specs.Span.{IsPlaced, pages_end, end_of, run_start, chunks_of};
 ghost use Rattle.space_model.specs.Part.{is_active, is_flight_at};
-ghost use Rattle.space_model.specs.Step.{cut_stands, grow_stands, land_stands, land_at, after_look, after_cut, after_grow, after_commit, cut_at, whole_at, is_found, is_owned, is_in_space, why_not};
+ghost use Rattle.space_model.specs.Step.{cut_stands, grow_stands, land_stands, land_at, after_look, after_cut, after_grow, after_commit, cut_at, whole_at, is_found, is_owned, is_in_space, why_not, grow_after};
 ghost use Rattle.space_model.specs.Sound.{Sound};
 ghost use Rattle.arena_core.specs.Extents.{IsThere};
 ghost use Rattle.arena_core.specs.Indexes.{HasPlaces, space_of};
@@ -11,7 +11,9 @@ ghost use Rattle.arena_core.specs.Indexes.{HasPlaces, space_of};
 use crate::extents::Extents;
 use crate::indexes::Indexes;
 use size_classes::PAGE_BYTES;
-use space_model::{Answer, Ask, CHUNK_PAGES, Heard, Part, Region, Reply, Rest, Span, State, Why};
+use space_model::{
+    Answer, Ask, CHUNK_PAGES, Heard, MAX_SERIES, Part, Region, Reply, Rest, Span, State, Why,
+};
 
 /// Looks for the extent that serves a request, and takes it out of its list.
 pub fn look(indexes: &mut Indexes, client: u32, pages: u64, align: u64) -> Reply
@@ -26,7 +28,9 @@ pub fn look(indexes: &mut Indexes, client: u32, pages: u64, align: u64) -> Reply
         return Reply::NoArena;
     }
     let Some(part) = indexes.extents.fit(pages, align) else {
-        return Reply::Grow;
+        return Reply::Grow {
+            series: indexes.grow.min(indexes.grow_limit),
+        };
     };
     let state = State::Flight(client, part.state.rest());
     indexes.extents.change(&part, state, part.committed);
@@ -164,6 +168,15 @@ fn why_not(found: Option<u64>, align: u64, extents: &Extents, span: Span) -> Opt
     }
 }
 
+/// How many chunks the next growth has that no request needs, once a span was granted.
+fn series_after(grow: u64, span: Span) -> u64
+    requires { end_of span ≤ pages_end }
+    ensures { result ≡ grow_after grow span }
+{
+    let chunks = span.pages.div_ceil(CHUNK_PAGES);
+    grow.max((2 * chunks).min(MAX_SERIES))
+}
+
 /// Takes in the answer to an alloc.
 pub fn grow_done(indexes: &mut Indexes, client: u32, heard: Heard, found: Option<u64>) -> Reply
     requires stands { IsTrue (grow_stands (space_of indexes.old) client heard.ask heard.answer) }
@@ -193,6 +206,7 @@ pub fn grow_done(indexes: &mut Indexes, client: u32, heard: Heard, found: Option
                 state: State::Flight(client, Rest::Retained),
                 committed,
             });
+            indexes.grow = series_after(indexes.grow, span);
             Reply::Grown { span, committed }
         }
     }
@@ -201,6 +215,7 @@ pub fn grow_done(indexes: &mut Indexes, client: u32, heard: Heard, found: Option
 /// An extent in flight serves one region of a large class from now on, which the client holds.
 pub fn land_done(indexes: &mut Indexes, client: u32, span: Span, class: u8, count: u32) -> Reply
     requires stands { IsTrue (land_stands (space_of indexes.old) client span class count) }
+    requires large { 36 ≤ class }
     requires sound { Sound (space_of indexes.old) }
     requires room { HasPlaces indexes.old 1 }
     ensures after { space_of indexes.new

@@ -1,6 +1,6 @@
 //! What is read of an arena's indexes.
 
-ghost use Rattle.std.specs.Prelude.{◌≡◌};
+ghost use Rattle.std.specs.Prelude.{◌≡◌, replicate};
 ghost use Rattle.std.specs.List.{list_any};
 ghost use Rattle.space_model.specs.Span.{chunk_span, has_page, meets};
 ghost use Rattle.space_model.specs.Counts.{counts_of};
@@ -8,8 +8,15 @@ ghost use Rattle.space_model.specs.Sound.{Sound};
 ghost use Rattle.arena_core.specs.Indexes.{space_of};
 
 use crate::indexes::Indexes;
-use size_classes::PAGE_BYTES;
+use size_classes::{PAGE_BYTES, SMALL_CLASSES};
 use space_model::{CHUNK_PAGES, CHUNKS, Counts, Rest, Span};
+
+/// The numbers of the small classes, of which nothing is there.
+fn none_by_class() -> [u64; SMALL_CLASSES as usize]
+    ensures { result ≡ replicate 36 0 }
+{
+    [0; SMALL_CLASSES as usize]
+}
 
 /// The counts: sums that are kept, and no scan.
 #[tactic(auto, using(crate::proofs::Totals::pages_few))]
@@ -22,14 +29,20 @@ pub fn counts(indexes: &Indexes) -> Counts
     let muzzy = PAGE_BYTES * indexes.extents.listed_pages(Rest::Muzzy);
     let retained = PAGE_BYTES * indexes.extents.listed_pages(Rest::Retained);
     let mapped = PAGE_BYTES * indexes.extents.all_pages() - retained;
+    let large = indexes.regions.bytes();
     Counts {
-        allocated: indexes.regions.bytes(),
+        allocated: large,
         active,
         dirty,
         muzzy,
         retained,
         flight: mapped - (active + dirty + muzzy),
         mapped,
+        small: 0,
+        large,
+        regs: none_by_class(),
+        slabs: none_by_class(),
+        lextents: indexes.regions.by_class(),
     }
 }
 

@@ -1,15 +1,15 @@
 //! The regions of an arena by address.
 
-ghost use Rattle.std.specs.Prelude.{◌≡◌, ◌==◌, ◌+◌, ◌<◌, ◌≤◌, ◌^◌, false, true, [], ◌∷◌, max, All, OnOk, OnErr, count_by};
+ghost use Rattle.std.specs.Prelude.{◌≡◌, ◌==◌, ◌+◌, ◌-◌, ◌<◌, ◌≤◌, ◌^◌, false, true, [], ◌∷◌, max, All, OnOk, OnErr, count_by, replicate};
 ghost use Rattle.std.specs.List.{list_any};
 ghost use Rattle.size_classes.specs.Classes.{size_at};
 ghost use Rattle.space_model.specs.Region.{inserted};
-ghost use Rattle.space_model.specs.Counts.{region_bytes};
+ghost use Rattle.space_model.specs.Counts.{region_bytes, regions_by_class};
 ghost use Rattle.space_model.specs.Step.{holds_at, staying};
-ghost use Rattle.arena_core.specs.RegionLists.{begins_within, key_of};
+ghost use Rattle.arena_core.specs.RegionLists.{begins_within, key_of, IsLarge};
 
 use ordered_set::{Key, OrderedSet};
-use size_classes::size_of;
+use size_classes::{CLASSES, SMALL_CLASSES, size_of};
 use space_model::Region;
 use std::alloc::{AllocError as NoMemory, Global};
 use std::marker::Model;
@@ -17,11 +17,12 @@ use std::marker::Model;
 /// How many classes and holders are told apart in one number: a class is below this.
 const CLASS_SPAN: u64 = 256;
 
-/// Regions by address, and the bytes of all of them.
+/// Regions of large classes by address, the bytes of all of them, and how many there are of each class.
 #[derive(Drop)]
 pub struct RegionSet {
     keys: OrderedSet,
     bytes: u64,
+    classes: [u64; LARGE_CLASSES],
 }
 
 impl Model for RegionSet {
@@ -34,6 +35,24 @@ impl Model for RegionSet {
     ghost invariant = { IsRegions };
 }
 
+/// How many classes are large.
+pub const LARGE_CLASSES: usize = (CLASSES - SMALL_CLASSES) as usize;
+
+/// The number of a large class among the large ones.
+fn large_index(class: u8) -> usize
+    requires { 36 ≤ class }
+    ensures { result ≡ class - 36 }
+{
+    (class - SMALL_CLASSES) as usize
+}
+
+/// The numbers of no regions, by class.
+fn no_regions() -> [u64; LARGE_CLASSES]
+    ensures { result ≡ replicate 85 0 }
+{
+    [0; LARGE_CLASSES]
+}
+
 impl RegionSet {
     /// No region, and no place for one.
     pub fn new(alloc: Global) -> Self
@@ -42,6 +61,7 @@ impl RegionSet {
         RegionSet {
             keys: OrderedSet::new(alloc),
             bytes: 0,
+            classes: no_regions(),
         }
     }
 
@@ -54,11 +74,19 @@ impl RegionSet {
         self.keys.reserve(more)
     }
 
-    /// The bytes of all regions.
+    /// The bytes of all regions, none of which is small.
     pub fn bytes(&self) -> u64
-        ensures { result ≡ region_bytes self.now.regions }
+        ensures all { result ≡ region_bytes self.now.regions }
+        ensures large { IsLarge self.now.regions }
     {
         self.bytes
+    }
+
+    /// How many regions there are of each large class.
+    pub fn by_class(&self) -> [u64; LARGE_CLASSES]
+        ensures { result ≡ regions_by_class 36 85 self.now.regions }
+    {
+        self.classes
     }
 
     /// Whether some region begins at an address from `low` up to `high`, which isn't meant.
@@ -79,6 +107,7 @@ impl RegionSet {
     pub fn add(&mut self, region: Region)
         requires room { 0 < self.old.spare }
         requires class { region.class < 121 }
+        requires large { 36 ≤ region.class }
         requires absent { list_any (λ r. r.addr == region.addr) self.old.regions ≡ false }
         requires fits { region_bytes self.old.regions + size_at region.class < 2 ^ 64 }
         ensures regions { self.new.regions ≡ inserted region self.old.regions }
@@ -86,6 +115,7 @@ impl RegionSet {
     {
         self.keys.insert(key_of(region));
         self.bytes += size_of(region.class);
+        self.classes[large_index(region.class)] += 1;
     }
 
     /// Takes a client's region out, and gives its place back.
@@ -102,7 +132,9 @@ impl RegionSet {
         };
         let key = self.keys.at_or_after(start).unwrap();
         self.keys.remove(key);
-        self.bytes -= size_of((key.minor % CLASS_SPAN) as u8);
+        let class = (key.minor % CLASS_SPAN) as u8;
+        self.bytes -= size_of(class);
+        self.classes[large_index(class)] -= 1;
     }
 }
 

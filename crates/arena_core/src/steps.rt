@@ -1,9 +1,9 @@
 //! One step of an arena: the operation, and the room that it makes or uses up.
 
-ghost use Rattle.std.specs.Prelude.{◌≡◌, ℕ, ◌+◌, ◌*◌, ◌<◌, ◌^◌, false, length, max, IsTrue, IsOk, IfOk, OnOk, OnErr, slice_set};
+ghost use Rattle.std.specs.Prelude.{◌≡◌, ℕ, ◌+◌, ◌*◌, ◌<◌, ◌^◌, false, true, length, max, IsTrue, IsOk, IfOk, OnOk, OnErr, slice_set};
 ghost use Rattle.space_model.specs.Step.{op_stands, step_of};
 ghost use Rattle.space_model.specs.Sound.{Sound};
-ghost use Rattle.arena_core.specs.Arenas.{IsBody, all_rooms, opens, room_of, rooms_after, standing_of};
+ghost use Rattle.arena_core.specs.Arenas.{IsBody, all_rooms, is_carried, opens, room_of, rooms_after, standing_of};
 ghost use Rattle.arena_core.specs.Indexes.{HasPlaces, space_of};
 
 use crate::indexes::{self, Indexes};
@@ -83,6 +83,7 @@ fn give_back(body: &mut Body, client: u32, addrs: &Addresses) -> Result<Reply, N
 /// An operation for which no memory is taken.
 fn follow(indexes: &mut Indexes, client: u32, op: &Op) -> Reply
     requires follows { opens op.now ≡ false }
+    requires carried { is_carried op.now ≡ true }
     requires stands { IsTrue (op_stands (space_of indexes.old) client op.now) }
     requires sound { Sound (space_of indexes.old) }
     requires room { HasPlaces indexes.old 1 }
@@ -97,7 +98,7 @@ fn follow(indexes: &mut Indexes, client: u32, op: &Op) -> Reply
         Op::Land { span, class, count } => moves::land_done(indexes, client, *span, *class, *count),
         Op::PutLook { span, tries } => frees::put_look(indexes, client, *span, *tries),
         Op::MergeDone { heard, own_low } => frees::merge_done(indexes, client, *heard, *own_low),
-        Op::Look { .. } | Op::Back { .. } => unreachable!(),
+        _ => unreachable!(),
     }
 }
 
@@ -105,6 +106,7 @@ fn follow(indexes: &mut Indexes, client: u32, op: &Op) -> Reply
 fn use_up(body: &mut Body, client: u32, op: &Op) -> Reply
     requires client { client < 32 }
     requires follows { opens op.now ≡ false }
+    requires carried { is_carried op.now ≡ true }
     requires stands { IsTrue (op_stands (space_of body.old.indexes) client op.now) }
     requires room { 0 < room_of client body.old.rooms }
     requires body { IsBody body.old }
@@ -122,6 +124,7 @@ fn use_up(body: &mut Body, client: u32, op: &Op) -> Reply
 /// What an operation does that may stand, and the room that it makes or uses up.
 pub fn step(body: &mut Body, client: u32, op: &Op) -> Result<Reply, NoMemory>
     requires client { client < 32 }
+    requires carried { is_carried op.now ≡ true }
     requires stands { IsTrue (op_stands (space_of body.old.indexes) client op.now) }
     requires room { opens op.now ≡ false → 0 < room_of client body.old.rooms }
     requires body { IsBody body.old }

@@ -144,7 +144,7 @@ skip_to-within wish span b skip = choice-within 5 6 (nat_lt 0 skip) _ (trim wish
 
 looked-within : (wish : Wish) (reply : Reply) → Within 5 6 (looked wish reply)
 looked-within wish (Took span b skip) = skip_to-within wish span b skip
-looked-within wish Grow = more-within 3 5 4 6 (grow wish) (omega arith) (omega arith) (grow-within wish)
+looked-within wish (Grow series) = more-within 3 5 4 6 (grow wish) (omega arith) (omega arith) (grow-within wish)
 looked-within wish NoArena = ends-within 5 6 _
 looked-within wish reply = astray-within 5 6
 

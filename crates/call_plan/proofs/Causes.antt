@@ -12,7 +12,7 @@ use Rattle.space_model.specs.declared.Ask.TheVariants.{Alloc, Commit, Split}
 use Rattle.space_model.specs.declared.Answer.{Answer}
 use Rattle.space_model.specs.declared.Answer.TheVariants.{Placed, Done, Refused as Refuses}
 use Rattle.space_model.specs.declared.Op.{Op}
-use Rattle.space_model.specs.declared.Op.TheVariants.{Look, CutDone, GrowDone, CommitDone, Land, Back, PutLook, MergeDone}
+use Rattle.space_model.specs.declared.Op.TheVariants.{Look, CutDone, GrowDone, CommitDone, Land, Back, PutLook, MergeDone, Fill, Advance, PurgeTake, LazyDone, Offer, OfferDone, DecommitDone, ForcedDone, Publish, TakeOver, Reset, Destroy, DestroyTake, Counts, Set, Widen, JoinDone, Trim, TrimDone}
 use Rattle.space_model.specs.declared.Part.{Part}
 use Rattle.space_model.specs.declared.Reply.{Reply}
 use Rattle.space_model.specs.declared.Reply.TheVariants.{NoArena, Noted, Took, Grow, Cut, Whole, Refused as Refuse, Bad, Grown, Landed}
@@ -114,6 +114,25 @@ replies-fit s c (Land span class count) h = land-fits s c class count (find (is_
 replies-fit s c (Back addrs) h = tt
 replies-fit s c (PutLook span tries) h = tt
 replies-fit s c (MergeDone heard own_low) h = tt
+replies-fit s c (Fill class count) h = tt
+replies-fit s c (Advance now) h = tt
+replies-fit s c (PurgeTake rest keep) h = tt
+replies-fit s c (LazyDone heard) h = tt
+replies-fit s c (Offer span) h = tt
+replies-fit s c (OfferDone heard found) h = tt
+replies-fit s c (DecommitDone heard) h = tt
+replies-fit s c (ForcedDone heard) h = tt
+replies-fit s c (Publish addr) h = tt
+replies-fit s c (TakeOver addr) h = tt
+replies-fit s c (Reset cached) h = tt
+replies-fit s c (Destroy cached) h = tt
+replies-fit s c DestroyTake h = tt
+replies-fit s c Counts h = tt
+replies-fit s c (Set setting) h = tt
+replies-fit s c (Widen addr pages) h = tt
+replies-fit s c (JoinDone heard class) h = tt
+replies-fit s c (Trim addr class) h = tt
+replies-fit s c (TrimDone heard class) h = tt
 
 -- one more item that fits
 pub items_fit-push : (read : List Item → Outcome) (items : List Item) (item : Item) → ItemsFit read items → ItemFits (read items) item →
@@ -247,7 +266,7 @@ grown-caused size wish earlier asked (Grown span b) is needed fit =
     grant-caused size wish _ span b (flight-push (earlier ++ Told asked ∷ []) (Replied (Grown span b))) (Contains-push _ (Replied (Grown span b)))
 grown-caused size wish earlier asked reply is needed fit = astray-caused size wish _
 
-grow-caused : (size : ℕ) (wish : Wish) (before : List Item) → Contains before (Replied Grow) ⊎ Contains before (Replied Whole) → Caused size wish before (grow wish)
+grow-caused : (size : ℕ) (wish : Wish) (before : List Item) → ((series : ℕ) × Contains before (Replied (Grow series))) ⊎ Contains before (Replied Whole) → Caused size wish before (grow wish)
 grow-caused size wish before nothing =
     asked-caused size wish before wish.arena (Alloc None (whole_chunks wish.pages) (max 512 wish.align) false) (λ asked. GrowDone (heard_in asked) None) (grown wish)
     (λ asked reply is fit. grown-caused size wish before asked reply is (subst (IsNeeded wish before) (sym is) (record { pages_asked = refl; nothing_fits = nothing })) fit)
@@ -282,7 +301,7 @@ skip_to-caused size wish before span b skip flight =
 
 looked-caused : (size : ℕ) (wish : Wish) (before : List Item) (reply : Reply) → Caused size wish (before ++ Replied reply ∷ []) (looked wish reply)
 looked-caused size wish before (Took span b skip) = skip_to-caused size wish _ span b skip (flight-push before (Replied (Took span b skip)))
-looked-caused size wish before Grow = grow-caused size wish _ (inl (Contains-push before (Replied Grow)))
+looked-caused size wish before (Grow series) = grow-caused size wish _ (inl (series, Contains-push before (Replied (Grow series))))
 looked-caused size wish before NoArena = ends-caused size wish _ (NoSuchArena wish.arena) (refl, Contains-push before (Replied NoArena))
 looked-caused size wish before reply = astray-caused size wish _
 

@@ -4,7 +4,7 @@ use Rattle.std.specs.declared.ops.ControlFlow.{ControlFlow}
 use Rattle.std.specs.List.{sum_by}
 use Rattle.std.specs.Option.{option_map}
 use Rattle.std.specs.Ordering.{int_eq}
-use Rattle.std.proofs.lemmas.List.Sums.{sum_by-cons, sum_by-append, length-filter}
+use Rattle.std.proofs.lemmas.List.Sums.{sum_by-cons, sum_by-append}
 use Rattle.space_model.specs.declared.Answer.{Answer}
 use Rattle.space_model.specs.declared.Answer.TheVariants.{Done, Refused as Refuses, Placed}
 use Rattle.space_model.specs.declared.Ask.{Ask}
@@ -23,8 +23,8 @@ use Rattle.space_model.specs.Fit.{fit}
 use Rattle.space_model.specs.Step.{Stepped, stays, is_live, look_at, after_look, cut_at, low_piece, high_piece, new_part, whole_at, after_cut, why_not, grow_unless, after_grow, commit_at, after_commit, land_at, staying, is_emptied, taken_in_order, next_flight, after_back, neighbour, is_purged, put_at_rest, put_beside, put_at, step_of}
 use Rattle.space_model.proofs.Exchange.{sum_by-exchanged, sum_by-replaced}
 use Rattle.space_model.specs.Sound.{Sound}
-use Rattle.space_model.proofs.Giving.{taken_sum, none_flying}
-use Rattle.space_model.proofs.Idle.{some_pages}
+use Rattle.space_model.proofs.Giving.{taken_sum, taken_fly, none_flying}
+use Rattle.space_model.proofs.Settled.{some_pages}
 use Rattle.space_model.proofs.Pieces.{fit-listed, listed-nobody, put_down-nobody}
 use Rattle.hook_api.specs.Asked.{AskFacts, heard_in}
 use Rattle.thread_cache.specs.declared.Held.{Held}
@@ -55,13 +55,6 @@ use Rattle.call_plan.proofs.Shorter.{looked_left, next_left}
 
 -- ---- a region that goes back
 
--- extents that a client takes out are all its own
-taken_fly : (c : ℕ) (ps : List Part) → sum_by (λ p. flight c (taken_out c p)) ps ≡ length ps
-taken_fly c [] = refl
-taken_fly c (p ∷ ps) =
-    let one : flight c (taken_out c p) ≡ 1 = ap (λ (b : Bool). cond b 1 0) (client_itself c) in
-    omega (arith, one, sum_by-cons (λ q. flight c (taken_out c q)) p ps, taken_fly c ps)
-
 -- each extent that is emptied is in flight from then on
 pub back_flights : (c : ℕ) (s : Space) (addrs : List ℕ) →
     flights c (step_of s c (Back addrs)).after ≡ flights c s + length (filter (is_emptied (staying c addrs s.regions)) s.parts)
@@ -73,8 +66,7 @@ back_flights c s addrs =
       sum_by-exchanged (flight c) gone s.parts (taken_in_order c emptied),
       taken_sum c (flight c) [] emptied,
       taken_fly c emptied,
-      length-filter (λ p. is_flight c p.state) emptied,
-      ap length (none_flying c (staying c addrs s.regions) s.parts),
+      none_flying c (staying c addrs s.regions) s.parts,
     )
 
 -- ---- the last extent
@@ -268,7 +260,7 @@ Leads before c t wish point reply = flights c t + lost reply ≡ before + won re
 looked_leads : (c : ℕ) (t : Space) (wish : Wish) (reply : Reply) → LookResult c t reply wish.pages → Leads 0 c t wish (looked_point wish) reply
 looked_leads c t wish reply (DidTake span b skip e flies holds) =
     subst (Leads 0 c t wish (looked_point wish)) (sym e) (λ counts. omega (arith, counts, skip_flies wish span b skip))
-looked_leads c t wish reply (FoundNone e) = subst (Leads 0 c t wish (looked_point wish)) (sym e) (λ counts. omega (arith, counts))
+looked_leads c t wish reply (FoundNone series e) = subst (Leads 0 c t wish (looked_point wish)) (sym e) (λ counts. omega (arith, counts))
 
 -- after a split, by its two replies
 cut_leads : (c : ℕ) (t : Space) (wish : Wish) (point : Reply → ControlFlow Answered Getting) (reply : Reply) (kept : Span) (b : Bool) → CutResult c t reply kept b →

@@ -120,7 +120,7 @@ cut_result c s keep_low heard span left b sound live cuts is plain =
 -- What a look leaves in a live space: an extent that holds the run is in flight, or there is none.
 pub data LookResult (c : ℕ) (t : Space) (reply : Reply) (pages : ℕ) : Type 0 where
   DidTake : (span : Span) (b : Bool) (skip : ℕ) → reply ≡ Took span b skip → Flying c t span b → skip + pages ≤ span.pages → LookResult c t reply pages
-  FoundNone : reply ≡ Grow → LookResult c t reply pages
+  FoundNone : (series : ℕ) → reply ≡ Grow series → LookResult c t reply pages
 
 -- an extent that fits holds the run
 fit_of-holds : (rest : Rest) (pages align : ℕ) (parts : List Part) (p : Part) → fit_of rest pages align parts ≡ Some p → holds_run pages align p.span ≡ true
@@ -151,7 +151,7 @@ align_some align h =
 
 look_found : (c : ℕ) (s : Space) (pages align : ℕ) (o : Option Part) → fit pages align s.parts ≡ o → 1 ≤ align →
     Sound (look_at s c align o).after → LookResult c (look_at s c align o).after (look_at s c align o).reply pages
-look_found c s pages align None e some sound = FoundNone refl
+look_found c s pages align None e some sound = FoundNone _ refl
 look_found c s pages align (Some p) e some sound =
     let front : List Part = filter (λ q. not (begins_at p.span.first q)) s.parts in
     let t : Space = (look_at s c align (Some p)).after in

@@ -14,7 +14,7 @@ use Rattle.space_model.specs.Part.{exchanged, holders, is_flight, is_flight_at}
 use Rattle.space_model.specs.Sound.{Sound}
 use Rattle.space_model.proofs.Exchange.{share, find_passes, find-le-sum_by, find_has}
 use Rattle.space_model.proofs.Pieces.{both_true}
-use Rattle.space_model.proofs.Idle.{some_pages}
+use Rattle.space_model.proofs.Settled.{some_pages}
 use Rattle.call_plan.specs.Knows.{Flying}
 
 -- a span is itself

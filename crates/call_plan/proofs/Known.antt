@@ -86,7 +86,7 @@ looked_goes : (c : ℕ) (t : Space) (wish : Wish) (reply : Reply) → IsWish wis
     GoesOn c t wish (looked_point wish reply) (looked wish reply [])
 looked_goes c t wish reply is (DidTake span b skip e flies holds) =
     subst (λ (r : Reply). GoesOn c t wish (looked_point wish r) (looked wish r [])) (sym e) (skip_goes c t wish span b skip is flies holds)
-looked_goes c t wish reply is (FoundNone e) =
+looked_goes c t wish reply is (FoundNone series e) =
     subst (λ (r : Reply). GoesOn c t wish (looked_point wish r) (looked wish r [])) (sym e) (record { fitting = tt; knows = tt })
 
 skip_cut_goes : (c : ℕ) (t : Space) (wish : Wish) (b : Bool) (reply : Reply) (kept : Span) → IsWish wish → CutResult c t reply kept b → wish.pages ≤ kept.pages →
@@ -163,7 +163,8 @@ land_stands_at : (c : ℕ) (s : Space) (wish : Wish) (span : Span) → Ground c 
     op_stands s c (Land span wish.class 1) ≡ true
 land_stands_at c s wish span ground is flies pages =
     let same : span.pages ≡ pages_at wish.class = pages ∙ is.pages in
-    rw (ground.live, le-leb _ _ is.large, lt-ltb _ _ is.class, eq-eqb _ _ same, flies.found, flies.committed) refl
+    let not_small : nat_lt wish.class 36 ≡ false = grind (arith, nat_tests, is.large) in
+    rw (ground.live, lt-ltb _ _ is.class, eq-eqb _ _ same, not_small, flies.found, flies.committed) refl
 
 landed_goes : (c : ℕ) (s : Space) (wish : Wish) (span : Span) → Flying c s span true →
     GoesOn c (step_of s c (Land span wish.class 1)).after wish (landed_point wish (step_of s c (Land span wish.class 1)).reply) (landed wish (step_of s c (Land span wish.class 1)).reply [])

@@ -27,7 +27,7 @@ use Rattle.space_model.specs.Part.{exchanged, begins_at, is_flight, is_flight_at
 use Rattle.space_model.specs.Step.{is_live, is_yes_or_no, next_flight, is_like, is_right_of, is_left_of, neighbour, is_purged, put_at_rest, put_beside, put_at, may_merge, joined, begins_either, join_at, after_merge, merge_stands, holds_at, step_of, op_stands}
 use Rattle.space_model.specs.Sound.{Sound}
 use Rattle.space_model.proofs.Exchange.{find_passes, find_has, sum_by-replaced, sum_by-exchanged, sum_by-either, filter-begins_at}
-use Rattle.space_model.proofs.Idle.{some_pages}
+use Rattle.space_model.proofs.Settled.{some_pages}
 use Rattle.space_model.proofs.Pieces.{both_true, listed-nobody, put_down-nobody}
 use Rattle.space_model.proofs.Steps.{op_keeps}
 use Rattle.call_plan.specs.Free.{is_right, is_left}

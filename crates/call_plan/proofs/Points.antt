@@ -44,7 +44,7 @@ skip_reads wish span b skip =
 
 looked_reads : (wish : Wish) (reply : Reply) → IsFitting (looked wish reply []) → looked wish reply ≡ rest_after wish (looked_point wish reply)
 looked_reads wish (Took span b skip) h = skip_reads wish span b skip
-looked_reads wish Grow h = refl
+looked_reads wish (Grow series) h = refl
 looked_reads wish NoArena h = refl
 looked_reads wish reply h = absurd h
 

@@ -132,7 +132,7 @@ in_flight items = fold flight_after None items
 -- An alloc is needed for the pages in whole chunks, where no extent served: the look found none, or a split was refused.
 pub record AllocNeeded (wish : Wish) (earlier : List Item) (pages : ℕ) : Type 0 where
   pub pages_asked : pages ≡ whole_chunks wish.pages
-  pub nothing_fits : Contains earlier (Replied Grow) ⊎ Contains earlier (Replied Whole)
+  pub nothing_fits : ((series : ℕ) × Contains earlier (Replied (Grow series))) ⊎ Contains earlier (Replied Whole)
 
 -- A split is needed of a grant of this call that has more pages than are wanted.
 pub record SplitNeeded (wish : Wish) (earlier : List Item) (span : Span) (left : ℕ) : Type 0 where

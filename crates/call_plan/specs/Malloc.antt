@@ -121,7 +121,7 @@ skip_to wish span is_committed skip =
 -- what the look found
 abbrev pub looked : Wish → Reply → List Item → Outcome
 looked wish (Took span is_committed skip) = skip_to wish span is_committed skip
-looked wish Grow = grow wish
+looked wish (Grow series) = grow wish
 looked wish NoArena = ends (NoSuchArena wish.arena)
 looked wish reply = astray
 

@@ -48,7 +48,7 @@ pub enum Need {
 }
 
 /// What a call is fed.
-#[derive(Clone, Copy)]
+#[derive(Drop)]
 pub enum Fed {
     /// Nothing yet.
     Begin,

@@ -73,7 +73,7 @@ fn turned(op: &Op) -> Word {
         Op::GrowDone { .. } => Word::Grown,
         Op::CutDone { keep_low, .. } => Word::Cut(*keep_low),
         Op::Land { span, class, .. } => Word::Land(*span, *class),
-        Op::CommitDone { .. } => Word::Other,
+        _ => Word::Other,
     }
 }
 
@@ -89,8 +89,8 @@ fn ended(answered: &Answered) -> Word {
 }
 
 /// Whether a reply says that the arena grew by more than is wanted.
-fn may_grow(wish: &Wish, reply: Reply) -> bool
-    ensures { (asked : _) → result ≡ true → IsFitting (grown wish.now asked reply []) }
+fn may_grow(wish: &Wish, reply: &Reply) -> bool
+    ensures { (asked : _) → result ≡ true → IsFitting (grown wish.now asked reply.now []) }
 {
     match reply {
         Reply::Grown { span, .. } => wish.pages < span.pages,
@@ -103,9 +103,9 @@ fn may_get(wish: &Wish, getting: &Getting, fed: &Fed) -> bool
     ensures { result ≡ true → IsFitting (rest_of_get wish.now getting.now (items_of fed.now)) }
 {
     match (getting, fed) {
-        (Getting::Looking, Fed::Begin | Fed::NoMemory | Fed::Replied(Reply::Grow)) => true,
+        (Getting::Looking, Fed::Begin | Fed::NoMemory | Fed::Replied(Reply::Grow { .. })) => true,
         (Getting::GrowAsked | Getting::GrantAsked(_, _), Fed::Answer(_)) => true,
-        (Getting::Growing(_), Fed::Replied(reply)) => may_grow(wish, *reply),
+        (Getting::Growing(_), Fed::Replied(reply)) => may_grow(wish, reply),
         (Getting::GrantCut(_, _), Fed::Replied(Reply::Cut(_))) => true,
         (Getting::Landing(_), Fed::Replied(Reply::Landed { .. })) => true,
         _ => false,
@@ -291,7 +291,7 @@ fn a_malloc_holds_its_region(rt: HostRuntime) -> Result<(), Fail> {
     let alloc = rt.alloc();
     let mut caller = Caller::begin(holder(alloc)?, Request::Malloc { size: 20000 })?;
     assert_eq!(rt; caller.fed(Fed::Begin), Word::Look(5));
-    assert_eq!(rt; caller.told(Reply::Grow), Word::AskAlloc(512));
+    assert_eq!(rt; caller.told(Reply::Grow { series: 1 }), Word::AskAlloc(512));
     let (low, chunk) = (span(512, 5), span(512, 512));
     let wanted = Ask::Alloc {
         at: None,

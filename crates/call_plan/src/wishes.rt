@@ -152,7 +152,7 @@ impl Wish {
                 committed,
                 skip,
             } => self.skip_to(span, committed, skip),
-            Reply::Grow => self.grow(),
+            Reply::Grow { .. } => self.grow(),
             Reply::NoArena => ControlFlow::Break(Answered::NoArena(self.arena)),
             _ => unreachable!(),
         }

@@ -1,20 +1,18 @@
 -- Lemmas on the table of two levels.
-use Rattle.std.proofs.Common.{◌≡◌, ◌≢◌, inl, inr, ℕ, zero, suc, ◌+◌, ◌-◌, ◌*◌, ◌/◌, ◌%◌, ◌<◌, max, Bool, true, false, ◌&&◌, cond, leb, ltb, eqb, nat_eq, Option, Some, None, is_some, List, [], ◌∷◌, ◌++◌, length, get_or, set as put_at, map as each, count_by, refl, sym, ap, ◌∙◌, arith}
-use Rattle.std.specs.Option.{option_map}
-use Rattle.std.specs.List.{filter, filter_map, cons_option, range_with_len, list_any, All}
+use Rattle.std.proofs.Common.{◌≡◌, inl, inr, ℕ, zero, suc, ◌+◌, ◌-◌, ◌*◌, ◌/◌, ◌%◌, ◌<◌, Bool, true, false, ◌&&◌, cond, leb, ltb, eqb, nat_eq, Option, Some, None, is_some, List, [], ◌∷◌, ◌++◌, length, get_or, set as put_at, count_by, refl, sym, ap, ◌∙◌, arith}
+use Rattle.std.specs.Option.{option_and_then, option_map}
+use Rattle.std.specs.List.{filter, filter_map, cons_option, range_with_len, list_any}
 use Rattle.std.specs.Ordering.{nat_cmp}
 use Rattle.std.specs.Cmp.{unsigned_tied, nat_cmp_total}
 use Rattle.std.specs.FinMap as map
 use Rattle.std.specs.FinSet as set
-use Rattle.std.proofs.lemmas.Bool.{cases_eq}
-use Rattle.std.proofs.lemmas.Grind.{common_steps}
-use Rattle.std.proofs.lemmas.List.Sums.{sum_by-set, sum_by-append}
+use Rattle.std.proofs.lemmas.Bool.{cases_eq, eq-eqb, ne_eqb}
+use Rattle.std.proofs.lemmas.List.Sums.{sum_by-set}
 use Rattle.std.proofs.lemmas.Bool.Decides.{nat_tests}
-use Rattle.std.proofs.lemmas.List.{get_or_past, get_or-map, length-map, map-set, map-append, nil_from_length}
-use Rattle.std.proofs.lemmas.List.Elements.{All-map}
+use Rattle.std.proofs.lemmas.List.{get_or_past, get_or-set_other, get_or-set_same}
+use Rattle.std.proofs.Math.ListN.{length-set}
 use Rattle.page_map.specs.Pages.{Pages, put, with_leaf}
-use Rattle.page_map.specs.Table.{leaf_of, place_of, number_of, numbers_in, chunks_in, pages_in, IsTable, IsBlankLeaf, IsRootAfter}
-use Rattle.page_map.specs.declared.table.TheConstants.{CHUNKS, PAGES}
+use Rattle.page_map.specs.Table.{leaf_of, place_of, number_of, numbers_in, chunks_in, pages_in, IsTable}
 
 -- places in a row: a root, or a leaf
 abbrev pub Places : Type 0
@@ -38,10 +36,10 @@ list_any-range p a zero q = grind (arith, nat_tests)
 list_any-range p a (suc n) q = grind (arith, nat_tests, list_any-range p (a + 1) n q)
 
 -- the number at each page
-get-numbers_in : (root : Places) (leaves : List Places) (page : ℕ) → map.get (numbers_in root leaves) page ≡ number_of root leaves page
+get-numbers_in : (root places : Places) (page : ℕ) → map.get (numbers_in root places) page ≡ number_of root places page
 unfolding numbers_in
-get-numbers_in root leaves page =
-    map.get-from_entries nat_cmp_total _ page ∙ find-range (number_of root leaves) 0 (512 * length root) page
+get-numbers_in root places page =
+    map.get-from_entries nat_cmp_total _ page ∙ find-range (number_of root places) 0 (512 * length root) page
     ∙ grind (arith, nat_tests, get_or_past root (page / 512) None)
 
 -- which chunks have a leaf
@@ -57,180 +55,131 @@ get-put : (numbers : map.FinMap nat_cmp ℕ) (page : ℕ) (number : Option ℕ) 
 get-put numbers page None q = grind (arith, map.gets, unsigned_tied q page)
 get-put numbers page (Some n) q = grind (arith, map.gets, unsigned_tied q page)
 
--- a bare root has no leaf
-none_counted : (root : Places) → ((chunk : ℕ) → leaf_of root chunk ≡ None) → count_by is_some root ≡ 0
-none_counted [] bare = refl
-none_counted (o ∷ root) bare = grind (arith, sum_by-append (λ p. cond (is_some p) 1 0) (o ∷ []), bare 0, none_counted root (λ chunk. bare (suc chunk)))
-
--- a write to a place of a leaf keeps what stands at other places
-place_kept : (leaves : List Places) (leaf place i at : ℕ) (number : Option ℕ) → (i ≡ leaf → at ≢ place)
-    → place_of (put_at leaves leaf (put_at (get_or leaves leaf []) place number)) i at ≡ place_of leaves i at
-place_kept leaves leaf place i at number other = grind (arith, common_steps)
+-- a list with a place more that has nothing in it reads the same
+pub blank_more : (xs : Places) (k : ℕ) → get_or (xs ++ None ∷ []) k None ≡ get_or xs k None
+blank_more [] zero = refl
+blank_more [] (suc k) = refl
+blank_more (x ∷ xs) zero = refl
+blank_more (x ∷ xs) (suc k) = blank_more xs k
 
 -- a table, and what it holds
-pub record IsTableOf (root : Places) (leaves : List Places) (used : ℕ) (pages : Pages) : Type 0 where
-  pub table : IsTable root leaves used
-  pub numbers : (page : ℕ) → map.get pages.numbers page ≡ number_of root leaves page
+pub record IsTableOf (root places : Places) (spare : ℕ) (pages : Pages) : Type 0 where
+  pub table : IsTable root places
+  pub numbers : (page : ℕ) → map.get pages.numbers page ≡ number_of root places page
   pub chunks : (chunk : ℕ) → set.contains pages.chunks chunk ≡ is_some (leaf_of root chunk)
-  pub spare : pages.spare ≡ length leaves - used
+  pub left : pages.spare ≡ spare
 
 -- a table is one of what it shows
-pub of_view : {root : Places} {leaves : List Places} {used : ℕ} {pages : Pages} → IsTable root leaves used → pages_in root leaves used ≡ pages
-    → IsTableOf root leaves used pages
-of_view {root = root} {leaves = leaves} table is =
-    rw (← is) (record { table = table; numbers = get-numbers_in root leaves; chunks = contains-chunks_in root; spare = refl })
+pub of_view : {root places : Places} {spare : ℕ} {pages : Pages} → IsTable root places → pages_in root places spare ≡ pages → IsTableOf root places spare pages
+of_view {root = root} {places = places} table is =
+    rw (← is) (record { table = table; numbers = get-numbers_in root places; chunks = contains-chunks_in root; left = refl })
 
 -- what a table holds, and what each change of it leaves
-module _ {root : Places} {leaves : List Places} {used : ℕ} {pages : Pages} (of : IsTableOf root leaves used pages) where
+module _ {root places : Places} {spare : ℕ} {pages : Pages} (of : IsTableOf root places spare pages) where
   -- what a table shows is what it holds
-  pub view_of : pages_in root leaves used ≡ pages
+  pub view_of : pages_in root places spare ≡ pages
   view_of = λ i. record {
-    numbers = map.same_map nat_cmp_total map.nat_cmp-IsAntisymmetric _ _ (λ q. get-numbers_in root leaves q ∙ sym (of.numbers q)) i;
+    numbers = map.same_map nat_cmp_total map.nat_cmp-IsAntisymmetric _ _ (λ q. get-numbers_in root places q ∙ sym (of.numbers q)) i;
     chunks = set.same_set nat_cmp_total set.nat_cmp-IsAntisymmetric _ _ (λ q. contains-chunks_in root q ∙ sym (of.chunks q)) i;
-    spare = sym of.spare i;
+    spare = sym of.left i;
   }
 
-  -- a page whose chunk has a leaf, or may take a spare one
-  module _ (page : ℕ) (small : page < PAGES) (room : set.contains pages.chunks (page / 512) ≡ false → 0 < pages.spare) where
-    -- the root has a place for its chunk
-    pub chunk_in_root : page / 512 < length root
-    chunk_in_root = grind (arith, get_or_past root (page / 512) None)
+  -- a chunk that has a leaf keeps it
+  pub kept : (chunk : ℕ) → is_some (leaf_of root chunk) ≡ true → IsTableOf root places spare (with_leaf pages chunk)
+  kept chunk there = record {
+    table = of.table;
+    numbers = of.numbers;
+    chunks = λ q. grind (arith, set.members, nat_tests, unsigned_tied q chunk, of.chunks q, of.chunks chunk);
+    left = grind (arith, of.chunks chunk, of.left);
+  }
 
-    -- a chunk without a leaf takes the first spare one
-    pub given : (place : Option ℕ) → place ≡ get_or root (page / 512) place → is_some place ≡ false
-        → IsTableOf (put_at root (page / 512) (Some used)) leaves (used + 1) (with_leaf pages (page / 512))
-    given place read bare =
-        let table = of.table in
-        let chunk = page / 512 in
-        let within : chunk < length root = chunk_in_root in
-        let free : leaf_of root chunk ≡ None = grind (arith, common_steps) in
-        let some : used < length leaves = grind arith in
-        record {
-          table = record {
-            rooted = λ some. grind (arith, common_steps);
-            sized = λ some. grind (arith, common_steps);
-            within = omega arith;
-            counted = grind (arith, sum_by-set (λ o. cond (is_some o) 1 0) root chunk (Some used) None);
-            taken = λ c leaf has. grind (arith, common_steps);
-            apart = λ c o leaf has also. grind (arith, common_steps, table.taken c leaf, table.taken o leaf, table.apart c o leaf);
-            full = table.full;
-            blank = λ leaf place le. table.blank leaf place (omega arith);
-          };
-          numbers = λ q. grind (arith, common_steps);
-          chunks = λ q. grind (arith, common_steps, set.members, unsigned_tied q chunk);
-          spare = grind arith;
-        }
-
-    -- a chunk that has a leaf keeps it
-    pub kept : (place : Option ℕ) → place ≡ get_or root (page / 512) place → is_some place ≡ true → IsTableOf root leaves used (with_leaf pages (page / 512))
-    kept place read there =
-        let within : page / 512 < length root = chunk_in_root in
-        let has : is_some (leaf_of root (page / 512)) ≡ true = grind (arith, common_steps) in
-        record {
-          table = of.table;
-          numbers = of.numbers;
-          chunks = λ q. grind (arith, set.members, nat_tests, unsigned_tied q (page / 512));
-          spare = grind arith;
-        }
+  -- a chunk without a leaf takes the next one
+  pub given : (long wide : Places) (chunk : ℕ) → leaf_of root chunk ≡ None → 0 < spare → chunk < length long → ((k : ℕ) → get_or long k None ≡ get_or root k None) → count_by is_some long ≡ count_by is_some root
+      → ((k : ℕ) → get_or wide k None ≡ get_or places k None) → length wide ≡ length places + 512
+      → IsTableOf (put_at long chunk (Some (length places / 512))) wide (spare - 1) (with_leaf pages chunk)
+  given long wide chunk free some within same count blank len =
+      let table = of.table in
+      let leaf = length places / 512 in
+      let filled : leaf * 512 ≡ length places = let f = table.filled in omega arith in
+      let now = put_at long chunk (Some leaf) in
+      let here : leaf_of now chunk ≡ Some leaf = get_or-set_same long chunk (Some leaf) None within in
+      let other : (c : ℕ) → (c ≡ chunk → ⊥) → leaf_of now c ≡ leaf_of root c = λ c ne. get_or-set_other long chunk c (Some leaf) None ne ∙ same c in
+      record {
+        table = record {
+          filled = grind (arith, sum_by-set (λ o. cond (is_some o) 1 0) long chunk (Some leaf) None, same chunk, table.filled);
+          taken = λ c l has. elim (cases_eq c chunk) [
+            | inl e ↦ let own : Some leaf ≡ Some l = sym here ∙ ap (leaf_of now) (sym e) ∙ has in let is : leaf ≡ l = cc in omega arith
+            | inr ne ↦ let le = table.taken c l (sym (other c ne) ∙ has) in omega arith
+          ];
+          apart = λ c o l has also. elim (cases_eq c chunk) [
+            | inl e ↦ elim (cases_eq o chunk) [
+              | inl f ↦ e ∙ sym f
+              | inr nf ↦ absurd (let own : Some leaf ≡ Some l = sym here ∙ ap (leaf_of now) (sym e) ∙ has in let is : leaf ≡ l = cc in let le = table.taken o l (sym (other o nf) ∙ also) in omega arith)
+            ]
+            | inr ne ↦ elim (cases_eq o chunk) [
+              | inl f ↦ absurd (let own : Some leaf ≡ Some l = sym here ∙ ap (leaf_of now) (sym f) ∙ also in let is : leaf ≡ l = cc in let le = table.taken c l (sym (other c ne) ∙ has) in omega arith)
+              | inr nf ↦ table.apart c o l (sym (other c ne) ∙ has) (sym (other o nf) ∙ also)
+            ]
+          ];
+        };
+        numbers = λ q. of.numbers q ∙ elim (cases_eq (q / 512) chunk) [
+          | inl e ↦
+              let none : number_of root places q ≡ None = ap (option_and_then (λ l. place_of places l (q % 512))) (ap (leaf_of root) e ∙ free) in
+              let some : number_of now wide q ≡ place_of wide leaf (q % 512) = ap (option_and_then (λ l. place_of wide l (q % 512))) (ap (leaf_of now) e ∙ here) in
+              none ∙ sym (some ∙ blank (leaf * 512 + q % 512) ∙ get_or_past places (leaf * 512 + q % 512) None (omega arith))
+          | inr ne ↦ sym (ap (option_and_then (λ l. place_of wide l (q % 512))) (other (q / 512) ne) ∙ reads (leaf_of root (q / 512)) (q % 512))
+        ];
+        chunks = λ q. elim (cases_eq q chunk) [
+          | inl e ↦ rw (e, here) (grind (arith, set.members, nat_tests, unsigned_tied chunk chunk))
+          | inr ne ↦ rw (other q ne) (grind (arith, set.members, nat_tests, unsigned_tied q chunk, of.chunks q))
+        ];
+        left = grind (arith, of.chunks chunk, of.left);
+      }
+    where
+      reads : (o : Option ℕ) (p : ℕ) → option_and_then (λ l. place_of wide l p) o ≡ option_and_then (λ l. place_of places l p) o
+      reads None p = refl
+      reads (Some l) p = blank (l * 512 + p)
 
   -- a page whose chunk has no leaf may be removed
-  pub removed : (page : ℕ) → leaf_of root (page / 512) ≡ None → IsTableOf root leaves used (record pages { numbers = map.remove pages.numbers page })
+  pub removed : (page : ℕ) → leaf_of root (page / 512) ≡ None → IsTableOf root places spare (record pages { numbers = map.remove pages.numbers page })
   removed page free = record {
     table = of.table;
-    numbers = λ q. grind (arith, map.gets, nat_tests, unsigned_tied q page);
+    numbers = λ q. grind (arith, map.gets, nat_tests, unsigned_tied q page, of.numbers q);
     chunks = of.chunks;
-    spare = of.spare;
+    left = of.left;
   }
 
   -- a page whose chunk has a leaf gets a number, or none
-  pub written : (leaf page : ℕ) (number : Option ℕ) → leaf_of root (page / 512) ≡ Some leaf
-      → IsTableOf root (put_at leaves leaf (put_at (get_or leaves leaf []) (page % 512) number)) used (record pages { numbers = put pages.numbers page number })
+  pub written : (leaf page : ℕ) (number : Option ℕ) → leaf_of root (page / 512) ≡ Some leaf → IsTableOf root (put_at places (leaf * 512 + page % 512) number) spare (record pages { numbers = put pages.numbers page number })
   written leaf page number has =
       let table = of.table in
-      let lt : leaf < used = table.taken (page / 512) leaf has in
+      let within = table.taken (page / 512) leaf has in
+      let at = leaf * 512 + page % 512 in
       record {
         table = record {
-          rooted = λ some. grind (arith, common_steps);
-          sized = table.sized;
-          within = grind (arith, common_steps);
-          counted = table.counted;
-          taken = table.taken;
+          filled = length-set places at number ∙ table.filled;
+          taken = λ c l h. omega (arith, table.taken c l h, length-set places at number);
           apart = table.apart;
-          full = λ i within. grind (arith, common_steps);
-          blank = λ i at le. grind (arith, common_steps);
         };
-        numbers = λ q. elim (cases_eq q page) [
-          | inl e ↦ grind (arith, common_steps, get-put pages.numbers page number q)
-          | inr ne ↦ grind (arith, get-put pages.numbers page number q, place_kept leaves leaf (page % 512))
+        numbers = λ q. get-put pages.numbers page number q ∙ elim (cases_eq q page) [
+          | inl e ↦ rw (e, eq-eqb page page refl, has) (sym (get_or-set_same places at number None (omega arith)))
+          | inr ne ↦ rw (ne_eqb q page ne) (of.numbers q ∙ sym (kept_at q ne (leaf_of root (q / 512)) refl))
         ];
         chunks = of.chunks;
-        spare = grind (arith, common_steps);
+        left = of.left;
       }
+    where
+      kept_at : (q : ℕ) → (q ≡ page → ⊥) → (o : Option ℕ) → leaf_of root (q / 512) ≡ o → option_and_then (λ l. place_of (put_at places (leaf * 512 + page % 512) number) l (q % 512)) o ≡ option_and_then (λ l. place_of places l (q % 512)) o
+      kept_at q ne None e = refl
+      kept_at q ne (Some l) e = get_or-set_other places (leaf * 512 + page % 512) (l * 512 + q % 512) number None (λ same.
+          let is : l ≡ leaf = omega arith in
+          let chunk = of.table.apart (q / 512) (page / 512) l e (has ∙ ap (λ n. Some n) (sym is)) in
+          ne (omega arith))
 
-  -- a root that is made where there was none holds the same
-  pub rooted : {new : Places} → IsRootAfter root new → IsTableOf new leaves used pages × (length new ≡ CHUNKS)
-  rooted {new = new} after =
-      let table = of.table in
-      let long : length new ≡ CHUNKS = grind arith in
-      let same : (chunk : ℕ) → leaf_of new chunk ≡ leaf_of root chunk = λ chunk. grind (arith, get_or_past root chunk None) in
-      let holds : IsTableOf new leaves used pages = record {
-        table = record {
-          rooted = λ _. long;
-          sized = λ _. long;
-          within = table.within;
-          counted = grind (arith, nil_from_length root, λ (e : length root ≡ 0). none_counted new (after.bare e));
-          taken = λ chunk leaf has. table.taken chunk leaf (sym (same chunk) ∙ has);
-          apart = λ chunk other leaf has also. table.apart chunk other leaf (sym (same chunk) ∙ has) (sym (same other) ∙ also);
-          full = table.full;
-          blank = table.blank;
-        };
-        numbers = λ page. grind arith;
-        chunks = λ chunk. grind arith;
-        spare = of.spare;
-      } in
-      (holds, long)
+  -- a chunk without a leaf has a spare one, where each may get one
+  pub may_give : (chunk : ℕ) → leaf_of root chunk ≡ None → (set.contains pages.chunks chunk ≡ false → 0 < pages.spare) → 0 < spare
+  may_give chunk free room = let some = room (of.chunks chunk ∙ ap is_some free) in omega (arith, of.left)
 
-  -- more blank leaves are more spare ones
-  pub appended : (more : List Places) (n : ℕ) → length root ≡ CHUNKS → All IsBlankLeaf more → length more ≡ n - pages.spare
-      → IsTableOf root (leaves ++ more) used (record pages { spare = max pages.spare n })
-  appended more n long blank filled =
-      let table = of.table in
-      record {
-        table = record {
-          rooted = λ _. long;
-          sized = table.sized;
-          within = grind (arith, common_steps);
-          counted = table.counted;
-          taken = table.taken;
-          apart = table.apart;
-          full = λ i lt. grind (arith, common_steps);
-          blank = λ i place le. grind (arith, common_steps);
-        };
-        numbers = λ q. grind (arith, common_steps, of.numbers q, table.taken (q / 512));
-        chunks = of.chunks;
-        spare = grind (arith, common_steps);
-      }
-
--- the lists of all, where elements hold the leaves of a table
-module _ {V : Type 0} (vs : List V) (f : V → Places) {root : Places} {used : ℕ} {pages : Pages} (of : IsTableOf root (each f vs) used pages) where
-  -- a leaf that a chunk has, as it was read
-  pub leaf_read : (chunk leaf : ℕ) (v : V) → leaf_of root chunk ≡ Some leaf → v ≡ get_or vs leaf v
-      → (get_or (each f vs) leaf [] ≡ f v) × (length (f v) ≡ 512)
-  leaf_read chunk leaf v has read =
-      let small : leaf < length vs = omega (arith, of.table.taken chunk leaf has, length-map vs f) in
-      let line : get_or (each f vs) leaf [] ≡ f v = get_or-map f vs leaf v [] small ∙ sym (ap f read) in
-      (line, ap length (sym line) ∙ of.table.full leaf (omega (arith, length-map vs f)))
-
-  -- a write to a leaf that was read
-  pub written_leaf : (leaf page place : ℕ) (v w : V) (number : Option ℕ) → leaf_of root (page / 512) ≡ Some leaf → v ≡ get_or vs leaf v
-      → f w ≡ put_at (f v) place number → place ≡ page % 512
-      → IsTableOf root (each f (put_at vs leaf w)) used (record pages { numbers = put pages.numbers page number })
-  written_leaf leaf page place v w number has read wrote here =
-      rw (map-set f vs leaf w, wrote, ← (leaf_read (page / 512) leaf v has read).0, here) (written of leaf page number has)
-
-  -- blank leaves behind the others, under a root that is there
-  pub reserved : (more : List V) {new : Places} (n : ℕ) → IsRootAfter root new → All (λ v. IsBlankLeaf (f v)) more → length more ≡ n - pages.spare
-      → IsTableOf new (each f (vs ++ more)) used (record pages { spare = max pages.spare n })
-  reserved more n after blank filled =
-      let there = rooted of after in
-      rw (map-append f vs more) (appended there.0 (each f more) n there.1 (All-map IsBlankLeaf f more blank) (length-map more f ∙ filled))
+pub none_from : (o : Option ℕ) → is_some o ≡ false → o ≡ None
+none_from None e = refl
+none_from (Some x) e = absurd (cc)

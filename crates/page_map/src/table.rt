@@ -1,6 +1,6 @@
-//! A root with a place for each chunk of pages, and a leaf with a place for each page of one chunk.
-ghost use Rattle.std.specs.Prelude.{true, ◌≡◌, ◌-◌, ◌/◌, ◌%◌, ◌<◌, ℕ, false, None, if◌then◌else◌, slice_index_or, vec_len, IfOk, IsOkAnd, IsSome, OnOk, OnErr, All, max};
-ghost use Rattle.page_map.specs.Table.{IsBlankLeaf, IsRootAfter};
+//! A root with a place for each chunk of pages up to the highest one that was asked for, and leaves, one behind
+//! another, with a place for each page of a chunk.
+ghost use Rattle.std.specs.Prelude.{true, ◌≡◌, ◌+◌, ◌-◌, ◌*◌, ◌/◌, ◌%◌, ◌<◌, ◌≤◌, ℕ, false, None, if◌then◌else◌, count_by, is_some, slice_index_or, vec_capacity, vec_len, IsOkAnd, IsSome, OnOk, OnErr, max};
 ghost use Rattle.std.specs.FinMap as map;
 ghost use Rattle.std.specs.FinSet as set;
 
@@ -8,52 +8,52 @@ use std::alloc::{AllocError as NoMemory, Global};
 use std::marker::Model;
 
 /// Pages are numbered below this bound.
-pub const PAGES: u64 = 1 << 25;
+pub const PAGES: u64 = 1 << 29;
 
 /// How many pages a chunk has: chunk `c` has the pages from `512 * c` on.
 pub const CHUNK_PAGES: u64 = 512;
 
-const CHUNKS: usize = (PAGES / CHUNK_PAGES) as usize;
+/// Chunks are numbered below this bound.
+pub const CHUNKS: u64 = PAGES / CHUNK_PAGES;
 
-type Leaf = Vec<Option<u32>>;
+const ROOT: usize = CHUNKS as usize;
+
+const LEAF: usize = CHUNK_PAGES as usize;
 
 /// A finite map from pages to numbers. A chunk that had a number once keeps its leaf, and a leaf has room for the
 /// numbers of all pages of its chunk. Only [`PageMap::reserve`] takes memory.
 #[derive(Drop)]
 pub struct PageMap {
-    alloc: Global,
     root: Vec<Option<u32>>,
-    leaves: Vec<Leaf>,
-    used: usize,
+    places: Vec<Option<u32>>,
+    spare: u64,
 }
 
 impl Model for PageMap {
-    ghost use Rattle.std.specs.Prelude.{map};
     ghost use Rattle.page_map.specs.Pages.{Pages, pages_code};
 
     ghost Value = { Pages };
 
     ghost coded = { pages_code };
 
-    ghost use Rattle.page_map.specs.Table.{pages_in, IsTable};
+    ghost use Rattle.page_map.specs.Maps.{shown, IsMap};
 
-    ghost view = { λ a. pages_in a.root.items (map (λ leaf. leaf.items) a.leaves.items) a.used };
+    ghost view = { shown };
 
-    ghost invariant = { λ a. IsTable a.root.items (map (λ leaf. leaf.items) a.leaves.items) a.used };
+    ghost invariant = { IsMap };
 }
 
 impl PageMap {
     ghost use Rattle.page_map.specs.Pages.{no_pages, put, with_leaf};
 
-    /// An empty map. It takes no memory yet, and keeps the allocator.
+    /// An empty map. It takes no memory yet.
     pub fn new(alloc: Global) -> Result<PageMap, NoMemory>
         ensures { IsOkAnd result (λ pages. pages ≡ no_pages) }
     {
         Ok(PageMap {
-            alloc,
             root: Vec::new(alloc),
-            leaves: Vec::new(alloc),
-            used: 0,
+            places: Vec::new(alloc),
+            spare: 0,
         })
     }
 
@@ -62,10 +62,14 @@ impl PageMap {
         ensures ok { OnOk result (self.new ≡ record self.old { spare = max self.old.spare leaves }) }
         ensures err { OnErr result (self.new ≡ self.old) }
     {
-        let missing = leaves.saturating_sub(self.spare());
-        let mut fresh = blank_leaves(self.alloc, missing)?;
-        make_root(&mut self.root, self.alloc)?;
-        self.leaves.append(&mut fresh)?;
+        if leaves <= self.spare {
+            return Ok(());
+        }
+        let places = leaves.checked_mul(CHUNK_PAGES).ok_or(NoMemory)?;
+        self.root
+            .reserve_exact(ROOT.saturating_sub(self.root.len()))?;
+        self.places.reserve(places as usize)?;
+        self.spare = leaves;
         Ok(())
     }
 
@@ -73,7 +77,7 @@ impl PageMap {
     pub fn spare(&self) -> u64
         ensures { result ≡ self.now.spare }
     {
-        (self.leaves.len() - self.used) as u64
+        self.spare
     }
 
     /// Gives a page a number. A chunk without a leaf takes a spare one for it, and keeps it.
@@ -108,7 +112,7 @@ impl PageMap {
             → set.contains self.now.chunks (page / CHUNK_PAGES) ≡ true }
     {
         match leaf_at(&self.root, page) {
-            Some(leaf) => self.leaves[leaf][place_at(page)],
+            Some(leaf) => self.places[leaf * LEAF + place_at(page)],
             None => None,
         }
     }
@@ -121,9 +125,12 @@ impl PageMap {
         ensures { self.new ≡ with_leaf self.old (page / CHUNK_PAGES) }
     {
         let chunk = (page / CHUNK_PAGES) as usize;
-        if self.root[chunk].is_none() {
-            self.root[chunk] = Some(self.used as u32);
-            self.used += 1;
+        if leaf_at(&self.root, page).is_none() {
+            lengthen(&mut self.root, chunk + 1);
+            let filled = self.places.len();
+            self.root[chunk] = Some((filled / LEAF) as u32);
+            lengthen(&mut self.places, filled + LEAF);
+            self.spare -= 1;
         }
     }
 
@@ -133,7 +140,7 @@ impl PageMap {
         ensures { self.new ≡ record self.old { numbers = put self.old.numbers page number } }
     {
         match leaf_at(&self.root, page) {
-            Some(leaf) => self.leaves[leaf][place_at(page)] = number,
+            Some(leaf) => self.places[leaf * LEAF + place_at(page)] = number,
             None => unreachable!(),
         }
     }
@@ -158,35 +165,17 @@ fn place_at(page: u64) -> usize
     (page % CHUNK_PAGES) as usize
 }
 
-// Makes the root, if there is none.
-fn make_root(root: &mut Vec<Option<u32>>, alloc: Global) -> Result<(), NoMemory>
-    ensures ok { OnOk result (IsRootAfter root.old.items root.new.items) }
-    ensures err { OnErr result (root.new.items ≡ root.old.items) }
+// Makes a list at least so long, with places that have nothing in them.
+fn lengthen(list: &mut Vec<Option<u32>>, len: usize)
+    requires { len ≤ vec_capacity list.old }
+    ensures kept { (k : ℕ) → slice_index_or list.new.items k None ≡ slice_index_or list.old.items k None }
+    ensures count { count_by is_some list.new.items ≡ count_by is_some list.old.items }
+    ensures len { vec_len list.new ≡ max (vec_len list.old) len }
+    ensures capacity { vec_capacity list.old ≤ vec_capacity list.new }
 {
-    if root.is_empty() {
-        *root = blank_places(alloc, CHUNKS)?;
+    for _ in list.len()..len {
+        list.push(None).unwrap();
     }
-    Ok(())
-}
-
-// Places with nothing in them.
-fn blank_places(alloc: Global, len: usize) -> Result<Vec<Option<u32>>, NoMemory>
-    ensures len { IfOk result (λ places. vec_len places ≡ len) }
-    ensures blank { IfOk result (λ places. (k : ℕ) → slice_index_or places.items k None ≡ None) }
-{
-    vec![in alloc; None; len]
-}
-
-// So many leaves with nothing in them.
-fn blank_leaves(alloc: Global, count: u64) -> Result<Vec<Leaf>, NoMemory>
-    ensures len { IfOk result (λ leaves. vec_len leaves ≡ count) }
-    ensures blank { IfOk result (λ leaves. All (λ leaf. IsBlankLeaf leaf.items) leaves.items) }
-{
-    let mut leaves = Vec::new(alloc);
-    for _ in 0..count {
-        leaves.push(blank_places(alloc, CHUNK_PAGES as usize)?)?;
-    }
-    Ok(leaves)
 }
 
 #[cfg(test)]

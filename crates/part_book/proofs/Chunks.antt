@@ -10,9 +10,10 @@ use Rattle.std.proofs.lemmas.List.Sums.{count_by-le-length, length-filter}
 use Rattle.std.proofs.lemmas.List.FromFn.{get_or-range_with_len, length-range_with_len}
 use Rattle.ordered_set.proofs.Members.{filter_has}
 use Rattle.page_map.specs.Pages.{Pages}
+use Rattle.page_map.specs.declared.table.TheConstants.{CHUNKS}
 use Rattle.space_model.specs.declared.parts.Span.{Span}
 use Rattle.space_model.specs.Span.{IsPlaced, end_of}
-use Rattle.part_book.specs.Leaves.{HasLeaves, leaves_for, missing}
+use Rattle.part_book.specs.Leaves.{HasLeaves, HasMore, leaves_for, missing}
 use Rattle.part_book.proofs.Lists.{bit, count_some, filter_both}
 
 -- a chunk is in a set to which another one was added where it is that one or was in it
@@ -55,14 +56,14 @@ lacking_less s c n l f =
     omega (arith, lacking_after s c range, count_some (λ k. not (set.contains s k)) (filter (λ k. eqb k c) range) c here (ap not f))
 
 -- a chunk that gets a leaf is missing one no more
-missing_less : (s : set.FinSet nat_cmp) (c : ℕ) → c < 65536 → set.contains s c ≡ false → missing (set.insert s c) + 1 ≤ missing s
+missing_less : (s : set.FinSet nat_cmp) (c : ℕ) → c < CHUNKS → set.contains s c ≡ false → missing (set.insert s c) + 1 ≤ missing s
 unfolding missing
-missing_less s c l f = lacking_less s c 65536 l f
+missing_less s c l f = lacking_less s c CHUNKS l f
 
 -- and no other one is missing then
 missing_no_more : (s : set.FinSet nat_cmp) (c : ℕ) → missing (set.insert s c) ≤ missing s
 unfolding missing
-missing_no_more s c = lacking_no_more s c (range_with_len 0 65536)
+missing_no_more s c = lacking_no_more s c (range_with_len 0 CHUNKS)
 
 -- one for a chunk without a leaf
 abbrev want : Bool → ℕ
@@ -78,14 +79,14 @@ abbrev pub wanted : Pages → ℕ → ℕ
 wanted p c = want (set.contains p.chunks c)
 
 -- there is a leaf for a chunk that wants one
-pub has_leaf : (p : Pages) (c n : ℕ) → c < 65536 → HasLeaves p (n + wanted p c) → set.contains p.chunks c ≡ false → 0 < p.spare
+pub has_leaf : (p : Pages) (c n : ℕ) → c < CHUNKS → HasLeaves p (n + wanted p c) → set.contains p.chunks c ≡ false → 0 < p.spare
 has_leaf p c n l has f =
     let some = missing_less p.chunks c l f in
     let one : wanted p c ≡ 1 = ap want f in
     omega arith
 
 -- the leaves that are left after a chunk got its leaf
-pub leaves_after : (p q : Pages) (c n : ℕ) → c < 65536 → q.chunks ≡ set.insert p.chunks c → q.spare ≡ cond (set.contains p.chunks c) p.spare (p.spare - 1) → HasLeaves p (n + wanted p c) → HasLeaves q n
+pub leaves_after : (p q : Pages) (c n : ℕ) → c < CHUNKS → q.chunks ≡ set.insert p.chunks c → q.spare ≡ cond (set.contains p.chunks c) p.spare (p.spare - 1) → HasLeaves p (n + wanted p c) → HasLeaves q n
 leaves_after p q c n l chunks spare has =
     let is = ap missing chunks in
     elim (cases_Bool (set.contains p.chunks c)) [
@@ -115,15 +116,15 @@ wanted_less p q k c chunks = elim (cases_Bool (set.contains p.chunks c)) [
 ]
 
 -- the chunks of the first and the last page of a span
-pub chunk_inside : (s : Span) → IsPlaced s → (s.first / 512 < 65536) × ((end_of s - 1) / 512 < 65536)
+pub chunk_inside : (s : Span) → IsPlaced s → (s.first / 512 < CHUNKS) × ((end_of s - 1) / 512 < CHUNKS)
 chunk_inside s placed = (omega arith, omega arith)
 
-missing_most : (s : set.FinSet nat_cmp) → missing s ≤ 65536
+missing_most : (s : set.FinSet nat_cmp) → missing s ≤ CHUNKS
 unfolding missing
-missing_most s = subst (λ n. count_by (λ chunk. not (set.contains s chunk)) (range_with_len 0 65536) ≤ n) (length-range_with_len 0 65536) (count_by-le-length (λ chunk. not (set.contains s chunk)) (range_with_len 0 65536))
+missing_most s = subst (λ n. count_by (λ chunk. not (set.contains s chunk)) (range_with_len 0 CHUNKS) ≤ n) (length-range_with_len 0 CHUNKS) (count_by-le-length (λ chunk. not (set.contains s chunk)) (range_with_len 0 CHUNKS))
 
 -- leaves for all chunks are enough for any number of extents
-pub leaves_enough : (p : Pages) (n : ℕ) → min 65536 n ≤ p.spare → HasLeaves p n
+pub leaves_enough : (p : Pages) (n : ℕ) → min CHUNKS n ≤ p.spare → HasLeaves p n
 leaves_enough p n le = omega (arith, missing_most p.chunks)
 
 pub more_leaves : (p q : Pages) (n : ℕ) → q.chunks ≡ p.chunks → p.spare ≤ q.spare → HasLeaves p n → HasLeaves q n
@@ -152,3 +153,11 @@ leaves_first p s a = rw a (let le = want_le (set.contains p.chunks ((end_of s - 
 
 pub leaves_last : (p : Pages) (s : Span) → set.contains p.chunks ((end_of s - 1) / 512) ≡ true → leaves_for p s ≤ 1
 leaves_last p s b = rw b (let le = want_le (set.contains p.chunks (s.first / 512)) in omega arith)
+
+-- chunks keep their leaves, and those of the first and the last page of a span get one
+pub leaves_kept : (s : set.FinSet nat_cmp) {u : set.FinSet nat_cmp} (span : Span) → u ≡ set.insert (set.insert s (span.first / 512)) ((end_of span - 1) / 512) → HasMore s u span
+leaves_kept s span e = record {
+  kept = λ c t. rw e (contains_kept (set.insert s (span.first / 512)) ((end_of span - 1) / 512) c (contains_kept s (span.first / 512) c t));
+  first = rw e (contains_kept (set.insert s (span.first / 512)) ((end_of span - 1) / 512) (span.first / 512) (contains_new s (span.first / 512)));
+  last = rw e (contains_new (set.insert s (span.first / 512)) ((end_of span - 1) / 512));
+}

@@ -1,5 +1,5 @@
 -- What the indexes of a table say of its extents.
-use Rattle.std.proofs.Common.{◌≡◌, ℕ, ◌-◌, ◌/◌, ◌<◌, ◌≤◌, Bool, true, false, not, eqb, List, [], ◌∷◌, length, map, filter, find, get_or, slice_get, Some, None, option_map, vec_len, inl, inr, refl, sym, ap, ◌∙◌, subst, arith, All, Contains, nat_cmp}
+use Rattle.std.proofs.Common.{◌≡◌, ℕ, ◌-◌, ◌/◌, ◌^◌, ◌<◌, ◌≤◌, Bool, true, false, not, eqb, List, [], ◌∷◌, length, map, filter, find, get_or, slice_get, Option, Some, None, option_map, vec_len, inl, inr, refl, sym, ap, ◌∙◌, subst, arith, All, Contains, nat_cmp}
 use Rattle.std.proofs.lemmas.Bool.{cases_Bool, cases_lt, true_from_ne_false}
 use Rattle.std.specs.FinMap as map_of
 use Rattle.std.specs.FinSet as set
@@ -21,9 +21,12 @@ use Rattle.space_model.specs.declared.parts.State.{State}
 use Rattle.space_model.specs.declared.parts.State.TheVariants.{Active, Dirty, Muzzy, Retained, Flight}
 use Rattle.space_model.specs.Part.{is_flight}
 use Rattle.space_model.specs.Sound.{is_in_flight}
+use Rattle.space_model.specs.declared.parts.Rest.{Rest}
+use Rattle.space_model.specs.declared.parts.Rest.TheVariants.{Dirty as ToDirty, Muzzy as ToMuzzy, Retained as ToRetained}
+use Rattle.part_book.specs.declared.table.AgeList.{AgeList}
 use Rattle.part_book.specs.declared.table.Table.{Table}
-use Rattle.part_book.specs.Rows.{IsFirsts, IsLastBelow, Row, flights_in, is_edge, key_of, part_at, row_at}
-use Rattle.part_book.specs.Tables.{IsTable, Keeps, rows_of}
+use Rattle.part_book.specs.Rows.{IsKeyed, IsLastBelow, Row, first_key, flights_in, is_edge, part_at, row_at, size_key}
+use Rattle.part_book.specs.Tables.{IsIndexed, IsListOf, IsSlotted, IsTable, Keeps, rows_of}
 use Rattle.part_book.proofs.Lists.{all_from, count_some, find_map, find_none, found, map_from, map_has, mapped_none, mapped_some}
 
 -- the extents of some rows
@@ -39,24 +42,28 @@ abbrev pub IsLeafed : set.FinSet nat_cmp → Row → Type 0
 IsLeafed chunks row = (set.contains chunks (row.part.span.first / 512) ≡ true) × (set.contains chunks ((end_of row.part.span - 1) / 512) ≡ true)
 
 -- a number is that of a slot
-pub in_slots : (t : Table) (rows : List Row) (r : Row) → IsTable t rows → Contains rows r → r.number < vec_len t.slots
+pub in_slots : (t : Table) (rows : List Row) (r : Row) → IsSlotted t rows → Contains rows r → r.number < vec_len t.slots
 in_slots t rows r i m =
     let some = count_some (λ row. eqb row.number r.number) rows r m (grind (arith, nat_tests)) in
     let all = i.free r.number in
     grind (arith, nat_tests)
 
+-- which are few
+pub small_numbers : (t : Table) (rows : List Row) → IsSlotted t rows → (r : Row) → Contains rows r → r.number < 2 ^ 32
+small_numbers t rows i r m = let l = in_slots t rows r i m in let all = i.small in omega arith
+
 -- the slot of a number has the extent
-pub in_slot : (t : Table) (rows : List Row) (r : Row) → IsTable t rows → Contains rows r → part_at t.slots.items r.number ≡ r.part
+pub in_slot : (t : Table) (rows : List Row) (r : Row) → IsIndexed t rows → Contains rows r → part_at t.slots.items r.number ≡ r.part
 in_slot t rows r i m = All-contains (λ row. part_at t.slots.items row.number ≡ row.part) rows r i.slots m
 
 -- where a number is that of a row, its slot has the extent
 pub slot_of : (t : Table) (rows : List Row) (r : Row) {number : ℕ} → IsTable t rows → Contains rows r → r.number ≡ number → (number < vec_len t.slots) × (part_at t.slots.items number ≡ r.part)
-slot_of t rows r i m e = (subst (λ n. n < vec_len t.slots) e (in_slots t rows r i m), ap (part_at t.slots.items) (sym e) ∙ in_slot t rows r i m)
+slot_of t rows r i m e = (subst (λ n. n < vec_len t.slots) e (in_slots t rows r i.slots m), ap (part_at t.slots.items) (sym e) ∙ in_slot t rows r i.indexes m)
 
 -- the row of a number that the map gives for a page
 pub edge_row : (t : Table) (rows : List Row) (page number : ℕ) → IsTable t rows → map_of.get t.edges.numbers page ≡ Some number → (r : Row) × (find (λ row. is_edge page row.part) rows ≡ Some r) × Contains rows r × (r.number ≡ number)
 edge_row t rows page number i e =
-    let p = mapped_some (λ row. row.number) (find (λ row. is_edge page row.part) rows) number (sym (i.edges page) ∙ e) in
+    let p = mapped_some (λ row. row.number) (find (λ row. is_edge page row.part) rows) number (sym (i.indexes.edges page) ∙ e) in
     (p.0, p.1, (found (λ row. is_edge page row.part) rows p.0 p.1).0, p.2)
 
 -- the slot of that number has the extent whose first or last page it is
@@ -68,7 +75,7 @@ edge_part t rows page number i e =
 -- a page without a number is no first or last page
 pub edge_none : (t : Table) (rows : List Row) (page : ℕ) → IsTable t rows → map_of.get t.edges.numbers page ≡ None → find (is_edge page) (parts_in rows) ≡ None
 edge_none t rows page i e =
-    let none = mapped_none (λ row. row.number) (find (λ row. is_edge page row.part) rows) (sym (i.edges page) ∙ e) in
+    let none = mapped_none (λ row. row.number) (find (λ row. is_edge page row.part) rows) (sym (i.indexes.edges page) ∙ e) in
     find_map (λ row. row.part) (is_edge page) rows ∙ ap (option_map (λ row. row.part)) none
 
 -- ---- the first pages
@@ -88,36 +95,44 @@ below_from k page t = elim (cases_lt k.major page) [
   | inr g ↦ absurd (let f : not (is_below (start page) k) ≡ true = start_from k page g in let no : false ≡ true = rw t at f in cc)
 ]
 
+-- the key of an extent among the first pages
+abbrev start_of : Row → Key
+start_of r = record { major = r.part.span.first; minor = r.number }
+
+first_is : (r : Row) (k : Key) → first_key r ≡ Some k → start_of r ≡ k
+first_is r k e = cc
+
 -- the row of the last key below a page
-pub last_row : (rows : List Row) (keys : List Key) (page : ℕ) (key : Key) → IsFirsts rows keys → IsAscending keys → last_of (filter (is_below (start page)) keys) ≡ Some key → (r : Row) × Contains rows r × (r.number ≡ key.minor) × IsLastBelow page (parts_in rows) r.part
+pub last_row : (rows : List Row) (keys : List Key) (page : ℕ) (key : Key) → IsKeyed first_key rows keys → IsAscending keys → last_of (filter (is_below (start page)) keys) ≡ Some key → (r : Row) × Contains rows r × (r.number ≡ key.minor) × IsLastBelow page (parts_in rows) r.part
 last_row rows keys page key firsts ascending e =
     let ks = filter (is_below (start page)) keys in
     let m = filter_from (is_below (start page)) keys key (length ks - 1, slice_get_within ks (length ks - 1) key e, get_or_from_slice_get ks (length ks - 1) key key e) in
     let p = firsts.from key m.0 in
-    let first : p.0.part.span.first ≡ key.major = ap (λ k. k.major) p.2 in
+    let is = first_is p.0 key p.2 in
+    let first : p.0.part.span.first ≡ key.major = ap (λ (k : Key). k.major) is in
     let below = below_from key page m.1 in
     let greatest = last_greatest ks key (IsStrictlySortedBy-filter key_cmp (is_below (start page)) keys ascending) (sym e) in (
       p.0,
       p.1,
-      ap (λ k. k.minor) p.2,
+      ap (λ (k : Key). k.minor) is,
       record {
         listed = map_has (λ row. row.part) rows p.0 p.1;
         below = omega arith;
         last = all_from (λ q. q.span.first < page → q.span.first ≤ p.0.part.span.first) (parts_in rows) (λ q n l.
             let r = map_from (λ row. row.part) rows q n in
             let same : r.0.part.span.first ≡ q.span.first = ap (λ (x : Part). x.span.first) r.2 in
-            let up = every_member (λ k. k.major ≤ key.major) ks greatest (key_of r.0) (filter_has (is_below (start page)) keys (key_of r.0) (firsts.has r.0 r.1) (is_below_from (key_of r.0) page (omega arith))) in
+            let up = every_member (λ k. k.major ≤ key.major) ks greatest (start_of r.0) (filter_has (is_below (start page)) keys (start_of r.0) (firsts.has r.0 (start_of r.0) r.1 refl) (is_below_from (start_of r.0) page (omega arith))) in
             omega arith);
       },
     )
 
 -- where there is no last key below a page, no extent begins below it
-pub no_row : (rows : List Row) (keys : List Key) (page : ℕ) → IsFirsts rows keys → last_of (filter (is_below (start page)) keys) ≡ None → All (λ p. page ≤ p.span.first) (parts_in rows)
+pub no_row : (rows : List Row) (keys : List Key) (page : ℕ) → IsKeyed first_key rows keys → last_of (filter (is_below (start page)) keys) ≡ None → All (λ p. page ≤ p.span.first) (parts_in rows)
 no_row rows keys page firsts e = all_from (λ p. page ≤ p.span.first) (parts_in rows) (λ q n.
     let r = map_from (λ row. row.part) rows q n in
     let same : r.0.part.span.first ≡ q.span.first = ap (λ (x : Part). x.span.first) r.2 in
     elim (cases_lt r.0.part.span.first page) [
-      | inl l ↦ absurd (no_last (filter (is_below (start page)) keys) (key_of r.0) e (filter_has (is_below (start page)) keys (key_of r.0) (firsts.has r.0 r.1) (is_below_from (key_of r.0) page l)))
+      | inl l ↦ absurd (no_last (filter (is_below (start page)) keys) (start_of r.0) e (filter_has (is_below (start page)) keys (start_of r.0) (firsts.has r.0 (start_of r.0) r.1 refl) (is_below_from (start_of r.0) page l)))
       | inr g ↦ omega arith
     ])
 
@@ -150,7 +165,7 @@ find_flight slots client (r ∷ rows) all =
 
 -- so the flights of the table tell the first one
 pub flight_of : (t : Table) (client : ℕ) → IsTable t (rows_of t) → find (λ p. is_flight client p.state) (parts_in (rows_of t)) ≡ option_map (part_at t.slots.items) (find (is_flown t.slots.items client) t.flights.items)
-flight_of t client i = find_flight t.slots.items client (rows_of t) i.slots ∙ ap (λ ns. option_map (part_at t.slots.items) (find (is_flown t.slots.items client) ns)) (sym i.flights)
+flight_of t client i = find_flight t.slots.items client (rows_of t) i.indexes.slots ∙ ap (λ ns. option_map (part_at t.slots.items) (find (is_flown t.slots.items client) ns)) (sym i.indexes.flights)
 
 -- a loop over numbers finds the first one that passes
 pub first_number : (p : ℕ → Bool) (ns : List ℕ) (i : ℕ) → i < length ns → ((k : ℕ) → k < i → p (get_or ns k 0) ≡ false) → p (get_or ns i 0) ≡ true → find p ns ≡ Some (get_or ns i 0)
@@ -164,34 +179,49 @@ no_number p ns none = find_none p ns (λ n (k, l, e). ap p (sym e ∙ get_or_def
 pub flights_in_slots : (t : Table) (rows : List Row) → IsTable t rows → (k : ℕ) → k < length t.flights.items → get_or t.flights.items k 0 < vec_len t.slots
 flights_in_slots t rows i k l =
     let m : Contains t.flights.items (get_or t.flights.items k 0) = Contains-get_or t.flights.items k 0 l in
-    let n = map_from (λ row. row.number) (filter (λ row. is_in_flight row.part.state) rows) (get_or t.flights.items k 0) (subst (λ ns. Contains ns (get_or t.flights.items k 0)) i.flights m) in
+    let n = map_from (λ row. row.number) (filter (λ row. is_in_flight row.part.state) rows) (get_or t.flights.items k 0) (subst (λ ns. Contains ns (get_or t.flights.items k 0)) i.indexes.flights m) in
     let r = filter_from (λ row. is_in_flight row.part.state) rows n.0 n.1 in
     (slot_of t rows n.0 i r.0 n.2).0
 
 -- ---- a table without extents
 
-empty_rows : (t : Table) → t.order.spans ≡ [] → rows_of t ≡ []
+empty_rows : (t : Table) → t.order.numbers ≡ [] → rows_of t ≡ []
 unfolding rows_of
 empty_rows t e = ap (map (row_at t.slots.items)) e
 
+-- a list without extents
+no_list : (rest : Rest) (list : AgeList) (slots : ℕ) → list ≡ record { ages = record { numbers = []; places = 0 }; pages = 0 } → slots ≡ 0 → IsListOf rest list slots []
+no_list rest list slots e none = record { numbers = ap (λ l. l.ages.numbers) e; pages = ap (λ l. l.pages) e; places = omega arith }
+
+-- a set without keys
+no_keys : (key_of : Row → Option Key) (keys : List Key) → keys ≡ [] → IsKeyed key_of [] keys
+no_keys key_of keys e = record {
+  has = λ r k m is. absurd (omega arith);
+  from = λ k m. absurd (let n : Contains {X = Key} [] k = subst (λ ks. Contains ks k) e m in omega arith);
+}
+
 -- a table whose indexes have nothing
-pub empty_table : (t : Table) → t.order.spans ≡ [] → t.dirty.spans ≡ [] → t.muzzy.spans ≡ [] → t.retained.spans ≡ [] → t.flights.items ≡ [] → t.firsts.keys ≡ [] → t.edges.numbers ≡ map_of.empty → vec_len t.slots ≡ 0 → t.free.items ≡ [] → vec_len t.free ≡ 0 → Keeps t []
-empty_table t order dirty muzzy retained flights firsts numbers slots free free_len = keeps t [] (empty_rows t order) (record {
-  apart = record { placed = All-nil (λ p. IsPlaced p.span); owners = λ page. omega arith };
-  order = order;
-  dirty = dirty;
-  muzzy = muzzy;
-  retained = retained;
-  flights = flights;
-  firsts = record {
-    has = λ r m. absurd (omega arith);
-    from = λ k m. absurd (let n : Contains {X = Key} [] k = subst (λ ks. Contains ks k) firsts m in omega arith);
+pub empty_table : (t : Table) → t.order.numbers ≡ [] → (dirty : t.dirty ≡ record { ages = record { numbers = []; places = 0 }; pages = 0 }) → (muzzy : t.muzzy ≡ record { ages = record { numbers = []; places = 0 }; pages = 0 }) → (retained : t.retained ≡ record { ages = record { numbers = []; places = 0 }; pages = 0 }) →
+    t.flights.items ≡ [] → t.firsts.keys ≡ [] → t.sizes.keys ≡ [] → t.edges.numbers ≡ map_of.empty → vec_len t.slots ≡ 0 → t.free.items ≡ [] → vec_len t.free ≡ 0 → Keeps t []
+empty_table t order dirty muzzy retained flights firsts sizes numbers slots free free_len = keeps t [] (empty_rows t order) (record {
+  indexes = record {
+    apart = record { placed = All-nil (λ p. IsPlaced p.span); owners = λ page. omega arith };
+    order = order;
+    places = omega arith;
+    dirty = no_list ToDirty t.dirty (vec_len t.slots) dirty slots;
+    muzzy = no_list ToMuzzy t.muzzy (vec_len t.slots) muzzy slots;
+    retained = no_list ToRetained t.retained (vec_len t.slots) retained slots;
+    flights = flights;
+    firsts = no_keys first_key t.firsts.keys firsts;
+    sizes = no_keys size_key t.sizes.keys sizes;
+    edges = λ page. ap (λ m. map_of.get m page) numbers ∙ map_of.get-empty nat_cmp page;
+    leaves = All-nil (IsLeafed t.edges.chunks);
+    slots = All-nil (λ (r : Row). part_at t.slots.items r.number ≡ r.part);
   };
-  edges = λ page. ap (λ m. map_of.get m page) numbers ∙ map_of.get-empty nat_cmp page;
-  leaves = All-nil (IsLeafed t.edges.chunks);
-  slots = All-nil (λ (r : Row). part_at t.slots.items r.number ≡ r.part);
-  free = λ number. rw (free, slots) (grind (arith, nat_tests));
-  places = omega arith;
-  small = omega arith;
-  room = omega arith;
+  slots = record {
+    free = λ number. rw (free, slots) (grind (arith, nat_tests));
+    places = omega arith;
+    small = omega arith;
+    room = omega arith;
+  };
 })

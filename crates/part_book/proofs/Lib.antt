@@ -1,8 +1,11 @@
 pub mod Additions
 pub mod Changed
 pub mod Chunks
+pub mod Exchanges
+pub mod Walks
 pub mod Fitting
 pub mod Indexes
+pub mod Keyed
 pub mod Lists
 pub mod Parts
 pub mod Removals

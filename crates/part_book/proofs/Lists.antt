@@ -9,7 +9,7 @@ use Rattle.std.proofs.lemmas.List.Filters.{length-filter_both, sum_by-filter_bot
 use Rattle.std.proofs.lemmas.List.Sums.{fails_before_first, get_or-le-sum_by, length-filter, sum_by-cons, sum_by-le}
 use Rattle.std.proofs.lemmas.Option.{slice_get-get_or}
 use Rattle.ordered_set.proofs.Members.{contains_cases, contains_later, every_from, filter_has}
-use Rattle.ordered_set.proofs.Sorted.{filter_agrees, filter_all}
+use Rattle.ordered_set.proofs.Sorted.{filter_agrees, filter_all, filter_none}
 
 -- one for a test that passes
 abbrev pub bit : Bool → ℕ
@@ -27,6 +27,10 @@ module _ {X : Type 0} where
   -- a filter keeps all where each passes
   pub filter_all_of : (p : X → Bool) (xs : List X) → ((x : X) → Contains xs x → p x ≡ true) → filter p xs ≡ xs
   filter_all_of p xs all = filter_all p xs (every_from (λ x. p x ≡ true) xs all)
+
+  -- and nothing where none passes
+  pub filter_none_of : (p : X → Bool) (xs : List X) → ((x : X) → Contains xs x → p x ≡ false) → filter p xs ≡ []
+  filter_none_of p xs none = filter_none p xs (every_from (λ x. p x ≡ false) xs none)
 
   -- two tests that agree at each element keep the same
   pub filter_same : (p q : X → Bool) (xs : List X) → ((x : X) → Contains xs x → p x ≡ q x) → filter p xs ≡ filter q xs
@@ -93,7 +97,7 @@ module _ {X : Type 0} where
   count_kept p q xs = omega (arith, sum_by-filter_both p (λ x. not (p x)) (λ x. refl) (λ x. bit (q x)) xs)
 
   -- a list of one element
-  only : (ys : List X) (x : X) → length ys ≤ 1 → Contains ys x → ys ≡ x ∷ []
+  pub only : (ys : List X) (x : X) → length ys ≤ 1 → Contains ys x → ys ≡ x ∷ []
   only [] x len (k, l, e) = absurd (omega arith)
   only (y ∷ []) x len (zero, l, e) = ap (λ z. z ∷ []) e
   only (y ∷ []) x len (suc k, l, e) = absurd (omega arith)

@@ -7,7 +7,7 @@ use Rattle.std.proofs.lemmas.List.Elements.{All-contains, All-weaker}
 use Rattle.std.proofs.lemmas.List.Folds.{list_any-from_Any, list_any_none}
 use Rattle.space_model.specs.declared.parts.Part.{Part}
 use Rattle.space_model.specs.declared.parts.Span.{Span}
-use Rattle.space_model.specs.Span.{IsPlaced, end_of, has_page, meets}
+use Rattle.space_model.specs.Span.{IsPlaced, end_of, has_page, meets, pages_end}
 use Rattle.space_model.specs.Part.{begins_at}
 use Rattle.part_book.specs.Books.{ends_at}
 use Rattle.part_book.specs.Rows.{IsApart, IsLastBelow, is_edge}
@@ -102,5 +102,5 @@ pub met_by_none : (parts : List Part) (s : Span) → All (λ p. end_of s ≤ p.s
 met_by_none parts s above = list_any_none (λ q. meets q.span s) parts (All-weaker (λ p. end_of s ≤ p.span.first) (λ q. meets q.span s ≡ false) (λ q l. grind (arith, nat_tests)) parts above)
 
 -- none begins above all pages
-pub none_begins : (parts : List Part) (page : ℕ) → IsApart parts → 33554432 ≤ page → find (begins_at page) parts ≡ None
+pub none_begins : (parts : List Part) (page : ℕ) → IsApart parts → pages_end ≤ page → find (begins_at page) parts ≡ None
 none_begins parts page apart far = find_none (begins_at page) parts (λ p m. let inside = placed parts p apart m in grind (arith, nat_tests))

@@ -1,85 +1,101 @@
 -- A table that was given room keeps its extents.
 use Rattle.std.proofs.Common.{◌≡◌, ℕ, ◌+◌, ◌<◌, ◌≤◌, eqb, ltb, map, count_by, vec_len, vec_capacity, sym, ap, ◌∙◌, subst, arith, refl, All, Contains}
 use Rattle.std.specs.FinMap as map_of
-use Rattle.fit_lists.specs.Spans.{Listed}
 use Rattle.space_model.specs.declared.parts.Part.{Part}
 use Rattle.part_book.specs.declared.table.Table.{Table}
-use Rattle.part_book.specs.Rows.{IsFirsts, Row, part_at, row_at}
+use Rattle.part_book.specs.Lists.{Grows}
+use Rattle.part_book.specs.Rows.{IsKeyed, Row, first_key, part_at, row_at, size_key}
 use Rattle.part_book.specs.Tables.{HasRoom, IsTable, Keeps, parts_of, rows_of}
 use Rattle.part_book.proofs.Indexes.{IsLeafed, in_slot, in_slots, keeps}
 use Rattle.part_book.proofs.Lists.{all_from, bit, map_has, map_same}
 
--- each index of the second table has the same, and new slots are free
+-- each index of the second table has the same
 pub record IsSame (t u : Table) : Type 0 where
-  pub order : u.order.spans ≡ t.order.spans
-  pub dirty : u.dirty.spans ≡ t.dirty.spans
-  pub muzzy : u.muzzy.spans ≡ t.muzzy.spans
-  pub retained : u.retained.spans ≡ t.retained.spans
-  pub flights : u.flights.items ≡ t.flights.items
+  pub order : Grows t.order u.order
+  pub dirty : Grows t.dirty.ages u.dirty.ages
+  pub muzzy : Grows t.muzzy.ages u.muzzy.ages
+  pub retained : Grows t.retained.ages u.retained.ages
+  pub dirty_pages : u.dirty.pages ≡ t.dirty.pages
+  pub muzzy_pages : u.muzzy.pages ≡ t.muzzy.pages
+  pub retained_pages : u.retained.pages ≡ t.retained.pages
+  pub sizes : u.sizes.keys ≡ t.sizes.keys
   pub firsts : u.firsts.keys ≡ t.firsts.keys
   pub numbers : u.edges.numbers ≡ t.edges.numbers
   pub chunks : u.edges.chunks ≡ t.edges.chunks
+
+-- the second table has the slots of the first, and new ones that are free
+pub record IsLonger (t u : Table) : Type 0 where
+  pub flights : u.flights.items ≡ t.flights.items
   pub kept : (number : ℕ) → number < vec_len t.slots → part_at u.slots.items number ≡ part_at t.slots.items number
   pub free : (number : ℕ) → count_by (λ n. eqb n number) u.free.items + bit (ltb number (vec_len t.slots)) ≡ count_by (λ n. eqb n number) t.free.items + bit (ltb number (vec_len u.slots))
   pub places : vec_len u.free + vec_len t.slots ≡ vec_len t.free + vec_len u.slots
-  pub small : vec_len u.slots ≤ 4294967296
+  pub small : vec_len u.slots < 4294967296
   pub room : vec_len u.slots ≤ vec_capacity u.free
+  pub order : vec_len u.slots ≤ u.order.places
+  pub dirty : vec_len u.slots ≤ u.dirty.ages.places
+  pub muzzy : vec_len u.slots ≤ u.muzzy.ages.places
+  pub retained : vec_len u.slots ≤ u.retained.ages.places
 
 -- the extents are the same
-same_rows : (t u : Table) → IsTable t (rows_of t) → IsSame t u → rows_of u ≡ rows_of t
+same_rows : (t u : Table) → IsTable t (rows_of t) → IsSame t u → IsLonger t u → rows_of u ≡ rows_of t
 unfolding rows_of
-same_rows t u i a =
+same_rows t u i a b =
     let put : ℕ → Part → Row = λ n p. record { number = n; part = p } in
-    let within = λ (s : Listed) (m : Contains t.order.spans s). in_slots t (rows_of t) (row_at t.slots.items s) i (map_has (row_at t.slots.items) t.order.spans s m) in
-    ap (map (row_at u.slots.items)) a.order
-    ∙ map_same (row_at u.slots.items) (row_at t.slots.items) t.order.spans (λ s m. ap (put s.number) (a.kept s.number (within s m)))
+    let within = λ (n : ℕ) (m : Contains t.order.numbers n). in_slots t (rows_of t) (row_at t.slots.items n) i.slots (map_has (row_at t.slots.items) t.order.numbers n m) in
+    ap (map (row_at u.slots.items)) a.order.numbers
+    ∙ map_same (row_at u.slots.items) (row_at t.slots.items) t.order.numbers (λ n m. ap (put n) (b.kept n (within n m)))
 
 -- so the table keeps them
-pub same_table : (t u : Table) → IsTable t (rows_of t) → IsSame t u → Keeps u (parts_of t)
-same_table t u i a = keeps u (rows_of t) (same_rows t u i a) (record {
-  apart = i.apart;
-  order = a.order ∙ i.order;
-  dirty = a.dirty ∙ i.dirty;
-  muzzy = a.muzzy ∙ i.muzzy;
-  retained = a.retained ∙ i.retained;
-  flights = a.flights ∙ i.flights;
-  firsts = subst (IsFirsts (rows_of t)) (sym a.firsts) i.firsts;
-  edges = λ page. ap (λ m. map_of.get m page) a.numbers ∙ i.edges page;
-  leaves = subst (λ chunks. All (IsLeafed chunks) (rows_of t)) (sym a.chunks) i.leaves;
-  slots = all_from (λ r. part_at u.slots.items r.number ≡ r.part) (rows_of t) (λ r m. a.kept r.number (in_slots t (rows_of t) r i m) ∙ in_slot t (rows_of t) r i m);
-  free = λ number. omega (arith, i.free number, a.free number);
-  places = omega arith;
-  small = a.small;
-  room = a.room;
-})
+pub same_table : (t u : Table) → IsTable t (rows_of t) → IsSame t u → IsLonger t u → Keeps u (parts_of t)
+same_table t u i a b =
+    let x = i.indexes in
+    let rows = rows_of t in
+    let places = i.slots.places in
+    keeps u rows (same_rows t u i a b) (record {
+      indexes = record {
+        apart = x.apart;
+        order = a.order.numbers ∙ x.order;
+        places = b.order;
+        dirty = record { numbers = a.dirty.numbers ∙ x.dirty.numbers; pages = a.dirty_pages ∙ x.dirty.pages; places = b.dirty };
+        muzzy = record { numbers = a.muzzy.numbers ∙ x.muzzy.numbers; pages = a.muzzy_pages ∙ x.muzzy.pages; places = b.muzzy };
+        retained = record { numbers = a.retained.numbers ∙ x.retained.numbers; pages = a.retained_pages ∙ x.retained.pages; places = b.retained };
+        flights = b.flights ∙ x.flights;
+        firsts = subst (IsKeyed first_key rows) (sym a.firsts) x.firsts;
+        sizes = subst (IsKeyed size_key rows) (sym a.sizes) x.sizes;
+        edges = λ page. ap (λ m. map_of.get m page) a.numbers ∙ x.edges page;
+        leaves = subst (λ chunks. All (IsLeafed chunks) rows) (sym a.chunks) x.leaves;
+        slots = all_from (λ r. part_at u.slots.items r.number ≡ r.part) rows (λ r m. b.kept r.number (in_slots t rows r i.slots m) ∙ in_slot t rows r x m);
+      };
+      slots = record { free = λ number. omega (arith, i.slots.free number, b.free number); places = omega (arith, b.places); small = b.small; room = b.room };
+    })
 
 -- as long as the slots, the free numbers and the flights stay
-pub grown : (t u : Table) → IsTable t (rows_of t) → u.slots ≡ t.slots → u.free ≡ t.free → u.flights ≡ t.flights →
-    u.order.spans ≡ t.order.spans → u.dirty.spans ≡ t.dirty.spans → u.muzzy.spans ≡ t.muzzy.spans → u.retained.spans ≡ t.retained.spans → u.firsts.keys ≡ t.firsts.keys → u.edges ≡ t.edges → Keeps u (parts_of t)
-grown t u i slots free flights order dirty muzzy retained firsts edges = same_table t u i (record {
-  order = order;
-  dirty = dirty;
-  muzzy = muzzy;
-  retained = retained;
-  flights = ap (λ v. v.items) flights;
-  firsts = firsts;
-  numbers = ap (λ e. e.numbers) edges;
-  chunks = ap (λ e. e.chunks) edges;
-  kept = λ number l. ap (λ v. part_at v.items number) slots;
-  free = λ number. rw (slots, free) refl;
-  places = rw (slots, free) refl;
-  small = rw slots i.small;
-  room = rw (slots, free) i.room;
-})
+pub grown : (t u : Table) → IsTable t (rows_of t) → u.slots ≡ t.slots → u.free ≡ t.free → u.flights ≡ t.flights → IsSame t u → Keeps u (parts_of t)
+grown t u i slots free flights a =
+    let x = i.indexes in
+    let len = ap (λ v. vec_len v) slots in
+    let order = x.places in
+    let dirty = x.dirty.places in
+    let muzzy = x.muzzy.places in
+    let retained = x.retained.places in
+    let small = i.slots.small in
+    same_table t u i a (record {
+      flights = ap (λ v. v.items) flights;
+      kept = λ number l. ap (λ v. part_at v.items number) slots;
+      free = λ number. rw (slots, free) refl;
+      places = rw (slots, free) refl;
+      small = omega arith;
+      room = rw (slots, free) i.slots.room;
+      order = omega (arith, a.order.places);
+      dirty = omega (arith, a.dirty.places);
+      muzzy = omega (arith, a.muzzy.places);
+      retained = omega (arith, a.retained.places);
+    })
 
 -- room for some is room for fewer
 pub room_less : (t : Table) (m n : ℕ) → HasRoom t m → n ≤ m → HasRoom t n
 room_less t m n room le = record {
-  order = omega arith;
-  firsts = omega arith;
-  free = omega arith;
-  dirty = omega arith;
-  muzzy = omega arith;
-  retained = omega arith;
-  flights = omega arith;
+  firsts = omega (arith, room.firsts);
+  free = omega (arith, room.free);
+  lists = record { sizes = omega (arith, room.lists.sizes); flights = omega (arith, room.lists.flights) };
 }

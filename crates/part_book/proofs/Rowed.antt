@@ -1,22 +1,30 @@
 -- The extents of a table and their numbers: which are the same, and which share no page.
-use Rattle.std.proofs.Common.{◌≡◌, ℕ, ◌≤◌, true, false, not, eqb, List, [], ◌∷◌, ◌++◌, filter, count_by, inl, inr, refl, sym, ap, ◌∙◌, subst, arith, All, Contains}
+use Rattle.std.proofs.Common.{◌≡◌, ℕ, ◌*◌, ◌≤◌, Bool, true, false, not, eqb, List, [], ◌∷◌, ◌++◌, filter, length, count_by, inl, inr, refl, sym, ap, ◌∙◌, subst, arith, All, Contains}
 use Rattle.std.proofs.lemmas.Bool.{cases_Bool, cases_lt, eq-eqb, eqb-true, false_from_ne_true, not-true}
 use Rattle.std.proofs.lemmas.Bool.Decides.{nat_tests}
-use Rattle.std.proofs.lemmas.List.Elements.{All-contains, All-push}
-use Rattle.std.proofs.lemmas.List.Sums.{sum_by_push}
+use Rattle.std.proofs.lemmas.List.Elements.{All-contains, All-filter, All-push}
+use Rattle.std.proofs.lemmas.List.Sums.{count_by-le-length, length-filter, sum_by-le, sum_by_push}
 use Rattle.ordered_set.proofs.Members.{filter_from}
 use Rattle.space_model.specs.declared.parts.Part.{Part}
-use Rattle.space_model.specs.Span.{IsPlaced, has_page, meets}
-use Rattle.space_model.specs.Part.{begins_at}
+use Rattle.space_model.specs.Span.{IsPlaced, has_page, meets, pages_end}
+use Rattle.space_model.specs.declared.parts.Rest.{Rest}
+use Rattle.space_model.specs.Part.{begins_at, is_listed}
 use Rattle.part_book.specs.declared.table.Table.{Table}
-use Rattle.part_book.specs.Rows.{IsApart, Row}
-use Rattle.part_book.specs.Tables.{IsTable}
+use Rattle.part_book.specs.Rows.{IsApart, Row, pages_in}
+use Rattle.part_book.specs.Tables.{IsSlotted, IsTable}
 use Rattle.part_book.proofs.Indexes.{parts_in}
 use Rattle.part_book.proofs.Lists.{all_from, bit, count_kept, count_map, count_none, filter_map_is, filter_same, map_from, map_has, only_one}
 use Rattle.part_book.proofs.Parts.{begins_has, placed}
 
 pub row_placed : (rows : List Row) (r : Row) → IsApart (parts_in rows) → Contains rows r → IsPlaced r.part.span
 row_placed rows r apart m = placed (parts_in rows) r.part apart (map_has (λ row. row.part) rows r m)
+
+-- the extents of a rest have no more pages than so many extents can have
+pub pages_most : (rest : Rest) (rows : List Row) → IsApart (parts_in rows) → pages_in rest rows ≤ length rows * pages_end
+pages_most rest rows apart =
+    let test : Row → Bool = λ r. is_listed rest r.part.state in
+    let inside : All (λ r. r.part.span.pages ≤ pages_end) (filter test rows) = All-filter test (λ r. r.part.span.pages ≤ pages_end) rows (all_from (λ r. r.part.span.pages ≤ pages_end) rows (λ r m. let placed = row_placed rows r apart m in omega arith)) in
+    omega (arith, sum_by-le (λ (r : Row). r.part.span.pages) pages_end (filter test rows) inside, length-filter test rows, count_by-le-length test rows)
 
 -- a page is that of one extent
 pub one_row : (rows : List Row) → IsApart (parts_in rows) → (page : ℕ) (x y : Row) → Contains rows x → Contains rows y → has_page page x.part.span ≡ true → has_page page y.part.span ≡ true → y ≡ x
@@ -26,13 +34,13 @@ one_row rows apart page x y m n t u =
     only_one (λ row. has_page page row.part.span) rows x y (omega arith) m n t u
 
 -- a number is that of one extent
-pub numbers_most : (t : Table) (rows : List Row) (number : ℕ) → IsTable t rows → count_by (λ row. eqb row.number number) rows ≤ 1
+pub numbers_most : (t : Table) (rows : List Row) (number : ℕ) → IsSlotted t rows → count_by (λ row. eqb row.number number) rows ≤ 1
 numbers_most t rows number i =
     let all = i.free number in
     grind (arith, nat_tests)
 
 pub one_number : (t : Table) (rows : List Row) (x y : Row) → IsTable t rows → Contains rows x → Contains rows y → y.number ≡ x.number → y ≡ x
-one_number t rows x y i m n e = only_one (λ row. eqb row.number x.number) rows x y (numbers_most t rows x.number i) m n (eq-eqb x.number x.number refl) (eq-eqb y.number x.number e)
+one_number t rows x y i m n e = only_one (λ row. eqb row.number x.number) rows x y (numbers_most t rows x.number i.slots) m n (eq-eqb x.number x.number refl) (eq-eqb y.number x.number e)
 
 -- all extents but the one with a number
 abbrev pub others : ℕ → List Row → List Row
@@ -97,7 +105,7 @@ others_begin t rows r first i m b =
     same x n = elim (cases_Bool (eqb x.number r.number)) [
       | inl t' ↦ let e = one_number t rows r x i m n (eqb-true x.number r.number t') in t' ∙ sym (ap (λ (y : Row). begins_at first y.part) e ∙ b)
       | inr f ↦ f ∙ sym (false_from_ne_true (begins_at first x.part) (λ u.
-          let e = one_row rows i.apart first r x m n (begins_has r.part first (row_placed rows r i.apart m) b) (begins_has x.part first (row_placed rows x i.apart n) u) in
+          let e = one_row rows i.indexes.apart first r x m n (begins_has r.part first (row_placed rows r i.indexes.apart m) b) (begins_has x.part first (row_placed rows x i.indexes.apart n) u) in
           let g : eqb x.number r.number ≡ true = eq-eqb x.number r.number (ap (λ (y : Row). y.number) e) in cc))
     ]
 
@@ -107,7 +115,7 @@ others_apart t rows r i m = all_from (λ p. meets p.span r.part.span ≡ false) 
     let x = map_from (λ row. row.part) (others r.number rows) p n in
     let o = other_row r.number rows x.0 x.1 in
     ap (λ (q : Part). meets q.span r.part.span) (sym x.2) ∙ false_from_ne_true (meets x.0.part.span r.part.span) (λ t'.
-    let page = share_page x.0.part r.part (row_placed rows x.0 i.apart o.0) (row_placed rows r i.apart m) t' in
-    let e = one_row rows i.apart page.0 r x.0 m o.0 page.2 page.1 in
+    let page = share_page x.0.part r.part (row_placed rows x.0 i.indexes.apart o.0) (row_placed rows r i.indexes.apart m) t' in
+    let e = one_row rows i.indexes.apart page.0 r x.0 m o.0 page.2 page.1 in
     let g : eqb x.0.number r.number ≡ true = eq-eqb x.0.number r.number (ap (λ (y : Row). y.number) e) in
     cc))

@@ -1,17 +1,37 @@
--- What the list of a rest asks for before an extent is listed or taken off.
-use Rattle.std.specs.Prelude.{◌≡◌, ◌≢◌, ◌==◌, ◌<◌, ◌≤◌, List, count_by, All, Any, IsTrue}
+-- The list of a rest, when an extent is listed or taken off.
+use Rattle.std.specs.Prelude.{◌≡◌, ◌≢◌, ◌==◌, ◌+◌, ◌^◌, ◌<◌, ◌≤◌, [], ◌∷◌, ◌++◌, not, cond, filter, length, count_by, All, Contains, IsTrue}
 use Rattle.space_model.specs.declared.parts.Rest.{Rest}
 use Rattle.space_model.specs.Part.{is_listed}
-use Rattle.fit_lists.specs.Spans.{IsApart, Listed, Listing}
+use Rattle.age_ring.specs.Ages.{Ages}
+use Rattle.part_book.specs.declared.table.AgeList.{AgeList}
 use Rattle.part_book.specs.Rows.{Row}
 
--- the list has a place, and no span of it has the extent's number or a page of it
-pub record CanList (list : Listing) (row : Row) : Type 0 where
-  pub room : 0 < list.spare
-  pub new_number : All (λ span. span.number ≢ row.number) list.spans
-  pub apart : All (IsApart row.part.span.first row.part.span.pages) list.spans
+-- the list has a place for the extent's number, which it has not, and its pages can be counted
+pub record CanList (list : AgeList) (row : Row) : Type 0 where
+  pub place : row.number < list.ages.places
+  pub new_number : All (λ n. n ≢ row.number) list.ages.numbers
+  pub fits : list.pages + row.part.span.pages < 2 ^ 64
 
--- the extent is in the list if its state is that of the list, and no two spans have its number
-pub record CanUnlist (rest : Rest) (spans : List Listed) (row : Row) : Type 0 where
-  pub listed : IsTrue (is_listed rest row.part.state) → Any (λ span. span.number ≡ row.number) spans
-  pub once : count_by (λ span. span.number == row.number) spans ≤ 1
+-- the extent is in the list if its state is that of the list, and its number is there once
+pub record CanUnlist (rest : Rest) (list : AgeList) (row : Row) : Type 0 where
+  pub listed : IsTrue (is_listed rest row.part.state) → Contains list.ages.numbers row.number
+  pub pages : IsTrue (is_listed rest row.part.state) → row.part.span.pages ≤ list.pages
+  pub once : count_by (λ n. n == row.number) list.ages.numbers ≤ 1
+
+-- the list gets the extent if its state is that of the list
+pub record Gets (rest : Rest) (old new : AgeList) (row : Row) : Type 0 where
+  pub numbers : new.ages.numbers ≡ old.ages.numbers ++ cond (is_listed rest row.part.state) (row.number ∷ []) []
+  pub pages : new.pages ≡ old.pages + cond (is_listed rest row.part.state) row.part.span.pages 0
+  pub places : new.ages.places ≡ old.ages.places
+
+-- the list loses the extent if its state is that of the list
+pub record Loses (rest : Rest) (old new : AgeList) (row : Row) : Type 0 where
+  pub numbers : new.ages.numbers ≡ cond (is_listed rest row.part.state) (filter (λ n. not (n == row.number)) old.ages.numbers) old.ages.numbers
+  pub pages : new.pages + cond (is_listed rest row.part.state) row.part.span.pages 0 ≡ old.pages
+  pub places : new.ages.places ≡ old.ages.places
+  pub len : length old.ages.numbers ≤ length new.ages.numbers + cond (is_listed rest row.part.state) 1 0
+
+-- the ring has the same numbers and no fewer places
+pub record Grows (old new : Ages) : Type 0 where
+  pub numbers : new.numbers ≡ old.numbers
+  pub places : old.places ≤ new.places

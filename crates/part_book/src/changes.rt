@@ -1,27 +1,31 @@
-//! An extent is taken off all indexes, or put on all of them.
-ghost use Rattle.std.specs.Prelude.{◌≡◌, ◌==◌, ℕ, ◌+◌, ◌-◌, ◌/◌, ◌<◌, ◌≤◌, true, false, [], ◌∷◌, ◌++◌, not, cond, length, find, filter, All, IsSome, Some, vec_len, vec_capacity};
+//! An extent is taken off all indexes, put on all of them, or changed where it stands.
+ghost use Rattle.std.specs.Prelude.{◌≡◌, ◌≢◌, ◌==◌, ℕ, ◌+◌, ◌-◌, ◌/◌, ◌<◌, ◌≤◌, true, false, [], ◌∷◌, ◌++◌, not, cond, length, find, filter, All, Contains, IsSome, IfSome, Some, is_some, vec_len, vec_capacity};
 ghost use Rattle.std.specs.FinMap as map_of;
 ghost use Rattle.std.specs.FinSet as set;
 ghost use Rattle.space_model.specs.Span.{IsPlaced, end_of, meets};
-ghost use Rattle.space_model.specs.Part.{begins_at, is_listed};
+ghost use Rattle.space_model.specs.Part.{begins_at, exchanged, is_listed};
 ghost use Rattle.space_model.specs.Sound.{is_in_flight};
-ghost use Rattle.part_book.specs.Leaves.{HasLeaves, leaves_for};
-ghost use Rattle.part_book.specs.Lists.{CanList, CanUnlist};
-ghost use Rattle.part_book.specs.Tables.{HasRoom, IsRowAt, IsTable, Keeps, parts_of, rows_of};
+ghost use Rattle.part_book.specs.Leaves.{HasLeaves, HasMore, leaves_for};
+ghost use Rattle.part_book.specs.Lists.{CanList, CanUnlist, Gets, Loses};
+ghost use Rattle.part_book.specs.Rows.{Own, keys_with, keys_without, with_edges, without_edges};
+ghost use Rattle.part_book.specs.Tables.{CanLower, HasListRoom, HasRoom, IsLifted, IsLowered, IsRowAt, IsTable, Keeps, parts_of, rows_of};
 
-use crate::rows::end_of;
-use crate::table::Table;
-use fit_lists::FitList;
-use ordered_set::Key;
+use crate::rows::{end_of, first_key, size_key};
+use crate::table::{AgeList, Table};
+use ordered_set::{Key, OrderedSet};
 use page_map::PageMap;
 use space_model::{Part, Rest, Span, State};
 
 impl Table {
-    // The number of the extent that begins at a page, and the extent.
-    fn extent_at(&self, first: u64) -> (u32, Part)
+    /// The number of the extent that begins at a page, and the extent.
+    pub fn extent_at(&self, first: u64) -> (u32, Part)
         requires table { IsTable self.now (rows_of self.now) }
         requires begins { IsSome (find (begins_at first) (parts_of self.now)) }
-        ensures { IsRowAt self.now first (record { number = result.0; part = result.1 }) }
+        ensures at { IsRowAt self.now first (record { number = result.0; part = result.1 }) }
+        ensures first { result.1.span.first ≡ first }
+        ensures placed { IsPlaced result.1.span }
+        ensures apart { All (λ p. meets p.span result.1.span ≡ false) (filter (λ p. not (begins_at first p)) (parts_of self.now)) }
+        ensures leaves { leaves_for self.now.edges result.1.span ≡ 0 }
     {
         let number = self.edges.get(first).unwrap();
         (number, self.part_at(number))
@@ -41,16 +45,9 @@ impl Table {
         ensures leaves { leaves_for self.new.edges result.span ≡ 0 }
     {
         let (number, part) = self.extent_at(first);
+        self.lift(number, &part);
         clear_edges(&mut self.edges, part.span);
-        self.firsts.remove(Key {
-            major: part.span.first,
-            minor: u64::from(number),
-        });
-        self.order.remove(number);
-        unlist(&mut self.dirty, Rest::Dirty, number, &part);
-        unlist(&mut self.muzzy, Rest::Muzzy, number, &part);
-        unlist(&mut self.retained, Rest::Retained, number, &part);
-        land(&mut self.flights, number, part.state);
+        self.firsts.remove(first_key(number, part.span));
         self.free.push(number).unwrap();
         part
     }
@@ -72,14 +69,58 @@ impl Table {
         let number = self.free.pop().unwrap();
         self.slots[number as usize] = part;
         set_edges(&mut self.edges, part.span, number);
-        self.firsts.insert(Key {
-            major: part.span.first,
-            minor: u64::from(number),
-        });
-        self.order.insert(number, part.span.first, part.span.pages);
-        list(&mut self.dirty, Rest::Dirty, number, &part);
-        list(&mut self.muzzy, Rest::Muzzy, number, &part);
-        list(&mut self.retained, Rest::Retained, number, &part);
+        self.firsts.insert(first_key(number, part.span));
+        self.lower(number, &part);
+    }
+
+    /// Makes another one of an extent, behind all others, which begins at the same page.
+    pub fn exchange(&mut self, number: u32, part: Part, other: Part)
+        requires table { IsTable self.old (rows_of self.old) }
+        requires there { Contains (rows_of self.old) (record { number = number; part = part }) }
+        requires first { other.span.first ≡ part.span.first }
+        requires placed { IsPlaced other.span }
+        requires room { HasListRoom self.old 0 }
+        requires apart { All (λ p. meets p.span other.span ≡ false) (filter (λ p. not (begins_at part.span.first p)) (parts_of self.old)) }
+        requires leaves { HasLeaves self.old.edges (leaves_for self.old.edges other.span) }
+        ensures kept { Keeps self.new (exchanged (begins_at part.span.first) (parts_of self.old) (other ∷ [])) }
+        ensures room { (n : ℕ) → HasRoom self.old n → HasRoom self.new n }
+        ensures leaves { (n : ℕ) → HasLeaves self.old.edges (n + leaves_for self.old.edges other.span)
+            → HasLeaves self.new.edges n }
+        ensures chunks { (chunk : ℕ) → set.contains self.old.edges.chunks chunk ≡ true
+            → set.contains self.new.edges.chunks chunk ≡ true }
+    {
+        self.lift(number, &part);
+        self.slots[number as usize] = other;
+        move_edges(&mut self.edges, part.span, other.span, number);
+        self.lower(number, &other);
+    }
+
+    // Takes an extent off the order and off what its state puts it on.
+    fn lift(&mut self, number: u32, part: &Part)
+        requires table { IsTable self.old (rows_of self.old) }
+        requires there { Contains (rows_of self.old) (record { number = number; part = part.now }) }
+        ensures lists { IsLifted self.old self.new (record { number = number; part = part.now }) }
+        ensures room { (n : ℕ) → HasListRoom self.old n → HasListRoom self.new (n + 1) }
+    {
+        self.order.remove(number);
+        unlist(&mut self.dirty, Rest::Dirty, number, part);
+        unlist(&mut self.muzzy, Rest::Muzzy, number, part);
+        unlist(&mut self.retained, Rest::Retained, number, part);
+        drop_key(&mut self.sizes, size_key(number, part));
+        land(&mut self.flights, number, part.state);
+    }
+
+    // Puts an extent last in the order, and on what its state puts it on.
+    fn lower(&mut self, number: u32, part: &Part)
+        requires { CanLower self.old (record { number = number; part = part.now }) }
+        ensures lists { IsLowered self.old self.new (record { number = number; part = part.now }) }
+        ensures room { (n : ℕ) → HasListRoom self.old (n + 1) → HasListRoom self.new n }
+    {
+        self.order.push(number);
+        list(&mut self.dirty, Rest::Dirty, number, part);
+        list(&mut self.muzzy, Rest::Muzzy, number, part);
+        list(&mut self.retained, Rest::Retained, number, part);
+        put_key(&mut self.sizes, size_key(number, part));
         launch(&mut self.flights, number, part.state);
     }
 }
@@ -88,10 +129,8 @@ impl Table {
 fn set_edges(edges: &mut PageMap, span: Span, number: u32)
     requires placed { IsPlaced span }
     requires leaves { HasLeaves edges.old (leaves_for edges.old span) }
-    ensures numbers { edges.new.numbers
-        ≡ map_of.insert (map_of.insert edges.old.numbers span.first number) (end_of span - 1) number }
-    ensures chunks { edges.new.chunks
-        ≡ set.insert (set.insert edges.old.chunks (span.first / 512)) ((end_of span - 1) / 512) }
+    ensures numbers { edges.new.numbers ≡ with_edges edges.old.numbers span number }
+    ensures chunks { HasMore edges.old.chunks edges.new.chunks span }
     ensures leaves { (n : ℕ) → HasLeaves edges.old (n + leaves_for edges.old span) → HasLeaves edges.new n }
 {
     edges.set(span.first, number);
@@ -101,36 +140,72 @@ fn set_edges(edges: &mut PageMap, span: Span, number: u32)
 // Takes the numbers of the first and the last page of a span away.
 fn clear_edges(edges: &mut PageMap, span: Span)
     requires placed { IsPlaced span }
-    ensures { edges.new ≡ record edges.old {
-      numbers = map_of.remove (map_of.remove edges.old.numbers span.first) (end_of span - 1);
-    } }
+    ensures { edges.new ≡ record edges.old { numbers = without_edges edges.old.numbers span } }
 {
     edges.clear(span.first);
     edges.clear(end_of(span) - 1);
 }
 
+// Takes the number of a span to another one that begins at the same page.
+fn move_edges(edges: &mut PageMap, from: Span, to: Span, number: u32)
+    requires from { IsPlaced from }
+    requires to { IsPlaced to }
+    requires first { to.first ≡ from.first }
+    requires own { Own edges.old from number }
+    requires leaves { HasLeaves edges.old (leaves_for edges.old to) }
+    ensures numbers { (page : ℕ) → map_of.get edges.new.numbers page
+        ≡ map_of.get (with_edges (without_edges edges.old.numbers from) to number) page }
+    ensures chunks { HasMore edges.old.chunks edges.new.chunks to }
+    ensures leaves { (n : ℕ) → HasLeaves edges.old (n + leaves_for edges.old to) → HasLeaves edges.new n }
+{
+    if to.pages != from.pages {
+        clear_edges(edges, from);
+        set_edges(edges, to, number);
+    }
+}
+
 // Lists an extent, if its state is that of the list.
-fn list(spans: &mut FitList, rest: Rest, number: u32, part: &Part)
-    requires placed { IsPlaced part.now.span }
-    requires list { CanList spans.old (record { number = number; part = part.now }) }
-    ensures spans { spans.new.spans ≡ spans.old.spans ++ cond (is_listed rest part.now.state)
-        (record { number = number; first = part.now.span.first; pages = part.now.span.pages } ∷ []) [] }
-    ensures places { length spans.new.spans + spans.new.spare ≡ length spans.old.spans + spans.old.spare }
+fn list(list: &mut AgeList, rest: Rest, number: u32, part: &Part)
+    requires { CanList list.old (record { number = number; part = part.now }) }
+    ensures { Gets rest list.old list.new (record { number = number; part = part.now }) }
 {
     if part.state.is_listed(rest) {
-        spans.insert(number, part.span.first, part.span.pages);
+        list.ages.push(number);
+        list.pages += part.span.pages;
     }
 }
 
 // Takes an extent off the list, if its state is that of the list.
-fn unlist(spans: &mut FitList, rest: Rest, number: u32, part: &Part)
-    requires { CanUnlist rest spans.old.spans (record { number = number; part = part.now }) }
-    ensures spans { spans.new.spans ≡ cond (is_listed rest part.now.state)
-        (filter (λ span. not (span.number == number)) spans.old.spans) spans.old.spans }
-    ensures places { length spans.old.spans + spans.old.spare ≤ length spans.new.spans + spans.new.spare }
+fn unlist(list: &mut AgeList, rest: Rest, number: u32, part: &Part)
+    requires { CanUnlist rest list.old (record { number = number; part = part.now }) }
+    ensures { Loses rest list.old list.new (record { number = number; part = part.now }) }
 {
     if part.state.is_listed(rest) {
-        spans.remove(number);
+        list.ages.remove(number);
+        list.pages -= part.span.pages;
+    }
+}
+
+// Puts a key in, if there is one.
+fn put_key(keys: &mut OrderedSet, key: Option<Key>)
+    requires room { IsSome key → 0 < keys.old.spare }
+    requires absent { IfSome key (λ k. ¬ Contains keys.old.keys k) }
+    ensures keys { keys.new.keys ≡ keys_with keys.old.keys key }
+    ensures spare { keys.new.spare + cond (is_some key) 1 0 ≡ keys.old.spare }
+{
+    if let Some(key) = key {
+        keys.insert(key);
+    }
+}
+
+// Takes a key out, if there is one.
+fn drop_key(keys: &mut OrderedSet, key: Option<Key>)
+    requires { IfSome key (λ k. Contains keys.old.keys k) }
+    ensures keys { keys.new.keys ≡ keys_without keys.old.keys key }
+    ensures spare { keys.new.spare ≡ keys.old.spare + cond (is_some key) 1 0 }
+{
+    if let Some(key) = key {
+        keys.remove(key);
     }
 }
 

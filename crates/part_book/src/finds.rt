@@ -5,12 +5,11 @@ ghost use Rattle.space_model.specs.Span.{has_page, meets};
 ghost use Rattle.space_model.specs.Part.{begins_at, is_flight, is_listed};
 ghost use Rattle.space_model.specs.Fit.{fit_of};
 ghost use Rattle.part_book.specs.Books.{ends_at, pages_of};
-ghost use Rattle.part_book.specs.Rows.{IsLastBelow, is_edge, part_at, spans_in};
-ghost use Rattle.part_book.specs.Tables.{IsTable, parts_of, rows_of};
+ghost use Rattle.part_book.specs.Rows.{IsLastBelow, is_edge, part_at};
+ghost use Rattle.part_book.specs.Tables.{IsListOf, IsTable, parts_of, rows_of};
 
-use crate::rows::end_of;
-use crate::table::Table;
-use fit_lists::FitList;
+use crate::rows::{RADIX, end_of, holds_run, rank};
+use crate::table::{AgeList, Table};
 use ordered_set::Key;
 use space_model::{Part, Rest, Span};
 
@@ -96,9 +95,9 @@ impl Table {
     }
 
     // The list of a rest.
-    fn list_of(&self, rest: Rest) -> &FitList
+    fn list_of(&self, rest: Rest) -> &AgeList
         requires table { IsTable self.now (rows_of self.now) }
-        ensures { result.now.spans ≡ spans_in rest (rows_of self.now) }
+        ensures { IsListOf rest result.now (vec_len self.now.slots) (rows_of self.now) }
     {
         match rest {
             Rest::Dirty => &self.dirty,
@@ -114,8 +113,22 @@ impl Table {
         requires aligned { 0 < align }
         ensures { result ≡ fit_of rest pages align (parts_of self.now) }
     {
-        let number = self.list_of(rest).first_fit(pages, align)?;
-        Some(self.part_at(number))
+        if self.list_of(rest).pages < pages {
+            return None;
+        }
+        let rank = rank(rest);
+        let start = Key {
+            major: rank * RADIX + pages,
+            minor: 0,
+        };
+        let mut size = self.sizes.at_or_after(start)?;
+        while size.major / RADIX == rank {
+            if holds_run(size, pages, align) {
+                return Some(self.part_at((size.minor % RADIX) as u32));
+            }
+            size = self.sizes.after(size)?;
+        }
+        None
     }
 
     /// The extent that is longest among those of a rest.
@@ -123,7 +136,7 @@ impl Table {
         requires table { IsTable self.now (rows_of self.now) }
         ensures { result ≡ find (λ p. is_listed rest p.state) (parts_of self.now) }
     {
-        let number = self.list_of(rest).oldest()?;
+        let number = self.list_of(rest).ages.first()?;
         Some(self.part_at(number))
     }
 
@@ -132,7 +145,7 @@ impl Table {
         requires table { IsTable self.now (rows_of self.now) }
         ensures { result ≡ pages_of rest (parts_of self.now) }
     {
-        self.list_of(rest).pages()
+        self.list_of(rest).pages
     }
 
     /// The span of the first extent that the client has in flight.

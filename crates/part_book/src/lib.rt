@@ -28,7 +28,7 @@ mod tests;
 /// An extent is known by its first page. Each look-up halves a few ordered sets or reads a page's
 /// entry in a table, and scans no list of extents; only `next_flight` goes through those in flight,
 /// which are few. [`PartBook::reserve`] makes room for a number of further extents, whatever their
-/// pages and states. An extent lies in pages 512 up to 2^25, and no page is in two.
+/// pages and states. An extent lies in the pages of the space, and no page is in two.
 #[derive(Drop)]
 pub struct PartBook {
     table: Table,
@@ -133,10 +133,13 @@ impl PartBook {
         requires aligned { 0 < align }
         ensures { result ≡ fit pages align self.now.parts }
     {
-        self.table
-            .fit_of(Rest::Dirty, pages, align)
-            .or(self.table.fit_of(Rest::Muzzy, pages, align))
-            .or(self.table.fit_of(Rest::Retained, pages, align))
+        if let Some(part) = self.table.fit_of(Rest::Dirty, pages, align) {
+            return Some(part);
+        }
+        if let Some(part) = self.table.fit_of(Rest::Muzzy, pages, align) {
+            return Some(part);
+        }
+        self.table.fit_of(Rest::Retained, pages, align)
     }
 
     /// The extent that is longest among those listed for a rest.
@@ -190,12 +193,13 @@ impl PartBook {
             ≡ exchanged (begins_at first) self.old.parts (record p { state = state; committed = committed } ∷ [])) }
         ensures spare { self.new.spare ≡ self.old.spare }
     {
-        let part = self.table.take_off(first);
-        self.table.put_on(Part {
+        let (number, part) = self.table.extent_at(first);
+        let changed = Part {
             state,
             committed,
             ..part
-        });
+        };
+        self.table.exchange(number, part, changed);
     }
 
     /// Makes two of the extent that begins at a page: its first `left` pages and the others. Both
@@ -209,8 +213,8 @@ impl PartBook {
             ≡ exchanged (begins_at first) self.old.parts (low_piece left p ∷ high_piece left p ∷ [])) }
         ensures spare { self.new.spare + 1 ≡ self.old.spare }
     {
-        let part = self.table.take_off(first);
-        self.table.put_on(part.low_piece(left));
+        let (number, part) = self.table.extent_at(first);
+        self.table.exchange(number, part, part.low_piece(left));
         self.table.put_on(part.high_piece(left));
         self.spare -= 1;
     }
@@ -228,13 +232,14 @@ impl PartBook {
             ≡ exchanged (λ r. begins_at low r || begins_at high r) self.old.parts (joined p q ∷ []))) }
         ensures spare { self.new.spare ≡ self.old.spare }
     {
-        let low = self.table.take_off(low);
         let high = self.table.take_off(high);
-        let pages = low.span.pages + high.span.pages;
+        let (number, low) = self.table.extent_at(low);
         let first = low.span.first;
-        self.table.put_on(Part {
+        let pages = low.span.pages + high.span.pages;
+        let both = Part {
             span: Span { first, pages },
             ..low
-        });
+        };
+        self.table.exchange(number, low, both);
     }
 }

@@ -1,19 +1,18 @@
 //! The indexes over the extents of an arena, and the room in them.
-ghost use Rattle.std.specs.Prelude.{◌≡◌, ℕ, ◌==◌, ◌+◌, ◌*◌, ◌<◌, ◌≤◌, [], cond, count_by, nat_lt, OnOk, IfOk, vec_capacity, vec_len, length};
+ghost use Rattle.std.specs.Prelude.{◌≡◌, ℕ, ◌==◌, ◌+◌, ◌-◌, ◌*◌, ◌<◌, ◌≤◌, ◌^◌, [], cond, count_by, nat_lt, max, OnOk, IfOk, vec_capacity, vec_len, length};
 ghost use Rattle.part_book.specs.Leaves.{HasLeaves};
+ghost use Rattle.part_book.specs.Lists.{Grows};
 ghost use Rattle.part_book.specs.Rows.{part_at};
 ghost use Rattle.part_book.specs.Tables.{HasRoom, IsTable, Keeps, parts_of, rows_of};
 
-use fit_lists::FitList;
+use age_ring::AgeRing;
 use ordered_set::OrderedSet;
-use page_map::{CHUNK_PAGES, PAGES, PageMap};
+use page_map::{CHUNKS, PageMap};
 use space_model::{Part, Span, State};
 use std::alloc::{AllocError as NoMemory, Global};
 
 // No more extents than this are given numbers: each has a page.
-const NUMBERS: u64 = 1 << 32;
-
-const CHUNKS: u64 = PAGES / CHUNK_PAGES;
+const NUMBERS: u64 = (1 << 32) - 1;
 
 const NO_PART: Part = Part {
     span: Span { first: 0, pages: 0 },
@@ -21,17 +20,25 @@ const NO_PART: Part = Part {
     committed: false,
 };
 
-/// Each extent has a number, the place of the slot that has it. The lists and sets have numbers:
-/// all of them in order, those of each rest, those in flight, those by first page, and the number of
-/// each page that is the first or the last one of an extent.
+/// The extents of a rest in order of age, and how many pages they have together.
+#[derive(Drop)]
+pub struct AgeList {
+    pub ages: AgeRing,
+    pub pages: u64,
+}
+
+/// Each extent has a number, the place of the slot that has it. The rings and sets have numbers: all
+/// of them in order, those of each rest in order of age, those in flight, those by first page, those
+/// of a rest by size, and the number of each page that is the first or the last one of an extent.
 #[derive(Drop)]
 pub struct Table {
-    pub order: FitList,
-    pub dirty: FitList,
-    pub muzzy: FitList,
-    pub retained: FitList,
+    pub order: AgeRing,
+    pub dirty: AgeList,
+    pub muzzy: AgeList,
+    pub retained: AgeList,
     pub flights: Vec<u32>,
     pub firsts: OrderedSet,
+    pub sizes: OrderedSet,
     pub edges: PageMap,
     pub slots: Vec<Part>,
     pub free: Vec<u32>,
@@ -44,12 +51,13 @@ impl Table {
         ensures leaves { IfOk result (λ t. HasLeaves t.edges 0) }
     {
         Ok(Table {
-            order: FitList::new(alloc),
-            dirty: FitList::new(alloc),
-            muzzy: FitList::new(alloc),
-            retained: FitList::new(alloc),
+            order: AgeRing::new(alloc),
+            dirty: no_list(alloc),
+            muzzy: no_list(alloc),
+            retained: no_list(alloc),
             flights: Vec::new(alloc),
             firsts: OrderedSet::new(alloc),
+            sizes: OrderedSet::new(alloc),
             edges: PageMap::new(alloc)?,
             slots: Vec::new(alloc),
             free: Vec::new(alloc),
@@ -69,8 +77,14 @@ impl Table {
         if all > NUMBERS {
             return Err(NoMemory);
         }
-        self.order.reserve(more)?;
-        reserve_lists(&mut self.dirty, &mut self.muzzy, &mut self.retained, all)?;
+        reserve_rings(
+            &mut self.order,
+            &mut self.dirty.ages,
+            &mut self.muzzy.ages,
+            &mut self.retained.ages,
+            all,
+        )?;
+        self.sizes.reserve(all)?;
         self.firsts.reserve(more)?;
         self.edges.reserve(CHUNKS.min(more.saturating_mul(2)))?;
         reserve_numbers(
@@ -82,26 +96,37 @@ impl Table {
     }
 }
 
-// Makes room in each list for so many spans in all.
-fn reserve_lists(
-    dirty: &mut FitList,
-    muzzy: &mut FitList,
-    retained: &mut FitList,
+fn no_list(alloc: Global) -> AgeList
+    ensures { result ≡ record { ages = record { numbers = []; places = 0 }; pages = 0 } }
+{
+    AgeList {
+        ages: AgeRing::new(alloc),
+        pages: 0,
+    }
+}
+
+// Makes so many places in each ring.
+fn reserve_rings(
+    order: &mut AgeRing,
+    dirty: &mut AgeRing,
+    muzzy: &mut AgeRing,
+    retained: &mut AgeRing,
     all: u64,
 ) -> Result<(), NoMemory>
-    ensures dirty { dirty.new.spans ≡ dirty.old.spans }
-    ensures muzzy { muzzy.new.spans ≡ muzzy.old.spans }
-    ensures retained { retained.new.spans ≡ retained.old.spans }
-    ensures dirty_places { dirty.old.spare ≤ dirty.new.spare }
-    ensures muzzy_places { muzzy.old.spare ≤ muzzy.new.spare }
-    ensures retained_places { retained.old.spare ≤ retained.new.spare }
-    ensures dirty_ok { OnOk result (all ≤ length dirty.new.spans + dirty.new.spare) }
-    ensures muzzy_ok { OnOk result (all ≤ length muzzy.new.spans + muzzy.new.spare) }
-    ensures retained_ok { OnOk result (all ≤ length retained.new.spans + retained.new.spare) }
+    requires { all ≤ NUMBERS }
+    ensures order { Grows order.old order.new }
+    ensures dirty { Grows dirty.old dirty.new }
+    ensures muzzy { Grows muzzy.old muzzy.new }
+    ensures retained { Grows retained.old retained.new }
+    ensures ok_order { OnOk result (all ≤ order.new.places) }
+    ensures ok_dirty { OnOk result (all ≤ dirty.new.places) }
+    ensures ok_muzzy { OnOk result (all ≤ muzzy.new.places) }
+    ensures ok_retained { OnOk result (all ≤ retained.new.places) }
 {
-    dirty.reserve(all.saturating_sub(dirty.len()))?;
-    muzzy.reserve(all.saturating_sub(muzzy.len()))?;
-    retained.reserve(all.saturating_sub(retained.len()))
+    order.reserve(all)?;
+    dirty.reserve(all)?;
+    muzzy.reserve(all)?;
+    retained.reserve(all)
 }
 
 // Makes the slots at least so many, and room for as many flights. The new slots are free.
@@ -121,6 +146,7 @@ fn reserve_numbers(
         ≡ count_by (λ n. n == number) free.old.items + cond (nat_lt number (vec_len slots.new)) 1 0 }
     ensures places { vec_len free.new + vec_len slots.old ≡ vec_len free.old + vec_len slots.new }
     ensures more { vec_len slots.old ≤ vec_len slots.new }
+    ensures most { vec_len slots.new ≤ max (vec_len slots.old) all }
     ensures small { vec_len slots.new ≤ NUMBERS }
     ensures room { vec_len slots.new ≤ vec_capacity free.new }
     ensures flights { flights.new.items ≡ flights.old.items }

@@ -15,11 +15,12 @@ use Rattle.space_model.specs.declared.Why.{Why}
 use Rattle.space_model.specs.Fit.{fit}
 use Rattle.space_model.specs.Part.{is_flight_at}
 use Rattle.space_model.specs.Step.{step_of, is_live, stays, look_at, cut_at, whole_at, after_cut, grow_unless, why_not, after_grow, commit_at, after_commit, land_at, neighbour, is_purged, put_at_rest, put_beside, put_at, join_at, apart_at, after_merge}
+use Rattle.arena_core.specs.Arenas.{is_carried}
 use Rattle.replay_run.specs.Hands.{IsOther}
 
--- a space but for its extents
+-- a space but for its extents and its growth
 abbrev rest : Space → Space
-rest s = record s { parts = [] }
+rest s = record s { parts = []; grow = 0 }
 
 look_rest : (s : Space) (c align : ℕ) (o : Option Part) → rest (look_at s c align o).after ≡ rest s
 look_rest s c align None = refl
@@ -108,10 +109,17 @@ land_frame : (s : Space) (c class count : ℕ) (o : Option Part) → SameFrame s
 land_frame s c class count None = record { life = refl; bound = refl; dirty = refl }
 land_frame s c class count (Some p) = record { life = refl; bound = refl; dirty = refl }
 
--- any operation keeps the life, the clients and the dirty time
-pub step_frame : (s : Space) (c : ℕ) (op : Op) → SameFrame s (step_of s c op).after
-step_frame s c (Land span class count) = land_frame s c class count (find (is_flight_at c span) s.parts)
-step_frame s c (Back addrs) = record { life = refl; bound = refl; dirty = refl }
-step_frame s c op =
-    let same = step_rest s c op tt in
-    record { life = ap (λ (t : Space). t.life) same; bound = ap (λ (t : Space). t.bound) same; dirty = ap (λ (t : Space). t.dirty) same }
+same_frame : (s t : Space) → rest t ≡ rest s → SameFrame s t
+same_frame s t same = record { life = ap (λ (u : Space). u.life) same; bound = ap (λ (u : Space). u.bound) same; dirty = ap (λ (u : Space). u.dirty) same }
+
+-- an operation of a call keeps the life, the clients and the dirty time
+pub step_frame : (s : Space) (c : ℕ) (op : Op) → is_carried op ≡ true → SameFrame s (step_of s c op).after
+step_frame s c (Land span class count) carried = land_frame s c class count (find (is_flight_at c span) s.parts)
+step_frame s c (Back addrs) carried = record { life = refl; bound = refl; dirty = refl }
+step_frame s c (Look pages align) carried = same_frame s _ (step_rest s c (Look pages align) tt)
+step_frame s c (CutDone heard keep_low) carried = same_frame s _ (step_rest s c (CutDone heard keep_low) tt)
+step_frame s c (GrowDone heard found) carried = same_frame s _ (step_rest s c (GrowDone heard found) tt)
+step_frame s c (CommitDone heard) carried = same_frame s _ (step_rest s c (CommitDone heard) tt)
+step_frame s c (PutLook span tries) carried = same_frame s _ (step_rest s c (PutLook span tries) tt)
+step_frame s c (MergeDone heard own_low) carried = same_frame s _ (step_rest s c (MergeDone heard own_low) tt)
+step_frame s c op carried = absurd (cc)

@@ -21,7 +21,8 @@ use Rattle.space_model.specs.Region.{address_of, covers, sharers, is_held_by}
 use Rattle.space_model.specs.Sound.{Sound}
 use Rattle.space_model.specs.Step.{land_at, is_given_back, staying, step_of, holds_at}
 use Rattle.space_model.proofs.Exchange.{find_passes}
-use Rattle.space_model.proofs.Landing.{ones, nothing_sum, eqb_itself}
+use Rattle.space_model.proofs.Settled.{ones, nothing_sum}
+use Rattle.space_model.proofs.Landing.{eqb_itself}
 use Rattle.thread_cache.specs.declared.Held.{Held}
 use Rattle.call_plan.specs.Helds.{stands_at, held_at, without}
 use Rattle.replay_run.specs.Hands.{holdings, listings, IsInHands}

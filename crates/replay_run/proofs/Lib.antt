@@ -1,3 +1,4 @@
+pub mod Carries
 pub mod Frames
 pub mod Starts
 pub mod Wants

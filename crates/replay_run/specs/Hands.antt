@@ -18,13 +18,12 @@ listings addr class list = count_by (λ h. h.addr == addr && h.class == class) l
 abbrev pub IsInHands : ℕ → List Region → List Held → Type 0
 IsInHands client regions list = (addr class : ℕ) → holdings client addr class regions ≡ listings addr class list
 
--- the operation neither lands regions nor gives any back
+-- the operation is one of those of a call that neither lands regions nor gives any back
 abbrev pub IsOther : Op → Type 0
 IsOther (Look pages align) = Unit {0}
 IsOther (CutDone heard keep_low) = Unit {0}
 IsOther (GrowDone heard found) = Unit {0}
 IsOther (CommitDone heard) = Unit {0}
-IsOther (Land span class count) = ⊥
-IsOther (Back addrs) = ⊥
 IsOther (PutLook span tries) = Unit {0}
 IsOther (MergeDone heard own_low) = Unit {0}
+IsOther op = ⊥

@@ -23,6 +23,24 @@ fn bad(first: u64, why: Why) -> Answered {
     Answered::BadAnswer { span, why }
 }
 
+/// The counts of an arena that holds nothing.
+fn no_counts() -> Counts {
+    Counts {
+        allocated: 0,
+        active: 0,
+        dirty: 0,
+        muzzy: 0,
+        retained: 0,
+        flight: 0,
+        mapped: 0,
+        small: 0,
+        large: 0,
+        regs: [0; 36],
+        slabs: [0; 36],
+        lextents: [0; 85],
+    }
+}
+
 #[test]
 fn prints_mallocs(rt: HostRuntime) -> Result<(), Fail> {
     let rows = [
@@ -115,15 +133,7 @@ fn prints_refusals(rt: HostRuntime) -> Result<(), Fail> {
 
 #[test]
 fn prints_counts_and_statuses(rt: HostRuntime) -> Result<(), Fail> {
-    let none = Counts {
-        allocated: 0,
-        active: 0,
-        dirty: 0,
-        muzzy: 0,
-        retained: 0,
-        flight: 0,
-        mapped: 0,
-    };
+    let none = no_counts();
     let line = counts_line(rt.alloc(), 4_294_967_295, &none)?;
     let want =
         "arena 4294967295 allocated 0 active 0 dirty 0 muzzy 0 retained 0 flight 0 mapped 0\n";
@@ -136,6 +146,7 @@ fn prints_counts_and_statuses(rt: HostRuntime) -> Result<(), Fail> {
         retained: 2_048_000,
         flight: 8192,
         mapped: 61440,
+        ..no_counts()
     };
     let line = counts_line(rt.alloc(), 0, &counts)?;
     let want =
@@ -146,7 +157,7 @@ fn prints_counts_and_statuses(rt: HostRuntime) -> Result<(), Fail> {
         active: 20480,
         retained: 2_076_672,
         mapped: 20480,
-        ..none
+        ..no_counts()
     };
     let line = counts_line(rt.alloc(), 0, &grown)?;
     let want =

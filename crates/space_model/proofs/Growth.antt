@@ -1,5 +1,5 @@
 -- An answered span against which nothing speaks shares no page with the extents.
-use Rattle.std.proofs.Common.{◌≡◌, ℕ, suc, zero, ◌+◌, ◌-◌, ◌/◌, ◌%◌, ◌<◌, ◌≤◌, Bool, true, false, not, cond, ◌==◌, List, [], ◌∷◌, length, get_or, Option, Some, None, refl, ◌∙◌, subst, arith, find, ◌||◌}
+use Rattle.std.proofs.Common.{◌≡◌, ℕ, ◌+◌, ◌-◌, ◌/◌, ◌%◌, ◌<◌, ◌≤◌, true, false, not, cond, ◌==◌, List, [], ◌∷◌, get_or, Option, Some, None, refl, ◌∙◌, subst, arith, find, ◌||◌}
 use Rattle.std.specs.List.{list_any}
 use Rattle.std.specs.Option.{option_map}
 use Rattle.std.proofs.lemmas.List.Sums.{sum_by-cons}
@@ -11,22 +11,15 @@ use Rattle.space_model.specs.declared.parts.Span.{Span}
 use Rattle.space_model.specs.Span.{has_page, meets, chunk_span, chunks_of, end_of}
 use Rattle.space_model.specs.Part.{holders}
 use Rattle.space_model.specs.Step.{is_owned, is_found, is_in_space, why_not}
+use Rattle.space_model.proofs.Lists.{find_nothing}
 use Rattle.space_model.proofs.Exchange.{share}
-
--- where nothing is found, nothing passes
-find_nothing : {X : Type 0} (test : X → Bool) (xs : List X) → find test xs ≡ None → (k : ℕ) (d : X) → k < length xs → test (get_or xs k d) ≡ false
-find_nothing test [] e k d h = absurd (omega arith)
-find_nothing test (x ∷ xs) e zero d h = elim (test x) as (λ b. cond b (Some x) (find test xs) ≡ None → b ≡ false) [ true ↦ λ i. absurd (cc) | false ↦ λ i. refl ] e
-find_nothing test (x ∷ xs) e (suc k) d h =
-    elim (test x) as (λ b. cond b (Some x) (find test xs) ≡ None → test (get_or xs k d) ≡ false)
-    [ true ↦ λ i. absurd (cc) | false ↦ λ i. find_nothing test xs i k d (omega arith) ] e
 
 -- an extent that doesn't meet a span has no page of it
 apart-share : (page : ℕ) (s : Span) (p : Part) → meets p.span s ≡ false → has_page page s ≡ true → share page p ≡ 0
 apart-share page s p apart has = grind (arith, nat_tests)
 
 -- where no extent meets a span, none has a page of it
-nobody_holds : (page : ℕ) (s : Span) (ps : List Part) → list_any (λ p. meets p.span s) ps ≡ false → has_page page s ≡ true → holders page ps ≡ 0
+pub nobody_holds : (page : ℕ) (s : Span) (ps : List Part) → list_any (λ p. meets p.span s) ps ≡ false → has_page page s ≡ true → holders page ps ≡ 0
 nobody_holds page s [] apart has = refl
 nobody_holds page s (p ∷ ps) apart has =
     elim (meets p.span s) as (λ b. meets p.span s ≡ b → (b || list_any (λ q. meets q.span s) ps) ≡ false → holders page (p ∷ ps) ≡ 0) [

@@ -1,29 +1,29 @@
 -- The laws of arenas and journals.
-use Rattle.std.proofs.Common.{◌≡◌, ◌≢◌, ◌&&◌, ℕ, suc, rules, inl, inr, ◌+◌, ◌/◌, ◌<◌, ◌≤◌, Bool, true, false, cond, IsTrue, List, [], ◌∷◌, ◌++◌, length, get_or, take, refl, sym, ◌∙◌, ap, subst, arith, All, Any, append-nil, append_assoc}
+use Rattle.std.proofs.Common.{◌≡◌, ◌≢◌, ◌&&◌, ℕ, suc, rules, inl, inr, ◌+◌, ◌/◌, ◌<◌, ◌≤◌, Bool, true, false, cond, IsTrue, List, [], ◌∷◌, ◌++◌, length, get_or, take, refl, sym, ◌∙◌, ap, subst, arith, Any, append-nil, append_assoc}
 use Rattle.std.specs.List.{count_by}
 use Rattle.std.proofs.lemmas.Bool.{cases_lt}
 use Rattle.std.proofs.lemmas.List.{get_or-take, length-take}
 use Rattle.std.proofs.lemmas.List.Sums.{sum_by-cons, sum_by_more_le, get_or-le-sum_by, sum_by-le-sum_by}
-use Rattle.std.proofs.lemmas.List.Elements.{All-weaker, All-head, All-tail, All-cons}
+use Rattle.std.proofs.lemmas.List.Elements.{All-weaker, All-head, All-tail}
 use Rattle.std.proofs.lemmas.Bool.Decides.{nat_tests}
 use Rattle.space_model.specs.declared.entries.Entry.{Entry}
 use Rattle.space_model.specs.declared.entries.Reply.{Reply}
+use Rattle.size_classes.specs.Classes.{size_at}
+use Rattle.size_classes.proofs.Table.{size_bounds}
 use Rattle.space_model.specs.declared.parts.Part.{Part}
-use Rattle.space_model.specs.declared.parts.State.TheVariants.{Retained}
-use Rattle.space_model.specs.Span.{IsPlaced, has_page, pages_end}
+use Rattle.space_model.specs.declared.parts.Region.{Region}
+use Rattle.space_model.specs.Span.{has_page}
 use Rattle.space_model.specs.Part.{holders, is_active}
 use Rattle.space_model.specs.Region.{covers, lies_in, houses, homes}
 use Rattle.space_model.specs.Step.{space_after, reply_to, stands}
 use Rattle.space_model.specs.Journal.{Good, replay, all_stand, turns_of, granted}
 use Rattle.space_model.specs.Opening.{first_space, absent_space}
-use Rattle.space_model.specs.Laws.{FirstReplaysAreGood, AbsentReplaysAreGood, ReplaysKeepGood, ReplaysKeepOthers, PartsAreApart, RegionsAreApart, RegionsHaveHomes, RegionsAreGranted, BytesFitSpace}
+use Rattle.space_model.specs.Laws.{FirstReplaysAreGood, AbsentReplaysAreGood, ReplaysKeepGood, ReplaysKeepOthers, PartsAreApart, RegionsAreApart, RegionsRise, RegionsHaveHomes, RegionsAreGranted}
 use Rattle.space_model.proofs.Exchange.{share}
-use Rattle.space_model.proofs.Idle.{serves}
+use Rattle.space_model.proofs.Settled.{serves}
 use Rattle.space_model.proofs.Pieces.{both_true}
-use Rattle.space_model.proofs.Landing.{serves-le-share}
+use Rattle.space_model.proofs.Settled.{serves-le-share}
 use Rattle.space_model.proofs.Steps.{entry_keeps, Good-step}
-use Rattle.space_model.proofs.Sums.{bytes_pages}
-use Rattle.space_model.proofs.Intervals.{lengths-le}
 
 -- ---- journals
 
@@ -79,6 +79,22 @@ parts_are_apart s sound = λ i j d lower within page. one_passes (λ (p : Part).
 pub regions_are_apart : RegionsAreApart
 regions_are_apart s sound = λ i j d lower within byte. one_passes (covers byte) s.regions (sound.apart byte) i j d lower within
 
+-- two regions at one address would share its byte
+rise_of : (q r : Region) → (8 ≤ size_at q.class) → (8 ≤ size_at r.class) → ((byte : ℕ) → ¬ (IsTrue (covers byte q) × IsTrue (covers byte r))) →
+    q.addr ≤ r.addr → q.addr < r.addr
+rise_of q r more many apart low =
+    elim (cases_lt q.addr r.addr) [
+      | inl below ↦ below
+      | inr above ↦ absurd (apart r.addr (grind (arith, nat_tests), grind (arith, nat_tests)))
+    ]
+
+-- regions rise by address
+pub regions_rise : RegionsRise
+regions_rise s sound i j d lt within =
+    rise_of (get_or s.regions i d) (get_or s.regions j d)
+    (size_bounds _ (sound.classes i d (omega arith))).0 (size_bounds _ (sound.classes j d within)).0
+    (regions_are_apart s sound i j d lt within) (sound.ordered i j d lt within)
+
 -- ---- regions
 
 -- what passes a test that is counted once is there
@@ -109,39 +125,3 @@ regions_are_granted turns s good =
     elim (granted (byte / 4096) turns) as (λ b. holders (byte / 4096) s.parts ≡ cond b 1 0 → IsTrue b)
     [ true ↦ λ h. refl | false ↦ λ h. absurd (omega arith) ] (good.pages (byte / 4096)))
     s.regions good.sound.homes
-
--- ---- the space
-
--- no extent has a page below the first one
-none_below : (page : ℕ) (parts : List Part) → page < 512 → All (λ p. IsPlaced p.span) parts → holders page parts ≡ 0
-none_below page [] low placed = refl
-none_below page (p ∷ ps) low placed =
-    let here : IsPlaced p.span = All-head (λ p. IsPlaced p.span) p ps placed in
-    let nothing : share page p ≡ 0 = grind (arith, nat_tests) in
-    omega (arith, sum_by-cons (share page) p ps, none_below page ps low (All-tail (λ p. IsPlaced p.span) p ps placed))
-
--- what lies below the first page, as if it were an extent
-below : Part
-below = record { span = record { first = 0; pages = 512 }; state = Retained; committed = false }
-
--- no page of it is in an extent
-below_apart : (page : ℕ) (parts : List Part) → All (λ p. IsPlaced p.span) parts → holders page parts ≤ 1 → holders page (below ∷ parts) ≤ 1
-unfolding below
-below_apart page parts placed most =
-    elim (cases_lt page 512) [
-      | inl low ↦ let most : share page below ≤ 1 = grind (arith, nat_tests) in omega (arith, sum_by-cons (share page) below parts, none_below page parts low placed)
-      | inr high ↦ let nothing : share page below ≡ 0 = grind (arith, nat_tests) in omega (arith, sum_by-cons (share page) below parts)
-    ]
-
-pub bytes_fit_space : BytesFitSpace
-unfolding below
-bytes_fit_space s sound =
-    omega (
-      arith,
-      bytes_pages s.parts,
-      sum_by-cons (λ (p : Part). p.span.pages) below s.parts,
-      lengths-le (λ (p : Part). p.span.first) (λ p. p.span.pages) pages_end (below ∷ s.parts)
-          (All-cons (λ p. p.span.first + p.span.pages ≤ pages_end) below s.parts (omega arith)
-          (All-weaker (λ p. IsPlaced p.span) (λ p. p.span.first + p.span.pages ≤ pages_end) (λ p h. h.2) s.parts sound.placed))
-          (λ page. below_apart page s.parts sound.placed (sound.owners page)),
-    )

@@ -1,20 +1,23 @@
--- The pieces that each operation puts in an extent's place: idle, and with no page that it hadn't.
-use Rattle.std.proofs.Common.{◌≡◌, ℕ, ◌+◌, ◌<◌, ◌≢◌, Bool, true, false, cond, IsTrue, List, [], ◌∷◌, Some, None, refl, sym, ap, subst, arith, find, ◌&&◌, eqb}
+-- What the states of extents say, and the pieces that operations put in their place.
+use Rattle.std.proofs.Common.{◌≡◌, ℕ, ◌+◌, ◌<◌, ◌≢◌, Bool, true, false, IsTrue, List, [], ◌∷◌, Some, None, refl, subst, arith, find, filter, ◌&&◌, eqb}
+use Rattle.std.specs.List.{sum_by}
 use Rattle.std.specs.Option.{option_or}
 use Rattle.std.proofs.lemmas.List.Sums.{sum_by-cons}
-use Rattle.std.proofs.lemmas.List.Elements.{All-cons, All-nil}
 use Rattle.std.proofs.lemmas.Bool.Decides.{nat_tests}
 use Rattle.space_model.specs.declared.parts.Part.{Part}
 use Rattle.space_model.specs.declared.parts.Rest.{Rest}
 use Rattle.space_model.specs.declared.parts.Rest.TheVariants.{Dirty as ToDirty, Muzzy as ToMuzzy, Retained as ToRetained}
 use Rattle.space_model.specs.declared.parts.State.{State}
 use Rattle.space_model.specs.declared.parts.State.TheVariants.{Active, Dirty, Muzzy, Retained, Flight}
-use Rattle.space_model.specs.Span.{IsPlaced, has_page}
-use Rattle.space_model.specs.Part.{is_active, is_listed, is_flight, is_backed, rest_of, listed}
+use Rattle.space_model.specs.declared.spaces.Space.{Space}
+use Rattle.space_model.specs.Span.{IsPlaced, end_of}
+use Rattle.space_model.specs.Part.{is_active, is_listed, is_flight, is_backed, rest_of, listed, taken_out, put_down, begins_at}
 use Rattle.space_model.specs.Fit.{fit, fit_of, is_best, is_candidate}
-use Rattle.space_model.specs.Step.{low_piece, high_piece}
-use Rattle.space_model.proofs.Exchange.{share, find_passes}
-use Rattle.space_model.proofs.Idle.{Replaces}
+use Rattle.space_model.specs.Step.{low_piece, high_piece, joined, begins_either}
+use Rattle.space_model.specs.Sound.{Sound}
+use Rattle.space_model.proofs.Lists.{find_has, find_passes, sum_by-either}
+use Rattle.space_model.proofs.Exchange.{share}
+use Rattle.space_model.proofs.Changes.{Fits, Piece, one_left}
 
 -- the parts of a conjunction that is true
 pub both_true : (a b : Bool) → (a && b) ≡ true → (a ≡ true) × (b ≡ true)
@@ -102,57 +105,77 @@ fit-listed pages align parts p e =
     ]
     (fit_of-listed ToDirty pages align parts p) e
 
--- one piece with the pages of an extent
-pub one_replaces : (c : ℕ) (p q : Part) → IsPlaced p.span → q.span ≡ p.span → is_active q.state ≡ false →
-    (IsTrue (is_backed (rest_of q.state)) → IsTrue q.committed) → ((d : ℕ) → d ≢ c → is_flight d q.state ≡ false) →
-    Replaces c p (q ∷ [])
-one_replaces c p q placed same idle kept own = record {
-  idle = record {
-    idle = All-cons (λ x. is_active x.state ≡ false) q [] idle (All-nil (λ x. is_active x.state ≡ false));
-    placed = All-cons (λ x. IsPlaced x.span) q [] (subst IsPlaced (sym same) placed) (All-nil (λ x. IsPlaced x.span));
-    backed = All-cons (λ x. IsTrue (is_backed (rest_of x.state)) → IsTrue x.committed) q [] kept (All-nil (λ x. IsTrue (is_backed (rest_of x.state)) → IsTrue x.committed));
-  };
-  pages = λ page. let e : share page q ≡ share page p = ap (λ s. cond (has_page page s) 1 0) same in omega (arith, e, sum_by-cons (share page) q []);
-  others = λ d other. ap (λ b. cond b (q ∷ []) []) (own d other);
-}
-
 -- a page of an extent is below a cut or above it
-cut_shares : (page left : ℕ) (p : Part) → 0 < left → left < p.span.pages →
+pub cut_shares : (page left : ℕ) (p : Part) → 0 < left → left < p.span.pages →
     share page (low_piece left p) + share page (high_piece left p) ≡ share page p
 cut_shares page left p some fewer = grind (arith, nat_tests)
 
--- two pieces that have the pages of an extent, below and above a cut
-pub two_replace : (c : ℕ) (p low high : Part) (left : ℕ) → IsPlaced p.span → 0 < left → left < p.span.pages →
-    low.span ≡ (low_piece left p).span → high.span ≡ (high_piece left p).span →
-    is_active low.state ≡ false → is_active high.state ≡ false →
-    (IsTrue (is_backed (rest_of low.state)) → IsTrue low.committed) → (IsTrue (is_backed (rest_of high.state)) → IsTrue high.committed) →
-    ((d : ℕ) → d ≢ c → is_flight d low.state ≡ false) → ((d : ℕ) → d ≢ c → is_flight d high.state ≡ false) →
-    Replaces c p (low ∷ high ∷ []) × Replaces c p (high ∷ low ∷ [])
-two_replace c p low high left placed some fewer low_is high_is low_idle high_idle low_kept high_kept low_own high_own =
-    let low_placed : IsPlaced low.span = subst IsPlaced (sym low_is) (some, placed.1, omega (arith, placed.2)) in
-    let high_placed : IsPlaced high.span = subst IsPlaced (sym high_is) (omega arith, omega (arith, placed.1), omega (arith, placed.2)) in
-    let idle : Part → Type 0 = λ x. is_active x.state ≡ false in
-    let at : Part → Type 0 = λ x. IsPlaced x.span in
-    let kept : Part → Type 0 = λ x. IsTrue (is_backed (rest_of x.state)) → IsTrue x.committed in
-    let low_share : (page : ℕ) → share page low ≡ share page (low_piece left p) = λ page. ap (λ s. cond (has_page page s) 1 0) low_is in
-    let high_share : (page : ℕ) → share page high ≡ share page (high_piece left p) = λ page. ap (λ s. cond (has_page page s) 1 0) high_is in
-    let parts : (page : ℕ) → share page (low_piece left p) + share page (high_piece left p) ≡ share page p = λ page. cut_shares page left p some fewer in (
-      record {
-        idle = record {
-          idle = All-cons idle low (high ∷ []) low_idle (All-cons idle high [] high_idle (All-nil idle));
-          placed = All-cons at low (high ∷ []) low_placed (All-cons at high [] high_placed (All-nil at));
-          backed = All-cons kept low (high ∷ []) low_kept (All-cons kept high [] high_kept (All-nil kept));
-        };
-        pages = λ page. omega (arith, sum_by-cons (share page) low (high ∷ []), sum_by-cons (share page) high [], low_share page, high_share page, parts page);
-        others = λ d other. rw (low_own d other, high_own d other) refl;
-      },
-      record {
-        idle = record {
-          idle = All-cons idle high (low ∷ []) high_idle (All-cons idle low [] low_idle (All-nil idle));
-          placed = All-cons at high (low ∷ []) high_placed (All-cons at low [] low_placed (All-nil at));
-          backed = All-cons kept high (low ∷ []) high_kept (All-cons kept low [] low_kept (All-nil kept));
-        };
-        pages = λ page. omega (arith, sum_by-cons (share page) high (low ∷ []), sum_by-cons (share page) low [], low_share page, high_share page, parts page);
-        others = λ d other. rw (high_own d other, low_own d other) refl;
-      },
+-- ---- pieces that a client may take or leave
+
+pub found_fits : (s : Space) (test : Part → Bool) (p : Part) → Sound s → find test s.parts ≡ Some p → Fits p
+found_fits s test p sound found = record {
+  placed = find_has (λ q. IsPlaced q.span) test s.parts p sound.placed found;
+  backed = find_has (λ q. IsTrue (is_backed (rest_of q.state)) → IsTrue q.committed) test s.parts p sound.backed found;
+}
+
+-- one in flight of the client, or listed
+pub Piece-flight : (c : ℕ) (p : Part) → Fits p → is_flight c p.state ≡ true → Piece c p
+Piece-flight c p fits own = record { idle = flight-idle c p.state own; fits = fits; own = λ d other. others-flight c d p.state other own }
+
+pub Piece-listed : (c : ℕ) (p : Part) (rest : Rest) → Fits p → is_listed rest p.state ≡ true → Piece c p
+Piece-listed c p rest fits is_in = record { idle = listed-idle rest p.state is_in; fits = fits; own = λ d other. listed-nobody d rest p.state is_in }
+
+-- one that is put down or taken out
+pub Piece-down : (c : ℕ) (p : Part) → Fits p → Piece c (put_down p)
+Piece-down c p fits = record {
+  idle = put_down-idle (rest_of p.state);
+  fits = record { placed = fits.placed; backed = λ h. fits.backed (subst (λ r. IsTrue (is_backed r)) (put_down-rest (rest_of p.state)) h) };
+  own = λ d other. put_down-nobody d (rest_of p.state);
+}
+
+pub Piece-taken : (c : ℕ) (p : Part) → Fits p → Piece c (taken_out c p)
+Piece-taken c p fits = record { idle = refl; fits = record { placed = fits.placed; backed = fits.backed }; own = λ d other. not_both d c other }
+
+-- and one of the two pieces of a cut
+pub Fits-low : (left : ℕ) (p : Part) → Fits p → 0 < left → left < p.span.pages → Fits (low_piece left p)
+Fits-low left p fits some fewer = record { placed = (some, fits.placed.1, omega (arith, fits.placed.2)); backed = fits.backed }
+
+pub Fits-high : (left : ℕ) (p : Part) → Fits p → 0 < left → left < p.span.pages → Fits (high_piece left p)
+Fits-high left p fits some fewer = record { placed = (omega arith, omega (arith, fits.placed.1), omega (arith, fits.placed.2)); backed = fits.backed }
+
+pub Piece-low : (c left : ℕ) (p : Part) → Piece c p → 0 < left → left < p.span.pages → Piece c (low_piece left p)
+Piece-low c left p piece some fewer = record { idle = piece.idle; fits = Fits-low left p piece.fits some fewer; own = piece.own }
+
+pub Piece-high : (c left : ℕ) (p : Part) → Piece c p → 0 < left → left < p.span.pages → Piece c (high_piece left p)
+Piece-high c left p piece some fewer = record { idle = piece.idle; fits = Fits-high left p piece.fits some fewer; own = piece.own }
+
+-- ---- two extents side by side
+
+-- of two extents with different starts none begins as both do
+not_both_begin : (p q x : Part) → p.span.first < q.span.first → begins_at p.span.first x ≡ true → begins_at q.span.first x ≡ false
+not_both_begin p q x below h = grind (arith, nat_tests)
+
+-- the sums over two extents that were found, as those that go
+pub two_left : (s : Space) (test also : Part → Bool) (p q : Part) → Sound s → find test s.parts ≡ Some p → find also s.parts ≡ Some q →
+    end_of p.span ≡ q.span.first → (f : Part → ℕ) → sum_by f (filter (begins_either p q) s.parts) ≡ sum_by f (p ∷ q ∷ [])
+two_left s test also p q sound low high side f =
+    let fits = found_fits s test p sound low in
+    omega (
+      arith,
+      sum_by-either f (begins_at p.span.first) (begins_at q.span.first) (λ x. not_both_begin p q x (omega (arith, side, fits.placed.0))) s.parts,
+      one_left s test p sound low f,
+      one_left s also q sound high f,
+      sum_by-cons f p (q ∷ []),
+      sum_by-cons f p [],
+      sum_by-cons f q [],
     )
+
+-- a page is in one of the two, or in neither
+pub joined_share : (page : ℕ) (p q : Part) → end_of p.span ≡ q.span.first → share page (joined p q) ≡ share page p + share page q
+joined_share page p q side = grind (arith, nat_tests)
+
+pub Fits-joined : (p q : Part) → Fits p → Fits q → end_of p.span ≡ q.span.first → Fits (joined p q)
+Fits-joined p q low high side = record { placed = (omega (arith, low.placed.0), low.placed.1, omega (arith, side, high.placed.2)); backed = low.backed }
+
+pub Piece-joined : (c : ℕ) (p q : Part) → Piece c p → Fits q → end_of p.span ≡ q.span.first → Piece c (joined p q)
+Piece-joined c p q low high side = record { idle = low.idle; fits = Fits-joined p q low.fits high side; own = low.own }

@@ -1,23 +1,27 @@
 -- Sums of bytes: how those of the states add up, and that none is more than the space.
-use Rattle.std.proofs.Common.{◌≡◌, ℕ, ◌+◌, ◌*◌, ◌^◌, ◌≤◌, Bool, true, false, cond, List, [], ◌∷◌, refl, sym, ◌∙◌, arith, All}
+use Rattle.std.proofs.Common.{◌-◌, inl, inr, ◌<◌, ◌≡◌, ℕ, ◌+◌, ◌*◌, ◌^◌, ◌≤◌, Bool, true, false, cond, List, [], ◌∷◌, refl, sym, ◌∙◌, arith, All}
 use Rattle.std.specs.List.{sum_by}
 use Rattle.std.proofs.lemmas.List.Sums.{sum_by-cons, sum_by-le-sum_by}
-use Rattle.std.proofs.lemmas.List.Elements.{All-weaker, All-head, All-tail}
+use Rattle.std.proofs.lemmas.List.Elements.{All-weaker, All-head, All-tail, All-cons}
+use Rattle.std.proofs.lemmas.Bool.{cases_lt}
 use Rattle.std.proofs.lemmas.Bool.Decides.{nat_tests}
 use Rattle.size_classes.specs.Classes.{size_at}
 use Rattle.space_model.specs.declared.parts.Part.{Part}
 use Rattle.space_model.specs.declared.parts.Region.{Region}
+use Rattle.space_model.specs.declared.parts.Rest.{Rest}
 use Rattle.space_model.specs.declared.parts.Rest.TheVariants.{Dirty as ToDirty, Muzzy as ToMuzzy, Retained as ToRetained}
 use Rattle.space_model.specs.declared.parts.State.{State}
 use Rattle.space_model.specs.declared.parts.State.TheVariants.{Active, Dirty, Muzzy, Retained, Flight}
 use Rattle.space_model.specs.declared.spaces.Space.{Space}
 use Rattle.space_model.specs.Span.{IsPlaced, pages_end}
-use Rattle.space_model.specs.Part.{is_active, is_listed}
+use Rattle.space_model.specs.Part.{holders, is_active, is_listed, pages_listed}
 use Rattle.space_model.specs.Region.{houses, homes}
 use Rattle.space_model.specs.Sound.{Sound, is_in_flight}
-use Rattle.space_model.specs.Counts.{bytes_of, bytes_where, region_bytes, is_mapped}
+use Rattle.space_model.specs.Counts.{bytes_of, bytes_where, region_bytes, region_bytes_where, is_mapped}
+use Rattle.space_model.specs.Laws.{BytesFitSpace}
+use Rattle.space_model.proofs.Exchange.{share}
 use Rattle.space_model.proofs.Intervals.{lengths-le}
-use Rattle.space_model.proofs.Idle.{serves}
+use Rattle.space_model.proofs.Settled.{serves}
 
 -- the bytes of an extent whose state passes, or none
 abbrev bytes_if : (State → Bool) → Part → ℕ
@@ -91,7 +95,7 @@ if_le true n = omega arith
 if_le false n = omega arith
 
 -- the bytes of some of the extents fit
-pub bytes_where_fits : (test : State → Bool) (s : Space) → Sound s → bytes_where test s.parts ≤ 2 ^ 37
+pub bytes_where_fits : (test : State → Bool) (s : Space) → Sound s → bytes_where test s.parts ≤ 2 ^ 41
 bytes_where_fits test s sound =
     omega (arith, bytes_le s sound, sum_by-le-sum_by (bytes_if test) bytes_of s.parts (λ p. if_le (test p.state) (bytes_of p)))
 
@@ -105,8 +109,65 @@ region_end r (p ∷ ps) placed home =
     ] refl (sym (sum_by-cons (serves r) p ps) ∙ home)
 
 -- the regions have at most all bytes
-pub region_bytes_fits : (s : Space) → Sound s → region_bytes s.regions ≤ 2 ^ 37
+pub region_bytes_fits : (s : Space) → Sound s → region_bytes s.regions ≤ 2 ^ 41
 region_bytes_fits s sound =
     lengths-le (λ (r : Region). r.addr) (λ r. size_at r.class) (4096 * pages_end) s.regions
     (All-weaker (λ r. homes r s.parts ≡ 1) (λ r. r.addr + size_at r.class ≤ 4096 * pages_end) (λ r h. region_end r s.parts sound.placed h) s.regions sound.homes)
     sound.apart
+
+-- ---- the space
+
+-- no extent has a page below the first one
+none_below : (page : ℕ) (parts : List Part) → page < 512 → All (λ p. IsPlaced p.span) parts → holders page parts ≡ 0
+none_below page [] low placed = refl
+none_below page (p ∷ ps) low placed =
+    let here : IsPlaced p.span = All-head (λ p. IsPlaced p.span) p ps placed in
+    let nothing : share page p ≡ 0 = grind (arith, nat_tests) in
+    omega (arith, sum_by-cons (share page) p ps, none_below page ps low (All-tail (λ p. IsPlaced p.span) p ps placed))
+
+-- what lies below the first page, as if it were an extent
+below : Part
+below = record { span = record { first = 0; pages = 512 }; state = Retained; committed = false }
+
+-- no page of it is in an extent
+below_apart : (page : ℕ) (parts : List Part) → All (λ p. IsPlaced p.span) parts → holders page parts ≤ 1 → holders page (below ∷ parts) ≤ 1
+unfolding below
+below_apart page parts placed most =
+    elim (cases_lt page 512) [
+      | inl low ↦ let most : share page below ≤ 1 = grind (arith, nat_tests) in omega (arith, sum_by-cons (share page) below parts, none_below page parts low placed)
+      | inr high ↦ let nothing : share page below ≡ 0 = grind (arith, nat_tests) in omega (arith, sum_by-cons (share page) below parts)
+    ]
+
+-- the extents have at most the pages of the space
+pub pages_fit_space : (s : Space) → Sound s → sum_by (λ p. p.span.pages) s.parts ≤ pages_end - 512
+unfolding below
+pages_fit_space s sound =
+    omega (
+      arith,
+      sum_by-cons (λ (p : Part). p.span.pages) below s.parts,
+      lengths-le (λ (p : Part). p.span.first) (λ p. p.span.pages) pages_end (below ∷ s.parts)
+          (All-cons (λ p. p.span.first + p.span.pages ≤ pages_end) below s.parts (omega arith)
+          (All-weaker (λ p. IsPlaced p.span) (λ p. p.span.first + p.span.pages ≤ pages_end) (λ p h. h.2) s.parts sound.placed))
+          (λ page. below_apart page s.parts sound.placed (sound.owners page)),
+    )
+
+pub bytes_fit_space : BytesFitSpace
+bytes_fit_space s sound = omega (arith, bytes_pages s.parts, pages_fit_space s sound)
+
+-- and those of one list no more
+pub listed_fit_space : (rest : Rest) (s : Space) → Sound s → pages_listed rest s.parts ≤ pages_end - 512
+listed_fit_space rest s sound =
+    omega (
+      arith,
+      pages_fit_space s sound,
+      sum_by-le-sum_by (λ (p : Part). cond (is_listed rest p.state) p.span.pages 0) (λ p. p.span.pages) s.parts (λ p. if_le (is_listed rest p.state) p.span.pages),
+    )
+
+-- the regions of some classes have no more bytes
+pub region_bytes_where_fits : (test : ℕ → Bool) (s : Space) → Sound s → region_bytes_where test s.regions ≤ 2 ^ 41
+region_bytes_where_fits test s sound =
+    omega (
+      arith,
+      region_bytes_fits s sound,
+      sum_by-le-sum_by (λ (r : Region). cond (test r.class) (size_at r.class) 0) (λ r. size_at r.class) s.regions (λ r. if_le (test r.class) (size_at r.class)),
+    )

@@ -1,5 +1,5 @@
 -- What is said of every arena and every journal: the statements of the laws.
-use Rattle.std.specs.Prelude.{◌≡◌, ◌≢◌, ℕ, ◌+◌, ◌*◌, ◌/◌, ◌%◌, ◌-◌, ◌≤◌, IsTrue, List, [], ◌∷◌, ◌++◌, All, AllPairs, Any}
+use Rattle.std.specs.Prelude.{◌≡◌, ◌≢◌, ℕ, ◌+◌, ◌*◌, ◌/◌, ◌%◌, ◌-◌, ◌<◌, ◌≤◌, IsTrue, List, [], ◌∷◌, ◌++◌, All, AllPairs, Any}
 use Rattle.std.specs.List.{sum_by}
 use Rattle.size_classes.specs.Classes.{align_at}
 use Rattle.space_model.specs.declared.counts.Counts.{Counts}
@@ -13,6 +13,8 @@ use Rattle.space_model.specs.Step.{space_after, reply_to, stands}
 use Rattle.space_model.specs.Sound.{Sound}
 use Rattle.space_model.specs.Journal.{Good, replay, all_stand, turns_of, granted}
 use Rattle.space_model.specs.Own.{mine}
+use Rattle.space_model.specs.Outcome.{Outcome}
+use Rattle.space_model.specs.Flights.{flights, lost, won}
 use Rattle.space_model.specs.Opening.{first_space, absent_space}
 use Rattle.space_model.specs.Counts.{bytes_of, counts_of}
 
@@ -25,6 +27,17 @@ EntriesKeepGood = (turns : List (Entry × Reply)) (s : Space) (entry : Entry) �
 abbrev pub EntriesKeepOthers : Type 0
 EntriesKeepOthers = (s : Space) (entry : Entry) (client : ℕ) → Sound s → IsTrue (stands s entry) → client ≢ entry.client →
     mine client (space_after s entry) ≡ mine client s
+
+-- an entry that may stand at a sound space goes in one of the ways in which its operation may
+abbrev pub RepliesTellOutcome : Type 0
+RepliesTellOutcome = (s : Space) (entry : Entry) → Sound s → IsTrue (stands s entry) →
+    Outcome entry.client s (space_after s entry) entry.op (reply_to s entry)
+
+-- and its client has as many extents in flight as before, without those that it lost and with those that it won
+abbrev pub RepliesTellFlights : Type 0
+RepliesTellFlights = (s : Space) (entry : Entry) → Sound s → IsTrue (stands s entry) →
+    flights entry.client (space_after s entry) + lost entry.op (reply_to s entry)
+    ≡ flights entry.client s + won entry.client s entry.op (reply_to s entry)
 
 -- a journal of arena 0 whose entries may stand leaves a good space
 abbrev pub FirstReplaysAreGood : Type 0
@@ -55,6 +68,10 @@ PartsAreApart = (s : Space) → Sound s →
 abbrev pub RegionsAreApart : Type 0
 RegionsAreApart = (s : Space) → Sound s →
     AllPairs (λ q r. (byte : ℕ) → ¬ (IsTrue (covers byte q) × IsTrue (covers byte r))) s.regions
+
+-- the regions stand by address, each above the one before it
+abbrev pub RegionsRise : Type 0
+RegionsRise = (s : Space) → Sound s → AllPairs (λ q r. q.addr < r.addr) s.regions
 
 -- each region lies in an extent that is active and committed
 abbrev pub RegionsHaveHomes : Type 0

@@ -4,6 +4,7 @@ use Rattle.std.specs.List.{range_with_len}
 use Rattle.space_model.specs.declared.spaces.Pace.{Pace}
 use Rattle.space_model.specs.declared.spaces.Space.{Space}
 use Rattle.space_model.specs.declared.spaces.Life.TheVariants.{Live, Absent}
+use Rattle.space_model.specs.Span.{max_series}
 
 -- a decay of a time in milliseconds from a moment on: epoch 0, nothing left and nothing added
 abbrev pub new_pace : ℤ → ℕ → Pace
@@ -20,6 +21,9 @@ first_space = record {
   box_no = 0;
   dirty = new_pace (pos 10000) 0;
   muzzy = new_pace (pos 0) 0;
+  grow = 1;
+  grow_limit = max_series;
+  trims = [];
 }
 
 -- no arena: nothing in it, and nobody bound
@@ -33,4 +37,7 @@ absent_space = record {
   box_no = 0;
   dirty = new_pace (pos 10000) 0;
   muzzy = new_pace (pos 0) 0;
+  grow = 1;
+  grow_limit = max_series;
+  trims = [];
 }

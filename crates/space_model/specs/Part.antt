@@ -1,6 +1,7 @@
 -- The extents of an arena: their states, their pages, and the one form in which they change.
-use Rattle.std.specs.Prelude.{ℕ, Bool, true, false, ◌==◌, ◌&&◌, not, List, ◌++◌, count_by}
-use Rattle.std.specs.List.{filter}
+use Rattle.std.specs.Prelude.{ℕ, Bool, true, false, ◌==◌, ◌&&◌, not, nat_lt, List, [], ◌++◌, fold, find, count_by, Option, if◌then◌else◌}
+use Rattle.std.specs.List.{filter, insert, position_or_len, sum_by}
+use Rattle.std.specs.Option.{option_map}
 use Rattle.space_model.specs.declared.parts.Span.{Span}
 use Rattle.space_model.specs.declared.parts.Part.{Part}
 use Rattle.space_model.specs.declared.parts.Rest.{Rest}
@@ -23,6 +24,22 @@ is_listed ToDirty Dirty = true
 is_listed ToMuzzy Muzzy = true
 is_listed ToRetained Retained = true
 is_listed rest state = false
+
+-- whether an extent in the state is in one of the three lists
+abbrev pub is_unused : State → Bool
+is_unused Active = false
+is_unused Dirty = true
+is_unused Muzzy = true
+is_unused Retained = true
+is_unused (Flight c rest) = false
+
+-- whether an extent in the state is out of its list
+abbrev pub is_in_flight : State → Bool
+is_in_flight Active = false
+is_in_flight Dirty = false
+is_in_flight Muzzy = false
+is_in_flight Retained = false
+is_in_flight (Flight c rest) = true
 
 -- whether the client has an extent in the state out of its list
 abbrev pub is_flight : ℕ → State → Bool
@@ -60,6 +77,10 @@ taken_out client p = record p { state = Flight client (rest_of p.state) }
 abbrev pub put_down : Part → Part
 put_down p = record p { state = listed (rest_of p.state) }
 
+-- an extent that goes to the list of a rest
+abbrev pub moved_to : Rest → Part → Part
+moved_to rest p = record p { state = listed rest }
+
 -- whether the extent begins at the page
 abbrev pub begins_at : ℕ → Part → Bool
 begins_at page p = p.span.first == page
@@ -72,6 +93,26 @@ is_flight_at client span p = is_flight client p.state && same_span p.span span
 abbrev pub holders : ℕ → List Part → ℕ
 holders page parts = count_by (λ p. has_page page p.span) parts
 
+-- the pages of the extents that are listed among those of a rest
+abbrev pub pages_listed : Rest → List Part → ℕ
+pages_listed rest parts = sum_by (λ p. if is_listed rest p.state then p.span.pages else 0) parts
+
 -- The one form in which extents change: those that pass a test go, and pieces come last.
 abbrev pub exchanged : (Part → Bool) → List Part → List Part → List Part
 exchanged gone parts pieces = filter (λ p. not (gone p)) parts ++ pieces
+
+-- the extents with one more, which stands before the first at a higher page
+abbrev pub placed : Part → List Part → List Part
+placed p parts = insert parts (position_or_len (λ q. nat_lt p.span.first q.span.first) parts) p
+
+-- the extents as each of them changes, in order of address
+abbrev pub turned_in_order : (Part → Part) → List Part → List Part
+turned_in_order turn parts = fold (λ turned p. placed (turn p) turned) [] parts
+
+-- the extents after all that pass a test have changed, which come last in order of address
+abbrev pub turned : (Part → Bool) → (Part → Part) → List Part → List Part
+turned test turn parts = exchanged test parts (turned_in_order turn (filter test parts))
+
+-- the first extent that the client has in flight
+abbrev pub next_flight : ℕ → List Part → Option Span
+next_flight c parts = option_map (λ p. p.span) (find (λ p. is_flight c p.state) parts)

@@ -1,25 +1,16 @@
 -- What is always true of an arena.
-use Rattle.std.specs.Prelude.{◌≡◌, ℕ, ◌+◌, ◌*◌, ◌%◌, ◌-◌, ◌<◌, ◌≤◌, pos, negsuc, ◌≤ℤ◌, Bool, true, false, IsTrue, List, [], All, AllPairs}
+use Rattle.std.specs.Prelude.{◌≡◌, ℕ, ◌+◌, ◌*◌, ◌%◌, ◌-◌, ◌<◌, ◌≤◌, pos, negsuc, ◌≤ℤ◌, false, IsTrue, List, [], All, AllPairs}
 use Rattle.size_classes.specs.Classes.{size_at, pages_at, regions_at, align_at}
 use Rattle.space_model.specs.declared.parts.Part.{Part}
 use Rattle.space_model.specs.declared.parts.Region.{Region}
-use Rattle.space_model.specs.declared.parts.State.{State}
-use Rattle.space_model.specs.declared.parts.State.TheVariants.{Active, Dirty, Muzzy, Retained, Flight}
 use Rattle.space_model.specs.declared.spaces.Pace.{Pace}
 use Rattle.space_model.specs.declared.spaces.Space.{Space}
 use Rattle.space_model.specs.declared.spaces.Life.{Life}
 use Rattle.space_model.specs.declared.spaces.Life.TheVariants.{Live, Absent, Dying}
-use Rattle.space_model.specs.Span.{IsPlaced, pages_end}
+use Rattle.space_model.specs.Span.{IsPlaced, pages_end, max_series}
+pub use Rattle.space_model.specs.Part.{is_in_flight}
 use Rattle.space_model.specs.Part.{is_active, is_backed, rest_of, holders}
 use Rattle.space_model.specs.Region.{address_of, houses, homes, residents, fills, sharers}
-
--- whether the state is that of an extent out of its list
-abbrev pub is_in_flight : State → Bool
-is_in_flight Active = false
-is_in_flight Dirty = false
-is_in_flight Muzzy = false
-is_in_flight Retained = false
-is_in_flight (Flight c rest) = true
 
 -- A decay time is -1 or up to 1000000000 ms, its epochs fit into the time that passed, and no epoch has more pages
 -- than there are.
@@ -66,9 +57,14 @@ pub record Sound (s : Space) : Type 0 where
   pub classes : All (λ r. r.class < 121) s.regions
   pub aligned : All (λ r. r.addr % align_at r.class ≡ 0) s.regions
   pub apart : (byte : ℕ) → sharers byte s.regions ≤ 1
+  -- the regions stand by address
+  pub ordered : AllPairs (λ q r. q.addr ≤ r.addr) s.regions
   -- an arena that isn't live serves nobody
   pub quiet : IsQuiet s.life s
   -- its box and its decay times are in range
   pub box : s.box_no < 32
   pub dirty : IsPaced s.dirty
   pub muzzy : IsPaced s.muzzy
+  -- its growth and the limit of that are in range
+  pub grow : (1 ≤ s.grow) × (s.grow ≤ max_series)
+  pub grow_limit : (1 ≤ s.grow_limit) × (s.grow_limit ≤ max_series)

@@ -5,7 +5,11 @@ use Rattle.space_model.specs.declared.parts.Span.{Span}
 
 -- The first page past all pages: the bound of the space is named here alone, and 512 is its first page.
 abbrev pub pages_end : ℕ
-pages_end = 33554432
+pages_end = 536870912
+
+-- the most chunks of a growth that no request needs
+abbrev pub max_series : ℕ
+max_series = 16384
 
 -- the page after the span's last one
 abbrev pub end_of : Span → ℕ
@@ -34,6 +38,10 @@ chunk_span chunk = record { first = 512 * chunk; pages = 512 }
 -- the numbers of the chunks that a span meets, in rising order
 abbrev pub chunks_of : Span → List ℕ
 chunks_of s = let low = s.first / 512 in range_with_len low ((end_of s + 511) / 512 - low)
+
+-- how many chunks the pages of a span fill, the last one perhaps not wholly
+abbrev pub chunks_in : Span → ℕ
+chunks_in s = (s.pages + 511) / 512
 
 -- the first page at or above the span's start that is a multiple of the alignment
 abbrev pub run_start : ℕ → Span → ℕ

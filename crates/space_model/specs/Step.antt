@@ -1,90 +1,74 @@
 -- What one entry does to an arena, and the reply to it: a total function, by cases on the operation.
-use Rattle.std.specs.Prelude.{ℕ, ◌+◌, ◌-◌, ◌*◌, ◌%◌, Bool, true, false, ◌==◌, ◌&&◌, ◌||◌, not, nat_le, nat_lt, List, [], ◌∷◌, ◌++◌, length, map, fold, filter, find, pos, Option, None, Some, if◌then◌else◌}
+use Rattle.std.specs.Prelude.{ℕ, ◌+◌, ◌-◌, ◌*◌, ◌%◌, min, max, Bool, true, false, ◌==◌, ◌&&◌, ◌||◌, not, nat_le, nat_lt, List, [], ◌∷◌, ◌++◌, length, filter, find, Option, None, Some, if◌then◌else◌}
 use Rattle.std.specs.Bool.{beq}
 use Rattle.std.specs.Int.{is_power_of_two}
-use Rattle.std.specs.List.{list_any, list_all, insert, position_or_len, range_with_len}
-use Rattle.std.specs.Ordering.{int_eq}
+use Rattle.std.specs.List.{list_any, list_all}
 use Rattle.std.specs.Option.{option_map, option_or}
-use Rattle.size_classes.specs.Classes.{size_at, pages_at}
 use Rattle.space_model.specs.declared.asks.Ask.{Ask}
 use Rattle.space_model.specs.declared.asks.Ask.TheVariants.{Alloc, Commit, Split, Merge}
 use Rattle.space_model.specs.declared.asks.Answer.{Answer}
 use Rattle.space_model.specs.declared.asks.Answer.TheVariants.{Done, Refused as Refuses, Placed}
 use Rattle.space_model.specs.declared.entries.Entry.{Entry}
 use Rattle.space_model.specs.declared.entries.Op.{Op}
-use Rattle.space_model.specs.declared.entries.Op.TheVariants.{Look, CutDone, GrowDone, CommitDone, Land, Back, PutLook, MergeDone}
+use Rattle.space_model.specs.declared.entries.Op.TheVariants.{Look, CutDone, GrowDone, CommitDone, Land, Back, PutLook, MergeDone, Fill, Advance, PurgeTake, LazyDone, Offer, OfferDone, DecommitDone, ForcedDone, Publish, TakeOver, Reset, Destroy, DestroyTake, Counts, Set, Widen, JoinDone, Trim, TrimDone}
 use Rattle.space_model.specs.declared.entries.Reply.{Reply}
-use Rattle.space_model.specs.declared.entries.Reply.TheVariants.{NoArena, Noted, Took, Grow, Cut, Whole, Refused, Bad, Grown, Landed, Next, Beside, Purge, Joined}
+use Rattle.space_model.specs.declared.entries.Reply.TheVariants.{Noted, Took, Grow, Cut, Refused, Bad, Grown, Next, Beside, Purge, Joined, Counted}
 use Rattle.space_model.specs.declared.entries.Why.{Why}
 use Rattle.space_model.specs.declared.entries.Why.TheVariants.{OffSpace, Unaligned, Meets}
 use Rattle.space_model.specs.declared.parts.Part.{Part}
 use Rattle.space_model.specs.declared.parts.Region.{Region}
 use Rattle.space_model.specs.declared.parts.Span.{Span}
 use Rattle.space_model.specs.declared.parts.Rest.TheVariants.{Retained as ToRetained}
-use Rattle.space_model.specs.declared.parts.State.TheVariants.{Active, Dirty, Flight}
-use Rattle.space_model.specs.declared.spaces.Life.{Life}
-use Rattle.space_model.specs.declared.spaces.Life.TheVariants.{Live, Absent, Dying}
+use Rattle.space_model.specs.declared.parts.State.TheVariants.{Dirty, Flight}
 use Rattle.space_model.specs.declared.spaces.Space.{Space}
-use Rattle.space_model.specs.Span.{pages_end, end_of, chunk_span, chunks_of, meets, run_start}
-use Rattle.space_model.specs.Part.{exchanged, begins_at, is_active, is_listed, is_flight, is_flight_at, rest_of, listed, put_down, taken_out}
-use Rattle.space_model.specs.Region.{address_of, houses, inserted, is_held_by}
+use Rattle.space_model.specs.Span.{pages_end, max_series, end_of, chunk_span, chunks_of, chunks_in, meets, run_start}
+pub use Rattle.space_model.specs.Part.{placed, next_flight}
+use Rattle.space_model.specs.Part.{exchanged, begins_at, is_active, is_listed, is_flight_at, rest_of, listed, put_down, taken_out, turned, turned_in_order}
+use Rattle.space_model.specs.Clients.{is_in}
+use Rattle.space_model.specs.Region.{houses, is_held_by}
 use Rattle.space_model.specs.Fit.{fit}
-
--- The space after an entry, and the reply to it.
-pub record Stepped : Type 0 where
-  pub after : Space
-  pub reply : Reply
-
--- nothing changes
-abbrev pub stays : Space → Reply → Stepped
-stays space reply = record { after = space; reply = reply }
-
--- one extent goes, and pieces come last
-abbrev pub replaced : Space → Part → List Part → Reply → Stepped
-replaced space p pieces reply =
-    record { after = record space { parts = exchanged (begins_at p.span.first) space.parts pieces }; reply = reply }
-
--- whether the arena serves requests
-abbrev pub is_live : Life → Bool
-is_live Live = true
-is_live Absent = false
-is_live (Dying c) = false
+use Rattle.space_model.specs.Counts.{counts_of}
+use Rattle.space_model.specs.Own.{is_dying}
+pub use Rattle.space_model.specs.Stepped.{Stepped, stays, replaced, whole_at, is_live, low_piece, high_piece, joined, begins_either, found_passes, has_flight, is_yes_or_no}
+use Rattle.space_model.specs.Stepped.{if_live, is_dirty_time_over, is_lazy}
+pub use Rattle.space_model.specs.Slabs.{land_at, land_stands}
+use Rattle.space_model.specs.Slabs.{after_fill, fill_stands}
+use Rattle.space_model.specs.Pace.{after_advance}
+use Rattle.space_model.specs.Purging.{after_purge_take, is_purgeable, after_lazy, lazy_stands, offer_at, after_offer, offer_stands, after_decommit, decommit_stands, forced_stands}
+use Rattle.space_model.specs.Holding.{after_publish, after_take_over}
+use Rattle.space_model.specs.Ending.{after_reset, after_destroy, reset_stands, after_destroy_take}
+use Rattle.space_model.specs.Settings.{after_set, setting_stands}
+use Rattle.space_model.specs.Resizing.{after_widen, widen_stands, after_join, join_stands, after_trim, trim_stands, after_trim_done, trim_done_stands}
 
 -- ---- Look
 
 -- the extent that was found leaves its list
 abbrev pub look_at : Space → ℕ → ℕ → Option Part → Stepped
-look_at space c align None = stays space Grow
+look_at space c align None = stays space (Grow (min space.grow space.grow_limit))
 look_at space c align (Some p) =
     replaced space p (taken_out c p ∷ []) (Took p.span p.committed (run_start align p.span - p.span.first))
 
 -- looks for the extent that serves a request
 abbrev pub after_look : Space → ℕ → ℕ → ℕ → Stepped
 after_look space c pages align =
-    if is_live space.life then look_at space c align (fit pages align space.parts) else stays space NoArena
+    if_live space (look_at space c align (fit pages align space.parts))
 
 -- ---- CutDone
 
--- the pages of an extent below a cut
-abbrev pub low_piece : ℕ → Part → Part
-low_piece left p = record p { span = record { first = p.span.first; pages = left } }
+-- the piece of a cut that stays in flight
+abbrev pub kept_piece : Bool → ℕ → Part → Part
+kept_piece keep_low left p = if keep_low then low_piece left p else high_piece left p
 
--- the pages of an extent above a cut
-abbrev pub high_piece : ℕ → Part → Part
-high_piece left p = record p { span = record { first = p.span.first + left; pages = p.span.pages - left } }
+-- the piece of a cut that is put down
+abbrev pub other_piece : Bool → ℕ → Part → Part
+other_piece keep_low left p = if keep_low then high_piece left p else low_piece left p
 
--- the piece that stays in flight comes last, behind the other one, which is put down
+-- the piece that stays in flight comes last, behind the other one
 abbrev pub cut_at : Space → Bool → ℕ → Option Part → Stepped
 cut_at space keep_low left None = stays space Noted
-cut_at space true left (Some p) =
-    replaced space p (put_down (high_piece left p) ∷ low_piece left p ∷ []) (Cut (low_piece left p).span)
-cut_at space false left (Some p) =
-    replaced space p (put_down (low_piece left p) ∷ high_piece left p ∷ []) (Cut (high_piece left p).span)
-
--- an extent in flight whose hook refused is put down whole
-abbrev pub whole_at : Space → Option Part → Stepped
-whole_at space None = stays space Noted
-whole_at space (Some p) = replaced space p (put_down p ∷ []) Whole
+cut_at space keep_low left (Some p) =
+    let kept : Part = kept_piece keep_low left p in
+    replaced space p (put_down (other_piece keep_low left p) ∷ kept ∷ []) (Cut kept.span)
 
 -- takes in the answer to a split
 abbrev pub after_cut : Space → ℕ → Bool → Ask → Answer → Stepped
@@ -118,11 +102,15 @@ why_not found align parts s =
 abbrev pub new_part : ℕ → Span → Bool → Part
 new_part c s committed = record { span = s; state = Flight c ToRetained; committed = committed }
 
+-- the growth after one by a span: twice that, if it isn't larger already, within the most that there may be
+abbrev pub grow_after : ℕ → Span → ℕ
+grow_after grow s = max grow (min max_series (2 * chunks_in s))
+
 -- the answered span joins the arena, unless something speaks against it
 abbrev pub grow_unless : Space → ℕ → Span → Bool → Option Why → Stepped
 grow_unless space c s committed (Some why) = stays space (Bad why)
 grow_unless space c s committed None = record {
-  after = record space { parts = space.parts ++ new_part c s committed ∷ [] };
+  after = record space { parts = space.parts ++ new_part c s committed ∷ []; grow = grow_after space.grow s };
   reply = Grown s committed;
 }
 
@@ -147,25 +135,6 @@ after_commit space c (Commit span) Done = commit_at space (find (is_flight_at c 
 after_commit space c (Commit span) Refuses = whole_at space (find (is_flight_at c span) space.parts)
 after_commit space c ask answer = stays space Noted
 
--- ---- Land
-
--- the first so many regions of a class in an extent, held by the client
-abbrev pub landed : ℕ → ℕ → ℕ → ℕ → List Region
-landed c class addr count =
-    map (λ i. record { addr = addr + i * size_at class; class = class; holder = Some c }) (range_with_len 0 count)
-
--- the extent serves the regions from now on
-abbrev pub land_at : Space → ℕ → ℕ → ℕ → Option Part → Stepped
-land_at space c class count None = stays space Noted
-land_at space c class count (Some p) =
-    let addr = address_of p.span.first in record {
-      after = record space {
-        parts = exchanged (begins_at p.span.first) space.parts (record p { state = Active } ∷ []);
-        regions = fold (λ regions r. inserted r regions) space.regions (landed c class addr count);
-      };
-      reply = Landed addr count;
-    }
-
 -- ---- Back
 
 -- whether the client gives the region back: it holds the region, and names its address
@@ -180,23 +149,14 @@ staying c addrs regions = filter (λ r. not (is_given_back c addrs r)) regions
 abbrev pub is_emptied : List Region → Part → Bool
 is_emptied regions p = is_active p.state && not (list_any (houses p) regions)
 
--- the extents with one more, which stands before the first at a higher page
-abbrev pub placed : Part → List Part → List Part
-placed p parts = insert parts (position_or_len (λ q. nat_lt p.span.first q.span.first) parts) p
-
 -- the extents as the client takes them out, in order of address
 abbrev pub taken_in_order : ℕ → List Part → List Part
-taken_in_order c parts = fold (λ taken p. placed (taken_out c p) taken) [] parts
-
--- the first extent that the client has in flight
-abbrev pub next_flight : ℕ → List Part → Option Span
-next_flight c parts = option_map (λ p. p.span) (find (λ p. is_flight c p.state) parts)
+taken_in_order c parts = turned_in_order (taken_out c) parts
 
 -- these regions alone stay, and each extent that is emptied is in flight to the dirty ones
 abbrev pub with_regions : Space → ℕ → List Region → Stepped
 with_regions space c regions =
-    let emptied = filter (is_emptied regions) space.parts in
-    let parts = exchanged (is_emptied regions) space.parts (taken_in_order c emptied) in record {
+    let parts = turned (is_emptied regions) (taken_out c) space.parts in record {
       after = record space { parts = parts; regions = regions };
       reply = Next (next_flight c parts);
     }
@@ -226,7 +186,7 @@ neighbour tries p parts =
 
 -- whether the extent belongs to the dirty ones, and none of these may stay
 abbrev pub is_purged : Space → Part → Bool
-is_purged space p = is_listed (rest_of p.state) Dirty && int_eq space.dirty.ms (pos 0)
+is_purged space p = is_listed (rest_of p.state) Dirty && is_dirty_time_over space
 
 -- one extent in flight is put down, and the next one is told
 abbrev pub put_at_rest : Space → ℕ → Part → Stepped
@@ -238,7 +198,7 @@ put_at_rest space c p =
 abbrev pub put_beside : Space → ℕ → Part → Option Part → Stepped
 put_beside space c p (Some other) = replaced space other (taken_out c other ∷ []) (Beside other.span)
 put_beside space c p None =
-    if is_purged space p then stays space (Purge (not (int_eq space.muzzy.ms (pos 0)))) else put_at_rest space c p
+    if is_purged space p then stays space (Purge (is_lazy space)) else put_at_rest space c p
 
 -- looks for a neighbour of an extent in flight
 abbrev pub put_at : Space → ℕ → ℕ → Option Part → Stepped
@@ -246,14 +206,6 @@ put_at space c tries None = stays space Noted
 put_at space c tries (Some p) = put_beside space c p (neighbour tries p space.parts)
 
 -- ---- MergeDone
-
--- the pages of two extents side by side, as one
-abbrev pub joined : Part → Part → Part
-joined low high = record low { span = record { first = low.span.first; pages = low.span.pages + high.span.pages } }
-
--- whether the extent begins where one of the two does
-abbrev pub begins_either : Part → Part → Part → Bool
-begins_either low high p = begins_at low.span.first p || begins_at high.span.first p
 
 -- two extents in flight are one from now on
 abbrev pub join_at : Space → Option Part → Option Part → Stepped
@@ -289,6 +241,25 @@ step_of space c (Land span class count) = land_at space c class count (find (is_
 step_of space c (Back addrs) = after_back space c addrs
 step_of space c (PutLook span tries) = put_at space c tries (find (is_flight_at c span) space.parts)
 step_of space c (MergeDone heard own_low) = after_merge space c own_low heard.ask heard.answer
+step_of space c (Fill class count) = after_fill space c class count
+step_of space c (Advance now) = after_advance space now
+step_of space c (PurgeTake rest keep) = after_purge_take space c rest keep
+step_of space c (LazyDone heard) = after_lazy space c heard.ask heard.answer
+step_of space c (Offer span) = offer_at space c (find (is_flight_at c span) space.parts)
+step_of space c (OfferDone heard found) = after_offer space c found heard.ask heard.answer
+step_of space c (DecommitDone heard) = after_decommit space c heard.ask heard.answer
+step_of space c (ForcedDone heard) = stays space Noted
+step_of space c (Publish addr) = after_publish space c addr
+step_of space c (TakeOver addr) = after_take_over space c addr
+step_of space c (Reset cached) = after_reset space c cached
+step_of space c (Destroy cached) = after_destroy space c cached
+step_of space c DestroyTake = after_destroy_take space
+step_of space c Counts = if_live space (stays space (Counted (counts_of space)))
+step_of space c (Set setting) = after_set space c setting
+step_of space c (Widen addr pages) = after_widen space c addr pages
+step_of space c (JoinDone heard class) = after_join space c class heard.ask heard.answer
+step_of space c (Trim addr class) = after_trim space c
+step_of space c (TrimDone heard class) = after_trim_done space c class heard.ask heard.answer
 
 -- the space after an entry
 abbrev pub space_after : Space → Entry → Space
@@ -300,21 +271,6 @@ reply_to space entry = (step_of space entry.client entry.op).reply
 
 -- ---- which entries may stand
 
--- whether something was found and passes the test
-abbrev pub found_passes : (Part → Bool) → Option Part → Bool
-found_passes test None = false
-found_passes test (Some p) = test p
-
--- whether the client has an extent in flight with just this span, and it passes the test
-abbrev pub has_flight : Space → ℕ → Span → (Part → Bool) → Bool
-has_flight space c span test = found_passes test (find (is_flight_at c span) space.parts)
-
--- whether the answer is one to an ask other than alloc
-abbrev pub is_yes_or_no : Answer → Bool
-is_yes_or_no Done = true
-is_yes_or_no Refuses = true
-is_yes_or_no (Placed first committed zeroed) = false
-
 -- whether the answer is one to an alloc
 abbrev pub is_range_or_no : Answer → Bool
 is_range_or_no Done = false
@@ -323,7 +279,7 @@ is_range_or_no (Placed first committed zeroed) = true
 
 -- whether the client allocates from the arena, or holds a region of it
 abbrev pub is_customer : Space → ℕ → Bool
-is_customer space c = list_any (λ b. b == c) space.bound || list_any (is_held_by c) space.regions
+is_customer space c = is_in c space.bound || list_any (is_held_by c) space.regions
 
 -- whether the answer to a split may be taken in
 abbrev pub cut_stands : Space → ℕ → Ask → Answer → Bool
@@ -341,12 +297,6 @@ grow_stands space c ask answer = false
 abbrev pub commit_stands : Space → ℕ → Ask → Answer → Bool
 commit_stands space c (Commit span) answer = is_yes_or_no answer && has_flight space c span (λ p. not p.committed)
 commit_stands space c ask answer = false
-
--- whether regions of the class may land in the extent: one of a large class, in an extent of its pages
-abbrev pub land_stands : Space → ℕ → Span → ℕ → ℕ → Bool
-land_stands space c span class count =
-    nat_le 36 class && nat_lt class 121 && count == 1 && span.pages == pages_at class
-    && has_flight space c span (λ p. p.committed)
 
 -- whether the addresses rise, from the least that the first may have on
 abbrev pub rises_from : ℕ → List ℕ → Bool
@@ -377,7 +327,8 @@ merge_stands space c (Merge low high) answer =
     && both_merge (find (is_flight_at c low) space.parts) (find (is_flight_at c high) space.parts)
 merge_stands space c ask answer = false
 
--- whether the operation may come next: in a space that isn't live only a look may, which then finds no arena
+-- whether the operation may come next: of an arena that isn't live only one that then replies so, one that makes it live,
+-- or one that takes an extent off, by the client that is destroying it
 abbrev pub op_stands : Space → ℕ → Op → Bool
 op_stands space c (Look pages align) = nat_lt 0 pages && is_power_of_two align
 op_stands space c (CutDone heard keep_low) = is_live space.life && cut_stands space c heard.ask heard.answer
@@ -387,6 +338,25 @@ op_stands space c (Land span class count) = is_live space.life && land_stands sp
 op_stands space c (Back addrs) = is_live space.life && back_stands space c addrs
 op_stands space c (PutLook span tries) = is_live space.life && nat_lt tries 3 && has_flight space c span (λ _. true)
 op_stands space c (MergeDone heard own_low) = is_live space.life && merge_stands space c heard.ask heard.answer
+op_stands space c (Fill class count) = fill_stands class count
+op_stands space c (Advance now) = true
+op_stands space c (PurgeTake rest keep) = is_purgeable rest
+op_stands space c (LazyDone heard) = is_live space.life && lazy_stands space c heard.ask heard.answer
+op_stands space c (Offer span) = is_live space.life && has_flight space c span (λ _. true)
+op_stands space c (OfferDone heard found) = is_live space.life && offer_stands space c heard.ask heard.answer
+op_stands space c (DecommitDone heard) = is_live space.life && decommit_stands space c heard.ask heard.answer
+op_stands space c (ForcedDone heard) = is_live space.life && forced_stands space c heard.ask heard.answer
+op_stands space c (Publish addr) = is_live space.life && holds_at c space.regions addr
+op_stands space c (TakeOver addr) = true
+op_stands space c (Reset cached) = reset_stands space c cached
+op_stands space c (Destroy cached) = reset_stands space c cached
+op_stands space c DestroyTake = is_dying c space.life
+op_stands space c Counts = true
+op_stands space c (Set setting) = setting_stands setting
+op_stands space c (Widen addr pages) = is_live space.life && widen_stands space c addr pages
+op_stands space c (JoinDone heard class) = is_live space.life && join_stands space c class heard.ask heard.answer
+op_stands space c (Trim addr class) = is_live space.life && trim_stands space c addr class
+op_stands space c (TrimDone heard class) = is_live space.life && trim_done_stands space c class heard.ask heard.answer
 
 -- whether the entry may come next
 abbrev pub stands : Space → Entry → Bool

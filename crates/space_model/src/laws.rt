@@ -1,6 +1,6 @@
 //! What is true of every arena and of every journal. Each law is a function that does nothing, whose contract says it.
 
-ghost use Rattle.space_model.specs.Laws.{EntriesKeepGood, EntriesKeepOthers, FirstReplaysAreGood, AbsentReplaysAreGood, ReplaysKeepGood, ReplaysKeepOthers, PartsAreApart, RegionsAreApart, RegionsHaveHomes, RegionsAreGranted, RegionsAreAligned, MappedIsSum, MappedIsUnretained, BytesFitSpace};
+ghost use Rattle.space_model.specs.Laws.{EntriesKeepGood, EntriesKeepOthers, FirstReplaysAreGood, AbsentReplaysAreGood, ReplaysKeepGood, ReplaysKeepOthers, PartsAreApart, RegionsAreApart, RegionsRise, RegionsHaveHomes, RegionsAreGranted, RegionsAreAligned, MappedIsSum, MappedIsUnretained, BytesFitSpace, RepliesTellOutcome, RepliesTellFlights};
 
 /// An entry that may stand keeps a good space good, and what other clients own as it was.
 pub fn entries_keep_good()
@@ -16,10 +16,17 @@ pub fn replays_are_good()
     ensures others { ReplaysKeepOthers }
 {}
 
-/// No page is in two extents, and no byte in two regions.
+/// Each reply tells which way its operation went, and how many extents its client has in flight then.
+pub fn replies_tell()
+    ensures outcome { RepliesTellOutcome }
+    ensures flights { RepliesTellFlights }
+{}
+
+/// No page is in two extents, and no byte in two regions, which stand by address.
 pub fn nothing_is_shared()
     ensures parts { PartsAreApart }
     ensures regions { RegionsAreApart }
+    ensures rise { RegionsRise }
 {}
 
 /// Each region lies in an active, committed extent, on granted pages and aligned.

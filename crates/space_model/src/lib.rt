@@ -22,17 +22,18 @@ pub use addresses::Addresses;
 pub use asks::{Answer, Ask, Heard};
 pub use clients::Clients;
 pub use counts::Counts;
-pub use entries::{Entry, Op, Reply, Why};
+pub use entries::{Entry, Op, Reply, Setting, Why};
 pub use laws::{
     counts_add_up, entries_keep_good, nothing_is_shared, regions_are_usable, replays_are_good,
+    replies_tell,
 };
 pub use parts::{Offered, Offers, Part, Parts, Region, Regions, Rest, Span, State};
 pub use plain::{may_stand, plain_counts, plain_step};
 pub use seq::Seq;
-pub use spaces::{Added, Addeds, Life, Pace, Space};
+pub use spaces::{Added, Addeds, Life, MAX_SERIES, Pace, Space};
 
 /// How many chunks of 2 MiB the space of addresses has. They are numbered from 1.
-pub const CHUNKS: u64 = 65535;
+pub const CHUNKS: u64 = 1048575;
 
 /// How many pages of 4 KiB a chunk has.
 pub const CHUNK_PAGES: u64 = 512;

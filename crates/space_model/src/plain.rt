@@ -3,9 +3,16 @@
 //! It is what every faster body is compared with. A call is as slow as its definition reads: a look compares each
 //! candidate with each other one.
 
+mod ends;
 mod finds;
 mod frees;
+mod holds;
 mod moves;
+mod paces;
+mod purges;
+mod resizes;
+mod settings;
+mod slabs;
 mod stands;
 mod sums;
 

@@ -1,6 +1,6 @@
 //! A list that definitions and journals name.
 
-ghost use Rattle.std.specs.Prelude.{◌≡◌, ◌==◌, [], ◌∷◌, ◌++◌, length, OnOk, OnErr};
+ghost use Rattle.std.specs.Prelude.{◌≡◌, ◌<◌, ◌^◌, ◌==◌, [], ◌∷◌, ◌++◌, length, OnOk, OnErr};
 
 use std::alloc::{AllocError as NoMemory, Global};
 use std::marker::Model;
@@ -56,6 +56,13 @@ impl<T> Seq<T> {
         ensures { result ≡ length self.now }
     {
         self.items.len()
+    }
+
+    /// A list that is there has fewer than 2^63 elements.
+    pub(crate) fn is_short(&self)
+        ensures { length self.now < 2 ^ 63 }
+    {
+        let _length = self.items.len();
     }
 
     /// Whether there is no element.

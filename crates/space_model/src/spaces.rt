@@ -79,6 +79,12 @@ pub struct Space {
     pub dirty: Pace,
     /// The decay of its muzzy extents.
     pub muzzy: Pace,
+    /// How many chunks its next growth has that no request needs, from 1 to 16384: twice its largest growth so far.
+    pub grow: u64,
+    /// The most chunks of such a growth, from 1 to 16384.
+    pub grow_limit: u64,
+    /// The clients that are shrinking a region of it in place.
+    pub trims: Clients,
 }
 
 /// The decay time of dirty extents where nobody set one, in milliseconds.
@@ -86,6 +92,9 @@ const DIRTY_MS: i64 = 10000;
 
 /// The decay time of muzzy extents where nobody set one, in milliseconds.
 const MUZZY_MS: i64 = 0;
+
+/// The most chunks of a growth that no request needs.
+pub const MAX_SERIES: u64 = 16384;
 
 impl Space {
     /// No arena: nothing in it, and nobody bound. Takes no memory.
@@ -115,6 +124,9 @@ impl Space {
             box_no: 0,
             dirty: Pace::new(alloc, DIRTY_MS, 0),
             muzzy: Pace::new(alloc, MUZZY_MS, 0),
+            grow: 1,
+            grow_limit: MAX_SERIES,
+            trims: Clients::none(),
         }
     }
 }

@@ -1,7 +1,8 @@
 //! What the states of extents and of arenas say.
 
 ghost use Rattle.std.specs.Prelude.{◌≡◌, ◌+◌, ◌≤◌, ◌<◌, ◌^◌};
-ghost use Rattle.space_model.specs.Part.{is_active, is_flight, is_listed, listed, rest_of};
+ghost use Rattle.space_model.specs.Part.{is_active, is_flight, is_listed, is_unused, listed, rest_of};
+ghost use Rattle.space_model.specs.Own.{is_dying};
 ghost use Rattle.space_model.specs.Sound.{is_in_flight};
 ghost use Rattle.space_model.specs.Step.{is_like, is_live, low_piece, high_piece};
 
@@ -43,6 +44,13 @@ impl State {
         ensures { result ≡ is_in_flight self }
     {
         matches!(self, State::Flight(..))
+    }
+
+    /// Whether an extent in this state is in one of the three lists.
+    pub fn is_unused(self) -> bool
+        ensures { result ≡ is_unused self }
+    {
+        !self.is_active() && !self.is_in_flight()
     }
 
     /// Where an extent in this state belongs when it is put down.
@@ -111,6 +119,16 @@ impl Life {
         match self {
             Life::Live => true,
             Life::Absent | Life::Dying(_) => false,
+        }
+    }
+
+    /// Whether the client is destroying the arena.
+    pub fn is_dying(self, client: u32) -> bool
+        ensures { result ≡ is_dying client self }
+    {
+        match self {
+            Life::Dying(by) => by == client,
+            Life::Live | Life::Absent => false,
         }
     }
 }

@@ -175,7 +175,7 @@ fn is_found(found: Option<u64>, chunk: u64) -> bool
 }
 
 /// Whether some extent meets the span.
-fn any_meets(parts: &[Part], span: Span) -> bool
+pub fn any_meets(parts: &[Part], span: Span) -> bool
     ensures { result ≡ list_any (λ p. meets p.span span) parts.now }
 {
     parts.iter().any(|part| meets(part.span, span))

@@ -1,49 +1,51 @@
 //! What an entry does.
 
-ghost use Rattle.std.specs.Prelude.{◌≡◌, ◌≢◌, ℕ, ◌+◌, ◌≤◌, ◌<◌, ◌^◌, true, IsTrue, [], ◌∷◌, ◌++◌, length, IfOk, IsOk, OnOk, OnErr, None, Some, filter, not, nat_lt, vec_len, vec_capacity};
-ghost use Rattle.std.specs.List.{position_or_len};
+ghost use Rattle.std.specs.Prelude.{◌≡◌, ◌≢◌, ℕ, ◌+◌, ◌≤◌, ◌<◌, ◌^◌, IsTrue, [], ◌∷◌, ◌++◌, IfOk, OnOk, OnErr, Some, filter, not};
 ghost use Rattle.space_model.specs.Span.{run_start};
 ghost use Rattle.space_model.specs.Part.{exchanged, begins_at, put_down, taken_out};
-ghost use Rattle.space_model.specs.Region.{inserted};
 ghost use Rattle.space_model.specs.Fit.{fit};
-ghost use Rattle.space_model.specs.Step.{cut_stands, grow_stands, land_stands, replaced, after_look, low_piece, high_piece, cut_at, whole_at, after_cut, grow_unless, after_grow, after_commit, land_at, step_of, space_after, reply_to, stands, op_stands};
+ghost use Rattle.space_model.specs.Step.{cut_stands, grow_stands, replaced, after_look, low_piece, high_piece, cut_at, whole_at, after_cut, new_part, grow_after, grow_unless, after_grow, after_commit, step_of, space_after, reply_to, stands, op_stands};
 ghost use Rattle.space_model.specs.Sound.{Sound};
 ghost use Rattle.space_model.specs.Journal.{Good};
 ghost use Rattle.space_model.specs.Own.{mine};
 
+use super::ends::{destroy, destroy_take, reset};
 use super::finds::{fit, flight, why_not};
 use super::frees::{give_back, merge_done, put_look};
+use super::holds::{publish, take_over};
+use super::paces::advance;
+use super::purges::{decommit_done, lazy_done, offer, offer_done, purge_take};
+use super::resizes::{join_done, trim, trim_done, widen};
+use super::settings::set;
+use super::slabs::{fill, land_done};
+use super::sums::counts;
 use crate::{
-    Answer, Ask, Entry, Heard, Op, Part, Parts, Region, Reply, Rest, Space, Span, State, Why,
+    Answer, Ask, CHUNK_PAGES, Entry, Heard, MAX_SERIES, Op, Part, Parts, Reply, Rest, Seq, Space,
+    Span, State, Why,
 };
-use size_classes::PAGE_BYTES;
-use std::alloc::AllocError as NoMemory;
+use std::alloc::{AllocError as NoMemory, Global};
 
-/// Takes the extents that begin at a page out.
-fn take_out(items: &mut Vec<Part>, first: u64)
-    ensures items { items.new.items ≡ filter (λ p. not (begins_at first p)) items.old.items }
-    ensures fewer { vec_len items.new ≤ vec_len items.old }
-    ensures room { vec_capacity items.new ≡ vec_capacity items.old }
+/// The extents that don't begin at the page.
+pub fn not_beginning_at(alloc: Global, first: u64, parts: &[Part]) -> Result<Vec<Part>, NoMemory>
+    ensures { IfOk result (λ all. all.items ≡ filter (λ p. not (begins_at first p)) parts.now) }
 {
-    items.retain(|part| part.span.first != first);
+    parts
+        .iter()
+        .copied()
+        .filter(|part| part.span.first != first)
+        .collect(alloc)
 }
 
-/// Takes the extents that begin at a page out, and puts pieces at the end.
-fn exchange_items(items: &mut Vec<Part>, first: u64, pieces: &[Part]) -> Result<(), NoMemory>
-    ensures ok { OnOk result (items.new.items ≡ exchanged (begins_at first) items.old.items pieces.now) }
-    ensures err { OnErr result (items.new.items ≡ items.old.items) }
-{
-    items.reserve(pieces.len())?;
-    take_out(items, first);
-    items.extend_from_slice(pieces)
-}
-
-/// The same of the extents of an arena.
+/// The extents that begin at a page go, and pieces come last.
 pub fn exchange(parts: &mut Parts, first: u64, pieces: &[Part]) -> Result<(), NoMemory>
     ensures ok { OnOk result (parts.new ≡ exchanged (begins_at first) parts.old pieces.now) }
     ensures err { OnErr result (parts.new ≡ parts.old) }
 {
-    exchange_items(&mut parts.items, first, pieces)
+    let alloc = *parts.items.allocator();
+    let mut all = not_beginning_at(alloc, first, parts.as_slice())?;
+    all.extend_from_slice(pieces)?;
+    *parts = Seq::from_vec(all);
+    Ok(())
 }
 
 /// One extent goes, and pieces come last.
@@ -93,7 +95,9 @@ fn look(space: &mut Space, client: u32, pages: u64, align: u64) -> Result<Reply,
         return Ok(Reply::NoArena);
     }
     let Some(part) = fit(pages, align, space.parts.as_slice()) else {
-        return Ok(Reply::Grow);
+        return Ok(Reply::Grow {
+            series: space.grow.min(space.grow_limit),
+        });
     };
     let reply = Reply::Took {
         span: part.span,
@@ -104,7 +108,7 @@ fn look(space: &mut Space, client: u32, pages: u64, align: u64) -> Result<Reply,
 }
 
 /// An extent in flight whose hook refused is put down whole.
-fn put_whole(space: &mut Space, found: Option<Part>) -> Result<Reply, NoMemory>
+pub fn put_whole(space: &mut Space, found: Option<Part>) -> Result<Reply, NoMemory>
     ensures after { OnOk result (space.new ≡ (whole_at space.old found).after) }
     ensures reply { IfOk result (λ told. told ≡ (whole_at space.old found).reply) }
     ensures err { OnErr result (space.new ≡ space.old) }
@@ -125,11 +129,13 @@ fn cut(space: &mut Space, keep_low: bool, left: u64, part: Part) -> Result<Reply
 {
     let low = part.low_piece(left);
     let high = part.high_piece(left);
-    if keep_low {
-        replace(space, &part, &[put_down(high), low], Reply::Cut(low.span))
-    } else {
-        replace(space, &part, &[put_down(low), high], Reply::Cut(high.span))
-    }
+    let (kept, other) = if keep_low { (low, high) } else { (high, low) };
+    replace(
+        space,
+        &part,
+        &[put_down(other), kept],
+        Reply::Cut(kept.span),
+    )
 }
 
 /// Takes in the answer to a split.
@@ -174,6 +180,31 @@ fn commit_done(space: &mut Space, client: u32, heard: Heard) -> Result<Reply, No
     }
 }
 
+/// A new extent is in flight to the retained ones.
+pub fn add_retained(
+    parts: &mut Parts,
+    client: u32,
+    span: Span,
+    committed: bool,
+) -> Result<(), NoMemory>
+    ensures ok { OnOk result (parts.new ≡ parts.old ++ new_part client span committed ∷ []) }
+    ensures err { OnErr result (parts.new ≡ parts.old) }
+{
+    parts.push(Part {
+        span,
+        state: State::Flight(client, Rest::Retained),
+        committed,
+    })
+}
+
+/// The growth after one by a span: twice that, if it isn't larger already, within the most that there may be.
+fn grow_after(grow: u64, span: Span) -> u64
+    ensures { result ≡ grow_after grow span }
+{
+    let chunks = span.pages.div_ceil(CHUNK_PAGES);
+    grow.max((2 * chunks).min(MAX_SERIES))
+}
+
 /// The answered span joins the arena, unless something speaks against it.
 fn grow(
     space: &mut Space,
@@ -189,11 +220,8 @@ fn grow(
     if let Some(why) = why {
         return Ok(Reply::Bad(why));
     }
-    space.parts.push(Part {
-        span,
-        state: State::Flight(client, Rest::Retained),
-        committed,
-    })?;
+    add_retained(&mut space.parts, client, span, committed)?;
+    space.grow = grow_after(space.grow, span);
     Ok(Reply::Grown { span, committed })
 }
 
@@ -227,97 +255,9 @@ fn grow_done(
     }
 }
 
-/// The place of the first region at a higher address, or the length.
-fn place_above(regions: &[Region], addr: u64) -> usize
-    ensures place { result ≡ position_or_len (λ q. nat_lt addr q.addr) regions.now }
-    ensures within { result ≤ length regions.now }
-{
-    for (place, region) in regions.iter().enumerate() {
-        if addr < region.addr {
-            return place;
-        }
-    }
-    regions.len()
-}
-
-/// Puts a region in front of the first one at a higher address.
-fn insert(regions: &mut Vec<Region>, region: Region) -> Result<(), NoMemory>
-    ensures ok { OnOk result (regions.new.items ≡ inserted region regions.old.items) }
-    ensures err { OnErr result (regions.new.items ≡ regions.old.items) }
-    ensures succeeds { vec_len regions.old < vec_capacity regions.old → IsOk result }
-{
-    let place = place_above(regions, region.addr);
-    regions.insert(place, region)?;
-    Ok(())
-}
-
-/// The first region of a large class lands in an extent, which serves it from now on.
-fn settle(
-    parts: &mut Vec<Part>,
-    regions: &mut Vec<Region>,
-    part: Part,
-    region: Region,
-) -> Result<(), NoMemory>
-    ensures parts { OnOk result (parts.new.items ≡ exchanged (begins_at part.span.first) parts.old.items (record part { state = State.Active } ∷ [])) }
-    ensures regions { OnOk result (regions.new.items ≡ inserted region regions.old.items) }
-    ensures err { OnErr result ((parts.new.items ≡ parts.old.items) × (regions.new.items ≡ regions.old.items)) }
-{
-    regions.reserve(1)?;
-    let active = Part {
-        state: State::Active,
-        ..part
-    };
-    exchange_items(parts, part.span.first, &[active])?;
-    insert(regions, region)
-}
-
-/// An extent in flight serves one region of a large class from now on, which the client holds.
-fn land(space: &mut Space, client: u32, class: u8, part: Part) -> Result<Reply, NoMemory>
-    requires { part.span.first < 2 ^ 52 }
-    ensures after { OnOk result (space.new ≡ (land_at space.old client class 1 (Some part)).after) }
-    ensures reply { IfOk result (λ told. told ≡ (land_at space.old client class 1 (Some part)).reply) }
-    ensures err { OnErr result (space.new ≡ space.old) }
-{
-    let addr = PAGE_BYTES * part.span.first;
-    let region = Region {
-        addr,
-        class,
-        holder: Some(client),
-    };
-    settle(
-        &mut space.parts.items,
-        &mut space.regions.items,
-        part,
-        region,
-    )?;
-    Ok(Reply::Landed {
-        first: addr,
-        count: 1,
-    })
-}
-
-/// Takes in that regions land.
-fn land_done(
-    space: &mut Space,
-    client: u32,
-    span: Span,
-    class: u8,
-    count: u32,
-) -> Result<Reply, NoMemory>
-    requires stands { IsTrue (land_stands space.old client span class count) }
-    requires sound { Sound space.old }
-    ensures after { OnOk result (space.new ≡ (step_of space.old client (Op.Land span class count)).after) }
-    ensures reply { IfOk result (λ told. told ≡ (step_of space.old client (Op.Land span class count)).reply) }
-    ensures err { OnErr result (space.new ≡ space.old) }
-{
-    match flight(space.parts.as_slice(), client, span) {
-        Some(part) => land(space, client, class, part),
-        None => Ok(Reply::Noted),
-    }
-}
-
 /// What an operation does that may stand.
 fn step(space: &mut Space, client: u32, op: &Op) -> Result<Reply, NoMemory>
+    requires client { client < 32 }
     requires stands { IsTrue (op_stands space.old client op.now) }
     requires sound { Sound space.old }
     ensures after { OnOk result (space.new ≡ (step_of space.old client op.now).after) }
@@ -333,6 +273,25 @@ fn step(space: &mut Space, client: u32, op: &Op) -> Result<Reply, NoMemory>
         Op::Back { addrs } => give_back(space, client, addrs),
         Op::PutLook { span, tries } => put_look(space, client, *span, *tries),
         Op::MergeDone { heard, own_low } => merge_done(space, client, *heard, *own_low),
+        Op::Fill { class, count } => fill(space, client, *class, *count),
+        Op::Advance { now } => advance(space, *now),
+        Op::PurgeTake { rest, keep } => purge_take(space, client, *rest, *keep),
+        Op::LazyDone { heard } => lazy_done(space, client, *heard),
+        Op::Offer { span } => offer(space, client, *span),
+        Op::OfferDone { heard, found } => offer_done(space, client, *heard, *found),
+        Op::DecommitDone { heard } => decommit_done(space, client, *heard),
+        Op::ForcedDone { .. } => Ok(Reply::Noted),
+        Op::Publish { addr } => publish(space, client, *addr),
+        Op::TakeOver { addr } => take_over(space, client, *addr),
+        Op::Reset { cached } => reset(space, client, *cached),
+        Op::Destroy { cached } => destroy(space, client, *cached),
+        Op::DestroyTake => destroy_take(space),
+        Op::Counts => Ok(counts(space)),
+        Op::Set(setting) => Ok(set(space, client, *setting)),
+        Op::Widen { addr, pages } => widen(space, client, *addr, *pages),
+        Op::JoinDone { heard, class } => join_done(space, client, *heard, *class),
+        Op::Trim { .. } => Ok(trim(space, client)),
+        Op::TrimDone { heard, class } => trim_done(space, client, *heard, *class),
     }
 }
 

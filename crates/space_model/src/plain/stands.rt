@@ -1,16 +1,20 @@
 //! Which entries may stand.
 
-ghost use Rattle.std.specs.Prelude.{◌≡◌, ◌==◌, ◌&&◌};
+ghost use Rattle.std.specs.Prelude.{◌≡◌, ◌==◌, ◌&&◌, true};
 ghost use Rattle.std.specs.List.{list_any, list_all};
 ghost use Rattle.space_model.specs.Region.{is_held_by};
-ghost use Rattle.space_model.specs.Step.{is_live, is_yes_or_no, is_range_or_no, is_customer, cut_stands, grow_stands, commit_stands, land_stands, rises_from, holds_at, back_stands, may_merge, merge_stands, op_stands, stands};
+ghost use Rattle.space_model.specs.Step.{is_live, is_yes_or_no, is_range_or_no, is_customer, cut_stands, grow_stands, commit_stands, has_flight, rises_from, holds_at, back_stands, may_merge, merge_stands, op_stands, stands};
 
+use super::ends::reset_stands;
 use super::finds::flight;
-use crate::{Answer, Ask, CLIENTS, Clients, Entry, Heard, Op, Part, Region, Space, Span};
-use size_classes::{CLASSES, SMALL_CLASSES, class_pages};
+use super::purges::{decommit_stands, forced_stands, is_purgeable, lazy_stands, offer_stands};
+use super::resizes::{join_stands, trim_done_stands, trim_stands, widen_stands};
+use super::settings::setting_stands;
+use super::slabs::{fill_stands, land_stands};
+use crate::{Answer, Ask, CLIENTS, Entry, Heard, Op, Part, Region, Space, Span};
 
 /// Whether the answer is one to an ask other than alloc.
-fn is_yes_or_no(answer: Answer) -> bool
+pub fn is_yes_or_no(answer: Answer) -> bool
     ensures { result ≡ is_yes_or_no answer }
 {
     match answer {
@@ -27,13 +31,6 @@ fn is_range_or_no(answer: Answer) -> bool
         Answer::Placed { .. } | Answer::Refused => true,
         Answer::Done => false,
     }
-}
-
-/// Whether the client allocates from the arena.
-fn is_bound(bound: &Clients, client: u32) -> bool
-    ensures { result ≡ list_any (λ b. b == client) bound.now }
-{
-    bound.as_slice().iter().any(|other| *other == client)
 }
 
 /// Whether the client holds the region.
@@ -57,7 +54,14 @@ fn holds_any(regions: &[Region], client: u32) -> bool
 fn is_customer(space: &Space, client: u32) -> bool
     ensures { result ≡ is_customer space.now client }
 {
-    is_bound(&space.bound, client) || holds_any(space.regions.as_slice(), client)
+    space.bound.contains(client) || holds_any(space.regions.as_slice(), client)
+}
+
+/// Whether the client has an extent in flight with just this span.
+pub fn has_flight(space: &Space, client: u32, span: Span) -> bool
+    ensures { result ≡ has_flight space.now client span (λ _. true) }
+{
+    flight(space.parts.as_slice(), client, span).is_some()
 }
 
 /// Whether the answer to a split may be taken in.
@@ -69,7 +73,7 @@ fn cut_stands(space: &Space, client: u32, heard: Heard) -> bool
             is_yes_or_no(heard.answer)
                 && 0 < left
                 && left < span.pages
-                && flight(space.parts.as_slice(), client, span).is_some()
+                && has_flight(space, client, span)
         }
         _ => false,
     }
@@ -106,20 +110,6 @@ fn commit_stands(space: &Space, client: u32, heard: Heard) -> bool
     }
 }
 
-/// Whether regions of the class may land in the extent: one of a large class, in an extent of its pages.
-fn land_stands(space: &Space, client: u32, span: Span, class: u8, count: u32) -> bool
-    ensures { result ≡ land_stands space.now client span class count }
-{
-    SMALL_CLASSES <= class
-        && class < CLASSES
-        && count == 1
-        && span.pages == class_pages(class)
-        && match flight(space.parts.as_slice(), client, span) {
-            Some(part) => part.committed,
-            None => false,
-        }
-}
-
 /// Whether each address is above the one before it.
 fn rises(addrs: &[u64]) -> bool
     ensures { result ≡ rises_from 0 addrs.now }
@@ -142,7 +132,7 @@ fn is_held_at(client: u32, addr: u64, region: &Region) -> bool
 }
 
 /// Whether the client holds a region at the address.
-fn holds_at(client: u32, regions: &[Region], addr: u64) -> bool
+pub fn holds_at(client: u32, regions: &[Region], addr: u64) -> bool
     ensures { result ≡ holds_at client regions.now addr }
 {
     regions
@@ -201,11 +191,37 @@ fn op_stands(space: &Space, client: u32, op: &Op) -> bool
         }
         Op::Back { addrs } => space.life.is_live() && back_stands(space, client, addrs.as_slice()),
         Op::PutLook { span, tries } => {
-            space.life.is_live()
-                && *tries < 3
-                && flight(space.parts.as_slice(), client, *span).is_some()
+            space.life.is_live() && *tries < 3 && has_flight(space, client, *span)
         }
         Op::MergeDone { heard, .. } => space.life.is_live() && merge_stands(space, client, *heard),
+        Op::Fill { class, count } => fill_stands(*class, *count),
+        Op::Advance { .. } | Op::TakeOver { .. } | Op::Counts => true,
+        Op::PurgeTake { rest, .. } => is_purgeable(*rest),
+        Op::LazyDone { heard } => space.life.is_live() && lazy_stands(space, client, *heard),
+        Op::Offer { span } => space.life.is_live() && has_flight(space, client, *span),
+        Op::OfferDone { heard, .. } => space.life.is_live() && offer_stands(space, client, *heard),
+        Op::DecommitDone { heard } => {
+            space.life.is_live() && decommit_stands(space, client, *heard)
+        }
+        Op::ForcedDone { heard } => space.life.is_live() && forced_stands(space, client, *heard),
+        Op::Publish { addr } => {
+            space.life.is_live() && holds_at(client, space.regions.as_slice(), *addr)
+        }
+        Op::Reset { cached } | Op::Destroy { cached } => reset_stands(space, client, *cached),
+        Op::DestroyTake => space.life.is_dying(client),
+        Op::Set(setting) => setting_stands(*setting),
+        Op::Widen { addr, pages } => {
+            space.life.is_live() && widen_stands(space, client, *addr, *pages)
+        }
+        Op::JoinDone { heard, class } => {
+            space.life.is_live() && join_stands(space, client, *heard, *class)
+        }
+        Op::Trim { addr, class } => {
+            space.life.is_live() && trim_stands(space, client, *addr, *class)
+        }
+        Op::TrimDone { heard, class } => {
+            space.life.is_live() && trim_done_stands(space, client, *heard, *class)
+        }
     }
 }
 

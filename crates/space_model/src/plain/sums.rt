@@ -1,12 +1,16 @@
 //! The counts of a space, by scans over its lists.
 
-ghost use Rattle.std.specs.Prelude.{◌≡◌, ◌≤◌, ◌^◌, if◌then◌else◌};
+ghost use Rattle.std.specs.Prelude.{◌≡◌, ◌==◌, ◌+◌, ◌<◌, ◌≤◌, ◌^◌, nat_lt, not, count_by, if◌then◌else◌};
+ghost use Rattle.size_classes.specs.Classes.{size_at};
 ghost use Rattle.space_model.specs.Span.{IsPlaced};
-ghost use Rattle.space_model.specs.Counts.{bytes_of, bytes_where, is_of, region_bytes, counts_of};
+ghost use Rattle.space_model.specs.Counts.{bytes_of, bytes_where, is_of, region_bytes, region_bytes_where, regions_by_class, slabs_by_class, counts_of};
+ghost use Rattle.space_model.specs.Region.{is_slab};
+ghost use Rattle.space_model.specs.Stepped.{if_live, stays};
 ghost use Rattle.space_model.specs.Sound.{Sound};
 
-use crate::{Counts, Part, Region, Rest, Space, State};
-use size_classes::{PAGE_BYTES, size_of};
+use super::slabs::is_slab;
+use crate::{Counts, Part, Region, Reply, Rest, Space, State};
+use size_classes::{PAGE_BYTES, SMALL_CLASSES, size_of};
 
 /// What the bytes of an extent count as.
 #[derive(Clone, Copy)]
@@ -46,7 +50,7 @@ fn bytes_if(kind: Use, part: &Part) -> u64
 fn bytes_in(kind: Use, space: &Space) -> u64
     requires { Sound space.now }
     ensures bytes { result ≡ bytes_where (is_of kind) space.now.parts }
-    ensures within { result ≤ 2 ^ 37 }
+    ensures within { result ≤ 2 ^ 41 }
 {
     space
         .parts
@@ -69,8 +73,104 @@ fn region_bytes(space: &Space) -> u64
         .sum()
 }
 
+/// Whether a class is small, or whether it is large.
+fn is_of_size(small: bool, class: u8) -> bool
+    ensures { result ≡ (if small then nat_lt class 36 else not (nat_lt class 36)) }
+{
+    if small {
+        class < SMALL_CLASSES
+    } else {
+        SMALL_CLASSES <= class
+    }
+}
+
+/// The size of a region, if it is small or large as asked.
+fn size_if(small: bool, region: &Region) -> u64
+    requires { region.now.class < 121 }
+    ensures { result ≡ (if (if small then nat_lt region.now.class 36 else not (nat_lt region.now.class 36)) then size_at region.now.class else 0) }
+{
+    if is_of_size(small, region.class) {
+        size_of(region.class)
+    } else {
+        0
+    }
+}
+
+/// The sizes of the small regions, or of the large ones.
+fn region_bytes_of(small: bool, space: &Space) -> u64
+    requires { Sound space.now }
+    ensures { result ≡ region_bytes_where (λ class. if small then nat_lt class 36 else not (nat_lt class 36)) space.now.regions }
+{
+    space
+        .regions
+        .as_slice()
+        .iter()
+        .map(|region| size_if(small, region))
+        .sum()
+}
+
+/// How many regions there are of a class.
+fn count_of(class: u8, regions: &[Region]) -> u64
+    ensures { result ≡ count_by (λ r. r.class == class) regions.now }
+{
+    regions
+        .iter()
+        .filter(|region| region.class == class)
+        .count() as u64
+}
+
+/// How many regions there are of each class, from one on.
+fn regions_by_class<const N: usize>(first: u8, regions: &[Region]) -> [u64; N]
+    requires { first + N ≤ 256 }
+    ensures { result ≡ regions_by_class first N regions.now }
+{
+    let mut numbers = [0; N];
+    for i in 0..N {
+        numbers[i] = count_of(first + i as u8, regions);
+    }
+    numbers
+}
+
+/// How many slabs there are of a class.
+fn slab_count(class: u8, space: &Space) -> u64
+    requires { Sound space.now }
+    ensures { result ≡ count_by (is_slab class space.now.regions) space.now.parts }
+{
+    let regions = space.regions.as_slice();
+    space
+        .parts
+        .as_slice()
+        .iter()
+        .filter(|part| is_slab(class, regions, part))
+        .count() as u64
+}
+
+/// How many slabs there are of each small class.
+fn slabs_by_class(space: &Space) -> [u64; 36]
+    requires { Sound space.now }
+    ensures { result ≡ slabs_by_class space.now.regions space.now.parts }
+{
+    let mut numbers = [0; 36];
+    for class in 0..36 {
+        numbers[class] = slab_count(class as u8, space);
+    }
+    numbers
+}
+
+/// The counts of a live arena.
+pub fn counts(space: &Space) -> Reply
+    requires { Sound space.now }
+    ensures reply { result ≡ (if_live space.now (stays space.now (Reply.Counted (counts_of space.now)))).reply }
+    ensures same { (if_live space.now (stays space.now (Reply.Counted (counts_of space.now)))).after ≡ space.now }
+{
+    if space.life.is_live() {
+        Reply::Counted(plain_counts(space))
+    } else {
+        Reply::NoArena
+    }
+}
+
 /// The counts of an arena, by sums over its lists.
-#[tactic(auto, using(crate::proofs::Sums::mapped_sum))]
 pub fn plain_counts(space: &Space) -> Counts
     requires { Sound space.now }
     ensures { result ≡ counts_of space.now }
@@ -87,5 +187,10 @@ pub fn plain_counts(space: &Space) -> Counts
         retained: bytes_in(Use::Listed(Rest::Retained), space),
         flight,
         mapped: active + dirty + muzzy + flight,
+        small: region_bytes_of(true, space),
+        large: region_bytes_of(false, space),
+        regs: regions_by_class(0, space.regions.as_slice()),
+        slabs: slabs_by_class(space),
+        lextents: regions_by_class(SMALL_CLASSES, space.regions.as_slice()),
     }
 }

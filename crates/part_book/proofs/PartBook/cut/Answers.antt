@@ -1,41 +1,63 @@
-use Rattle.std.proofs.Common.{◌≡◌, ◌+◌, ◌-◌, ◌*◌, ◌/◌, find, sym, ap, ◌∙◌, subst, arith}
+use Rattle.std.proofs.Common.{◌≡◌, ◌+◌, ◌-◌, ◌*◌, ◌/◌, not, [], ◌∷◌, filter, find, sym, ap, ◌∙◌, subst, arith}
 use Rattle.space_model.specs.Span.{end_of}
-use Rattle.space_model.specs.Part.{begins_at}
+use Rattle.space_model.specs.Part.{begins_at, exchanged}
 use Rattle.space_model.specs.Step.{high_piece}
-use Rattle.part_book.specs.Tables.{HasRoom}
-use Rattle.part_book.proofs.Changed.{cut_parts}
-use Rattle.part_book.proofs.Chunks.{leaves_first, leaves_last, leaves_none, more_leaves}
+use Rattle.part_book.specs.Tables.{HasRoom, parts_of}
+use Rattle.part_book.proofs.Changed.{cut_parts, high_apart, low_apart, low_placed, others_from}
+use Rattle.part_book.proofs.Chunks.{leaves_first, leaves_last, leaves_none}
 use Rattle.part_book.proofs.Rooms.{room_less}
 use Rattle.part_book.proofs.PartBook.cut.Goals as goal
 
-pub put_on-requires-2-clause-room : goal.put_on-requires-2-clause-room
-put_on-requires-2-clause-room c =
+pub exchange-requires-clause-placed : goal.exchange-requires-clause-placed
+exchange-requires-clause-placed c =
+    let fewer = rw (sym (ap (λ b. find (begins_at c.args.first) b.parts) c.self.view_is) ∙ c.extent_at-number.ensures.at.found) at c.requires.fewer in
+    rw c.low_piece.ensures (low_placed c.args.left c.extent_at-number.result.1 c.extent_at-number.ensures.placed c.requires.some fewer)
+
+pub exchange-requires-clause-apart : goal.exchange-requires-clause-apart
+exchange-requires-clause-apart c =
+    let p = c.extent_at-number.result.1 in
+    let at = c.extent_at-number.ensures in
+    let fewer = rw (sym (ap (λ b. find (begins_at c.args.first) b.parts) c.self.view_is) ∙ at.at.found) at c.requires.fewer in
+    let others = others_from (parts_of c.self.inside.table) c.args.first p.span.first p at.first at.apart in
+    rw c.low_piece.ensures (low_apart c.args.left p (filter (λ x. not (begins_at p.span.first x)) (parts_of c.self.inside.table)) fewer others)
+
+pub put_on-requires-clause-apart : goal.put_on-requires-clause-apart
+put_on-requires-clause-apart c =
+    let p = c.extent_at-number.result.1 in
+    let at = c.extent_at-number.ensures in
+    let fewer = rw (sym (ap (λ b. find (begins_at c.args.first) b.parts) c.self.view_is) ∙ at.at.found) at c.requires.fewer in
+    let others = others_from (parts_of c.self.inside.table) c.args.first p.span.first p at.first at.apart in
+    let now = c.exchange.ensures.kept.parts ∙ ap (λ low. exchanged (begins_at p.span.first) (parts_of c.self.inside.table) (low ∷ [])) c.low_piece.ensures in
+    rw c.high_piece.ensures (high_apart c.args.left p (filter (λ x. not (begins_at p.span.first x)) (parts_of c.self.inside.table)) (parts_of c.exchange.new.self) fewer others now)
+
+pub put_on-requires-clause-room : goal.put_on-requires-clause-room
+put_on-requires-clause-room c =
     let was : c.self.inside.spare ≡ c.args.self.now.spare = ap (λ b. b.spare) c.self.view_is in
     let n = c.self.inside.spare in
-    room_less c.put_on.new.self n 1 (c.put_on.ensures.room n (c.take_off-part.ensures.room n c.self.invariant.room)) (omega arith)
+    room_less c.exchange.new.self n 1 (c.exchange.ensures.room n c.self.invariant.room) (omega arith)
 
 pub invariant_of-self : goal.invariant_of-self
 invariant_of-self c =
     let was : c.self.inside.spare ≡ c.args.self.now.spare = ap (λ b. b.spare) c.self.view_is in
     let n = c.self.inside.spare in
     let back : n ≡ n - 1 + 1 = omega arith in
-    let t = c.take_off-part.new.self in
-    let u = c.put_on.new.self in
-    let left = more_leaves c.self.inside.table.edges t.edges (2 * n) c.take_off-part.ensures.chunks (omega arith) c.self.invariant.leaves in
-    let there = leaves_none t.edges c.take_off-part.result.span c.take_off-part.ensures.leaves in
+    let t = c.self.inside.table in
+    let u = c.exchange.new.self in
+    let p = c.extent_at-number.result.1 in
+    let there = leaves_none t.edges p.span c.extent_at-number.ensures.leaves in
     let low = leaves_first t.edges c.low_piece.result.span (rw c.low_piece.ensures there.0) in
-    let next = c.put_on.ensures.leaves (2 * n - 1) (omega arith) in
-    let fewer = rw (sym (ap (λ b. find (begins_at c.args.first) b.parts) c.self.view_is) ∙ c.take_off-part.ensures.part) at c.requires.fewer in
-    let same : end_of (high_piece c.args.left c.take_off-part.result).span ≡ end_of c.take_off-part.result.span = omega arith in
-    let last = c.put_on.ensures.chunks ((end_of c.take_off-part.result.span - 1) / 512) there.1 in
+    let left = c.self.invariant.leaves in
+    let next = c.exchange.ensures.leaves (2 * n - 1) (omega arith) in
+    let fewer = rw (sym (ap (λ b. find (begins_at c.args.first) b.parts) c.self.view_is) ∙ c.extent_at-number.ensures.at.found) at c.requires.fewer in
+    let same : end_of (high_piece c.args.left p).span ≡ end_of p.span = omega arith in
+    let last = c.exchange.ensures.chunks ((end_of p.span - 1) / 512) there.1 in
     let high = leaves_last u.edges c.high_piece.result.span (rw (c.high_piece.ensures, same) last) in
     record {
-      table = c.put_on-2.ensures.kept.table;
-      room = c.put_on-2.ensures.room (n - 1) (subst (HasRoom u) back (c.put_on.ensures.room n (c.take_off-part.ensures.room n c.self.invariant.room)));
-      leaves = c.put_on-2.ensures.leaves (2 * (n - 1)) (omega arith);
+      table = c.put_on.ensures.kept.table;
+      room = c.put_on.ensures.room (n - 1) (subst (HasRoom u) back (c.exchange.ensures.room n c.self.invariant.room));
+      leaves = c.put_on.ensures.leaves (2 * (n - 1)) (omega arith);
     }
 
 pub returns-clause-parts : goal.returns-clause-parts
 returns-clause-parts c =
-    let whole = c.take_off-part.ensures in
-    cut_parts _ _ _ _ _ c.args.first c.args.left _ _ _ (ap (λ b. b.parts) c.self.view_is) whole.part whole.kept.parts c.put_on.ensures.kept.parts c.put_on-2.ensures.kept.parts c.low_piece.ensures c.high_piece.ensures
+    cut_parts (parts_of c.self.inside.table) _ (parts_of c.exchange.new.self) _ c.args.first _ c.args.left c.extent_at-number.result.1 c.low_piece.result c.high_piece.result (ap (λ b. b.parts) c.self.view_is) c.extent_at-number.ensures.at.found c.extent_at-number.ensures.first c.exchange.ensures.kept.parts c.put_on.ensures.kept.parts c.low_piece.ensures c.high_piece.ensures

@@ -1,6 +1,6 @@
 use Rattle.std.proofs.Common.{◌≤◌, sym, ap, ◌∙◌, arith, find}
 use Rattle.space_model.specs.Part.{begins_at}
-use Rattle.space_model.specs.Span.{end_of}
+use Rattle.space_model.specs.Span.{end_of, pages_end}
 use Rattle.part_book.specs.Tables.{parts_of}
 use Rattle.part_book.proofs.Parts.{none_begins}
 use Rattle.part_book.proofs.PartBook.neighbour.Goals as goal
@@ -8,7 +8,7 @@ use Rattle.part_book.proofs.PartBook.neighbour.Goals as goal
 pub returns-in_err-checked_add : goal.returns-in_err-checked_add
 returns-in_err-checked_add c =
     let t = c.self.inside.table in
-    let far : 33554432 ≤ end_of c.args.span = omega arith in
-    let none = none_begins (parts_of t) (end_of c.args.span) c.self.invariant.table.apart far in
+    let far : pages_end ≤ end_of c.args.span = omega arith in
+    let none = none_begins (parts_of t) (end_of c.args.span) c.self.invariant.table.indexes.apart far in
     let seen = ap (λ b. find (begins_at (end_of c.args.span)) b.parts) (sym c.self.view_is) ∙ none in
     c.from_residual.ensures ∙ sym (rw c.if-right.true seen)

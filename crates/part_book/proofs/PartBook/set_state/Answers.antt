@@ -1,14 +1,20 @@
-use Rattle.std.proofs.Common.{◌*◌, arith}
-use Rattle.part_book.proofs.Chunks.{more_leaves}
+use Rattle.std.proofs.Common.{◌*◌, ap, arith}
+use Rattle.part_book.specs.Tables.{parts_of}
+use Rattle.part_book.proofs.Changed.{changed_parts, others_from}
 use Rattle.part_book.proofs.PartBook.set_state.Goals as goal
+
+pub exchange-requires-clause-apart : goal.exchange-requires-clause-apart
+exchange-requires-clause-apart c = others_from (parts_of c.self.inside.table) c.args.first _ c.extent_at-number.result.1 c.extent_at-number.ensures.first c.extent_at-number.ensures.apart
 
 pub invariant_of-self : goal.invariant_of-self
 invariant_of-self c =
-    let t = c.take_off-part.new.self in
     let n = c.self.inside.spare in
-    let left = more_leaves c.self.inside.table.edges t.edges (2 * n) c.take_off-part.ensures.chunks (omega arith) c.self.invariant.leaves in
     record {
-      table = c.put_on.ensures.kept.table;
-      room = c.put_on.ensures.room n (c.take_off-part.ensures.room n c.self.invariant.room);
-      leaves = c.put_on.ensures.leaves (2 * n) (omega arith);
+      table = c.exchange.ensures.kept.table;
+      room = c.exchange.ensures.room n c.self.invariant.room;
+      leaves = c.exchange.ensures.leaves (2 * n) (let none = c.extent_at-number.ensures.leaves in let left = c.self.invariant.leaves in omega arith);
     }
+
+pub returns-clause-parts : goal.returns-clause-parts
+returns-clause-parts c =
+    changed_parts (λ p. record p { state = c.args.state; committed = c.args.committed }) (parts_of c.self.inside.table) _ _ c.args.first _ c.extent_at-number.result.1 (ap (λ b. b.parts) c.self.view_is) c.extent_at-number.ensures.at.found c.extent_at-number.ensures.first c.exchange.ensures.kept.parts

@@ -1,6 +1,5 @@
 use Rattle.std.proofs.Common.{sym}
-use Rattle.space_model.proofs.LawLemmas.{bytes_fit_space}
-use Rattle.space_model.proofs.Sums.{mapped_sum, whole_sum}
+use Rattle.space_model.proofs.Sums.{bytes_fit_space, mapped_sum, whole_sum}
 use Rattle.space_model.proofs.laws.counts_add_up.Goals as goal
 
 pub returns-clause-mapped : goal.returns-clause-mapped

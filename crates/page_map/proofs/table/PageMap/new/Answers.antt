@@ -3,4 +3,4 @@ use Rattle.page_map.proofs.table.PageMap.new.Goals as goal
 
 pub returns : goal.returns
 unfolding numbers_in chunks_in
-returns c = rw (c.new.ensures.items, c.new-2.ensures.items)
+returns c = rw c.new.ensures.items

@@ -1,7 +1,8 @@
-use Rattle.std.proofs.Common.{sym, ◌∙◌}
+use Rattle.std.proofs.Common.{refl, sym, ◌∙◌}
 use Rattle.part_book.specs.Tables.{rows_of}
 use Rattle.part_book.proofs.Indexes.{in_slots}
-use Rattle.part_book.proofs.Removals.{row_read, some_number}
+use Rattle.part_book.proofs.Removals.{leaves_there, row_apart, row_first, row_read, some_number}
+use Rattle.part_book.proofs.Rowed.{row_placed}
 use Rattle.part_book.proofs.table.Table.extent_at.Goals as goal
 
 pub unwrap-number-requires : goal.unwrap-number-requires
@@ -10,7 +11,27 @@ unwrap-number-requires c = some_number c.args.self.now c.args.first c.get.result
 pub part_at-requires : goal.part_at-requires
 part_at-requires c =
     let at = row_read c.args.self.now c.args.first c.unwrap-number.result c.requires.table c.requires.begins (sym c.get.ensures.number ∙ c.unwrap-number.ensures) in
-    in_slots c.args.self.now (rows_of c.args.self.now) _ c.requires.table at.there
+    in_slots c.args.self.now (rows_of c.args.self.now) _ c.requires.table.slots at.there
 
-pub returns : goal.returns
-returns c = rw c.part_at.ensures (row_read c.args.self.now c.args.first c.unwrap-number.result c.requires.table c.requires.begins (sym c.get.ensures.number ∙ c.unwrap-number.ensures))
+pub returns-clause-at : goal.returns-clause-at
+returns-clause-at c = rw c.part_at.ensures (row_read c.args.self.now c.args.first c.unwrap-number.result c.requires.table c.requires.begins (sym c.get.ensures.number ∙ c.unwrap-number.ensures))
+
+pub returns-clause-first : goal.returns-clause-first
+returns-clause-first c =
+    let at = row_read c.args.self.now c.args.first c.unwrap-number.result c.requires.table c.requires.begins (sym c.get.ensures.number ∙ c.unwrap-number.ensures) in
+    rw c.part_at.ensures (row_first c.args.self.now c.args.first _ at)
+
+pub returns-clause-placed : goal.returns-clause-placed
+returns-clause-placed c =
+    let at = row_read c.args.self.now c.args.first c.unwrap-number.result c.requires.table c.requires.begins (sym c.get.ensures.number ∙ c.unwrap-number.ensures) in
+    rw c.part_at.ensures (row_placed (rows_of c.args.self.now) _ c.requires.table.indexes.apart at.there)
+
+pub returns-clause-apart : goal.returns-clause-apart
+returns-clause-apart c =
+    let at = row_read c.args.self.now c.args.first c.unwrap-number.result c.requires.table c.requires.begins (sym c.get.ensures.number ∙ c.unwrap-number.ensures) in
+    rw c.part_at.ensures (row_apart c.args.self.now c.args.first _ c.requires.table at)
+
+pub returns-clause-leaves : goal.returns-clause-leaves
+returns-clause-leaves c =
+    let at = row_read c.args.self.now c.args.first c.unwrap-number.result c.requires.table c.requires.begins (sym c.get.ensures.number ∙ c.unwrap-number.ensures) in
+    rw c.part_at.ensures (leaves_there c.args.self.now c.args.self.now.edges _ c.requires.table at.there refl)

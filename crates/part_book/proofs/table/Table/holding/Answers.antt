@@ -5,20 +5,20 @@ use Rattle.part_book.proofs.Parts.{clamped, clamped_none, held_by_last, held_by_
 use Rattle.part_book.proofs.table.Table.holding.Goals as goal
 
 pub end_of-requires : goal.end_of-requires
-end_of-requires c = placed (parts_of c.args.self.now) c.in_ok-part.part c.requires.table.apart c.in_ok-part.ensures.last.listed
+end_of-requires c = placed (parts_of c.args.self.now) c.in_ok-part.part c.requires.table.indexes.apart c.in_ok-part.ensures.last.listed
 
 pub returns-in_err-part : goal.returns-in_err-part
 returns-in_err-part c =
     let none = rw c.saturating_add.ensures at (c.in_err-part.ensures.none refl) in
-    c.from_residual.ensures ∙ sym (held_by_none (parts_of c.args.self.now) c.args.page (clamped_none (parts_of c.args.self.now) (c.args.page + 1) c.requires.table.apart none))
+    c.from_residual.ensures ∙ sym (held_by_none (parts_of c.args.self.now) c.args.page (clamped_none (parts_of c.args.self.now) (c.args.page + 1) c.requires.table.indexes.apart none))
 
 pub returns-then-page-end_of : goal.returns-then-page-end_of
 returns-then-page-end_of c =
-    let last = clamped (parts_of c.args.self.now) c.in_ok-part.part (c.args.page + 1) c.requires.table.apart (rw c.saturating_add.ensures at c.in_ok-part.ensures.last) in
+    let last = clamped (parts_of c.args.self.now) c.in_ok-part.part (c.args.page + 1) c.requires.table.indexes.apart (rw c.saturating_add.ensures at c.in_ok-part.ensures.last) in
     let below = last.below in
-    grind (arith, nat_tests, held_by_last (parts_of c.args.self.now) c.args.page c.in_ok-part.part c.requires.table.apart last)
+    grind (arith, nat_tests, held_by_last (parts_of c.args.self.now) c.args.page c.in_ok-part.part c.requires.table.indexes.apart last)
 
 pub returns-else-page-end_of : goal.returns-else-page-end_of
 returns-else-page-end_of c =
-    let last = clamped (parts_of c.args.self.now) c.in_ok-part.part (c.args.page + 1) c.requires.table.apart (rw c.saturating_add.ensures at c.in_ok-part.ensures.last) in
-    grind (arith, nat_tests, held_by_last (parts_of c.args.self.now) c.args.page c.in_ok-part.part c.requires.table.apart last)
+    let last = clamped (parts_of c.args.self.now) c.in_ok-part.part (c.args.page + 1) c.requires.table.indexes.apart (rw c.saturating_add.ensures at c.in_ok-part.ensures.last) in
+    grind (arith, nat_tests, held_by_last (parts_of c.args.self.now) c.args.page c.in_ok-part.part c.requires.table.indexes.apart last)

@@ -6,16 +6,16 @@ use Rattle.part_book.proofs.Parts.{clamped, clamped_none, met_by_last, met_by_no
 use Rattle.part_book.proofs.table.Table.meets.Goals as goal
 
 pub end_of-requires : goal.end_of-requires
-end_of-requires c = placed (parts_of c.args.self.now) c.in-Some.part c.requires.table.apart c.in-Some.ensures.last.listed
+end_of-requires c = placed (parts_of c.args.self.now) c.in-Some.part c.requires.table.indexes.apart c.in-Some.ensures.last.listed
 
 pub returns-in-Some : goal.returns-in-Some
 returns-in-Some c =
     let parts = parts_of c.args.self.now in
-    let last = clamped parts c.in-Some.part (end_of c.args.span) c.requires.table.apart (subst (λ n. IsLastBelow n parts c.in-Some.part) c.saturating_add.ensures c.in-Some.ensures.last) in
-    ap (ltb c.args.span.first) c.end_of.ensures ∙ sym (met_by_last parts c.args.span c.in-Some.part c.requires.table.apart last)
+    let last = clamped parts c.in-Some.part (end_of c.args.span) c.requires.table.indexes.apart (subst (λ n. IsLastBelow n parts c.in-Some.part) c.saturating_add.ensures c.in-Some.ensures.last) in
+    ap (ltb c.args.span.first) c.end_of.ensures ∙ sym (met_by_last parts c.args.span c.in-Some.part c.requires.table.indexes.apart last)
 
 pub returns-in-None : goal.returns-in-None
 returns-in-None c =
     let parts = parts_of c.args.self.now in
     let none = subst (λ n. All (λ p. n ≤ p.span.first) parts) c.saturating_add.ensures (c.in-None.ensures.none refl) in
-    sym (met_by_none parts c.args.span (clamped_none parts (end_of c.args.span) c.requires.table.apart none))
+    sym (met_by_none parts c.args.span (clamped_none parts (end_of c.args.span) c.requires.table.indexes.apart none))

@@ -4,37 +4,102 @@ use Rattle.part_book.proofs.Chunks.{leaves_enough}
 use Rattle.part_book.proofs.Rooms.{grown, same_table}
 use Rattle.part_book.proofs.table.Table.reserve.Goals as goal
 
-pub returns-in_err-reserve_lists-clause-kept : goal.returns-in_err-reserve_lists-clause-kept
-returns-in_err-reserve_lists-clause-kept c =
-    let lists = c.in_err-reserve_lists.ensures in
-    grown c.args.self.now _ c.requires refl refl refl c.in_ok-reserve.ensures.spans lists.dirty lists.muzzy lists.retained refl refl
+pub returns-in_err-reserve_rings-clause-kept : goal.returns-in_err-reserve_rings-clause-kept
+returns-in_err-reserve_rings-clause-kept c =
+    grown c.args.self.now _ c.requires refl refl refl (record {
+      order = c.reserve_rings.ensures.order;
+      dirty = c.reserve_rings.ensures.dirty;
+      muzzy = c.reserve_rings.ensures.muzzy;
+      retained = c.reserve_rings.ensures.retained;
+      dirty_pages = refl;
+      muzzy_pages = refl;
+      retained_pages = refl;
+      sizes = refl;
+      firsts = refl;
+      numbers = refl;
+      chunks = refl;
+    })
+
+pub returns-in_err-reserve-clause-kept : goal.returns-in_err-reserve-clause-kept
+returns-in_err-reserve-clause-kept c =
+    grown c.args.self.now _ c.requires refl refl refl (record {
+      order = c.reserve_rings.ensures.order;
+      dirty = c.reserve_rings.ensures.dirty;
+      muzzy = c.reserve_rings.ensures.muzzy;
+      retained = c.reserve_rings.ensures.retained;
+      dirty_pages = refl;
+      muzzy_pages = refl;
+      retained_pages = refl;
+      sizes = c.reserve.ensures.keys;
+      firsts = refl;
+      numbers = refl;
+      chunks = refl;
+    })
 
 pub returns-in_err-reserve-2-clause-kept : goal.returns-in_err-reserve-2-clause-kept
 returns-in_err-reserve-2-clause-kept c =
-    let lists = c.in_ok-reserve_lists.ensures in
-    grown c.args.self.now _ c.requires refl refl refl c.in_ok-reserve.ensures.spans lists.dirty lists.muzzy lists.retained c.in_err-reserve-2.ensures.keys refl
+    grown c.args.self.now _ c.requires refl refl refl (record {
+      order = c.reserve_rings.ensures.order;
+      dirty = c.reserve_rings.ensures.dirty;
+      muzzy = c.reserve_rings.ensures.muzzy;
+      retained = c.reserve_rings.ensures.retained;
+      dirty_pages = refl;
+      muzzy_pages = refl;
+      retained_pages = refl;
+      sizes = c.reserve.ensures.keys;
+      firsts = c.reserve-2.ensures.keys;
+      numbers = refl;
+      chunks = refl;
+    })
 
 pub returns-in_err-reserve-3-clause-kept : goal.returns-in_err-reserve-3-clause-kept
 returns-in_err-reserve-3-clause-kept c =
-    let lists = c.in_ok-reserve_lists.ensures in
-    grown c.args.self.now _ c.requires refl refl refl c.in_ok-reserve.ensures.spans lists.dirty lists.muzzy lists.retained c.in_ok-reserve-2.ensures.keys c.in_err-reserve-3.ensures.err
+    grown c.args.self.now _ c.requires refl refl refl (record {
+      order = c.reserve_rings.ensures.order;
+      dirty = c.reserve_rings.ensures.dirty;
+      muzzy = c.reserve_rings.ensures.muzzy;
+      retained = c.reserve_rings.ensures.retained;
+      dirty_pages = refl;
+      muzzy_pages = refl;
+      retained_pages = refl;
+      sizes = c.reserve.ensures.keys;
+      firsts = c.reserve-2.ensures.keys;
+      numbers = ap (λ p. p.numbers) c.in_err-reserve-3.ensures.err;
+      chunks = ap (λ p. p.chunks) c.in_err-reserve-3.ensures.err;
+    })
 
 pub returns-clause-kept : goal.returns-clause-kept
 returns-clause-kept c =
+    let numbers = c.reserve_numbers.ensures in
+    let order = c.requires.indexes.places in
+    let dirty = c.requires.indexes.dirty.places in
+    let muzzy = c.requires.indexes.muzzy.places in
+    let retained = c.requires.indexes.retained.places in
+    let rings = c.in_ok-reserve_rings.ensures in
     same_table c.args.self.now _ c.requires (record {
-      order = c.in_ok-reserve.ensures.spans;
-      dirty = c.in_ok-reserve_lists.ensures.dirty;
-      muzzy = c.in_ok-reserve_lists.ensures.muzzy;
-      retained = c.in_ok-reserve_lists.ensures.retained;
-      firsts = c.in_ok-reserve-2.ensures.keys;
+      order = c.reserve_rings.ensures.order;
+      dirty = c.reserve_rings.ensures.dirty;
+      muzzy = c.reserve_rings.ensures.muzzy;
+      retained = c.reserve_rings.ensures.retained;
+      dirty_pages = refl;
+      muzzy_pages = refl;
+      retained_pages = refl;
+      sizes = c.reserve.ensures.keys;
+      firsts = c.reserve-2.ensures.keys;
       numbers = ap (λ p. p.numbers) c.in_ok-reserve-3.ensures.ok;
       chunks = ap (λ p. p.chunks) c.in_ok-reserve-3.ensures.ok;
-      flights = c.reserve_numbers.ensures.flights;
-      kept = c.reserve_numbers.ensures.kept;
-      free = c.reserve_numbers.ensures.free;
-      places = c.reserve_numbers.ensures.places;
-      small = c.reserve_numbers.ensures.small;
-      room = c.reserve_numbers.ensures.room;
+    })
+    (record {
+      flights = numbers.flights;
+      kept = numbers.kept;
+      free = numbers.free;
+      places = numbers.places;
+      small = omega (arith, numbers.small);
+      room = numbers.room;
+      order = omega (arith, numbers.most, rings.order.places, rings.ok_order);
+      dirty = omega (arith, numbers.most, rings.dirty.places, rings.ok_dirty);
+      muzzy = omega (arith, numbers.most, rings.muzzy.places, rings.ok_muzzy);
+      retained = omega (arith, numbers.most, rings.retained.places, rings.ok_retained);
     })
 
 pub returns-clause-ok_leaves : goal.returns-clause-ok_leaves

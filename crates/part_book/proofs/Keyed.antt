@@ -1,0 +1,109 @@
+-- Sets of the keys of extents that get an extent, lose one, or have one exchanged.
+use Rattle.std.proofs.Common.{◌≡◌, ◌≢◌, ◌+◌, ◌*◌, ◌^◌, ◌<◌, true, false, not, eqb, List, [], ◌∷◌, ◌++◌, Option, Some, None, inl, inr, refl, sym, ap, ◌∙◌, subst, arith, Contains, IfSome}
+use Rattle.std.proofs.lemmas.Bool.{cases_Bool, eq-eqb, eqb-true, false_from_ne_true, not_from_false}
+use Rattle.std.proofs.lemmas.List.Elements.{Contains-append_left, Contains-push, Contains-push_cases}
+use Rattle.ordered_set.specs.declared.key.Key.{Key}
+use Rattle.ordered_set.proofs.Members.{filter_has, with_from, with_keeps, with_self, without_from, without_keeps}
+use Rattle.part_book.specs.Rows.{IsKeyed, Row, first_key, keys_with, keys_without, rank_of, ranked_key, size_key}
+use Rattle.part_book.proofs.Lists.{mapped_some}
+use Rattle.part_book.proofs.Rowed.{other_row, others}
+
+module _ (key_of : Row → Option Key) (rows : List Row) (row : Row) (keys : List Key) (i : IsKeyed key_of rows keys) where
+  -- the set gets the key of a new extent
+  pub keyed_more : IsKeyed key_of (rows ++ row ∷ []) (keys_with keys (key_of row))
+  keyed_more = by (key_of row) refl
+    where
+      by : (o : Option Key) → key_of row ≡ o → IsKeyed key_of (rows ++ row ∷ []) (keys_with keys o)
+      by None e = record {
+        has = λ r k m is. elim (Contains-push_cases rows row r m) [
+          | inl old ↦ i.has r k old is
+          | inr new ↦ absurd (let no : None ≡ Some k = sym e ∙ ap key_of new ∙ is in cc)
+        ];
+        from = λ k m. let p = i.from k m in (p.0, Contains-append_left rows (row ∷ []) p.0 p.1, p.2);
+      }
+      by (Some key) e = record {
+        has = λ r k m is. elim (Contains-push_cases rows row r m) [
+          | inl old ↦ with_keeps keys key k (i.has r k old is)
+          | inr new ↦ let both : Some key ≡ Some k = sym e ∙ ap key_of new ∙ is in let same : key ≡ k = cc in subst (λ x. Contains (keys_with keys (Some key)) x) same (with_self keys key)
+        ];
+        from = λ k m. elim (with_from keys key k m) [
+          | inl new ↦ (row, Contains-push rows row, e ∙ ap (λ x. Some x) (sym new))
+          | inr old ↦ let p = i.from k old in (p.0, Contains-append_left rows (row ∷ []) p.0 p.1, p.2)
+        ];
+      }
+
+  -- no other extent has its key
+  abbrev pub Owned : Type 0
+  Owned = (r : Row) (k : Key) → Contains rows r → key_of r ≡ Some k → key_of row ≡ Some k → r.number ≡ row.number
+
+  -- a key that is new is not in the set
+  pub key_absent : Owned → ((r : Row) → Contains rows r → r.number ≢ row.number) → IfSome (key_of row) (λ k. Contains keys k → ⊥)
+  key_absent own new = by (key_of row) refl
+    where
+      by : (o : Option Key) → key_of row ≡ o → IfSome o (λ k. Contains keys k → ⊥)
+      by None e = tt
+      by (Some key) e = λ m. let p = i.from key m in new p.0 p.1 (own p.0 key p.1 p.2 e)
+
+  module _ (m : Contains rows row) where
+    -- the key of an extent is in the set
+    pub key_there : IfSome (key_of row) (λ k. Contains keys k)
+    key_there = by (key_of row) refl
+      where
+        by : (o : Option Key) → key_of row ≡ o → IfSome o (λ k. Contains keys k)
+        by None e = tt
+        by (Some key) e = i.has row key m e
+
+    module _ (one : (r : Row) → Contains rows r → r.number ≡ row.number → r ≡ row) where
+      -- the set loses the key of an extent that goes
+      pub keyed_less : Owned → IsKeyed key_of (others row.number rows) (keys_without keys (key_of row))
+      keyed_less own = by (key_of row) refl
+        where
+          is_other : (r : Row) → Contains rows r → (r ≡ row → ⊥) → Contains (others row.number rows) r
+          is_other r n ne = filter_has (λ x. not (eqb x.number row.number)) rows r n (not_from_false (eqb r.number row.number) (false_from_ne_true (eqb r.number row.number) (λ t. ne (one r n (eqb-true r.number row.number t)))))
+
+          by : (o : Option Key) → key_of row ≡ o → IsKeyed key_of (others row.number rows) (keys_without keys o)
+          by None e = record {
+            has = λ r k n is. i.has r k (other_row row.number rows r n).0 is;
+            from = λ k n. let p = i.from k n in (p.0, is_other p.0 p.1 (λ s. let no : None ≡ Some k = sym e ∙ ap key_of (sym s) ∙ p.2 in cc), p.2);
+          }
+          by (Some key) e = record {
+            has = λ r k n is. (
+                let o = other_row row.number rows r n in
+                without_keeps keys key k (i.has r k o.0 is) (λ s.
+                let t = eq-eqb r.number row.number (own r key o.0 (is ∙ ap (λ x. Some x) s) e) in
+                let no : true ≡ false = sym t ∙ o.1 in cc));
+            from = λ k n. (
+                let o = without_from keys key k n in
+                let p = i.from k o.0 in
+                (p.0, is_other p.0 p.1 (λ s. let both : Some k ≡ Some key = sym p.2 ∙ ap key_of s ∙ e in o.1 (cc)), p.2));
+          }
+
+      -- the set stays for another extent with the same key
+      pub keyed_same : (other : Row) → key_of row ≡ key_of other → IsKeyed key_of (others row.number rows ++ other ∷ []) keys
+      keyed_same other e = record {
+        has = λ r k n is. elim (Contains-push_cases (others row.number rows) other r n) [
+          | inl old ↦ i.has r k (other_row row.number rows r old).0 is
+          | inr new ↦ i.has row k m (e ∙ ap key_of new ∙ is)
+        ];
+        from = λ k n. (
+            let p = i.from k n in
+            elim (cases_Bool (eqb p.0.number row.number)) [
+              | inl t ↦ (other, Contains-push (others row.number rows) other, sym e ∙ ap key_of (sym (one p.0 p.1 (eqb-true p.0.number row.number t))) ∙ p.2)
+              | inr f ↦ (p.0, Contains-append_left (others row.number rows) (other ∷ []) p.0 (filter_has (λ x. not (eqb x.number row.number)) rows p.0 p.1 (not_from_false (eqb p.0.number row.number) f)), p.2)
+            ]);
+      }
+
+-- extents with one key among the first pages have one number
+pub first_own : (r row : Row) (k : Key) → first_key r ≡ Some k → first_key row ≡ Some k → r.number ≡ row.number
+first_own r row k a b =
+    let x : record { major = r.part.span.first; minor = r.number } ≡ k = cc in
+    let y : record { major = row.part.span.first; minor = row.number } ≡ k = cc in
+    ap (λ (z : Key). z.minor) (x ∙ sym y)
+
+-- extents with one key among the unused ones have one number
+pub size_own : (r row : Row) (k : Key) → r.number < 2 ^ 32 → row.number < 2 ^ 32 → size_key r ≡ Some k → size_key row ≡ Some k → r.number ≡ row.number
+size_own r row k small too a b =
+    let x = mapped_some (ranked_key r) (rank_of r.part.state) k a in
+    let y = mapped_some (ranked_key row) (rank_of row.part.state) k b in
+    let same : r.part.span.first * 2 ^ 32 + r.number ≡ row.part.span.first * 2 ^ 32 + row.number = ap (λ (z : Key). z.minor) (x.2 ∙ sym y.2) in
+    omega arith

@@ -1,0 +1,123 @@
+-- What the slow machine's arithmetic needs: that what it adds and multiplies fits.
+use Rattle.std.proofs.Common.{◌≡◌, ℕ, ◌+◌, ◌*◌, ◌^◌, ◌<◌, ◌≤◌, Bool, true, false, cond, ◌&&◌, ◌==◌, not, IsTrue, List, [], ◌∷◌, length, Some, None, refl, sym, ◌∙◌, ap, subst, arith, All, ltb as nat_lt, leb as nat_le, ltb-true, leb-true, ltb-false, ◌++◌, suc, drop, append-nil, take_all, drop_of_length-le, Result, Ok, Err, IfOk}
+use Rattle.std.specs.List.{count_by, find, position, position_or_len, remove}
+use Rattle.std.specs.Option.{option_and_then, option_map}
+use Rattle.std.proofs.Math.Nat.{mul-le-mul}
+use Rattle.std.proofs.lemmas.List.Sums.{sum_by-cons}
+use Rattle.size_classes.specs.Classes.{size_at, pages_at, regions_at}
+use Rattle.size_classes.proofs.Table.{size_bounds, slab_filled}
+use Rattle.space_model.specs.declared.parts.Part.{Part}
+use Rattle.space_model.specs.declared.parts.Region.{Region}
+use Rattle.space_model.specs.declared.parts.Span.{Span}
+use Rattle.space_model.specs.declared.spaces.Space.{Space}
+use Rattle.space_model.specs.Span.{IsPlaced}
+use Rattle.space_model.specs.Part.{is_flight_at}
+use Rattle.space_model.specs.Region.{houses, is_held_by, is_held_by_other}
+use Rattle.space_model.specs.Ending.{reset_stands}
+use Rattle.space_model.specs.Slabs.{most_regions, land_stands}
+use Rattle.space_model.specs.Resizing.{is_large_at, with_home, large_home}
+use Rattle.space_model.specs.Sound.{Sound}
+use Rattle.space_model.proofs.Lists.{find_has}
+use Rattle.space_model.proofs.Pieces.{both_true}
+
+-- ---- Land
+
+-- an extent serves at most 512 regions
+few_regions : (class : ℕ) → most_regions class ≤ 512
+few_regions class =
+    elim (nat_lt class 36) as (λ b. nat_lt class 36 ≡ b → cond b (regions_at class) 1 ≤ 512) [
+      | true ↦ λ small. (slab_filled class (ltb-true _ _ small)).2
+      | false ↦ λ large. omega arith
+    ] refl
+
+-- the regions that land end before the end of the numbers
+pub land_fits : (c : ℕ) (s : Space) (span : Span) (class count : ℕ) (p : Part) → Sound s → IsTrue (land_stands s c span class count) →
+    find (is_flight_at c span) s.parts ≡ Some p →
+    (class < 121) × (p.span.first < 2 ^ 52) × (4096 * p.span.first + count * size_at class < 2 ^ 64)
+land_fits c s span class count p sound h found =
+    let within = nat_lt class 121 in
+    let some = nat_lt 0 count in
+    let few = nat_le count (most_regions class) in
+    let four = both_true (within && some && few && span.pages == pages_at class) _ h in
+    let three = both_true (within && some && few) _ four.0 in
+    let two = both_true (within && some) few three.0 in
+    let one = both_true within some two.0 in
+    let class_fits : class < 121 = ltb-true _ _ one.0 in
+    let most : count ≤ 512 = omega (arith, leb-true _ _ two.1, few_regions class) in
+    let placed : IsPlaced p.span = find_has (λ q. IsPlaced q.span) (is_flight_at c span) s.parts p sound.placed found in
+    let bytes : count * size_at class ≤ 512 * 2 ^ 35 = mul-le-mul most (size_bounds class class_fits).1 in
+    (class_fits, omega (arith, placed.2), omega (arith, placed.2, bytes))
+
+-- ---- Fill
+
+-- what holds of all of a list holds of all of what is told to be that list
+pub told_all : {V E : Type 0} (items : V → List Part) (P : Part → Type 0) (ps : List Part) (r : Result V E) → IfOk r (λ v. items v ≡ ps) → All P ps →
+    IfOk r (λ v. All P (items v))
+told_all items P ps (Ok v) same all = subst (All P) (sym same) all
+told_all items P ps (Err e) same all = tt
+
+-- ---- Reset
+
+-- a region isn't both the client's and another's
+held_once : (c : ℕ) (r : Region) → cond (is_held_by_other c r) 1 0 + cond (is_held_by c r) 1 0 ≤ 1
+held_once c r =
+    elim r.holder as (λ h. cond (is_held_by_other c (record r { holder = h })) 1 0 + cond (is_held_by c (record r { holder = h })) 1 0 ≤ 1) [
+      | None ↦ omega arith
+      | Some d ↦ elim (d == c) as (λ b. cond (not b) 1 0 + cond b 1 0 ≤ 1) [ true ↦ omega arith | false ↦ omega arith ]
+    ]
+
+-- the regions of others and of the client are no more than there are
+pub held_apart : (c : ℕ) (regions : List Region) → count_by (is_held_by_other c) regions + count_by (is_held_by c) regions ≤ length regions
+held_apart c [] = omega arith
+held_apart c (r ∷ rs) =
+    omega (
+      arith,
+      held_once c r,
+      held_apart c rs,
+      sum_by-cons (λ r. cond (is_held_by_other c r) 1 0) r rs,
+      sum_by-cons (λ r. cond (is_held_by c r) 1 0) r rs,
+    )
+
+-- no more regions are cached than the client holds
+pub cached_least : (s : Space) (c cached : ℕ) → IsTrue (reset_stands s c cached) → cached ≤ count_by (is_held_by c) s.regions
+cached_least s c cached h = leb-true _ _ (both_true _ (nat_le cached (count_by (is_held_by c) s.regions)) h).1
+
+-- ---- OfferDone
+
+-- the place that was found is the first
+pub first_place : {X : Type 0} (test : X → Bool) (xs : List X) (i : ℕ) → position test xs ≡ Some i → i ≡ position_or_len test xs
+first_place test xs i h =
+    elim (nat_lt (position_or_len test xs) (length xs)) as (λ b. cond b (Some (position_or_len test xs)) None ≡ Some i → i ≡ position_or_len test xs) [
+      | true ↦ λ e. cc
+      | false ↦ λ e. cc
+    ] h
+
+-- nothing goes where no place was found
+pub no_place : {X : Type 0} (test : X → Bool) (xs : List X) → position test xs ≡ None → remove xs (position_or_len test xs) ≡ xs
+no_place test xs h =
+    elim (nat_lt (position_or_len test xs) (length xs)) as (λ b. nat_lt (position_or_len test xs) (length xs) ≡ b → cond b (Some (position_or_len test xs)) None ≡ None → remove xs (position_or_len test xs) ≡ xs) [
+      | true ↦ λ here e. cc
+      | false ↦ λ past e.
+          let all : length xs ≤ position_or_len test xs = ltb-false _ _ past in
+          ap (λ ys. ys ++ drop (suc (position_or_len test xs)) xs) (take_all (position_or_len test xs) xs all)
+          ∙ ap (λ ys. xs ++ ys) (let past : length xs ≤ suc (position_or_len test xs) = omega arith in drop_of_length-le xs past) ∙ append-nil xs
+    ] refl h
+
+-- ---- Widen, JoinDone and TrimDone
+
+-- the extent of a large region lies in the space
+pub home_placed : (s : Space) (c addr : ℕ) (home : Region × Part) → Sound s → large_home s c addr ≡ Some home → IsPlaced home.1.span
+home_placed s c addr home sound found =
+    elim (find (is_large_at c addr) s.regions) as (λ o. option_and_then (with_home s.parts) o ≡ Some home → IsPlaced home.1.span) [
+      | None ↦ λ e. cc
+      | Some r ↦ λ e. elim (find (λ p. houses p r) s.parts) as (λ o. find (λ p. houses p r) s.parts ≡ o → option_map (λ p. (r, p)) o ≡ Some home → IsPlaced home.1.span) [
+        | None ↦ λ at e. cc
+        | Some p ↦ λ at e.
+            let same : (r, p) ≡ home = cc in
+            subst (λ (h : Region × Part). IsPlaced h.1.span) same (find_has (λ q. IsPlaced q.span) (λ p. houses p r) s.parts p sound.placed at)
+      ] refl e
+    ] found
+
+-- so does each extent in flight
+pub flight_placed : (s : Space) (c : ℕ) (span : Span) (p : Part) → Sound s → find (is_flight_at c span) s.parts ≡ Some p → IsPlaced p.span
+flight_placed s c span p sound found = find_has (λ q. IsPlaced q.span) (is_flight_at c span) s.parts p sound.placed found

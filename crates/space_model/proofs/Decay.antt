@@ -1,0 +1,91 @@
+-- How large the numbers of a decay are.
+use Rattle.std.proofs.Common.{◌≡◌, ℕ, suc, ◌+◌, ◌-◌, ◌*◌, ◌/◌, ◌^◌, ◌<◌, ◌≤◌, max, Bool, true, false, cond, ◌&&◌, List, [], ◌∷◌, refl, inl, inr, arith, All, AllPairs, ltb as nat_lt, leb}
+use Rattle.std.specs.List.{sum_by}
+use Rattle.std.proofs.Math.Nat.{mul-le-mul, mul-le-mul_left, div-le_self}
+use Rattle.std.proofs.lemmas.Bool.{and_parts, leb-true, cases_lt}
+use Rattle.std.proofs.lemmas.Bool.Decides.{nat_tests}
+use Rattle.std.proofs.lemmas.List.Sums.{sum_by-cons}
+use Rattle.std.proofs.lemmas.List.Elements.{All-head, All-tail}
+use Rattle.size_classes.proofs.Table.{passes_below, at}
+use Rattle.space_model.specs.declared.spaces.Added.{Added}
+use Rattle.space_model.specs.Span.{pages_end}
+use Rattle.space_model.specs.Pace.{weight, weighed, limit_at}
+
+-- The powers of a number of epochs, and what that weighs, are in their bounds.
+pub record Fitting (k : ℕ) : Type 0 where
+  pub fifth : k ^ 5 ≤ 200 ^ 5
+  pub fourth : k ^ 4 ≤ 200 ^ 4
+  pub third : k ^ 3 ≤ 200 ^ 3
+  pub less : 3000 * k ^ 4 ≤ 6 * k ^ 5 + 400000 * k ^ 3
+  pub weight : weight k ≤ 2 ^ 24
+
+-- the same as a test
+abbrev fitting : ℕ → Bool
+fitting k =
+    leb (k ^ 5) (200 ^ 5)
+    && (leb (k ^ 4) (200 ^ 4) && (leb (k ^ 3) (200 ^ 3) && (leb (3000 * k ^ 4) (6 * k ^ 5 + 400000 * k ^ 3) && leb (weight k) (2 ^ 24))))
+
+fitting_below : passes_below fitting 201 ≡ true
+unfolding weight
+fitting_below = refl
+
+pub weight_fits : (k : ℕ) → k ≤ 200 → Fitting k
+weight_fits k within =
+    let one = and_parts _ _ (at fitting 201 k fitting_below (omega arith)) in
+    let two = and_parts _ _ one.1 in
+    let three = and_parts _ _ two.1 in
+    let four = and_parts _ _ three.1 in
+    record {
+      fifth = leb-true _ _ one.0;
+      fourth = leb-true _ _ two.0;
+      third = leb-true _ _ three.0;
+      less = leb-true _ _ four.0;
+      weight = leb-true _ _ four.1;
+    }
+
+-- an addition weighs at most as much as all pages
+pub weighed_le : (epoch : ℕ) (a : Added) → a.pages ≤ pages_end → weighed epoch a ≤ 2 ^ 53
+weighed_le epoch a pages =
+    elim (nat_lt (epoch - a.epoch) 200) as (λ b. cond b (a.pages * weight (200 - (epoch - a.epoch))) 0 ≤ 2 ^ 53) [
+      | true ↦ let fits : Fitting (200 - (epoch - a.epoch)) = weight_fits (200 - (epoch - a.epoch)) (omega arith) in
+          let most : a.pages * weight (200 - (epoch - a.epoch)) ≤ pages_end * 2 ^ 24 = mul-le-mul pages fits.weight in omega (arith, most)
+      | false ↦ omega arith
+    ]
+
+-- an addition that is 200 epochs old weighs nothing
+weighed_old : (epoch : ℕ) (a : Added) → 200 ≤ epoch - a.epoch → weighed epoch a ≡ 0
+weighed_old epoch a old = grind (arith, nat_tests)
+
+-- how many epochs count from a lowest one on
+abbrev counting : ℕ → ℕ → ℕ
+counting epoch low = epoch + 1 - max low (epoch - 199)
+
+-- additions of different epochs weigh at most as much as all pages in each epoch that counts
+weights_le : (epoch low : ℕ) (added : List Added) → All (λ a. low ≤ a.epoch) added → All (λ a. a.pages ≤ pages_end) added →
+    All (λ a. a.epoch ≤ epoch) added → AllPairs (λ a b. a.epoch < b.epoch) added → sum_by (weighed epoch) added ≤ counting epoch low * 2 ^ 53
+weights_le epoch low [] above pages past rising = omega arith
+weights_le epoch low (a ∷ rest) above pages past rising =
+    let here : low ≤ a.epoch = All-head (λ a. low ≤ a.epoch) a rest above in
+    let now : a.epoch ≤ epoch = All-head (λ a. a.epoch ≤ epoch) a rest past in
+    let left : sum_by (weighed epoch) rest ≤ counting epoch (a.epoch + 1) * 2 ^ 53 =
+    weights_le epoch (a.epoch + 1) rest (λ k d lt. let later : a.epoch < _ = rising 0 (suc k) d (omega arith) (omega arith) in omega arith)
+    (All-tail (λ a. a.pages ≤ pages_end) a rest pages) (All-tail (λ a. a.epoch ≤ epoch) a rest past)
+    (λ i j d lt within. rising (suc i) (suc j) d (omega arith) (omega arith)) in
+    let most : weighed epoch a ≤ 2 ^ 53 = weighed_le epoch a (All-head (λ a. a.pages ≤ pages_end) a rest pages) in
+    elim (cases_lt (epoch - a.epoch) 200) [
+      | inl young ↦ omega (arith, sum_by-cons (weighed epoch) a rest, left, most, here, now)
+      | inr old ↦ omega (arith, sum_by-cons (weighed epoch) a rest, left, weighed_old epoch a old, here, now)
+    ]
+
+-- so the limit fits
+pub limit_fits : (epoch : ℕ) (added : List Added) → All (λ a. a.pages ≤ pages_end) added → All (λ a. a.epoch ≤ epoch) added →
+    AllPairs (λ a b. a.epoch < b.epoch) added → limit_at epoch added < 2 ^ 64
+limit_fits epoch added pages past rising =
+    omega (arith, div-le_self (sum_by (weighed epoch) added) (2 ^ 24), weights_le epoch 0 added (λ k d lt. omega arith) pages past rising)
+
+-- the epochs that have passed since a start are no more than the nanoseconds
+pub epochs_fit : (epoch start now ms : ℕ) → epoch * ms * 5000 ≤ start → 1 ≤ ms → start < 2 ^ 64 → now < 2 ^ 64 →
+    epoch + (now - start) / (ms * 5000) < 2 ^ 64
+epochs_fit epoch start now ms started some from to =
+    let least : epoch * 1 ≤ epoch * ms = mul-le-mul_left epoch some in
+    omega (arith, least, div-le_self (now - start) (ms * 5000))

@@ -1,0 +1,283 @@
+-- What a reset, a destroy and the takes after it do.
+use Rattle.std.proofs.Common.{true, false, ◌≡◌, ◌≢◌, ℕ, ◌+◌, Bool, not, cond, IsTrue, List, [], ◌∷◌, length, Option, Some, None, refl, sym, ◌∙◌, ap, subst, arith, All, filter, find, ◌&&◌, ◌==◌}
+use Rattle.std.specs.List.{sum_by, count_by, list_any}
+use Rattle.std.proofs.lemmas.Bool.{eqb-true}
+use Rattle.std.proofs.lemmas.List.{nil_from_length}
+use Rattle.std.proofs.lemmas.List.Sums.{sum_by-cons}
+use Rattle.std.proofs.lemmas.List.Elements.{All-weaker, All-append, All-filter, All-cons, All-nil, All-head, filter_passes}
+use Rattle.space_model.specs.declared.entries.Op.{Op}
+use Rattle.space_model.specs.declared.entries.Op.TheVariants.{Reset, Destroy, DestroyTake}
+use Rattle.space_model.specs.declared.entries.Reply.{Reply}
+use Rattle.space_model.specs.declared.entries.Reply.TheVariants.{Noted, Nothing, Purge, Busy}
+use Rattle.space_model.specs.declared.parts.Offered.{Offered}
+use Rattle.space_model.specs.declared.parts.Part.{Part}
+use Rattle.space_model.specs.declared.parts.Region.{Region}
+use Rattle.space_model.specs.declared.parts.Rest.TheVariants.{Dirty as ToDirty, Retained as ToRetained}
+use Rattle.space_model.specs.declared.parts.State.{State}
+use Rattle.space_model.specs.declared.parts.State.TheVariants.{Active, Dirty, Muzzy, Retained, Flight}
+use Rattle.space_model.specs.declared.spaces.Life.{Life}
+use Rattle.space_model.specs.declared.spaces.Life.TheVariants.{Live, Absent, Dying}
+use Rattle.space_model.specs.declared.spaces.Space.{Space}
+use Rattle.space_model.specs.Part.{holders, begins_at, is_active, is_flight, is_in_flight, is_listed, is_backed, rest_of, moved_to, turned, turned_in_order}
+use Rattle.space_model.specs.Region.{homes, residents, is_held_by, is_held_by_other}
+use Rattle.space_model.specs.Own.{is_dying}
+use Rattle.space_model.specs.Stepped.{Stepped, stays, is_live, is_dirty_time_over, is_lazy}
+use Rattle.space_model.specs.Ending.{held_count, flight_count, if_free, emptied, after_reset, reset_stands, ended, after_destroy, doom_at, after_destroy_take}
+use Rattle.space_model.specs.Flights.{flight}
+use Rattle.space_model.specs.Sound.{Sound, IsQuiet}
+use Rattle.space_model.proofs.Lists.{false_true, not_true, none_counted, nothing_left, nothing_sum, ones, sum_nothing}
+use Rattle.space_model.proofs.Exchange.{share}
+use Rattle.space_model.proofs.Mixes.{Mix, mix_sum, mixed_second, mixed_filter, mixed_append}
+use Rattle.space_model.proofs.Settled.{Used}
+use Rattle.space_model.proofs.Changes.{Does, Fits, Piece, trade, lawful_trade, all_fit, frame_does, one_left, kept_frame, live_quiet, sound_ranges, pages_fewer}
+use Rattle.space_model.proofs.Pieces.{both_true, different, not_both}
+use Rattle.space_model.proofs.Turned.{turned_does, All-turned}
+use Rattle.space_model.proofs.Moves.{live_is, Same, still, live_does}
+
+-- ---- nobody else
+
+-- three numbers that are nothing
+abbrev Free : ℕ → ℕ → ℕ → Type 0
+Free held flights threads = (held ≡ 0) × (flights ≡ 0) × (threads ≡ 0)
+
+-- a step that only an arena makes which is in nobody's use
+free_does : (c : ℕ) (s : Space) (op : Op) (held flights threads : ℕ) (step : Stepped) → Sound s → Same c s op (Busy held flights threads) →
+    (Free held flights threads → Does c s op step) → Does c s op (if_free s held flights threads step)
+free_does c s op held flights threads step sound same does =
+    elim (held == 0 && flights == 0 && threads == 0) as (λ b. (held == 0 && flights == 0 && threads == 0) ≡ b → Does c s op (cond b step (stays s (Busy held flights threads)))) [
+      | false ↦ λ h. still c s op _ sound same
+      | true ↦ λ h.
+          let last = both_true (held == 0 && flights == 0) _ h in
+          let first = both_true (held == 0) _ last.0 in
+          does (eqb-true _ _ first.0, eqb-true _ _ first.1, eqb-true _ _ last.1)
+    ] refl
+
+-- where others hold no region, no other client does
+none_other : (c d : ℕ) (r : Region) → d ≢ c → ones (is_held_by_other c r) ≡ 0 → ones (is_held_by d r) ≡ 0
+none_other c d r other h = apart r.holder h
+  where
+    apart : (holder : Option ℕ) → ones (is_held_by_other c (record r { holder = holder })) ≡ 0 → ones (is_held_by d (record r { holder = holder })) ≡ 0
+    apart None h = refl
+    apart (Some e) h = elim (e == c) as (λ b. (e == c) ≡ b → ones (not b) ≡ 0 → ones (e == d) ≡ 0)
+        [ true ↦ λ k z. ap ones (different e c d k other) | false ↦ λ k z. absurd (omega arith) ] refl h
+
+others_hold_none : (c d cached : ℕ) (s : Space) → d ≢ c → held_count s c cached ≡ 0 → count_by (is_held_by d) s.regions ≡ 0
+others_hold_none c d cached s other none =
+    nothing_sum (λ r. ones (is_held_by d r)) s.regions
+    (All-weaker (λ r. ones (is_held_by_other c r) ≡ 0) (λ r. ones (is_held_by d r) ≡ 0) (λ r h. none_other c d r other h) s.regions
+    (sum_nothing (λ r. ones (is_held_by_other c r)) s.regions (omega (arith, none))))
+
+-- ---- Reset
+
+-- an active extent is one that has to be committed, and nobody's flight
+active_backed : (state : State) → is_active state ≡ true → IsTrue (is_backed (rest_of state))
+active_backed Active h = refl
+active_backed state h = absurd (cc)
+
+pub active_own : (d : ℕ) (state : State) → is_active state ≡ true → is_flight d state ≡ false
+active_own d Active h = refl
+active_own d state h = absurd (cc)
+
+none_active_flies : (d : ℕ) (parts : List Part) → count_by (λ p. is_flight d p.state) (filter (λ p. is_active p.state) parts) ≡ 0
+none_active_flies d parts =
+    nothing_sum (λ p. ones (is_flight d p.state)) (filter (λ p. is_active p.state) parts)
+    (All-weaker (λ p. is_active p.state ≡ true) (λ p. ones (is_flight d p.state) ≡ 0) (λ p h. ap ones (active_own d p.state h)) (filter (λ p. is_active p.state) parts)
+    (filter_passes (λ p. is_active p.state) parts))
+
+-- an extent that fails a test which each active one passes serves nothing
+unused : (test : Part → Bool) → ((p : Part) → IsTrue (is_active p.state) → test p ≡ true) → (parts : List Part) → All (Used []) (filter (λ p. not (test p)) parts)
+unused test active parts =
+    All-weaker (λ p. not (test p) ≡ true) (Used []) (λ p h act. absurd (false_true (subst (λ b. IsTrue (not b)) (active p act) h))) (filter (λ p. not (test p)) parts)
+    (filter_passes (λ p. not (test p)) parts)
+
+-- extents in no flight stay in none
+zero_fly : (c : ℕ) (turn : Part → Part) (ps : List Part) → ((p : Part) → flight c (turn p) ≡ 0) → sum_by (λ p. flight c (turn p)) ps ≡ 0
+zero_fly c turn ps none = nothing_sum (λ p. flight c (turn p)) ps (λ k d h. none _)
+
+emptied_does : (c cached : ℕ) (s : Space) (reply : Reply) → Sound s → is_live s.life ≡ true → held_count s c cached ≡ 0 → Same c s (Reset cached) reply →
+    Does c s (Reset cached) (record { after = (emptied s).after; reply = reply })
+emptied_does c cached s reply sound live none same =
+    let test : Part → Bool = λ p. is_active p.state in
+    let t : Space = (emptied s).after in
+    turned_does {test = test} {turn = moved_to ToDirty} {left = s.regions} (record {
+      parts = refl;
+      regions = refl;
+      gone = mixed_second s.regions;
+      same = λ p. refl;
+      fits = λ p act fits. record { idle = refl; fits = record { placed = fits.placed; backed = λ h. fits.backed (active_backed p.state act) }; own = λ d other. refl };
+      empty = All-nil (λ r. homes r (filter test s.parts) ≡ 0);
+      served = unused test (λ p act. act) s.parts;
+      nobody = λ d other. none_active_flies d s.parts;
+      held = λ d other. others_hold_none c d cached s other none;
+      ordered = λ i j d lower within. absurd (omega (arith, within));
+      frame = kept_frame c s t.parts [] sound;
+      quiet = live_quiet s t (live_is s.life live) refl;
+    }) sound (Reset cached) reply same.0
+    (omega (arith, zero_fly c (moved_to ToDirty) (filter test s.parts) (λ p. refl), none_active_flies c s.parts, same.1, same.2))
+
+pub reset_does : (c : ℕ) (s : Space) (cached : ℕ) → Sound s → Does c s (Reset cached) (after_reset s c cached)
+reset_does c s cached sound =
+    live_does c s (Reset cached) _ sound (λ page before. refl, refl, refl)
+    (λ live. free_does c s (Reset cached) (held_count s c cached) (flight_count s c) 0 (emptied s) sound (λ page before. refl, refl, refl)
+    (λ free. elim (is_dirty_time_over s) as (λ b. Does c s (Reset cached) (record { after = (emptied s).after; reply = cond b (Purge (is_lazy s)) Noted })) [
+      | true ↦ emptied_does c cached s _ sound live free.0 (λ page before. refl, refl, refl)
+      | false ↦ emptied_does c cached s Noted sound live free.0 (λ page before. refl, refl, refl)
+    ]))
+
+-- ---- Destroy
+
+-- where others have no extent in flight, no other client does
+flight_other : (c d : ℕ) (state : State) → d ≢ c → ones (is_in_flight state && not (is_flight c state)) ≡ 0 → ones (is_flight d state) ≡ 0
+flight_other c d (Flight e rest) other h = elim (e == c) as (λ b. (e == c) ≡ b → ones (not b) ≡ 0 → ones (e == d) ≡ 0)
+    [ true ↦ λ k z. ap ones (different e c d k other) | false ↦ λ k z. absurd (omega arith) ] refl h
+flight_other c d Active other h = refl
+flight_other c d Dirty other h = refl
+flight_other c d Muzzy other h = refl
+flight_other c d Retained other h = refl
+
+others_fly_none : (c d : ℕ) (s : Space) → d ≢ c → flight_count s c ≡ 0 → count_by (λ p. is_flight d p.state) s.parts ≡ 0
+others_fly_none c d s other none =
+    nothing_sum (λ p. ones (is_flight d p.state)) s.parts
+    (All-weaker (λ p. ones (is_in_flight p.state && not (is_flight c p.state)) ≡ 0) (λ p. ones (is_flight d p.state) ≡ 0) (λ p h. flight_other c d p.state other h) s.parts
+    (sum_nothing (λ p. ones (is_in_flight p.state && not (is_flight c p.state))) s.parts (omega (arith, none))))
+
+-- a sum over some is within the sum over all
+some_count : (f : Part → ℕ) (test : Part → Bool) (parts : List Part) → sum_by f parts ≡ 0 → sum_by f (filter test parts) ≡ 0
+some_count f test parts none = omega (arith, none, mix_sum f (mixed_filter test parts))
+
+-- no extent is in flight that is retained
+still_retained : (test : Part → Bool) (parts : List Part) → ((p : Part) → not (test p) ≡ true → is_listed ToRetained p.state ≡ true) →
+    All (λ p. is_in_flight p.state ≡ false) (turned test (moved_to ToRetained) parts)
+still_retained test parts kept =
+    All-append (λ p. is_in_flight p.state ≡ false) (filter (λ p. not (test p)) parts) (turned_in_order (moved_to ToRetained) (filter test parts))
+    (All-weaker (λ p. not (test p) ≡ true) (λ p. is_in_flight p.state ≡ false) (λ p h. retained_still p.state (kept p h)) (filter (λ p. not (test p)) parts)
+    (filter_passes (λ p. not (test p)) parts))
+    (All-turned (moved_to ToRetained) (λ p. is_in_flight p.state ≡ false) [] (filter test parts) (All-nil (λ p. is_in_flight p.state ≡ false)) (λ k d h. refl))
+  where
+    retained_still : (state : State) → is_listed ToRetained state ≡ true → is_in_flight state ≡ false
+    retained_still (Flight e rest) h = absurd (cc)
+    retained_still Active h = refl
+    retained_still Dirty h = refl
+    retained_still Muzzy h = refl
+    retained_still Retained h = refl
+
+double_not : (b : Bool) → not (not b) ≡ true → b ≡ true
+double_not true h = refl
+double_not false h = absurd (cc)
+
+active_unlisted : (state : State) → IsTrue (is_active state) → not (is_listed ToRetained state) ≡ true
+active_unlisted Active h = refl
+active_unlisted Dirty h = refl
+active_unlisted Muzzy h = refl
+active_unlisted Retained h = absurd (false_true h)
+active_unlisted (Flight e rest) h = refl
+
+ended_does : (c cached : ℕ) (s : Space) → Sound s → is_live s.life ≡ true → reset_stands s c cached ≡ true → Free (held_count s c cached) (flight_count s c) (length s.bound) →
+    Does c s (Destroy cached) (ended s c)
+ended_does c cached s sound live stands free =
+    let test : Part → Bool = λ p. not (is_listed ToRetained p.state) in
+    let t : Space = (ended s c).after in
+    let own = both_true (not (list_any (λ p. is_flight c p.state) s.parts) && not (list_any (λ o. o.client == c) s.offers)) _ stands in
+    let ours = both_true (not (list_any (λ p. is_flight c p.state) s.parts)) _ own.0 in
+    let grounded : count_by (λ p. is_flight c p.state) s.parts ≡ 0 = none_counted (λ p. is_flight c p.state) s.parts (not_true _ ours.0) in
+    let offered : count_by (λ (o : Offered). o.client == c) s.offers ≡ 0 = none_counted (λ o. o.client == c) s.offers (not_true _ ours.1) in
+    let offers : s.offers ≡ [] = nothing_left (λ (o : Offered). o.client == c) s.offers offered (omega (arith, free.1)) in
+    let bound : s.bound ≡ [] = nil_from_length s.bound free.2 in
+    turned_does {test = test} {turn = moved_to ToRetained} {left = s.regions} (record {
+      parts = refl;
+      regions = refl;
+      gone = mixed_second s.regions;
+      same = λ p. refl;
+      fits = λ p h fits. record { idle = refl; fits = record { placed = fits.placed; backed = λ h. absurd (false_true h) }; own = λ d other. refl };
+      empty = All-nil (λ r. homes r (filter test s.parts) ≡ 0);
+      served = unused test (λ p act. active_unlisted p.state act) s.parts;
+      nobody = λ d other. some_count (λ p. ones (is_flight d p.state)) test s.parts (others_fly_none c d s other free.1);
+      held = λ d other. others_hold_none c d cached s other free.0;
+      ordered = λ i j d lower within. absurd (omega (arith, within));
+      frame = record {
+        offered = sound.offered;
+        ranges = sound_ranges s sound;
+        offers = λ d other. refl;
+        bound = λ d other. refl;
+        trims = λ d other. refl;
+        dying = λ d other. not_both d c other ∙ sym (ap (is_dying d) (live_is s.life live));
+      };
+      quiet = (refl, offers, bound, still_retained test s.parts (λ p h. double_not _ h));
+    }) sound (Destroy cached) Noted (λ page before. refl)
+    (omega (arith, zero_fly c (moved_to ToRetained) (filter test s.parts) (λ p. refl), some_count (flight c) test s.parts grounded))
+
+pub destroy_does : (c : ℕ) (s : Space) (cached : ℕ) → Sound s → reset_stands s c cached ≡ true → Does c s (Destroy cached) (after_destroy s c cached)
+destroy_does c s cached sound stands =
+    live_does c s (Destroy cached) _ sound (λ page before. refl, refl, refl)
+    (λ live. free_does c s (Destroy cached) (held_count s c cached) (flight_count s c) (length s.bound) (ended s c) sound (λ page before. refl, refl, refl)
+    (λ free. ended_does c cached s sound live stands free))
+
+-- ---- DestroyTake
+
+-- an arena that a client is destroying is dying
+dying_is : (c : ℕ) (life : Life) → is_dying c life ≡ true → life ≡ Dying c
+dying_is c (Dying e) h = ap Dying (eqb-true e c h)
+dying_is c Live h = absurd (cc)
+dying_is c Absent h = absurd (cc)
+
+-- an extent of a dying arena is nobody's flight, and serves nothing
+idle_there : (regions : List Region) (p : Part) → regions ≡ [] → Used regions p → is_active p.state ≡ false
+idle_there regions p none used =
+    elim (is_active p.state) as (λ b. is_active p.state ≡ b → b ≡ false)
+    [ false ↦ λ h. refl | true ↦ λ h. let zero : residents p regions ≡ 0 = ap (residents p) none in absurd (omega (arith, zero, used h)) ] refl
+
+grounded_own : (d : ℕ) (state : State) → is_in_flight state ≡ false → is_flight d state ≡ false
+grounded_own d (Flight e rest) h = absurd (cc)
+grounded_own d Active h = refl
+grounded_own d Dirty h = refl
+grounded_own d Muzzy h = refl
+grounded_own d Retained h = refl
+
+-- what is true of a dying arena
+quiet_dying : (s : Space) (c : ℕ) → Sound s → s.life ≡ Dying c → IsQuiet (Dying c) s
+quiet_dying s c sound is = subst (λ (l : Life). IsQuiet l s) is sound.quiet
+
+doom_does : (c : ℕ) (s : Space) (parts : List Part) → s.parts ≡ parts → Sound s → s.life ≡ Dying c → Does c s DestroyTake (doom_at s parts)
+doom_does c s [] e sound is =
+    let still = quiet_dying s c sound is in
+    frame_does c s (record s { life = Absent }) DestroyTake Nothing sound refl refl (record {
+      offered = sound.offered;
+      ranges = sound_ranges s sound;
+      offers = λ d other. refl;
+      bound = λ d other. refl;
+      trims = λ d other. refl;
+      dying = λ d other. sym (ap (is_dying d) is ∙ not_both d c other);
+    }) (still.0, still.1, still.2, e) (λ page before. refl) refl
+doom_does c s (p ∷ ps) e sound is =
+    let still = quiet_dying s c sound is in
+    let gone = begins_at p.span.first in
+    let stay : List Part = filter (λ q. not (gone q)) s.parts in
+    let t : Space = (doom_at s (p ∷ ps)).after in
+    let went : Mix Part stay (filter gone s.parts) s.parts = mixed_filter gone s.parts in
+    let came : Mix Part stay [] t.parts = mixed_append stay [] in
+    let left = one_left s (λ q. true) p sound (ap (find (λ q. true)) e) in
+    let fewer : (f : Part → ℕ) → sum_by f t.parts + f p ≡ sum_by f s.parts = λ f. omega (arith, mix_sum f went, mix_sum f came, left f, sum_by-cons f p []) in
+    let fits : Fits p = All-head Fits p ps (subst (All Fits) e (all_fit s sound)) in
+    let grounded : is_in_flight p.state ≡ false = All-head (λ q. is_in_flight q.state ≡ false) p ps (subst (All (λ (q : Part). is_in_flight q.state ≡ false)) e still.3) in
+    let idle : is_active p.state ≡ false = idle_there s.regions p still.0 (All-head (Used s.regions) p ps (subst (All (Used s.regions)) e sound.used)) in
+    let lands : flight c p ≡ 0 = ap ones (grounded_own c p.state grounded) in
+    record {
+      change = trade s stay (filter gone s.parts) [];
+      lawful = lawful_trade {old = p ∷ []} sound (record {
+        went = went;
+        came = came;
+        regions = refl;
+        left = left;
+        own = All-cons (Piece c) p [] (record { idle = idle; fits = fits; own = λ d other. grounded_own d p.state grounded }) (All-nil (Piece c));
+        fits = All-nil (Piece c);
+        owners = λ page. omega (arith, fewer (share page), sound.owners page);
+        frame = kept_frame c s t.parts s.regions sound;
+        quiet = subst (λ (l : Life). IsQuiet l t) (sym is)
+            (still.0, still.1, still.2, All-append (λ q. is_in_flight q.state ≡ false) stay [] (All-filter (λ q. not (gone q)) (λ q. is_in_flight q.state ≡ false) s.parts still.3) (All-nil (λ q. is_in_flight q.state ≡ false)));
+      });
+      pages = λ page before h. pages_fewer page (holders page s.parts) (holders page t.parts) before p (fewer (share page)) h;
+      flew = omega (arith, fewer (flight c), lands);
+    }
+
+pub destroy_take_does : (c : ℕ) (s : Space) → Sound s → is_dying c s.life ≡ true → Does c s DestroyTake (after_destroy_take s)
+destroy_take_does c s sound h = doom_does c s s.parts refl sound (dying_is c s.life h)

@@ -1,0 +1,211 @@
+-- Sums, counts, filters and searches over any list.
+use Rattle.std.proofs.Common.{◌≡◌, ℕ, zero, suc, ◌+◌, ◌<◌, ◌≤◌, Bool, true, false, not, cond, IsTrue, List, [], ◌∷◌, length, get_or, take, drop, map, Option, Some, None, refl, sym, ◌∙◌, ap, subst, arith, All, find, filter, insert, remove, ◌&&◌, ◌||◌}
+use Rattle.std.specs.List.{sum_by, count_by, list_any, flat_map, position_or_len}
+use Rattle.std.proofs.lemmas.List.{nil_from_length}
+use Rattle.std.proofs.lemmas.List.Folds.{list_any_at}
+use Rattle.std.proofs.lemmas.List.Sums.{sum_by-cons, sum_by-le-sum_by, get_or-le-sum_by, length-filter}
+use Rattle.std.proofs.lemmas.List.Elements.{All-append, All-cons, All-nil, All-head, All-tail, All-take, All-drop}
+use Rattle.space_model.proofs.Mixes.{mix_filter, mixed_filter}
+
+-- 1 for true, 0 for false
+abbrev pub ones : Bool → ℕ
+ones b = cond b 1 0
+
+-- what isn't, is not
+pub not_true : (b : Bool) → not b ≡ true → b ≡ false
+not_true true h = absurd (cc)
+not_true false h = refl
+
+-- what is false isn't true
+pub false_true : IsTrue false → ⊥
+false_true h = let e : false ≡ true = h in cc
+
+-- what a conditional search found, it found
+pub if_found : {X : Type 0} (b : Bool) (o : Option X) (x : X) → cond b o None ≡ Some x → (b ≡ true) × (o ≡ Some x)
+if_found true o x e = (refl, e)
+if_found false o x e = absurd (cc)
+
+-- where a sum is nothing, each term is
+pub sum_nothing : {X : Type 0} (f : X → ℕ) (xs : List X) → sum_by f xs ≡ 0 → All (λ x. f x ≡ 0) xs
+sum_nothing f xs none = λ k d h. omega (arith, get_or-le-sum_by f xs k d h)
+
+-- where each term is nothing, the sum is
+pub nothing_sum : {X : Type 0} (f : X → ℕ) (xs : List X) → All (λ x. f x ≡ 0) xs → sum_by f xs ≡ 0
+nothing_sum f [] none = refl
+nothing_sum f (x ∷ xs) none = omega (arith, sum_by-cons f x xs, none 0 x (omega arith), nothing_sum f xs (λ k d h. none (suc k) d (omega arith)))
+
+-- a sum of two terms
+pub sum_add : {X : Type 0} (f g : X → ℕ) (xs : List X) → sum_by (λ x. f x + g x) xs ≡ sum_by f xs + sum_by g xs
+sum_add f g [] = refl
+sum_add f g (x ∷ xs) = omega (arith, sum_by-cons (λ y. f y + g y) x xs, sum_by-cons f x xs, sum_by-cons g x xs, sum_add f g xs)
+
+-- a sum over what a list turns into
+pub map_terms : {X Y : Type 0} (f : Y → ℕ) (g : X → Y) (xs : List X) → sum_by f (map g xs) ≡ sum_by (λ x. f (g x)) xs
+map_terms f g [] = refl
+map_terms f g (x ∷ xs) = omega (arith, sum_by-cons f (g x) (map g xs), sum_by-cons (λ y. f (g y)) x xs, map_terms f g xs)
+
+-- a sum of terms that are larger at each element is larger
+pub all_sum_le : {X : Type 0} (f g : X → ℕ) (xs : List X) → All (λ x. f x ≤ g x) xs → sum_by f xs ≤ sum_by g xs
+all_sum_le f g [] all = omega arith
+all_sum_le f g (x ∷ xs) all =
+    omega (arith, sum_by-cons f x xs, sum_by-cons g x xs, All-head (λ y. f y ≤ g y) x xs all, all_sum_le f g xs (All-tail (λ y. f y ≤ g y) x xs all))
+
+-- a sum over what passes either of two tests, where nothing passes both
+pub sum_by-either : {X : Type 0} (f : X → ℕ) (a b : X → Bool) → ((x : X) → a x ≡ true → b x ≡ false) → (xs : List X) →
+    sum_by f (filter (λ x. a x || b x) xs) ≡ sum_by f (filter a xs) + sum_by f (filter b xs)
+sum_by-either f a b apart [] = refl
+sum_by-either f a b apart (x ∷ xs) =
+    let either = filter (λ y. a y || b y) xs in
+    let rest = sum_by-either f a b apart xs in
+    elim (a x) as (λ g. a x ≡ g → sum_by f (cond (g || b x) (x ∷ either) either) ≡ sum_by f (cond g (x ∷ filter a xs) (filter a xs)) + sum_by f (cond (b x) (x ∷ filter b xs) (filter b xs))) [
+      | true ↦ λ h. rw (apart x h) (omega (arith, sum_by-cons f x either, sum_by-cons f x (filter a xs), rest))
+      | false ↦ λ h. elim (b x) as (λ k. sum_by f (cond k (x ∷ either) either) ≡ sum_by f (filter a xs) + sum_by f (cond k (x ∷ filter b xs) (filter b xs)))
+          [ true ↦ omega (arith, sum_by-cons f x either, sum_by-cons f x (filter b xs), rest) | false ↦ rest ]
+    ] refl
+
+-- what some element passes is counted
+pub any_counts : {X : Type 0} (test : X → Bool) (xs : List X) → list_any test xs ≡ true → 0 < count_by test xs
+any_counts test [] h = absurd (cc)
+any_counts test (x ∷ xs) h =
+    elim (test x) as (λ b. (b || list_any test xs) ≡ true → ones (test x) ≡ ones b → 0 < count_by test (x ∷ xs)) [
+      | true ↦ λ k one. omega (arith, one, sum_by-cons (λ y. cond (test y) 1 0) x xs)
+      | false ↦ λ k one. omega (arith, sum_by-cons (λ y. cond (test y) 1 0) x xs, any_counts test xs k)
+    ] h refl
+
+-- what is counted is there
+pub counted_any : {X : Type 0} (test : X → Bool) (xs : List X) → 0 < count_by test xs → list_any test xs ≡ true
+counted_any test [] some = absurd (omega arith)
+counted_any test (x ∷ xs) some =
+    elim (test x) as (λ b. ones (test x) ≡ ones b → (b || list_any test xs) ≡ true)
+    [ true ↦ λ e. refl | false ↦ λ e. counted_any test xs (omega (arith, e, some, sum_by-cons (λ y. ones (test y)) x xs)) ] refl
+
+-- what no element passes, this one doesn't
+pub none_passes : {X : Type 0} (test : X → Bool) (xs : List X) (k : ℕ) (d : X) → list_any test xs ≡ false → k < length xs → test (get_or xs k d) ≡ false
+none_passes test xs k d none h =
+    elim (test (get_or xs k d)) as (λ b. test (get_or xs k d) ≡ b → b ≡ false)
+    [ true ↦ λ e. let some = list_any_at test xs k d h e in absurd (cc) | false ↦ λ e. refl ] refl
+
+-- what no element passes is counted nowhere
+pub none_counted : {X : Type 0} (test : X → Bool) (xs : List X) → list_any test xs ≡ false → count_by test xs ≡ 0
+none_counted test xs none = nothing_sum (λ x. ones (test x)) xs (λ k d h. ap ones (none_passes test xs k d none h))
+
+-- an extent that is found passes the test
+pub find_passes : {X : Type 0} (test : X → Bool) (xs : List X) (x : X) → find test xs ≡ Some x → test x ≡ true
+find_passes test [] x e = absurd (cc)
+find_passes test (y ∷ ys) x e =
+    elim (test y) as (λ b. test y ≡ b → cond b (Some y) (find test ys) ≡ Some x → test x ≡ true) [
+      | true ↦ λ h k. let same : y ≡ x = cc in subst (λ z. test z ≡ true) same h
+      | false ↦ λ h k. find_passes test ys x k
+    ] refl e
+
+-- what is true of each element is true of one that is found
+pub find_has : {X : Type 0} (P : X → Type 0) (test : X → Bool) (xs : List X) (x : X) → All P xs → find test xs ≡ Some x → P x
+find_has P test [] x all e = absurd (cc)
+find_has P test (y ∷ ys) x all e =
+    elim (test y) as (λ b. cond b (Some y) (find test ys) ≡ Some x → P x) [
+      | true ↦ λ k. let same : y ≡ x = cc in subst P same (All-head P y ys all)
+      | false ↦ λ k. find_has P test ys x (All-tail P y ys all) k
+    ] e
+
+-- the term of an extent that is found is within the sum
+pub find-le-sum_by : {X : Type 0} (f : X → ℕ) (test : X → Bool) (xs : List X) (x : X) → find test xs ≡ Some x → f x ≤ sum_by f xs
+find-le-sum_by f test [] x e = absurd (cc)
+find-le-sum_by f test (y ∷ ys) x e =
+    elim (test y) as (λ b. cond b (Some y) (find test ys) ≡ Some x → f x ≤ sum_by f (y ∷ ys)) [
+      | true ↦ λ k. let same : y ≡ x = cc in let same_term : f y ≡ f x = ap f same in omega (arith, sum_by-cons f y ys)
+      | false ↦ λ k. omega (arith, sum_by-cons f y ys, find-le-sum_by f test ys x k)
+    ] e
+
+-- where nothing is found, nothing passes
+pub find_nothing : {X : Type 0} (test : X → Bool) (xs : List X) → find test xs ≡ None → (k : ℕ) (d : X) → k < length xs → test (get_or xs k d) ≡ false
+find_nothing test [] e k d h = absurd (omega arith)
+find_nothing test (x ∷ xs) e zero d h = elim (test x) as (λ b. cond b (Some x) (find test xs) ≡ None → b ≡ false) [ true ↦ λ i. absurd (cc) | false ↦ λ i. refl ] e
+find_nothing test (x ∷ xs) e (suc k) d h =
+    elim (test x) as (λ b. cond b (Some x) (find test xs) ≡ None → test (get_or xs k d) ≡ false)
+    [ true ↦ λ i. absurd (cc) | false ↦ λ i. find_nothing test xs i k d (omega arith) ] e
+
+-- what no element passes keeps nothing
+pub filter_nothing : {X : Type 0} (f : X → Bool) (xs : List X) → count_by f xs ≡ 0 → filter f xs ≡ []
+filter_nothing f xs none = nil_from_length (filter f xs) (length-filter f xs ∙ none)
+
+-- a filter that keeps none of what another filter takes keeps the same without it
+pub filter-without : {X : Type 0} (f gone : X → Bool) (xs : List X) → filter f (filter gone xs) ≡ [] → filter f (filter (λ x. not (gone x)) xs) ≡ filter f xs
+filter-without f gone xs none = sym (mix_filter f (mixed_filter gone xs) (sym (length-filter f (filter gone xs)) ∙ ap length none))
+
+-- a filter that doesn't keep the first element that passes a test keeps the same without it
+pub without_first : {X : Type 0} (f test : X → Bool) (xs : List X) → ((x : X) → test x ≡ true → f x ≡ false) → filter f (remove xs (position_or_len test xs)) ≡ filter f xs
+without_first f test [] apart = refl
+without_first f test (x ∷ xs) apart =
+    elim (test x) as (λ b. test x ≡ b → filter f (remove (x ∷ xs) (cond (not b) (1 + position_or_len test xs) 0)) ≡ filter f (x ∷ xs)) [
+      | true ↦ λ h. rw (apart x h) refl
+      | false ↦ λ h. let more : suc (position_or_len test xs) ≡ 1 + position_or_len test xs = omega arith in
+          subst (λ n. filter f (remove (x ∷ xs) n) ≡ filter f (x ∷ xs)) more
+          (elim (f x) as (λ b. cond b (x ∷ filter f (remove xs (position_or_len test xs))) (filter f (remove xs (position_or_len test xs))) ≡ cond b (x ∷ filter f xs) (filter f xs))
+          [ true ↦ ap (λ ys. x ∷ ys) (without_first f test xs apart) | false ↦ without_first f test xs apart ])
+    ] refl
+
+-- of a list in which none passes a test and none fails it nothing is left
+pub nothing_left : {X : Type 0} (test : X → Bool) (xs : List X) → count_by test xs ≡ 0 → count_by (λ x. not (test x)) xs ≡ 0 → xs ≡ []
+nothing_left test [] none all = refl
+nothing_left test (x ∷ xs) none all =
+    elim (test x) as (λ b. ones (test x) ≡ ones b → ones (not (test x)) ≡ ones (not b) → x ∷ xs ≡ []) [
+      | true ↦ λ e f. absurd (omega (arith, e, none, sum_by-cons (λ y. ones (test y)) x xs))
+      | false ↦ λ e f. absurd (omega (arith, f, all, sum_by-cons (λ y. ones (not (test y))) x xs))
+    ] refl refl
+
+-- where at most one element passes a test, one that is found and does is the only one
+pub only_one : {X : Type 0} (key test : X → Bool) (xs : List X) (x : X) → count_by key xs ≤ 1 → find test xs ≡ Some x → key x ≡ true → filter key xs ≡ x ∷ []
+only_one key test [] x most e is = absurd (cc)
+only_one key test (y ∷ ys) x most e is =
+    let one : Bool → ℕ = λ b. cond b 1 0 in
+    let sums : count_by key (y ∷ ys) ≡ one (key y) + count_by key ys = sum_by-cons (λ z. cond (key z) 1 0) y ys in
+    elim (test y) as (λ b. cond b (Some y) (find test ys) ≡ Some x → filter key (y ∷ ys) ≡ x ∷ []) [
+      | true ↦ λ k.
+          let same : y ≡ x = cc in
+          let passes : key y ≡ true = ap key same ∙ is in
+          let here : one (key y) ≡ 1 = ap one passes in
+          rw (passes, filter_nothing key ys (omega (arith, sums, here))) (ap (λ z. z ∷ []) same)
+      | false ↦ λ k.
+          let there : one (key x) ≡ 1 = ap one is in
+          let found : one (key x) ≤ count_by key ys = find-le-sum_by (λ z. one (key z)) test ys x k in
+          let later = only_one key test ys x (omega (arith, sums)) k is in
+          elim (key y) as (λ b. one (key y) ≡ one b → cond b (y ∷ filter key ys) (filter key ys) ≡ x ∷ []) [
+            | true ↦ λ h. absurd (omega (arith, h, found, there, sums))
+            | false ↦ λ h. later
+          ] refl
+    ] e
+
+-- a test in two halves
+pub halves : (a b : Bool) → ones (a && b) + ones (a && not b) ≤ ones a
+halves true true = omega arith
+halves true false = omega arith
+halves false b = omega arith
+
+pub other_half : (a b : Bool) → ones (a && not b) ≡ 0 → a ≡ true → b ≡ true
+other_half a true h is = refl
+other_half a false h is = let none : ones (true && not false) ≡ 0 = subst (λ x. ones (x && not false) ≡ 0) is h in absurd (omega (arith, none))
+
+-- where at most one element passes a test, and one does that passes another, each that passes the first passes that
+pub sole : {X : Type 0} (f key : X → Bool) (xs : List X) (j : ℕ) (e : X) → count_by f xs ≤ 1 → j < length xs → f (get_or xs j e) ≡ true → key (get_or xs j e) ≡ true → All (λ y. f y ≡ true → key y ≡ true) xs
+sole f key xs j e most within passes is =
+    let x = get_or xs j e in
+    let one : ones (f x && key x) ≡ 1 = rw (passes, is) refl in
+    let split : sum_by (λ y. ones (f y && key y) + ones (f y && not (key y))) xs ≤ count_by f xs = sum_by-le-sum_by (λ y. ones (f y && key y) + ones (f y && not (key y))) (λ y. ones (f y)) xs (λ y. halves (f y) (key y)) in
+    let none : sum_by (λ y. ones (f y && not (key y))) xs ≡ 0 = omega (
+      arith,
+      one,
+      split,
+      most,
+      sum_add (λ y. ones (f y && key y)) (λ y. ones (f y && not (key y))) xs,
+      get_or-le-sum_by (λ y. ones (f y && key y)) xs j e within,
+    ) in
+    λ k d h yes. other_half (f (get_or xs k d)) (key (get_or xs k d)) (sum_nothing (λ y. ones (f y && not (key y))) xs none k d h) yes
+
+-- what is true of each element and of one more is true when that is inserted
+pub All-insert : {X : Type 0} (P : X → Type 0) (xs : List X) (i : ℕ) (x : X) → All P xs → P x → All P (insert xs i x)
+All-insert P xs i x all here = All-append P (take i xs) (x ∷ drop i xs) (All-take P i xs all) (All-cons P x (drop i xs) here (All-drop P i xs all))
+
+-- what is true of each element of each list is true of all lists joined
+pub All-flat_map : {X Y : Type 0} (P : Y → Type 0) (f : X → List Y) (xs : List X) → All (λ x. All P (f x)) xs → All P (flat_map f xs)
+All-flat_map P f [] all = All-nil P
+All-flat_map P f (x ∷ xs) all = All-append P (f x) (flat_map f xs) (All-head (λ y. All P (f y)) x xs all) (All-flat_map P f xs (All-tail (λ y. All P (f y)) x xs all))

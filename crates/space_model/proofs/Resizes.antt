@@ -1,0 +1,385 @@
+-- What the operations of a resize do: they look for pages behind a large region, join them to it, or cut some off.
+use Rattle.std.proofs.Common.{true, false, ◌≡◌, ◌≢◌, ℕ, ◌+◌, ◌-◌, ◌<◌, ◌≤◌, Bool, not, cond, List, [], ◌∷◌, get_or, Option, Some, None, refl, sym, ◌∙◌, ap, subst, arith, All, find, filter, ◌&&◌, ◌==◌, leb as nat_le, ltb as nat_lt}
+use Rattle.std.specs.List.{sum_by, count_by, position_or_len}
+use Rattle.std.specs.Option.{option_map, option_and_then}
+use Rattle.std.proofs.lemmas.Bool.{eqb-true, leb-true, ltb-true}
+use Rattle.std.proofs.lemmas.List.Sums.{sum_by-cons}
+use Rattle.std.proofs.lemmas.List.Elements.{All-weaker, All-cons, All-nil}
+use Rattle.size_classes.specs.Classes.{pages_at}
+use Rattle.size_classes.proofs.Table.{size_bounds, large_size}
+use Rattle.space_model.specs.declared.asks.Ask.{Ask}
+use Rattle.space_model.specs.declared.asks.Ask.TheVariants.{Merge, Split}
+use Rattle.space_model.specs.declared.asks.Answer.{Answer}
+use Rattle.space_model.specs.declared.asks.Answer.TheVariants.{Done, Refused as Refuses}
+use Rattle.space_model.specs.declared.asks.Heard.{Heard}
+use Rattle.space_model.specs.declared.entries.Reply.{Reply}
+use Rattle.space_model.specs.declared.entries.Op.TheVariants.{Widen, JoinDone, TrimDone}
+use Rattle.space_model.specs.declared.entries.Reply.TheVariants.{Noted, Nothing, Whole}
+use Rattle.space_model.specs.declared.parts.Part.{Part}
+use Rattle.space_model.specs.declared.parts.Region.{Region}
+use Rattle.space_model.specs.declared.parts.Span.{Span}
+use Rattle.space_model.specs.declared.parts.State.{State}
+use Rattle.space_model.specs.declared.parts.State.TheVariants.{Active, Dirty, Muzzy, Retained, Flight as InFlight}
+use Rattle.space_model.specs.declared.spaces.Space.{Space}
+use Rattle.space_model.specs.Span.{IsPlaced, end_of, has_page, same_span}
+use Rattle.space_model.specs.Part.{holders, exchanged, begins_at, is_active, is_flight, is_flight_at, taken_out, is_listed, is_unused, rest_of}
+use Rattle.space_model.specs.Region.{address_of, houses, homes, residents, is_held_by, starts_at}
+use Rattle.space_model.specs.Clients.{is_in, without_client}
+use Rattle.space_model.specs.Stepped.{stays, is_live, is_yes_or_no, found_passes, low_piece, high_piece, joined, begins_either}
+use Rattle.space_model.specs.Flights.{flight, lost, won}
+use Rattle.space_model.specs.Resizing.{is_large_at, with_home, large_home, reclassed, is_spare, is_open, widen_by, widen_at, after_widen, is_large_class, has_large, widened_at, after_join, join_stands, trimmed_at, after_trim_done, trim_done_stands}
+use Rattle.space_model.specs.Sound.{Sound, IsQuiet}
+use Rattle.space_model.proofs.Lists.{all_sum_le, find_has, find_passes, ones, only_one, sum_nothing}
+use Rattle.space_model.proofs.Exchange.{share}
+use Rattle.space_model.proofs.Mixes.{Mix, mix_sum, mix_first, mix_filter, mixed_first, mixed_filter, mixed_append, mixed_insert}
+use Rattle.space_model.proofs.Ordered.{Ordered, ordered-filter, ordered-inserted}
+use Rattle.space_model.proofs.Settled.{Settled, Used, LargeAt, serves, serves_by, covered, covers_start, idle_settled, both_settled}
+use Rattle.space_model.proofs.Changes.{Does, Plain, IsLawful, Frame, Fits, Piece, pieces_home, pieces_own, one_left, lawful_sums, kept_frame, live_quiet, sound_ranges}
+use Rattle.space_model.proofs.Pieces.{both_true, Listed, found_fits, two_left, joined_share, cut_shares, Fits-joined, Fits-low, Fits-high, Piece-taken}
+use Rattle.space_model.proofs.Landing.{eqb_itself, ones_most, one_settled}
+use Rattle.space_model.proofs.Holdings.{held_apart}
+use Rattle.space_model.proofs.Endings.{active_own}
+use Rattle.space_model.proofs.Moves.{live_is, itself, flight_at, still, taken_does, whole_does}
+use Rattle.space_model.proofs.Settings.{client_does, without_others}
+
+-- ---- Widen
+
+-- an unused extent is listed where it belongs
+unused_listed : (state : State) → is_unused state ≡ true → is_listed (rest_of state) state ≡ true
+unused_listed Active h = absurd (cc)
+unused_listed Dirty h = refl
+unused_listed Muzzy h = refl
+unused_listed Retained h = refl
+unused_listed (InFlight e rest) h = absurd (cc)
+
+spare_listed : (page pages : ℕ) (parts : List Part) (p : Part) → find (is_spare page pages) parts ≡ Some p → Listed parts p
+spare_listed page pages parts p e =
+    let passes = both_true (is_unused p.state && begins_at page p) _ (find_passes (is_spare page pages) parts p e) in
+    record { test = is_spare page pages; found = e; rest = rest_of p.state; is_in = unused_listed p.state (both_true (is_unused p.state) _ passes.0).0 }
+
+widen_by_does : (c : ℕ) (s : Space) (addr pages page lacking : ℕ) (o : Option Part) → find (is_spare page lacking) s.parts ≡ o → Sound s → is_live s.life ≡ true →
+    Does c s (Widen addr pages) (widen_by s c page o)
+widen_by_does c s addr pages page lacking (Some p) e sound live =
+    taken_does c s (Widen addr pages) _ p sound live (spare_listed page lacking s.parts p e) (λ page before. refl, refl, refl)
+widen_by_does c s addr pages page lacking None e sound live =
+    elim (is_open s.parts page) as (λ b. Does c s (Widen addr pages) (stays s (cond b Noted Nothing)))
+    [ true ↦ still c s (Widen addr pages) Noted sound (λ page before. refl, refl, refl) | false ↦ still c s (Widen addr pages) Nothing sound (λ page before. refl, refl, refl) ]
+
+widen_at_does : (c : ℕ) (s : Space) (addr pages : ℕ) (o : Option (Region × Part)) → Sound s → is_live s.life ≡ true → Does c s (Widen addr pages) (widen_at s c pages o)
+widen_at_does c s addr pages None sound live = still c s (Widen addr pages) Noted sound (λ page before. refl, refl, refl)
+widen_at_does c s addr pages (Some home) sound live =
+    let span : Span = home.1.span in
+    widen_by_does c s addr pages (end_of span) (pages - span.pages) (find (is_spare (end_of span) (pages - span.pages)) s.parts) refl sound live
+
+pub widen_does : (c : ℕ) (s : Space) (addr pages : ℕ) → Sound s → is_live s.life ≡ true → Does c s (Widen addr pages) (after_widen s c addr pages)
+widen_does c s addr pages sound live = widen_at_does c s addr pages (large_home s c addr) sound live
+
+-- ---- a large region that takes another class
+
+-- a region has a share in the byte at its address
+starts-covered : (addr : ℕ) (r : Region) → r.class < 121 → ones (starts_at addr r) ≤ covered addr r
+starts-covered addr r class =
+    elim (starts_at addr r) as (λ b. starts_at addr r ≡ b → ones b ≤ covered addr r) [
+      | false ↦ λ h. omega arith
+      | true ↦ λ h. let same : r.addr ≡ addr = eqb-true r.addr addr h in
+          let has : covered r.addr r ≡ 1 = ap ones (covers_start r (size_bounds r.class class).0) in
+          subst (λ a. 1 ≤ covered a r) same (omega (arith, has))
+    ] refl
+
+-- a region that is found is the only one at its address
+one_region : (s : Space) (test : Region → Bool) (r : Region) → Sound s → find test s.regions ≡ Some r → filter (starts_at r.addr) s.regions ≡ r ∷ []
+one_region s test r sound found =
+    let few = all_sum_le (λ q. ones (starts_at r.addr q)) (covered r.addr) s.regions
+    (All-weaker (λ q. q.class < 121) (λ q. ones (starts_at r.addr q) ≤ covered r.addr q) (λ q h. starts-covered r.addr q h) s.regions sound.classes) in
+    only_one (starts_at r.addr) test s.regions r (omega (arith, few, sound.apart r.addr)) found (eqb_itself r.addr)
+
+-- A client's large region takes another class, in an extent or two that take its extent's place and that of others.
+record Resize (c : ℕ) (s t : Space) (r : Region) (p : Part) (class : ℕ) (gone : Part → Bool) (others new : List Part) : Type 0 where
+  test : Region → Bool
+  region : find test s.regions ≡ Some r
+  held : is_held_by c r ≡ true
+  large : 36 ≤ r.class
+  home : find (λ q. houses q r) s.parts ≡ Some p
+  parts : t.parts ≡ exchanged gone s.parts new
+  regions : t.regions ≡ reclassed r class s.regions
+  left : (f : Part → ℕ) → sum_by f (filter gone s.parts) ≡ f p + sum_by f others
+  own : All (Piece c) others
+  pages : (page : ℕ) → holders page new ≡ share page p + holders page others
+  fits : All Fits new
+  grounded : (d : ℕ) → d ≢ c → count_by (λ q. is_flight d q.state) new ≡ 0
+  settled : Settled new (record r { class = class } ∷ [])
+  frame : Frame c s t
+  quiet : IsQuiet t.life t
+
+-- what is known of the extent of a large region
+pub record Housed (s : Space) (r : Region) (p : Part) : Type 0 where
+  pub active : is_active p.state ≡ true
+  pub committed : p.committed ≡ true
+  pub placed : IsPlaced p.span
+  pub start : r.addr ≡ address_of p.span.first
+  pub home : homes r s.parts ≡ 1
+  pub alone : residents p s.regions ≡ 1
+
+pub housed : (s : Space) (test : Region → Bool) (r : Region) (p : Part) → Sound s → find test s.regions ≡ Some r → find (λ q. houses q r) s.parts ≡ Some p → 36 ≤ r.class →
+    Housed s r p
+housed s test r p sound region home large =
+    let here : houses p r ≡ true = find_passes (λ q. houses q r) s.parts p home in
+    let last = both_true (is_active p.state && p.committed) _ here in
+    let first = both_true (is_active p.state) p.committed last.0 in
+    let at = find_has (λ q. All (LargeAt s.regions q) s.parts) test s.regions r sound.large region in
+    let is = find_has (LargeAt s.regions r) (λ q. houses q r) s.parts p at home here large in record {
+      active = first.0;
+      committed = first.1;
+      placed = find_has (λ q. IsPlaced q.span) (λ q. houses q r) s.parts p sound.placed home;
+      start = eqb-true _ _ (both_true (r.addr == address_of p.span.first) _ is.0).0;
+      home = find_has (λ q. homes q s.parts ≡ 1) test s.regions r sound.homes region;
+      alone = is.1;
+    }
+
+resize_lawful : {c : ℕ} {s t : Space} {r : Region} {p : Part} {class : ℕ} {gone : Part → Bool} {others new : List Part} → Sound s → Resize c s t r p class gone others new →
+    IsLawful c s t (record {
+      stay = filter (λ q. not (gone q)) s.parts;
+      old = filter gone s.parts;
+      new = new;
+      rest = filter (λ q. not (starts_at r.addr q)) s.regions;
+      left = filter (starts_at r.addr) s.regions;
+      come = record r { class = class } ∷ [];
+    })
+resize_lawful {c} {s} {t} {r} {p} {class} {gone} {others} {new} sound x =
+    let stay : List Part = filter (λ q. not (gone q)) s.parts in
+    let rest : List Region = filter (λ q. not (starts_at r.addr q)) s.regions in
+    let other : Region = record r { class = class } in
+    let at = housed s x.test r p sound x.region x.home x.large in
+    let here : serves r p ≡ 1 = ap ones (find_passes (λ q. houses q r) s.parts p x.home) in
+    let went : Mix Part stay (filter gone s.parts) s.parts = mixed_filter gone s.parts in
+    let came : Mix Part stay new t.parts = subst (λ (ps : List Part). Mix Part stay new ps) (sym x.parts) (mixed_append stay new) in
+    let less : Mix Region rest (filter (starts_at r.addr) s.regions) s.regions = mixed_filter (starts_at r.addr) s.regions in
+    let landed : Mix Region rest (other ∷ []) t.regions =
+    subst (λ (rs : List Region). Mix Region rest (other ∷ []) rs) (sym x.regions) (mixed_insert rest (position_or_len (λ (q : Region). nat_lt other.addr q.addr) rest) other) in
+    let one : (f : Region → ℕ) → sum_by f (filter (starts_at r.addr) s.regions) ≡ f r =
+    λ f. omega (arith, ap (sum_by f) (one_region s x.test r sound x.region), sum_by-cons f r []) in
+    let guests : All (λ q. serves_by p q ≡ 0) rest = sum_nothing (serves_by p) rest (omega (arith, mix_sum (serves_by p) less, one (serves_by p), here, at.alone)) in
+    let elsewhere : All (λ q. serves r q ≡ 0) stay = sum_nothing (serves r) stay (omega (arith, mix_sum (serves r) went, x.left (serves r), here, at.home)) in
+    record {
+      went = went;
+      came = came;
+      gone = less;
+      landed = landed;
+      owners = λ page. omega (arith, mix_sum (share page) went, mix_sum (share page) came, x.left (share page), x.pages page, sound.owners page);
+      fits = x.fits;
+      empty = λ k d h. omega (arith, x.left (serves (get_or rest k d)), pieces_home c others (get_or rest k d) x.own, guests k d h);
+      served = λ j e i act. omega (
+        arith,
+        mix_first (Used s.regions) went sound.used j e i act,
+        mix_sum (serves_by (get_or stay j e)) less,
+        one (serves_by (get_or stay j e)),
+        elsewhere j e i,
+      );
+      settled = x.settled;
+      flights = λ d differ.
+          let nobody : ones (is_flight d p.state) ≡ 0 = ap ones (active_own d p.state at.active) in
+          mix_filter (λ q. is_flight d q.state) came (x.grounded d differ)
+          ∙ sym (mix_filter (λ q. is_flight d q.state) went (omega (arith, x.left (λ q. ones (is_flight d q.state)), nobody, pieces_own c d others differ x.own)));
+      held = λ d differ.
+          let nobody : ones (is_held_by d r) ≡ 0 = ap ones (held_apart c d r differ x.held) in
+          mix_filter (is_held_by d) landed (omega (arith, nobody, sum_by-cons (λ q. ones (is_held_by d q)) other []))
+          ∙ sym (mix_filter (is_held_by d) less (omega (arith, one (λ q. ones (is_held_by d q)), nobody)));
+      ordered = subst (λ (rs : List Region). Ordered rs) (sym x.regions) (ordered-inserted other rest (ordered-filter (λ q. not (starts_at r.addr q)) s.regions sound.ordered));
+      frame = x.frame;
+      quiet = x.quiet;
+    }
+
+-- a large region with the extent that serves it, as they are found together
+pub record Home (c : ℕ) (s : Space) (addr : ℕ) (home : Region × Part) : Type 0 where
+  pub region : find (is_large_at c addr) s.regions ≡ Some home.0
+  pub house : find (λ p. houses p home.0) s.parts ≡ Some home.1
+  pub held : is_held_by c home.0 ≡ true
+  pub large : 36 ≤ home.0.class
+
+pub home_found : (c : ℕ) (s : Space) (addr : ℕ) (home : Region × Part) → large_home s c addr ≡ Some home → Home c s addr home
+home_found c s addr home e =
+    elim (find (is_large_at c addr) s.regions) as (λ o. find (is_large_at c addr) s.regions ≡ o → option_and_then (with_home s.parts) o ≡ Some home → Home c s addr home) [
+      | None ↦ λ f k. absurd (cc)
+      | Some r ↦ λ f k. elim (find (λ p. houses p r) s.parts) as (λ o. find (λ p. houses p r) s.parts ≡ o → option_map (λ p. (r, p)) o ≡ Some home → Home c s addr home) [
+        | None ↦ λ g l. absurd (cc)
+        | Some p ↦ λ g l.
+            let same : (r, p) ≡ home = cc in
+            let passes = both_true (is_held_by c r && starts_at addr r) _ (find_passes (is_large_at c addr) s.regions r f) in
+            subst (Home c s addr) same (record { region = f; house = g; held = (both_true (is_held_by c r) _ passes.0).0; large = leb-true _ _ passes.1 })
+      ] refl k
+    ] refl e
+
+-- the extent of the region passes a test that was made of it
+large_passes : (c : ℕ) (s : Space) (addr : ℕ) (test : Part → Bool) (home : Region × Part) → large_home s c addr ≡ Some home → has_large s c addr test ≡ true → test home.1 ≡ true
+large_passes c s addr test home e h =
+    subst (λ (o : Option (Region × Part)). found_passes test (option_map (λ x. x.1) o) ≡ true) e h
+
+-- ---- JoinDone
+
+joined_does : (c : ℕ) (s : Space) (heard : Heard) (class : ℕ) (low high : Span) (o : Option (Region × Part)) (u : Option Part) →
+    large_home s c (address_of low.first) ≡ o → find (is_flight_at c high) s.parts ≡ u → Sound s → is_live s.life ≡ true → 36 ≤ class → class < 121 →
+    low.pages + high.pages ≡ pages_at class → end_of low ≡ high.first → has_large s c (address_of low.first) (λ p. same_span p.span low) ≡ true →
+    Does c s (JoinDone heard class) (widened_at s class o u)
+joined_does c s heard class low high None u e f sound live big within whole side fits = still c s (JoinDone heard class) Noted sound (λ page before. refl, refl, refl)
+joined_does c s heard class low high (Some home) None e f sound live big within whole side fits = still c s (JoinDone heard class) Noted sound (λ page before. refl, refl, refl)
+joined_does c s heard class low high (Some home) (Some q) e f sound live big within whole side fits =
+    let r : Region = home.0 in
+    let p : Part = home.1 in
+    let both : Part = joined p q in
+    let t : Space = (widened_at s class (Some home) (Some q)).after in
+    let found = home_found c s (address_of low.first) home e in
+    let at = housed s (is_large_at c (address_of low.first)) r p sound found.region found.house found.large in
+    let to = flight_at c s high q sound live f in
+    let same = both_true (p.span.first == low.first) (p.span.pages == low.pages) (large_passes c s (address_of low.first) (λ p. same_span p.span low) home e fits) in
+    let first : p.span.first ≡ low.first = eqb-true _ _ same.0 in
+    let pages : p.span.pages ≡ low.pages = eqb-true _ _ same.1 in
+    let beside : end_of p.span ≡ q.span.first = omega (arith, first, pages, to.first, side) in
+    let two : (f : Part → ℕ) → sum_by f (filter (begins_either p q) s.parts) ≡ f p + sum_by f (q ∷ []) =
+    λ g. omega (arith, two_left s (λ x. houses x r) (is_flight_at c high) p q sound found.house f beside g, sum_by-cons g p (q ∷ [])) in
+    let shares : (page : ℕ) → holders page (both ∷ []) ≡ share page p + holders page (q ∷ []) =
+    λ page. omega (arith, sum_by-cons (share page) both [], sum_by-cons (share page) q [], joined_share page p q beside) in
+    let lawful = resize_lawful {p = p} {others = q ∷ []} sound (record {
+      test = is_large_at c (address_of low.first);
+      region = found.region;
+      held = found.held;
+      large = found.large;
+      home = found.house;
+      parts = refl;
+      regions = refl;
+      left = two;
+      own = All-cons (Piece c) q [] to.piece (All-nil (Piece c));
+      pages = shares;
+      fits = All-cons Fits both [] (Fits-joined p q (found_fits s (λ x. houses x r) p sound found.house) to.piece.fits beside) (All-nil Fits);
+      grounded = λ d other. let none : ones (is_flight d p.state) ≡ 0 = ap ones (active_own d p.state at.active) in omega (arith, none, sum_by-cons (λ x. ones (is_flight d x.state)) both []);
+      settled = one_settled both (record r { class = class }) (record {
+        active = at.active;
+        committed = at.committed;
+        class = within;
+        pages = omega (arith, pages, to.pages, whole);
+        start = at.start;
+      });
+      frame = kept_frame c s t.parts t.regions sound;
+      quiet = live_quiet s t to.live refl;
+    }) in
+    let moved : (g : Part → ℕ) → sum_by g t.parts + (g p + sum_by g (q ∷ [])) ≡ sum_by g s.parts + sum_by g (both ∷ []) = λ g. omega (arith, lawful_sums lawful g, two g) in
+    let lands : flight c p ≡ 0 = ap ones (active_own c p.state at.active) in
+    let flies : flight c q ≡ 1 = ap ones to.own in
+    record {
+      change = _;
+      lawful = lawful;
+      pages = λ page before h. omega (arith, moved (share page), shares page) ∙ h;
+      flew = omega (arith, moved (flight c), lands, flies, sum_by-cons (flight c) q [], sum_by-cons (flight c) both []);
+    }
+
+pub join_done_does : (c : ℕ) (s : Space) (heard : Heard) (class : ℕ) (ask : Ask) (answer : Answer) → Sound s → is_live s.life ≡ true → join_stands s c class ask answer ≡ true →
+    Does c s (JoinDone heard class) (after_join s c class ask answer)
+join_done_does c s heard class (Merge low high) Done sound live h =
+    let a = both_true (is_large_class class && low.pages + high.pages == pages_at class && end_of low == high.first && has_large s c (address_of low.first) (λ p. same_span p.span low)) _ h in
+    let b = both_true (is_large_class class && low.pages + high.pages == pages_at class && end_of low == high.first) _ a.0 in
+    let d = both_true (is_large_class class && low.pages + high.pages == pages_at class) _ b.0 in
+    let e = both_true (is_large_class class) _ d.0 in
+    let f = both_true (nat_le 36 class) _ e.0 in
+    joined_does c s heard class low high (large_home s c (address_of low.first)) (find (is_flight_at c high) s.parts) refl refl sound live
+    (leb-true _ _ f.0) (ltb-true _ _ f.1) (eqb-true _ _ e.1) (eqb-true _ _ d.1) b.1
+join_done_does c s heard class (Merge low high) Refuses sound live h =
+    whole_does c s (JoinDone heard class) high (find (is_flight_at c high) s.parts) refl sound live (λ page before. refl, refl, refl) (λ page before. refl, refl, refl)
+join_done_does c s heard class ask answer sound live h = still c s (JoinDone heard class) Noted sound (λ page before. refl, refl, refl)
+
+-- ---- TrimDone
+
+-- a large class has a page
+some_large : (class : ℕ) → 36 ≤ class → class < 121 → 0 < pages_at class
+some_large class large within = omega (arith, large_size class large within, (size_bounds class within).0)
+
+trimmed_does : (c : ℕ) (s : Space) (heard : Heard) (class : ℕ) (span : Span) (left : ℕ) (home : Region × Part) →
+    large_home s c (address_of span.first) ≡ Some home → Sound s → is_live s.life ≡ true → 36 ≤ class → class < 121 → left ≡ pages_at class → left < span.pages →
+    has_large s c (address_of span.first) (λ p. same_span p.span span) ≡ true →
+    Does c s (TrimDone heard class) (trimmed_at (record s { trims = without_client c s.trims }) c left class (Some home))
+trimmed_does c s heard class span left home e sound live big within exact fewer fits =
+    let r : Region = home.0 in
+    let p : Part = home.1 in
+    let low : Part = low_piece left p in
+    let high : Part = taken_out c (high_piece left p) in
+    let t : Space = (trimmed_at (record s { trims = without_client c s.trims }) c left class (Some home)).after in
+    let found = home_found c s (address_of span.first) home e in
+    let at = housed s (is_large_at c (address_of span.first)) r p sound found.region found.house found.large in
+    let fit = found_fits s (λ x. houses x r) p sound found.house in
+    let same = both_true (p.span.first == span.first) (p.span.pages == span.pages) (large_passes c s (address_of span.first) (λ p. same_span p.span span) home e fits) in
+    let pages : p.span.pages ≡ span.pages = eqb-true _ _ same.1 in
+    let some : 0 < left = omega (arith, exact, some_large class big within) in
+    let less : left < p.span.pages = omega (arith, pages) in
+    let up = Piece-taken c (high_piece left p) (Fits-high left p fit some less) in
+    let one : (f : Part → ℕ) → sum_by f (filter (begins_at p.span.first) s.parts) ≡ f p + sum_by f [] =
+    λ f. omega (arith, one_left s (λ x. houses x r) p sound found.house f, sum_by-cons f p []) in
+    let sums : (f : Part → ℕ) → sum_by f (low ∷ high ∷ []) ≡ f low + f high = λ f. omega (arith, sum_by-cons f low (high ∷ []), sum_by-cons f high []) in
+    let shares : (page : ℕ) → holders page (low ∷ high ∷ []) ≡ share page p + holders page [] = λ page. omega (arith, sums (share page), cut_shares page left p some less) in
+    let lawful = resize_lawful {p = p} {others = []} sound (record {
+      test = is_large_at c (address_of span.first);
+      region = found.region;
+      held = found.held;
+      large = found.large;
+      home = found.house;
+      parts = refl;
+      regions = refl;
+      left = one;
+      own = All-nil (Piece c);
+      pages = shares;
+      fits = All-cons Fits low (high ∷ []) (Fits-low left p fit some less) (All-cons Fits high [] up.fits (All-nil Fits));
+      grounded = λ d other.
+          let none : ones (is_flight d low.state) ≡ 0 = ap ones (active_own d p.state at.active) in
+          let nor : ones (is_flight d high.state) ≡ 0 = ap ones (up.own d other) in
+          omega (arith, sums (λ x. ones (is_flight d x.state)), none, nor);
+      settled = both_settled {a = low ∷ []} {b = high ∷ []} {q = record r { class = class } ∷ []} {r = []} (record {
+        pages = λ page. omega (arith, sum_by-cons (share page) low [], sum_by-cons (share page) high [], cut_shares page left p some less, ones_most (has_page page p.span));
+        one = one_settled low (record r { class = class }) (record {
+          active = at.active;
+          committed = at.committed;
+          class = within;
+          pages = exact;
+          start = at.start;
+        });
+        two = idle_settled (high ∷ []) (All-cons (λ x. is_active x.state ≡ false) high [] refl (All-nil (λ x. is_active x.state ≡ false)));
+        extents = mixed_append (low ∷ []) (high ∷ []);
+        landed = mixed_first (record r { class = class } ∷ []);
+      });
+      frame = record {
+        offered = sound.offered;
+        ranges = sound_ranges s sound;
+        offers = λ d other. refl;
+        bound = λ d other. refl;
+        trims = λ d other. without_others d c s.trims other;
+        dying = λ d other. refl;
+      };
+      quiet = live_quiet s t (live_is s.life live) refl;
+    }) in
+    let moved : (g : Part → ℕ) → sum_by g t.parts + (g p + sum_by g []) ≡ sum_by g s.parts + (g low + g high) = λ g. omega (arith, lawful_sums lawful g, one g, sums g) in
+    let lands : flight c p ≡ 0 = ap ones (active_own c p.state at.active) in
+    let stands : flight c low ≡ 0 = ap ones (active_own c p.state at.active) in
+    let flies : flight c high ≡ 1 = ap ones (itself c) in
+    record {
+      change = _;
+      lawful = lawful;
+      pages = λ page before h. omega (arith, moved (share page), shares page, sums (share page)) ∙ h;
+      flew = omega (arith, moved (flight c), lands, stands, flies);
+    }
+
+-- nothing but the end of the shrinking
+shrunk : (c : ℕ) (s : Space) (heard : Heard) (class : ℕ) (reply : Reply) → Sound s → is_live s.life ≡ true → Plain (TrimDone heard class) reply →
+    lost (TrimDone heard class) reply ≡ won c s (TrimDone heard class) reply → Does c s (TrimDone heard class) (stays (record s { trims = without_client c s.trims }) reply)
+shrunk c s heard class reply sound live plain same =
+    client_does c s s.bound (without_client c s.trims) (TrimDone heard class) reply sound live (λ d other. refl) (λ d other. without_others d c s.trims other) plain same
+
+pub trim_done_does : (c : ℕ) (s : Space) (heard : Heard) (class : ℕ) (ask : Ask) (answer : Answer) → Sound s → is_live s.life ≡ true → trim_done_stands s c class ask answer ≡ true →
+    Does c s (TrimDone heard class) (after_trim_done s c class ask answer)
+trim_done_does c s heard class (Split span left) Done sound live h =
+    let a = both_true (is_yes_or_no Done && is_in c s.trims && is_large_class class && left == pages_at class && nat_lt left span.pages) _ h in
+    let b = both_true (is_yes_or_no Done && is_in c s.trims && is_large_class class && left == pages_at class) _ a.0 in
+    let d = both_true (is_yes_or_no Done && is_in c s.trims && is_large_class class) _ b.0 in
+    let f = both_true (nat_le 36 class) _ (both_true (is_yes_or_no Done && is_in c s.trims) _ d.0).1 in
+    elim (large_home s c (address_of span.first)) as (λ o. large_home s c (address_of span.first) ≡ o →
+    Does c s (TrimDone heard class) (trimmed_at (record s { trims = without_client c s.trims }) c left class o)) [
+      | None ↦ λ e. shrunk c s heard class Noted sound live (λ page before. refl) refl
+      | Some home ↦ λ e. trimmed_does c s heard class span left home e sound live (leb-true _ _ f.0) (ltb-true _ _ f.1) (eqb-true _ _ d.1) (ltb-true _ _ b.1) a.1
+    ] refl
+trim_done_does c s heard class (Split span left) Refuses sound live h = shrunk c s heard class Whole sound live (λ page before. refl) refl
+trim_done_does c s heard class ask answer sound live h = shrunk c s heard class Noted sound live (λ page before. refl) refl

@@ -1,0 +1,112 @@
+//! How a region goes from one client to another.
+
+ghost use Rattle.std.specs.Prelude.{◌≡◌, IfOk, OnOk, OnErr, None, Some, find, if◌then◌else◌};
+ghost use Rattle.space_model.specs.Region.{held_anew};
+ghost use Rattle.space_model.specs.Holding.{is_held_at, is_published_at, after_publish, after_take_over};
+
+use super::stands::is_held_by;
+use crate::{Region, Regions, Reply, Seq, Space};
+use std::alloc::AllocError as NoMemory;
+
+/// Whether it is the client's region at the address.
+fn is_held_at(client: u32, addr: u64, region: &Region) -> bool
+    ensures { result ≡ is_held_at client addr region.now }
+{
+    is_held_by(client, region) && region.addr == addr
+}
+
+/// Whether it is a published region at the address.
+fn is_published_at(addr: u64, region: &Region) -> bool
+    ensures { result ≡ is_published_at addr region.now }
+{
+    region.holder.is_none() && region.addr == addr
+}
+
+/// The region, which nobody holds any more if it is the client's at the address.
+fn published(client: u32, addr: u64, region: Region) -> Region
+    ensures { result ≡ (if is_held_at client addr region then record region { holder = None } else region) }
+{
+    if is_held_at(client, addr, &region) {
+        Region {
+            holder: None,
+            ..region
+        }
+    } else {
+        region
+    }
+}
+
+/// The region, which the client holds if it is a published one at the address.
+fn taken_over(client: u32, addr: u64, region: Region) -> Region
+    ensures { result ≡ (if is_published_at addr region then record region { holder = Some client } else region) }
+{
+    if is_published_at(addr, &region) {
+        Region {
+            holder: Some(client),
+            ..region
+        }
+    } else {
+        region
+    }
+}
+
+/// The regions, of which nobody holds the client's one at the address any more.
+fn all_published(client: u32, addr: u64, regions: &Regions) -> Result<Vec<Region>, NoMemory>
+    ensures { IfOk result (λ all. all.items ≡ held_anew (is_held_at client addr) None regions.now) }
+{
+    regions
+        .as_slice()
+        .iter()
+        .map(|region| published(client, addr, *region))
+        .collect(*regions.items.allocator())
+}
+
+/// Nobody holds the client's region at the address any more.
+pub fn publish(space: &mut Space, client: u32, addr: u64) -> Result<Reply, NoMemory>
+    ensures after { OnOk result (space.new ≡ (after_publish space.old client addr).after) }
+    ensures reply { IfOk result (λ told. told ≡ (after_publish space.old client addr).reply) }
+    ensures err { OnErr result (space.new ≡ space.old) }
+{
+    let regions = all_published(client, addr, &space.regions)?;
+    space.regions = Seq::from_vec(regions);
+    Ok(Reply::Noted)
+}
+
+/// The regions, of which the client holds the published one at the address.
+fn all_taken_over(client: u32, addr: u64, regions: &Regions) -> Result<Vec<Region>, NoMemory>
+    ensures { IfOk result (λ all. all.items ≡ held_anew (is_published_at addr) (Some client) regions.now) }
+{
+    regions
+        .as_slice()
+        .iter()
+        .map(|region| taken_over(client, addr, *region))
+        .collect(*regions.items.allocator())
+}
+
+/// The published region at the address.
+fn published_at(addr: u64, regions: &Regions) -> Option<Region>
+    ensures { result ≡ find (is_published_at addr) regions.now }
+{
+    regions
+        .as_slice()
+        .iter()
+        .copied()
+        .find(|region| is_published_at(addr, region))
+}
+
+/// The client holds the published region at the address from now on, if there is one.
+pub fn take_over(space: &mut Space, client: u32, addr: u64) -> Result<Reply, NoMemory>
+    ensures after { OnOk result (space.new ≡ (after_take_over space.old client addr).after) }
+    ensures reply { IfOk result (λ told. told ≡ (after_take_over space.old client addr).reply) }
+    ensures err { OnErr result (space.new ≡ space.old) }
+{
+    if !space.life.is_live() {
+        return Ok(Reply::NoArena);
+    }
+    let Some(found) = published_at(addr, &space.regions) else {
+        return Ok(Reply::Nothing);
+    };
+    let regions = all_taken_over(client, addr, &space.regions)?;
+    space.regions = Seq::from_vec(regions);
+    Ok(Reply::Owned { class: found.class })
+}
