@@ -1,0 +1,214 @@
+-- A malloc makes few asks and few turns: each step of it leaves fewer.
+use Rattle.std.proofs.Common.{sym, ◌∙◌, ap, subst, ◌-◌, ◌≡◌, ℕ, ◌+◌, ◌≤◌, ◌^◌, Bool, true, false, cond, min, List, [], ◌∷◌, None, Some, refl, arith, nat_lt, count_by}
+use Rattle.std.proofs.lemmas.List.Sums.{sum_by-cons}
+use Rattle.size_classes.specs.Classes.{class_for}
+use Rattle.space_model.specs.declared.Reply.{Reply}
+use Rattle.space_model.specs.declared.Reply.TheVariants.{Nothing, Noted, Took, Grow, Cut, Whole, Refused as Refuse, Grown, Landed, Regions}
+use Rattle.space_model.specs.declared.Span.{Span}
+use Rattle.space_model.specs.Span.{max_series}
+use Rattle.hook_api.specs.Asked.{AskFacts}
+use Rattle.call_table.specs.declared.needs.Answered.{Answered}
+use Rattle.call_table.specs.declared.needs.Item.{Item}
+use Rattle.call_table.specs.declared.needs.Item.TheVariants.{Replied, Told, Starved}
+use Rattle.call_table.specs.declared.points.Wish.{Wish}
+use Rattle.call_table.specs.declared.points.TurnPoint.{TurnPoint}
+use Rattle.call_table.specs.declared.points.TurnPoint.TheVariants.{Filling, Looking, Landing}
+use Rattle.call_table.specs.declared.points.AskPoint.{AskPoint}
+use Rattle.call_table.specs.declared.points.AskPoint.TheVariants.{Skipping, Trimming, Growing, Paring, Needing, Granting, Committing}
+use Rattle.call_table.specs.declared.points.Point.TheVariants.{Turns, Asks, Tells}
+use Rattle.call_table.specs.declared.points.Next.{Next}
+use Rattle.call_table.specs.declared.points.Next.TheVariants.{Go, Over, More, Gone, Ends, Nowhere}
+use Rattle.call_table.specs.Table.{is_marked, op_of, starved, turned, told, chunks_for, commit, trim}
+use Rattle.call_table.specs.Runs.{begin_malloc, get, run, settle, stage, wish_for}
+use Rattle.call_table.specs.Laws.{unheard}
+use Rattle.call_table.specs.Bounds.{is_told, is_turn, MallocsAreShort}
+
+-- the asks and the turns that can still come in a malloc, each ask with the turn behind it
+abbrev pub asks_turn : TurnPoint → ℕ → ℕ → Type 0
+asks_turn (Filling wish) asks turns = (5 ≤ asks) × (8 ≤ turns)
+asks_turn (Looking wish) asks turns = (5 ≤ asks) × (7 ≤ turns)
+asks_turn (Landing wish span) asks turns = 1 ≤ turns
+asks_turn point asks turns = ⊥
+
+abbrev pub asks_ask : AskPoint → ℕ → ℕ → ℕ → Type 0
+asks_ask (Skipping wish span b skip) one asks turns = (4 + one ≤ asks) × (6 ≤ turns)
+asks_ask (Growing wish chunks) one asks turns = (4 + one ≤ asks) × (6 ≤ turns)
+asks_ask (Trimming wish span b) one asks turns = (3 + one ≤ asks) × (5 ≤ turns)
+asks_ask (Paring wish span b) one asks turns = (3 + one ≤ asks) × (5 ≤ turns)
+asks_ask (Needing wish) one asks turns = (2 + one ≤ asks) × (4 ≤ turns)
+asks_ask (Granting wish span b) one asks turns = (1 + one ≤ asks) × (3 ≤ turns)
+asks_ask (Committing wish span) one asks turns = (one ≤ asks) × (2 ≤ turns)
+asks_ask point one asks turns = ⊥
+
+-- there is room for what can still come
+abbrev pub Fits : ℕ → ℕ → Next → Type 0
+Fits asks turns (Go (Turns point)) = asks_turn point asks turns
+Fits asks turns (Go (Asks point heard)) = asks_ask point (unheard heard) asks turns
+Fits asks turns (Go (Tells span b)) = ⊥
+Fits asks turns (Over index point) = ⊥
+Fits asks turns next = Unit {0}
+
+chosen : (v : Bool) (asks turns : ℕ) (x y : Next) → Fits asks turns x → Fits asks turns y → Fits asks turns (cond v x y)
+chosen true asks turns x y one other = one
+chosen false asks turns x y one other = other
+
+commit_fits : (wish : Wish) (span : Span) (b : Bool) (asks turns : ℕ) → 1 ≤ asks → 2 ≤ turns → Fits asks turns (commit wish span b)
+commit_fits wish span true asks turns a t = omega arith
+commit_fits wish span false asks turns a t = (omega arith, omega arith)
+
+trim_fits : (wish : Wish) (span : Span) (b : Bool) (asks turns : ℕ) → 4 ≤ asks → 5 ≤ turns → Fits asks turns (trim wish span b)
+trim_fits wish span b asks turns a t = chosen (nat_lt wish.pages span.pages) asks turns _ _ (omega arith, omega arith) (commit_fits wish span b asks turns (omega arith) (omega arith))
+
+turned_fits : (point : TurnPoint) (reply : Reply) (asks turns : ℕ) → asks_turn point asks (turns + 1) → Fits asks turns (turned point reply)
+turned_fits (Filling wish) Nothing asks turns fits = (fits.0, omega (arith, fits.1))
+turned_fits (Filling wish) (Regions []) asks turns fits = tt
+turned_fits (Filling wish) (Regions (addr ∷ addrs)) asks turns fits = tt
+turned_fits (Filling wish) reply asks turns fits = tt
+turned_fits (Looking wish) (Took span b skip) asks turns fits =
+    chosen (nat_lt 0 skip) asks turns _ _ (omega (arith, fits.0), omega (arith, fits.1)) (trim_fits wish span b asks turns (omega (arith, fits.0)) (omega (arith, fits.1)))
+turned_fits (Looking wish) (Grow series) asks turns fits =
+    chosen (nat_lt (chunks_for wish.pages) (min series max_series)) asks turns _ _ (omega (arith, fits.0), omega (arith, fits.1)) (omega (arith, fits.0), omega (arith, fits.1))
+turned_fits (Looking wish) reply asks turns fits = tt
+turned_fits (Landing wish span) (Landed first count) asks turns fits = tt
+turned_fits (Landing wish span) reply asks turns fits = tt
+turned_fits point reply asks turns fits = absurd fits
+
+told_fits : (point : AskPoint) (asked : AskFacts) (reply : Reply) (asks turns : ℕ) → asks_ask point 0 asks (turns + 1) → Fits asks turns (told point asked reply)
+told_fits (Skipping wish span b skip) asked (Cut high) asks turns fits = trim_fits wish high b asks turns (omega (arith, fits.0)) (omega (arith, fits.1))
+told_fits (Skipping wish span b skip) asked Whole asks turns fits = (omega (arith, fits.0), omega (arith, fits.1))
+told_fits (Skipping wish span b skip) asked reply asks turns fits = tt
+told_fits (Trimming wish span b) asked (Cut low) asks turns fits = commit_fits wish low b asks turns (omega (arith, fits.0)) (omega (arith, fits.1))
+told_fits (Trimming wish span b) asked Whole asks turns fits = (omega (arith, fits.0), omega (arith, fits.1))
+told_fits (Trimming wish span b) asked reply asks turns fits = tt
+told_fits (Growing wish chunks) asked Refuse asks turns fits = (omega (arith, fits.0), omega (arith, fits.1))
+told_fits (Growing wish chunks) asked (Grown span b) asks turns fits = (omega (arith, fits.0), omega (arith, fits.1))
+told_fits (Growing wish chunks) asked reply asks turns fits = tt
+told_fits (Paring wish span b) asked (Cut low) asks turns fits = commit_fits wish low b asks turns (omega (arith, fits.0)) (omega (arith, fits.1))
+told_fits (Paring wish span b) asked Whole asks turns fits = (omega (arith, fits.0), omega (arith, fits.1))
+told_fits (Paring wish span b) asked reply asks turns fits = tt
+told_fits (Needing wish) asked (Grown span b) asks turns fits =
+    chosen (nat_lt wish.pages span.pages) asks turns _ _ (omega (arith, fits.0), omega (arith, fits.1)) (commit_fits wish span b asks turns (omega (arith, fits.0)) (omega (arith, fits.1)))
+told_fits (Needing wish) asked reply asks turns fits = tt
+told_fits (Granting wish span b) asked (Cut low) asks turns fits = commit_fits wish low b asks turns (omega (arith, fits.0)) (omega (arith, fits.1))
+told_fits (Granting wish span b) asked reply asks turns fits = tt
+told_fits (Committing wish span) asked Noted asks turns fits = omega (arith, fits.1)
+told_fits (Committing wish span) asked reply asks turns fits = tt
+told_fits point asked reply asks turns fits = absurd fits
+
+-- an ask uses up one ask
+heard_fits : (point : AskPoint) (asks turns : ℕ) → asks_ask point 1 (asks + 1) turns → asks_ask point 0 asks turns
+heard_fits (Skipping wish span b skip) asks turns fits = (omega (arith, fits.0), fits.1)
+heard_fits (Growing wish chunks) asks turns fits = (omega (arith, fits.0), fits.1)
+heard_fits (Trimming wish span b) asks turns fits = (omega (arith, fits.0), fits.1)
+heard_fits (Paring wish span b) asks turns fits = (omega (arith, fits.0), fits.1)
+heard_fits (Needing wish) asks turns fits = (omega (arith, fits.0), fits.1)
+heard_fits (Granting wish span b) asks turns fits = (omega (arith, fits.0), fits.1)
+heard_fits (Committing wish span) asks turns fits = (omega (arith, fits.0), fits.1)
+heard_fits point asks turns fits = absurd fits
+
+-- ---- the fold
+
+settled_fits : (arena asks turns : ℕ) (next : Next) → Fits asks turns next → Fits asks turns (settle arena next).next
+settled_fits arena asks turns (Go point) fits = fits
+settled_fits arena asks turns (Over index point) fits = absurd fits
+settled_fits arena asks turns More fits = tt
+settled_fits arena asks turns Gone fits = tt
+settled_fits arena asks turns (Ends answer) fits = tt
+settled_fits arena asks turns Nowhere fits = tt
+
+starved_fits : (v : Bool) (asks turns : ℕ) → Fits asks turns (starved v)
+starved_fits true asks turns = tt
+starved_fits false asks turns = tt
+
+-- what leads nowhere ends nowhere
+nowhere_run : (arena : ℕ) (items : List Item) → (run (stage arena Nowhere) items).next ≡ Nowhere
+nowhere_run arena [] = refl
+nowhere_run arena (item ∷ items) = nowhere_run arena items
+
+pub never_ends : (arena : ℕ) (items : List Item) (answer : Answered) → (run (stage arena Nowhere) items).next ≡ Ends answer → ⊥
+never_ends arena items answer e = let no = nowhere_run arena items in let both : Nowhere ≡ Ends answer = sym no ∙ e in cc
+
+-- a turn uses up one turn, and an ask one ask
+turn_some : (point : TurnPoint) (asks turns : ℕ) → asks_turn point asks turns → 1 ≤ turns
+turn_some (Filling wish) asks turns fits = omega (arith, fits.1)
+turn_some (Looking wish) asks turns fits = omega (arith, fits.1)
+turn_some (Landing wish span) asks turns fits = fits
+turn_some point asks turns fits = absurd fits
+
+ask_some : (point : AskPoint) (asks turns : ℕ) → asks_ask point 1 asks turns → 1 ≤ asks
+ask_some (Skipping wish span b skip) asks turns fits = omega (arith, fits.0)
+ask_some (Growing wish chunks) asks turns fits = omega (arith, fits.0)
+ask_some (Trimming wish span b) asks turns fits = omega (arith, fits.0)
+ask_some (Paring wish span b) asks turns fits = omega (arith, fits.0)
+ask_some (Needing wish) asks turns fits = omega (arith, fits.0)
+ask_some (Granting wish span b) asks turns fits = omega (arith, fits.0)
+ask_some (Committing wish span) asks turns fits = fits.0
+ask_some point asks turns fits = absurd fits
+
+done_some : (point : AskPoint) (asks turns : ℕ) → asks_ask point 0 asks turns → 1 ≤ turns
+done_some (Skipping wish span b skip) asks turns fits = omega (arith, fits.1)
+done_some (Growing wish chunks) asks turns fits = omega (arith, fits.1)
+done_some (Trimming wish span b) asks turns fits = omega (arith, fits.1)
+done_some (Paring wish span b) asks turns fits = omega (arith, fits.1)
+done_some (Needing wish) asks turns fits = omega (arith, fits.1)
+done_some (Granting wish span b) asks turns fits = omega (arith, fits.1)
+done_some (Committing wish span) asks turns fits = omega (arith, fits.1)
+done_some point asks turns fits = absurd fits
+
+-- What is left to a run that ends.
+record Few (asks turns : ℕ) (items : List Item) : Type 0 where
+  told_few : count_by is_told items ≤ asks
+  turns_few : count_by is_turn items ≤ turns
+
+-- one more item
+one_told : (asks turns : ℕ) (asked : AskFacts) (items : List Item) → 1 ≤ asks → Few (asks - 1) turns items → Few asks turns (Told asked ∷ items)
+one_told asks turns asked items some few = record {
+  told_few = omega (arith, few.told_few, some, sum_by-cons (λ i. cond (is_told i) 1 0) (Told asked) items);
+  turns_few = omega (arith, few.turns_few, sum_by-cons (λ i. cond (is_turn i) 1 0) (Told asked) items);
+}
+
+one_turn : (asks turns : ℕ) (item : Item) (items : List Item) → is_told item ≡ false → is_turn item ≡ true → 1 ≤ turns → Few asks (turns - 1) items → Few asks turns (item ∷ items)
+one_turn asks turns item items not_told is some few =
+    let one : Bool → ℕ = λ v. cond v 1 0 in record {
+      told_few = omega (arith, few.told_few, sum_by-cons (λ i. cond (is_told i) 1 0) item items, ap one not_told);
+      turns_few = omega (arith, few.turns_few, some, sum_by-cons (λ i. cond (is_turn i) 1 0) item items, ap one is);
+    }
+
+run_fits : (items : List Item) (arena asks turns : ℕ) (next : Next) (answer : Answered) → Fits asks turns next → (run (stage arena next) items).next ≡ Ends answer → Few asks turns items
+run_fits [] arena asks turns next answer fits e = record { told_few = omega arith; turns_few = omega arith }
+run_fits (Replied reply ∷ items) arena asks turns (Go (Turns point)) answer fits e =
+    let some = turn_some point asks turns fits in
+    let same : turns ≡ turns - 1 + 1 = omega (arith, some) in
+    one_turn asks turns (Replied reply) items refl refl some
+    (run_fits items _ asks (turns - 1) _ answer (settled_fits arena asks (turns - 1) (turned point reply) (turned_fits point reply asks (turns - 1) (subst (asks_turn point asks) same fits))) e)
+run_fits (Starved ∷ items) arena asks turns (Go (Turns point)) answer fits e =
+    one_turn asks turns Starved items refl refl (turn_some point asks turns fits)
+    (run_fits items _ asks (turns - 1) _ answer (settled_fits arena asks (turns - 1) (starved (is_marked (op_of point))) (starved_fits (is_marked (op_of point)) asks (turns - 1))) e)
+run_fits (Told asked ∷ items) arena asks turns (Go (Turns point)) answer fits e = absurd (never_ends arena items answer e)
+run_fits (Told asked ∷ items) arena asks turns (Go (Asks point None)) answer fits e =
+    let some = ask_some point asks turns fits in
+    let same : asks ≡ asks - 1 + 1 = omega (arith, some) in
+    one_told asks turns asked items some (run_fits items arena (asks - 1) turns (Go (Asks point (Some asked))) answer (heard_fits point (asks - 1) turns (subst (λ n. asks_ask point 1 n turns) same fits)) e)
+run_fits (Replied reply ∷ items) arena asks turns (Go (Asks point None)) answer fits e = absurd (never_ends arena items answer e)
+run_fits (Starved ∷ items) arena asks turns (Go (Asks point None)) answer fits e = absurd (never_ends arena items answer e)
+run_fits (Replied reply ∷ items) arena asks turns (Go (Asks point (Some asked))) answer fits e =
+    let some = done_some point asks turns fits in
+    let same : turns ≡ turns - 1 + 1 = omega (arith, some) in
+    one_turn asks turns (Replied reply) items refl refl some
+    (run_fits items _ asks (turns - 1) _ answer (settled_fits arena asks (turns - 1) (told point asked reply) (told_fits point asked reply asks (turns - 1) (subst (asks_ask point 0 asks) same fits))) e)
+run_fits (Told other ∷ items) arena asks turns (Go (Asks point (Some asked))) answer fits e = absurd (never_ends arena items answer e)
+run_fits (Starved ∷ items) arena asks turns (Go (Asks point (Some asked))) answer fits e = absurd (never_ends arena items answer e)
+run_fits (item ∷ items) arena asks turns (Go (Tells span b)) answer fits e = absurd fits
+run_fits (item ∷ items) arena asks turns (Over index point) answer fits e = absurd fits
+run_fits (item ∷ items) arena asks turns More answer fits e = absurd (never_ends arena items answer e)
+run_fits (item ∷ items) arena asks turns Gone answer fits e = absurd (never_ends arena items answer e)
+run_fits (item ∷ items) arena asks turns (Ends given) answer fits e = absurd (never_ends arena items answer e)
+run_fits (item ∷ items) arena asks turns Nowhere answer fits e = absurd (never_ends arena items answer e)
+
+get_fits : (wish : Wish) → Fits 5 8 (get wish)
+get_fits wish = chosen (nat_lt wish.class 36) 5 8 _ _ (omega arith, omega arith) (omega arith, omega arith)
+
+pub mallocs-are_short : MallocsAreShort
+mallocs-are_short arena held size items answer e =
+    let few = run_fits items arena 5 8 (begin_malloc size) answer (chosen (nat_lt (2 ^ 35) size) 5 8 _ _ tt (get_fits (wish_for (class_for size) 1))) e in
+    record { asks = few.told_few; turns = few.turns_few }

@@ -1,0 +1,231 @@
+-- What the turns of a call leave that purges extents: what it knows where it goes on.
+use Rattle.std.proofs.Common.{inl, inr, IsTrue, is_some, ◌≡◌, ℕ, ◌+◌, ◌-◌, ◌*◌, ◌<◌, ◌≤◌, ◌==◌, ◌&&◌, ◌||◌, Bool, true, false, not, cond, List, [], ◌∷◌, ◌++◌, Option, None, Some, refl, sym, ◌∙◌, ap, subst, arith, All, filter, find, length, ltb as nat_lt}
+use Rattle.std.specs.Option.{option_or}
+use Rattle.std.proofs.lemmas.Bool.Decides.{nat_tests}
+use Rattle.std.proofs.lemmas.List.Elements.{All-filter, All-head, filter-append}
+use Rattle.std.proofs.Math.ListN.{length-append}
+use Rattle.std.proofs.lemmas.List.Folds.{find-append}
+use Rattle.space_model.specs.declared.Answer.{Answer}
+use Rattle.space_model.specs.declared.Answer.TheVariants.{Done, Refused as Refuses, Placed}
+use Rattle.space_model.specs.declared.Ask.TheVariants.{Dalloc, Decommit, PurgeLazy}
+use Rattle.space_model.specs.declared.Part.{Part}
+use Rattle.space_model.specs.declared.Offered.{Offered}
+use Rattle.call_table.specs.declared.points.Visit.{Visit}
+use Rattle.space_model.specs.declared.Reply.TheVariants.{NoArena, Nothing, Noted, Abandoned, Kept}
+use Rattle.space_model.specs.declared.Rest.{Rest}
+use Rattle.space_model.specs.declared.Rest.TheVariants.{Dirty as ToDirty, Muzzy as ToMuzzy, Retained as ToRetained}
+use Rattle.space_model.specs.declared.State.TheVariants.{Dirty, Flight}
+use Rattle.space_model.specs.declared.Space.{Space}
+use Rattle.space_model.specs.declared.Span.{Span}
+use Rattle.space_model.specs.Span.{IsPlaced, same_span, meets}
+use Rattle.space_model.specs.Part.{exchanged, begins_at, is_flight, is_flight_at, is_listed, is_backed, rest_of, listed, taken_out, pages_listed}
+use Rattle.space_model.specs.Stepped.{stays, is_live, is_lazy}
+use Rattle.space_model.specs.Step.{next_flight}
+use Rattle.space_model.specs.Purging.{after_lazy, lazy_at, offer_at, offer_of, without_offer, is_offer, is_regranted, after_offer, after_decommit, decommit_at, after_purge_take, purge_at, count_listed, is_purgeable}
+use Rattle.space_model.specs.Sound.{Sound}
+use Rattle.space_model.specs.Own.{mine}
+use Rattle.hook_api.specs.Hooks.{Answers as AnswersTo}
+use Rattle.space_model.proofs.Exchange.{find_passes, find_has}
+use Rattle.space_model.proofs.Pieces.{both_true}
+use Rattle.call_table.specs.declared.points.Then.{Then}
+use Rattle.call_table.specs.declared.points.Then.TheVariants.{Visiting}
+use Rattle.call_table.specs.declared.points.TurnPoint.TheVariants.{Taking, Offering}
+use Rattle.call_table.specs.declared.points.AskPoint.TheVariants.{Easing, Returning, Decommitting, Forcing}
+use Rattle.call_table.specs.Table.{decommitted, eased, forced, put_purged, returned, takes_left, turned}
+use Rattle.call_table.specs.Knows.{Idle, Flies, Droppable, HasOffered, IsThen, IsVisit, HasLeft, in_flight}
+use Rattle.call_table.specs.Laws.{Keeps, stages_then, stages_later, left, left_then, left_visit, stages_visit, left_turn, left_ask, flights_of}
+use Rattle.call_table.proofs.Lists.{find-none, filter-fewer, find-gone, any-none, filter-removed}
+use Rattle.call_table.proofs.Own.{flights_exchanged, filter-swap}
+use Rattle.call_table.proofs.Putting.{Room, fewer_room, found_at, begins_as, gone_flights, next_goes, drop_goes, visited_goes, belongs, listed_dirty}
+use Rattle.call_table.proofs.Getting.{Onto, span_itself, begins_itself, client_itself, passes_alone, replaced_idle}
+
+-- ---- an extent in flight that changes
+
+-- the extent that takes the place of one in flight is found where that was
+changed_found : (c : ℕ) (s : Space) (p piece : Part) → is_flight c piece.state ≡ true → piece.span ≡ p.span →
+    in_flight p.span (filter (λ q. is_flight c q.state) (exchanged (begins_at p.span.first) s.parts (piece ∷ []))) ≡ Some piece
+changed_found c s p piece own spans =
+    let stay : Part → Bool = λ q. not (begins_at p.span.first q) in
+    let goes : (q : Part) → same_span q.span p.span ≡ true → stay q ≡ false = λ q h. rw (begins_as p.span q h) refl in
+    let same : same_span piece.span p.span ≡ true = subst (λ x. same_span x p.span ≡ true) (sym spans) (span_itself p.span) in
+    let last : List Part = filter (λ q. is_flight c q.state) (piece ∷ []) in
+    ap (in_flight p.span) (flights_exchanged c (begins_at p.span.first) s.parts (piece ∷ []))
+    ∙ find-append (λ q. same_span q.span p.span) (filter stay (mine c s).flights) last
+    ∙ ap (λ o. option_or o (in_flight p.span last)) (find-gone (λ q. same_span q.span p.span) stay (mine c s).flights goes)
+    ∙ ap (λ (v : Bool). in_flight p.span (cond v (piece ∷ []) [])) own
+    ∙ ap (λ (v : Bool). cond v (Some piece) None) same
+
+-- and the client has no more in flight than before
+changed_count : (c : ℕ) (s : Space) (span : Span) (p piece : Part) → in_flight span (mine c s).flights ≡ Some p → is_flight c piece.state ≡ true →
+    length (filter (λ q. is_flight c q.state) (exchanged (begins_at p.span.first) s.parts (piece ∷ []))) ≤ flights_of c s
+changed_count c s span p piece found own =
+    let stay : Part → Bool = λ q. not (begins_at p.span.first q) in
+    let fewer = filter-fewer (λ q. same_span q.span span) (begins_at p.span.first) (mine c s).flights p found (begins_itself p) in
+    let count : length (filter (λ q. is_flight c q.state) (exchanged (begins_at p.span.first) s.parts (piece ∷ []))) ≡ length (filter stay (mine c s).flights) + 1 =
+    ap length (flights_exchanged c (begins_at p.span.first) s.parts (piece ∷ [])) ∙ ap (λ (v : Bool). length (filter stay (mine c s).flights ++ cond v (piece ∷ []) [])) own
+    ∙ length-append (filter stay (mine c s).flights) (piece ∷ []) in
+    omega (arith, fewer, count)
+
+-- an extent that was purged is put down
+purged_goes : (c : ℕ) (t : Space) (span : Span) (later : Then) (bound : ℕ) (p : Part) → (mine c t).offers ≡ [] → IsThen later → in_flight span (mine c t).flights ≡ Some p →
+    is_listed (rest_of p.state) Dirty ≡ false → 30 * (flights_of c t - 1) + 7 + left_then later < bound → Keeps c t (stages_then later) bound (put_purged span later)
+purged_goes c t span later bound p offers is found settled fewer =
+    ((omega arith, record { part = p; found = found; is = settled; offers = offers }, is), inr (refl, omega arith))
+
+-- ---- the lazy purge
+
+pub lazy_onto : (c : ℕ) (s : Space) (span : Span) (later : Then) (answer : Answer) → Sound s → (flies : Flies (mine c s) span (λ p. rest_of p.state ≡ ToDirty)) → IsThen later →
+    AnswersTo (PurgeLazy span) answer →
+    Onto c (eased span later) (stages_then later) (left_ask (flights_of c s) (Easing span later)) (after_lazy s c (PurgeLazy span) answer)
+lazy_onto c s span later Done sound flies is kind =
+    let p : Part = flies.part in
+    let at = found_at c s span p sound flies.found in
+    let piece : Part = record p { state = Flight c ToMuzzy } in
+    let t : Space = (lazy_at s c (Some p)).after in
+    let found : in_flight span (mine c t).flights ≡ Some piece = subst (λ x. in_flight x (mine c t).flights ≡ Some piece) at.spans (changed_found c s p piece (client_itself c) refl) in
+    let count : flights_of c t ≤ flights_of c s = changed_count c s span p piece flies.found (client_itself c) in
+    rw at.found (purged_goes c t span later _ piece flies.offers is found refl (omega (arith, count)))
+lazy_onto c s span later Refuses sound flies is kind =
+    ((record { part = flies.part; found = flies.found; is = rw flies.is refl; offers = flies.offers }, is), inr (refl, omega arith))
+lazy_onto c s span later (Placed first b zeroed) sound flies is kind = absurd (kind first b zeroed refl)
+
+-- ---- the offer and the dalloc
+
+pub offer_onto : (c : ℕ) (s : Space) (span : Span) (later : Then) → Sound s → (flies : Flies (mine c s) span Droppable) → IsThen later →
+    Onto c (turned (Offering span later)) (stages_then later) (left_turn (flights_of c s) 0 (Offering span later)) (offer_at s c (Some flies.part))
+offer_onto c s span later sound flies is =
+    let p : Part = flies.part in
+    let at = found_at c s span p sound flies.found in
+    let t : Space = (offer_at s c (Some p)).after in
+    let backed : IsTrue p.committed = find_has (λ q. IsTrue (is_backed (rest_of q.state)) → IsTrue q.committed) (is_flight_at c span) s.parts p sound.backed at.found flies.is in
+    let offers : (mine c t).offers ≡ offer_of c p ∷ [] =
+    filter-append (λ (o : Offered). o.client == c) s.offers (offer_of c p ∷ []) ∙ ap (λ os. os ++ filter (λ (o : Offered). o.client == c) (offer_of c p ∷ [])) flies.offers
+    ∙ ap (λ (v : Bool). cond v (offer_of c p ∷ []) []) (client_itself c) in
+    let fewer = filter-fewer (λ q. same_span q.span span) (begins_at p.span.first) (mine c s).flights p flies.found (begins_itself p) in
+    let count : flights_of c t ≡ length (filter (λ q. not (begins_at p.span.first q)) (mine c s).flights) = ap length (gone_flights c s p [] refl) in
+    (((record { offer = offer_of c p; offers = offers; spans = at.spans; committed = backed }, is), tt), inr (refl, omega (arith, fewer, count)))
+
+-- the only offer that the client has is the one that is answered
+offer_gone : (c : ℕ) (s : Space) (span : Span) → (has : HasOffered (mine c s) span) → filter (λ (o : Offered). o.client == c) (without_offer c span true s.offers) ≡ []
+offer_gone c s span has =
+    let same : same_span has.offer.span span ≡ true = subst (λ x. same_span x span ≡ true) (sym has.spans) (span_itself span) in
+    let own : (has.offer.client == c) ≡ true = passes_alone (λ (o : Offered). o.client == c) s.offers has.offer has.offers in
+    let test : is_offer c span true has.offer ≡ true = rw (own, same, has.committed) refl in
+    filter-removed (λ (o : Offered). o.client == c) (is_offer c span true) s.offers has.offer has.offers test
+    (λ o h. (both_true (o.client == c) _ (both_true (o.client == c && same_span o.span span) _ h).0).0)
+
+-- an offer isn't empty
+offer_some : (c : ℕ) (s : Space) (span : Span) → Sound s → HasOffered (mine c s) span → 0 < span.pages
+offer_some c s span sound has =
+    let placed : All (λ (o : Offered). IsPlaced o.span) (has.offer ∷ []) = subst (All (λ (o : Offered). IsPlaced o.span)) has.offers (All-filter (λ (o : Offered). o.client == c) (λ o. IsPlaced o.span) s.offers sound.offered) in
+    let head = All-head (λ (o : Offered). IsPlaced o.span) has.offer [] placed in
+    subst (λ (x : Span). 0 < x.pages) has.spans head.0
+
+-- what has the span meets it
+same_meets : (span : Span) → 0 < span.pages → (q : Part) → same_span q.span span ≡ true → meets q.span span ≡ true
+same_meets span some q h = grind (arith, nat_tests)
+
+kept_goes : (c : ℕ) (s : Space) (span : Span) (later : Then) (found : Option ℕ) (v : Bool) → (mine c s).offers ≡ [] → IsThen later → 0 < span.pages →
+    is_regranted found span s.parts ≡ v →
+    Onto c (returned span later) (stages_then later) (30 * flights_of c s + 12 + left_then later)
+    (cond v (stays s (Abandoned (next_flight c s.parts)))
+    (record { after = record s { parts = s.parts ++ record { span = span; state = Flight c ToRetained; committed = true } ∷ [] }; reply = Kept }))
+kept_goes c s span later found true offers is some e = next_goes c s (stages_then later) _ later offers is (inr (refl, omega arith))
+kept_goes c s span later found false offers is some e =
+    let piece : Part = record { span = span; state = Flight c ToRetained; committed = true } in
+    let flies : Part → Bool = λ q. is_flight c q.state in
+    let t : Space = record s { parts = s.parts ++ piece ∷ [] } in
+    let none : filter (λ q. meets q.span span) (mine c s).flights ≡ [] =
+    filter-swap (λ q. meets q.span span) flies s.parts ∙ ap (filter flies) (any-none (λ q. meets q.span span) s.parts (either_false (is_some found) _ e)) in
+    let flights : (mine c t).flights ≡ (mine c s).flights ++ piece ∷ [] =
+    filter-append flies s.parts (piece ∷ []) ∙ ap (λ (v : Bool). (mine c s).flights ++ cond v (piece ∷ []) []) (client_itself c) in
+    let found : in_flight span (mine c t).flights ≡ Some piece =
+    ap (in_flight span) flights ∙ find-append (λ q. same_span q.span span) (mine c s).flights (piece ∷ [])
+    ∙ ap (λ o. option_or o (in_flight span (piece ∷ []))) (find-none (λ q. same_span q.span span) (λ q. meets q.span span) (mine c s).flights none (same_meets span some))
+    ∙ ap (λ (v : Bool). cond v (Some piece) None) (span_itself span) in
+    let count : flights_of c t ≡ flights_of c s + 1 = ap length flights ∙ length-append (mine c s).flights (piece ∷ []) in
+    (((record { part = piece; found = found; is = (refl, refl); offers = offers }, is), tt), inr (refl, omega (arith, count)))
+  where
+    either_false : (a b : Bool) → (a || b) ≡ false → b ≡ false
+    either_false false b h = h
+    either_false true b h = absurd (cc)
+
+pub return_onto : (c : ℕ) (s : Space) (span : Span) (later : Then) (found : Option ℕ) (answer : Answer) → Sound s → HasOffered (mine c s) span → IsThen later →
+    AnswersTo (Dalloc span true) answer →
+    Onto c (returned span later) (stages_then later) (left_ask (flights_of c s) (Returning span later)) (after_offer s c found (Dalloc span true) answer)
+return_onto c s span later found Done sound has is kind =
+    next_goes c (record s { offers = without_offer c span true s.offers }) (stages_then later) _ later (offer_gone c s span has) is (inr (refl, omega arith))
+return_onto c s span later found Refuses sound has is kind =
+    kept_goes c (record s { offers = without_offer c span true s.offers }) span later found (is_regranted found span s.parts) (offer_gone c s span has) is (offer_some c s span sound has) refl
+return_onto c s span later found (Placed first b zeroed) sound has is kind = absurd (kind first b zeroed refl)
+
+-- ---- the decommit and the forced purge
+
+retained_settled : (r : Rest) → r ≡ ToRetained → is_listed r Dirty ≡ false
+retained_settled r h = rw h refl
+
+pub decommit_onto : (c : ℕ) (s : Space) (span : Span) (later : Then) (answer : Answer) → Sound s →
+    (flies : Flies (mine c s) span (λ p. (p.committed ≡ true) × (rest_of p.state ≡ ToRetained))) → IsThen later → AnswersTo (Decommit span) answer →
+    Onto c (decommitted span later) (stages_then later) (left_ask (flights_of c s) (Decommitting span later)) (after_decommit s c (Decommit span) answer)
+decommit_onto c s span later Done sound flies is kind =
+    let p : Part = flies.part in
+    let at = found_at c s span p sound flies.found in
+    let piece : Part = record p { committed = false } in
+    let t : Space = (decommit_at s (Some p)).after in
+    let found : in_flight span (mine c t).flights ≡ Some piece = subst (λ x. in_flight x (mine c t).flights ≡ Some piece) at.spans (changed_found c s p piece at.own refl) in
+    let count : flights_of c t ≤ flights_of c s = changed_count c s span p piece flies.found at.own in
+    rw at.found (purged_goes c t span later _ piece flies.offers is found (retained_settled (rest_of p.state) flies.is.1) (omega (arith, count)))
+decommit_onto c s span later Refuses sound flies is kind =
+    (((record { part = flies.part; found = flies.found; is = flies.is.1; offers = flies.offers }, is), tt), inr (refl, omega arith))
+decommit_onto c s span later (Placed first b zeroed) sound flies is kind = absurd (kind first b zeroed refl)
+
+pub forced_onto : (c : ℕ) (s : Space) (span : Span) (later : Then) → (flies : Flies (mine c s) span (λ p. rest_of p.state ≡ ToRetained)) → IsThen later →
+    Onto c (forced span later) (stages_then later) (left_ask (flights_of c s) (Forcing span later)) (stays s Noted)
+forced_onto c s span later flies is =
+    purged_goes c s span later _ flies.part flies.offers is flies.found (retained_settled (rest_of flies.part.state) flies.is) (omega arith)
+
+-- ---- the visit
+
+-- a visit that took an extent has fewer to take, or begins
+visit_room : (visit : Visit) (left : Option ℕ) (listed : ℕ) → HasLeft left → Room (stages_visit visit left) (left_visit left) (Visiting visit (takes_left left listed)) 16
+visit_room visit None listed some = inl (omega arith)
+visit_room visit (Some n) listed some = inr (refl, omega arith)
+
+visit_stage : (visit : Visit) (left : Option ℕ) → stages_later visit.later ≤ stages_visit visit left
+visit_stage visit None = omega arith
+visit_stage visit (Some n) = omega arith
+
+purgeable_backed : (r : Rest) → is_purgeable r ≡ true → is_backed r ≡ true
+purgeable_backed ToDirty h = refl
+purgeable_backed ToMuzzy h = refl
+purgeable_backed ToRetained h = absurd (cc)
+
+took_goes : (c : ℕ) (s : Space) (visit : Visit) (left : Option ℕ) (o : Option Part) → find (λ p. is_listed visit.rest p.state) s.parts ≡ o → Idle (mine c s) → IsVisit visit → HasLeft left →
+    Onto c (turned (Taking visit left)) (stages_visit visit left) (left_visit left) (purge_at s c visit.rest o)
+took_goes c s visit left None e idle is some = visited_goes c s (stages_visit visit left) (left_visit left) visit.later idle (visit_stage visit left)
+took_goes c s visit left (Some p) e idle is some =
+    let taken : Part = taken_out c p in
+    let t : Space = (purge_at s c visit.rest (Some p)).after in
+    let flights : (mine c t).flights ≡ taken ∷ [] =
+    replaced_idle c s (begins_at p.span.first) (taken ∷ []) idle.flights ∙ ap (λ (v : Bool). cond v (taken ∷ []) []) (client_itself c) in
+    let found : in_flight p.span (mine c t).flights ≡ Some taken = ap (in_flight p.span) flights ∙ ap (λ (v : Bool). cond v (Some taken) None) (span_itself p.span) in
+    let count : flights_of c t ≡ length (taken ∷ []) = ap length flights in
+    let rest : rest_of p.state ≡ visit.rest = belongs visit.rest p.state (find_passes (λ q. is_listed visit.rest q.state) s.parts p e) in
+    let n : ℕ = count_listed visit.rest s.parts in
+    drop_goes c t (stages_visit visit left) (left_visit left) p.span (is_listed visit.rest (listed ToDirty) && is_lazy s) (Visiting visit (takes_left left n)) taken idle.offers is found
+    (λ h. rest ∙ listed_dirty visit.rest (both_true (is_listed visit.rest Dirty) _ h).0)
+    (rw rest (purgeable_backed visit.rest is))
+    (fewer_room (stages_visit visit left) (left_visit left) (Visiting visit (takes_left left n)) (30 * (flights_of c t - 1) + 16) 16 (omega (arith, count)) (visit_room visit left n some))
+
+pub take_onto : (c : ℕ) (s : Space) (visit : Visit) (left : Option ℕ) → Idle (mine c s) → IsVisit visit → HasLeft left →
+    Onto c (turned (Taking visit left)) (stages_visit visit left) (left_visit left) (after_purge_take s c visit.rest visit.keep)
+take_onto c s visit left idle is some =
+    elim (is_live s.life) as (λ l. Onto c (turned (Taking visit left)) (stages_visit visit left) (left_visit left)
+    (cond l (cond (nat_lt visit.keep (pages_listed visit.rest s.parts)) (purge_at s c visit.rest (find (λ p. is_listed visit.rest p.state) s.parts)) (stays s Nothing)) (stays s NoArena))) [
+      | true ↦ elim (nat_lt visit.keep (pages_listed visit.rest s.parts)) as (λ v. Onto c (turned (Taking visit left)) (stages_visit visit left) (left_visit left)
+          (cond v (purge_at s c visit.rest (find (λ p. is_listed visit.rest p.state) s.parts)) (stays s Nothing))) [
+            | true ↦ took_goes c s visit left (find (λ p. is_listed visit.rest p.state) s.parts) refl idle is some
+            | false ↦ visited_goes c s (stages_visit visit left) (left_visit left) visit.later idle (visit_stage visit left)
+          ]
+      | false ↦ idle
+    ]

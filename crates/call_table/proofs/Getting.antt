@@ -1,0 +1,315 @@
+-- What the turns of a call leave that gets an extent: what it knows where it goes on.
+use Rattle.std.proofs.Common.{inr, min, ◌≡◌, ◌≢◌, ℕ, ◌+◌, ◌-◌, ◌<◌, ◌≤◌, ◌==◌, Bool, true, false, not, cond, List, [], ◌∷◌, ◌++◌, Option, None, Some, refl, sym, ◌∙◌, ap, subst, arith, filter, find, ltb as nat_lt, count_ones}
+use Rattle.std.specs.Int.{is_power_of_two}
+use Rattle.std.specs.Option.{option_or}
+use Rattle.std.proofs.lemmas.Bool.Decides.{nat_tests}
+use Rattle.std.proofs.lemmas.Bool.{ltb-true, leb-true, eqb-true}
+use Rattle.std.proofs.lemmas.Nat.{ones_le_self}
+use Rattle.std.proofs.lemmas.List.Elements.{filter-append}
+use Rattle.size_classes.proofs.Table.{pages_bounds}
+use Rattle.space_model.specs.declared.Answer.{Answer}
+use Rattle.space_model.specs.declared.Answer.TheVariants.{Done, Refused as Refuses, Placed}
+use Rattle.space_model.specs.declared.Ask.TheVariants.{Alloc, Commit, Split}
+use Rattle.space_model.specs.declared.Part.{Part}
+use Rattle.space_model.specs.declared.Reply.{Reply}
+use Rattle.space_model.specs.declared.Reply.TheVariants.{NoArena, Noted, Cut, Whole, Refused, Bad, Grown}
+use Rattle.space_model.specs.declared.Rest.{Rest}
+use Rattle.space_model.specs.declared.Rest.TheVariants.{Dirty as ToDirty, Muzzy as ToMuzzy, Retained as ToRetained}
+use Rattle.space_model.specs.declared.Space.{Space}
+use Rattle.space_model.specs.declared.Span.{Span}
+use Rattle.space_model.specs.declared.Why.{Why}
+use Rattle.space_model.specs.Span.{max_series, same_span, run_start, holds_run, end_of}
+use Rattle.space_model.specs.Part.{exchanged, begins_at, is_flight, is_flight_at, put_down, taken_out, listed, rest_of}
+use Rattle.space_model.specs.Fit.{fit, fit_of, is_best, is_candidate}
+use Rattle.space_model.specs.Stepped.{Stepped, stays, is_live, low_piece, high_piece, whole_at}
+use Rattle.space_model.specs.Slabs.{land_at}
+use Rattle.space_model.specs.Step.{after_cut, cut_at, after_look, look_at, after_grow, grow_unless, why_not, new_part, after_commit, commit_at}
+use Rattle.space_model.specs.Own.{mine}
+use Rattle.hook_api.specs.Hooks.{Answers}
+use Rattle.space_model.proofs.Exchange.{find_passes}
+use Rattle.space_model.proofs.Pieces.{both_true}
+use Rattle.call_table.specs.declared.points.Wish.{Wish}
+use Rattle.call_table.specs.declared.points.TurnPoint.TheVariants.{Looking, Landing}
+use Rattle.call_table.specs.declared.points.AskPoint.TheVariants.{Skipping, Trimming, Growing, Needing, Granting}
+use Rattle.call_table.specs.declared.points.Point.TheVariants.{Asks}
+use Rattle.call_table.specs.declared.points.Next.{Next}
+use Rattle.call_table.specs.declared.points.Next.TheVariants.{Go}
+use Rattle.call_table.specs.Table.{commit, grant, grow, trim, skip_to, turned, chunks_for}
+use Rattle.call_table.specs.Knows.{IsWish, Idle, Alone, Gets, is_served, in_flight}
+use Rattle.call_table.specs.Laws.{Keeps}
+use Rattle.call_table.proofs.Own.{flight_found, flights_exchanged}
+
+-- a wish has a page at least
+pub wish_some : (wish : Wish) → IsWish wish → 0 < wish.pages
+wish_some wish is = omega (arith, is.pages, pages_bounds wish.class is.class)
+
+-- ---- where a call goes on that has its extent
+
+pub commit_goes : (c : ℕ) (t : Space) (bound : ℕ) (wish : Wish) (span : Span) (b : Bool) → Gets (mine c t) wish → Alone (mine c t) span b →
+    span.pages ≡ wish.pages → 3 < bound → Keeps c t 0 bound (commit wish span b)
+commit_goes c t bound wish span true gets alone pages fewer = ((gets, alone, pages), inr (refl, omega arith))
+commit_goes c t bound wish span false gets alone pages fewer = (((gets, alone, pages), tt), inr (refl, omega arith))
+
+pub grant_goes : (c : ℕ) (t : Space) (bound : ℕ) (wish : Wish) (span : Span) (b : Bool) → Gets (mine c t) wish → Alone (mine c t) span b →
+    wish.pages ≤ span.pages → 5 < bound → Keeps c t 0 bound (grant wish span b)
+grant_goes c t bound wish span b gets alone holds fewer =
+    elim (nat_lt wish.pages span.pages) as (λ x. nat_lt wish.pages span.pages ≡ x → Keeps c t 0 bound (cond x (Go (Asks (Granting wish span b) None)) (commit wish span b))) [
+      | true ↦ λ h. (((gets, alone, ltb-true _ _ h), tt), inr (refl, omega arith))
+      | false ↦ λ h. commit_goes c t bound wish span b gets alone (grind (arith, nat_tests)) (omega arith)
+    ] refl
+
+pub trim_goes : (c : ℕ) (t : Space) (bound : ℕ) (wish : Wish) (span : Span) (b : Bool) → Gets (mine c t) wish → Alone (mine c t) span b →
+    wish.pages ≤ span.pages → 9 < bound → Keeps c t 0 bound (trim wish span b)
+trim_goes c t bound wish span b gets alone holds fewer =
+    elim (nat_lt wish.pages span.pages) as (λ x. nat_lt wish.pages span.pages ≡ x → Keeps c t 0 bound (cond x (Go (Asks (Trimming wish span b) None)) (commit wish span b))) [
+      | true ↦ λ h. (((gets, alone, ltb-true _ _ h), tt), inr (refl, omega arith))
+      | false ↦ λ h. commit_goes c t bound wish span b gets alone (grind (arith, nat_tests)) (omega arith)
+    ] refl
+
+skip_goes : (c : ℕ) (t : Space) (bound : ℕ) (wish : Wish) (span : Span) (b : Bool) (skip : ℕ) → Gets (mine c t) wish → Alone (mine c t) span b →
+    skip + wish.pages ≤ span.pages → 11 < bound → Keeps c t 0 bound (skip_to wish span b skip)
+skip_goes c t bound wish span b skip gets alone holds fewer =
+    elim (nat_lt 0 skip) as (λ x. nat_lt 0 skip ≡ x → Keeps c t 0 bound (cond x (Go (Asks (Skipping wish span b skip) None)) (trim wish span b))) [
+      | true ↦ λ h. (((gets, alone, ltb-true _ _ h, holds), tt), inr (refl, omega arith))
+      | false ↦ λ h. trim_goes c t bound wish span b gets alone (omega arith) (omega arith)
+    ] refl
+
+-- the arena grows by more chunks than are needed, or by just as many
+pub grow_goes : (c : ℕ) (t : Space) (bound : ℕ) (wish : Wish) (series : ℕ) → Gets (mine c t) wish → Idle (mine c t) → 11 < bound →
+    Keeps c t 0 bound (grow wish series)
+grow_goes c t bound wish series gets idle fewer =
+    elim (nat_lt (chunks_for wish.pages) (min series max_series)) as (λ x. nat_lt (chunks_for wish.pages) (min series max_series) ≡ x →
+    Keeps c t 0 bound (cond x (Go (Asks (Growing wish (min series max_series)) None)) (Go (Asks (Needing wish) None)))) [
+      | true ↦ λ h. (((gets, idle, ltb-true _ _ h), tt), inr (refl, omega arith))
+      | false ↦ λ h. (((gets, idle), tt), inr (refl, omega arith))
+    ] refl
+
+-- a customer stays one
+pub gets_kept : (c : ℕ) (s t : Space) (wish : Wish) → Gets (mine c s) wish → is_served (mine c t) ≡ is_served (mine c s) → Gets (mine c t) wish
+gets_kept c s t wish gets e = record { is = gets.is; served = e ∙ gets.served }
+
+-- ---- the client's only extent in flight
+
+pub span_itself : (s : Span) → same_span s s ≡ true
+span_itself s = grind (arith, nat_tests)
+
+pub begins_itself : (p : Part) → begins_at p.span.first p ≡ true
+begins_itself p = grind (arith, nat_tests)
+
+pub client_itself : (c : ℕ) → (c == c) ≡ true
+client_itself c = grind (arith, nat_tests)
+
+-- what was put down is in flight no more
+pub down_is_listed : (c : ℕ) (rest : Rest) → is_flight c (listed rest) ≡ false
+down_is_listed c ToDirty = refl
+down_is_listed c ToMuzzy = refl
+down_is_listed c ToRetained = refl
+
+-- the client's only extent is the one that is found
+pub alone_found : (c : ℕ) (s : Space) (span : Span) (b : Bool) → (alone : Alone (mine c s) span b) → find (is_flight_at c span) s.parts ≡ Some alone.part
+alone_found c s span b alone =
+    let same : same_span alone.part.span span ≡ true = subst (λ x. same_span alone.part.span x ≡ true) alone.spans (span_itself alone.part.span) in
+    flight_found c span s.parts ∙ ap (in_flight span) alone.flights ∙ ap (λ (v : Bool). cond v (Some alone.part) None) same
+
+-- it is in flight
+pub passes_alone : {X : Type 0} (f : X → Bool) (xs : List X) (x : X) → filter f xs ≡ x ∷ [] → f x ≡ true
+passes_alone f [] x e = absurd (cc)
+passes_alone f (y ∷ ys) x e =
+    elim (f y) as (λ v. f y ≡ v → cond v (y ∷ filter f ys) (filter f ys) ≡ x ∷ [] → f x ≡ true) [
+      | true ↦ λ h k. let same : y ≡ x = cc in subst (λ z. f z ≡ true) same h
+      | false ↦ λ h k. passes_alone f ys x k
+    ] refl e
+
+-- once pieces have taken its place, those of them that are in flight are all that the client has
+pub replaced_alone : (c : ℕ) (s : Space) (p : Part) (pieces : List Part) → (mine c s).flights ≡ p ∷ [] →
+    filter (λ q. is_flight c q.state) (exchanged (begins_at p.span.first) s.parts pieces) ≡ filter (λ q. is_flight c q.state) pieces
+replaced_alone c s p pieces e =
+    let gone : Bool → List Part = λ v. cond (not v) (p ∷ []) [] in
+    flights_exchanged c (begins_at p.span.first) s.parts pieces
+    ∙ ap (λ ps. filter (λ q. not (begins_at p.span.first q)) ps ++ filter (λ q. is_flight c q.state) pieces) e
+    ∙ ap (λ v. gone v ++ filter (λ q. is_flight c q.state) pieces) (begins_itself p)
+
+-- where there was nothing, the same is so, wherever the pieces came from
+pub replaced_idle : (c : ℕ) (s : Space) (gone : Part → Bool) (pieces : List Part) → (mine c s).flights ≡ [] →
+    filter (λ q. is_flight c q.state) (exchanged gone s.parts pieces) ≡ filter (λ q. is_flight c q.state) pieces
+replaced_idle c s gone pieces e =
+    flights_exchanged c gone s.parts pieces ∙ ap (λ ps. filter (λ q. not (gone q)) ps ++ filter (λ q. is_flight c q.state) pieces) e
+
+-- ---- the answers that are taken in
+
+-- what is known where a reply leads, by the space and the reply that a step left
+abbrev pub Onto : ℕ → (Reply → Next) → ℕ → ℕ → Stepped → Type 0
+Onto c f stage bound u = Keeps c u.after stage bound (f u.reply)
+
+-- what is so of each space in which the client is as much a customer as before
+abbrev pub AnyAfter : ℕ → Space → (Space → Type 0) → Type 0
+AnyAfter c s P = (t : Space) → is_served (mine c t) ≡ is_served (mine c s) → P t
+
+-- an extent whose hook refused is put down
+whole_onto : (c : ℕ) (s : Space) (f : Reply → Next) (bound : ℕ) (span : Span) (b : Bool) → Alone (mine c s) span b →
+    AnyAfter c s (λ t. Idle (mine c t) → Keeps c t 0 bound (f Whole)) → Onto c f 0 bound (whole_at s (find (is_flight_at c span) s.parts))
+whole_onto c s f bound span b alone on =
+    let p : Part = alone.part in
+    let t : Space = (whole_at s (Some p)).after in
+    let idle : Idle (mine c t) = record {
+      flights = replaced_alone c s p (put_down p ∷ []) alone.flights ∙ ap (λ (v : Bool). cond v (put_down p ∷ []) []) (down_is_listed c (rest_of p.state));
+      offers = alone.offers;
+    } in
+    subst (λ o. Onto c f 0 bound (whole_at s o)) (sym (alone_found c s span b alone)) (on t refl idle)
+
+-- the span that stays in flight after a cut
+abbrev pub kept_span : Bool → ℕ → Span → Span
+kept_span true left s = record { first = s.first; pages = left }
+kept_span false left s = record { first = s.first + left; pages = s.pages - left }
+
+cut_done : (c : ℕ) (s : Space) (f : Reply → Next) (bound : ℕ) (keep_low : Bool) (span : Span) (left : ℕ) (b : Bool) → (alone : Alone (mine c s) span b) →
+    AnyAfter c s (λ t. Alone (mine c t) (kept_span keep_low left span) b → Keeps c t 0 bound (f (Cut (kept_span keep_low left span)))) →
+    Onto c f 0 bound (cut_at s keep_low left (Some alone.part))
+cut_done c s f bound true span left b alone on =
+    let p : Part = alone.part in
+    let own = passes_alone (λ q. is_flight c q.state) s.parts p alone.flights in
+    let t : Space = (cut_at s true left (Some p)).after in
+    let spans : (low_piece left p).span ≡ kept_span true left span = ap (kept_span true left) alone.spans in
+    let still : Alone (mine c t) (kept_span true left span) b = record {
+      part = low_piece left p;
+      flights = replaced_alone c s p (put_down (high_piece left p) ∷ low_piece left p ∷ []) alone.flights
+          ∙ rw (down_is_listed c (rest_of p.state), own) refl;
+      spans = spans;
+      committed = alone.committed;
+      offers = alone.offers;
+    } in
+    subst (λ k. Keeps c t 0 bound (f (Cut k))) (sym spans) (on t refl still)
+cut_done c s f bound false span left b alone on =
+    let p : Part = alone.part in
+    let own = passes_alone (λ q. is_flight c q.state) s.parts p alone.flights in
+    let t : Space = (cut_at s false left (Some p)).after in
+    let spans : (high_piece left p).span ≡ kept_span false left span = ap (kept_span false left) alone.spans in
+    let still : Alone (mine c t) (kept_span false left span) b = record {
+      part = high_piece left p;
+      flights = replaced_alone c s p (put_down (low_piece left p) ∷ high_piece left p ∷ []) alone.flights
+          ∙ rw (down_is_listed c (rest_of p.state), own) refl;
+      spans = spans;
+      committed = alone.committed;
+      offers = alone.offers;
+    } in
+    subst (λ k. Keeps c t 0 bound (f (Cut k))) (sym spans) (on t refl still)
+
+-- the answer to a split
+pub cut_onto : (c : ℕ) (s : Space) (f : Reply → Next) (bound : ℕ) (keep_low : Bool) (span : Span) (left : ℕ) (b : Bool) (answer : Answer) →
+    Alone (mine c s) span b → Answers (Split span left) answer →
+    AnyAfter c s (λ t. Alone (mine c t) (kept_span keep_low left span) b → Keeps c t 0 bound (f (Cut (kept_span keep_low left span)))) →
+    AnyAfter c s (λ t. Idle (mine c t) → Keeps c t 0 bound (f Whole)) → Onto c f 0 bound (after_cut s c keep_low (Split span left) answer)
+cut_onto c s f bound keep_low span left b Done alone kind on_cut on_whole =
+    subst (λ o. Onto c f 0 bound (cut_at s keep_low left o)) (sym (alone_found c s span b alone)) (cut_done c s f bound keep_low span left b alone on_cut)
+cut_onto c s f bound keep_low span left b Refuses alone kind on_cut on_whole = whole_onto c s f bound span b alone on_whole
+cut_onto c s f bound keep_low span left b (Placed first is_committed zeroed) alone kind on_cut on_whole = absurd (kind first is_committed zeroed refl)
+
+-- the answer to a commit
+pub commit_onto : (c : ℕ) (s : Space) (f : Reply → Next) (bound : ℕ) (span : Span) (b : Bool) (answer : Answer) → Alone (mine c s) span b → Answers (Commit span) answer →
+    AnyAfter c s (λ t. Alone (mine c t) span true → Keeps c t 0 bound (f Noted)) →
+    AnyAfter c s (λ t. Idle (mine c t) → Keeps c t 0 bound (f Whole)) → Onto c f 0 bound (after_commit s c (Commit span) answer)
+commit_onto c s f bound span b Done alone kind on_noted on_whole =
+    let p : Part = alone.part in
+    let own = passes_alone (λ q. is_flight c q.state) s.parts p alone.flights in
+    let t : Space = (commit_at s (Some p)).after in
+    let piece : Part = record p { committed = true } in
+    let still : Alone (mine c t) span true = record {
+      part = piece;
+      flights = replaced_alone c s p (piece ∷ []) alone.flights ∙ ap (λ (v : Bool). cond v (piece ∷ []) []) own;
+      spans = alone.spans;
+      committed = refl;
+      offers = alone.offers;
+    } in
+    subst (λ o. Onto c f 0 bound (commit_at s o)) (sym (alone_found c s span b alone)) (on_noted t refl still)
+commit_onto c s f bound span b Refuses alone kind on_noted on_whole = whole_onto c s f bound span b alone on_whole
+commit_onto c s f bound span b (Placed first is_committed zeroed) alone kind on_noted on_whole = absurd (kind first is_committed zeroed refl)
+
+-- the answer to an alloc
+grown_onto : (c : ℕ) (s : Space) (f : Reply → Next) (bound : ℕ) (span : Span) (b : Bool) (o : Option Why) → Idle (mine c s) →
+    AnyAfter c s (λ t. Idle (mine c t) → (why : Why) → Keeps c t 0 bound (f (Bad why))) →
+    AnyAfter c s (λ t. Alone (mine c t) span b → Keeps c t 0 bound (f (Grown span b))) → Onto c f 0 bound (grow_unless s c span b o)
+grown_onto c s f bound span b (Some why) idle on_bad on_grown = on_bad s refl idle why
+grown_onto c s f bound span b None idle on_bad on_grown =
+    on_grown (grow_unless s c span b None).after refl
+    (record {
+      part = new_part c span b;
+      flights = filter-append (λ q. is_flight c q.state) s.parts (new_part c span b ∷ [])
+          ∙ ap (λ ps. ps ++ filter (λ q. is_flight c q.state) (new_part c span b ∷ [])) idle.flights
+          ∙ ap (λ (v : Bool). cond v (new_part c span b ∷ []) []) (client_itself c);
+      spans = refl;
+      committed = refl;
+      offers = idle.offers;
+    })
+
+pub alloc_onto : (c : ℕ) (s : Space) (f : Reply → Next) (bound : ℕ) (found : Option ℕ) (pages align : ℕ) (answer : Answer) → Idle (mine c s) →
+    answer ≢ Done → AnyAfter c s (λ t. Idle (mine c t) → Keeps c t 0 bound (f Refused)) →
+    AnyAfter c s (λ t. Idle (mine c t) → (why : Why) → Keeps c t 0 bound (f (Bad why))) →
+    AnyAfter c s (λ t. (span : Span) (b : Bool) → span.pages ≡ pages → Alone (mine c t) span b → Keeps c t 0 bound (f (Grown span b))) →
+    Onto c f 0 bound (after_grow s c found (Alloc None pages align false) answer)
+alloc_onto c s f bound found pages align Refuses idle kind on_refused on_bad on_grown = on_refused s refl idle
+alloc_onto c s f bound found pages align (Placed first b zeroed) idle kind on_refused on_bad on_grown =
+    let span : Span = record { first = first; pages = pages } in
+    grown_onto c s f bound span b (why_not found align s.parts span) idle on_bad (λ t e alone. on_grown t e span b refl alone)
+alloc_onto c s f bound found pages align Done idle kind on_refused on_bad on_grown = absurd (kind refl)
+
+-- ---- the look
+
+-- an extent that fits holds the run
+fit_of-holds : (rest : Rest) (pages align : ℕ) (parts : List Part) (p : Part) → fit_of rest pages align parts ≡ Some p → holds_run pages align p.span ≡ true
+fit_of-holds rest pages align parts p e =
+    let best = find_passes (is_best rest pages align parts) parts p e in
+    let candidate = (both_true (is_candidate rest pages align p) _ best).0 in (both_true _ (holds_run pages align p.span) candidate).1
+
+-- what one of two searches found has what each of them finds
+either_has : {X : Type 0} (P : X → Type 0) (o u : Option X) (x : X) → (o ≡ Some x → P x) → (u ≡ Some x → P x) → option_or o u ≡ Some x → P x
+either_has P (Some y) u x first second e = first e
+either_has P None u x first second e = second e
+
+fit-holds : (pages align : ℕ) (parts : List Part) (p : Part) → fit pages align parts ≡ Some p → holds_run pages align p.span ≡ true
+fit-holds pages align parts p e =
+    let P : Part → Type 0 = λ q. holds_run pages align q.span ≡ true in
+    either_has P _ _ p (fit_of-holds ToDirty pages align parts p)
+    (either_has P _ _ p (fit_of-holds ToMuzzy pages align parts p) (fit_of-holds ToRetained pages align parts p)) e
+
+-- the run begins at the span's start or above
+run_above : (align : ℕ) (s : Span) → 1 ≤ align → s.first ≤ run_start align s
+run_above align s some = grind arith
+
+-- an alignment isn't 0
+pub align_some : (align : ℕ) → is_power_of_two align ≡ true → 1 ≤ align
+align_some align h = let one : count_ones align ≡ 1 = eqb-true _ _ h in omega (arith, one, ones_le_self align)
+
+found_goes : (c : ℕ) (s : Space) (wish : Wish) (o : Option Part) → fit wish.pages wish.align s.parts ≡ o → Gets (mine c s) wish → Idle (mine c s) →
+    Onto c (turned (Looking wish)) 0 12 (look_at s c wish.align o)
+found_goes c s wish None e gets idle = grow_goes c s 12 wish (min s.grow s.grow_limit) gets idle (omega arith)
+found_goes c s wish (Some p) e gets idle =
+    let taken : Part = taken_out c p in
+    let t : Space = (look_at s c wish.align (Some p)).after in
+    let alone : Alone (mine c t) p.span p.committed = record {
+      part = taken;
+      flights = replaced_idle c s (begins_at p.span.first) (taken ∷ []) idle.flights ∙ ap (λ (v : Bool). cond v (taken ∷ []) []) (client_itself c);
+      spans = refl;
+      committed = refl;
+      offers = idle.offers;
+    } in
+    let above = run_above wish.align p.span (align_some wish.align gets.is.align) in
+    let within : run_start wish.align p.span + wish.pages ≤ end_of p.span = leb-true _ _ (fit-holds wish.pages wish.align s.parts p e) in
+    skip_goes c t 12 wish p.span p.committed (run_start wish.align p.span - p.span.first) (gets_kept c s t wish gets refl) alone (omega (arith, above, within)) (omega arith)
+
+-- the reply to the look
+pub look_onto : (c : ℕ) (s : Space) (wish : Wish) → Gets (mine c s) wish → Idle (mine c s) → Onto c (turned (Looking wish)) 0 12 (after_look s c wish.pages wish.align)
+look_onto c s wish gets idle =
+    elim (is_live s.life) as (λ l. Onto c (turned (Looking wish)) 0 12 (cond l (look_at s c wish.align (fit wish.pages wish.align s.parts)) (stays s NoArena))) [
+      | true ↦ found_goes c s wish (fit wish.pages wish.align s.parts) refl gets idle
+      | false ↦ idle
+    ]
+
+-- ---- the landing
+
+pub land_onto : (c : ℕ) (s : Space) (wish : Wish) (span : Span) → Alone (mine c s) span true →
+    Onto c (turned (Landing wish span)) 0 1 (land_at s c wish.class wish.count (find (is_flight_at c span) s.parts))
+land_onto c s wish span alone =
+    let p : Part = alone.part in
+    let t : Space = (land_at s c wish.class wish.count (Some p)).after in
+    let idle : Idle (mine c t) = record { flights = replaced_alone c s p _ alone.flights; offers = alone.offers } in
+    subst (λ o. Onto c (turned (Landing wish span)) 0 1 (land_at s c wish.class wish.count o)) (sym (alone_found c s span true alone)) idle

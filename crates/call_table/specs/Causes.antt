@@ -1,0 +1,172 @@
+-- Why each answer of a call comes, by what the call was fed.
+use Rattle.std.specs.Prelude.{◌≡◌, ℕ, ◌<◌, ◌≤◌, ◌^◌, ◌⊎◌, max, Bool, true, false, List, [], ◌∷◌, ◌++◌, fold, Contains, Option, None, Some}
+use Rattle.std.specs.Option.{option_map}
+use Rattle.size_classes.specs.Classes.{class_for}
+use Rattle.space_model.specs.declared.Ask.{Ask}
+use Rattle.space_model.specs.declared.Ask.TheVariants.{Alloc, Commit, Split}
+use Rattle.space_model.specs.declared.Answer.TheVariants.{Placed, Refused as Refuses}
+use Rattle.space_model.specs.declared.Part.{Part}
+use Rattle.space_model.specs.declared.Reply.TheVariants.{NoArena, Nothing, Noted, Took, Grow, Cut, Whole, Grown, Landed, Regions, Limits as LimitsAre, Owned, Busy as InUse}
+use Rattle.space_model.specs.declared.Space.{Space}
+use Rattle.space_model.specs.declared.Span.{Span}
+use Rattle.space_model.specs.declared.Why.{Why}
+use Rattle.space_model.specs.Step.{why_not}
+use Rattle.space_model.specs.Sound.{Sound}
+use Rattle.hook_api.specs.Asked.{AskFacts}
+use Rattle.thread_cache.specs.declared.Held.{Held}
+use Rattle.call_table.specs.declared.needs.Answered.{Answered}
+use Rattle.call_table.specs.declared.needs.Answered.TheVariants.{Ok, Refused, BadAnswer, TooLarge, NotHeld, NoArena as NoSuchArena, Busy, NoMemory, ArenasFull, Automatic}
+use Rattle.call_table.specs.declared.needs.Given.{Given}
+use Rattle.call_table.specs.declared.needs.Given.TheVariants.{Region, Done as Finished, Arena, Limits}
+use Rattle.call_table.specs.declared.needs.Item.{Item}
+use Rattle.call_table.specs.declared.needs.Item.TheVariants.{Replied, Told, Starved}
+use Rattle.call_table.specs.declared.needs.Request.{Request}
+use Rattle.call_table.specs.declared.needs.Request.TheVariants.{Malloc, Free, Publish, Take, Reset, Destroy}
+use Rattle.call_table.specs.declared.points.Wish.{Wish}
+use Rattle.call_table.specs.declared.points.Next.{Next}
+use Rattle.call_table.specs.declared.points.Next.TheVariants.{Go, Ends}
+use Rattle.call_table.specs.declared.calls.Stage.{Stage}
+use Rattle.call_table.specs.Table.{alloc_of, want, whole_chunks}
+use Rattle.call_table.specs.Runs.{after, begin, run, wish_for}
+use Rattle.call_table.specs.Laws.{Moves}
+
+-- ---- what came
+
+-- the item came of what is wanted there, in some sound space
+abbrev pub Came : ℕ → Next → Item → Type 0
+Came c (Go point) item = (s : Space) × (t : Space) × Sound s × Moves c s (want point) item t
+Came c next item = ⊥
+
+-- each item came of what was wanted when it came
+abbrev pub AllCame : ℕ → Stage → List Item → Type 0
+AllCame c at [] = Unit {0}
+AllCame c at (item ∷ items) = Came c at.next item × AllCame c (after at item) items
+
+-- ---- the extent that a malloc has
+
+-- an extent in flight, as replies tell of it
+pub record Extent : Type 0 where
+  pub span : Span
+  pub committed : Bool
+
+abbrev pub extent : Span → Bool → Extent
+extent span is_committed = record { span = span; committed = is_committed }
+
+-- the extent in flight after one more item: a look or a grant gives it, a cut leaves a piece of it, a commit commits it,
+-- and it is gone where it was put down or regions landed in it
+abbrev pub extent_after : Option Extent → Item → Option Extent
+extent_after had (Replied (Took span is_committed skip)) = Some (extent span is_committed)
+extent_after had (Replied (Grown span is_committed)) = Some (extent span is_committed)
+extent_after had (Replied (Cut kept)) = option_map (λ (e : Extent). extent kept e.committed) had
+extent_after had (Replied Noted) = option_map (λ (e : Extent). extent e.span true) had
+extent_after had (Replied Whole) = None
+extent_after had (Replied (Landed first count)) = None
+extent_after had item = had
+
+-- the extent in flight after the items, if there is one
+abbrev pub extent_of : List Item → Option Extent
+extent_of items = fold extent_after None items
+
+-- ---- the asks that a malloc needs
+
+-- no extent served: the look found none, or a split was refused
+abbrev pub NothingFits : List Item → Type 0
+NothingFits items = ((series : ℕ) × Contains items (Replied (Grow series))) ⊎ Contains items (Replied Whole)
+
+-- An alloc of just as many chunks as the pages need granted the span, which has more pages than are wanted.
+pub record WasGranted (wish : Wish) (items : List Item) (span : Span) : Type 0 where
+  pub asked : AskFacts
+  pub told : Contains items (Told asked)
+  pub exact : asked.ask ≡ alloc_of wish (whole_chunks wish.pages)
+  pub is_committed : Bool
+  pub zeroed : Bool
+  pub placed : asked.answer ≡ Placed span.first is_committed zeroed
+  pub replied : Contains items (Replied (Grown span is_committed))
+  pub more : wish.pages < span.pages
+
+-- an ask is needed after the items: an alloc of just as many chunks where no extent served, a split of what it granted, and
+-- a commit of an extent that isn't committed
+abbrev pub IsNeeded : Wish → List Item → Ask → Type 0
+IsNeeded wish items (Alloc at pages align is_committed) = (pages ≡ whole_chunks wish.pages) × NothingFits items
+IsNeeded wish items (Split span left) = (left ≡ wish.pages) × WasGranted wish items span
+IsNeeded wish items (Commit span) = extent_of items ≡ Some (extent span false)
+IsNeeded wish items ask = ⊥
+
+-- ---- the causes
+
+-- the wish is that of the request
+abbrev pub IsWishOf : Request → Wish → Type 0
+IsWishOf (Malloc size) wish = wish ≡ wish_for (class_for size) 1
+IsWishOf request wish = ⊥
+
+-- An ask of this call was refused, and it was needed after what the call had been fed.
+pub record RefusedCause (request : Request) (items : List Item) (asked : AskFacts) : Type 0 where
+  pub wish : Wish
+  pub wished : IsWishOf request wish
+  pub earlier : List Item
+  pub later : List Item
+  pub told : items ≡ earlier ++ Told asked ∷ later
+  pub refused : asked.answer ≡ Refuses
+  pub needed : IsNeeded wish earlier asked.ask
+
+-- An alloc of this call placed the range, and this speaks against it: the extents of the arena and the chunk that was found
+-- in another one are named by what they are.
+pub record BadCause (request : Request) (items : List Item) (span : Span) (why : Why) : Type 0 where
+  pub wish : Wish
+  pub wished : IsWishOf request wish
+  pub asked : AskFacts
+  pub told : Contains items (Told asked)
+  pub alloc : asked.ask ≡ alloc_of wish span.pages
+  pub is_committed : Bool
+  pub zeroed : Bool
+  pub placed : asked.answer ≡ Placed span.first is_committed zeroed
+  pub found : Option ℕ
+  pub parts : List Part
+  pub against : why_not found (max 512 wish.align) parts span ≡ Some why
+
+-- a region was landed, found in a slab, or taken over
+abbrev pub RegionCause : Request → List Item → ℕ → ℕ → Type 0
+RegionCause (Malloc size) items addr class = (class ≡ class_for size)
+    × (((count : ℕ) × Contains items (Replied (Landed addr count))) ⊎ ((others : List ℕ) × Contains items (Replied (Regions (addr ∷ others)))))
+RegionCause (Take at arena) items addr class = (addr ≡ at) × Contains items (Replied (Owned class))
+RegionCause request items addr class = ⊥
+
+abbrev pub GivenCause : Request → List Item → Given → Type 0
+GivenCause request items (Region addr class) = RegionCause request items addr class
+GivenCause request items Finished = Unit {0}
+GivenCause request items (Arena index) = Contains items (Replied Noted)
+GivenCause request items (Limits dirty muzzy) = Contains items (Replied (LimitsAre dirty muzzy))
+
+-- the client held no region at the address of the request, or none was published there
+abbrev pub NotHeldCause : Option Held → Request → List Item → ℕ → Type 0
+NotHeldCause held (Free at) items addr = (addr ≡ at) × (held ≡ None)
+NotHeldCause held (Publish at) items addr = (addr ≡ at) × (held ≡ None)
+NotHeldCause held (Take at arena) items addr = (addr ≡ at) × Contains items (Replied Nothing)
+NotHeldCause held request items addr = ⊥
+
+abbrev pub TooLargeCause : Request → Type 0
+TooLargeCause (Malloc size) = 2 ^ 35 < size
+TooLargeCause request = ⊥
+
+abbrev pub AutomaticCause : Request → Type 0
+AutomaticCause (Reset index) = index ≡ 0
+AutomaticCause (Destroy index) = index ≡ 0
+AutomaticCause request = ⊥
+
+-- why a request of a client that held this region at its address had its answer after these items
+abbrev pub CauseOf : Option Held → Request → List Item → Answered → Type 0
+CauseOf held request items (Ok given) = GivenCause request items given
+CauseOf held request items (Refused asked) = RefusedCause request items asked
+CauseOf held request items (BadAnswer span why) = BadCause request items span why
+CauseOf held request items TooLarge = TooLargeCause request
+CauseOf held request items (NotHeld addr) = NotHeldCause held request items addr
+CauseOf held request items (NoSuchArena index) = (32 ≤ index) ⊎ Contains items (Replied NoArena)
+CauseOf held request items (Busy others flights threads) = Contains items (Replied (InUse others flights threads))
+CauseOf held request items NoMemory = Contains items Starved
+CauseOf held request items ArenasFull = Contains items (Replied Nothing)
+CauseOf held request items Automatic = AutomaticCause request
+
+-- every answer has its cause among what this very call was fed
+abbrev pub AnswersHaveCauses : Type 0
+AnswersHaveCauses = (c arena : ℕ) (held : Option Held) (request : Request) (items : List Item) (answer : Answered)
+    → AllCame c (begin arena held request) items → (run (begin arena held request) items).next ≡ Ends answer → CauseOf held request items answer

@@ -1,0 +1,9 @@
+pub mod Table
+pub mod Points
+pub mod Runs
+pub mod Needs
+pub mod Calls
+pub mod Knows
+pub mod Laws
+pub mod Bounds
+pub mod Causes

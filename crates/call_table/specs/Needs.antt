@@ -1,0 +1,41 @@
+-- What a call tells that it needs, by where it stands.
+use Rattle.std.specs.Prelude.{◌≡◌, ◌≤◌, ℕ, length}
+use Rattle.call_table.specs.declared.needs.Need.{Need}
+use Rattle.call_table.specs.declared.needs.Need.TheVariants.{Turn as NeedsTurn, Ask as NeedsAsk, Done as IsDone}
+use Rattle.call_table.specs.declared.points.TurnPoint.{TurnPoint}
+use Rattle.call_table.specs.declared.points.TurnPoint.TheVariants.{Giving}
+use Rattle.call_table.specs.declared.points.Point.TheVariants.{Turns}
+use Rattle.call_table.specs.declared.points.Next.{Next}
+use Rattle.call_table.specs.declared.points.Next.TheVariants.{Go, Ends, Nowhere}
+use Rattle.call_table.specs.Table.{Want, WantTurn, WantAsk, want}
+
+-- the need is what is wanted of the arena
+abbrev pub NeedsWant : ℕ → ℕ → Want → Need → Type 0
+NeedsWant client arena (WantTurn op asked) need = need ≡ NeedsTurn (record { arena = arena; client = client; op = op; asked = asked })
+NeedsWant client arena (WantAsk ask) need = need ≡ NeedsAsk arena ask
+
+-- the need of a client is what its call wants at a point, or the answer
+abbrev pub NeedIs : ℕ → ℕ → Next → Need → Type 0
+NeedIs client arena (Go point) need = NeedsWant client arena (want point) need
+NeedIs client arena (Ends answer) need = need ≡ IsDone answer
+NeedIs client arena next need = ⊥
+
+-- a call waits at a point, or has ended
+abbrev pub IsPlace : Next → Type 0
+IsPlace (Go point) = Unit {0}
+IsPlace (Ends answer) = Unit {0}
+IsPlace next = ⊥
+
+-- the item was one that could come
+abbrev pub Goes : Next → Type 0
+Goes Nowhere = ⊥
+Goes next = Unit {0}
+
+-- so few regions go back that no memory is wanted to name them
+abbrev pub HasFewAddresses : TurnPoint → Type 0
+HasFewAddresses (Giving addrs) = length addrs ≤ 8
+HasFewAddresses point = Unit {0}
+
+abbrev pub IsFewAddresses : Next → Type 0
+IsFewAddresses (Go (Turns point)) = HasFewAddresses point
+IsFewAddresses next = Unit {0}

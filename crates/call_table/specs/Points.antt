@@ -1,0 +1,42 @@
+-- What is so of every point of a call, whatever it was fed: what it asks for fits into a number.
+use Rattle.std.specs.Prelude.{◌≤◌, ◌^◌}
+use Rattle.space_model.specs.Span.{max_series}
+use Rattle.call_table.specs.declared.points.Wish.{Wish}
+use Rattle.call_table.specs.declared.points.TurnPoint.{TurnPoint}
+use Rattle.call_table.specs.declared.points.TurnPoint.TheVariants.{Filling, Looking, Landing}
+use Rattle.call_table.specs.declared.points.AskPoint.{AskPoint}
+use Rattle.call_table.specs.declared.points.AskPoint.TheVariants.{Skipping, Trimming, Growing, Paring, Needing, Granting, Committing}
+use Rattle.call_table.specs.declared.points.Point.{Point}
+use Rattle.call_table.specs.declared.points.Point.TheVariants.{Turns, Asks, Tells}
+use Rattle.call_table.specs.declared.points.Next.{Next}
+use Rattle.call_table.specs.declared.points.Next.TheVariants.{Go, Over}
+
+-- the pages of a wish are few
+abbrev pub IsFew : Wish → Type 0
+IsFew wish = wish.pages ≤ 2 ^ 32
+
+abbrev pub IsSizedTurn : TurnPoint → Type 0
+IsSizedTurn (Filling wish) = IsFew wish
+IsSizedTurn (Looking wish) = IsFew wish
+IsSizedTurn (Landing wish span) = IsFew wish
+IsSizedTurn point = Unit {0}
+
+abbrev pub IsSized : AskPoint → Type 0
+IsSized (Skipping wish span is_committed skip) = IsFew wish
+IsSized (Trimming wish span is_committed) = IsFew wish
+IsSized (Growing wish chunks) = IsFew wish × (chunks ≤ max_series)
+IsSized (Paring wish span is_committed) = IsFew wish
+IsSized (Needing wish) = IsFew wish
+IsSized (Granting wish span is_committed) = IsFew wish
+IsSized (Committing wish span) = IsFew wish
+IsSized point = Unit {0}
+
+abbrev pub IsSizedPoint : Point → Type 0
+IsSizedPoint (Turns point) = IsSizedTurn point
+IsSizedPoint (Asks point heard) = IsSized point
+IsSizedPoint (Tells span is_committed) = Unit {0}
+
+abbrev pub IsSizedNext : Next → Type 0
+IsSizedNext (Go point) = IsSizedPoint point
+IsSizedNext (Over index point) = IsSizedPoint point
+IsSizedNext next = Unit {0}

@@ -1,0 +1,220 @@
+//! The asks of a call, and where the reply to the turn leads that takes an answer in.
+
+ghost use Rattle.std.specs.Prelude.{◌≡◌, ◌≤◌, ◌*◌, ◌^◌, max};
+ghost use Rattle.call_table.specs.Table.{alloc_of, answered_span, ask_of, committed, done_of, granted, grown, needed, skipped, told, trimmed, whole_chunks};
+ghost use Rattle.call_table.specs.Points.{IsSized};
+
+use crate::{Answered, AskPoint, Next, TurnPoint, Wish};
+use hook_api::Asked;
+use space_model::{Answer, Ask, CHUNK_PAGES, Op, Reply, Span};
+
+/// The range that an alloc's answer places, of so many pages.
+fn answered_span(pages: u64, answer: Answer) -> Span
+    ensures { result ≡ answered_span pages answer }
+{
+    match answer {
+        Answer::Placed { first, .. } => Span { first, pages },
+        Answer::Done | Answer::Refused => Span { first: 0, pages },
+    }
+}
+
+impl Wish {
+    /// The pages of as many chunks as are needed.
+    fn chunk_pages(self) -> u64
+        requires { self.pages ≤ 2 ^ 32 }
+        ensures { result ≡ whole_chunks self.pages }
+    {
+        self.chunks() * CHUNK_PAGES
+    }
+
+    /// An alloc of so many pages, anywhere.
+    fn alloc(self, pages: u64) -> Ask
+        ensures { result ≡ alloc_of self pages }
+    {
+        Ask::Alloc {
+            at: None,
+            pages,
+            align: self.align.max(CHUNK_PAGES),
+            commit: false,
+        }
+    }
+
+    /// After the split of what stands before the run.
+    fn skipped(self, committed: bool, reply: Reply) -> Next
+        ensures { result ≡ skipped self committed reply }
+    {
+        match reply {
+            Reply::Cut(high) => self.trim(high, committed),
+            Reply::Whole => self.need_chunks(),
+            _ => Next::Nowhere,
+        }
+    }
+
+    /// After the split of what stands behind the run, or of a grant of more chunks than are needed.
+    fn trimmed(self, committed: bool, reply: Reply) -> Next
+        ensures { result ≡ trimmed self committed reply }
+    {
+        match reply {
+            Reply::Cut(low) => self.commit(low, committed),
+            Reply::Whole => self.need_chunks(),
+            _ => Next::Nowhere,
+        }
+    }
+
+    /// After the alloc of more chunks than are needed.
+    fn grown(self, chunks: u64, answer: Answer, reply: Reply) -> Next
+        requires { chunks ≤ 16384 }
+        ensures { result ≡ grown self chunks answer reply }
+    {
+        match reply {
+            Reply::Refused => self.need_chunks(),
+            Reply::Bad(why) => Next::Ends(Answered::BadAnswer {
+                span: answered_span(chunks * CHUNK_PAGES, answer),
+                why,
+            }),
+            Reply::Grown { span, committed } => {
+                let wish = self;
+                AskPoint::Paring {
+                    wish,
+                    span,
+                    committed,
+                }
+                .first()
+            }
+            _ => Next::Nowhere,
+        }
+    }
+
+    /// After the alloc of as many chunks as are needed.
+    fn needed(self, asked: Asked, reply: Reply) -> Next
+        requires { self.pages ≤ 2 ^ 32 }
+        ensures { result ≡ needed self asked reply }
+    {
+        match reply {
+            Reply::Refused => Next::Ends(Answered::Refused(asked)),
+            Reply::Bad(why) => Next::Ends(Answered::BadAnswer {
+                span: answered_span(self.chunk_pages(), asked.answer()),
+                why,
+            }),
+            Reply::Grown { span, committed } => self.grant(span, committed),
+            _ => Next::Nowhere,
+        }
+    }
+
+    /// After the split of what that granted.
+    fn granted(self, committed: bool, asked: Asked, reply: Reply) -> Next
+        ensures { result ≡ granted self committed asked reply }
+    {
+        match reply {
+            Reply::Cut(low) => self.commit(low, committed),
+            Reply::Whole => Next::Ends(Answered::Refused(asked)),
+            _ => Next::Nowhere,
+        }
+    }
+
+    /// After a commit.
+    fn committed(self, span: Span, asked: Asked, reply: Reply) -> Next
+        ensures { result ≡ committed self span asked reply }
+    {
+        match reply {
+            Reply::Noted => TurnPoint::Landing(self, span).next(),
+            Reply::Whole => Next::Ends(Answered::Refused(asked)),
+            _ => Next::Nowhere,
+        }
+    }
+}
+
+impl AskPoint {
+    /// The ask.
+    pub(crate) fn ask(self) -> Ask
+        requires { IsSized self }
+        ensures { result ≡ ask_of self }
+    {
+        match self {
+            AskPoint::Skipping { span, skip, .. } => Ask::Split { span, left: skip },
+            AskPoint::Trimming { wish, span, .. }
+            | AskPoint::Paring { wish, span, .. }
+            | AskPoint::Granting { wish, span, .. } => {
+                let left = wish.pages;
+                Ask::Split { span, left }
+            }
+            AskPoint::Growing(wish, chunks) => wish.alloc(chunks * CHUNK_PAGES),
+            AskPoint::Needing(wish) => wish.alloc(wish.chunk_pages()),
+            AskPoint::Committing(_, span) => Ask::Commit(span),
+            AskPoint::Merging { low, high, .. } => Ask::Merge { low, high },
+            AskPoint::Easing(span, _) => Ask::PurgeLazy(span),
+            AskPoint::Returning(span, _) => {
+                let committed = true;
+                Ask::Dalloc { span, committed }
+            }
+            AskPoint::Decommitting(span, _) => Ask::Decommit(span),
+            AskPoint::Forcing(span, _) => Ask::PurgeForced(span),
+        }
+    }
+
+    /// The operation that takes its answer in.
+    pub(crate) fn done(self, asked: &Asked) -> Op
+        ensures { result ≡ done_of self asked.now }
+    {
+        let heard = asked.heard();
+        match self {
+            AskPoint::Skipping { .. } => {
+                let keep_low = false;
+                Op::CutDone { heard, keep_low }
+            }
+            AskPoint::Trimming { .. } | AskPoint::Paring { .. } | AskPoint::Granting { .. } => {
+                let keep_low = true;
+                Op::CutDone { heard, keep_low }
+            }
+            AskPoint::Growing(..) | AskPoint::Needing(_) => Op::GrowDone { heard, found: None },
+            AskPoint::Committing(..) => Op::CommitDone { heard },
+            AskPoint::Merging { own_low, .. } => Op::MergeDone { heard, own_low },
+            AskPoint::Easing(..) => Op::LazyDone { heard },
+            AskPoint::Returning(..) => Op::OfferDone { heard, found: None },
+            AskPoint::Decommitting(..) => Op::DecommitDone { heard },
+            AskPoint::Forcing(..) => Op::ForcedDone { heard },
+        }
+    }
+
+    /// Where the reply to the turn leads that took the answer in.
+    pub(crate) fn told(self, asked: Asked, reply: Reply) -> Next
+        requires { IsSized self }
+        ensures { result ≡ told self asked reply }
+    {
+        match self {
+            AskPoint::Skipping {
+                wish,
+                committed,
+                ..
+            } => wish.skipped(committed, reply),
+            AskPoint::Trimming {
+                wish,
+                committed,
+                ..
+            }
+            | AskPoint::Paring {
+                wish,
+                committed,
+                ..
+            } => wish.trimmed(committed, reply),
+            AskPoint::Growing(wish, chunks) => wish.grown(chunks, asked.answer(), reply),
+            AskPoint::Needing(wish) => wish.needed(asked, reply),
+            AskPoint::Granting {
+                wish,
+                committed,
+                ..
+            } => wish.granted(committed, asked, reply),
+            AskPoint::Committing(wish, span) => wish.committed(span, asked, reply),
+            AskPoint::Merging {
+                own_low,
+                fresh,
+                then,
+                ..
+            } => then.merged(own_low, fresh, reply),
+            AskPoint::Easing(span, then) => then.eased(span, reply),
+            AskPoint::Returning(span, then) => then.returned(span, reply),
+            AskPoint::Decommitting(span, then) => then.decommitted(span, reply),
+            AskPoint::Forcing(span, then) => then.forced(span, reply),
+        }
+    }
+}

@@ -1,0 +1,45 @@
+//! Laws of calls, as contracts of functions that do nothing.
+
+ghost use Rattle.call_table.specs.Laws.{BeginsKnow, KnowledgeIsOwn, StepsKeep, WantsStand};
+ghost use Rattle.call_table.specs.Bounds.{AsksAreFew, MallocsAreShort};
+ghost use Rattle.call_table.specs.Causes.{AnswersHaveCauses};
+
+/// What a call knows at the point where it begins: its client has nothing in flight, and holds the region that it gives
+/// back.
+pub fn begins_know()
+    ensures { BeginsKnow }
+{}
+
+/// Every turn that a call wants may stand in the space of its arena, whatever others did meanwhile, and whatever chunk of
+/// another arena is found.
+pub fn wants_stand()
+    ensures { WantsStand }
+{}
+
+/// Whatever comes of what a call wants leads on: the call knows its extents again and is nearer to its end, and where it
+/// has ended, with whatever answer, its client has nothing in flight and nothing offered.
+pub fn steps_keep()
+    ensures { StepsKeep }
+{}
+
+/// What a call knows is of its client's own alone, so it stands as long as that does.
+pub fn knowledge_is_own()
+    ensures { KnowledgeIsOwn }
+{}
+
+/// A malloc ends after at most 5 asks and 8 turns.
+pub fn mallocs_are_short()
+    ensures { MallocsAreShort }
+{}
+
+/// A call that ends has made few asks: a malloc 5, and any call 2 for each extent that is put down, and 6 for each one that is
+/// purged.
+pub fn asks_are_few()
+    ensures { AsksAreFew }
+{}
+
+/// Every answer of a call has its cause among what this very call was fed: a region that landed, that was free, or that was
+/// published; a refused ask that was needed; a bad range that its alloc placed, and what speaks against it.
+pub fn answers_have_causes()
+    ensures { AnswersHaveCauses }
+{}

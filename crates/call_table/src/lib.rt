@@ -1,0 +1,28 @@
+//! Every call as one table: what it wants at each point, and where what it is fed leads.
+//!
+//! A call is plain data and does nothing by itself. It tells what it wants, one turn of an arena or one ask of a box of
+//! hooks at a time, and is fed the reply or the answer. `specs/Table.antt` is the table; the code is that table, and the
+//! run of a call is the fold of it over what the call is fed.
+#![tactic(auto)]
+
+mod asks;
+mod begins;
+mod calls;
+mod gets;
+mod laws;
+mod needs;
+mod points;
+mod puts;
+mod settings;
+mod turns;
+
+pub use calls::{Call, Stage};
+pub use laws::{
+    answers_have_causes, asks_are_few, begins_know, knowledge_is_own, mallocs_are_short,
+    steps_keep, wants_stand,
+};
+pub use needs::{Answered, Given, Item, Need, Request, Turn};
+pub use points::{AskPoint, Change, Later, Next, Point, Then, TurnPoint, Visit, Wish};
+
+#[cfg(test)]
+mod tests;

@@ -1,0 +1,200 @@
+//! The points at which a call waits.
+
+use crate::{Answered, Given};
+use hook_api::Asked;
+use space_model::{Addresses, Rest, Setting, Span};
+
+/// The extent that a call needs, and the regions that are to land in it.
+#[derive(Clone, Copy)]
+pub struct Wish {
+    /// Its pages.
+    pub pages: u64,
+    /// The alignment of its first page, in pages.
+    pub align: u64,
+    /// The size class that is to land in it.
+    pub class: u8,
+    /// How many regions of the class.
+    pub count: u32,
+}
+
+/// What follows once the extents of a visit are purged.
+#[derive(Clone, Copy)]
+pub enum Later {
+    /// The answer.
+    Answers(Given),
+    /// The dirty extents are visited too, of which so many pages may stay, and then comes the answer.
+    DirtyToo(u64, Given),
+}
+
+/// A purge of listed extents.
+#[derive(Clone, Copy)]
+pub struct Visit {
+    /// Their list, dirty or muzzy.
+    pub rest: Rest,
+    /// How many pages may stay.
+    pub keep: u64,
+    /// What follows.
+    pub later: Later,
+}
+
+/// What follows once the client has nothing in flight any more.
+#[derive(Clone, Copy)]
+pub enum Then {
+    /// The next batch of regions that go back, or the end.
+    Batches,
+    /// The visit goes on, with at most so many more extents.
+    Visiting(Visit, u64),
+}
+
+/// What follows once a setting is changed.
+#[derive(Clone, Copy)]
+pub enum Change {
+    /// The end.
+    Stops,
+    /// A visit.
+    Visits(Visit),
+    /// The client leaves the arena with this index, from which it allocated.
+    Leaves(u32),
+}
+
+/// A point at which a call waits for the reply to a turn that takes in no answer of a hook.
+#[derive(Drop)]
+pub enum TurnPoint {
+    /// Free regions of a small class are taken.
+    Filling(Wish),
+    /// Looking for an unused extent.
+    Looking(Wish),
+    /// The regions land in the extent.
+    Landing(Wish, Span),
+    /// Regions at these addresses go back.
+    Giving(Addresses),
+    /// Looking for a neighbour of an extent in flight.
+    Finding {
+        /// The extent.
+        own: Span,
+        /// The looks that are past: 0, 1 or 2.
+        tries: u8,
+        /// Whether it wasn't purged yet.
+        fresh: bool,
+        /// What follows.
+        then: Then,
+    },
+    /// An extent of a visit is taken out of its list, at most so many of them, or as many as there are at the first.
+    Taking(Visit, Option<u64>),
+    /// The extent is to be offered to its hook.
+    Offering(Span, Then),
+    /// The decays are told this moment.
+    Advancing(u64),
+    /// A setting changes.
+    Changing(Setting, Change),
+    /// An arena comes to be at this index, if it is absent.
+    Making(u32, Setting),
+    /// All regions are discarded, where the client has cached none but so many.
+    Resetting(u64),
+    /// The arena ends, where the client has cached none but so many.
+    Destroying(u64),
+    /// An extent of the arena goes.
+    Dooming,
+    /// The region at the address is published.
+    Publishing(u64),
+    /// The region at the address is taken over.
+    Owning(u64),
+}
+
+/// A point at which a call waits for an answer of a hook, and then for the reply to the turn that takes it in.
+#[derive(Clone, Copy)]
+pub enum AskPoint {
+    /// The split of what stands before the run.
+    Skipping {
+        /// What is wanted.
+        wish: Wish,
+        /// The extent.
+        span: Span,
+        /// Whether it is committed.
+        committed: bool,
+        /// The pages before the run.
+        skip: u64,
+    },
+    /// The split of what stands behind the run.
+    Trimming {
+        /// What is wanted.
+        wish: Wish,
+        /// The extent.
+        span: Span,
+        /// Whether it is committed.
+        committed: bool,
+    },
+    /// The alloc of so many chunks, which are more than the pages need.
+    Growing(Wish, u64),
+    /// The split of what that alloc granted.
+    Paring {
+        /// What is wanted.
+        wish: Wish,
+        /// The extent.
+        span: Span,
+        /// Whether it is committed.
+        committed: bool,
+    },
+    /// The alloc of as many chunks as the pages need.
+    Needing(Wish),
+    /// The split of what that alloc granted.
+    Granting {
+        /// What is wanted.
+        wish: Wish,
+        /// The extent.
+        span: Span,
+        /// Whether it is committed.
+        committed: bool,
+    },
+    /// The commit of an extent that has the pages.
+    Committing(Wish, Span),
+    /// The merge of two extents.
+    Merging {
+        /// The lower one.
+        low: Span,
+        /// The higher one.
+        high: Span,
+        /// Whether the lower one is the extent that looked.
+        own_low: bool,
+        /// Whether that wasn't purged yet.
+        fresh: bool,
+        /// What follows.
+        then: Then,
+    },
+    /// The lazy purge of an extent.
+    Easing(Span, Then),
+    /// The dalloc of an extent that was offered.
+    Returning(Span, Then),
+    /// The decommit of an extent that the hook left with the arena.
+    Decommitting(Span, Then),
+    /// The forced purge of one that it left committed too.
+    Forcing(Span, Then),
+}
+
+/// A point at which a call waits.
+#[derive(Drop)]
+pub enum Point {
+    /// For the reply to a turn.
+    Turns(TurnPoint),
+    /// For the answer to an ask, or, where it is there, for the reply to the turn that takes it in.
+    Asks(AskPoint, Option<Asked>),
+    /// For the ask that destroys an extent of an arena that has ended, committed or not. No turn takes its answer in.
+    Tells(Span, bool),
+}
+
+/// Where an item leads.
+#[derive(Drop)]
+pub enum Next {
+    /// To a point.
+    Go(Point),
+    /// To a point of the arena with this index.
+    Over(u32, Point),
+    /// To the next batch of regions that go back, or to the end.
+    More,
+    /// To the end, since the arena isn't live.
+    Gone,
+    /// To an answer.
+    Ends(Answered),
+    /// Nowhere: it is none that could come.
+    Nowhere,
+}

@@ -1,0 +1,241 @@
+//! How a call goes on that puts extents down, or purges them.
+
+ghost use Rattle.std.specs.Prelude.{◌≡◌};
+ghost use Rattle.space_model.specs.Span.{end_of};
+ghost use Rattle.call_table.specs.Table.{beside, decommitted, dirty_visit, drop, eased, forced, look_on, merged, onward, put_next, put_purged, returned, turned, visit_all, visited};
+
+use crate::{Answered, AskPoint, Given, Later, Next, Point, Then, TurnPoint, Visit};
+use space_model::{Reply, Rest, Span};
+
+/// The page after a span's last one. In 128 bits, so that no span wraps.
+fn end_of(span: Span) -> u128
+    ensures { result ≡ end_of span }
+{
+    u128::from(span.first) + u128::from(span.pages)
+}
+
+impl TurnPoint {
+    /// The turn comes next.
+    pub(crate) fn next(self) -> Next
+        ensures { result ≡ Next.Go (Point.Turns self) }
+    {
+        Next::Go(Point::Turns(self))
+    }
+}
+
+impl Later {
+    /// What follows a visit.
+    fn visited(self) -> Next
+        ensures { result ≡ visited self }
+    {
+        match self {
+            Later::Answers(given) => Next::Ends(Answered::Ok(given)),
+            Later::DirtyToo(keep, given) => Visit::dirty(keep, given).first(),
+        }
+    }
+}
+
+impl Visit {
+    /// The dirty extents, of which so many pages may stay, and then the answer.
+    pub(crate) fn dirty(keep: u64, given: Given) -> Visit
+        ensures { result ≡ dirty_visit keep given }
+    {
+        Visit {
+            rest: Rest::Dirty,
+            keep,
+            later: Later::Answers(given),
+        }
+    }
+
+    /// Its first extent is taken.
+    pub(crate) fn first(self) -> Next
+        ensures { result ≡ visit_all self }
+    {
+        TurnPoint::Taking(self, None).next()
+    }
+
+    /// After an extent was taken, if one was.
+    pub(crate) fn took(self, left: Option<u64>, reply: Reply) -> Next
+        ensures { result ≡ turned (TurnPoint.Taking self left) reply }
+    {
+        match reply {
+            Reply::Taken { span, lazy, listed } => {
+                let left = left.unwrap_or(listed).saturating_sub(1);
+                Then::Visiting(self, left).drop_extent(span, lazy)
+            }
+            Reply::Nothing => self.later.visited(),
+            Reply::NoArena => Next::Gone,
+            _ => Next::Nowhere,
+        }
+    }
+}
+
+impl Then {
+    /// What follows once nothing is in flight.
+    fn onward(self) -> Next
+        ensures { result ≡ onward self }
+    {
+        match self {
+            Then::Batches => Next::More,
+            Then::Visiting(visit, 0) => visit.later.visited(),
+            Then::Visiting(visit, left) => TurnPoint::Taking(visit, Some(left)).next(),
+        }
+    }
+
+    /// The next extent in flight is put down, or there is none.
+    pub(crate) fn put_next(self, next: Option<Span>) -> Next
+        ensures { result ≡ put_next self next }
+    {
+        match next {
+            Some(own) => TurnPoint::Finding {
+                own,
+                tries: 0,
+                fresh: true,
+                then: self,
+            }
+            .next(),
+            None => self.onward(),
+        }
+    }
+
+    /// The extent is merged with the neighbour that its look found.
+    fn beside(self, own: Span, tries: u8, fresh: bool, other: Span) -> Next
+        ensures { result ≡ beside own tries fresh other self }
+    {
+        if tries == 0 && u128::from(other.first) == end_of(own) {
+            self.merge(own, other, true, fresh)
+        } else if tries < 2 {
+            self.merge(other, own, false, fresh)
+        } else {
+            Next::Nowhere
+        }
+    }
+
+    /// Two extents are merged.
+    fn merge(self, low: Span, high: Span, own_low: bool, fresh: bool) -> Next
+        ensures { result ≡ Next.Go (Point.Asks (AskPoint.Merging low high own_low fresh self) None) }
+    {
+        AskPoint::Merging {
+            low,
+            high,
+            own_low,
+            fresh,
+            then: self,
+        }
+        .first()
+    }
+
+    /// After a merge the extent that stays in flight looks on.
+    pub(crate) fn look_on(self, own: Span, own_low: bool, fresh: bool) -> Next
+        ensures { result ≡ look_on own own_low fresh self }
+    {
+        TurnPoint::Finding {
+            own,
+            tries: if own_low { 1 } else { 2 },
+            fresh,
+            then: self,
+        }
+        .next()
+    }
+
+    /// An extent that was purged is put down.
+    pub(crate) fn put_purged(self, own: Span) -> Next
+        ensures { result ≡ put_purged own self }
+    {
+        TurnPoint::Finding {
+            own,
+            tries: 0,
+            fresh: false,
+            then: self,
+        }
+        .next()
+    }
+
+    /// An extent is purged lazily, or offered to its hook.
+    pub(crate) fn drop_extent(self, span: Span, lazy: bool) -> Next
+        ensures { result ≡ drop span lazy self }
+    {
+        if lazy {
+            AskPoint::Easing(span, self).first()
+        } else {
+            TurnPoint::Offering(span, self).next()
+        }
+    }
+
+    /// After the look for a neighbour.
+    pub(crate) fn found(self, own: Span, tries: u8, fresh: bool, reply: Reply) -> Next
+        ensures { result ≡ turned (TurnPoint.Finding own tries fresh self) reply }
+    {
+        match reply {
+            Reply::Beside(other) => self.beside(own, tries, fresh, other),
+            Reply::Next(next) => self.put_next(next),
+            Reply::Purge { lazy } if fresh => self.drop_extent(own, lazy),
+            _ => Next::Nowhere,
+        }
+    }
+
+    /// After the offer of an extent.
+    pub(crate) fn offered(self, span: Span, reply: Reply) -> Next
+        ensures { result ≡ turned (TurnPoint.Offering span self) reply }
+    {
+        match reply {
+            Reply::Noted => AskPoint::Returning(span, self).first(),
+            _ => Next::Nowhere,
+        }
+    }
+}
+
+impl Then {
+    /// After a merge.
+    pub(crate) fn merged(self, own_low: bool, fresh: bool, reply: Reply) -> Next
+        ensures { result ≡ merged own_low fresh self reply }
+    {
+        match reply {
+            Reply::Joined(own) => self.look_on(own, own_low, fresh),
+            _ => Next::Nowhere,
+        }
+    }
+
+    /// After a lazy purge.
+    pub(crate) fn eased(self, span: Span, reply: Reply) -> Next
+        ensures { result ≡ eased span self reply }
+    {
+        match reply {
+            Reply::Lazy(true) => self.put_purged(span),
+            Reply::Lazy(false) => TurnPoint::Offering(span, self).next(),
+            _ => Next::Nowhere,
+        }
+    }
+
+    /// After a dalloc.
+    pub(crate) fn returned(self, span: Span, reply: Reply) -> Next
+        ensures { result ≡ returned span self reply }
+    {
+        match reply {
+            Reply::Next(next) | Reply::Abandoned(next) => self.put_next(next),
+            Reply::Kept => AskPoint::Decommitting(span, self).first(),
+            _ => Next::Nowhere,
+        }
+    }
+
+    /// After a decommit.
+    pub(crate) fn decommitted(self, span: Span, reply: Reply) -> Next
+        ensures { result ≡ decommitted span self reply }
+    {
+        match reply {
+            Reply::Decommitted(true) => self.put_purged(span),
+            Reply::Decommitted(false) => AskPoint::Forcing(span, self).first(),
+            _ => Next::Nowhere,
+        }
+    }
+
+    /// After a forced purge.
+    pub(crate) fn forced(self, span: Span, reply: Reply) -> Next
+        ensures { result ≡ forced span self reply }
+    {
+        match reply {
+            Reply::Noted => self.put_purged(span),
+            _ => Next::Nowhere,
+        }
+    }
+}

@@ -1,0 +1,60 @@
+//! Where the reply to a turn leads that takes in no answer of a hook.
+
+ghost use Rattle.std.specs.Prelude.{◌≡◌};
+ghost use Rattle.call_table.specs.Table.{is_marked, op_of, starved, turned};
+
+use crate::settings::{advanced, doomed, ended, made, owned, published, was_reset};
+use crate::{Answered, Next, Then, TurnPoint};
+use space_model::{Addresses, Reply};
+
+/// After regions went back.
+fn gave(addrs: Addresses, reply: Reply) -> Next
+    ensures { result ≡ turned (TurnPoint.Giving addrs) reply }
+{
+    match reply {
+        Reply::Next(next) => Then::Batches.put_next(next),
+        _ => Next::Nowhere,
+    }
+}
+
+impl TurnPoint {
+    /// Where the reply to the turn leads.
+    pub(crate) fn turned(self, reply: Reply) -> Next
+        ensures { result ≡ turned self reply }
+    {
+        match self {
+            TurnPoint::Filling(wish) => wish.filled(reply),
+            TurnPoint::Looking(wish) => wish.looked(reply),
+            TurnPoint::Landing(wish, span) => wish.landed(span, reply),
+            TurnPoint::Giving(addrs) => gave(addrs, reply),
+            TurnPoint::Finding {
+                own,
+                tries,
+                fresh,
+                then,
+            } => then.found(own, tries, fresh, reply),
+            TurnPoint::Taking(visit, left) => visit.took(left, reply),
+            TurnPoint::Offering(span, then) => then.offered(span, reply),
+            TurnPoint::Advancing(now) => advanced(now, reply),
+            TurnPoint::Changing(setting, change) => change.was_set(setting, reply),
+            TurnPoint::Making(index, setting) => made(index, setting, reply),
+            TurnPoint::Resetting(cached) => was_reset(cached, reply),
+            TurnPoint::Destroying(cached) => ended(cached, reply),
+            TurnPoint::Dooming => doomed(reply),
+            TurnPoint::Publishing(addr) => published(addr, reply),
+            TurnPoint::Owning(addr) => owned(addr, reply),
+        }
+    }
+
+    /// Where the turn leads that found no memory: only the first one of what belongs together may find none.
+    pub(crate) fn starved(self) -> Next
+        ensures { result ≡ starved (is_marked (op_of self)) }
+    {
+        match self {
+            TurnPoint::Landing(..) | TurnPoint::Finding { .. } | TurnPoint::Offering(..) => {
+                Next::Nowhere
+            }
+            _ => Next::Ends(Answered::NoMemory),
+        }
+    }
+}
