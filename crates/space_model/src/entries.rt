@@ -1,6 +1,6 @@
 //! The entries of an arena's journal: operations of clients, and the replies to them.
 
-use crate::{Addresses, Counts, Heard, Rest, Span};
+use crate::{Addresses, Boxed, Counts, Heard, Rest, Span};
 
 /// An operation on an arena. It is plain data, and no hook is called in it.
 #[derive(Debug, PartialEq, Drop)]
@@ -328,5 +328,5 @@ pub enum Reply {
         threads: u64,
     },
     /// The counts.
-    Counted(Counts),
+    Counted(Boxed<Counts>),
 }

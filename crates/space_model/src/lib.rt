@@ -7,6 +7,7 @@
 
 mod addresses;
 mod asks;
+mod boxed;
 mod clients;
 mod counts;
 mod entries;
@@ -20,6 +21,7 @@ mod states;
 
 pub use addresses::Addresses;
 pub use asks::{Answer, Ask, Heard};
+pub use boxed::Boxed;
 pub use clients::Clients;
 pub use counts::Counts;
 pub use entries::{Entry, Op, Reply, Setting, Why};

@@ -286,7 +286,7 @@ fn step(space: &mut Space, client: u32, op: &Op) -> Result<Reply, NoMemory>
         Op::Reset { cached } => reset(space, client, *cached),
         Op::Destroy { cached } => destroy(space, client, *cached),
         Op::DestroyTake => destroy_take(space),
-        Op::Counts => Ok(counts(space)),
+        Op::Counts => counts(space),
         Op::Set(setting) => Ok(set(space, client, *setting)),
         Op::Widen { addr, pages } => widen(space, client, *addr, *pages),
         Op::JoinDone { heard, class } => join_done(space, client, *heard, *class),

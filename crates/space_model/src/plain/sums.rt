@@ -1,6 +1,6 @@
 //! The counts of a space, by scans over its lists.
 
-ghost use Rattle.std.specs.Prelude.{◌≡◌, ◌==◌, ◌+◌, ◌<◌, ◌≤◌, ◌^◌, nat_lt, not, count_by, if◌then◌else◌};
+ghost use Rattle.std.specs.Prelude.{◌≡◌, ◌==◌, ◌+◌, ◌<◌, ◌≤◌, ◌^◌, nat_lt, not, count_by, if◌then◌else◌, IfOk};
 ghost use Rattle.size_classes.specs.Classes.{size_at};
 ghost use Rattle.space_model.specs.Span.{IsPlaced};
 ghost use Rattle.space_model.specs.Counts.{bytes_of, bytes_where, is_of, region_bytes, region_bytes_where, regions_by_class, slabs_by_class, counts_of};
@@ -9,8 +9,9 @@ ghost use Rattle.space_model.specs.Stepped.{if_live, stays};
 ghost use Rattle.space_model.specs.Sound.{Sound};
 
 use super::slabs::is_slab;
-use crate::{Counts, Part, Region, Reply, Rest, Space, State};
+use crate::{Boxed, Counts, Part, Region, Reply, Rest, Space, State};
 use size_classes::{PAGE_BYTES, SMALL_CLASSES, size_of};
+use std::alloc::AllocError as NoMemory;
 
 /// What the bytes of an extent count as.
 #[derive(Clone, Copy)]
@@ -157,16 +158,25 @@ fn slabs_by_class(space: &Space) -> [u64; 36]
     numbers
 }
 
-/// The counts of a live arena.
-pub fn counts(space: &Space) -> Reply
+/// The counts, in a box.
+fn boxed_counts(space: &Space) -> Result<Boxed<Counts>, NoMemory>
     requires { Sound space.now }
-    ensures reply { result ≡ (if_live space.now (stays space.now (Reply.Counted (counts_of space.now)))).reply }
+    ensures { IfOk result (λ boxed. boxed ≡ counts_of space.now) }
+{
+    let counts = plain_counts(space);
+    Boxed::new(*space.parts.items.allocator(), counts)
+}
+
+/// The counts of a live arena.
+pub fn counts(space: &Space) -> Result<Reply, NoMemory>
+    requires { Sound space.now }
+    ensures reply { IfOk result (λ told. told ≡ (if_live space.now (stays space.now (Reply.Counted (counts_of space.now)))).reply) }
     ensures same { (if_live space.now (stays space.now (Reply.Counted (counts_of space.now)))).after ≡ space.now }
 {
     if space.life.is_live() {
-        Reply::Counted(plain_counts(space))
+        Ok(Reply::Counted(boxed_counts(space)?))
     } else {
-        Reply::NoArena
+        Ok(Reply::NoArena)
     }
 }
 
