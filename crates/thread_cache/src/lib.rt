@@ -1,5 +1,16 @@
-//! What a client keeps of the regions that it has.
+//! What a client keeps of the regions that it has: a cache of those that it may hand out again without a turn.
 #![tactic(auto)]
+
+mod caches;
+mod stacks;
+#[cfg(test)]
+mod tests;
+
+pub use caches::Cache;
+pub use stacks::Put;
+
+/// How many size classes a cache has lists for: those below it. Regions of the others are never cached.
+pub const CACHED_CLASSES: u8 = 41;
 
 /// A region that a client has.
 #[derive(Clone, Copy, Debug, PartialEq, Eq)]

@@ -1,0 +1,111 @@
+//! A client's cache: the cached regions of each class.
+
+ghost use Rattle.std.specs.Prelude.{◌≡◌, ℕ, ◌/◌, ◌<◌, ◌≤◌, [], ◌∷◌, ◌++◌, length, replicate, take, slice_get, slice_set, true, IfOk, IfSome, IfNone};
+ghost use Rattle.std.specs.List.{position};
+ghost use Rattle.size_classes.specs.Classes.{slots_at};
+ghost use Rattle.thread_cache.specs.Caches.{Listed, addrs_of, cached_in, dropped, has_at, is_cached, put_in, told_in};
+
+use crate::stacks::{Put, Stack};
+use crate::{CACHED_CLASSES, Held};
+use size_classes::Addrs;
+use std::alloc::{AllocError as NoMemory, Global};
+use std::marker::Model;
+
+/// The regions that a client has freed and may hand out again (`thread_cache` in the manual's words, TCACHE): one list
+/// for each class below 41. Contracts see the lists by class, each in the order in which its regions were put.
+///
+/// Only `new` takes memory, and no call waits.
+#[derive(Drop)]
+pub struct Cache {
+    stacks: Vec<Stack>,
+}
+
+impl Model for Cache {
+    ghost use Rattle.std.specs.Prelude.{List};
+    ghost use Rattle.thread_cache.specs.declared.Held.{Held};
+    ghost use Rattle.thread_cache.specs.Caches.{regions_of, IsByClass};
+
+    ghost Value = { List (List Held) };
+
+    ghost view = { λ c. regions_of c.stacks.items };
+
+    ghost invariant = { λ c. IsByClass c.stacks.items };
+}
+
+/// The least class of which a region at the address is cached.
+fn class_of(stacks: &[Stack], addr: u64) -> Option<usize>
+    ensures { result ≡ position (λ (stack : Listed). has_at addr stack.regions) stacks.now }
+{
+    stacks.iter().position(|stack| stack.has(addr))
+}
+
+impl Cache {
+    /// An empty cache, with room for all its slots.
+    pub fn new(alloc: Global) -> Result<Cache, NoMemory>
+        ensures { IfOk result (λ cache. cache ≡ replicate 41 []) }
+    {
+        let mut stacks = Vec::with_capacity(alloc, CACHED_CLASSES as usize)?;
+        for class in 0..CACHED_CLASSES {
+            stacks.push_reserved(Stack::new(alloc, class)?);
+        }
+        Ok(Cache { stacks })
+    }
+
+    /// Takes the region of the class that was put last. `None` exactly where none is cached.
+    pub fn take_cached(&mut self, class: u8) -> Option<Held>
+        requires { class < 41 }
+        ensures some { IfSome result (λ held. cached_in self.old class ≡ cached_in self.new class ++ held ∷ []) }
+        ensures none { IfNone result (cached_in self.old class ≡ []) }
+        ensures others { self.new ≡ slice_set self.old class (cached_in self.new class) }
+    {
+        self.stacks[class as usize].pop()
+    }
+
+    /// Puts a region last among those of its class. It is `Full` exactly where the slots of the class are used, and the
+    /// cache stays as it is then.
+    pub fn put_cached(&mut self, held: Held) -> Put
+        requires { held.class < 41 }
+        ensures told { result ≡ told_in held.class held (cached_in self.old held.class) }
+        ensures lists { self.new ≡ slice_set self.old held.class (put_in held.class held (cached_in self.old held.class)) }
+    {
+        self.stacks[held.class as usize].push(held)
+    }
+
+    /// Appends the addresses of the half of the class's slots that were put first. There has to be room for them.
+    pub fn older_half(&self, class: u8, out: &mut Addrs)
+        requires class { class < 41 }
+        requires half { slots_at class / 2 ≤ length (cached_in self.now class) }
+        requires room { slots_at class / 2 ≤ out.old.room }
+        ensures { out.new.items ≡ out.old.items ++ take (slots_at class / 2) (addrs_of (cached_in self.now class)) }
+    {
+        self.stacks[class as usize].older_half(out);
+    }
+
+    /// Takes the region at the address, which has to be cached, out of its list.
+    pub fn drop_cached(&mut self, addr: u64)
+        requires { is_cached addr self.old ≡ true }
+        ensures { self.new ≡ dropped addr self.old }
+    {
+        let class = class_of(self.stacks.as_slice(), addr).unwrap();
+        self.stacks[class].drop_at(addr);
+    }
+
+    /// How many regions of the class are cached, at most its slots.
+    pub fn len(&self, class: u8) -> u32
+        requires { class < 41 }
+        ensures len { result ≡ length (cached_in self.now class) }
+        ensures within { result ≤ slots_at class }
+    {
+        self.stacks[class as usize].len()
+    }
+
+    /// The region at a place of the class's list, counted from 0 at the one put first. `None` exactly where the place isn't
+    /// below the list's length.
+    pub fn cached(&self, class: u8, place: u32) -> Option<Held>
+        requires { class < 41 }
+        ensures place { result ≡ slice_get (cached_in self.now class) place }
+        ensures cached { IfSome result (λ held. is_cached held.addr self.now ≡ true) }
+    {
+        self.stacks[class as usize].at(place)
+    }
+}
