@@ -1,0 +1,4 @@
+pub mod Chunks
+pub mod Hooks
+pub mod Shared
+pub mod Telling

@@ -1,0 +1,151 @@
+//! How many pages of each chunk are placed.
+
+ghost use Rattle.std.specs.Prelude.{◌≡◌, ℕ, ◌+◌, ◌*◌, ◌<◌, ◌≤◌, length, slice_index, ◌/◌, ◌↔◌, IsTrue, IfOk, IfSome, IfNone};
+ghost use Rattle.space_model.specs.Span.{end_of, pages_end};
+ghost use Rattle.addr_space.specs.Chunks.{AreFree, IsBlank, IsFit, IsFreeSpan, IsOff, IsOn, IsPlacedSpan, NoFit, overlap, used_at};
+
+use space_model::{CHUNK_PAGES, CHUNKS, Span};
+use std::alloc::{AllocError as NoMemory, Global};
+use std::marker::Model;
+
+/// A number for each chunk: how many of its pages are placed. There is no chunk 0.
+///
+/// No chunk below `low` is free, so a search begins there.
+#[derive(Drop)]
+pub(crate) struct Chunks {
+    placed: Vec<u16>,
+    low: u64,
+}
+
+impl Model for Chunks {
+    ghost use Rattle.std.specs.Prelude.{List, ℕ};
+    ghost use Rattle.addr_space.specs.Chunks.{IsChunks};
+
+    ghost Value = { List ℕ };
+
+    ghost view = { λ c. c.placed.items };
+
+    ghost invariant = { λ c. IsChunks c.placed.items c.low };
+}
+
+/// So many words that are 0.
+fn zeros(alloc: Global, count: usize) -> Result<Vec<u16>, NoMemory>
+    ensures count { IfOk result (λ words. length words.items ≡ count) }
+    ensures zero { IfOk result (λ words. (i : ℕ) → slice_index words.items i ≡ 0) }
+{
+    vec![in alloc; 0; count]
+}
+
+/// How many pages of a chunk a span has that ends at this page.
+fn overlap(first: u64, end: u64, chunk: u64) -> u64
+    requires { chunk ≤ 1048576 }
+    ensures { result ≡ overlap first end chunk }
+{
+    let low = first.max(CHUNK_PAGES * chunk);
+    let high = end.min(CHUNK_PAGES * chunk + CHUNK_PAGES);
+    high.saturating_sub(low)
+}
+
+impl Chunks {
+    /// Nothing is placed.
+    pub(crate) fn new(alloc: Global) -> Result<Chunks, NoMemory>
+        ensures { IfOk result IsBlank }
+    {
+        Ok(Chunks {
+            placed: zeros(alloc, (CHUNKS + 1) as usize)?,
+            low: 1,
+        })
+    }
+
+    /// The first chunk among so many from this one on of which a page is placed.
+    fn first_used(&self, chunk: u64, count: u64) -> Option<u64>
+        requires { chunk + count ≤ 1048576 }
+        ensures some { IfSome result (λ used. (chunk ≤ used) × (used < chunk + count) × (0 < used_at self.now used)) }
+        ensures none { IfNone result (AreFree self.now chunk (chunk + count)) }
+    {
+        for c in chunk..chunk + count {
+            if self.placed[c as usize] != 0 {
+                return Some(c);
+            }
+        }
+        None
+    }
+
+    /// The lowest chunk from which on so many pages can be placed at the alignment, if there is one.
+    pub(crate) fn lowest(&self, pages: u64, align: u64) -> Option<u64>
+        requires { 1 ≤ align }
+        ensures some { IfSome result (λ chunk. IsFit self.now pages align chunk) }
+        ensures lowest { IfSome result (λ chunk. (lower : ℕ) → lower < chunk → NoFit self.now pages align lower) }
+        ensures none { IfNone result ((chunk : ℕ) → NoFit self.now pages align chunk) }
+    {
+        let count = pages.div_ceil(CHUNK_PAGES).max(1);
+        let mut chunk = self.low;
+        while count <= CHUNKS + 1 - chunk {
+            if CHUNK_PAGES * chunk % align != 0 {
+                chunk += 1;
+            } else if let Some(used) = self.first_used(chunk, count) {
+                chunk = used + 1;
+            } else {
+                return Some(chunk);
+            }
+        }
+        None
+    }
+
+    /// Whether a span can be placed: each chunk that has a page of it is one of the space, and none of its pages is placed.
+    pub(crate) fn is_free(&self, span: Span) -> bool
+        requires { end_of span ≤ pages_end }
+        ensures { IsTrue result ↔ IsFreeSpan self.now span }
+    {
+        let end = span.first + span.pages;
+        for chunk in span.first / CHUNK_PAGES..end.div_ceil(CHUNK_PAGES) {
+            let pages = overlap(span.first, end, chunk);
+            if 0 < pages && (chunk == 0 || self.placed[chunk as usize] != 0) {
+                return false;
+            }
+        }
+        true
+    }
+
+    /// Whether each chunk has as many pages placed as the span has of it.
+    pub(crate) fn has(&self, span: Span) -> bool
+        requires { end_of span ≤ pages_end }
+        ensures { IsTrue result ↔ IsPlacedSpan self.now span }
+    {
+        let end = span.first + span.pages;
+        for chunk in span.first / CHUNK_PAGES..end.div_ceil(CHUNK_PAGES) {
+            if u64::from(self.placed[chunk as usize]) < overlap(span.first, end, chunk) {
+                return false;
+            }
+        }
+        true
+    }
+
+    /// Places the pages of a span that can be placed.
+    pub(crate) fn place(&mut self, span: Span)
+        requires inside { end_of span ≤ pages_end }
+        requires free { IsFreeSpan self.old span }
+        ensures { IsOn self.old span self.new }
+    {
+        let end = span.first + span.pages;
+        for chunk in span.first / CHUNK_PAGES..end.div_ceil(CHUNK_PAGES) {
+            self.placed[chunk as usize] += overlap(span.first, end, chunk) as u16;
+        }
+        if 0 < span.pages && span.first / CHUNK_PAGES == self.low {
+            self.low = end.div_ceil(CHUNK_PAGES);
+        }
+    }
+
+    /// Takes the pages of a span off, as far as they are placed.
+    pub(crate) fn take_off(&mut self, span: Span)
+        requires { end_of span ≤ pages_end }
+        ensures { IsOff self.old span self.new }
+    {
+        let end = span.first + span.pages;
+        for chunk in span.first / CHUNK_PAGES..end.div_ceil(CHUNK_PAGES) {
+            let pages = overlap(span.first, end, chunk) as u16;
+            self.placed[chunk as usize] = self.placed[chunk as usize].saturating_sub(pages);
+        }
+        self.low = self.low.min((span.first / CHUNK_PAGES).max(1));
+    }
+}
