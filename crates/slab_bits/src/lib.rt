@@ -1,7 +1,7 @@
 //! Which regions of a slab are free, one bit for each.
 #![tactic(auto)]
 
-ghost use Rattle.std.specs.Prelude.{◌≡◌, ◌<◌, ◌≤◌, false, true, position, slice_index_or, slice_set, count_by, IfSome, IfNone};
+ghost use Rattle.std.specs.Prelude.{◌≡◌, ◌<◌, ◌≤◌, false, true, position, slice_index_or, slice_set, count_by, length, IfSome, IfNone};
 ghost use Rattle.size_classes.specs.Classes.{IsSmall, regions_at};
 ghost use Rattle.slab_bits.specs.Slabs.{AreFreeFrom};
 
@@ -13,7 +13,7 @@ use std::marker::Model;
 mod tests;
 mod words;
 
-use words::{WORDS, clear_bit, fill_between, set_bit};
+use words::{WORDS, clear_bit, fill_between, has_bit, set_bit};
 
 /// The free regions of a slab, by their places in it, counted from 0.
 ///
@@ -41,6 +41,7 @@ impl SlabBits {
         requires class { IsSmall class }
         requires out { out ≤ regions_at class }
         ensures class { result.class ≡ class }
+        ensures places { length result.free ≡ 512 }
         ensures free { AreFreeFrom out result }
     {
         let regions = slab_regions(class) as u32;
@@ -55,9 +56,26 @@ impl SlabBits {
     pub fn new(class: u8) -> SlabBits
         requires class { IsSmall class }
         ensures class { result.class ≡ class }
+        ensures places { length result.free ≡ 512 }
         ensures free { AreFreeFrom 0 result }
     {
         SlabBits::with_out(class, 0)
+    }
+
+    /// The class of the slab.
+    pub fn class(&self) -> u8
+        ensures class { result ≡ self.now.class }
+        ensures small { result < 36 }
+    {
+        self.class
+    }
+
+    /// Whether region `i` is free.
+    pub fn is_free(&self, i: u32) -> bool
+        requires inside { i < regions_at self.now.class }
+        ensures { result ≡ slice_index_or self.now.free i false }
+    {
+        has_bit(&self.free, i)
     }
 
     /// Takes the lowest free region out. `None` exactly where all are out.

@@ -31,6 +31,14 @@ pub fn fill_between(from: u32, to: u32) -> [u64; WORDS]
     words
 }
 
+/// Whether a bit is 1.
+pub fn has_bit(words: &[u64; WORDS], i: u32) -> bool
+    requires { i < 512 }
+    ensures { result ≡ slice_index_or (bits_of words.now) i false }
+{
+    words[i as usize / 64] >> (i % 64) & 1 == 1
+}
+
 /// Makes a bit 0.
 pub fn clear_bit(words: &mut [u64; WORDS], i: u32)
     requires { i < 512 }

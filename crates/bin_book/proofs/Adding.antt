@@ -1,0 +1,279 @@
+-- A slab comes.
+use Rattle.std.proofs.Common.{◌≡◌, ◌≢◌, ℕ, ◌+◌, ◌-◌, ◌^◌, ◌<◌, ◌≤◌, Bool, false, eqb, ltb, List, [], ◌∷◌, ◌++◌, length, length-set, map, filter, get_or, set, count_by, ◌⊎◌, inl, inr, refl, sym, ap, ◌∙◌, subst, arith, Contains, Ordering, Less, Equal, Greater, is_lt, is_gt, vec_len, vec_capacity}
+use mathlib.Core.Logic.{dite}
+use native.Mathlib.Decide.{ℕ_discrete}
+use Rattle.std.specs.List.{list_any, range_with_len}
+use Rattle.std.proofs.lemmas.Bool.{cases_lt, eq-eqb, eqb-true, false_from_ne_true}
+use Rattle.std.proofs.lemmas.Bool.Decides.{nat_tests}
+use Rattle.std.proofs.lemmas.List.{get_or-set_other, get_or-set_same, length-map, map-append}
+use Rattle.std.proofs.lemmas.List.Elements.{Contains-append_left, Contains-push}
+use Rattle.std.proofs.lemmas.List.FromFn.{length-range_with_len}
+use Rattle.std.proofs.lemmas.List.Sums.{count_by-le-length, sum_by-append, sum_by-cons}
+use Rattle.size_classes.specs.Classes.{pages_at, regions_at}
+use Rattle.size_classes.proofs.Table.{pages_bounds}
+use Rattle.slab_bits.specs.Slabs.{AreFreeFrom, Slab as Bits}
+use Rattle.ordered_set.specs.declared.key.Key.{Key}
+use Rattle.ordered_set.specs.Keys.{IsAscending, is_above, is_below, is_from, key_cmp, with_key, without_key}
+use Rattle.ordered_set.proofs.Calls.{length_with}
+use Rattle.ordered_set.proofs.KeyOrder.{key_tie, key_total}
+use Rattle.ordered_set.proofs.Members.{filter_from, with_from, with_keeps, with_self}
+use Rattle.ordered_set.proofs.Orders.{less_from_parts, less_parts}
+use Rattle.ordered_set.proofs.Sorted.{absent, others_is, parts, present}
+use Rattle.bin_book.specs.declared.table.Table.{Table}
+use Rattle.bin_book.specs.Bins.{meets_slab, place, slab_with_out, with_slab}
+use Rattle.bin_book.specs.Tables.{AreCounts, AreFree, IsBinned, IsKept, IsSlabIn, IsTable, bin_key, bin_of, bits_at, left_of, ones, slab_at, slab_of, slabs_in}
+use Rattle.bin_book.proofs.Lists.{any_false, bit, count_map, count_same, count_some, filter_map_is, filter_same, map_has, map_same}
+use Rattle.bin_book.proofs.Places.{length_ones, run_ones}
+use Rattle.bin_book.proofs.Kept.{bits_here, bits_there, same_slab}
+use Rattle.bin_book.proofs.Open.{small_numbers}
+
+-- ---- a new slab
+
+pub new_ones : (bits : Bits) (out : ℕ) → out ≤ regions_at bits.class → AreFreeFrom out bits → ones (regions_at bits.class) bits.free ≡ range_with_len out (regions_at bits.class - out)
+new_ones bits out most run = run_ones bits.free 0 (regions_at bits.class) out (omega arith) (omega arith) (λ i low lt. run i ∙ grind (arith, nat_tests)) (λ i ge lt. run i ∙ grind (arith, nat_tests)) ∙ ap (range_with_len out) (omega arith)
+
+pub new_slab : (bits : Bits) (first out : ℕ) → out ≤ regions_at bits.class → AreFreeFrom out bits → slab_of bits first ≡ slab_with_out bits.class first out
+new_slab bits first out most run = λ k. record { class = bits.class; first = first; free = map (place bits.class first) (new_ones bits out most run k) }
+
+pub new_in : (bits : Bits) (first out : ℕ) → bits.class < 36 → 0 < out → out ≤ regions_at bits.class → length bits.free ≡ 512 → AreFreeFrom out bits → first + pages_at bits.class ≤ 2 ^ 32 → IsSlabIn bits first
+new_in bits first out small some most long run inside =
+    let behind : (i : ℕ) → regions_at bits.class ≤ i → get_or bits.free i false ≡ false = (λ i far. run i ∙ grind (arith, nat_tests)) in
+    record {
+      small = small;
+      long = long;
+      behind = behind;
+      some_out = (let left = sym (length_ones bits.free (regions_at bits.class) behind) ∙ ap length (new_ones bits out most run) ∙ length-range_with_len out (regions_at bits.class - out) in omega arith);
+      inside = inside;
+    }
+
+-- ---- counts over keys
+
+pub count_with : (p : Key → Bool) (ks : List Key) (key : Key) → IsAscending ks → (Contains ks key → ⊥) → count_by p (with_key ks key) ≡ count_by p ks + bit (p key)
+count_with p ks key s none =
+    let f = λ (k : Key). bit (p k) in
+    let whole = ap (count_by p) (parts key_cmp key_total key ks s) ∙ sum_by-append f (filter (is_below key) ks) (filter (is_from key) ks) in
+    let same = ap (count_by p) (absent key_cmp key_total key key_tie ks none) in
+    let n = sum_by-append f (filter (is_below key) ks) (key ∷ filter (is_above key) ks) in
+    let one = sum_by-cons f key (filter (is_above key) ks) in
+    omega arith
+
+pub count_without : (p : Key → Bool) (ks : List Key) (key : Key) → IsAscending ks → Contains ks key → count_by p (without_key ks key) + bit (p key) ≡ count_by p ks
+count_without p ks key s m =
+    let f = λ (k : Key). bit (p k) in
+    let whole = ap (count_by p) (parts key_cmp key_total key ks s) ∙ sum_by-append f (filter (is_below key) ks) (filter (is_from key) ks) in
+    let same = ap (count_by p) (present key_cmp key_total key key_tie ks s m) in
+    let n = ap (count_by p) (others_is key_cmp key_total key ks s) ∙ sum_by-append f (filter (is_below key) ks) (filter (is_above key) ks) in
+    let one = sum_by-cons f key (filter (is_above key) ks) in
+    omega arith
+
+-- a key by the first pages, where these differ
+below_first : (key k : Key) → k.major ≢ key.major → is_below key k ≡ ltb k.major key.major
+below_first key k ne = by (key_cmp k key) refl
+  where
+    by : (r : Ordering) → key_cmp k key ≡ r → is_lt (key_cmp k key) ≡ ltb k.major key.major
+    by Less e = ap is_lt e ∙ elim (less_parts k key e) [ inl l ↦ grind (arith, nat_tests) | inr p ↦ absurd (ne p.0) ]
+    by Equal e = absurd (ne (ap (λ (z : Key). z.major) (key_tie k key e)))
+    by Greater e = ap is_lt e ∙ elim (cases_lt k.major key.major) [
+      | inl l ↦ absurd (let less : key_cmp k key ≡ Less = less_from_parts k key (inl l) in let no : Less ≡ Greater = sym less ∙ e in cc)
+      | inr g ↦ grind (arith, nat_tests)
+    ]
+
+above_first : (key k : Key) → k.major ≢ key.major → is_above key k ≡ ltb key.major k.major
+above_first key k ne = by (key_cmp k key) refl
+  where
+    by : (r : Ordering) → key_cmp k key ≡ r → is_gt (key_cmp k key) ≡ ltb key.major k.major
+    by Less e = ap is_gt e ∙ elim (less_parts k key e) [ inl l ↦ grind (arith, nat_tests) | inr p ↦ absurd (ne p.0) ]
+    by Equal e = absurd (ne (ap (λ (z : Key). z.major) (key_tie k key e)))
+    by Greater e = ap is_gt e ∙ elim (cases_lt key.major k.major) [
+      | inl l ↦ grind (arith, nat_tests)
+      | inr g ↦ absurd (let l : key_cmp k key ≡ Less = less_from_parts k key (inl (omega arith)) in let no : Less ≡ Greater = sym l ∙ e in cc)
+    ]
+
+-- ---- a table with one more slab
+
+module _ (t : Table) (i : IsTable t) (class first number : ℕ) (bits : Bits) (is : bits.class ≡ class) (new : IsSlabIn bits first) (rest : List ℕ) (free : t.free.items ≡ rest ++ number ∷ []) (apart : list_any (meets_slab class first) (slabs_in t) ≡ false) where
+  abbrev slab : Key
+  slab = record { major = first; minor = number }
+
+  abbrev keys : List Key
+  keys = with_key t.firsts.keys slab
+
+  abbrev slots : List Bits
+  slots = set t.slots.items number bits
+
+  pub was_free : Contains t.free.items number
+  was_free = subst (λ ns. Contains ns number) (sym free) (Contains-push rest number)
+
+  pub in_items : number < length t.slots.items
+  in_items = let l = i.free.in_slots number was_free in let same = t.slots.ok.0 in omega arith
+
+  pub low_number : number < 2 ^ 32
+  low_number = let l = i.free.in_slots number was_free in let small = i.small in omega arith
+
+  pub other_number : (k : Key) → Contains t.firsts.keys k → k.minor ≢ number
+  other_number k m = i.free.unused number k was_free m
+
+  pub new_key : Contains t.firsts.keys slab → ⊥
+  new_key m = other_number slab m refl
+
+  pub new_bin : (full : Bool) → Contains t.bins.keys (bin_key class full slab) → ⊥
+  new_bin full m =
+      let p = i.binned.from _ m in
+      let e : p.0 ≡ slab = same_slab _ _ _ _ p.0 slab (small_numbers t i p.0 p.1) low_number p.2 in
+      other_number p.0 p.1 (ap (λ (z : Key). z.minor) e)
+
+  -- no page is in another slab
+  meets_not : (k : Key) → Contains t.firsts.keys k → meets_slab class first (slab_at t.slots.items k) ≡ false
+  unfolding slabs_in
+  meets_not k m = any_false (meets_slab class first) (map (slab_at t.slots.items) t.firsts.keys) (slab_at t.slots.items k) apart (map_has (slab_at t.slots.items) t.firsts.keys k m)
+
+  beside : (k : Key) → Contains t.firsts.keys k → (first + pages_at class ≤ k.major) ⊎ (k.major + pages_at (bits_at t.slots.items k.minor).class ≤ first)
+  beside k m =
+      let not_met = meets_not k m in
+      elim (cases_lt k.major (first + pages_at class)) [
+        | inl l ↦ elim (cases_lt first (k.major + pages_at (bits_at t.slots.items k.minor).class)) [
+          | inl h ↦ absurd (grind (arith, nat_tests))
+          | inr h ↦ inr h
+        ]
+        | inr g ↦ inl g
+      ]
+
+  some_pages : 1 ≤ pages_at class
+  some_pages = (pages_bounds class (let s = new.small in omega arith)).0
+
+  pages_of : (k : Key) → Contains t.firsts.keys k → 1 ≤ pages_at (bits_at t.slots.items k.minor).class
+  pages_of k m = (pages_bounds _ (let s = (i.kept.slab k m).small in omega arith)).0
+
+  other_first : (k : Key) → Contains t.firsts.keys k → k.major ≢ first
+  other_first k m e = let one = some_pages in let two = pages_of k m in elim (beside k m) [ inl l ↦ omega arith | inr l ↦ omega arith ]
+
+  -- what is known of the new bits and of the old ones
+  by_new : (P : Key → Bits → Type 0) → P slab bits → ((k : Key) → Contains t.firsts.keys k → P k (bits_at t.slots.items k.minor)) → (k : Key) → Contains keys k → P k (bits_at slots k.minor)
+  by_new P here others k m = elim (with_from t.firsts.keys slab k m) [
+    | inl e ↦ subst (λ z. P z (bits_at slots z.minor)) (sym e) (subst (P slab) (sym (bits_here t.slots.items number number bits in_items refl)) here)
+    | inr d ↦ subst (P k) (sym (bits_there t.slots.items number k.minor bits (other_number k d))) (others k d)
+  ]
+
+  kept_added : IsKept slots keys
+  kept_added = record {
+    slab = by_new (λ k b. IsSlabIn b k.major) new (λ k m. i.kept.slab k m);
+    apart = λ k l m n. by_new (λ k b. k.major ≤ l.major → (k ≡ l) ⊎ (k.major + pages_at b.class ≤ l.major))
+        (λ le. elim (with_from t.firsts.keys slab l n) [
+          | inl e ↦ inl (sym e)
+          | inr d ↦ inr (subst (λ c. first + pages_at c ≤ l.major) (sym is) (elim (beside l d) [ inl far ↦ far | inr h ↦ absurd (let one = pages_of l d in omega arith) ]))
+        ])
+        (λ k d le. elim (with_from t.firsts.keys slab l n) [
+          | inl e ↦
+              let at : l.major ≡ first = ap (λ (z : Key). z.major) e in
+              inr (elim (beside k d) [ inl h ↦ absurd (let one = some_pages in omega arith) | inr far ↦ omega arith ])
+          | inr o ↦ i.kept.apart k l d o le
+        ]) k m;
+    numbers = λ k l m n e. elim (with_from t.firsts.keys slab k m) [
+      | inl a ↦ elim (with_from t.firsts.keys slab l n) [ inl b ↦ a ∙ sym b | inr d ↦ absurd (other_number l d (sym e ∙ ap (λ (z : Key). z.minor) a)) ]
+      | inr d ↦ elim (with_from t.firsts.keys slab l n) [ inl b ↦ absurd (other_number k d (e ∙ ap (λ (z : Key). z.minor) b)) | inr o ↦ i.kept.numbers k l d o e ]
+    ];
+  }
+
+  binned_added : (bins : List Key) → bins ≡ with_key t.bins.keys (bin_key bits.class (eqb (left_of bits) 0) slab) → IsBinned slots keys bins
+  binned_added bins e =
+      let mine = bin_key bits.class (eqb (left_of bits) 0) slab in
+      record {
+        has = by_new (λ k b. Contains bins (bin_key b.class (eqb (left_of b) 0) k)) (subst (λ ks. Contains ks mine) (sym e) (with_self t.bins.keys mine)) (λ k m. subst (λ ks. Contains ks (bin_of t.slots.items k)) (sym e) (with_keeps t.bins.keys mine (bin_of t.slots.items k) (i.binned.has k m)));
+        from = λ b m. elim (with_from t.bins.keys mine b (subst (λ ks. Contains ks b) e m)) [
+          | inl a ↦ (slab, with_self t.firsts.keys slab, ap (λ (x : Bits). bin_key x.class (eqb (left_of x) 0) slab) (bits_here t.slots.items number number bits in_items refl) ∙ sym a)
+          | inr d ↦ let p = i.binned.from b d in (p.0, with_keeps t.firsts.keys slab p.0 p.1, ap (λ (x : Bits). bin_key x.class (eqb (left_of x) 0) p.0) (bits_there t.slots.items number p.0.minor bits (other_number p.0 p.1)) ∙ p.2)
+        ];
+      }
+
+  count_rest : (n : ℕ) → count_by (λ m. eqb m n) rest + bit (eqb number n) ≤ 1
+  count_rest n =
+      let whole = ap (count_by (λ m. eqb m n)) free ∙ sum_by-append (λ m. bit (eqb m n)) rest (number ∷ []) in
+      let one = sum_by-cons (λ m. bit (eqb m n)) number [] in
+      let once = i.free.once n in
+      omega arith
+
+  free_added : AreFree rest keys (vec_len t.slots)
+  free_added = record {
+    in_slots = λ n m. i.free.in_slots n (subst (λ ns. Contains ns n) (sym free) (Contains-append_left rest (number ∷ []) n m));
+    unused = λ n k m o. elim (with_from t.firsts.keys slab k o) [
+      | inl e ↦ (λ f.
+          let some = count_some (λ x. eqb x n) rest n m (eq-eqb n n refl) in
+          let mine : bit (eqb number n) ≡ 1 = ap bit (eq-eqb number n (sym (ap (λ (z : Key). z.minor) e) ∙ f)) in
+          let most = count_rest n in
+          omega arith)
+      | inr d ↦ i.free.unused n k (subst (λ ns. Contains ns n) (sym free) (Contains-append_left rest (number ∷ []) n m)) d
+    ];
+    once = λ n. let most = count_rest n in omega arith;
+  }
+
+  class_count : (c : ℕ) → count_by (λ s. eqb s.class c) (map (slab_at slots) keys) ≡ count_by (λ s. eqb s.class c) (map (slab_at t.slots.items) t.firsts.keys) + bit (eqb class c)
+  class_count c =
+      let p = λ (k : Key). eqb (bits_at slots k.minor).class c in
+      let all = count_map (slab_at slots) (λ s. eqb s.class c) keys ∙ count_with p t.firsts.keys slab i.ascending new_key in
+      let old = count_same p (λ k. eqb (bits_at t.slots.items k.minor).class c) t.firsts.keys (λ k m. ap (λ (b : Bits). eqb b.class c) (bits_there t.slots.items number k.minor bits (other_number k m))) ∙ sym (count_map (slab_at t.slots.items) (λ s. eqb s.class c) t.firsts.keys) in
+      let here : bit (p slab) ≡ bit (eqb class c) = ap (λ (b : Bits). bit (eqb b.class c)) (bits_here t.slots.items number number bits in_items refl) ∙ ap (λ d. bit (eqb d c)) is in
+      omega arith
+
+  counts_added : (small : class < 36) → AreCounts (set t.counts class (get_or t.counts class 0 + 1)) (map (slab_at slots) keys)
+  unfolding slabs_in
+  counts_added small c low =
+      let was = i.counts c low in
+      let all = class_count c in
+      let long = i.classes in
+      dite (ℕ_discrete c class)
+      (λ e. let here : get_or (set t.counts class (get_or t.counts class 0 + 1)) c 0 ≡ get_or t.counts c 0 + 1 = ap (λ n. get_or (set t.counts class (get_or t.counts class 0 + 1)) n 0) e ∙ get_or-set_same t.counts class (get_or t.counts class 0 + 1) 0 (omega arith) ∙ ap (λ n. get_or t.counts n 0 + 1) (sym e) in
+      let one : bit (eqb class c) ≡ 1 = ap bit (eq-eqb class c (sym e)) in
+      omega arith)
+      (λ ne. let there = get_or-set_other t.counts class c (get_or t.counts class 0 + 1) 0 ne in
+      let none : bit (eqb class c) ≡ 0 = ap bit (false_from_ne_true _ (λ f. ne (sym (eqb-true _ _ f)))) in
+      omega arith)
+
+  pub table_added : (small : class < 36) → (u : Table) → u.firsts.keys ≡ keys → u.firsts.spare + 1 ≡ t.firsts.spare → IsAscending u.firsts.keys → u.slots.items ≡ slots → vec_len u.slots ≡ vec_len t.slots → u.free.items ≡ rest → vec_len u.free + 1 ≡ vec_len t.free → vec_capacity u.free ≡ vec_capacity t.free
+      → u.counts ≡ set t.counts class (get_or t.counts class 0 + 1) → u.bins.keys ≡ with_key t.bins.keys (bin_key bits.class (eqb (left_of bits) 0) slab) → u.bins.spare + 1 ≡ t.bins.spare → IsTable u
+  unfolding slabs_in
+  table_added small u firsts spare ascending items len free_items free_len cap counts bins bins_spare =
+      let more = ap length firsts ∙ length_with t.firsts.keys slab i.ascending new_key in
+      let places = i.places in
+      let few = i.small in
+      let room = i.room in
+      let firsts_room = i.firsts_room in
+      let bins_room = i.bins_room in
+      record {
+        ascending = ascending;
+        kept = rw (items, firsts) kept_added;
+        binned = rw (items, firsts) (binned_added u.bins.keys bins);
+        in_slots = λ k m. elim (with_from t.firsts.keys slab k (subst (λ ks. Contains ks k) firsts m)) [
+          | inl e ↦ let at : k.minor ≡ number = ap (λ (z : Key). z.minor) e in let low = i.free.in_slots number was_free in omega arith
+          | inr d ↦ let low = i.in_slots k d in omega arith
+        ];
+        free = rw (free_items, firsts, len) free_added;
+        classes = ap length counts ∙ length-set t.counts class (get_or t.counts class 0 + 1) ∙ i.classes;
+        counts = rw (counts, items, firsts) (counts_added small);
+        places = omega arith;
+        small = omega arith;
+        room = omega arith;
+        firsts_room = omega arith;
+        bins_room = omega arith;
+      }
+
+  pub slabs_added : (u : Table) → u.firsts.keys ≡ keys → u.slots.items ≡ slots → slabs_in u ≡ with_slab (slabs_in t) (slab_of bits first)
+  unfolding slabs_in
+  slabs_added u firsts items =
+      let old = slab_at t.slots.items in
+      let lower = filter_map_is old (λ s. ltb s.first first) t.firsts.keys ∙ ap (map old) (filter_same (λ k. ltb k.major first) (is_below slab) t.firsts.keys (λ k m. sym (below_first slab k (other_first k m)))) in
+      let upper = filter_map_is old (λ s. ltb first s.first) t.firsts.keys ∙ ap (map old) (filter_same (λ k. ltb first k.major) (is_above slab) t.firsts.keys (λ k m. sym (above_first slab k (other_first k m)))) in
+      let same = λ (p : Key → Bool). map_same (slab_at slots) old (filter p t.firsts.keys) (λ k m. ap (λ (b : Bits). slab_of b k.major) (bits_there t.slots.items number k.minor bits (other_number k (filter_from p t.firsts.keys k m).0))) in
+      let here = ap (λ (b : Bits). slab_of b first) (bits_here t.slots.items number number bits in_items refl) in
+      rw (items, firsts) (map-append (slab_at slots) (filter (is_below slab) t.firsts.keys) (slab ∷ filter (is_above slab) t.firsts.keys)
+      ∙ (λ x. (same (is_below slab) ∙ sym lower) x ++ here x ∷ (same (is_above slab) ∙ sym upper) x))
+
+-- how many slabs there are
+pub few_slabs : (t : Table) → IsTable t → (class : ℕ) → class < 36 → get_or t.counts class 0 < 2 ^ 32
+unfolding slabs_in
+few_slabs t i class small =
+    let most = count_by-le-length (λ s. eqb s.class class) (map (slab_at t.slots.items) t.firsts.keys) in
+    let len = length-map t.firsts.keys (slab_at t.slots.items) in
+    let is = i.counts class small in
+    let places = i.places in
+    let few = i.small in
+    omega arith

@@ -1,0 +1,7 @@
+use Rattle.std.proofs.Common.{ap}
+use Rattle.bin_book.specs.Bins.{Bins, free_of}
+use Rattle.bin_book.proofs.Open.{free_told}
+use Rattle.bin_book.proofs.BinBook.has_free.Goals as goal
+
+pub returns : goal.returns
+returns c = free_told c.self.inside.table c.self.invariant c.args.class c.open_slab.result c.is_some.result _ (ap (λ (b : Bins). free_of c.args.class b.slabs) c.self.view_is) c.is_some.ensures c.open_slab.ensures.none c.open_slab.ensures.some

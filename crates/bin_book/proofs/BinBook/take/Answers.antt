@@ -1,0 +1,39 @@
+use Rattle.std.proofs.Common.{[], ◌∷◌, ◌++◌, append-nil, append_assoc, map, take, sym, ap, ◌∙◌, arith}
+use Rattle.bin_book.specs.Bins.{Bins, free_of, without}
+use Rattle.bin_book.specs.Tables.{slabs_in}
+use Rattle.bin_book.proofs.Rounds.{more_left, rest_next, take_next, without_more, without_none}
+use Rattle.bin_book.proofs.BinBook.take.Goals as goal
+
+pub loop-turn-init : goal.loop-turn-init
+loop-turn-init c =
+    let slabs = ap (λ (b : Bins). b.slabs) c.self.view_is in
+    record {
+      table = c.self.invariant;
+      few = omega arith;
+      rest = ap (free_of c.args.class) slabs;
+      items = sym (append-nil c.args.out.now.items);
+      room = omega arith;
+      slabs = slabs ∙ without_none c.args.self.now.slabs;
+      spare = ap (λ (b : Bins). b.spare) c.self.view_is;
+    }
+
+pub loop-turn-preserved : goal.loop-turn-preserved
+loop-turn-preserved c =
+    let i = c.loop-turn.invariant in
+    let all = free_of c.args.class c.args.self.now.slabs in
+    let turn = c.loop-turn._turn in
+    let rest = free_of c.args.class (slabs_in c.loop-turn.self-inside.table) in
+    let next = free_of c.args.class (slabs_in c.take_one.new.self) in
+    let lowest = c.in-Some.ensures.lowest in
+    let one = take_next all next turn c.in-Some.addr i.few (ap (λ xs. take turn all ++ xs) (sym lowest) ∙ i.rest) in
+    let room = i.room in
+    let pushed = c.push.ensures.room in
+    record {
+      table = c.take_one.ensures.table;
+      few = more_left all rest next turn c.in-Some.addr i.few i.rest lowest;
+      rest = rest_next all rest next turn c.in-Some.addr i.few i.rest lowest;
+      items = c.push.ensures.items ∙ ap (λ xs. xs ++ c.in-Some.addr ∷ []) i.items ∙ append_assoc c.args.out.now.items (take turn all) (c.in-Some.addr ∷ []) ∙ ap (λ xs. c.args.out.now.items ++ xs) (sym one);
+      room = omega arith;
+      slabs = c.in-Some.ensures.slabs ∙ ap (map (without (c.in-Some.addr ∷ []))) i.slabs ∙ sym (without_more (take turn all) c.in-Some.addr c.args.self.now.slabs) ∙ ap (λ xs. map (without xs) c.args.self.now.slabs) (sym one);
+      spare = c.take_one.ensures.free ∙ i.spare;
+    }

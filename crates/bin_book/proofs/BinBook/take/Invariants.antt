@@ -1,0 +1,15 @@
+use Rattle.std.proofs.Common.{◌≡◌, ◌+◌, ◌≤◌, ◌++◌, length, map, take, vec_len}
+use Rattle.bin_book.specs.Bins.{free_of, without}
+use Rattle.bin_book.specs.Tables.{IsTable, slabs_in}
+use Rattle.bin_book.proofs.BinBook.take.Given as goal
+
+abbrev pub invariant-loop-turn : goal.invariant-loop-turn
+invariant-loop-turn l = record {
+  table : IsTable l.self-inside.table;
+  few : l._turn ≤ length (free_of l.class l.fn.self.slabs);
+  rest : take l._turn (free_of l.class l.fn.self.slabs) ++ free_of l.class (slabs_in l.self-inside.table) ≡ free_of l.class l.fn.self.slabs;
+  items : l.out.items ≡ l.fn.out.items ++ take l._turn (free_of l.class l.fn.self.slabs);
+  room : l.out.room + l._turn ≡ l.fn.out.room;
+  slabs : slabs_in l.self-inside.table ≡ map (without (take l._turn (free_of l.class l.fn.self.slabs))) l.fn.self.slabs;
+  spare : vec_len l.self-inside.table.free ≡ l.fn.self.spare;
+}

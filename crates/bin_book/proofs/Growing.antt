@@ -1,0 +1,153 @@
+-- More slots.
+use Rattle.std.proofs.Common.{append-nil, append_assoc, ◌≡◌, ℕ, ◌+◌, ◌-◌, ◌^◌, ◌<◌, ◌≤◌, zero, suc, eqb, List, [], ◌∷◌, ◌++◌, length, map, get_or, count_by, inl, inr, sym, ap, ◌∙◌, subst, arith, Contains, vec_len, vec_capacity}
+use Rattle.std.specs.List.{range_with_len}
+use Rattle.std.specs.List.Sorted.{IsStrictlySortedBy}
+use Rattle.std.proofs.lemmas.Bool.{cases_Bool, cases_lt, eqb-true}
+use Rattle.std.proofs.lemmas.List.{get_or_append_left}
+use Rattle.std.proofs.lemmas.List.Elements.{Contains-append_cases}
+use Rattle.std.proofs.lemmas.List.Sums.{sum_by-append, sum_by-cons}
+use Rattle.ordered_set.specs.declared.key.Key.{Key}
+use Rattle.ordered_set.specs.Keys.{IsAscending}
+use Rattle.slab_bits.specs.Slabs.{Slab as Bits}
+use Rattle.bin_book.specs.declared.table.Table.{Table}
+use Rattle.bin_book.specs.Bins.{Slab}
+use Rattle.bin_book.specs.Tables.{AreFree, IsBinned, IsKept, IsSlabIn, IsTable, bin_key, bits_at, left_of, no_bits, slab_at, slab_of, slabs_in}
+use Rattle.bin_book.proofs.Lists.{bit, map_same, range_from}
+use Rattle.bin_book.proofs.Removing.{count_zero}
+
+-- one more number of a range
+pub range_more : (a n : ℕ) → range_with_len a (suc n) ≡ range_with_len a n ++ (a + n) ∷ []
+range_more a zero = let same : a ≡ a + 0 = omega arith in ap (λ x. x ∷ []) same
+range_more a (suc n) = let same : a + 1 + n ≡ a + suc n = omega arith in λ k. a ∷ (range_more (a + 1) n ∙ ap (λ x. range_with_len (a + 1) n ++ x ∷ []) same) k
+
+pub numbers_more : (old free new : List ℕ) (a number m : ℕ) → a ≤ number → m ≡ number → free ≡ old ++ range_with_len a (number - a) → new ≡ free ++ m ∷ [] → new ≡ old ++ range_with_len a (number + 1 - a)
+numbers_more old free new a number m le is e f =
+    let len : number + 1 - a ≡ suc (number - a) = omega arith in
+    let last : m ≡ a + (number - a) = omega arith in
+    f ∙ ap (λ xs. xs ++ m ∷ []) e ∙ append_assoc old (range_with_len a (number - a)) (m ∷ []) ∙ ap (λ xs. old ++ xs) (ap (λ x. range_with_len a (number - a) ++ x ∷ []) last ∙ sym (range_more a (number - a)) ∙ ap (range_with_len a) (sym len))
+
+pub bits_more : (old slots new : List Bits) (b : Bits) (n len : ℕ) → n < len → len ≤ length slots → new ≡ slots ++ b ∷ [] → bits_at slots n ≡ bits_at old n → bits_at new n ≡ bits_at old n
+bits_more old slots new b n len l few e same = ap (λ xs. bits_at xs n) e ∙ get_or_append_left slots (b ∷ []) no_bits n (omega arith) ∙ same
+
+-- a range has each number once
+count_low : (a n m : ℕ) → m < a → count_by (λ x. eqb x m) (range_with_len a n) ≡ 0
+count_low a n m l = count_zero (range_with_len a n) m (λ k. let r = range_from a n m k in let low = r.0 in omega arith)
+
+count_range : (a n m : ℕ) → count_by (λ x. eqb x m) (range_with_len a n) ≤ 1
+count_range a zero m = omega arith
+count_range a (suc n) m =
+    let one = sum_by-cons (λ x. bit (eqb x m)) a (range_with_len (a + 1) n) in
+    elim (cases_Bool (eqb a m)) [
+      | inl e ↦ let is = eqb-true a m e in let none = count_low (a + 1) n m (omega arith) in let here : bit (eqb a m) ≡ 1 = ap bit e in omega arith
+      | inr f ↦ let here : bit (eqb a m) ≡ 0 = ap bit f in let rest = count_range (a + 1) n m in omega arith
+    ]
+
+-- a table with more slots, and more room
+module _ (t u : Table) (i : IsTable t) (firsts : u.firsts.keys ≡ t.firsts.keys) (bins : u.bins.keys ≡ t.bins.keys) (counts : u.counts ≡ t.counts) (agree : (n : ℕ) → n < vec_len t.slots → bits_at u.slots.items n ≡ bits_at t.slots.items n) where
+  same_bits : (k : Key) → Contains t.firsts.keys k → bits_at u.slots.items k.minor ≡ bits_at t.slots.items k.minor
+  same_bits k m = agree k.minor (i.in_slots k m)
+
+  kept_grown : IsKept u.slots.items t.firsts.keys
+  kept_grown = record {
+    slab = λ k m. subst (λ (b : Bits). IsSlabIn b k.major) (sym (same_bits k m)) (i.kept.slab k m);
+    apart = λ k l m n le. let same = same_bits k m in rw same (i.kept.apart k l m n le);
+    numbers = i.kept.numbers;
+  }
+
+  binned_grown : IsBinned u.slots.items t.firsts.keys t.bins.keys
+  binned_grown = record {
+    has = λ k m. subst (λ (b : Bits). Contains t.bins.keys (bin_key b.class (eqb (left_of b) 0) k)) (sym (same_bits k m)) (i.binned.has k m);
+    from = λ b m. let p = i.binned.from b m in (p.0, p.1, ap (λ (x : Bits). bin_key x.class (eqb (left_of x) 0) p.0) (same_bits p.0 p.1) ∙ p.2);
+  }
+
+  pub slabs_grown : slabs_in u ≡ slabs_in t
+  unfolding slabs_in
+  slabs_grown = rw firsts (map_same (slab_at u.slots.items) (slab_at t.slots.items) t.firsts.keys (λ k m. ap (λ (b : Bits). slab_of b k.major) (same_bits k m)))
+
+  free_grown : (le : vec_len t.slots ≤ vec_len u.slots) → AreFree (t.free.items ++ range_with_len (vec_len t.slots) (vec_len u.slots - vec_len t.slots)) t.firsts.keys (vec_len u.slots)
+  free_grown le = record {
+    in_slots = λ n m. elim (Contains-append_cases t.free.items _ n m) [
+      | inl d ↦ let low = i.free.in_slots n d in omega arith
+      | inr d ↦ let r = range_from (vec_len t.slots) (vec_len u.slots - vec_len t.slots) n d in let low = r.1 in omega arith
+    ];
+    unused = λ n k m o. elim (Contains-append_cases t.free.items _ n m) [
+      | inl d ↦ i.free.unused n k d o
+      | inr d ↦ let r = range_from (vec_len t.slots) (vec_len u.slots - vec_len t.slots) n d in let low = r.0 in let mine = i.in_slots k o in (λ e. omega arith)
+    ];
+    once = λ n.
+        let whole = sum_by-append (λ m. bit (eqb m n)) t.free.items (range_with_len (vec_len t.slots) (vec_len u.slots - vec_len t.slots)) in
+        let few = i.free.once n in
+        elim (cases_lt n (vec_len t.slots)) [
+          | inl l ↦ let none = count_low (vec_len t.slots) (vec_len u.slots - vec_len t.slots) n l in omega arith
+          | inr g ↦ let none = count_zero t.free.items n (λ m. let low = i.free.in_slots n m in omega arith) in let one = count_range (vec_len t.slots) (vec_len u.slots - vec_len t.slots) n in omega arith
+        ];
+  }
+
+  pub table_grown : vec_len t.slots ≤ vec_len u.slots → u.free.items ≡ t.free.items ++ range_with_len (vec_len t.slots) (vec_len u.slots - vec_len t.slots) → vec_len u.free + vec_len t.slots ≡ vec_len t.free + vec_len u.slots
+      → vec_len u.slots < 2 ^ 32 → vec_len u.slots ≤ vec_capacity u.free → vec_len u.free ≤ u.firsts.spare → vec_len u.free ≤ u.bins.spare → IsTable u
+  table_grown le free places small room firsts_room bins_room =
+      let len = ap length firsts in
+      let was = i.places in
+      record {
+        ascending = rw firsts i.ascending;
+        kept = rw firsts kept_grown;
+        binned = rw (firsts, bins) binned_grown;
+        in_slots = λ k m. let low = i.in_slots k (subst (λ ks. Contains ks k) firsts m) in omega arith;
+        free = rw (free, firsts) (free_grown le);
+        classes = ap length counts ∙ i.classes;
+        counts = λ class small. ap (λ ns. get_or ns class 0) counts ∙ i.counts class small ∙ sym (ap (count_by (λ (s : Slab). eqb s.class class)) slabs_grown);
+        places = omega arith;
+        small = small;
+        room = room;
+        firsts_room = firsts_room;
+        bins_room = bins_room;
+      }
+
+-- a table whose sets have more room, and that is as it was otherwise
+pub table_roomy : (t u : Table) → IsTable t → u.firsts.keys ≡ t.firsts.keys → t.firsts.spare ≤ u.firsts.spare → u.bins.keys ≡ t.bins.keys → t.bins.spare ≤ u.bins.spare → u.slots ≡ t.slots → u.free ≡ t.free → u.counts ≡ t.counts → IsTable u × (slabs_in u ≡ slabs_in t)
+table_roomy t u i firsts more bins wider slots free counts =
+    let items = ap (λ v. v.items) slots in
+    let len = ap (λ v. vec_len v) slots in
+    let free_items = ap (λ v. v.items) free in
+    let free_len = ap (λ v. vec_len v) free in
+    let cap = ap (λ v. vec_capacity v) free in
+    let agree = (λ (n : ℕ) (l : n < vec_len t.slots). ap (λ xs. bits_at xs n) items) in
+    let small = i.small in
+    let room = i.room in
+    let firsts_room = i.firsts_room in
+    let bins_room = i.bins_room in
+    let none : vec_len u.slots - vec_len t.slots ≡ 0 = omega arith in (
+      table_grown t u i firsts bins counts agree (omega arith) (free_items ∙ sym (append-nil t.free.items) ∙ ap (λ n. t.free.items ++ range_with_len (vec_len t.slots) n) (sym none)) (omega arith) (omega arith) (omega arith) (omega arith) (omega arith),
+      slabs_grown t u i firsts bins counts agree,
+    )
+
+-- ---- a table without slabs
+
+pub empty_slabs : (t : Table) → t.firsts.keys ≡ [] → slabs_in t ≡ []
+unfolding slabs_in
+empty_slabs t e = ap (map (slab_at t.slots.items)) e
+
+none_ascending : IsAscending []
+unfolding IsStrictlySortedBy
+none_ascending = tt
+
+pub empty_table : (t : Table) → t.firsts.keys ≡ [] → t.bins.keys ≡ [] → vec_len t.slots ≡ 0 → t.free.items ≡ [] → vec_len t.free ≡ 0 → length t.counts ≡ 36 → ((class : ℕ) → class < 36 → get_or t.counts class 0 ≡ 0) → IsTable t
+empty_table t firsts bins slots free free_len classes zeros =
+    let none = λ (k : Key) (m : Contains t.firsts.keys k). no_member firsts m in
+    record {
+      ascending = rw firsts none_ascending;
+      kept = record { slab = λ k m. absurd (none k m); apart = λ k l m. absurd (none k m); numbers = λ k l m. absurd (none k m) };
+      binned = record { has = λ k m. absurd (none k m); from = λ b m. absurd (no_member bins m) };
+      in_slots = λ k m. absurd (none k m);
+      free = record { in_slots = λ n m. absurd (no_member free m); unused = λ n k m. absurd (no_member free m); once = λ n. rw free (omega arith) };
+      classes = classes;
+      counts = λ class small. zeros class small ∙ sym (ap (count_by (λ (s : Slab). eqb s.class class)) (empty_slabs t firsts));
+      places = let len = ap length firsts in omega arith;
+      small = omega arith;
+      room = omega arith;
+      firsts_room = omega arith;
+      bins_room = omega arith;
+    }
+  where
+    no_member : {X : Type 0} {xs : List X} {x : X} → xs ≡ [] → Contains xs x → ⊥
+    no_member {X} {xs} {x} e m = let n : Contains {X = X} [] x = subst (λ ys. Contains ys x) e m in omega arith

@@ -1,0 +1,197 @@
+-- The slab that has an address, and those that share pages with a span.
+use Rattle.std.proofs.Common.{◌≡◌, ℕ, ◌+◌, ◌-◌, ◌*◌, ◌/◌, ◌%◌, ◌<◌, ◌≤◌, Bool, true, false, not, ◌&&◌, eqb, ltb, List, length, map, filter, get_or, Some, None, ◌⊎◌, inl, inr, refl, sym, ap, ◌∙◌, subst, arith, Contains, is_lt}
+use Rattle.std.specs.List.{list_any, range_with_len}
+use Rattle.std.proofs.lemmas.Nat.{div-add-mod'}
+use Rattle.std.proofs.Math.Nat.{mul-div_cancel, mul-mod_left}
+use Rattle.std.proofs.lemmas.Bool.{cases_Bool, cases_lt, eq-eqb, eqb-true, false_from_ne_true}
+use Rattle.std.proofs.lemmas.Bool.Decides.{nat_tests}
+use Rattle.std.proofs.lemmas.List.Kept.{IsStrictlySortedBy-filter}
+use Rattle.std.proofs.lemmas.Option.{get_or_from_slice_get, slice_get-get_or, slice_get_within}
+use Rattle.size_classes.specs.Classes.{pages_at, regions_at, size_at}
+use Rattle.size_classes.proofs.Table.{pages_bounds, size_bounds}
+use Rattle.ordered_set.specs.declared.key.Key.{Key}
+use Rattle.ordered_set.specs.Keys.{IsAscending, is_below, key_cmp, last_of}
+use Rattle.ordered_set.proofs.Members.{filter_from, filter_has}
+use Rattle.ordered_set.proofs.Orders.{last_greatest, less_from_parts, less_parts, start}
+use Rattle.ordered_set.proofs.Sorted.{every_member, less_from_lt}
+use Rattle.bin_book.specs.declared.table.Table.{Table}
+use Rattle.bin_book.specs.Bins.{Slab, is_among, is_out, place, places}
+use Rattle.bin_book.specs.Tables.{HasOut, IsOutAt, IsTable, bits_at, ones, slab_at, slabs_in}
+use Rattle.bin_book.proofs.Lists.{any_from, any_has, any_map, any_none, map_from, map_has, range_from, range_has}
+use Rattle.bin_book.proofs.Places.{among_ones, place_inside}
+
+-- the key of the last slab that begins below a page
+pub record IsLastBelow (keys : List Key) (page : ℕ) (key : Key) : Type 0 where
+  pub there : Contains keys key
+  pub below : key.major < page
+  pub last : (k : Key) → Contains keys k → k.major < page → k.major ≤ key.major
+
+below_page : (k : Key) (page : ℕ) → k.major < page → is_below (start page) k ≡ true
+below_page k page l = ap is_lt (less_from_parts k (start page) (inl l))
+
+page_below : (k : Key) (page : ℕ) → is_below (start page) k ≡ true → k.major < page
+page_below k page t = elim (less_parts k (start page) (less_from_lt _ t)) [ inl l ↦ l | inr p ↦ absurd (let l = p.1 in omega arith) ]
+
+pub last_below : (keys : List Key) (page : ℕ) (key : Key) → IsAscending keys → last_of (filter (is_below (start page)) keys) ≡ Some key → IsLastBelow keys page key
+last_below keys page key ascending e =
+    let ks = filter (is_below (start page)) keys in
+    let m = filter_from (is_below (start page)) keys key (length ks - 1, slice_get_within ks (length ks - 1) key e, get_or_from_slice_get ks (length ks - 1) key key e) in
+    record {
+      there = m.0;
+      below = page_below key page m.1;
+      last = λ k n l. every_member (λ k. k.major ≤ key.major) ks (last_greatest ks key (IsStrictlySortedBy-filter key_cmp (is_below (start page)) keys ascending) (sym e)) k (filter_has (is_below (start page)) keys k n (below_page k page l));
+    }
+
+pub none_below : (keys : List Key) (page : ℕ) → last_of (filter (is_below (start page)) keys) ≡ None → (k : Key) → Contains keys k → page ≤ k.major
+none_below keys page e k m = elim (cases_lt k.major page) [
+  | inl l ↦ absurd (no_last (filter (is_below (start page)) keys) k e (filter_has (is_below (start page)) keys k m (below_page k page l)))
+  | inr g ↦ g
+]
+  where
+    no_last : (ks : List Key) (k : Key) → last_of ks ≡ None → Contains ks k → ⊥
+    no_last ks k e (i, l, is) =
+        let some = slice_get-get_or ks (length ks - 1) k (omega arith) in
+        let no : None ≡ Some (get_or ks (length ks - 1) k) = sym e ∙ some in cc
+
+module _ (t : Table) (i : IsTable t) where
+  pages_of : (k : Key) → Contains t.firsts.keys k → 1 ≤ pages_at (bits_at t.slots.items k.minor).class
+  pages_of k m = (pages_bounds _ (let s = (i.kept.slab k m).small in omega arith)).0
+
+  -- a slab that begins below the last one that begins below a page ends where that one begins, or before
+  pub before_last : (page : ℕ) (key : Key) → IsLastBelow t.firsts.keys page key → (k : Key) → Contains t.firsts.keys k → (k ≡ key) ⊎ ((k.major + pages_at (bits_at t.slots.items k.minor).class ≤ key.major) ⊎ (page ≤ k.major))
+  before_last page key last k m = elim (cases_lt k.major page) [
+    | inl l ↦ elim (i.kept.apart k key m last.there (last.last k m l)) [ inl e ↦ inl e | inr far ↦ inr (inl far) ]
+    | inr g ↦ inr (inr g)
+  ]
+
+  -- ---- sharing pages
+
+  pub meets_last : (first end : ℕ) → first < end → (key : Key) → IsLastBelow t.firsts.keys end key
+      → ltb first (key.major + pages_at (bits_at t.slots.items key.minor).class) ≡ list_any (λ s. ltb s.first end && ltb first (s.first + pages_at s.class)) (slabs_in t)
+  unfolding slabs_in
+  meets_last first end some key last =
+      let p = λ (s : Slab). ltb s.first end && ltb first (s.first + pages_at s.class) in
+      let below : ltb key.major end ≡ true = (let l = last.below in grind (arith, nat_tests)) in
+      sym (elim (cases_Bool (ltb first (key.major + pages_at (bits_at t.slots.items key.minor).class))) [
+        | inl y ↦ any_has p (map (slab_at t.slots.items) t.firsts.keys) (slab_at t.slots.items key) (map_has (slab_at t.slots.items) t.firsts.keys key last.there) (rw (below, y) refl) ∙ sym y
+        | inr n ↦ any_map (slab_at t.slots.items) p t.firsts.keys ∙ any_none (λ k. p (slab_at t.slots.items k)) t.firsts.keys (λ k m. elim (before_last end key last k m) [
+          | inl e ↦ ap (λ (z : Key). p (slab_at t.slots.items z)) e ∙ rw (below, n) refl
+          | inr o ↦ elim o [
+            | inl far ↦ let pages = pages_of key last.there in grind (arith, nat_tests)
+            | inr far ↦ grind (arith, nat_tests)
+          ]
+        ]) ∙ sym n
+      ])
+
+  pub meets_none : (first end : ℕ) → ((k : Key) → Contains t.firsts.keys k → end ≤ k.major) → false ≡ list_any (λ s. ltb s.first end && ltb first (s.first + pages_at s.class)) (slabs_in t)
+  unfolding slabs_in
+  meets_none first end none =
+      let p = λ (s : Slab). ltb s.first end && ltb first (s.first + pages_at s.class) in
+      sym (any_map (slab_at t.slots.items) p t.firsts.keys ∙ any_none (λ k. p (slab_at t.slots.items k)) t.firsts.keys (λ k m. let far = none k m in grind (arith, nat_tests)))
+
+  -- ---- having an address
+
+  -- where a region of a slab is out
+  pub out_here : (class addr : ℕ) (key : Key) (n : ℕ) → IsOutAt t class addr key n → is_out class addr (slab_at t.slots.items key) ≡ true
+  out_here class addr key n o =
+      let b = bits_at t.slots.items key.minor in
+      let small = (i.kept.slab key o.there).small in
+      let here : b.class ≡ class = o.out.of_class in
+      let low : n < regions_at b.class = subst (λ c. n < regions_at c) (sym here) o.out.inside in
+      let at : place b.class key.major n ≡ addr = ap (λ c. place c key.major n) here ∙ o.at in
+      let one : eqb b.class class ≡ true = eq-eqb _ _ here in
+      let two : is_among (places b.class key.major) addr ≡ true = any_has (λ a. eqb a addr) (places b.class key.major) (place b.class key.major n) (map_has (place b.class key.major) (range_with_len 0 (regions_at b.class)) n (range_has 0 (regions_at b.class) n (omega arith) (omega arith))) (eq-eqb _ _ at) in
+      let three : is_among (map (place b.class key.major) (ones (regions_at b.class) b.free)) addr ≡ false = ap (is_among (map (place b.class key.major) (ones (regions_at b.class) b.free))) (sym at) ∙ among_ones b.class key.major (regions_at b.class) n b.free small low ∙ o.out.out in
+      rw (one, two, three) refl
+
+  pub out_somewhere : (class addr : ℕ) (key : Key) (n : ℕ) → IsOutAt t class addr key n → true ≡ list_any (is_out class addr) (slabs_in t)
+  unfolding slabs_in
+  out_somewhere class addr key n o = sym (any_has (is_out class addr) (map (slab_at t.slots.items) t.firsts.keys) (slab_at t.slots.items key) (map_has (slab_at t.slots.items) t.firsts.keys key o.there) (out_here class addr key n o))
+
+  -- and where it is, a slab shows it
+  pub out_from : (class addr : ℕ) (key : Key) → Contains t.firsts.keys key → is_out class addr (slab_at t.slots.items key) ≡ true → (n : ℕ) × IsOutAt t class addr key n
+  out_from class addr key m e =
+      let b = bits_at t.slots.items key.minor in
+      let small = (i.kept.slab key m).small in
+      let parts = and_parts _ _ e in
+      let more = and_parts _ _ parts.1 in
+      let of_class = eqb-true b.class class parts.0 in
+      let a = any_from (λ a. eqb a addr) (places b.class key.major) more.0 in
+      let p = map_from (place b.class key.major) (range_with_len 0 (regions_at b.class)) a.0 a.1 in
+      let r = range_from 0 (regions_at b.class) p.0 p.1 in
+      let low : p.0 < regions_at b.class = (let l = r.1 in omega arith) in
+      let at : place b.class key.major p.0 ≡ addr = p.2 ∙ eqb-true _ _ a.2 in
+      let free = ap (is_among (map (place b.class key.major) (ones (regions_at b.class) b.free))) (sym at) ∙ among_ones b.class key.major (regions_at b.class) p.0 b.free small low in (
+        p.0,
+        record {
+          there = m;
+          at = ap (λ c. place c key.major p.0) (sym of_class) ∙ at;
+          out = record {
+            of_class = of_class;
+            inside = subst (λ c. p.0 < regions_at c) of_class low;
+            out = sym free ∙ false_from_not _ more.1;
+          };
+        },
+      )
+    where
+      and_parts : (a b : Bool) → (a && b) ≡ true → (a ≡ true) × (b ≡ true)
+      and_parts true b e = (refl, e)
+      and_parts false b e = absurd (cc)
+
+      false_from_not : (a : Bool) → not a ≡ true → a ≡ false
+      false_from_not true e = absurd (cc)
+      false_from_not false e = refl
+
+  -- the slab of an address is the last one that begins at its page or below
+  pub only_holder : (class addr : ℕ) (key : Key) → IsLastBelow t.firsts.keys (addr / 4096 + 1) key → (k : Key) (n : ℕ) → IsOutAt t class addr k n → k ≡ key
+  only_holder class addr key last k n o =
+      let b = bits_at t.slots.items k.minor in
+      let small = (i.kept.slab k o.there).small in
+      let here : b.class ≡ class = o.out.of_class in
+      let low : n < regions_at b.class = subst (λ c. n < regions_at c) (sym here) o.out.inside in
+      let at : place b.class k.major n ≡ addr = ap (λ c. place c k.major n) here ∙ o.at in
+      let inside = place_inside b.class k.major n small low in
+      let size = (size_bounds b.class (omega arith)).0 in
+      let below = last.below in
+      elim (before_last (addr / 4096 + 1) key last k o.there) [
+        | inl e ↦ e
+        | inr far ↦ absurd (elim far [ inl f ↦ omega arith | inr f ↦ omega arith ])
+      ]
+
+  -- where it has none out there, none is
+  pub none_out : (class addr : ℕ) → ((k : Key) (n : ℕ) → IsOutAt t class addr k n → ⊥) → false ≡ list_any (is_out class addr) (slabs_in t)
+  unfolding slabs_in
+  none_out class addr none = sym (any_map (slab_at t.slots.items) (is_out class addr) t.firsts.keys ∙ any_none (λ k. is_out class addr (slab_at t.slots.items k)) t.firsts.keys (λ k m.
+      false_from_ne_true _ (λ e. let o = out_from class addr k m e in none k o.0 o.1)))
+
+-- ---- the region at an address
+
+module _ (t : Table) (i : IsTable t) (class addr : ℕ) (small : class < 36) (key : Key) (last : IsLastBelow t.firsts.keys (addr / 4096 + 1) key) where
+  abbrev offset : ℕ
+  offset = addr - 4096 * key.major
+
+  pub from_first : 4096 * key.major ≤ addr
+  from_first = let below = last.below in omega arith
+
+  some_size : 0 < size_at class
+  some_size = let size = (size_bounds class (omega arith)).0 in omega arith
+
+  pub out_at : offset % size_at class ≡ 0 → HasOut (bits_at t.slots.items key.minor) class (offset / size_at class) → IsOutAt t class addr key (offset / size_at class)
+  out_at whole out = record {
+    there = last.there;
+    at = (let parts = div-add-mod' offset (size_at class) in let first = from_first in omega arith);
+    out = out;
+  }
+
+  pub out_not : (offset % size_at class ≡ 0 → HasOut (bits_at t.slots.items key.minor) class (offset / size_at class) → ⊥) → false ≡ list_any (is_out class addr) (slabs_in t)
+  out_not none = none_out t i class addr (λ k n o.
+      let same = only_holder t i class addr key last k n o in
+      let p = subst (λ z. IsOutAt t class addr z n) same o in
+      let at = p.at in
+      let is : offset ≡ n * size_at class = omega arith in
+      let place : offset / size_at class ≡ n = ap (λ x. x / size_at class) is ∙ mul-div_cancel n some_size in
+      none (ap (λ x. x % size_at class) is ∙ mul-mod_left n (size_at class)) (subst (HasOut (bits_at t.slots.items key.minor) class) (sym place) p.out))
+
+-- where no slab begins at the page of an address or below, no region stands there
+pub pages_far : (t : Table) → IsTable t → (class addr : ℕ) → ((k : Key) → Contains t.firsts.keys k → addr / 4096 + 1 ≤ k.major) → (k : Key) (n : ℕ) → IsOutAt t class addr k n → ⊥
+pages_far t i class addr far k n o = let at = o.at in let above = far k o.there in omega arith

@@ -1,0 +1,11 @@
+pub mod Lists
+pub mod Places
+pub mod Kept
+pub mod Open
+pub mod Taking
+pub mod Adding
+pub mod Removing
+pub mod Holding
+pub mod Growing
+pub mod Emptying
+pub mod Rounds

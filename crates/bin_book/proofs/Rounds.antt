@@ -1,0 +1,51 @@
+-- Region after region is taken.
+use Rattle.std.proofs.Common.{◌≡◌, ℕ, ◌+◌, ◌≤◌, Bool, true, false, not, ◌&&◌, ◌||◌, eqb, List, [], ◌∷◌, ◌++◌, length, length-append, map, take, append_assoc, append-nil, refl, sym, ap, ◌∙◌, arith}
+use Rattle.std.proofs.lemmas.List.{length_push, length-take-le, take_all, take_at}
+use Rattle.std.proofs.lemmas.List.Folds.{list_any-append}
+use Rattle.bin_book.specs.Bins.{Slab, is_among, without}
+use Rattle.bin_book.proofs.Lists.{filter_all_of, filter_both, filter_same, map_both}
+
+-- one more of a list whose rest begins with it
+pub take_next : (xs rest : List ℕ) (i a : ℕ) → i ≤ length xs → take i xs ++ a ∷ rest ≡ xs → take (i + 1) xs ≡ take i xs ++ a ∷ []
+take_next xs rest i a le e =
+    let len = length_push (take i xs) a ∙ ap (λ n. n + 1) (length-take-le i xs le) in
+    ap (take (i + 1)) (sym e ∙ sym (append_assoc (take i xs) (a ∷ []) rest)) ∙ take_at (take i xs ++ a ∷ []) rest (i + 1) len
+
+pub rest_next : (xs rest next : List ℕ) (i a : ℕ) → i ≤ length xs → take i xs ++ rest ≡ xs → rest ≡ a ∷ next → take (i + 1) xs ++ next ≡ xs
+rest_next xs rest next i a le e f =
+    let whole = ap (λ ys. take i xs ++ ys) (sym f) ∙ e in
+    ap (λ ys. ys ++ next) (take_next xs next i a le whole) ∙ append_assoc (take i xs) (a ∷ []) next ∙ whole
+
+pub more_left : (xs rest next : List ℕ) (i a : ℕ) → i ≤ length xs → take i xs ++ rest ≡ xs → rest ≡ a ∷ next → i + 1 ≤ length xs
+more_left xs rest next i a le e f =
+    let whole = ap length e in
+    let parts = length-append (take i xs) rest in
+    let len = length-take-le i xs le in
+    let some = ap length f in
+    omega arith
+
+-- where there is no rest, all are taken
+pub taken_all : (xs : List ℕ) (i n : ℕ) → i ≤ length xs → i ≤ n → take i xs ++ [] ≡ xs → take i xs ≡ take n xs
+taken_all xs i n le more e =
+    let all = sym (append-nil (take i xs)) ∙ e in
+    let len = sym (length-take-le i xs le) ∙ ap length all in
+    all ∙ sym (take_all n xs (omega arith))
+
+-- slabs without no address, and without one more
+pub without_none : (slabs : List Slab) → slabs ≡ map (without []) slabs
+without_none [] = refl
+without_none (s ∷ slabs) = λ k. record { class = s.class; first = s.first; free = sym (filter_all_of (λ a. not (is_among [] a)) s.free (λ a m. refl)) k } ∷ without_none slabs k
+
+among_more : (addrs : List ℕ) (a b : ℕ) → not (is_among (addrs ++ a ∷ []) b) ≡ (not (is_among addrs b) && not (is_among (a ∷ []) b))
+among_more addrs a b = ap not (list_any-append (λ x. eqb x b) addrs (a ∷ [])) ∙ not_or (is_among addrs b) (is_among (a ∷ []) b)
+  where
+    not_or : (x y : Bool) → not (x || y) ≡ (not x && not y)
+    not_or true y = refl
+    not_or false y = refl
+
+pub without_more : (addrs : List ℕ) (a : ℕ) (slabs : List Slab) → map (without (addrs ++ a ∷ [])) slabs ≡ map (without (a ∷ [])) (map (without addrs) slabs)
+without_more addrs a slabs = map_both (without addrs) (without (a ∷ [])) (without (addrs ++ a ∷ [])) slabs (λ s m k. record {
+  class = s.class;
+  first = s.first;
+  free = (filter_same (λ b. not (is_among (addrs ++ a ∷ []) b)) (λ b. not (is_among addrs b) && not (is_among (a ∷ []) b)) s.free (λ b n. among_more addrs a b) ∙ sym (filter_both (λ b. not (is_among addrs b)) (λ b. not (is_among (a ∷ []) b)) s.free)) k;
+})

@@ -1,0 +1,56 @@
+use Rattle.std.proofs.Common.{length, vec_len, ◌≡◌, ◌<◌, ◌≤◌, ◌+◌, ◌^◌, ◌∷◌, ◌++◌, [], eqb, set, Contains, option_to_list, Some, refl, sym, ap, ◌∙◌, subst, arith}
+use Rattle.size_classes.specs.Classes.{pages_at, regions_at}
+use Rattle.ordered_set.specs.Keys.{with_key}
+use Rattle.bin_book.specs.Bins.{slab_with_out, with_slab}
+use Rattle.bin_book.specs.Tables.{IsSlabIn, bin_key, slabs_in}
+use Rattle.bin_book.proofs.Adding.{few_slabs, in_items, new_bin, new_in, new_key, new_slab, slabs_added, table_added}
+use Rattle.bin_book.proofs.table.Table.add.Goals as goal
+
+pub overflow_add-self : goal.overflow_add-self
+overflow_add-self c = let few = few_slabs c.args.self.now c.requires.table c.args.class c.requires.class in record { fits = omega arith }
+
+-- the number was the last one of the free ones
+free : (c : goal.After-insert-arg-1) → c.args.self.now.free.items ≡ c.pop.new.self.items ++ c.from.result ∷ []
+free c = c.pop.ensures.items ∙ ap (λ o. c.pop.new.self.items ++ option_to_list o) (c.unwrap-number.ensures ∙ ap (λ n. Some n) (sym c.from.ensures))
+
+new : (c : goal.After-insert-arg-1) → IsSlabIn c.with_out-bits.result c.args.first
+new c =
+    let e = c.with_out-bits.ensures.class in
+    new_in c.with_out-bits.result c.args.first c.args.count (subst (λ n. n < 36) (sym e) c.requires.class) c.requires.some (subst (λ n. c.args.count ≤ regions_at n) (sym e) c.requires.most) c.with_out-bits.ensures.places c.with_out-bits.ensures.free (subst (λ n. c.args.first + pages_at n ≤ 2 ^ 32) (sym e) c.requires.inside)
+
+pub insert-requires-clause-absent : goal.insert-requires-clause-absent
+insert-requires-clause-absent c = new_key c.args.self.now c.requires.table c.args.class c.args.first c.from.result c.with_out-bits.result c.with_out-bits.ensures.class (new c) c.pop.new.self.items (free c) c.requires.apart
+
+pub insert-requires-2-clause-absent : goal.insert-requires-2-clause-absent
+insert-requires-2-clause-absent c m =
+    let b = c.before.before.before.before.before in
+    new_bin c.args.self.now c.requires.table c.args.class c.args.first c.from.result c.with_out-bits.result c.with_out-bits.ensures.class (new b) c.pop.new.self.items (free b) c.requires.apart _ (subst (Contains c.args.self.now.bins.keys) c.bin_key.ensures m)
+
+pub index_mut-requires : goal.index_mut-requires
+index_mut-requires c =
+    let b = c.before.before.before.before.before.before.before in
+    let low = in_items c.args.self.now c.requires.table c.args.class c.args.first c.from.result c.with_out-bits.result c.with_out-bits.ensures.class (new b) c.pop.new.self.items (free b) c.requires.apart in
+    let same = c.args.self.now.slots.ok.0 in
+    let is = c.from.ensures in
+    omega arith
+
+pub returns-clause-table : goal.returns-clause-table
+returns-clause-table c =
+    let b = c.before.before.before.before.before.before.before.before.before.before.before in
+    let t = c.args.self.now in
+    let bits = c.with_out-bits.result in
+    let class = c.with_out-bits.ensures.class in
+    let len = subst (λ o. vec_len c.pop.new.self + length (option_to_list o) ≡ vec_len t.free) c.unwrap-number.ensures c.pop.ensures.len in
+    let key = c.insert-2.ensures.keys ∙ ap (with_key t.bins.keys) (c.bin_key.ensures ∙ (λ k. bin_key (sym class k) (eqb (c.free_count.ensures k) 0) (record { major = c.args.first; minor = c.from.result }))) in
+    table_added t c.requires.table c.args.class c.args.first c.from.result bits class (new b) c.pop.new.self.items (free b) c.requires.apart c.requires.class _ c.insert.ensures.keys c.insert.ensures.spare c.insert.ensures.ascending
+    (ap (λ n. set t.slots.items n bits) (sym c.from.ensures)) refl refl (omega arith) c.pop.ensures.capacity refl key c.insert-2.ensures.spare
+
+pub returns-clause-slabs : goal.returns-clause-slabs
+returns-clause-slabs c =
+    let b = c.before.before.before.before.before.before.before.before.before.before.before in
+    let t = c.args.self.now in
+    let bits = c.with_out-bits.result in
+    let class = c.with_out-bits.ensures.class in
+    let is = new_slab bits c.args.first c.args.count (subst (λ n. c.args.count ≤ regions_at n) (sym class) c.requires.most) c.with_out-bits.ensures.free ∙ ap (λ n. slab_with_out n c.args.first c.args.count) class in
+    slabs_added t c.requires.table c.args.class c.args.first c.from.result bits class (new b) c.pop.new.self.items (free b) c.requires.apart _ c.insert.ensures.keys (ap (λ n. set t.slots.items n bits) (sym c.from.ensures))
+    ∙ ap (with_slab (slabs_in t)) is

@@ -1,0 +1,95 @@
+use Rattle.std.proofs.Common.{◌≡◌, ◌<◌, ◌+◌, ◌*◌, eqb, false, set, position, Some, sym, ap, ◌∙◌, subst, arith, refl, Contains, IsSome}
+use Rattle.std.proofs.lemmas.Bool.Decides.{nat_tests}
+use Rattle.size_classes.specs.Classes.{regions_at, size_at}
+use Rattle.slab_bits.specs.Slabs.{Slab as Bits}
+use Rattle.ordered_set.specs.declared.key.Key.{Key}
+use Rattle.bin_book.specs.Bins.{place}
+use Rattle.bin_book.specs.Tables.{IsMoved, bin_key, bin_of, bits_at, left_of}
+use Rattle.bin_book.proofs.Kept.{bin_absent}
+use Rattle.bin_book.proofs.Open.{read_bits, small_numbers}
+use Rattle.bin_book.proofs.Places.{place_inside}
+use Rattle.bin_book.proofs.Taking.{in_items, some_position, table_changed, taken_bits, taken_in, taken_lowest, taken_slabs, with_bit}
+use Rattle.bin_book.proofs.table.Table.take_one.Goals as goal
+
+pub unwrap-region-requires : goal.unwrap-region-requires
+unwrap-region-requires c =
+    let t = c.args.self.now in
+    let o = c.in_ok-slab.ensures.some in
+    let is = read_bits t c.requires.table c.in_ok-slab.slab o.there _ c.index_mut-bits.ensures.value in
+    subst IsSome (sym c.take_lowest.ensures.lowest) (some_position _ (subst (λ (b : Bits). 0 < left_of b) (sym is) o.some_free))
+
+-- what was read and what is written
+bits : (c : goal.After-bin_key) → let b = bits_at c.args.self.now.slots.items c.in_ok-slab.slab.minor in (position (λ b. b) b.free ≡ Some c.unwrap-region.result) × (c.unwrap-region.result < regions_at b.class) × (c.take_lowest.new.self ≡ with_bit b c.unwrap-region.result false)
+bits c =
+    let t = c.args.self.now in
+    let o = c.in_ok-slab.ensures.some in
+    let is = read_bits t c.requires.table c.in_ok-slab.slab o.there _ c.index_mut-bits.ensures.value in
+    taken_bits (bits_at t.slots.items c.in_ok-slab.slab.minor) c.index_mut-bits.result.now c.take_lowest.new.self c.take_lowest.result c.unwrap-region.result is c.unwrap-region.ensures c.take_lowest.ensures.lowest c.take_lowest.ensures.inside c.take_lowest.ensures.taken
+
+-- the key that the slab had
+was : (c : goal.After-bin_key) → c.bin_key-was.result ≡ bin_of c.args.self.now.slots.items c.in_ok-slab.slab
+was c =
+    let o = c.in_ok-slab.ensures.some in
+    let some = o.some_free in
+    let none : false ≡ eqb (left_of (bits_at c.args.self.now.slots.items c.in_ok-slab.slab.minor)) 0 = grind (arith, nat_tests) in
+    c.bin_key-was.ensures ∙ (λ k. bin_key (sym o.of_class k) (none k) c.in_ok-slab.slab)
+
+-- and the one that it has
+now : (c : goal.After-bin_key) → c.bin_key.result ≡ bin_key (bits_at c.args.self.now.slots.items c.in_ok-slab.slab.minor).class (eqb (left_of (with_bit (bits_at c.args.self.now.slots.items c.in_ok-slab.slab.minor) c.unwrap-region.result false)) 0) c.in_ok-slab.slab
+now c =
+    let o = c.in_ok-slab.ensures.some in
+    let left = c.free_count-is_full.ensures ∙ ap left_of (bits c).2 in
+    c.bin_key.ensures ∙ (λ k. bin_key (sym o.of_class k) (eqb (left k) 0) c.in_ok-slab.slab)
+
+pub move_key-requires-clause-there : goal.move_key-requires-clause-there
+move_key-requires-clause-there c =
+    let o = c.in_ok-slab.ensures.some in
+    subst (Contains c.args.self.now.bins.keys) (sym (was c)) (c.requires.table.binned.has c.in_ok-slab.slab o.there)
+
+pub move_key-requires-clause-absent : goal.move_key-requires-clause-absent
+move_key-requires-clause-absent c ne m =
+    let t = c.args.self.now in
+    let o = c.in_ok-slab.ensures.some in
+    let b = with_bit (bits_at t.slots.items c.in_ok-slab.slab.minor) c.unwrap-region.result false in
+    bin_absent t.slots.items t.firsts.keys c.requires.table.kept c.in_ok-slab.slab o.there (in_items t c.requires.table c.in_ok-slab.slab o.there b refl) b refl (small_numbers t c.requires.table) t.bins.keys c.requires.table.binned _ (λ e. ne (now c ∙ e ∙ sym (was c)))
+    (subst (Contains t.bins.keys) (now c) m)
+
+-- the address that is told is that of the region
+addr : (c : goal.After-size_of) → 4096 * c.in_ok-slab.slab.major + c.from.result * c.size_of.result ≡ place (bits_at c.args.self.now.slots.items c.in_ok-slab.slab.minor).class c.in_ok-slab.slab.major c.unwrap-region.result
+addr c =
+    let o = c.in_ok-slab.ensures.some in
+    let size = c.size_of.ensures.size ∙ ap size_at (sym o.of_class) in
+    λ k. 4096 * c.in_ok-slab.slab.major + c.from.ensures k * size k
+
+pub overflow_add-result : goal.overflow_add-result
+overflow_add-result c =
+    let t = c.args.self.now in
+    let o = c.in_ok-slab.ensures.some in
+    let is = c.requires.table.kept.slab c.in_ok-slab.slab o.there in
+    let low = place_inside (bits_at t.slots.items c.in_ok-slab.slab.minor).class c.in_ok-slab.slab.major c.unwrap-region.result is.small (bits c.before.before.before.before).1 in
+    let inside = is.inside in
+    let at = addr c in
+    record { fits = omega arith }
+
+pub returns-clause-table : goal.returns-clause-table
+returns-clause-table c =
+    let t = c.args.self.now in
+    let o = c.in_ok-slab.ensures.some in
+    let b = bits c.before.before.before.before in
+    let moved = subst (λ (k : Key). IsMoved t.bins.keys c.move_key.new.bins.keys k c.bin_key.result) (was c.before.before.before.before) c.move_key.ensures.keys in
+    table_changed t c.requires.table c.in_ok-slab.slab o.there (with_bit (bits_at t.slots.items c.in_ok-slab.slab.minor) c.unwrap-region.result false) refl (taken_in t c.requires.table c.args.class c.in_ok-slab.slab o c.unwrap-region.result b.0 b.1)
+    _ refl (ap (set t.slots.items c.in_ok-slab.slab.minor) b.2) refl refl refl (subst (IsMoved t.bins.keys c.move_key.new.bins.keys (bin_of t.slots.items c.in_ok-slab.slab)) (now c.before.before.before.before) moved) c.move_key.ensures.spare
+
+pub returns-clause-lowest : goal.returns-clause-lowest
+returns-clause-lowest c =
+    let t = c.args.self.now in
+    let o = c.in_ok-slab.ensures.some in
+    let b = bits c.before.before.before.before in
+    rw (addr c) (taken_lowest t c.requires.table c.args.class c.in_ok-slab.slab o c.unwrap-region.result b.0 b.1 _ refl (ap (set t.slots.items c.in_ok-slab.slab.minor) b.2))
+
+pub returns-clause-slabs : goal.returns-clause-slabs
+returns-clause-slabs c =
+    let t = c.args.self.now in
+    let o = c.in_ok-slab.ensures.some in
+    let b = bits c.before.before.before.before in
+    rw (addr c) (taken_slabs t c.requires.table c.args.class c.in_ok-slab.slab o c.unwrap-region.result b.0 b.1 _ refl (ap (set t.slots.items c.in_ok-slab.slab.minor) b.2))

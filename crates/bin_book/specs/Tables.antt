@@ -1,0 +1,121 @@
+-- What a table keeps of its slabs.
+use Rattle.std.specs.Prelude.{◌≡◌, ◌≢◌, ◌==◌, ◌⊎◌, ℕ, ◌+◌, ◌*◌, ◌^◌, ◌<◌, ◌≤◌, Bool, false, cond, List, [], map, filter, length, count_by, slice_index_or, vec_len, vec_capacity, Contains}
+use Rattle.std.specs.List.{range_with_len}
+use Rattle.size_classes.specs.Classes.{pages_at, regions_at}
+use Rattle.slab_bits.specs.Slabs.{Slab as Bits}
+use Rattle.ordered_set.specs.declared.key.Key.{Key}
+use Rattle.ordered_set.specs.Keys.{IsAscending, without_key}
+use Rattle.bin_book.specs.declared.table.Table.{Table}
+use Rattle.bin_book.specs.Bins.{Slab, place}
+
+-- what stands in a slot that has no slab
+abbrev pub no_bits : Bits
+no_bits = record { class = 0; free = [] }
+
+-- the bits in a slot
+abbrev pub bits_at : List Bits → ℕ → Bits
+bits_at slots number = slice_index_or slots number no_bits
+
+-- the places below a number that are free
+abbrev pub ones : ℕ → List Bool → List ℕ
+ones n bits = filter (λ i. slice_index_or bits i false) (range_with_len 0 n)
+
+-- how many regions are free
+abbrev pub left_of : Bits → ℕ
+left_of bits = count_by (λ free. free) bits.free
+
+-- the slab from a page on that has these bits
+abbrev pub slab_of : Bits → ℕ → Slab
+slab_of bits first = record {
+  class = bits.class;
+  first = first;
+  free = map (place bits.class first) (ones (regions_at bits.class) bits.free);
+}
+
+-- the slab of a first page with the number of its slot
+abbrev pub slab_at : List Bits → Key → Slab
+slab_at slots key = slab_of (bits_at slots key.minor) key.major
+
+-- the slabs of a table, in order of first page
+unfoldable pub slabs_in : Table → List Slab
+slabs_in t = map (slab_at t.slots.items) t.firsts.keys
+
+-- where a slab stands among those of its class: first those that have free regions, by first page
+abbrev pub bin_key : ℕ → Bool → Key → Key
+bin_key class full key = record { major = 2 * class + cond full 1 0; minor = key.major * 2 ^ 32 + key.minor }
+
+abbrev pub bin_of : List Bits → Key → Key
+bin_of slots key = bin_key (bits_at slots key.minor).class (left_of (bits_at slots key.minor) == 0) key
+
+-- the bits of a slab that begins at a page: it ends in the space, and a region of it is out
+pub record IsSlabIn (bits : Bits) (first : ℕ) : Type 0 where
+  pub small : bits.class < 36
+  pub long : length bits.free ≡ 512
+  pub behind : (i : ℕ) → regions_at bits.class ≤ i → slice_index_or bits.free i false ≡ false
+  pub some_out : left_of bits < regions_at bits.class
+  pub inside : first + pages_at bits.class ≤ 2 ^ 32
+
+-- the keys are those of slabs, no page is in two of them, and no slot has two
+pub record IsKept (slots : List Bits) (keys : List Key) : Type 0 where
+  pub slab : (k : Key) → Contains keys k → IsSlabIn (bits_at slots k.minor) k.major
+  pub apart : (k l : Key) → Contains keys k → Contains keys l → k.major ≤ l.major → (k ≡ l) ⊎ (k.major + pages_at (bits_at slots k.minor).class ≤ l.major)
+  pub numbers : (k l : Key) → Contains keys k → Contains keys l → k.minor ≡ l.minor → k ≡ l
+
+-- the bins have just the slabs
+pub record IsBinned (slots : List Bits) (keys bins : List Key) : Type 0 where
+  pub has : (k : Key) → Contains keys k → Contains bins (bin_of slots k)
+  pub from : (b : Key) → Contains bins b → (k : Key) × Contains keys k × (bin_of slots k ≡ b)
+
+-- the free numbers are those of slots without a slab, each once
+pub record AreFree (free : List ℕ) (keys : List Key) (slots : ℕ) : Type 0 where
+  pub in_slots : (n : ℕ) → Contains free n → n < slots
+  pub unused : (n : ℕ) (k : Key) → Contains free n → Contains keys k → k.minor ≢ n
+  pub once : (n : ℕ) → count_by (λ m. m == n) free ≤ 1
+
+-- so many slabs of each class are counted
+abbrev pub AreCounts : List ℕ → List Slab → Type 0
+AreCounts counts slabs = (class : ℕ) → class < 36 → slice_index_or counts class 0 ≡ count_by (λ s. s.class == class) slabs
+
+-- a set of keys with one in place of another
+pub record IsMoved (old new : List Key) (was now : Key) : Type 0 where
+  pub keeps : (k : Key) → Contains old k → k ≢ was → Contains new k
+  pub now_there : Contains new now
+  pub from : (k : Key) → Contains new k → (k ≡ now) ⊎ (Contains old k × (k ≢ was))
+
+-- slots, sets and counts keep the slabs, and there is room for as many as there are free slots
+pub record IsTable (t : Table) : Type 0 where
+  pub ascending : IsAscending t.firsts.keys
+  pub kept : IsKept t.slots.items t.firsts.keys
+  pub binned : IsBinned t.slots.items t.firsts.keys t.bins.keys
+  pub in_slots : (k : Key) → Contains t.firsts.keys k → k.minor < vec_len t.slots
+  pub free : AreFree t.free.items t.firsts.keys (vec_len t.slots)
+  pub classes : length t.counts ≡ 36
+  pub counts : AreCounts t.counts (slabs_in t)
+  pub places : length t.firsts.keys + vec_len t.free ≡ vec_len t.slots
+  pub small : vec_len t.slots < 2 ^ 32
+  pub room : vec_len t.slots ≤ vec_capacity t.free
+  pub firsts_room : vec_len t.free ≤ t.firsts.spare
+  pub bins_room : vec_len t.free ≤ t.bins.spare
+
+-- the slab of these bits is of the class, and its region with this number is out
+pub record HasOut (bits : Bits) (class region : ℕ) : Type 0 where
+  pub of_class : bits.class ≡ class
+  pub inside : region < regions_at class
+  pub out : slice_index_or bits.free region false ≡ false
+
+-- the slab with this key has a region of the class out, whose address is this one
+pub record IsOutAt (t : Table) (class addr : ℕ) (key : Key) (region : ℕ) : Type 0 where
+  pub there : Contains t.firsts.keys key
+  pub at : place class key.major region ≡ addr
+  pub out : HasOut (bits_at t.slots.items key.minor) class region
+
+-- the slab with this key is the lowest of the class that has a free region
+pub record IsLowestOpen (t : Table) (class : ℕ) (key : Key) : Type 0 where
+  pub there : Contains t.firsts.keys key
+  pub of_class : (bits_at t.slots.items key.minor).class ≡ class
+  pub some_free : 0 < left_of (bits_at t.slots.items key.minor)
+  pub lowest : (k : Key) → Contains t.firsts.keys k → (bits_at t.slots.items k.minor).class ≡ class → 0 < left_of (bits_at t.slots.items k.minor) → key.major ≤ k.major
+
+-- the slabs of a table without the one with this key
+abbrev pub slabs_without : Table → Key → List Slab
+slabs_without t key = map (slab_at t.slots.items) (without_key t.firsts.keys key)

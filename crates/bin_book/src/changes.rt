@@ -1,0 +1,121 @@
+//! A slab comes, a region of it is taken or put back, or it goes.
+ghost use Rattle.std.specs.Prelude.{◌≡◌, ◌≢◌, ◌+◌, ◌<◌, ◌≤◌, ◌^◌, ◌==◌, false, [], ◌∷◌, map, length, vec_len, IfNone, IfSome, Contains};
+ghost use Rattle.std.specs.List.{list_any};
+ghost use Rattle.size_classes.specs.Classes.{IsSmall, pages_at, regions_at};
+ghost use Rattle.bin_book.specs.Bins.{free_of, meets_slab, place, slab_with_out, with_free, with_slab, without};
+ghost use Rattle.bin_book.specs.Tables.{IsMoved, IsOutAt, IsTable, bits_at, left_of, slabs_in, slabs_without};
+
+use crate::table::{Table, bin_key};
+use ordered_set::{Key, OrderedSet};
+use size_classes::{PAGE_BYTES, size_of};
+use slab_bits::SlabBits;
+
+impl Table {
+    /// Adds a slab whose lowest `count` regions are out.
+    pub fn add(&mut self, class: u8, first: u64, count: u32)
+        requires table { IsTable self.old }
+        requires room { 0 < vec_len self.old.free }
+        requires class { IsSmall class }
+        requires some { 0 < count }
+        requires most { count ≤ regions_at class }
+        requires inside { first + pages_at class ≤ 2 ^ 32 }
+        requires apart { list_any (meets_slab class first) (slabs_in self.old) ≡ false }
+        ensures table { IsTable self.new }
+        ensures slabs { slabs_in self.new ≡ with_slab (slabs_in self.old) (slab_with_out class first count) }
+        ensures free { vec_len self.new.free + 1 ≡ vec_len self.old.free }
+    {
+        let number = self.free.pop().unwrap();
+        let bits = SlabBits::with_out(class, count);
+        let slab = Key {
+            major: first,
+            minor: u64::from(number),
+        };
+        self.firsts.insert(slab);
+        self.bins
+            .insert(bin_key(class, bits.free_count() == 0, slab));
+        self.slots[number as usize] = bits;
+        self.counts[class as usize] += 1;
+    }
+
+    /// Takes the lowest free region of a class out.
+    pub fn take_one(&mut self, class: u8) -> Option<u64>
+        requires table { IsTable self.old }
+        requires class { IsSmall class }
+        ensures table { IsTable self.new }
+        ensures none { IfNone result (free_of class (slabs_in self.old) ≡ []) }
+        ensures unchanged { IfNone result (slabs_in self.new ≡ slabs_in self.old) }
+        ensures lowest { IfSome result (λ addr. free_of class (slabs_in self.old)
+            ≡ addr ∷ free_of class (slabs_in self.new)) }
+        ensures slabs { IfSome result (λ addr. slabs_in self.new
+            ≡ map (without (addr ∷ [])) (slabs_in self.old)) }
+        ensures free { vec_len self.new.free ≡ vec_len self.old.free }
+    {
+        let slab = self.open_slab(class)?;
+        let bits = &mut self.slots[slab.minor as usize];
+        let region = bits.take_lowest().unwrap();
+        let is_full = bits.free_count() == 0;
+        let was = bin_key(class, false, slab);
+        move_key(&mut self.bins, was, bin_key(class, is_full, slab));
+        Some(PAGE_BYTES * slab.major + u64::from(region) * size_of(class))
+    }
+
+    /// Puts a region of a slab back, of which another one is out besides.
+    pub fn put(&mut self, class: u8, slab: Key, region: u32)
+        requires table { IsTable self.old }
+        requires class { IsSmall class }
+        requires out { IsOutAt self.old class (place class slab.major region) slab region }
+        requires others { left_of (bits_at self.old.slots.items slab.minor) + 1 < regions_at class }
+        ensures table { IsTable self.new }
+        ensures slabs { slabs_in self.new ≡ map (with_free (place class slab.major region)) (slabs_in self.old) }
+        ensures free { vec_len self.new.free ≡ vec_len self.old.free }
+    {
+        let bits = &mut self.slots[slab.minor as usize];
+        let was_full = bits.free_count() == 0;
+        bits.put(region);
+        let was = bin_key(class, was_full, slab);
+        move_key(&mut self.bins, was, bin_key(class, false, slab));
+    }
+
+    /// Takes a slab of the class off.
+    pub fn take_off(&mut self, class: u8, slab: Key)
+        requires table { IsTable self.old }
+        requires there { Contains self.old.firsts.keys slab }
+        requires class { (bits_at self.old.slots.items slab.minor).class ≡ class }
+        ensures table { IsTable self.new }
+        ensures slabs { slabs_in self.new ≡ slabs_without self.old slab }
+        ensures free { vec_len self.new.free ≡ vec_len self.old.free + 1 }
+        ensures keys { length self.new.firsts.keys + 1 ≡ length self.old.firsts.keys }
+    {
+        let is_full = self.left(slab) == 0;
+        self.bins.remove(bin_key(class, is_full, slab));
+        self.firsts.remove(slab);
+        self.free.push(slab.minor as u32).unwrap();
+        self.counts[class as usize] -= 1;
+    }
+
+    /// Takes all slabs off.
+    pub fn clear(&mut self)
+        requires table { IsTable self.old }
+        ensures table { IsTable self.new }
+        ensures slabs { slabs_in self.new ≡ [] }
+        ensures free { vec_len self.new.free ≡ vec_len self.old.free + length (slabs_in self.old) }
+    {
+        while let Some(slab) = self.firsts.first() {
+            let class = self.slots[slab.minor as usize].class();
+            self.take_off(class, slab);
+        }
+    }
+}
+
+// Puts a key in place of another one, if it is another one.
+fn move_key(bins: &mut OrderedSet, was: Key, now: Key)
+    requires there { Contains bins.old.keys was }
+    requires absent { now ≢ was → ¬ Contains bins.old.keys now }
+    ensures keys { IsMoved bins.old.keys bins.new.keys was now }
+    ensures spare { bins.new.spare ≡ bins.old.spare }
+{
+    if was != now {
+        bins.remove(was);
+        bins.insert(now);
+    }
+}

@@ -1,0 +1,162 @@
+//! The slabs of one arena with their free regions, found by class and by address. Of its calls only
+//! `reserve` takes memory.
+#![tactic(auto)]
+
+ghost use Rattle.std.specs.Prelude.{◌≡◌, ◌==◌, ◌+◌, ◌<◌, ◌≤◌, ◌^◌, ℕ, true, false, not, cond, [], ◌++◌, length, max, map, filter, take, count_by, slice_index_or, IsTrue, ◌↔◌, OnOk, OnErr};
+ghost use Rattle.std.specs.List.{list_any};
+ghost use Rattle.size_classes.specs.Classes.{IsSmall, pages_at, regions_at};
+ghost use Rattle.bin_book.specs.Bins.{free_of, is_out, is_unused, meets_slab, slab_with_out, with_free, with_slab, without};
+
+use crate::table::{CLASSES, Table};
+use size_classes::{Addrs, class_pages, slab_regions};
+use std::alloc::{AllocError as NoMemory, Global};
+use std::marker::Model;
+
+mod changes;
+mod table;
+#[cfg(test)]
+mod tests;
+
+/// The slabs of an arena, in order of first page, with the free regions of each.
+///
+/// A slab stands in the book as long as a region of it is out. Where the lowest free regions of a
+/// class are, and which slab has an address, is found by halving ordered sets; no slab is looked at
+/// that isn't taken from. [`BinBook::reserve`] makes places for further slabs, whatever their classes.
+#[derive(Drop)]
+pub struct BinBook {
+    table: Table,
+}
+
+impl Model for BinBook {
+    ghost use Rattle.bin_book.specs.Bins.{Bins};
+
+    ghost Value = { Bins };
+
+    ghost use Rattle.bin_book.specs.Shown.{shown, IsBook};
+
+    ghost view = { shown };
+
+    ghost invariant = { IsBook };
+}
+
+impl BinBook {
+    /// A book without slabs, with no place for one. Takes no memory.
+    pub fn new(alloc: Global) -> BinBook
+        ensures { result ≡ record { slabs = []; spare = 0 } }
+    {
+        BinBook {
+            table: Table::new(alloc),
+        }
+    }
+
+    /// Makes places for at least `more` further slabs. A refusal changes nothing.
+    pub fn reserve(&mut self, more: u64) -> Result<(), NoMemory>
+        ensures slabs { self.new.slabs ≡ self.old.slabs }
+        ensures ok { OnOk result (self.new.spare ≡ max self.old.spare more) }
+        ensures err { OnErr result (self.new ≡ self.old) }
+    {
+        self.table.reserve(more)
+    }
+
+    /// How many more slabs there is a place for.
+    pub fn spare(&self) -> u64
+        ensures { result ≡ self.now.spare }
+    {
+        self.table.spare()
+    }
+
+    /// How many slabs there are of each small class.
+    pub fn slabs(&self) -> [u64; CLASSES]
+        ensures { (class : ℕ) → class < 36
+            → slice_index_or result class 0 ≡ count_by (λ s. s.class == class) self.now.slabs }
+    {
+        self.table.counts
+    }
+
+    /// Whether a slab of the class has a free region.
+    pub fn has_free(&self, class: u8) -> bool
+        requires class { IsSmall class }
+        ensures { IsTrue result ↔ ¬ (free_of class self.now.slabs ≡ []) }
+    {
+        self.table.open_slab(class).is_some()
+    }
+
+    /// Whether a slab of the class from a page on would share a page with a slab of the book.
+    pub fn meets(&self, class: u8, first: u64) -> bool
+        requires class { IsSmall class }
+        requires inside { first + pages_at class ≤ 2 ^ 32 }
+        ensures { result ≡ list_any (meets_slab class first) self.now.slabs }
+    {
+        self.table.meets(first, first + class_pages(class))
+    }
+
+    /// Whether a region of a slab of the class stands at an address and is out.
+    pub fn is_out(&self, class: u8, addr: u64) -> bool
+        requires class { IsSmall class }
+        ensures { result ≡ list_any (is_out class addr) self.now.slabs }
+    {
+        self.table.holder(class, addr).is_some()
+    }
+
+    /// Adds a slab whose lowest `count` regions are out. It takes a place.
+    pub fn add_slab(&mut self, class: u8, first: u64, count: u32)
+        requires room { 0 < self.old.spare }
+        requires class { IsSmall class }
+        requires some { 0 < count }
+        requires most { count ≤ regions_at class }
+        requires inside { first + pages_at class ≤ 2 ^ 32 }
+        requires apart { list_any (meets_slab class first) self.old.slabs ≡ false }
+        ensures slabs { self.new.slabs ≡ with_slab self.old.slabs (slab_with_out class first count) }
+        ensures spare { self.new.spare + 1 ≡ self.old.spare }
+    {
+        self.table.add(class, first, count);
+    }
+
+    /// Takes the `n` lowest free regions of a class out, or all if there are fewer. Adds their
+    /// addresses, which rise, to a list that has room for so many.
+    pub fn take(&mut self, class: u8, n: u32, out: &mut Addrs)
+        requires class { IsSmall class }
+        requires room { n ≤ out.old.room }
+        ensures addrs { out.new.items ≡ out.old.items ++ take n (free_of class self.old.slabs) }
+        ensures room { out.new.room + length (take n (free_of class self.old.slabs)) ≡ out.old.room }
+        ensures slabs { self.new.slabs
+            ≡ map (without (take n (free_of class self.old.slabs))) self.old.slabs }
+        ensures spare { self.new.spare ≡ self.old.spare }
+    {
+        for _turn in 0..n {
+            match self.table.take_one(class) {
+                Some(addr) => out.push(addr),
+                None => return,
+            }
+        }
+    }
+
+    /// Puts the region at an address, which is out of a slab of the class, back to the free ones.
+    /// True exactly where all regions of the slab are free then; the slab leaves the book, and its
+    /// place is free again.
+    pub fn put_back(&mut self, class: u8, addr: u64) -> bool
+        requires class { IsSmall class }
+        requires out { list_any (is_out class addr) self.old.slabs ≡ true }
+        ensures emptied { result ≡ list_any is_unused (map (with_free addr) self.old.slabs) }
+        ensures slabs { self.new.slabs
+            ≡ filter (λ s. not (is_unused s)) (map (with_free addr) self.old.slabs) }
+        ensures spare { self.new.spare ≡ self.old.spare + cond result 1 0 }
+    {
+        let (slab, region) = self.table.holder(class, addr).unwrap();
+        let left = u64::from(self.table.left(slab)) + 1;
+        if left == slab_regions(class) {
+            self.table.take_off(class, slab);
+            return true;
+        }
+        self.table.put(class, slab, region);
+        false
+    }
+
+    /// Takes all slabs out. Their places are free again.
+    pub fn clear(&mut self)
+        ensures slabs { self.new.slabs ≡ [] }
+        ensures spare { self.new.spare ≡ self.old.spare + length self.old.slabs }
+    {
+        self.table.clear();
+    }
+}

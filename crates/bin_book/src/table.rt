@@ -1,0 +1,199 @@
+//! The slots of slabs, the sets that find them, and the room in these.
+ghost use Rattle.std.specs.Prelude.{◌≡◌, ◌==◌, ℕ, ◌+◌, ◌-◌, ◌*◌, ◌<◌, ◌≤◌, ◌^◌, ◌&&◌, ◌↔◌, [], ◌++◌, max, nat_lt, is_some, IsTrue, IfNone, IfSome, OnOk, OnErr, length, vec_capacity, vec_len, Contains};
+ghost use Rattle.std.specs.List.{list_any, range_with_len};
+ghost use Rattle.size_classes.specs.Classes.{IsSmall, pages_at};
+ghost use Rattle.bin_book.specs.Bins.{free_of, is_out};
+ghost use Rattle.bin_book.specs.Tables.{HasOut, IsLowestOpen, IsOutAt, IsTable, bin_key, bits_at, left_of, slabs_in};
+
+use ordered_set::{Key, OrderedSet};
+use size_classes::{PAGE_BYTES, class_pages, size_of, slab_regions};
+use slab_bits::SlabBits;
+use std::alloc::{AllocError as NoMemory, Global};
+
+/// How many small classes there are.
+pub const CLASSES: usize = 36;
+
+// Page numbers and the numbers of slots are below this one.
+const RADIX: u64 = 1 << 32;
+
+/// Each slab has a number, the place of the slot that has its bits. Its number stands in two sets,
+/// by first page and by class, where slabs with free regions come first. A slot without a slab has
+/// its number among the free ones.
+#[derive(Drop)]
+pub struct Table {
+    pub firsts: OrderedSet,
+    pub bins: OrderedSet,
+    pub slots: Vec<SlabBits>,
+    pub free: Vec<u32>,
+    pub counts: [u64; CLASSES],
+}
+
+/// The key of a slab among those of its class.
+pub fn bin_key(class: u8, is_full: bool, slab: Key) -> Key
+    requires first { slab.major < 2 ^ 32 }
+    requires number { slab.minor < 2 ^ 32 }
+    ensures { result ≡ bin_key class is_full slab }
+{
+    Key {
+        major: 2 * u64::from(class) + u64::from(is_full),
+        minor: slab.major * RADIX + slab.minor,
+    }
+}
+
+/// The key of a slab among the first pages, by that among those of its class.
+pub fn first_key(bin: Key) -> Key
+    ensures first { result.major * 2 ^ 32 + result.minor ≡ bin.minor }
+    ensures number { result.minor < 2 ^ 32 }
+{
+    Key {
+        major: bin.minor / RADIX,
+        minor: bin.minor % RADIX,
+    }
+}
+
+impl Table {
+    pub fn new(alloc: Global) -> Table
+        ensures table { IsTable result }
+        ensures slabs { slabs_in result ≡ [] }
+        ensures free { vec_len result.free ≡ 0 }
+    {
+        Table {
+            firsts: OrderedSet::new(alloc),
+            bins: OrderedSet::new(alloc),
+            slots: Vec::new(alloc),
+            free: Vec::new(alloc),
+            counts: [0; CLASSES],
+        }
+    }
+
+    /// Makes room for so many further slabs. The slabs stay.
+    pub fn reserve(&mut self, more: u64) -> Result<(), NoMemory>
+        requires { IsTable self.old }
+        ensures table { IsTable self.new }
+        ensures slabs { slabs_in self.new ≡ slabs_in self.old }
+        ensures ok { OnOk result (vec_len self.new.free ≡ max (vec_len self.old.free) more) }
+        ensures err { OnErr result (vec_len self.new.free ≡ vec_len self.old.free) }
+    {
+        if more <= self.spare() {
+            return Ok(());
+        }
+        let all = self.firsts.len().checked_add(more).ok_or(NoMemory)?;
+        if all >= RADIX {
+            return Err(NoMemory);
+        }
+        self.firsts.reserve(more)?;
+        self.bins.reserve(more)?;
+        add_slots(&mut self.slots, &mut self.free, all as usize)
+    }
+
+    /// How many slots have no slab.
+    pub fn spare(&self) -> u64
+        ensures { result ≡ vec_len self.now.free }
+    {
+        self.free.len() as u64
+    }
+
+    /// The key of the lowest slab of a class that has a free region.
+    pub fn open_slab(&self, class: u8) -> Option<Key>
+        requires table { IsTable self.now }
+        requires class { IsSmall class }
+        ensures none { IfNone result (free_of class (slabs_in self.now) ≡ []) }
+        ensures some { IfSome result (λ key. IsLowestOpen self.now class key) }
+    {
+        let start = Key {
+            major: 2 * u64::from(class),
+            minor: 0,
+        };
+        let bin = self.bins.at_or_after(start)?;
+        if bin.major == start.major {
+            Some(first_key(bin))
+        } else {
+            None
+        }
+    }
+
+    /// Whether some slab has a page from the first one up to the end.
+    pub fn meets(&self, first: u64, end: u64) -> bool
+        requires table { IsTable self.now }
+        requires some { first < end }
+        ensures { result ≡ list_any (λ s. nat_lt s.first end && nat_lt first (s.first + pages_at s.class)) (slabs_in self.now) }
+    {
+        let end = Key {
+            major: end,
+            minor: 0,
+        };
+        match self.firsts.before(end) {
+            Some(slab) => {
+                let class = self.slots[slab.minor as usize].class();
+                first < slab.major + class_pages(class)
+            }
+            None => false,
+        }
+    }
+
+    /// The slab in which a region of the class is out at an address, and its place there.
+    pub fn holder(&self, class: u8, addr: u64) -> Option<(Key, u32)>
+        requires table { IsTable self.now }
+        requires class { IsSmall class }
+        ensures some { IfSome result (λ found. IsOutAt self.now class addr found.0 found.1) }
+        ensures none { is_some result ≡ list_any (is_out class addr) (slabs_in self.now) }
+    {
+        let next = Key {
+            major: addr / PAGE_BYTES + 1,
+            minor: 0,
+        };
+        let slab = self.firsts.before(next)?;
+        let offset = addr - PAGE_BYTES * slab.major;
+        let size = size_of(class);
+        if self.has_out(slab, class, offset / size) && offset % size == 0 {
+            Some((slab, (offset / size) as u32))
+        } else {
+            None
+        }
+    }
+
+    // Whether the slab is of the class, and its region with a number is out.
+    fn has_out(&self, slab: Key, class: u8, region: u64) -> bool
+        requires table { IsTable self.now }
+        requires there { Contains self.now.firsts.keys slab }
+        requires class { IsSmall class }
+        ensures { IsTrue result ↔ HasOut (bits_at self.now.slots.items slab.minor) class region }
+    {
+        let bits = &self.slots[slab.minor as usize];
+        bits.class() == class && region < slab_regions(class) && !bits.is_free(region as u32)
+    }
+
+    /// How many regions of a slab are free.
+    pub fn left(&self, slab: Key) -> u32
+        requires table { IsTable self.now }
+        requires there { Contains self.now.firsts.keys slab }
+        ensures { result ≡ left_of (bits_at self.now.slots.items slab.minor) }
+    {
+        self.slots[slab.minor as usize].free_count()
+    }
+}
+
+// Makes the slots so many. The new ones have no slab.
+fn add_slots(slots: &mut Vec<SlabBits>, free: &mut Vec<u32>, all: usize) -> Result<(), NoMemory>
+    requires more { vec_len slots.old ≤ all }
+    requires small { all < 2 ^ 32 }
+    requires fewer { vec_len free.old ≤ vec_len slots.old }
+    ensures kept { (number : ℕ) → number < vec_len slots.old
+        → bits_at slots.new.items number ≡ bits_at slots.old.items number }
+    ensures free { free.new.items
+        ≡ free.old.items ++ range_with_len (vec_len slots.old) (vec_len slots.new - vec_len slots.old) }
+    ensures places { vec_len free.new + vec_len slots.old ≡ vec_len free.old + vec_len slots.new }
+    ensures more { vec_len slots.old ≤ vec_len slots.new }
+    ensures most { vec_len slots.new ≤ all }
+    ensures room { vec_len slots.old ≤ vec_capacity free.old → vec_len slots.new ≤ vec_capacity free.new }
+    ensures ok { OnOk result (vec_len slots.new ≡ all) }
+    ensures err { OnErr result (vec_len slots.new ≡ vec_len slots.old) }
+{
+    free.reserve(all - free.len())?;
+    slots.reserve(all - slots.len())?;
+    for number in slots.len()..all {
+        free.push(number as u32).unwrap();
+        slots.push(SlabBits::new(0)).unwrap();
+    }
+    Ok(())
+}

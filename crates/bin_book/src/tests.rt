@@ -1,0 +1,140 @@
+//! Many regions are taken and put back, and many slabs come and go.
+use super::BinBook;
+use size_classes::{Addrs, class_pages, slab_regions};
+use std::test::Fail;
+
+// Adds a slab with one region out where it has a place and meets no other.
+fn add(book: &mut BinBook, class: u8, first: u64) -> bool {
+    if class >= 36 || first >= 1 << 31 {
+        return false;
+    }
+    let end = first + class_pages(class);
+    let regions = slab_regions(class);
+    if end <= 1 << 32 && 0 < regions && book.spare() > 0 && !book.meets(class, first) {
+        book.add_slab(class, first, 1);
+        return true;
+    }
+    false
+}
+
+// Takes so many regions, as far as the list has room.
+fn take(book: &mut BinBook, class: u8, count: u32, out: &mut Addrs) -> bool {
+    if class < 36 && count as usize <= out.room() {
+        book.take(class, count, out);
+        return true;
+    }
+    false
+}
+
+// Puts a region back, if it is out. Whether its slab has left then.
+fn put_back(book: &mut BinBook, class: u8, addr: u64) -> Option<bool> {
+    if class < 36 && book.is_out(class, addr) {
+        return Some(book.put_back(class, addr));
+    }
+    None
+}
+
+#[test]
+fn many_regions_are_taken_and_put_back(rt: HostRuntime) -> Result<(), Fail> {
+    let mut book = BinBook::new(rt.alloc());
+    book.reserve(2048)?;
+    for slab in 0..2048 {
+        assert!(rt; add(&mut book, 0, 512 + slab));
+    }
+    let mut out = Addrs::new(rt.alloc());
+    out.reserve(1 << 20)?;
+    assert!(rt; take(&mut book, 0, 1 << 20, &mut out));
+    assert!(rt; out.len() == 2048 * 511 && book.slabs()[0] == 2048 && !book.has_free(0));
+    for addr in out.as_slice() {
+        assert!(rt; put_back(&mut book, 0, *addr) == Some(false));
+    }
+    for slab in 0..2048 {
+        assert!(rt; put_back(&mut book, 0, 4096 * (512 + slab)) == Some(true));
+    }
+    assert!(rt; book.slabs()[0] == 0 && book.spare() == 2048);
+    Ok(())
+}
+
+#[test]
+fn many_slabs_come_and_go(rt: HostRuntime) -> Result<(), Fail> {
+    let mut book = BinBook::new(rt.alloc());
+    book.reserve(1 << 18)?;
+    let mut out = Addrs::new(rt.alloc());
+    for slab in 0..1 << 18 {
+        assert!(rt; add(&mut book, 24, 512 + 2 * slab));
+        assert!(rt; take(&mut book, 24, 1, &mut out) == (slab < 8));
+    }
+    assert!(rt; out.as_slice().last().copied() == Some(4096 * 526 + 2048) && !book.has_free(23));
+    assert!(rt; put_back(&mut book, 24, 4096 * 526) == Some(false));
+    assert!(rt; put_back(&mut book, 24, 4096 * 526 + 2048) == Some(true));
+    assert!(rt; put_back(&mut book, 24, 4096 * 526).is_none());
+    assert!(rt; book.slabs()[24] == (1 << 18) - 1 && book.spare() == 1);
+    book.clear();
+    assert!(rt; book.slabs()[24] == 0 && book.spare() == 1 << 18);
+    Ok(())
+}
+
+// How many places three slabs of 32 regions have.
+const PLACES: usize = 96;
+
+// The address of a place: the slabs begin at every fourth page from page 512 on.
+fn address(place: usize) -> u64 {
+    let slab = (place as u64 / 32).min(2);
+    4096 * (512 + 4 * slab) + 128 * (place as u64 % 32)
+}
+
+// Puts a place back, and adds its slab again with one region out if it has left. Whether it left
+// just where all its places are free.
+fn give_back(book: &mut BinBook, free: &mut [bool; PLACES], place: usize) -> bool {
+    if place >= PLACES {
+        return false;
+    }
+    free[place] = true;
+    let first = place / 32 * 32;
+    let is_unused = free[first..first + 32].iter().all(|is_free| *is_free);
+    let left = put_back(book, 8, address(place));
+    if is_unused {
+        free[first] = false;
+        return left == Some(true) && add(book, 8, address(first) / 4096);
+    }
+    left == Some(false)
+}
+
+// Takes one region. Whether it is that of the lowest free place.
+fn take_lowest(book: &mut BinBook, free: &mut [bool; PLACES], out: &mut Addrs) -> bool {
+    let before = out.len();
+    let taken = take(book, 8, 1, out);
+    match free.iter().position(|is_free| *is_free) {
+        Some(place) => {
+            free[place] = false;
+            taken && out.as_slice().last().copied() == Some(address(place))
+        }
+        None => taken && out.len() == before,
+    }
+}
+
+#[test]
+fn a_plain_list_says_the_same(rt: HostRuntime) -> Result<(), Fail> {
+    let mut book = BinBook::new(rt.alloc());
+    book.reserve(3)?;
+    let mut free = [true; PLACES];
+    for first in [0, 32, 64] {
+        assert!(rt; add(&mut book, 8, address(first) / 4096));
+        free[first] = false;
+    }
+    let mut out = Addrs::new(rt.alloc());
+    let mut state = 1u64;
+    for turn in 0..4000 {
+        state = state
+            .wrapping_mul(6364136223846793005)
+            .wrapping_add(1442695040888963407);
+        let place = (state >> 33) as usize % PLACES;
+        out.reserve(1)?;
+        if free[place] {
+            assert!(rt; take_lowest(&mut book, &mut free, &mut out), "{turn}");
+        } else {
+            assert!(rt; give_back(&mut book, &mut free, place), "{turn}");
+        }
+    }
+    Ok(())
+}
