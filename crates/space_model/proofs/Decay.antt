@@ -53,7 +53,7 @@ weighed_le epoch a pages =
     ]
 
 -- an addition that is 200 epochs old weighs nothing
-weighed_old : (epoch : ℕ) (a : Added) → 200 ≤ epoch - a.epoch → weighed epoch a ≡ 0
+pub weighed_old : (epoch : ℕ) (a : Added) → 200 ≤ epoch - a.epoch → weighed epoch a ≡ 0
 weighed_old epoch a old = grind (arith, nat_tests)
 
 -- how many epochs count from a lowest one on

@@ -178,7 +178,7 @@ added_paced pace epochs current paced some fits =
 epochs_fit : (epoch epochs start ms : ℕ) → epoch * ms * 5000 ≤ start → (epoch + epochs) * ms * 5000 ≤ start + epochs * (ms * 5000)
 epochs_fit epoch epochs start ms h = grind (arith, h)
 
-passed_paced : (pace : Pace) (ms epochs current : ℕ) → IsPaced pace → pace.ms ≡ pos ms → 0 < epochs → current ≤ pages_end - 512 → IsPaced (passed pace (ms * 5000) epochs current).pace
+pub passed_paced : (pace : Pace) (ms epochs current : ℕ) → IsPaced pace → pace.ms ≡ pos ms → 0 < epochs → current ≤ pages_end - 512 → IsPaced (passed pace (ms * 5000) epochs current).pace
 passed_paced pace ms epochs current paced is some fits =
     let added = added_paced pace epochs current paced some fits in record {
       least = paced.least;
