@@ -1,5 +1,5 @@
 -- What searches find among extents that are apart.
-use Rattle.std.proofs.Common.{◌≡◌, ℕ, ◌-◌, ◌≤◌, Bool, true, false, cond, List, [], ◌∷◌, get_or, find, filter, Option, None, Some, IfSome, refl, sym, ◌∙◌, ap, subst, arith, All, ◌&&◌, eqb}
+use Rattle.std.proofs.Common.{◌≡◌, ℕ, ◌-◌, ◌≤◌, Bool, true, false, cond, List, [], ◌∷◌, get_or, find, filter, slice_get, Option, None, Some, IfSome, refl, sym, ◌∙◌, ap, subst, arith, All, ◌&&◌, eqb, leb as nat_le}
 use Rattle.std.specs.List.{count_by}
 use Rattle.std.specs.Option.{option_or}
 use Rattle.std.proofs.lemmas.Bool.Decides.{nat_tests}
@@ -8,8 +8,9 @@ use Rattle.std.proofs.lemmas.List.Elements.{All-head, All-tail}
 use Rattle.space_model.specs.declared.parts.Part.{Part}
 use Rattle.space_model.specs.declared.parts.Span.{Span}
 use Rattle.space_model.specs.Span.{IsPlaced, end_of, has_page}
-use Rattle.space_model.specs.Part.{begins_at, is_flight, is_flight_at}
+use Rattle.space_model.specs.Part.{begins_at, is_flight, is_flight_at, is_unused}
 use Rattle.space_model.specs.Fit.{fit}
+use Rattle.space_model.specs.Resizing.{is_spare}
 use Rattle.space_model.specs.Step.{is_left_of, is_like, is_right_of}
 use Rattle.space_model.proofs.Exchange.{filter-begins_at}
 use Rattle.space_model.proofs.Settled.{some_pages}
@@ -20,7 +21,7 @@ use Rattle.arena_core.specs.Extents.{IsApart, IsThere, kept}
 -- ---- what is found is there
 
 -- what a filter keeps alone is what a search finds
-find_alone : {X : Type 0} (test : X → Bool) (xs : List X) (x : X) → filter test xs ≡ x ∷ [] → find test xs ≡ Some x
+pub find_alone : {X : Type 0} (test : X → Bool) (xs : List X) (x : X) → filter test xs ≡ x ∷ [] → find test xs ≡ Some x
 find_alone test [] x e = absurd (cc)
 find_alone test (y ∷ ys) x e = grind (arith, find_alone test ys x)
 
@@ -37,6 +38,14 @@ search_there parts test (Some p) apart e = found_there parts test p apart (sym e
 -- what a search found is there
 pub found_inside : {b now : Book} {o : Option Part} (test : Part → Bool) → b ≡ now → IsApart b.parts → o ≡ find test b.parts → IfSome o (IsThere now.parts)
 found_inside {b} {now} {o} test view apart e = subst (λ (x : Book). IfSome o (IsThere x.parts)) view (search_there b.parts test o apart e)
+
+-- so is the first one
+pub first_inside : {b now : Book} {o : Option Part} → b ≡ now → IsApart b.parts → o ≡ slice_get b.parts 0 → IfSome o (IsThere now.parts)
+first_inside {b} view apart e = found_inside (λ _. true) view apart (e ∙ first_found b.parts)
+  where
+    first_found : (parts : List Part) → slice_get parts 0 ≡ find (λ _. true) parts
+    first_found [] = refl
+    first_found (p ∷ ps) = refl
 
 -- so is the unused extent that serves a request
 pub fit_inside : {b now : Book} {o : Option Part} (pages align : ℕ) → b ≡ now → IsApart b.parts → o ≡ fit pages align b.parts → IfSome o (IsThere now.parts)
@@ -99,6 +108,12 @@ pub flight_inside : {b now : Book} {near got : Option Part} (client : ℕ) (s : 
 flight_inside {b} client s view apart =
     kept_inside (λ p. is_flight client p.state && eqb p.span.pages s.pages) (begins_at s.first) (is_flight_at client s) view apart (begins_once s.first b.parts apart)
     (λ p. grind arith)
+
+-- the unused extent that begins at a page is the one that begins there, if it is unused and has so many pages
+pub spare_inside : {b now : Book} {near got : Option Part} (page pages : ℕ) → b ≡ now → IsApart b.parts → near ≡ find (begins_at page) b.parts →
+    got ≡ kept (λ p. is_unused p.state && nat_le pages p.span.pages) near → Kept got (is_spare page pages) now
+spare_inside {b} page pages view apart =
+    kept_inside (λ p. is_unused p.state && nat_le pages p.span.pages) (begins_at page) (is_spare page pages) view apart (begins_once page b.parts apart) (λ p. grind arith)
 
 -- a neighbour that a merge may join is the extent beside, if it is alike
 pub right_inside : {b now : Book} {near got : Option Part} (p : Part) → b ≡ now → IsApart b.parts → near ≡ find (is_beside p.span true) b.parts →

@@ -1,8 +1,7 @@
 -- The extent that serves a region is the one that has the page of its address.
-use Rattle.std.proofs.Common.{◌≡◌, ℕ, ◌*◌, ◌/◌, ◌<◌, ◌≤◌, Bool, true, false, cond, IsTrue, List, [], ◌∷◌, get_or, find, Some, refl, sym, ◌∙◌, ap, subst, arith, eqb, inl, inr, ◌&&◌}
+use Rattle.std.proofs.Common.{◌≡◌, ℕ, ◌*◌, ◌/◌, ◌<◌, ◌≤◌, Bool, true, false, cond, IsTrue, List, [], ◌∷◌, get_or, find, Some, sym, ap, arith, eqb, inl, inr, ◌&&◌}
 use Rattle.std.specs.List.{list_any, sum_by}
-use Rattle.std.specs.Bool.{beq}
-use Rattle.std.proofs.lemmas.Bool.{cases_Bool, eqb-true}
+use Rattle.std.proofs.lemmas.Bool.{cases_Bool}
 use Rattle.std.proofs.lemmas.Bool.Decides.{nat_tests}
 use Rattle.std.proofs.lemmas.List.Folds.{list_any_none}
 use Rattle.std.proofs.lemmas.List.Sums.{sum_by-cons, sum_by-le-sum_by}
@@ -12,22 +11,18 @@ use Rattle.space_model.specs.declared.parts.Part.{Part}
 use Rattle.space_model.specs.declared.asks.Answer.{Answer}
 use Rattle.space_model.specs.declared.asks.Ask.TheVariants.{Merge}
 use Rattle.space_model.specs.declared.parts.Region.{Region}
-use Rattle.space_model.specs.declared.parts.Rest.{Rest}
-use Rattle.space_model.specs.declared.parts.Rest.TheVariants.{Dirty as ToDirty, Muzzy as ToMuzzy, Retained as ToRetained}
-use Rattle.space_model.specs.declared.parts.State.{State}
-use Rattle.space_model.specs.declared.parts.State.TheVariants.{Active, Dirty, Muzzy, Retained, Flight}
 use Rattle.space_model.specs.declared.parts.Span.{Span}
 use Rattle.space_model.specs.declared.spaces.Space.{Space}
 use Rattle.space_model.specs.Span.{IsPlaced, end_of, has_page}
-use Rattle.space_model.specs.Part.{holders, is_active, is_flight, is_flight_at, is_listed, listed, rest_of}
+use Rattle.space_model.specs.Part.{holders, is_active, is_flight, is_flight_at}
 use Rattle.space_model.specs.Region.{covers, homes}
-use Rattle.space_model.specs.Step.{both_merge, is_yes_or_no, may_merge, merge_stands}
+use Rattle.space_model.specs.Step.{is_yes_or_no, merge_stands}
 use Rattle.space_model.specs.Sound.{Sound}
 use Rattle.space_model.proofs.Exchange.{find_has, find_passes, share}
 use Rattle.space_model.proofs.Settled.{idle-serves, serves}
 use Rattle.space_model.proofs.Settled.{serves-le-share}
 use Rattle.space_model.proofs.Pieces.{both_true, flight-idle}
-use Rattle.part_book.specs.Books.{AreAlike}
+use Rattle.part_book.specs.Books.{AreBeside}
 
 -- where a sum is no more than that of smaller terms, each term is no more than the smaller one
 exact_at : {X : Type 0} (f g : X → ℕ) (test : X → Bool) (xs : List X) (x : X) → ((y : X) → g y ≤ f y) → sum_by f xs ≤ sum_by g xs → find test xs ≡ Some x → f x ≤ g x
@@ -44,20 +39,19 @@ home_shares r parts test p class home most found =
     let less : (q : Part) → serves r q ≤ share (r.addr / 4096) q = λ q. serves-le-share r.addr r q starts in
     omega (arith, less p, exact_at (share (r.addr / 4096)) (serves r) test parts p less (omega (arith, home, most)) found)
 
--- no region begins where an extent does that serves none
-pub none_begins : (s : Space) (test : Part → Bool) (p : Part) → Sound s → find test s.parts ≡ Some p → is_active p.state ≡ false →
-    list_any (λ r. eqb r.addr (4096 * p.span.first)) s.regions ≡ false
-none_begins s test p sound found idle =
+-- no region begins in an extent that serves none
+pub none_begins : (s : Space) (test : Part → Bool) (p : Part) (addr : ℕ) → Sound s → find test s.parts ≡ Some p → is_active p.state ≡ false →
+    4096 * p.span.first ≤ addr → addr < 4096 * end_of p.span → list_any (λ r. eqb r.addr addr) s.regions ≡ false
+none_begins s test p addr sound found idle above below =
     let placed : IsPlaced p.span = find_has (λ q. IsPlaced q.span) test s.parts p sound.placed found in
     let ones : Bool → ℕ = λ b. cond b 1 0 in
-    list_any_none (λ r. eqb r.addr (4096 * p.span.first)) s.regions (λ k d h.
+    list_any_none (λ r. eqb r.addr addr) s.regions (λ k d h.
     let r : Region = get_or s.regions k d in
-    elim (cases_Bool (eqb r.addr (4096 * p.span.first))) [
+    elim (cases_Bool (eqb r.addr addr)) [
       | inr f ↦ f
       | inl t ↦
-          let at : r.addr ≡ 4096 * p.span.first = grind (arith, nat_tests) in
-          let page : r.addr / 4096 ≡ p.span.first = omega arith in
-          let has : has_page (r.addr / 4096) p.span ≡ true = grind (arith, nat_tests, placed.0) in
+          let at : r.addr ≡ addr = grind (arith, nat_tests) in
+          let has : has_page (r.addr / 4096) p.span ≡ true = grind (arith, nat_tests, at, above, below) in
           let one : share (r.addr / 4096) p ≡ 1 = ap ones has in
           let same = home_shares r s.parts test p (sound.classes k d h) (sound.homes k d h) (sound.owners (r.addr / 4096)) found in
           absurd (omega (arith, one, idle-serves p r idle, same))
@@ -84,30 +78,11 @@ in_flight c s span p sound found =
 
 -- ---- merges
 
--- what is the client's flight goes where it says
-flight_state : (c : ℕ) (state : State) → is_flight c state ≡ true → state ≡ Flight c (rest_of state)
-flight_state c (Flight d rest) h = ap (λ e. Flight e rest) (eqb-true d c h)
-flight_state c Active h = absurd (cc)
-flight_state c Dirty h = absurd (cc)
-flight_state c Muzzy h = absurd (cc)
-flight_state c Retained h = absurd (cc)
-
--- what is listed among those of a rest belongs there
-listed_same : (rest other : Rest) → is_listed rest (listed other) ≡ true → rest ≡ other
-listed_same ToDirty other h = elim other as (λ o. is_listed ToDirty (listed o) ≡ true → ToDirty ≡ o) [ ToDirty ↦ λ e. refl | ToMuzzy ↦ λ e. absurd (cc) | ToRetained ↦ λ e. absurd (cc) ] h
-listed_same ToMuzzy other h = elim other as (λ o. is_listed ToMuzzy (listed o) ≡ true → ToMuzzy ≡ o) [ ToDirty ↦ λ e. absurd (cc) | ToMuzzy ↦ λ e. refl | ToRetained ↦ λ e. absurd (cc) ] h
-listed_same ToRetained other h = elim other as (λ o. is_listed ToRetained (listed o) ≡ true → ToRetained ≡ o) [ ToDirty ↦ λ e. absurd (cc) | ToMuzzy ↦ λ e. absurd (cc) | ToRetained ↦ λ e. refl ] h
-
--- two extents in flight that may be merged are alike
-pub merged_alike : (c : ℕ) (s : Space) (low high : Span) (answer : Answer) (p q : Part) → Sound s → IsTrue (merge_stands s c (Merge low high) answer) →
-    Some p ≡ find (is_flight_at c low) s.parts → Some q ≡ find (is_flight_at c high) s.parts → AreAlike p q
-merged_alike c s low high answer p q sound stands e f =
+-- two extents in flight that may be merged are beside each other
+pub merged_beside : (c : ℕ) (s : Space) (low high : Span) (answer : Answer) (p q : Part) → Sound s → IsTrue (merge_stands s c (Merge low high) answer) →
+    Some p ≡ find (is_flight_at c low) s.parts → Some q ≡ find (is_flight_at c high) s.parts → AreBeside p q
+merged_beside c s low high answer p q sound stands e f =
     let first = both_true (is_yes_or_no answer && eqb (end_of low) high.first) _ stands in
-    let merge : may_merge p q ≡ true = subst (λ o. both_merge o (Some q) ≡ true) (sym e) (subst (λ o. both_merge (find (is_flight_at c low) s.parts) o ≡ true) (sym f) first.1) in
-    let same = both_true (is_listed (rest_of p.state) (listed (rest_of q.state))) (beq p.committed q.committed) merge in
     let at = in_flight c s low p sound e in
-    let to = in_flight c s high q sound f in record {
-      beside = grind (arith, nat_tests, at.first, at.pages, to.first, first.0);
-      state = flight_state c p.state at.own ∙ ap (Flight c) (listed_same (rest_of p.state) (rest_of q.state) same.0) ∙ sym (flight_state c q.state to.own);
-      committed = grind (arith, same.1);
-    }
+    let to = in_flight c s high q sound f in
+    grind (arith, nat_tests, at.first, at.pages, to.first, first.0)

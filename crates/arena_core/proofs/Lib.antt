@@ -1,10 +1,21 @@
 mod ByClass
 pub mod Emptying
 pub mod Finds
+pub mod Handing
 pub mod Homes
+pub mod Landed
 pub mod Outcomes
 pub mod RegionKeys
+pub mod Resized
 pub mod Swaps
 pub mod Totals
 pub mod RoomSums
 pub mod Rounds
+pub mod SlabCounts
+pub mod SlabLaw
+pub mod SlabResizes
+pub mod SlabSteps
+pub mod Still
+pub mod Booked
+pub mod InOrder
+pub mod FirstPlaces

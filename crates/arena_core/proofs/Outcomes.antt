@@ -9,7 +9,7 @@ use Rattle.space_model.specs.declared.entries.Reply.{Reply}
 use Rattle.space_model.specs.declared.spaces.Space.{Space}
 use Rattle.space_model.specs.Step.{op_stands, reply_to, space_after, stands}
 use Rattle.space_model.specs.Sound.{Sound}
-use Rattle.space_model.specs.Opening.{absent_space, first_space}
+use Rattle.space_model.specs.Opening.{absent_space, first_space, new_pace}
 use Rattle.space_model.specs.Journal.{Good}
 use Rattle.space_model.specs.Own.{mine}
 use Rattle.space_model.proofs.Pieces.{both_true}
@@ -18,6 +18,7 @@ use Rattle.space_model.proofs.LawLemmas.{absent_replays_are_good, first_replays_
 use Rattle.arena_core.specs.declared.steps.Body.{Body}
 use Rattle.arena_core.specs.Arenas.{IsBody, Standing, all_rooms, entry_of, room_after, room_of, rooms_after, standing_of}
 use Rattle.arena_core.specs.Indexes.{HasPlaces, space_of}
+use Rattle.arena_core.specs.Slabs.{AreSlabs}
 
 -- What a step leaves of a body that callers see as `a`.
 pub record Stepped {E : Type 0} (a : Standing) (new : Body) (client : ℕ) (op : Op) (r : Result Reply E) : Type 0 where
@@ -33,15 +34,15 @@ pub record Stepped {E : Type 0} (a : Standing) (new : Body) (client : ℕ) (op :
 pub stepped : {E : Type 0} {old new : Body} {a : Standing} {r : Result Reply E} (client : ℕ) (op : Op) → standing_of old ≡ a → IsBody old →
     IsTrue (stands a.space (entry_of client op)) → OnOk r (space_of new.indexes ≡ space_after (space_of old.indexes) (entry_of client op)) →
     IfOk r (λ told. told ≡ reply_to (space_of old.indexes) (entry_of client op)) → OnOk r (new.rooms ≡ rooms_after (standing_of old) client op) →
-    OnErr r (standing_of new ≡ standing_of old) → HasPlaces new.indexes (all_rooms new.rooms) → Stepped a new client op r
-stepped {E} {old} {new} {a} {r} client op view body stands_now after told rooms same places =
+    OnErr r (standing_of new ≡ standing_of old) → HasPlaces new.indexes (all_rooms new.rooms) → AreSlabs (space_of new.indexes) new.slabs → Stepped a new client op r
+stepped {E} {old} {new} {a} {r} client op view body stands_now after told rooms same places slabs =
     let s : Space = space_of old.indexes in
     let t : Space = space_of new.indexes in
     let may = subst (λ (x : Standing). IsTrue (stands x.space (entry_of client op))) (sym view) stands_now in
     let few : client < 32 = ltb-true client 32 (both_true (nat_lt client 32) (op_stands s client op) may).0 in
     let out : Outcome s t (entry_of client op) r = record { after = after; told = told; same = on_err r same } in
     let by : Stepped (standing_of old) new client op r = record {
-      body = record { sound = Outcome-sound s t (entry_of client op) r out body.sound may; clients = clients r rooms same; places = places };
+      body = record { sound = Outcome-sound s t (entry_of client op) r out body.sound may; clients = clients r rooms same; places = places; slabs = slabs };
       after = after;
       reply = told;
       room = room_is r few rooms;
@@ -71,8 +72,11 @@ stepped {E} {old} {new} {a} {r} client op view body stands_now after told rooms 
     stays (Err e) other differ h k = ap (λ (x : Standing). room_of other x.rooms) k
 
 -- the space of an arena that begins is sound
-pub opening_sound : (s : Space) → (s ≡ absent_space) ⊎ (s ≡ first_space) → Sound (record s { parts = []; regions = [] })
+abbrev opened : Space → Space
+opened s = record s { parts = []; regions = []; offers = []; dirty = new_pace s.dirty.ms s.dirty.start; muzzy = new_pace s.muzzy.ms s.muzzy.start }
+
+pub opening_sound : (s : Space) → (s ≡ absent_space) ⊎ (s ≡ first_space) → Sound (opened s)
 opening_sound s opens = elim opens [
-  | inl e ↦ subst (λ (x : Space). Sound (record x { parts = []; regions = [] })) (sym e) (absent_replays_are_good [] refl).sound
-  | inr e ↦ subst (λ (x : Space). Sound (record x { parts = []; regions = [] })) (sym e) (first_replays_are_good [] refl).sound
+  | inl e ↦ subst (λ x. Sound (opened x)) (sym e) (absent_replays_are_good [] refl).sound
+  | inr e ↦ subst (λ x. Sound (opened x)) (sym e) (first_replays_are_good [] refl).sound
 ]

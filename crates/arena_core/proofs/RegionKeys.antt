@@ -35,11 +35,11 @@ region_is r small = λ i. record { addr = r.addr; class = class_is i; holder = h
     holder_is (Some c) e = rw e (grind (arith, nat_tests))
 
 -- a key is at an address or behind it just where its major number says so
-from_is : (k : Key) (major : ℕ) → is_from (start major) k ≡ nat_le major k.major
+pub from_is : (k : Key) (major : ℕ) → is_from (start major) k ≡ nat_le major k.major
 from_is k major = grind (arith, nat_tests, from_start k major, start_from k major)
 
 -- the keys behind one are at no lower address
-keys_after : (n : ℕ) (k : Key) (ks : List Key) → n ≤ k.major → Every (λ x. key_cmp k x ≡ Less) ks → Every (λ x. n ≤ x.major) ks
+pub keys_after : (n : ℕ) (k : Key) (ks : List Key) → n ≤ k.major → Every (λ x. key_cmp k x ≡ Less) ks → Every (λ x. n ≤ x.major) ks
 keys_after n k ks le first = every_map (λ x. key_cmp k x ≡ Less) (λ x. n ≤ x.major) (λ x e. omega (arith, less_major k x e)) ks first
 
 -- where all addresses are too high, none is in the range
@@ -63,7 +63,7 @@ within_is low high (k ∷ ks) ascending =
 -- ---- a region more
 
 -- what comes first is less than what comes later, and the other way round
-greater_from_less : (a b : Key) → key_cmp a b ≡ Less → key_cmp b a ≡ Greater
+pub greater_from_less : (a b : Key) → key_cmp a b ≡ Less → key_cmp b a ≡ Greater
 greater_from_less a b l = key_total.antisymm b a ∙ ap ordering_reverse l
 
 -- a key with a greater major number comes after the other one
@@ -71,10 +71,10 @@ greater_major : (a b : Key) → b.major < a.major → key_cmp a b ≡ Greater
 greater_major a b l = greater_from_less b a (major_less b a l)
 
 -- where all keys are behind an address, none is below it and all are above it
-none_below : (key : Key) (ks : List Key) → Every (λ k. key.major < k.major) ks → filter (is_below key) ks ≡ []
+pub none_below : (key : Key) (ks : List Key) → Every (λ k. key.major < k.major) ks → filter (is_below key) ks ≡ []
 none_below key ks later = filter_none (is_below key) ks (every_map (λ k. key.major < k.major) (λ k. is_below key k ≡ false) (λ k l. ap is_lt (greater_major k key l)) ks later)
 
-all_above : (key : Key) (ks : List Key) → Every (λ k. key.major < k.major) ks → filter (is_above key) ks ≡ ks
+pub all_above : (key : Key) (ks : List Key) → Every (λ k. key.major < k.major) ks → filter (is_above key) ks ≡ ks
 all_above key ks later = filter_all (is_above key) ks (every_map (λ k. key.major < k.major) (λ k. is_above key k ≡ true) (λ k l. ap is_gt (greater_major k key l)) ks later)
 
 -- what is inserted behind the first element
@@ -158,6 +158,13 @@ taken_first c addr k ks at later first held =
       gone = rw given (ap (λ rs. region_of k ∷ rs) none.1);
     }
 
+-- where at most one region begins at an address, all behind its key begin later
+pub all_later : (k : Key) (xs : List Key) (addr : ℕ) → k.major ≡ addr → Every (λ x. key_cmp k x ≡ Less) xs → count_by (is_at addr) (map region_of xs) ≡ 0 → Every (λ x. addr < x.major) xs
+all_later k [] addr e less none = tt
+all_later k (x ∷ xs) addr e less none =
+    let sums = sum_by-cons (λ r. cond (is_at addr r) 1 0) (region_of x) (map region_of xs) in
+    (grind (arith, nat_tests, sums, none, less_major k x less.0), all_later k xs addr e less.1 (omega (arith, sums, none)))
+
 -- A client's region at an address is found, and it alone is taken out.
 pub take_is : (c addr : ℕ) (ks : List Key) → IsAscending ks → count_by (is_at addr) (map region_of ks) ≤ 1 → holds_at c (map region_of ks) addr ≡ true → (key : Key) × Taken c addr ks key
 unfolding IsStrictlySortedBy
@@ -173,12 +180,6 @@ take_is c addr (k ∷ ks) ascending alone held =
         | inr g ↦ let none = all_stay c addr (k ∷ ks) (g, keys_after (suc addr) k ks g ascending.0) in let e = none.2 in absurd (cc)
       ]
     ]
-  where
-    all_later : (k : Key) (xs : List Key) (addr : ℕ) → k.major ≡ addr → Every (λ x. key_cmp k x ≡ Less) xs → count_by (is_at addr) (map region_of xs) ≡ 0 → Every (λ x. addr < x.major) xs
-    all_later k [] addr e less none = tt
-    all_later k (x ∷ xs) addr e less none =
-        let sums = sum_by-cons (λ r. cond (is_at addr r) 1 0) (region_of x) (map region_of xs) in
-        (grind (arith, nat_tests, sums, none, less_major k x less.0), all_later k xs addr e less.1 (omega (arith, sums, none)))
 
 -- where no region begins at an address, no key has it
 pub free_keys : (addr : ℕ) (ks : List Key) → list_any (is_at addr) (map region_of ks) ≡ false → Every (λ k. k.major ≢ addr) ks
@@ -200,9 +201,9 @@ within_inside low high ks ascending view found = ap (lies_below high) found ∙ 
 -- What the key that was found at the address of a client's region is.
 pub record Goes (c addr : ℕ) (ks : List Key) (rs : List Region) (key : Key) : Type 0 where
   pub has : Contains ks key
-  pub large : All (λ r. 36 ≤ r.class) (map region_of ks) → 36 ≤ (region_of key).class
   pub class : (region_of key).class < 121
   pub kept : map region_of (without_key ks key) ≡ staying c (addr ∷ []) rs
+  pub gone : filter (is_given_back c (addr ∷ [])) rs ≡ region_of key ∷ []
   pub sums : (f : Region → ℕ) → sum_by f (map region_of (without_key ks key)) + f (region_of key) ≡ sum_by f (map region_of ks)
 
 pub goes : {ks : List Key} {rs : List Region} {o : Option Key} {key : Key} (c addr : ℕ) → IsAscending ks → map region_of ks ≡ rs → count_by (is_at addr) rs ≤ 1 →
@@ -215,9 +216,9 @@ goes {ks} {rs} {o} {key} c addr ascending view alone held classes searched found
     let given = is_given_back c (addr ∷ []) in
     let each : (P : Region → Type 0) → All P (map region_of ks) → P (region_of key) = λ P all. All-head P (region_of key) [] (subst (All P) t.gone (All-filter given P (map region_of ks) all)) in record {
       has = t.has;
-      large = each (λ r. 36 ≤ r.class);
       class = each (λ r. r.class < 121) (subst (All (λ r. r.class < 121)) (sym view) classes);
       kept = t.kept ∙ ap (staying c (addr ∷ [])) view;
+      gone = ap (filter given) (sym view) ∙ t.gone;
       sums = λ f.
           let stay : sum_by f (map region_of (without_key ks key)) ≡ sum_by f (filter (λ r. not (given r)) (map region_of ks)) = ap (sum_by f) t.kept in
           let gone : sum_by f (filter given (map region_of ks)) ≡ sum_by f (region_of key ∷ []) = ap (sum_by f) t.gone in

@@ -1,7 +1,10 @@
 -- The sum of all rooms where one of them changes.
-use Rattle.std.proofs.Common.{◌≡◌, ℕ, ◌+◌, ◌<◌, ◌≤◌, List, length, slice_set, arith}
+use Rattle.std.proofs.Common.{◌≡◌, ℕ, ◌+◌, ◌<◌, ◌≤◌, false, List, length, slice_set, refl, sym, subst, arith}
 use Rattle.std.proofs.lemmas.List.Sums.{sum_by-set}
-use Rattle.arena_core.specs.Arenas.{all_rooms, room_of}
+use Rattle.space_model.specs.declared.entries.Op.{Op}
+use Rattle.space_model.specs.declared.entries.Op.TheVariants.{Back}
+use Rattle.space_model.specs.declared.spaces.Space.{Space}
+use Rattle.arena_core.specs.Arenas.{all_rooms, emptied_by, is_return, room_of}
 use Rattle.arena_core.specs.declared.indexes.Indexes.{Indexes}
 use Rattle.arena_core.specs.Indexes.{HasPlaces}
 
@@ -15,4 +18,17 @@ rooms_fewer rooms client few more h le = omega (arith, rooms_with rooms client f
 
 -- places for more are places for fewer
 pub places_fewer : (i : Indexes) (few more : ℕ) → few ≤ more → HasPlaces i more → HasPlaces i few
-places_fewer i few more le h = record { extents = omega (arith, h.extents); regions = omega (arith, h.regions) }
+places_fewer i few more le h = record { extents = omega (arith, h.extents); regions = omega (arith, h.regions); offers = omega (arith, h.offers) }
+
+-- places for all rooms are still there where neither is fewer
+pub places_of : {i j : Indexes} {old new : List ℕ} → ((n : ℕ) → HasPlaces i n → HasPlaces j n) → new ≡ old → HasPlaces i (all_rooms old) → HasPlaces j (all_rooms new)
+places_of {i} {j} {old} keeps same h = keeps _ (subst (λ rooms. HasPlaces i (all_rooms rooms)) (sym same) h)
+
+-- an operation that takes no place leaves one less than there were
+pub places_kept : {i j : Indexes} → ((n : ℕ) → HasPlaces i n → HasPlaces j n) → (n : ℕ) → HasPlaces i (n + 1) → HasPlaces j n
+places_kept {i} keeps n h = keeps n (places_fewer i n (n + 1) (omega arith) h)
+
+-- an operation that is no return empties nothing
+pub empties_nothing : (client : ℕ) (op : Op) (s : Space) → is_return op ≡ false → emptied_by client op s ≡ 0
+empties_nothing client (Back addrs) s other = absurd (cc)
+empties_nothing client op s other = refl

@@ -1,5 +1,5 @@
 -- Extents that are apart stay apart, with sums that are known, where one or two of them are exchanged.
-use Rattle.std.proofs.Common.{◌≡◌, ◌≢◌, ℕ, ◌+◌, ◌<◌, ◌≤◌, Bool, true, false, not, cond, List, [], ◌∷◌, ◌++◌, find, filter, Option, Some, IfSome, refl, sym, ◌∙◌, ap, subst, arith, All, append_assoc, inl, inr}
+use Rattle.std.proofs.Common.{◌≡◌, ◌≢◌, ℕ, ◌+◌, ◌-◌, ◌^◌, ◌<◌, ◌≤◌, Bool, true, false, not, cond, List, [], ◌∷◌, ◌++◌, find, filter, Option, Some, IfSome, refl, sym, ◌∙◌, ap, subst, arith, All, append_assoc, inl, inr}
 use Rattle.std.specs.Option.{IsSome}
 use Rattle.std.specs.List.{count_by, list_any, sum_by}
 use Rattle.std.proofs.lemmas.Bool.{cases_Bool, cases_lt}
@@ -16,7 +16,7 @@ use Rattle.space_model.proofs.Exchange.{All-exchanged, filter-begins_at, filter_
 use Rattle.space_model.proofs.Settled.{some_pages}
 use Rattle.space_model.proofs.Pieces.{put_down-idle}
 use Rattle.space_model.proofs.Intervals.{lengths-le}
-use Rattle.part_book.specs.Books.{AreAlike, Book}
+use Rattle.part_book.specs.Books.{AreBeside, Book}
 use Rattle.arena_core.specs.Extents.{IsApart, IsThere, active_pages, all_pages}
 use Rattle.arena_core.proofs.Finds.{begins_once}
 
@@ -104,6 +104,26 @@ pages_fit parts apart =
     (All-weaker (λ p. IsPlaced p.span) (λ p. p.span.first + p.span.pages ≤ pages_end) (λ p h. h.2) parts apart.placed)
     apart.owners
 
+-- ---- an extent goes
+
+-- What is left where one extent goes.
+pub record Gone (parts after : List Part) (p : Part) : Type 0 where
+  pub apart : IsApart after
+  pub pages : all_pages after + p.span.pages ≡ all_pages parts
+  pub active : active_pages after + serving p ≡ active_pages parts
+
+pub gone : (parts : List Part) (p : Part) → IsApart parts → IsThere parts p → Gone parts (exchanged (begins_at p.span.first) parts []) p
+gone parts p apart there =
+    let some = some_pages parts apart.placed in
+    let sums = λ (f : Part → ℕ). sum_by-replaced f (begins_at p.span.first) parts [] p some (apart.owners p.span.first) there in record {
+      apart = record {
+        placed = All-exchanged (λ q. IsPlaced q.span) (begins_at p.span.first) parts [] apart.placed (All-nil (λ q. IsPlaced q.span));
+        owners = λ page. omega (arith, sums (share page), apart.owners page);
+      };
+      pages = omega (arith, sums pages);
+      active = omega (arith, sums serving);
+    }
+
 -- ---- two extents become one
 
 -- of two extents side by side none begins as both do
@@ -114,13 +134,12 @@ begin_apart p q less x h = grind (arith, nat_tests)
 joined_share : (page : ℕ) (p q : Part) → end_of p.span ≡ q.span.first → share page (joined p q) ≡ share page p + share page q
 joined_share page p q side = grind (arith, nat_tests)
 
-pub joined_swaps : (parts : List Part) (p q : Part) → IsApart parts → IsThere parts p → IsThere parts q → AreAlike p q →
+pub joined_swaps : (parts : List Part) (p q : Part) → IsApart parts → IsThere parts p → IsThere parts q → AreBeside p q →
     Swapped parts (exchanged (begins_either p q) parts (joined p q ∷ [])) (serving p + serving q) (active_pages (joined p q ∷ []))
-joined_swaps parts p q apart low high alike =
+joined_swaps parts p q apart low high side =
     let some = some_pages parts apart.placed in
     let p_placed = there_placed parts p apart low in
     let q_placed = there_placed parts q apart high in
-    let side = alike.beside in
     let less : p.span.first < q.span.first = let h = p_placed.0 in omega arith in
     let one : IsPlaced (joined p q).span = (let h = p_placed.0 in omega arith, p_placed.1, let h = q_placed.2 in omega arith) in
     let p_alone = λ (f : Part → ℕ). ap (sum_by f) (filter-begins_at (begins_at p.span.first) parts p some (apart.owners p.span.first) low) in
@@ -249,9 +268,9 @@ there_within parts p apart there = (
     if_le : (b : Bool) (n : ℕ) → cond b n 0 ≤ n
     if_le b n = grind arith
 
--- two extents of one use, as one, serve as many pages
-pub joined_active : (p q : Part) → AreAlike p q → active_pages (joined p q ∷ []) ≡ serving p + serving q
-joined_active p q alike = grind (arith, ap is_active alike.state, sum_by-cons serving (joined p q) [])
+-- two extents as one serve as many pages as they would if both were of the first one's use
+pub joined_active : (p q : Part) → active_pages (joined p q ∷ []) ≡ serving p + active_pages (record q { state = p.state } ∷ [])
+joined_active p q = grind (arith, sum_by-cons serving (joined p q) [], sum_by-cons serving (record q { state = p.state }) [])
 
 -- the pieces of a cut, of which the one that keeps the state comes last
 abbrev pub pieces_of : Bool → ℕ → Part → List Part
@@ -361,3 +380,51 @@ splits {one} {down} parts p left keep_low at apart there some fewer cut down_is 
         Splits one (exchanged (begins_at p.span.first) parts (pieces_of k left p)) down at p.state p.committed
     by true s at_is = halves_split _ (high_piece left p) (low_piece left p) s refl down_is at_is
     by false s at_is = halves_split _ (low_piece left p) (high_piece left p) s refl down_is at_is
+
+-- ---- pages are cut off
+
+-- the pages cut off are an extent of another state behind the others
+pub cut_off : (parts : List Part) (p : Part) (left : ℕ) (state : State) → IsApart parts → IsThere parts p → 0 < left → left < p.span.pages →
+    Swapped parts (exchanged (begins_at p.span.first) parts (low_piece left p ∷ record (high_piece left p) { state = state } ∷ [])) (serving (high_piece left p)) (active_pages (record (high_piece left p) { state = state } ∷ []))
+cut_off parts p left state apart there some fewer =
+    let low : Part = low_piece left p in
+    let high : Part = record (high_piece left p) { state = state } in
+    let swap = swapped parts (low ∷ high ∷ []) p apart there (two_fill p low high left (there_placed parts p apart there) some fewer refl refl).0 in
+    let halves : serving p ≡ serving low + serving (high_piece left p) = cut_serving (is_active p.state) p.span.pages fewer in record {
+      apart = swap.apart;
+      pages = swap.pages;
+      active = omega (arith, swap.active, halves, sum_by-cons serving low (high ∷ []), sum_by-cons serving high []);
+    }
+  where
+    cut_serving : (b : Bool) (n : ℕ) → left < n → cond b n 0 ≡ cond b left 0 + cond b (n - left) 0
+    cut_serving b n less = grind arith
+
+-- they are within the sums
+pub cut_within : (parts : List Part) (p : Part) (left : ℕ) → IsApart parts → IsThere parts p → (active_pages (high_piece left p ∷ []) ≤ active_pages parts) × (active_pages parts + (high_piece left p).span.pages < 2 ^ 64)
+cut_within parts p left apart there =
+    let h = there_within parts p apart there in (
+      omega (arith, h.0, fewer_serve (is_active p.state) p.span.pages, sum_by-cons serving p [], sum_by-cons serving (high_piece left p) []),
+      omega (arith, h.1, h.2, h.3),
+    )
+  where
+    fewer_serve : (b : Bool) (n : ℕ) → cond b (n - left) 0 ≤ cond b n 0
+    fewer_serve b n = grind arith
+
+-- what the two calls find and leave, of which the first one cuts and the second one gives the high piece its state
+pub cut_twice : (one parts : List Part) (p : Part) (left : ℕ) (state : State) → IsApart parts → IsThere parts p → 0 < left → left < p.span.pages →
+    IfSome (find (begins_at p.span.first) parts) (λ q. one ≡ exchanged (begins_at p.span.first) parts (low_piece left q ∷ high_piece left q ∷ [])) →
+    IsSome (find (begins_at (p.span.first + left)) one)
+    × ((two : List Part) → Restated one two (p.span.first + left) state p.committed → two ≡ exchanged (begins_at p.span.first) parts (low_piece left p ∷ record (high_piece left p) { state = state } ∷ []))
+cut_twice one parts p left state apart there some fewer cut =
+    let low : Part = low_piece left p in
+    let high : Part = high_piece left p in
+    let others : List Part = filter (λ q. not (begins_at p.span.first q)) parts in
+    let one_is = at_some (λ q. one ≡ exchanged (begins_at p.span.first) parts (low_piece left q ∷ high_piece left q ∷ [])) _ p there cut in
+    let halved = (swapped parts (low ∷ high ∷ []) p apart there (two_fill p low high left (there_placed parts p apart there) some fewer refl refl).0).apart in
+    let at = behind others low high (record high { state = state }) halved (omega arith) in
+    let found = ap (find (begins_at high.span.first)) one_is ∙ at.second_there in (
+      rw found refl,
+      λ two h. at_some (λ (q : Part). two ≡ exchanged (begins_at high.span.first) one (record q { state = state; committed = p.committed } ∷ [])) _ high found h
+          ∙ ap (λ xs. exchanged (begins_at high.span.first) xs (record high { state = state } ∷ [])) one_is
+          ∙ at.second,
+    )

@@ -1,5 +1,5 @@
 -- The counts of bytes are those of pages, and what is read of all extents.
-use Rattle.std.proofs.Common.{◌≡◌, ℕ, ◌+◌, ◌*◌, ◌^◌, ◌<◌, ◌≤◌, Bool, true, false, cond, List, [], ◌∷◌, get_or, find, filter, refl, sym, arith}
+use Rattle.std.proofs.Common.{◌≡◌, ℕ, ◌+◌, ◌-◌, ◌*◌, ◌^◌, ◌<◌, ◌≤◌, Bool, true, false, cond, List, [], ◌∷◌, get_or, find, filter, refl, sym, arith}
 use Rattle.std.specs.List.{list_any, sum_by}
 use Rattle.std.specs.Option.{is_some}
 use Rattle.std.proofs.lemmas.Bool.Decides.{nat_tests}
@@ -10,18 +10,18 @@ use Rattle.space_model.specs.declared.parts.Rest.{Rest}
 use Rattle.space_model.specs.declared.parts.Rest.TheVariants.{Dirty as ToDirty, Muzzy as ToMuzzy, Retained as ToRetained}
 use Rattle.space_model.specs.declared.parts.State.{State}
 use Rattle.space_model.specs.declared.spaces.Space.{Space}
-use Rattle.space_model.specs.Span.{IsPlaced, chunk_span, meets}
-use Rattle.space_model.specs.Part.{is_active, is_listed}
+use Rattle.space_model.specs.Span.{IsPlaced, chunk_span, meets, pages_end}
+use Rattle.space_model.specs.Part.{is_active, is_listed, pages_listed}
 use Rattle.space_model.specs.Counts.{bytes_of, bytes_where, is_mapped}
 use Rattle.space_model.specs.Sound.{Sound, is_in_flight}
-use Rattle.space_model.proofs.Sums.{bytes_le, bytes_pages, mapped_sum, whole_sum}
+use Rattle.space_model.proofs.Sums.{bytes_le, bytes_pages, listed_fit_space, mapped_sum, whole_sum}
 use Rattle.part_book.specs.Books.{pages_of}
 use Rattle.arena_core.specs.Extents.{active_pages, all_pages}
 use Rattle.arena_core.specs.declared.indexes.Indexes.{Indexes}
 use Rattle.arena_core.specs.Indexes.{space_of}
 
 -- the pages of an extent whose state passes, or none
-abbrev pages_if : (State → Bool) → Part → ℕ
+abbrev pub pages_if : (State → Bool) → Part → ℕ
 pages_if test p = cond (test p.state) p.span.pages 0
 
 -- bytes are 4096 times pages
@@ -41,11 +41,15 @@ where_pages test (p ∷ ps) =
     )
 
 -- the pages of the listed extents, as a sum over all
-listed_pages : (rest : Rest) (parts : List Part) → pages_of rest parts ≡ sum_by (pages_if (is_listed rest)) parts
+pub listed_pages : (rest : Rest) (parts : List Part) → pages_of rest parts ≡ pages_listed rest parts
 listed_pages rest [] = refl
 listed_pages rest (p ∷ ps) =
     let kept = filter (λ q. is_listed rest q.state) ps in
     grind (arith, listed_pages rest ps, sum_by-cons (λ q. q.span.pages) p kept, sum_by-cons (pages_if (is_listed rest)) p ps)
+
+-- they are no more than the pages of the space
+pub listed_fit : (rest : Rest) (s : Space) → Sound s → pages_of rest s.parts ≤ pages_end - 512
+listed_fit rest s sound = omega (arith, listed_pages rest s.parts, listed_fit_space rest s sound)
 
 -- How the counts of a space come of the sums of pages.
 pub record Summed (parts : List Part) : Type 0 where

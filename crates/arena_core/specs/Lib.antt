@@ -1,5 +1,8 @@
 pub mod Arenas
+pub mod Booked
 pub mod Extents
 pub mod Indexes
+pub mod OfferLists
 pub mod RegionLists
 pub mod Rooms
+pub mod Slabs

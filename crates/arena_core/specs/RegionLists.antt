@@ -1,9 +1,9 @@
 -- Regions as keys of an ordered set: the address first, the class and the holder in one number.
-use Rattle.std.specs.Prelude.{◌≡◌, Bool, ℕ, ◌+◌, ◌-◌, ◌*◌, ◌/◌, ◌%◌, ◌==◌, ◌&&◌, List, map, nat_le, nat_lt, Option, None, Some, if◌then◌else◌, All, ◌≤◌}
+use Rattle.std.specs.Prelude.{◌≡◌, Bool, ℕ, ◌+◌, ◌-◌, ◌*◌, ◌/◌, ◌%◌, ◌==◌, ◌&&◌, List, map, nat_le, nat_lt, Option, None, Some, if◌then◌else◌}
 use Rattle.ordered_set.specs.declared.key.Key.{Key}
 use Rattle.ordered_set.specs.Keys.{IsAscending}
 use Rattle.space_model.specs.declared.parts.Region.{Region}
-use Rattle.space_model.specs.Counts.{region_bytes, regions_by_class}
+use Rattle.space_model.specs.Counts.{region_bytes, region_bytes_where, regions_by_class}
 use Rattle.arena_core.specs.declared.regions.RegionSet.TheInside.{Inside}
 
 -- what callers see of a set of regions: the regions by address, and how many more it has memory for
@@ -28,6 +28,11 @@ key_of r = record { major = r.addr; minor = r.class + 256 * code_of r.holder }
 abbrev pub region_of : Key → Region
 region_of key = record { addr = key.major; class = key.minor % 256; holder = holder_of (key.minor / 256) }
 
+-- the class of the region of a key that was found, if the region begins at the address and nobody holds it
+abbrev pub published_of : ℕ → Option Key → Option ℕ
+published_of addr None = None
+published_of addr (Some k) = if k.major == addr && nat_lt k.minor 256 then Some (k.minor % 256) else None
+
 -- whether a region begins in the range of addresses
 abbrev pub begins_within : ℕ → ℕ → Region → Bool
 begins_within low high r = nat_le low r.addr && nat_lt r.addr high
@@ -36,13 +41,9 @@ begins_within low high r = nat_le low r.addr && nat_lt r.addr high
 abbrev pub shown : Inside → RegionList
 shown set = record { regions = map region_of set.keys.keys; spare = set.keys.spare }
 
--- all regions are of large classes
-abbrev pub IsLarge : List Region → Type 0
-IsLarge regions = All (λ r. 36 ≤ r.class) regions
-
--- the keys ascend, and the number of bytes and the numbers of the large classes are those of the regions, none of which is small
+-- the keys ascend, and the numbers of bytes and of regions by class are those of their regions
 pub record IsRegions (set : Inside) : Type 0 where
   pub ascending : IsAscending set.keys.keys
   pub bytes : set.bytes ≡ region_bytes (map region_of set.keys.keys)
-  pub large : IsLarge (map region_of set.keys.keys)
-  pub classes : set.classes ≡ regions_by_class 36 85 (map region_of set.keys.keys)
+  pub small : set.small ≡ region_bytes_where (λ class. nat_lt class 36) (map region_of set.keys.keys)
+  pub classes : set.classes ≡ regions_by_class 0 121 (map region_of set.keys.keys)

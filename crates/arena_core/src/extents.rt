@@ -1,12 +1,14 @@
 //! The extents of an arena, with running sums of their pages.
 
-ghost use Rattle.std.specs.Prelude.{◌≡◌, ◌==◌, ◌&&◌, ◌+◌, ◌^◌, ◌<◌, ◌≤◌, ℕ, [], ◌∷◌, ◌++◌, max, find, IfOk, IfSome, OnOk, OnErr, cond, true, false};
+ghost use Rattle.std.specs.Prelude.{◌≡◌, ◌==◌, ◌&&◌, ◌+◌, ◌^◌, ◌<◌, ◌≤◌, ℕ, [], ◌∷◌, ◌++◌, max, nat_le, find, slice_get, IfOk, IfSome, IsSome, Some, OnOk, OnErr, cond, true, false};
 ghost use Rattle.std.specs.List.{list_any};
 ghost use Rattle.space_model.specs.Span.{IsPlaced, has_page, meets};
-ghost use Rattle.space_model.specs.Part.{begins_at, exchanged, holders, is_active, is_flight, is_flight_at, listed, put_down};
+ghost use Rattle.space_model.specs.Part.{begins_at, exchanged, holders, is_active, is_flight, is_flight_at, is_listed, is_unused, listed, put_down};
 ghost use Rattle.space_model.specs.Fit.{fit};
+ghost use Rattle.space_model.specs.Purging.{count_listed};
+ghost use Rattle.space_model.specs.Resizing.{is_spare};
 ghost use Rattle.space_model.specs.Step.{begins_either, high_piece, is_left_of, is_like, is_right_of, joined, low_piece, neighbour, next_flight};
-ghost use Rattle.part_book.specs.Books.{AreAlike, pages_of};
+ghost use Rattle.part_book.specs.Books.{AreBeside, pages_of};
 ghost use Rattle.arena_core.specs.Extents.{IsApart, IsThere, active_pages, all_pages, kept};
 
 use part_book::PartBook;
@@ -88,6 +90,46 @@ impl Extents {
         self.book.fit(pages, align)
     }
 
+    /// The oldest extent.
+    pub fn first(&self) -> Option<Part>
+        ensures first { result ≡ slice_get self.now.parts 0 }
+        ensures there { IfSome result (IsThere self.now.parts) }
+    {
+        self.book.first()
+    }
+
+    /// The extent that is longest among those listed for a rest.
+    pub fn oldest(&self, rest: Rest) -> Option<Part>
+        ensures oldest { result ≡ find (λ p. is_listed rest p.state) self.now.parts }
+        ensures there { IfSome result (IsThere self.now.parts) }
+    {
+        self.book.oldest(rest)
+    }
+
+    /// How many extents are listed for a rest.
+    pub fn count(&self, rest: Rest) -> u64
+        ensures { result ≡ count_listed rest self.now.parts }
+    {
+        self.book.count(rest)
+    }
+
+    /// The extent that begins at a page.
+    pub fn at(&self, first: u64) -> Part
+        requires { IsSome (find (begins_at first) self.now.parts) }
+        ensures at { find (begins_at first) self.now.parts ≡ Some result }
+        ensures there { IsThere self.now.parts result }
+    {
+        self.book.look(first).unwrap()
+    }
+
+    /// The unused extent that begins at a page, if it has so many pages.
+    pub fn spare_at(&self, page: u64, pages: u64) -> Option<Part>
+        ensures spare { result ≡ find (is_spare page pages) self.now.parts }
+        ensures there { IfSome result (IsThere self.now.parts) }
+    {
+        spare_of(pages, self.book.look(page))
+    }
+
     /// The extent that has a page.
     pub fn holding(&self, page: u64) -> Option<Part>
         ensures holds { result ≡ find (λ p. has_page page p.span) self.now.parts }
@@ -161,6 +203,17 @@ impl Extents {
         self.book.set_state(part.span.first, state, committed);
     }
 
+    /// Takes an extent off. Its place counts again after the next `reserve`.
+    pub fn take_off(&mut self, part: &Part)
+        requires { IsThere self.old.parts part.now }
+        ensures parts { self.new.parts ≡ exchanged (begins_at part.now.span.first) self.old.parts [] }
+        ensures spare { self.new.spare ≡ self.old.spare }
+    {
+        self.active = active_after(self.active, part, State::Retained);
+        self.total -= part.span.pages;
+        self.book.drop_part(part.span.first);
+    }
+
     /// Makes two of an extent that serves no region. The piece that keeps its state comes last,
     /// behind the other one, which is put down. It takes a place.
     pub fn split(&mut self, part: &Part, left: u64, keep_low: bool)
@@ -177,15 +230,33 @@ impl Extents {
         split_in(&mut self.book, part, left, keep_low);
     }
 
-    /// Makes one of two extents side by side. It comes last.
+    /// Cuts the pages behind the first `left` off an extent, as one of another state. It comes last, behind the first pages.
+    /// It takes a place.
+    pub fn cut_off(&mut self, part: &Part, left: u64, state: State)
+        requires there { IsThere self.old.parts part.now }
+        requires room { 0 < self.old.spare }
+        requires some { 0 < left }
+        requires fewer { left < part.now.span.pages }
+        ensures parts { self.new.parts ≡ exchanged (begins_at part.now.span.first) self.old.parts
+            (low_piece left part.now ∷ record (high_piece left part.now) { state = state } ∷ []) }
+        ensures spare { self.new.spare + 1 ≡ self.old.spare }
+    {
+        self.book.cut(part.span.first, left);
+        let high = part.high_piece(left);
+        self.active = active_after(self.active, &high, state);
+        self.book.set_state(high.span.first, state, high.committed);
+    }
+
+    /// Makes one of two extents side by side, with the first one's state and commit state. It comes last.
     pub fn join(&mut self, low: &Part, high: &Part)
         requires low { IsThere self.old.parts low.now }
         requires high { IsThere self.old.parts high.now }
-        requires alike { AreAlike low.now high.now }
+        requires beside { AreBeside low.now high.now }
         ensures parts { self.new.parts
             ≡ exchanged (begins_either low.now high.now) self.old.parts (joined low.now high.now ∷ []) }
         ensures spare { self.new.spare ≡ self.old.spare }
     {
+        self.active = active_after(self.active, high, low.state);
         self.book.join(low.span.first, high.span.first);
     }
 
@@ -222,6 +293,18 @@ fn flight_of(client: u32, pages: u64, found: Option<Part>) -> Option<Part>
 {
     let part = found?;
     if part.state.is_flight_of(client) && part.span.pages == pages {
+        Some(part)
+    } else {
+        None
+    }
+}
+
+/// What was found, where it is unused and has so many pages.
+fn spare_of(pages: u64, found: Option<Part>) -> Option<Part>
+    ensures { result ≡ kept (λ p. is_unused p.state && nat_le pages p.span.pages) found }
+{
+    let part = found?;
+    if part.state.is_unused() && pages <= part.span.pages {
         Some(part)
     } else {
         None

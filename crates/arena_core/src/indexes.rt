@@ -4,32 +4,40 @@ ghost use Rattle.std.specs.Prelude.{◌≡◌, ℕ, OnOk};
 ghost use Rattle.arena_core.specs.Indexes.{HasPlaces, space_of};
 
 use crate::extents::Extents;
+use crate::offer_list::OfferList;
 use crate::regions::RegionSet;
-use space_model::{Clients, Life, Offers, Pace};
-use std::alloc::AllocError as NoMemory;
+use decay_curve::Decay;
+use space_model::{Clients, Life};
+use std::alloc::{AllocError as NoMemory, Global};
 
-/// A space: its extents and its regions in their indexes, and all else as it is.
+/// A space: its extents, its regions and its offers with places for more, and all else as it is.
 #[derive(Drop)]
 pub struct Indexes {
     pub life: Life,
     pub extents: Extents,
     pub regions: RegionSet,
-    pub offers: Offers,
+    pub offers: OfferList,
     pub bound: Clients,
     pub box_no: u32,
-    pub dirty: Pace,
-    pub muzzy: Pace,
+    pub dirty: Decay,
+    pub muzzy: Decay,
     pub grow: u64,
     pub grow_limit: u64,
     pub trims: Clients,
+    pub alloc: Global,
 }
 
-/// Makes places for at least so many further extents and regions. The space stays.
+/// How many regions land in one extent at most.
+const MOST_REGIONS: u64 = 512;
+
+/// Makes places for at least so many further extents and offers, and for the regions of as many slabs. The space stays.
 pub fn reserve(indexes: &mut Indexes, places: u64) -> Result<(), NoMemory>
     ensures space { space_of indexes.new ≡ space_of indexes.old }
     ensures kept { (n : ℕ) → HasPlaces indexes.old n → HasPlaces indexes.new n }
     ensures ok { OnOk result (HasPlaces indexes.new places) }
 {
+    let regions = places.checked_mul(MOST_REGIONS).ok_or(NoMemory)?;
     indexes.extents.reserve(places)?;
-    indexes.regions.reserve(places)
+    indexes.regions.reserve(regions)?;
+    indexes.offers.reserve(places)
 }

@@ -1,9 +1,9 @@
 //! One arena over its indexes: the step of `space_model`, by look-ups and never by scans.
 #![tactic(auto)]
 
-ghost use Rattle.std.specs.Prelude.{◌≡◌, ◌≢◌, ◌⊎◌, ◌<◌, ◌++◌, ◌∷◌, [], ℕ, false, true, replicate, IsTrue, IsOk, IfOk, OnOk, OnErr};
+ghost use Rattle.std.specs.Prelude.{◌≡◌, ◌≢◌, ◌⊎◌, ◌<◌, ◌≤◌, ◌++◌, ◌∷◌, [], ℕ, false, true, replicate, IsTrue, IsOk, IfOk, OnOk, OnErr};
 ghost use Rattle.std.specs.List.{list_any};
-ghost use Rattle.space_model.specs.Span.{chunk_span, has_page, meets};
+ghost use Rattle.space_model.specs.Span.{chunk_span, has_page, max_series, meets};
 ghost use Rattle.space_model.specs.Opening.{absent_space, first_space};
 ghost use Rattle.space_model.specs.Step.{next_flight, reply_to, space_after, stands};
 ghost use Rattle.space_model.specs.Sound.{Sound};
@@ -12,22 +12,32 @@ ghost use Rattle.space_model.specs.Own.{mine};
 ghost use Rattle.space_model.specs.Counts.{counts_of};
 ghost use Rattle.arena_core.specs.Arenas.{entry_of, is_carried, opens, room_after, room_of};
 
+mod ends;
 mod extents;
 mod frees;
+mod holders;
 mod indexes;
+pub mod laws;
 mod moves;
+mod offer_list;
+mod offers;
+mod purges;
 mod readers;
 mod regions;
+mod resizes;
 mod rooms;
+mod settings;
+mod slabs;
 mod steps;
 #[cfg(test)]
 mod tests;
 
+use decay_curve::Decay;
 use extents::Extents;
 use indexes::Indexes;
+use offer_list::OfferList;
 use regions::RegionSet;
 use rooms::Rooms;
-use size_classes::SMALL_CLASSES;
 use space_model::{Counts, Life, Op, Reply, Space, Span};
 use std::alloc::{AllocError as NoMemory, Global};
 use std::marker::Model;
@@ -65,24 +75,26 @@ impl Arena {
                     life: space.life,
                     extents: Extents::new(alloc)?,
                     regions: RegionSet::new(alloc),
-                    offers: space.offers,
+                    offers: OfferList::new(alloc),
                     bound: space.bound,
                     box_no: space.box_no,
-                    dirty: space.dirty,
-                    muzzy: space.muzzy,
+                    dirty: Decay::new(alloc, space.dirty.ms, space.dirty.start)?,
+                    muzzy: Decay::new(alloc, space.muzzy.ms, space.muzzy.start)?,
                     grow: space.grow,
                     grow_limit: space.grow_limit,
                     trims: space.trims,
+                    alloc,
                 },
                 rooms: Rooms::none(),
+                slabs: slabs::no_slabs(),
             },
         })
     }
 
-    /// The step of an operation that may stand. A look and a return take memory for themselves and for the operations
-    /// that follow them in their unit, of which each uses one of its client's room up.
+    /// The step of an operation that may stand. The first one of a unit takes memory for itself and for those that follow
+    /// it in the unit, of which each uses one of its client's room up.
     ///
-    /// Where memory is wanting, nothing changes; that comes at a look or a return alone.
+    /// Where memory is wanting, nothing changes; that comes at the first one of a unit alone.
     pub fn step(&mut self, client: u32, op: &Op) -> Result<Reply, NoMemory>
         requires stands { IsTrue (stands self.old.space (entry_of client op.now)) }
         requires carried { is_carried op.now ≡ true }
@@ -100,7 +112,7 @@ impl Arena {
         steps::step(&mut self.body, client, op)
     }
 
-    /// Whether [`Arena::step`] carries an operation out. So far it does those of large mallocs and of frees.
+    /// Whether [`Arena::step`] carries an operation out, so far.
     pub fn carries_out(op: &Op) -> bool
         ensures { result ≡ is_carried op.now }
     {
@@ -109,10 +121,26 @@ impl Arena {
             | Op::CutDone { .. }
             | Op::GrowDone { .. }
             | Op::CommitDone { .. }
+            | Op::Land { .. }
             | Op::Back { .. }
             | Op::PutLook { .. }
-            | Op::MergeDone { .. } => true,
-            Op::Land { class, .. } => *class >= SMALL_CLASSES,
+            | Op::MergeDone { .. }
+            | Op::Advance { .. }
+            | Op::Set(_)
+            | Op::Counts
+            | Op::PurgeTake { .. }
+            | Op::LazyDone { .. }
+            | Op::Offer { .. }
+            | Op::OfferDone { .. }
+            | Op::DecommitDone { .. }
+            | Op::ForcedDone { .. }
+            | Op::Publish { .. }
+            | Op::TakeOver { .. }
+            | Op::DestroyTake
+            | Op::Widen { .. }
+            | Op::JoinDone { .. }
+            | Op::Trim { .. }
+            | Op::TrimDone { .. } => true,
             _ => false,
         }
     }
@@ -121,7 +149,7 @@ impl Arena {
     pub fn counts(&self) -> Counts
         ensures { result ≡ counts_of self.now.space }
     {
-        readers::counts(&self.body.indexes)
+        readers::counts(&self.body.indexes, &self.body.slabs)
     }
 
     /// Whether the arena is there.
@@ -143,7 +171,16 @@ impl Arena {
     pub fn times(&self) -> (i64, i64)
         ensures { result ≡ (self.now.space.dirty.ms, self.now.space.muzzy.ms) }
     {
-        (self.body.indexes.dirty.ms, self.body.indexes.muzzy.ms)
+        let indexes = &self.body.indexes;
+        (indexes.dirty.ms(), indexes.muzzy.ms())
+    }
+
+    /// The most chunks that it grows by where no request needs so many, from 1 to 16384.
+    pub fn grow_limit(&self) -> u64
+        ensures grow_limit { result ≡ self.now.space.grow_limit }
+        ensures bound { result ≤ max_series }
+    {
+        self.body.indexes.grow_limit
     }
 
     /// Whether an extent meets a chunk.

@@ -1,6 +1,10 @@
 //! What the operations of a malloc do to the indexes.
 
-ghost use Rattle.std.specs.Prelude.{◌≡◌, ℕ, ◌+◌, ◌≤◌, ◌<◌, ◌^◌, false, IsTrue, Some, find, IfSome};
+ghost use Rattle.std.specs.Prelude.{◌≡◌, ◌==◌, ℕ, ◌+◌, ◌*◌, ◌≤◌, ◌<◌, ◌^◌, false, IsTrue, Some, find, IfSome};
+ghost use Rattle.std.specs.List.{list_any};
+ghost use Rattle.size_classes.specs.Classes.{size_at};
+ghost use Rattle.space_model.specs.Region.{landing, regions_from};
+ghost use Rattle.space_model.specs.Counts.{region_bytes};
 ghost use Rattle.space_model.specs.Span.{IsPlaced, pages_end, end_of, run_start, chunks_of};
 ghost use Rattle.space_model.specs.Part.{is_active, is_flight_at};
 ghost use Rattle.space_model.specs.Step.{cut_stands, grow_stands, land_stands, land_at, after_look, after_cut, after_grow, after_commit, cut_at, whole_at, is_found, is_owned, is_in_space, why_not, grow_after};
@@ -10,7 +14,8 @@ ghost use Rattle.arena_core.specs.Indexes.{HasPlaces, space_of};
 
 use crate::extents::Extents;
 use crate::indexes::Indexes;
-use size_classes::PAGE_BYTES;
+use crate::regions::RegionSet;
+use size_classes::{PAGE_BYTES, size_of};
 use space_model::{
     Answer, Ask, CHUNK_PAGES, Heard, MAX_SERIES, Part, Region, Reply, Rest, Span, State, Why,
 };
@@ -42,7 +47,7 @@ pub fn look(indexes: &mut Indexes, client: u32, pages: u64, align: u64) -> Reply
 }
 
 /// An extent in flight whose hook refused is put down whole.
-fn put_whole(indexes: &mut Indexes, found: Option<Part>) -> Reply
+pub fn put_whole(indexes: &mut Indexes, found: Option<Part>) -> Reply
     requires { IfSome found (IsThere (space_of indexes.old).parts) }
     ensures after { space_of indexes.new ≡ (whole_at (space_of indexes.old) found).after }
     ensures reply { result ≡ (whole_at (space_of indexes.old) found).reply }
@@ -212,10 +217,28 @@ pub fn grow_done(indexes: &mut Indexes, client: u32, heard: Heard, found: Option
     }
 }
 
-/// An extent in flight serves one region of a large class from now on, which the client holds.
+/// The first `count` regions of a class from an address on are the client's.
+fn land(regions: &mut RegionSet, client: u32, class: u8, first: u64, count: u32)
+    requires class { class < 121 }
+    requires room { count ≤ regions.old.spare }
+    requires absent { (k : ℕ) → k < count → list_any (λ r. r.addr == first + k * size_at class) regions.old.regions ≡ false }
+    requires fits { region_bytes regions.old.regions + count * size_at class < 2 ^ 64 }
+    requires ends { first + count * size_at class < 2 ^ 64 }
+    ensures regions { regions.new.regions ≡ landing (regions_from client class first count) regions.old.regions }
+    ensures spare { regions.new.spare + count ≡ regions.old.spare }
+{
+    for i in 0..count {
+        regions.add(Region {
+            addr: first + u64::from(i) * size_of(class),
+            class,
+            holder: Some(client),
+        });
+    }
+}
+
+/// An extent in flight serves the first `count` regions of a class from now on, which the client holds.
 pub fn land_done(indexes: &mut Indexes, client: u32, span: Span, class: u8, count: u32) -> Reply
     requires stands { IsTrue (land_stands (space_of indexes.old) client span class count) }
-    requires large { 36 ≤ class }
     requires sound { Sound (space_of indexes.old) }
     requires room { HasPlaces indexes.old 1 }
     ensures after { space_of indexes.new
@@ -229,10 +252,6 @@ pub fn land_done(indexes: &mut Indexes, client: u32, span: Span, class: u8, coun
     };
     let first = PAGE_BYTES * part.span.first;
     indexes.extents.change(&part, State::Active, part.committed);
-    indexes.regions.add(Region {
-        addr: first,
-        class,
-        holder: Some(client),
-    });
+    land(&mut indexes.regions, client, class, first, count);
     Reply::Landed { first, count }
 }

@@ -1,27 +1,23 @@
 //! What is read of an arena's indexes.
 
-ghost use Rattle.std.specs.Prelude.{◌≡◌, replicate};
+ghost use Rattle.std.specs.Prelude.{◌≡◌};
 ghost use Rattle.std.specs.List.{list_any};
 ghost use Rattle.space_model.specs.Span.{chunk_span, has_page, meets};
 ghost use Rattle.space_model.specs.Counts.{counts_of};
 ghost use Rattle.space_model.specs.Sound.{Sound};
 ghost use Rattle.arena_core.specs.Indexes.{space_of};
+ghost use Rattle.arena_core.specs.Slabs.{AreSlabs};
 
 use crate::indexes::Indexes;
-use size_classes::{PAGE_BYTES, SMALL_CLASSES};
+use crate::slabs::SMALL;
+use size_classes::PAGE_BYTES;
 use space_model::{CHUNK_PAGES, CHUNKS, Counts, Rest, Span};
-
-/// The numbers of the small classes, of which nothing is there.
-fn none_by_class() -> [u64; SMALL_CLASSES as usize]
-    ensures { result ≡ replicate 36 0 }
-{
-    [0; SMALL_CLASSES as usize]
-}
 
 /// The counts: sums that are kept, and no scan.
 #[tactic(auto, using(crate::proofs::Totals::pages_few))]
-pub fn counts(indexes: &Indexes) -> Counts
-    requires { Sound (space_of indexes.now) }
+pub fn counts(indexes: &Indexes, slabs: &[u64; SMALL]) -> Counts
+    requires sound { Sound (space_of indexes.now) }
+    requires slabs { AreSlabs (space_of indexes.now) slabs.now }
     ensures { result ≡ counts_of (space_of indexes.now) }
 {
     let active = PAGE_BYTES * indexes.extents.active_pages();
@@ -29,20 +25,21 @@ pub fn counts(indexes: &Indexes) -> Counts
     let muzzy = PAGE_BYTES * indexes.extents.listed_pages(Rest::Muzzy);
     let retained = PAGE_BYTES * indexes.extents.listed_pages(Rest::Retained);
     let mapped = PAGE_BYTES * indexes.extents.all_pages() - retained;
-    let large = indexes.regions.bytes();
+    let allocated = indexes.regions.bytes();
+    let small = indexes.regions.small_bytes();
     Counts {
-        allocated: large,
+        allocated,
         active,
         dirty,
         muzzy,
         retained,
         flight: mapped - (active + dirty + muzzy),
         mapped,
-        small: 0,
-        large,
-        regs: none_by_class(),
-        slabs: none_by_class(),
-        lextents: indexes.regions.by_class(),
+        small,
+        large: allocated - small,
+        regs: indexes.regions.small_numbers(),
+        slabs: *slabs,
+        lextents: indexes.regions.large_numbers(),
     }
 }
 

@@ -1,12 +1,13 @@
 //! The regions of an arena by address.
 
-ghost use Rattle.std.specs.Prelude.{◌≡◌, ◌==◌, ◌+◌, ◌-◌, ◌<◌, ◌≤◌, ◌^◌, false, true, [], ◌∷◌, max, All, OnOk, OnErr, count_by, replicate};
+ghost use Rattle.std.specs.Prelude.{◌≡◌, ◌==◌, ◌+◌, ◌-◌, ◌<◌, ◌≤◌, ◌^◌, false, true, [], ◌∷◌, filter, find, map, max, option_map, nat_lt, All, OnOk, OnErr, count_by, replicate, if◌then◌else◌};
 ghost use Rattle.std.specs.List.{list_any};
 ghost use Rattle.size_classes.specs.Classes.{size_at};
-ghost use Rattle.space_model.specs.Region.{inserted};
-ghost use Rattle.space_model.specs.Counts.{region_bytes, regions_by_class};
-ghost use Rattle.space_model.specs.Step.{holds_at, staying};
-ghost use Rattle.arena_core.specs.RegionLists.{begins_within, key_of, IsLarge};
+ghost use Rattle.space_model.specs.Region.{held_anew, inserted};
+ghost use Rattle.space_model.specs.Holding.{is_published_at};
+ghost use Rattle.space_model.specs.Counts.{region_bytes, region_bytes_where, regions_by_class};
+ghost use Rattle.space_model.specs.Step.{holds_at, is_given_back, staying};
+ghost use Rattle.arena_core.specs.RegionLists.{begins_within, code_of, key_of, published_of};
 
 use ordered_set::{Key, OrderedSet};
 use size_classes::{CLASSES, SMALL_CLASSES, size_of};
@@ -17,12 +18,22 @@ use std::marker::Model;
 /// How many classes and holders are told apart in one number: a class is below this.
 const CLASS_SPAN: u64 = 256;
 
-/// Regions of large classes by address, the bytes of all of them, and how many there are of each class.
+/// How many classes there are.
+const ALL_CLASSES: usize = CLASSES as usize;
+
+/// How many classes are small.
+const SMALL: usize = SMALL_CLASSES as usize;
+
+/// How many classes are large.
+const LARGE: usize = ALL_CLASSES - SMALL;
+
+/// Regions by address, the bytes of all of them and of the small ones, and how many there are of each class.
 #[derive(Drop)]
 pub struct RegionSet {
     keys: OrderedSet,
     bytes: u64,
-    classes: [u64; LARGE_CLASSES],
+    small: u64,
+    classes: [u64; ALL_CLASSES],
 }
 
 impl Model for RegionSet {
@@ -35,22 +46,23 @@ impl Model for RegionSet {
     ghost invariant = { IsRegions };
 }
 
-/// How many classes are large.
-pub const LARGE_CLASSES: usize = (CLASSES - SMALL_CLASSES) as usize;
-
-/// The number of a large class among the large ones.
-fn large_index(class: u8) -> usize
-    requires { 36 ≤ class }
-    ensures { result ≡ class - 36 }
+/// The numbers of no regions, by class.
+fn no_regions() -> [u64; ALL_CLASSES]
+    ensures { result ≡ replicate 121 0 }
 {
-    (class - SMALL_CLASSES) as usize
+    [0; ALL_CLASSES]
 }
 
-/// The numbers of no regions, by class.
-fn no_regions() -> [u64; LARGE_CLASSES]
-    ensures { result ≡ replicate 85 0 }
+/// The bytes of a region of a class among those of the small ones.
+fn small_size(class: u8) -> u64
+    requires { class < 121 }
+    ensures { result ≡ (if nat_lt class 36 then size_at class else 0) }
 {
-    [0; LARGE_CLASSES]
+    if class < SMALL_CLASSES {
+        size_of(class)
+    } else {
+        0
+    }
 }
 
 impl RegionSet {
@@ -61,6 +73,7 @@ impl RegionSet {
         RegionSet {
             keys: OrderedSet::new(alloc),
             bytes: 0,
+            small: 0,
             classes: no_regions(),
         }
     }
@@ -74,19 +87,36 @@ impl RegionSet {
         self.keys.reserve(more)
     }
 
-    /// The bytes of all regions, none of which is small.
+    /// The bytes of all regions.
     pub fn bytes(&self) -> u64
-        ensures all { result ≡ region_bytes self.now.regions }
-        ensures large { IsLarge self.now.regions }
+        ensures { result ≡ region_bytes self.now.regions }
     {
         self.bytes
     }
 
+    /// The bytes of the regions of small classes.
+    pub fn small_bytes(&self) -> u64
+        ensures { result ≡ region_bytes_where (λ class. nat_lt class 36) self.now.regions }
+    {
+        self.small
+    }
+
+    /// How many regions there are of each small class.
+    pub fn small_numbers(&self) -> [u64; SMALL]
+        ensures { result ≡ regions_by_class 0 36 self.now.regions }
+    {
+        let mut numbers = [0; SMALL];
+        numbers.copy_from_slice(&self.classes[..SMALL]);
+        numbers
+    }
+
     /// How many regions there are of each large class.
-    pub fn by_class(&self) -> [u64; LARGE_CLASSES]
+    pub fn large_numbers(&self) -> [u64; LARGE]
         ensures { result ≡ regions_by_class 36 85 self.now.regions }
     {
-        self.classes
+        let mut numbers = [0; LARGE];
+        numbers.copy_from_slice(&self.classes[SMALL..]);
+        numbers
     }
 
     /// Whether some region begins at an address from `low` up to `high`, which isn't meant.
@@ -107,7 +137,6 @@ impl RegionSet {
     pub fn add(&mut self, region: Region)
         requires room { 0 < self.old.spare }
         requires class { region.class < 121 }
-        requires large { 36 ≤ region.class }
         requires absent { list_any (λ r. r.addr == region.addr) self.old.regions ≡ false }
         requires fits { region_bytes self.old.regions + size_at region.class < 2 ^ 64 }
         ensures regions { self.new.regions ≡ inserted region self.old.regions }
@@ -115,15 +144,48 @@ impl RegionSet {
     {
         self.keys.insert(key_of(region));
         self.bytes += size_of(region.class);
-        self.classes[large_index(region.class)] += 1;
+        self.small += small_size(region.class);
+        self.classes[region.class as usize] += 1;
     }
 
-    /// Takes a client's region out, and gives its place back.
-    pub fn take(&mut self, client: u32, addr: u64)
+    /// The class of the region at an address, if there is one that nobody holds.
+    pub fn published_at(&self, addr: u64) -> Option<u8>
+        requires alone { count_by (λ r. r.addr == addr) self.now.regions ≤ 1 }
+        ensures { result ≡ option_map (λ r. r.class) (find (is_published_at addr) self.now.regions) }
+    {
+        let start = Key {
+            major: addr,
+            minor: 0,
+        };
+        published_of(addr, self.keys.at_or_after(start))
+    }
+
+    /// Gives the region at an address another holder, or none.
+    pub fn hand_over(&mut self, addr: u64, holder: Option<u32>)
+        requires there { list_any (λ r. r.addr == addr) self.old.regions ≡ true }
+        requires alone { count_by (λ r. r.addr == addr) self.old.regions ≤ 1 }
+        ensures regions { self.new.regions ≡ held_anew (λ r. r.addr == addr) holder self.old.regions }
+        ensures spare { self.new.spare ≡ self.old.spare }
+    {
+        let start = Key {
+            major: addr,
+            minor: 0,
+        };
+        let key = self.keys.at_or_after(start).unwrap();
+        self.keys.remove(key);
+        self.keys.insert(Key {
+            major: key.major,
+            minor: key.minor % CLASS_SPAN + CLASS_SPAN * code_of(holder),
+        });
+    }
+
+    /// Takes a client's region out, and gives its place back. The answer is its class.
+    pub fn take(&mut self, client: u32, addr: u64) -> u8
         requires held { holds_at client self.old.regions addr ≡ true }
         requires alone { count_by (λ r. r.addr == addr) self.old.regions ≤ 1 }
         requires classes { All (λ r. r.class < 121) self.old.regions }
         ensures regions { self.new.regions ≡ staying client (addr ∷ []) self.old.regions }
+        ensures class { map (λ r. r.class) (filter (is_given_back client (addr ∷ [])) self.old.regions) ≡ result ∷ [] }
         ensures spare { self.new.spare ≡ self.old.spare + 1 }
     {
         let start = Key {
@@ -134,7 +196,32 @@ impl RegionSet {
         self.keys.remove(key);
         let class = (key.minor % CLASS_SPAN) as u8;
         self.bytes -= size_of(class);
-        self.classes[large_index(class)] -= 1;
+        self.small -= small_size(class);
+        self.classes[class as usize] -= 1;
+        class
+    }
+}
+
+/// A holder as a number: 0 for none, and else one more than the client's.
+fn code_of(holder: Option<u32>) -> u64
+    ensures code { result ≡ code_of holder }
+    ensures bound { result ≤ 2 ^ 32 }
+{
+    match holder {
+        Some(client) => u64::from(client) + 1,
+        None => 0,
+    }
+}
+
+/// The class of the region of a key that was found, if the region begins at the address and nobody holds it.
+fn published_of(addr: u64, found: Option<Key>) -> Option<u8>
+    ensures { result ≡ published_of addr found }
+{
+    let key = found?;
+    if key.major == addr && key.minor < CLASS_SPAN {
+        Some((key.minor % CLASS_SPAN) as u8)
+    } else {
+        None
     }
 }
 
@@ -142,12 +229,8 @@ impl RegionSet {
 fn key_of(region: Region) -> Key
     ensures { result ≡ key_of region }
 {
-    let code = match region.holder {
-        Some(client) => u64::from(client) + 1,
-        None => 0,
-    };
     Key {
         major: region.addr,
-        minor: u64::from(region.class) + CLASS_SPAN * code,
+        minor: u64::from(region.class) + CLASS_SPAN * code_of(region.holder),
     }
 }

@@ -3,29 +3,33 @@
 ghost use Rattle.std.specs.Prelude.{◌≡◌, ℕ, ◌+◌, ◌*◌, ◌<◌, ◌^◌, false, true, length, max, IsTrue, IsOk, IfOk, OnOk, OnErr, slice_set};
 ghost use Rattle.space_model.specs.Step.{op_stands, step_of};
 ghost use Rattle.space_model.specs.Sound.{Sound};
-ghost use Rattle.arena_core.specs.Arenas.{IsBody, all_rooms, is_carried, opens, room_of, rooms_after, standing_of};
+ghost use Rattle.arena_core.specs.Arenas.{IsBody, all_rooms, is_carried, is_return, opens, room_of, rooms_after, standing_of};
 ghost use Rattle.arena_core.specs.Indexes.{HasPlaces, space_of};
+ghost use Rattle.arena_core.specs.Slabs.{AreSlabs};
 
 use crate::indexes::{self, Indexes};
 use crate::rooms::Rooms;
-use crate::{frees, moves};
+use crate::slabs::{self, SMALL};
+use crate::{ends, frees, holders, moves, offers, purges, resizes, settings};
 use space_model::{Addresses, Op, Reply};
 use std::alloc::AllocError as NoMemory;
 
 /// How many operations that take no memory may follow one that makes room for them.
 const UNIT: u64 = 16;
 
-/// An arena: its space in indexes, and the rooms of its clients.
+/// An arena: its space in indexes, the rooms of its clients, and how many slabs there are of each small class.
 #[derive(Drop)]
 pub struct Body {
     pub indexes: Indexes,
     pub rooms: Rooms,
+    pub slabs: [u64; SMALL],
 }
 
 /// Makes places for all rooms, of which the client's shall be this. Where memory is wanting nothing changes.
 fn make_places(body: &mut Body, client: u32, room: u64) -> Result<(), NoMemory>
     requires client { client < 32 }
     ensures standing { standing_of body.new ≡ standing_of body.old }
+    ensures slabs { body.new.slabs ≡ body.old.slabs }
     ensures kept { (n : ℕ) → HasPlaces body.old.indexes n → HasPlaces body.new.indexes n }
     ensures ok { OnOk result (HasPlaces body.new.indexes (all_rooms (slice_set body.old.rooms client room))) }
     ensures fits { OnOk result (all_rooms (slice_set body.old.rooms client room) < 2 ^ 64) }
@@ -34,21 +38,83 @@ fn make_places(body: &mut Body, client: u32, room: u64) -> Result<(), NoMemory>
     indexes::reserve(&mut body.indexes, places)
 }
 
-/// A look, with room for 16 operations after it.
-fn look(body: &mut Body, client: u32, pages: u64, align: u64) -> Result<Reply, NoMemory>
+/// Whether an operation is the first one of a unit, for which memory is taken.
+fn opens(op: &Op) -> bool
+    ensures { result ≡ opens op.now }
+{
+    matches!(
+        op,
+        Op::Look { .. }
+            | Op::Back { .. }
+            | Op::Fill { .. }
+            | Op::Advance { .. }
+            | Op::PurgeTake { .. }
+            | Op::Publish { .. }
+            | Op::TakeOver { .. }
+            | Op::Reset { .. }
+            | Op::Destroy { .. }
+            | Op::DestroyTake
+            | Op::Counts
+            | Op::Set(_)
+            | Op::Widen { .. }
+            | Op::Trim { .. }
+    )
+}
+
+/// The first operation of a unit, if it isn't a return. Where memory is wanting for it, the space stays.
+fn begin(
+    indexes: &mut Indexes,
+    slabs: &[u64; SMALL],
+    client: u32,
+    op: &Op,
+) -> Result<Reply, NoMemory>
     requires client { client < 32 }
-    requires some { 0 < pages }
-    requires aligned { 0 < align }
+    requires opens { opens op.now ≡ true }
+    requires other { is_return op.now ≡ false }
+    requires carried { is_carried op.now ≡ true }
+    requires stands { IsTrue (op_stands (space_of indexes.old) client op.now) }
+    requires sound { Sound (space_of indexes.old) }
+    requires slabs { AreSlabs (space_of indexes.old) slabs.now }
+    ensures after { OnOk result (space_of indexes.new ≡ (step_of (space_of indexes.old) client op.now).after) }
+    ensures reply { IfOk result (λ told. told ≡ (step_of (space_of indexes.old) client op.now).reply) }
+    ensures err { OnErr result (space_of indexes.new ≡ space_of indexes.old) }
+    ensures places { (n : ℕ) → HasPlaces indexes.old n → HasPlaces indexes.new n }
+{
+    match op {
+        Op::Look { pages, align } => Ok(moves::look(indexes, client, *pages, *align)),
+        Op::Advance { now } => Ok(settings::advance(indexes, *now)),
+        Op::Set(setting) => Ok(settings::set(indexes, client, *setting)),
+        Op::Counts => settings::counted(indexes, slabs),
+        Op::PurgeTake { rest, keep } => Ok(purges::purge_take(indexes, client, *rest, *keep)),
+        Op::Publish { addr } => Ok(holders::publish(indexes, client, *addr)),
+        Op::TakeOver { addr } => Ok(holders::take_over(indexes, client, *addr)),
+        Op::DestroyTake => Ok(ends::destroy_take(indexes)),
+        Op::Widen { addr, pages } => Ok(resizes::widen(indexes, client, *addr, *pages)),
+        Op::Trim { .. } => Ok(resizes::trim(indexes, client)),
+        _ => unreachable!(),
+    }
+}
+
+/// The first operation of a unit, if it isn't a return, with room for 16 operations after it.
+#[tactic(auto, using(crate::proofs::RoomSums::empties_nothing))]
+fn open_unit(body: &mut Body, client: u32, op: &Op) -> Result<Reply, NoMemory>
+    requires client { client < 32 }
+    requires opens { opens op.now ≡ true }
+    requires other { is_return op.now ≡ false }
+    requires carried { is_carried op.now ≡ true }
+    requires stands { IsTrue (op_stands (space_of body.old.indexes) client op.now) }
     requires body { IsBody body.old }
-    ensures after { OnOk result (space_of body.new.indexes ≡ (step_of (space_of body.old.indexes) client (Op.Look pages align)).after) }
-    ensures reply { IfOk result (λ told. told ≡ (step_of (space_of body.old.indexes) client (Op.Look pages align)).reply) }
-    ensures rooms { OnOk result (body.new.rooms ≡ rooms_after (standing_of body.old) client (Op.Look pages align)) }
+    ensures after { OnOk result (space_of body.new.indexes ≡ (step_of (space_of body.old.indexes) client op.now).after) }
+    ensures reply { IfOk result (λ told. told ≡ (step_of (space_of body.old.indexes) client op.now).reply) }
+    ensures rooms { OnOk result (body.new.rooms ≡ rooms_after (standing_of body.old) client op.now) }
     ensures err { OnErr result (standing_of body.new ≡ standing_of body.old) }
     ensures places { HasPlaces body.new.indexes (all_rooms body.new.rooms) }
+    ensures slabs { AreSlabs (space_of body.new.indexes) body.new.slabs }
 {
     let room = body.rooms.of(client).max(UNIT);
     make_places(body, client, room)?;
-    let reply = moves::look(&mut body.indexes, client, pages, align);
+    let reply = begin(&mut body.indexes, &body.slabs, client, op)?;
+    slabs::follow(&mut body.slabs, op);
     body.rooms.set(client, room);
     Ok(reply)
 }
@@ -70,18 +136,20 @@ fn give_back(body: &mut Body, client: u32, addrs: &Addresses) -> Result<Reply, N
     ensures rooms { OnOk result (body.new.rooms ≡ rooms_after (standing_of body.old) client (Op.Back addrs.now)) }
     ensures err { OnErr result (standing_of body.new ≡ standing_of body.old) }
     ensures places { HasPlaces body.new.indexes (all_rooms body.new.rooms) }
+    ensures slabs { AreSlabs (space_of body.new.indexes) body.new.slabs }
 {
     let least = body.rooms.of(client).max(UNIT);
     let addrs = addrs.as_slice();
     let most = most_room(addrs)?;
     make_places(body, client, least.max(most))?;
-    let emptied = frees::give_back(&mut body.indexes, client, addrs);
+    let emptied = frees::give_back(&mut body.indexes, &mut body.slabs, client, addrs);
     body.rooms.set(client, least.max(UNIT * emptied));
     Ok(Reply::Next(body.indexes.extents.next_flight(client)))
 }
 
 /// An operation for which no memory is taken.
 fn follow(indexes: &mut Indexes, client: u32, op: &Op) -> Reply
+    requires client { client < 32 }
     requires follows { opens op.now ≡ false }
     requires carried { is_carried op.now ≡ true }
     requires stands { IsTrue (op_stands (space_of indexes.old) client op.now) }
@@ -98,6 +166,13 @@ fn follow(indexes: &mut Indexes, client: u32, op: &Op) -> Reply
         Op::Land { span, class, count } => moves::land_done(indexes, client, *span, *class, *count),
         Op::PutLook { span, tries } => frees::put_look(indexes, client, *span, *tries),
         Op::MergeDone { heard, own_low } => frees::merge_done(indexes, client, *heard, *own_low),
+        Op::LazyDone { heard } => purges::lazy_done(indexes, client, *heard),
+        Op::Offer { span } => offers::offer(indexes, client, *span),
+        Op::OfferDone { heard, found } => offers::offer_done(indexes, client, *heard, *found),
+        Op::DecommitDone { heard } => purges::decommit_done(indexes, client, *heard),
+        Op::ForcedDone { .. } => Reply::Noted,
+        Op::JoinDone { heard, class } => resizes::join_done(indexes, client, *heard, *class),
+        Op::TrimDone { heard, class } => resizes::trim_done(indexes, client, *heard, *class),
         _ => unreachable!(),
     }
 }
@@ -114,9 +189,11 @@ fn use_up(body: &mut Body, client: u32, op: &Op) -> Reply
     ensures reply { result ≡ (step_of (space_of body.old.indexes) client op.now).reply }
     ensures rooms { body.new.rooms ≡ rooms_after (standing_of body.old) client op.now }
     ensures places { HasPlaces body.new.indexes (all_rooms body.new.rooms) }
+    ensures slabs { AreSlabs (space_of body.new.indexes) body.new.slabs }
 {
     let room = body.rooms.of(client);
     let reply = follow(&mut body.indexes, client, op);
+    slabs::follow(&mut body.slabs, op);
     body.rooms.set(client, room - 1);
     reply
 }
@@ -134,10 +211,11 @@ pub fn step(body: &mut Body, client: u32, op: &Op) -> Result<Reply, NoMemory>
     ensures err { OnErr result (standing_of body.new ≡ standing_of body.old) }
     ensures sure { opens op.now ≡ false → IsOk result }
     ensures places { HasPlaces body.new.indexes (all_rooms body.new.rooms) }
+    ensures slabs { AreSlabs (space_of body.new.indexes) body.new.slabs }
 {
     match op {
-        Op::Look { pages, align } => look(body, client, *pages, *align),
         Op::Back { addrs } => give_back(body, client, addrs),
+        _ if opens(op) => open_unit(body, client, op),
         _ => Ok(use_up(body, client, op)),
     }
 }

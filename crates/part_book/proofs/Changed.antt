@@ -9,7 +9,7 @@ use Rattle.space_model.specs.declared.parts.Part.{Part}
 use Rattle.space_model.specs.Span.{IsPlaced, end_of, meets}
 use Rattle.space_model.specs.Part.{begins_at, exchanged}
 use Rattle.space_model.specs.Step.{low_piece, high_piece}
-use Rattle.part_book.specs.Books.{AreAlike, joined}
+use Rattle.part_book.specs.Books.{AreBeside, joined}
 use Rattle.part_book.specs.Leaves.{leaves_for}
 use Rattle.part_book.specs.Rows.{IsApart}
 use Rattle.part_book.proofs.Chunks.{leaves_both, leaves_none}
@@ -69,59 +69,58 @@ cut_parts old now u v first at left p low high same e is more last low_is high_i
 -- the first of two extents that are joined is still found when the second one is gone
 pub record IsPair (low high : ℕ) (old : List Part) (p q : Part) : Type 0 where
   pub found : find (begins_at low) old ≡ Some p
-  pub alike : AreAlike p q
+  pub beside : AreBeside p q
   pub later : find (begins_at low) (filter (λ x. not (begins_at high x)) old) ≡ Some p
 
 pub pair : (low high : ℕ) (old now : List Part) (q : Part) → old ≡ now → IsSome (find (begins_at low) now) →
-    IfSome (find (begins_at low) now) (λ x. IfSome (find (begins_at high) now) (λ y. AreAlike x y)) → find (begins_at high) old ≡ Some q → IsApart old → (p : Part) × IsPair low high old p q
-pair low high old now q same some alike e apart = by (find (begins_at low) now) refl
+    IfSome (find (begins_at low) now) (λ x. IfSome (find (begins_at high) now) (λ y. AreBeside x y)) → find (begins_at high) old ≡ Some q → IsApart old → (p : Part) × IsPair low high old p q
+pair low high old now q same some beside e apart = by (find (begins_at low) now) refl
   where
     by : (o : Option Part) → find (begins_at low) now ≡ o → (p : Part) × IsPair low high old p q
     by None f = absurd (let no = subst IsSome f some in cc)
     by (Some p) f =
         let was : find (begins_at low) old ≡ Some p = ap (find (begins_at low)) same ∙ f in
-        let both : AreAlike p q = rw (f, sym (ap (find (begins_at high)) same) ∙ e) at alike in
+        let both : AreBeside p q = rw (f, sym (ap (find (begins_at high)) same) ∙ e) at beside in
         let there = found (begins_at low) old p was in
         let p_is = eqb-true p.span.first low there.1 in
         let q_is = eqb-true q.span.first high (found (begins_at high) old q e).1 in
         let inside = placed old p apart there.0 in
-        let beside = both.beside in
         let less : low < high = omega arith in
-        (p, record { found = was; alike = both; later = find_kept (begins_at low) (λ x. not (begins_at high x)) old (λ x m t. not_from_false (begins_at high x) (grind (arith, nat_tests))) ∙ was })
+        (p, record { found = was; beside = both; later = find_kept (begins_at low) (λ x. not (begins_at high x)) old (λ x m t. not_from_false (begins_at high x) (grind (arith, nat_tests))) ∙ was })
 
 -- and it is the one that is found then
 pub pair_is : (low high : ℕ) (old now left : List Part) (p q : Part) → old ≡ now → IsSome (find (begins_at low) now) →
-    IfSome (find (begins_at low) now) (λ x. IfSome (find (begins_at high) now) (λ y. AreAlike x y)) → find (begins_at high) old ≡ Some q → IsApart old →
+    IfSome (find (begins_at low) now) (λ x. IfSome (find (begins_at high) now) (λ y. AreBeside x y)) → find (begins_at high) old ≡ Some q → IsApart old →
     left ≡ filter (λ x. not (begins_at high x)) old → find (begins_at low) left ≡ Some p → IsPair low high old p q
-pair_is low high old now left p q same some alike e apart less f =
-    let n = pair low high old now q same some alike e apart in
+pair_is low high old now left p q same some beside e apart less f =
+    let n = pair low high old now q same some beside e apart in
     let twice : Some n.0 ≡ Some p = sym n.1.later ∙ ap (find (begins_at low)) (sym less) ∙ f in
     let is : n.0 ≡ p = cc in
     subst (λ x. IsPair low high old x q) is n.1
 
 -- two extents of the space as one lie in the space
-pub joined_placed : (p q : Part) → IsPlaced p.span → IsPlaced q.span → AreAlike p q → IsPlaced (joined p q).span
-joined_placed p q placed_p placed_q alike = (omega arith, placed_p.1, omega (arith, alike.beside))
+pub joined_placed : (p q : Part) → IsPlaced p.span → IsPlaced q.span → AreBeside p q → IsPlaced (joined p q).span
+joined_placed p q placed_p placed_q beside = (omega arith, placed_p.1, omega (arith, beside))
 
 -- what meets neither of two does not meet both as one
-apart_from_both : (x p q : Part) → IsPlaced x.span → AreAlike p q → meets x.span p.span ≡ false → meets x.span q.span ≡ false → meets x.span (joined p q).span ≡ false
-apart_from_both x p q placed alike a b = grind (arith, nat_tests)
+apart_from_both : (x p q : Part) → IsPlaced x.span → AreBeside p q → meets x.span p.span ≡ false → meets x.span q.span ≡ false → meets x.span (joined p q).span ≡ false
+apart_from_both x p q placed beside a b = grind (arith, nat_tests)
 
 -- the two as one meet no other extent
-pub joined_apart : (old : List Part) (at : ℕ) (p q : Part) → IsApart old → AreAlike p q → All (λ x. meets x.span p.span ≡ false) (filter (λ x. not (begins_at at x)) old) → All (λ x. meets x.span q.span ≡ false) old →
+pub joined_apart : (old : List Part) (at : ℕ) (p q : Part) → IsApart old → AreBeside p q → All (λ x. meets x.span p.span ≡ false) (filter (λ x. not (begins_at at x)) old) → All (λ x. meets x.span q.span ≡ false) old →
     All (λ x. meets x.span (joined p q).span ≡ false) (filter (λ x. not (begins_at at x)) old)
-joined_apart old at p q sound alike from_p from_q =
+joined_apart old at p q sound beside from_p from_q =
     let others = filter (λ x. not (begins_at at x)) old in
     let from_q' = All-filter (λ x. not (begins_at at x)) (λ x. meets x.span q.span ≡ false) old from_q in
     let inside = All-filter (λ x. not (begins_at at x)) (λ x. IsPlaced x.span) old sound.placed in
-    all_from (λ x. meets x.span (joined p q).span ≡ false) others (λ x m. apart_from_both x p q (All-contains (λ y. IsPlaced y.span) others x inside m) alike (All-contains (λ y. meets y.span p.span ≡ false) others x from_p m) (All-contains (λ y. meets y.span q.span ≡ false) others x from_q' m))
+    all_from (λ x. meets x.span (joined p q).span ≡ false) others (λ x m. apart_from_both x p q (All-contains (λ y. IsPlaced y.span) others x inside m) beside (All-contains (λ y. meets y.span p.span ≡ false) others x from_p m) (All-contains (λ y. meets y.span q.span ≡ false) others x from_q' m))
 
 -- its first and its last page have leaves
-pub joined_leaves : (t : Pages) (p q : Part) → AreAlike p q → leaves_for t p.span ≡ 0 → leaves_for t q.span ≡ 0 → leaves_for t (joined p q).span ≡ 0
-joined_leaves t p q alike of_p of_q =
+pub joined_leaves : (t : Pages) (p q : Part) → AreBeside p q → leaves_for t p.span ≡ 0 → leaves_for t q.span ≡ 0 → leaves_for t (joined p q).span ≡ 0
+joined_leaves t p q beside of_p of_q =
     let low = leaves_none t p.span of_p in
     let high = leaves_none t q.span of_q in
-    let end : end_of (joined p q).span ≡ end_of q.span = omega (arith, alike.beside) in
+    let end : end_of (joined p q).span ≡ end_of q.span = omega (arith, beside) in
     leaves_both t (joined p q).span low.0 (ap (λ n. set.contains t.chunks ((n - 1) / 512)) end ∙ high.1)
 
 -- the extents after a join

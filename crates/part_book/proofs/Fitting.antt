@@ -1,5 +1,5 @@
 -- The walk through the unused extents by size finds the one that fits best.
-use Rattle.std.proofs.Common.{◌≡◌, ℕ, ◌+◌, ◌*◌, ◌-◌, ◌/◌, ◌%◌, ◌^◌, ◌<◌, ◌≤◌, Bool, true, false, ◌&&◌, eqb, List, [], ◌∷◌, filter, find, slice_get, Some, None, Ordering, Less, Equal, Greater, is_gt, inl, inr, refl, sym, ap, ◌∙◌, subst, arith, sum_by, Contains}
+use Rattle.std.proofs.Common.{◌≡◌, ℕ, ◌+◌, ◌*◌, ◌-◌, ◌/◌, ◌%◌, ◌^◌, ◌<◌, ◌≤◌, Bool, true, false, ◌&&◌, eqb, List, [], ◌∷◌, length, count_by, cond, filter, find, slice_get, Some, None, Ordering, Less, Equal, Greater, is_gt, inl, inr, refl, sym, ap, ◌∙◌, subst, arith, sum_by, Contains}
 use Rattle.std.specs.List.{list_any}
 use Rattle.std.specs.Ordering.{ordering_reverse}
 use Rattle.std.proofs.lemmas.Bool.{and_left, and_parts, cases_Bool, cases_lt, eq-eqb, false_from_ne_true, ne_eqb, not-true}
@@ -260,7 +260,7 @@ module _ (rest : Rest) (rows : List Row) (keys : List Key) (pages align : ℕ) (
           let some_p = placed (parts_in rows) p apart m in
           one_owner (parts_in rows) apart r.part.span.first r.part p own m (grind (arith, nat_tests)) (grind (arith, nat_tests))
 
--- ---- the oldest, and the pages
+-- ---- the oldest, how many, and the pages
 
 pub first_listed : (rest : Rest) (rows : List Row) (number : ℕ) → slice_get (numbers_of (listed_in rest rows)) 0 ≡ Some number → (r : Row) × Contains rows r × (r.number ≡ number) × (find (λ p. is_listed rest p.state) (parts_in rows) ≡ Some r.part)
 first_listed rest [] number e = absurd (cc)
@@ -282,3 +282,17 @@ pages_listed rest (r ∷ rows) = elim (cases_Bool (is_listed rest r.part.state))
   | inl t ↦ rw t (sum_by-cons (λ (x : Row). x.part.span.pages) r (listed_in rest rows) ∙ ap (λ n. r.part.span.pages + n) (pages_listed rest rows) ∙ sym (sum_by-cons (λ (p : Part). p.span.pages) r.part (filter (λ p. is_listed rest p.state) (parts_in rows))))
   | inr f ↦ rw f (pages_listed rest rows)
 ]
+
+pub count_listed : (rest : Rest) (rows : List Row) → length (numbers_of (listed_in rest rows)) ≡ count_by (λ p. is_listed rest p.state) (parts_in rows)
+count_listed rest [] = refl
+count_listed rest (r ∷ rows) =
+    let counted = sum_by-cons (λ (p : Part). cond (is_listed rest p.state) 1 0) r.part (parts_in rows) in
+    elim (cases_Bool (is_listed rest r.part.state)) [ inl t ↦ rw t (omega (arith, rw t at counted, count_listed rest rows)) | inr f ↦ rw f (omega (arith, rw f at counted, count_listed rest rows)) ]
+
+pub first_row : (rows : List Row) (number : ℕ) → slice_get (numbers_of rows) 0 ≡ Some number → (r : Row) × Contains rows r × (r.number ≡ number) × (slice_get (parts_in rows) 0 ≡ Some r.part)
+first_row [] number e = absurd (cc)
+first_row (r ∷ rows) number e = (r, head r rows, (let same : Some r.number ≡ Some number = e in cc), refl)
+
+pub no_first : (rows : List Row) → slice_get (numbers_of rows) 0 ≡ None → slice_get (parts_in rows) 0 ≡ None
+no_first [] e = refl
+no_first (r ∷ rows) e = absurd (cc)

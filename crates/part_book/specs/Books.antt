@@ -24,12 +24,10 @@ is_beside s false p = ends_at s.first p
 abbrev pub pages_of : Rest → List Part → ℕ
 pages_of rest parts = sum_by (λ p. p.span.pages) (filter (λ p. is_listed rest p.state) parts)
 
--- the second extent begins where the first one ends, and both are of one use and one commit state
-pub record AreAlike (p q : Part) : Type 0 where
-  pub beside : end_of p.span ≡ q.span.first
-  pub state : p.state ≡ q.state
-  pub committed : p.committed ≡ q.committed
+-- the second extent begins where the first one ends
+abbrev pub AreBeside : Part → Part → Type 0
+AreBeside p q = end_of p.span ≡ q.span.first
 
--- the pages of two extents as one
+-- the pages of two extents as one, of the use and the commit state of the first
 abbrev pub joined : Part → Part → Part
 joined p q = record p { span = record { first = p.span.first; pages = p.span.pages + q.span.pages } }

@@ -1,5 +1,5 @@
 //! The searches for an extent.
-ghost use Rattle.std.specs.Prelude.{◌≡◌, ◌<◌, ◌≤◌, find, option_map, vec_len, All, IfSome, IsNone};
+ghost use Rattle.std.specs.Prelude.{◌≡◌, ◌<◌, ◌≤◌, count_by, find, option_map, slice_get, vec_len, All, IfSome, IsNone};
 ghost use Rattle.std.specs.List.{list_any};
 ghost use Rattle.space_model.specs.Span.{has_page, meets};
 ghost use Rattle.space_model.specs.Part.{begins_at, is_flight, is_listed};
@@ -138,6 +138,23 @@ impl Table {
     {
         let number = self.list_of(rest).ages.first()?;
         Some(self.part_at(number))
+    }
+
+    /// The extent that is longest among all.
+    pub fn first(&self) -> Option<Part>
+        requires table { IsTable self.now (rows_of self.now) }
+        ensures { result ≡ slice_get (parts_of self.now) 0 }
+    {
+        let number = self.order.first()?;
+        Some(self.part_at(number))
+    }
+
+    /// How many extents there are of a rest.
+    pub fn count(&self, rest: Rest) -> u64
+        requires table { IsTable self.now (rows_of self.now) }
+        ensures { result ≡ count_by (λ p. is_listed rest p.state) (parts_of self.now) }
+    {
+        self.list_of(rest).ages.len()
     }
 
     /// How many pages the extents of a rest have together.

@@ -2,13 +2,13 @@
 //! `reserve` take memory.
 #![tactic(auto)]
 
-ghost use Rattle.std.specs.Prelude.{◌≡◌, ◌==◌, ◌<◌, ◌+◌, ◌||◌, false, [], ◌∷◌, ◌++◌, not, length, max, find, filter, option_map, IfSome, IsSome, OnOk, OnErr, IfOk};
+ghost use Rattle.std.specs.Prelude.{◌≡◌, ◌==◌, ◌<◌, ◌+◌, ◌||◌, false, [], ◌∷◌, ◌++◌, not, length, max, find, filter, count_by, option_map, slice_get, IfSome, IsSome, OnOk, OnErr, IfOk};
 ghost use Rattle.std.specs.List.{list_any};
 ghost use Rattle.space_model.specs.Span.{IsPlaced, has_page, meets};
 ghost use Rattle.space_model.specs.Part.{begins_at, exchanged, is_flight, is_listed};
 ghost use Rattle.space_model.specs.Step.{low_piece, high_piece};
 ghost use Rattle.space_model.specs.Fit.{fit};
-ghost use Rattle.part_book.specs.Books.{AreAlike, is_beside, joined, pages_of};
+ghost use Rattle.part_book.specs.Books.{AreBeside, is_beside, joined, pages_of};
 
 use crate::table::Table;
 use space_model::{Part, Rest, Span, State};
@@ -149,6 +149,20 @@ impl PartBook {
         self.table.oldest(rest)
     }
 
+    /// The extent that is longest among all.
+    pub fn first(&self) -> Option<Part>
+        ensures { result ≡ slice_get self.now.parts 0 }
+    {
+        self.table.first()
+    }
+
+    /// How many extents are listed for a rest.
+    pub fn count(&self, rest: Rest) -> u64
+        ensures { result ≡ count_by (λ p. is_listed rest p.state) self.now.parts }
+    {
+        self.table.count(rest)
+    }
+
     /// How many pages the extents listed for a rest have together.
     pub fn pages(&self, rest: Rest) -> u64
         ensures { result ≡ pages_of rest self.now.parts }
@@ -220,13 +234,13 @@ impl PartBook {
     }
 
     /// Makes one of the two extents that begin at these pages, of which the second begins where
-    /// the first one ends. It comes last. The place of the other one counts again after the next
-    /// `reserve`.
+    /// the first one ends. It keeps the first one's state and commit state, and comes last. The
+    /// place of the other one counts again after the next `reserve`.
     pub fn join(&mut self, low: u64, high: u64)
         requires low { IsSome (find (begins_at low) self.old.parts) }
         requires high { IsSome (find (begins_at high) self.old.parts) }
-        requires alike { IfSome (find (begins_at low) self.old.parts) (λ p.
-            IfSome (find (begins_at high) self.old.parts) (λ q. AreAlike p q)) }
+        requires beside { IfSome (find (begins_at low) self.old.parts) (λ p.
+            IfSome (find (begins_at high) self.old.parts) (λ q. AreBeside p q)) }
         ensures parts { IfSome (find (begins_at low) self.old.parts) (λ p.
             IfSome (find (begins_at high) self.old.parts) (λ q. self.new.parts
             ≡ exchanged (λ r. begins_at low r || begins_at high r) self.old.parts (joined p q ∷ []))) }

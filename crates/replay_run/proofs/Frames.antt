@@ -15,8 +15,8 @@ use Rattle.space_model.specs.declared.Why.{Why}
 use Rattle.space_model.specs.Fit.{fit}
 use Rattle.space_model.specs.Part.{is_flight_at}
 use Rattle.space_model.specs.Step.{step_of, is_live, stays, look_at, cut_at, whole_at, after_cut, grow_unless, why_not, after_grow, commit_at, after_commit, land_at, neighbour, is_purged, put_at_rest, put_beside, put_at, join_at, apart_at, after_merge}
-use Rattle.arena_core.specs.Arenas.{is_carried}
 use Rattle.replay_run.specs.Hands.{IsOther}
+use Rattle.replay_run.proofs.Carries.{is_called}
 
 -- a space but for its extents and its growth
 abbrev rest : Space → Space
@@ -113,13 +113,13 @@ same_frame : (s t : Space) → rest t ≡ rest s → SameFrame s t
 same_frame s t same = record { life = ap (λ (u : Space). u.life) same; bound = ap (λ (u : Space). u.bound) same; dirty = ap (λ (u : Space). u.dirty) same }
 
 -- an operation of a call keeps the life, the clients and the dirty time
-pub step_frame : (s : Space) (c : ℕ) (op : Op) → is_carried op ≡ true → SameFrame s (step_of s c op).after
-step_frame s c (Land span class count) carried = land_frame s c class count (find (is_flight_at c span) s.parts)
-step_frame s c (Back addrs) carried = record { life = refl; bound = refl; dirty = refl }
-step_frame s c (Look pages align) carried = same_frame s _ (step_rest s c (Look pages align) tt)
-step_frame s c (CutDone heard keep_low) carried = same_frame s _ (step_rest s c (CutDone heard keep_low) tt)
-step_frame s c (GrowDone heard found) carried = same_frame s _ (step_rest s c (GrowDone heard found) tt)
-step_frame s c (CommitDone heard) carried = same_frame s _ (step_rest s c (CommitDone heard) tt)
-step_frame s c (PutLook span tries) carried = same_frame s _ (step_rest s c (PutLook span tries) tt)
-step_frame s c (MergeDone heard own_low) carried = same_frame s _ (step_rest s c (MergeDone heard own_low) tt)
-step_frame s c op carried = absurd (cc)
+pub step_frame : (s : Space) (c : ℕ) (op : Op) → is_called op ≡ true → SameFrame s (step_of s c op).after
+step_frame s c (Land span class count) called = land_frame s c class count (find (is_flight_at c span) s.parts)
+step_frame s c (Back addrs) called = record { life = refl; bound = refl; dirty = refl }
+step_frame s c (Look pages align) called = same_frame s _ (step_rest s c (Look pages align) tt)
+step_frame s c (CutDone heard keep_low) called = same_frame s _ (step_rest s c (CutDone heard keep_low) tt)
+step_frame s c (GrowDone heard found) called = same_frame s _ (step_rest s c (GrowDone heard found) tt)
+step_frame s c (CommitDone heard) called = same_frame s _ (step_rest s c (CommitDone heard) tt)
+step_frame s c (PutLook span tries) called = same_frame s _ (step_rest s c (PutLook span tries) tt)
+step_frame s c (MergeDone heard own_low) called = same_frame s _ (step_rest s c (MergeDone heard own_low) tt)
+step_frame s c op called = absurd (cc)

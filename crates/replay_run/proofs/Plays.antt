@@ -49,7 +49,7 @@ use Rattle.call_plan.specs.Rest.{rest_of}
 use Rattle.call_plan.specs.Knows.{Knows, Ground}
 use Rattle.call_plan.specs.Laws.{GoesOn}
 use Rattle.arena_core.specs.Arenas.{is_carried}
-use Rattle.replay_run.proofs.Carries.{wanted_carried}
+use Rattle.replay_run.proofs.Carries.{called_carried, is_called, wanted_called}
 use Rattle.replay_run.proofs.Wants.{needed_turn}
 use Rattle.call_plan.proofs.Shorter.{turns-shorten}
 use Rattle.call_plan.proofs.GoingOn.{turns-go_on, asks-go_on}
@@ -171,15 +171,15 @@ fed_sane w call lines known going same hands carried = fed_sane_by w call lines 
 -- ---- moves
 
 -- what is known of the arena after an entry that may stand
-kept_after : (s : Space) (kept : List KeptFacts) (entry : Entry) (asked : Option AskFacts) → Kept s kept → stands s entry ≡ true → is_carried entry.op ≡ true →
+kept_after : (s : Space) (kept : List KeptFacts) (entry : Entry) (asked : Option AskFacts) → Kept s kept → stands s entry ≡ true → is_called entry.op ≡ true →
     Kept (space_after s entry) (kept ++ (record { entry = entry; asked = asked }) ∷ [])
-kept_after s kept entry asked known may carried =
+kept_after s kept entry asked known may called =
     let es : List Entry = entries_of kept in
     let grown : entries_of (kept ++ (record { entry = entry; asked = asked }) ∷ []) ≡ es ++ entry ∷ [] =
     map_push (λ (k : KeptFacts). k.entry) kept (record { entry = entry; asked = asked }) in
     let at_end : replay first_space (es ++ entry ∷ []) ≡ space_after (replay first_space es) entry = fold_push space_after first_space es entry in
     let here : space_after s entry ≡ replay first_space (es ++ entry ∷ []) = ap (λ (x : Space). space_after x entry) known.replayed ∙ sym at_end in
-    let frame = step_frame s entry.client entry.op carried in record {
+    let frame = step_frame s entry.client entry.op called in record {
       replayed = here ∙ ap (replay first_space) (sym grown);
       stand = ap (all_stand first_space) grown ∙ all_stand-push first_space es entry known.stand (subst (λ (x : Space). stands x entry ≡ true) known.replayed may);
       good = subst (λ (ts : List (Entry × Reply)). Good ts (space_after s entry))
@@ -259,6 +259,7 @@ pub record TurnReady (client : ℕ) (s : Space) (stage : Stage) (arena : ℕ) (o
   pub law : GoesOn client s stage op
   pub base : Ground client s
   pub flown : HasFlights client s stage
+  pub called : is_called op ≡ true
   pub carried : is_carried op ≡ true
   pub shorter : steps_left client (step_of s client op).after (stage_after stage (FedReply (step_of s client op).reply)) < steps_left client s stage
 
@@ -269,6 +270,7 @@ turn_ready_at s kept client stage arena op asked known first planned knows flown
     let few : client < 32 = omega (arith, first) in
     let base = ground s kept client known few in
     let needed = needed_turn stage arena op asked waits in
+    let called = wanted_called stage arena op asked planned waits in
     let law = rw needed.found at (turns-go_on client s stage arena op asked None base planned knows waits) in record {
       waits = waits;
       may = ap (λ b. b && op_stands s client op) (lt-ltb _ _ few) ∙ law.stands;
@@ -276,7 +278,8 @@ turn_ready_at s kept client stage arena op asked known first planned knows flown
       law = law;
       base = base;
       flown = flown;
-      carried = wanted_carried stage arena op asked planned waits;
+      called = called;
+      carried = called_carried op called;
       shorter = rw needed.found at (turns-shorten client s stage arena op asked None base planned knows waits);
     }
 
@@ -338,7 +341,7 @@ turned_sane w call arena op asked opens e =
     let entry : Entry = record { client = call.client; op = op } in
     let after = turned_going w call arena op asked opens.kept going e in
     fed_sane (record w { space = step.after; kept = w.kept ++ (record { entry = entry; asked = asked }) ∷ [] }) (fed_one call (Replied step.reply)) w.lines
-    (kept_after w.space w.kept entry asked opens.kept ready.may ready.carried) after opens.desk
+    (kept_after w.space w.kept entry asked opens.kept ready.may ready.called) after opens.desk
     (hands_after (fed_one call (Replied step.reply)) step.after after
     (hands_reply call.client w.space call going.stage arena op asked opens.kept.good.sound going.knows going.at ready.waits (hands_before w call opens (WantTurn arena op asked) e)))
     opens.lines

@@ -64,9 +64,7 @@ first_room c s stage room arena op asked e flown first = let opening = ap wants_
 
 -- a turn that isn't the first one uses one of the room up
 later_room : (s : Space) (room c : ℕ) (op : Op) → opens op ≡ false → room_after s room c op ≡ room - 1
-later_room s room c (Look pages align) later = absurd (cc)
-later_room s room c (Back addrs) later = absurd (cc)
-later_room s room c op later = refl
+later_room s room c op later = rw later refl
 
 -- after a turn the client has room for the turns that are left
 pub room_after_turn : {client : ℕ} {kept kept' : List KeptFacts} {heard heard' : List AskFacts} {desk desk' : DeskFacts} {stage stage' : Stage} {turn : Turn} (a b : Standing) →

@@ -1,4 +1,6 @@
-use Rattle.std.proofs.Common.{◌≡◌, arith, sym, ap, subst, length}
+use Rattle.std.proofs.Common.{◌≡◌, ◌∙◌, arith, rules, sym, ap, subst, length}
+use Rattle.space_model.specs.Counts.{slabs_by_class}
+use Rattle.space_model.specs.Opening.{new_pace}
 use Rattle.space_model.specs.Sound.{Sound}
 use Rattle.arena_core.specs.Arenas.{all_rooms}
 use Rattle.arena_core.proofs.Outcomes.{opening_sound}
@@ -8,9 +10,14 @@ pub invariant_of-result : goal.invariant_of-result
 invariant_of-result c =
     let parts = sym c.in_ok-new.ensures in
     let regions = sym c.new-2.ensures in
+    let dirty : new_pace c.args.space.dirty.ms c.args.space.dirty.start ≡ c.in_ok-new-2.field-0 = search rules in
+    let muzzy : new_pace c.args.space.muzzy.ms c.args.space.muzzy.start ≡ c.in_ok-new-3.field-0 = search rules in
+    let offers = sym c.new-3.ensures in
     let nothing : all_rooms c.none.result ≡ 0 = ap all_rooms c.none.ensures in
     record {
-      sound = subst Sound (λ i. record c.args.space { parts = (parts i).parts; regions = (regions i).regions }) (opening_sound c.args.space c.requires);
+      sound = subst Sound (λ i. record c.args.space { parts = (parts i).parts; regions = (regions i).regions; offers = offers i; dirty = dirty i; muzzy = muzzy i })
+          (opening_sound c.args.space c.requires);
       clients = ap length c.none.ensures;
-      places = record { extents = omega (arith, nothing); regions = omega (arith, nothing) };
+      places = record { extents = omega (arith, nothing); regions = omega (arith, nothing); offers = omega (arith, nothing) };
+      slabs = record { numbers = c.no_slabs.ensures ∙ (λ i. slabs_by_class (regions i).regions (parts i).parts) };
     }

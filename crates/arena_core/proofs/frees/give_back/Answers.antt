@@ -15,6 +15,7 @@ loop-addr-init c = record {
   };
   few = omega arith;
   places = λ n h. h;
+  slabs = c.requires.slabs;
 }
 
 pub give_one-requires-clause-held : goal.give_one-requires-clause-held
@@ -33,4 +34,5 @@ loop-addr-preserved c =
       rest = left_step c.loop-addr.invariant.rest c.loop-addr-test.true c.give_one.ensures.after (one ∙ c.give_one.ensures.emptied);
       few = omega (arith, one, most_one c.give_one.result, c.loop-addr.invariant.few);
       places = λ n h. c.give_one.ensures.places n (c.loop-addr.invariant.places n h);
+      slabs = c.give_one.ensures.slabs;
     }

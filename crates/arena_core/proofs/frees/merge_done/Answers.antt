@@ -2,13 +2,13 @@ use Rattle.std.proofs.Common.{IsTrue, arith, subst, sym}
 use Rattle.space_model.specs.Step.{merge_stands}
 use Rattle.space_model.proofs.Steps.{joined_fits}
 use Rattle.arena_core.specs.Indexes.{space_of}
-use Rattle.arena_core.proofs.Homes.{merged_alike}
+use Rattle.arena_core.proofs.Homes.{merged_beside}
 use Rattle.arena_core.proofs.frees.merge_done.Goals as goal
 
-pub join-requires-clause-alike : goal.join-requires-clause-alike
-join-requires-clause-alike c =
+pub join-requires-clause-beside : goal.join-requires-clause-beside
+join-requires-clause-beside c =
     let stands = subst (λ ask. IsTrue (merge_stands (space_of c.args.indexes.now) c.args.client ask c.args.heard.answer)) c.in-Merge.is c.requires.stands in
-    merged_alike c.args.client (space_of c.args.indexes.now) c.in-Merge.low c.in-Merge.high c.args.heard.answer c.in-Some-Some.low c.in-Some-Some.high c.requires.sound stands
+    merged_beside c.args.client (space_of c.args.indexes.now) c.in-Merge.low c.in-Merge.high c.args.heard.answer c.in-Some-Some.low c.in-Some-Some.high c.requires.sound stands
     c.in-Some-Some.ensures.flight c.in-Some-Some.ensures'.flight
 
 pub overflow_add-result : goal.overflow_add-result

@@ -3,6 +3,7 @@ use Rattle.std.proofs.lemmas.Bool.Decides.{nat_tests}
 use Rattle.space_model.specs.Step.{cut_stands}
 use Rattle.arena_core.specs.Indexes.{space_of}
 use Rattle.arena_core.proofs.Homes.{in_flight}
+use Rattle.arena_core.proofs.RoomSums.{places_kept}
 use Rattle.arena_core.proofs.moves.cut_done.Goals as goal
 
 pub cut-requires-clause-idle : goal.cut-requires-clause-idle
@@ -18,3 +19,6 @@ cut-requires-clause-fewer c =
     let at = in_flight c.args.client (space_of c.args.indexes.now) c.in-Split.span c.in-Done-Some.part c.requires.sound c.in-Done-Some.ensures.flight in
     let stands = subst (λ ask. IsTrue (cut_stands (space_of c.args.indexes.now) c.args.client ask c.args.heard.answer)) c.in-Split.is c.requires.stands in
     grind (arith, nat_tests, at.pages, stands)
+
+pub returns-in-Refused-default-clause-places : goal.returns-in-Refused-default-clause-places
+returns-in-Refused-default-clause-places c = places_kept c.put_whole.ensures.places

@@ -1,7 +1,9 @@
 use Rattle.std.proofs.Common.{◌≡◌, ◌+◌, ◌-◌, arith, ap, subst}
 use Rattle.arena_core.specs.Arenas.{all_rooms}
-use Rattle.arena_core.specs.Indexes.{HasPlaces}
+use Rattle.arena_core.specs.Indexes.{HasPlaces, space_of}
 use Rattle.arena_core.proofs.RoomSums.{rooms_with}
+use Rattle.arena_core.proofs.SlabLaw.{slabs_step}
+use Rattle.arena_core.proofs.SlabSteps.{follows_no_return, slabs_few, slabs_of}
 use Rattle.arena_core.proofs.steps.use_up.Goals as goal
 
 pub set-requires-clause-fits : goal.set-requires-clause-fits
@@ -14,3 +16,13 @@ returns-clause-places c =
     let new = ap all_rooms c.set.ensures in
     let one : all_rooms c.args.body.now.rooms ≡ all_rooms c.set.new.self + 1 = omega (arith, sums, new, c.of-room.ensures.room, c.requires.room) in
     c.follow-reply.ensures.places (all_rooms c.set.new.self) (subst (HasPlaces c.args.body.now.indexes) one c.requires.body.places)
+
+pub follow-requires : goal.follow-requires
+follow-requires c = record { fits = slabs_few (space_of c.args.body.now.indexes) c.args.body.now.slabs c.requires.body.sound c.requires.body.slabs }
+
+pub returns-clause-slabs : goal.returns-clause-slabs
+returns-clause-slabs c =
+    let op = c.args.op.now in
+    slabs_of
+    (slabs_step c.args.client (space_of c.args.body.now.indexes) op c.args.body.now.slabs c.requires.body.sound c.requires.stands c.requires.carried (follows_no_return op c.requires.follows) c.requires.body.slabs)
+    c.follow-reply.ensures.after c.follow.ensures

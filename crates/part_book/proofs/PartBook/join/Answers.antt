@@ -9,15 +9,15 @@ use Rattle.part_book.proofs.PartBook.join.Goals as goal
 pub extent_at-number-requires-clause-begins : goal.extent_at-number-requires-clause-begins
 extent_at-number-requires-clause-begins c =
     let high = c.take_off-high.ensures in
-    let low = pair c.args.low c.args.high _ _ _ (ap (λ x. x.parts) c.self.view_is) c.requires.low c.requires.alike high.part c.self.invariant.table.indexes.apart in
+    let low = pair c.args.low c.args.high _ _ _ (ap (λ x. x.parts) c.self.view_is) c.requires.low c.requires.beside high.part c.self.invariant.table.indexes.apart in
     subst IsSome (sym (ap (find (begins_at c.args.low)) high.kept.parts ∙ low.1.later)) refl
 
 pub exchange-requires-clause-placed : goal.exchange-requires-clause-placed
 exchange-requires-clause-placed c =
     let high = c.take_off-high.ensures in
     let low = c.extent_at-number.ensures in
-    let both = pair_is c.args.low c.args.high _ _ _ _ _ (ap (λ x. x.parts) c.self.view_is) c.requires.low c.requires.alike high.part c.self.invariant.table.indexes.apart high.kept.parts low.at.found in
-    joined_placed c.extent_at-number.result.1 c.take_off-high.result low.placed high.placed both.alike
+    let both = pair_is c.args.low c.args.high _ _ _ _ _ (ap (λ x. x.parts) c.self.view_is) c.requires.low c.requires.beside high.part c.self.invariant.table.indexes.apart high.kept.parts low.at.found in
+    joined_placed c.extent_at-number.result.1 c.take_off-high.result low.placed high.placed both.beside
 
 pub exchange-requires-clause-apart : goal.exchange-requires-clause-apart
 exchange-requires-clause-apart c =
@@ -25,24 +25,24 @@ exchange-requires-clause-apart c =
     let low = c.extent_at-number.ensures in
     let p = c.extent_at-number.result.1 in
     let t = c.take_off-high.new.self in
-    let both = pair_is c.args.low c.args.high _ _ _ _ _ (ap (λ x. x.parts) c.self.view_is) c.requires.low c.requires.alike high.part c.self.invariant.table.indexes.apart high.kept.parts low.at.found in
-    joined_apart (parts_of t) p.span.first p c.take_off-high.result high.kept.table.indexes.apart both.alike (others_from (parts_of t) c.args.low p.span.first p low.first low.apart) high.apart
+    let both = pair_is c.args.low c.args.high _ _ _ _ _ (ap (λ x. x.parts) c.self.view_is) c.requires.low c.requires.beside high.part c.self.invariant.table.indexes.apart high.kept.parts low.at.found in
+    joined_apart (parts_of t) p.span.first p c.take_off-high.result high.kept.table.indexes.apart both.beside (others_from (parts_of t) c.args.low p.span.first p low.first low.apart) high.apart
 
 pub exchange-requires-clause-leaves : goal.exchange-requires-clause-leaves
 exchange-requires-clause-leaves c =
     let high = c.take_off-high.ensures in
     let low = c.extent_at-number.ensures in
-    let both = pair_is c.args.low c.args.high _ _ _ _ _ (ap (λ x. x.parts) c.self.view_is) c.requires.low c.requires.alike high.part c.self.invariant.table.indexes.apart high.kept.parts low.at.found in
-    omega (arith, joined_leaves c.take_off-high.new.self.edges c.extent_at-number.result.1 c.take_off-high.result both.alike low.leaves high.leaves)
+    let both = pair_is c.args.low c.args.high _ _ _ _ _ (ap (λ x. x.parts) c.self.view_is) c.requires.low c.requires.beside high.part c.self.invariant.table.indexes.apart high.kept.parts low.at.found in
+    omega (arith, joined_leaves c.take_off-high.new.self.edges c.extent_at-number.result.1 c.take_off-high.result both.beside low.leaves high.leaves)
 
 pub invariant_of-self : goal.invariant_of-self
 invariant_of-self c =
     let high = c.take_off-high.ensures in
     let low = c.extent_at-number.ensures in
-    let both = pair_is c.args.low c.args.high _ _ _ _ _ (ap (λ x. x.parts) c.self.view_is) c.requires.low c.requires.alike high.part c.self.invariant.table.indexes.apart high.kept.parts low.at.found in
+    let both = pair_is c.args.low c.args.high _ _ _ _ _ (ap (λ x. x.parts) c.self.view_is) c.requires.low c.requires.beside high.part c.self.invariant.table.indexes.apart high.kept.parts low.at.found in
     let n = c.self.inside.spare in
     let t = c.take_off-high.new.self.edges in
-    let none = joined_leaves t c.extent_at-number.result.1 c.take_off-high.result both.alike low.leaves high.leaves in
+    let none = joined_leaves t c.extent_at-number.result.1 c.take_off-high.result both.beside low.leaves high.leaves in
     let left = more_leaves c.self.inside.table.edges t (2 * n) high.chunks (omega arith) c.self.invariant.leaves in
     let room = c.exchange.ensures.room (n + 1) (high.room n c.self.invariant.room) in
     record {
@@ -55,5 +55,5 @@ pub returns-clause-parts : goal.returns-clause-parts
 returns-clause-parts c =
     let high = c.take_off-high.ensures in
     let low = c.extent_at-number.ensures in
-    let both = pair_is c.args.low c.args.high _ _ _ _ _ (ap (λ x. x.parts) c.self.view_is) c.requires.low c.requires.alike high.part c.self.invariant.table.indexes.apart high.kept.parts low.at.found in
+    let both = pair_is c.args.low c.args.high _ _ _ _ _ (ap (λ x. x.parts) c.self.view_is) c.requires.low c.requires.beside high.part c.self.invariant.table.indexes.apart high.kept.parts low.at.found in
     join_parts (parts_of c.self.inside.table) _ (parts_of c.take_off-high.new.self) _ c.args.low c.args.high _ c.extent_at-number.result.1 c.take_off-high.result (ap (λ x. x.parts) c.self.view_is) both.found high.part high.kept.parts low.first c.exchange.ensures.kept.parts

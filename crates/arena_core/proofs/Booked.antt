@@ -1,0 +1,203 @@
+-- A book of slabs beside a space, as a fill takes regions.
+use Rattle.std.proofs.Common.{◌≡◌, ℕ, ◌+◌, ◌<◌, ◌≤◌, zero, suc, Bool, true, false, cond, not, ◌&&◌, ◌||◌, eqb, ltb, List, [], ◌∷◌, ◌++◌, length, map, filter, take, drop, count_by, All, Contains, IsTrue, if◌then◌else◌, inl, inr, refl, sym, ap, ◌∙◌, subst, arith}
+use Rattle.std.specs.List.{flat_map, list_any, position_or_len}
+use Rattle.std.proofs.lemmas.Bool.{cases_Bool, eq-eqb, eqb-true, false_from_ne_true}
+use Rattle.std.proofs.lemmas.List.{take-append-drop}
+use Rattle.std.proofs.lemmas.List.Elements.{All-contains}
+use Rattle.std.proofs.lemmas.List.Folds.{flat_map-map, list_any-append}
+use Rattle.std.proofs.lemmas.List.Sums.{sum_by-cons}
+use Rattle.ordered_set.proofs.Members.{contains_later, filter_from, filter_has}
+use Rattle.space_model.specs.declared.parts.Part.{Part}
+use Rattle.space_model.specs.declared.parts.Region.{Region}
+use Rattle.space_model.specs.declared.spaces.Space.{Space}
+use Rattle.space_model.specs.Part.{is_active, turned_in_order}
+use Rattle.space_model.specs.Region.{houses, inserted, is_slab, landing, lies_in, region_of, residents, starts_at}
+use Rattle.space_model.specs.Slabs.{free_places, lowest_free, places, slabs_of}
+use Rattle.space_model.specs.Sound.{IsInSlab, Sound}
+use Rattle.space_model.proofs.Fills.{Spot, lowest_spots}
+use Rattle.bin_book.specs.Bins.{Slab, free_of, is_among, of_class, with_free, without}
+use Rattle.bin_book.proofs.Lists.{any_from, any_has, any_map, any_none, bit, filter_both, filter_map_is, filter_same, head, map_both, map_from, map_same}
+use Rattle.arena_core.specs.Booked.{AreBooked, BooksStayWhereHoldersChange, BooksStayWhileExtentsDo, FillsAreTaken, FillsTakeTheLowest, ReturnsAreFree, filled, slab_of}
+
+-- ---- tests of regions that landed
+
+any_inserted : (q : Region → Bool) (r : Region) (regions : List Region) → list_any q (inserted r regions) ≡ (q r || list_any q regions)
+any_inserted q r regions =
+    let n = position_or_len (λ (x : Region). ltb r.addr x.addr) regions in
+    list_any-append q (take n regions) (r ∷ drop n regions) ∙ turn (list_any q (take n regions)) (q r) (list_any q (drop n regions))
+    ∙ ap (λ b. q r || b) (sym (list_any-append q (take n regions) (drop n regions)) ∙ ap (list_any q) (take-append-drop n regions))
+  where
+    turn : (a b c : Bool) → (a || (b || c)) ≡ (b || (a || c))
+    turn true true c = refl
+    turn true false c = refl
+    turn false b c = refl
+
+pub any_landing : (q : Region → Bool) (come regions : List Region) → list_any q (landing come regions) ≡ (list_any q come || list_any q regions)
+any_landing q [] regions = refl
+any_landing q (r ∷ rs) regions = any_landing q rs (inserted r regions) ∙ ap (λ b. list_any q rs || b) (any_inserted q r regions) ∙ turn (list_any q rs) (q r) (list_any q regions)
+  where
+    turn : (a b c : Bool) → (a || (b || c)) ≡ ((b || a) || c)
+    turn true true c = refl
+    turn true false c = refl
+    turn false true c = refl
+    turn false false c = refl
+
+-- where some count, one is there
+counted : {X : Type 0} (p : X → Bool) (xs : List X) → 0 < count_by p xs → (x : X) × Contains xs x × (p x ≡ true)
+counted p [] some = absurd (omega arith)
+counted p (x ∷ xs) some = elim (cases_Bool (p x)) [
+  | inl t ↦ (x, head x xs, t)
+  | inr f ↦
+      let here : bit (p x) ≡ 0 = ap bit f in
+      let more = sum_by-cons (λ y. bit (p y)) x xs in
+      let r = counted p xs (omega arith) in
+      (r.0, contains_later x xs r.0 r.1, r.2)
+]
+
+and_parts : (a b : Bool) → (a && b) ≡ true → (a ≡ true) × (b ≡ true)
+and_parts true b e = (refl, e)
+and_parts false b e = absurd (cc)
+
+-- ---- a fill
+
+module _ (s : Space) (sound : Sound s) (client class count : ℕ) (small : class < 36) where
+  abbrev addrs : List ℕ
+  addrs = lowest_free class count s
+
+  abbrev after : List Region
+  after = landing (map (region_of client class) addrs) s.regions
+
+  -- an extent that serves one of the new regions serves one of the class already
+  served : (d : ℕ) (p : Part) → Contains s.parts p → list_any (λ r. eqb r.class d && houses p r) (map (region_of client class) addrs) ≡ true → is_slab d s.regions p ≡ true
+  served d p m t =
+      let some = any_from (λ r. eqb r.class d && houses p r) (map (region_of client class) addrs) t in
+      let a = map_from (region_of client class) addrs some.0 some.1 in
+      let both = and_parts _ _ some.2 in
+      let house : houses p (region_of client class a.0) ≡ true = ap (houses p) a.2 ∙ both.1 in
+      let is : class ≡ d = ap (λ (r : Region). r.class) a.2 ∙ eqb-true _ _ both.0 in
+      let spot = All-contains (λ x. Spot s.parts s.regions (region_of client class x)) addrs a.0 (lowest_spots client class count s small sound) a.1 in
+      let slab = All-contains (λ (x : Part). IsTrue (houses x (region_of client class a.0)) → IsInSlab s.regions x (region_of client class a.0)) s.parts p spot.slab m house in
+      let active = (and_parts _ _ (and_parts _ _ house).0).0 in
+      let q = counted (houses p) s.regions (All-contains (λ (x : Part). IsTrue (is_active x.state) → 0 < residents x s.regions) s.parts p sound.used m active) in
+      let like : q.0.class ≡ class = All-contains (λ (x : Region). IsTrue (houses p x) → x.class ≡ class) s.regions q.0 slab.alike q.1 q.2 in
+      let one : eqb q.0.class d ≡ true = ap (λ n. eqb n d) (like ∙ is) ∙ same d in
+      any_has (λ r. eqb r.class d && houses p r) s.regions q.0 q.1 (rw (one, q.2) refl)
+    where
+      same : (n : ℕ) → eqb n n ≡ true
+      same n = eq-eqb n n refl
+
+  slab_stays : (d : ℕ) (p : Part) → Contains s.parts p → is_slab d after p ≡ is_slab d s.regions p
+  slab_stays d p m =
+      let q = λ (r : Region). eqb r.class d && houses p r in
+      any_landing q (map (region_of client class) addrs) s.regions ∙ elim (cases_Bool (list_any q (map (region_of client class) addrs))) [
+        | inl t ↦ rw (t, served d p m t) refl
+        | inr f ↦ rw f refl
+      ]
+
+  slabs_stay : (d : ℕ) → slabs_of d (filled s client class addrs) ≡ slabs_of d s
+  slabs_stay d = ap (turned_in_order (λ p. p)) (filter_same (is_slab d after) (is_slab d s.regions) s.parts (slab_stays d))
+
+  -- the free places are those that were free, without the addresses
+  taken_places : (d : ℕ) (p : Part) → slab_of after d p ≡ without addrs (slab_of s.regions d p)
+  taken_places d p = λ k. record {
+    class = d;
+    first = p.span.first;
+    free = (filter_same (λ a. not (list_any (starts_at a) after)) (λ a. not (list_any (starts_at a) s.regions) && not (is_among addrs a)) (places d p) (λ a m. there a)
+        ∙ sym (filter_both (λ a. not (list_any (starts_at a) s.regions)) (λ a. not (is_among addrs a)) (places d p))) k;
+  }
+    where
+      not_or : (x y : Bool) → not (x || y) ≡ (not y && not x)
+      not_or true true = refl
+      not_or true false = refl
+      not_or false true = refl
+      not_or false false = refl
+
+      there : (a : ℕ) → not (list_any (starts_at a) after) ≡ (not (list_any (starts_at a) s.regions) && not (is_among addrs a))
+      there a = ap not (any_landing (starts_at a) (map (region_of client class) addrs) s.regions ∙ ap (λ b. b || list_any (starts_at a) s.regions) (any_map (region_of client class) (starts_at a) addrs)) ∙ not_or (is_among addrs a) (list_any (starts_at a) s.regions)
+
+  pub taken_stays : (slabs : List Slab) → AreBooked s slabs → AreBooked (filled s client class addrs) (map (without addrs) slabs)
+  taken_stays slabs booked d low =
+      filter_map_is (without addrs) (λ x. eqb x.class d) slabs ∙ ap (map (without addrs)) (booked d low)
+      ∙ sym (map_both (slab_of s.regions d) (without addrs) (slab_of after d) (slabs_of d s) (λ p m. taken_places d p)) ∙ ap (map (slab_of after d)) (sym (slabs_stay d))
+
+pub fills_taken : FillsTakeTheLowest
+fills_taken s slabs client class count sound small booked = record {
+  addrs = ap (take count) (ap (flat_map (λ (x : Slab). x.free)) (booked class small) ∙ flat_map-map (λ (x : Slab). x.free) (slab_of s.regions class) (slabs_of class s));
+  booked = taken_stays s sound client class count small slabs booked;
+}
+
+-- ---- other changes
+
+any_same : {X : Type 0} (p q : X → Bool) (xs : List X) → ((x : X) → p x ≡ q x) → list_any p xs ≡ list_any q xs
+any_same p q [] same = refl
+any_same p q (x ∷ xs) same = λ k. same x k || any_same p q xs same k
+
+-- an extent that serves no region is no slab
+idle_no_slab : (class : ℕ) (regions : List Region) (p : Part) → is_active p.state ≡ false → is_slab class regions p ≡ false
+idle_no_slab class regions p idle = any_none (λ r. eqb r.class class && houses p r) regions (λ r m. rw idle (never (eqb r.class class)))
+  where
+    never : (b : Bool) → (b && false) ≡ false
+    never true = refl
+    never false = refl
+
+active_slabs : (class : ℕ) (regions : List Region) (parts : List Part) → filter (is_slab class regions) (filter (λ p. is_active p.state) parts) ≡ filter (is_slab class regions) parts
+active_slabs class regions parts = filter_both (λ p. is_active p.state) (is_slab class regions) parts ∙ filter_same (λ p. is_active p.state && is_slab class regions p) (is_slab class regions) parts (λ p m. by p)
+  where
+    by : (p : Part) → (is_active p.state && is_slab class regions p) ≡ is_slab class regions p
+    by p = elim (cases_Bool (is_active p.state)) [ inl t ↦ ap (λ b. b && is_slab class regions p) t | inr f ↦ ap (λ b. b && is_slab class regions p) f ∙ sym (idle_no_slab class regions p f) ]
+
+pub stay_still : BooksStayWhileExtentsDo
+stay_still s t slabs parts regions booked class small =
+    let same = sym (active_slabs class t.regions t.parts) ∙ ap (filter (is_slab class t.regions)) parts ∙ active_slabs class t.regions s.parts ∙ ap (λ rs. filter (is_slab class rs) s.parts) regions in
+    booked class small ∙ (λ k. map (slab_of (sym regions k) class) (turned_in_order (λ p. p) (sym same k)))
+
+pub stay_handed : BooksStayWhereHoldersChange
+stay_handed s t slabs test holder parts regions booked class small =
+    let anew = λ (r : Region). if test r then record r { holder = holder } else r in
+    let slab = λ (p : Part). any_map anew (λ r. eqb r.class class && houses p r) s.regions ∙ any_same (λ r. eqb (anew r).class class && houses p (anew r)) (λ r. eqb r.class class && houses p r) s.regions (λ r. elim (cases_Bool (test r)) [ inl e ↦ rw e refl | inr f ↦ rw f refl ]) in
+    let start = λ (a : ℕ). any_map anew (starts_at a) s.regions ∙ any_same (λ r. starts_at a (anew r)) (starts_at a) s.regions (λ r. elim (cases_Bool (test r)) [ inl e ↦ rw e refl | inr f ↦ rw f refl ]) in
+    let same = filter_same (is_slab class (map anew s.regions)) (is_slab class s.regions) s.parts (λ p m. slab p) in
+    let shown = λ (p : Part). filter_same (λ a. not (list_any (starts_at a) (map anew s.regions))) (λ a. not (list_any (starts_at a) s.regions)) (places class p) (λ a m. ap not (start a)) in
+    booked class small ∙ map_same (slab_of s.regions class) (slab_of (map anew s.regions) class) (slabs_of class s) (λ p m k. record { class = class; first = p.span.first; free = sym (shown p) k })
+    ∙ ap (λ ps. map (slab_of (map anew s.regions) class) (turned_in_order (λ p. p) ps)) (sym same) ∙ (λ k. map (slab_of (sym regions k) class) (turned_in_order (λ p. p) (filter (is_slab class (sym regions k)) (sym parts k))))
+
+-- ---- a return
+
+both_ways : (a b : Bool) → (a ≡ true → b ≡ true) → (b ≡ true → a ≡ true) → a ≡ b
+both_ways true b f g = sym (f refl)
+both_ways false true f g = g refl
+both_ways false false f g = refl
+
+-- what a filter keeps is among what it gives
+among_kept : (keep : ℕ → Bool) (xs : List ℕ) (a : ℕ) → Contains xs a → is_among (filter keep xs) a ≡ keep a
+among_kept keep xs a m = both_ways (is_among (filter keep xs) a) (keep a)
+    (λ t. let p = any_from (λ b. eqb b a) (filter keep xs) t in ap keep (sym (eqb-true _ _ p.2)) ∙ (filter_from keep xs p.0 p.1).1)
+    (λ t. any_has (λ b. eqb b a) (filter keep xs) a (filter_has keep xs a m t) (eq-eqb a a refl))
+
+-- the regions that begin at an address, once those at another one are gone
+starts_left : (addr a : ℕ) (regions : List Region) → not (list_any (starts_at a) (filter (λ r. not (starts_at addr r)) regions)) ≡ (eqb a addr || not (list_any (starts_at a) regions))
+starts_left addr a regions = elim (cases_Bool (eqb a addr)) [
+  | inl same ↦
+      let none = any_none (starts_at a) (filter (λ r. not (starts_at addr r)) regions) (λ r m. false_from_ne_true _ (λ t.
+      let gone = (filter_from (λ r. not (starts_at addr r)) regions r m).1 in
+      let here : starts_at addr r ≡ true = eq-eqb _ _ (eqb-true _ _ t ∙ eqb-true _ _ same) in
+      let no : false ≡ true = sym (ap not here) ∙ gone in
+      cc)) in
+      ap not none ∙ sym (ap (λ b. b || not (list_any (starts_at a) regions)) same)
+  | inr other ↦
+      let stay = both_ways (list_any (starts_at a) (filter (λ r. not (starts_at addr r)) regions)) (list_any (starts_at a) regions)
+      (λ t. let p = any_from (starts_at a) (filter (λ r. not (starts_at addr r)) regions) t in any_has (starts_at a) regions p.0 (filter_from (λ r. not (starts_at addr r)) regions p.0 p.1).0 p.2)
+      (λ t.
+      let p = any_from (starts_at a) regions t in
+      let differs : starts_at addr p.0 ≡ false = ap (λ n. eqb n addr) (eqb-true _ _ p.2) ∙ other in
+      any_has (starts_at a) (filter (λ r. not (starts_at addr r)) regions) p.0 (filter_has (λ r. not (starts_at addr r)) regions p.0 p.1 (ap not differs)) p.2) in
+      ap not stay ∙ sym (ap (λ b. b || not (list_any (starts_at a) regions)) other)
+]
+
+pub freed : ReturnsAreFree
+freed regions addr class p = λ k. record {
+  class = class;
+  first = p.span.first;
+  free = filter_same (λ a. not (list_any (starts_at a) (filter (λ r. not (starts_at addr r)) regions))) (λ a. eqb a addr || is_among (free_places class regions p) a) (places class p)
+      (λ a m. starts_left addr a regions ∙ ap (λ b. eqb a addr || b) (sym (among_kept (λ x. not (list_any (starts_at x) regions)) (places class p) a m))) k;
+}

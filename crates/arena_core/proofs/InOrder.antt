@@ -1,0 +1,124 @@
+-- Extents in order of address, as some go or one comes.
+use Rattle.std.proofs.Common.{◌≡◌, ◌≢◌, ℕ, ◌<◌, ◌≤◌, zero, suc, Bool, true, false, cond, List, [], ◌∷◌, ◌++◌, All, filter, ltb, fold, take, drop, ◌+◌, subst, inl, inr, refl, sym, ap, ◌∙◌, arith}
+use Rattle.std.specs.List.{AllByRecursion as Every, insert, position_or_len}
+use Rattle.std.proofs.lemmas.Bool.{cases_Bool, cases_lt}
+use Rattle.std.proofs.lemmas.Bool.Decides.{nat_tests}
+use Rattle.std.proofs.lemmas.List.Elements.{recursion_from_All}
+use Rattle.ordered_set.proofs.Sorted.{every_filter, every_map, filter_all, filter_none}
+use Rattle.space_model.specs.declared.parts.Part.{Part}
+use Rattle.space_model.specs.Part.{placed, turned_in_order}
+use Rattle.arena_core.specs.Booked.{OrderGrows, OrderStays}
+
+-- each extent begins no later than those behind it
+Rising : List Part → Type 0
+Rising [] = Unit {0}
+Rising (q ∷ L) = Every (λ x. q.span.first ≤ x.span.first) L × Rising L
+
+-- an extent in front of the first one that begins later
+put : Part → List Part → List Part
+put p [] = p ∷ []
+put p (q ∷ L) = cond (ltb p.span.first q.span.first) (p ∷ q ∷ L) (q ∷ put p L)
+
+placed_is : (p : Part) (L : List Part) → placed p L ≡ put p L
+unfolding put
+placed_is p [] = refl
+placed_is p (q ∷ L) =
+    let n = position_or_len (λ (x : Part). ltb p.span.first x.span.first) L in
+    let one : 1 + n ≡ suc n = omega arith in
+    elim (cases_Bool (ltb p.span.first q.span.first)) [
+      | inl t ↦ rw t refl
+      | inr f ↦ rw f (ap (λ m. take m (q ∷ L) ++ p ∷ drop m (q ∷ L)) one ∙ ap (λ xs. q ∷ xs) (placed_is p L))
+    ]
+
+every_put : (P : Part → Type 0) (p : Part) (L : List Part) → P p → Every P L → Every P (put p L)
+unfolding put
+every_put P p [] here all = (here, tt)
+every_put P p (q ∷ L) here all = elim (cases_Bool (ltb p.span.first q.span.first)) [ inl t ↦ rw t (here, all) | inr f ↦ rw f (all.0, every_put P p L here all.1) ]
+
+rising_put : (p : Part) (L : List Part) → Rising L → Rising (put p L)
+unfolding put Rising
+rising_put p [] r = (tt, tt)
+rising_put p (q ∷ L) r = elim (cases_lt p.span.first q.span.first) [
+  | inl l ↦ let t : ltb p.span.first q.span.first ≡ true = grind (arith, nat_tests) in rw t ((omega arith, every_map (λ x. q.span.first ≤ x.span.first) (λ x. p.span.first ≤ x.span.first) (λ x le. omega arith) L r.0), r)
+  | inr g ↦ let f : ltb p.span.first q.span.first ≡ false = grind (arith, nat_tests) in rw f (every_put (λ x. q.span.first ≤ x.span.first) p L g r.0, rising_put p L r.1)
+]
+
+-- it comes first where all others begin later
+put_first : (p : Part) (L : List Part) → Every (λ x. p.span.first < x.span.first) L → put p L ≡ p ∷ L
+unfolding put
+put_first p [] all = refl
+put_first p (q ∷ L) all = let l = all.0 in let t : ltb p.span.first q.span.first ≡ true = grind (arith, nat_tests) in rw t refl
+
+filter_put : (keep : Part → Bool) (p : Part) (L : List Part) → Rising L → filter keep (put p L) ≡ cond (keep p) (put p (filter keep L)) (filter keep L)
+unfolding put Rising
+filter_put keep p [] r = elim (cases_Bool (keep p)) [ inl t ↦ rw t refl | inr f ↦ rw f refl ]
+filter_put keep p (q ∷ L) r = elim (cases_lt p.span.first q.span.first) [
+  | inl l ↦
+      let t : ltb p.span.first q.span.first ≡ true = grind (arith, nat_tests) in
+      let later : Every (λ x. p.span.first < x.span.first) (q ∷ L) = (l, every_map (λ x. q.span.first ≤ x.span.first) (λ x. p.span.first < x.span.first) (λ x le. omega arith) L r.0) in
+      rw t (ap (λ xs. cond (keep p) xs (filter keep (q ∷ L))) (sym (put_first p (filter keep (q ∷ L)) (every_filter (λ x. p.span.first < x.span.first) keep (q ∷ L) later))))
+  | inr g ↦
+      let f : ltb p.span.first q.span.first ≡ false = grind (arith, nat_tests) in
+      let rest = filter_put keep p L r.1 in
+      rw f (elim (cases_Bool (keep q)) [
+        | inl t ↦ elim (cases_Bool (keep p)) [ inl u ↦ rw (t, u, f) (ap (λ xs. q ∷ xs) (rest ∙ rw u refl)) | inr v ↦ rw (t, v) (ap (λ xs. q ∷ xs) (rest ∙ rw v refl)) ]
+        | inr n ↦ rw n rest
+      ])
+]
+
+order : List Part → List Part → List Part
+order before parts = fold (λ turned p. placed p turned) before parts
+
+order_filter : (keep : Part → Bool) (before parts : List Part) → Rising before → order (filter keep before) (filter keep parts) ≡ filter keep (order before parts)
+unfolding order
+order_filter keep before [] r = refl
+order_filter keep before (p ∷ ps) r =
+    let step = ap (filter keep) (placed_is p before) ∙ filter_put keep p before r in
+    let deep = order_filter keep (put p before) ps (rising_put p before r) in
+    elim (cases_Bool (keep p)) [
+      | inl t ↦ rw t (ap (λ xs. order xs (filter keep ps)) (placed_is p (filter keep before) ∙ sym (filter_put keep p before r ∙ rw t refl)) ∙ deep ∙ ap (λ xs. filter keep (order xs ps)) (sym (placed_is p before)))
+      | inr f ↦ rw f (ap (λ xs. order xs (filter keep ps)) (sym (filter_put keep p before r ∙ rw f refl)) ∙ deep ∙ ap (λ xs. filter keep (order xs ps)) (sym (placed_is p before)))
+    ]
+
+pub order_stays : OrderStays
+unfolding order Rising
+order_stays keep parts = order_filter keep [] parts tt
+
+rising_order : (before parts : List Part) → Rising before → Rising (order before parts)
+unfolding order
+rising_order before [] r = r
+rising_order before (p ∷ ps) r = rising_order (placed p before) ps (subst Rising (sym (placed_is p before)) (rising_put p before r))
+
+every_order : (P : Part → Type 0) (before parts : List Part) → Every P before → Every P parts → Every P (order before parts)
+unfolding order
+every_order P before [] all more = all
+every_order P before (p ∷ ps) all more = every_order P (placed p before) ps (subst (Every P) (sym (placed_is p before)) (every_put P p before more.0 all)) more.1
+
+order_push : (before parts : List Part) (p : Part) → order before (parts ++ p ∷ []) ≡ placed p (order before parts)
+unfolding order
+order_push before [] p = refl
+order_push before (q ∷ qs) p = order_push (placed q before) qs p
+
+-- a new one between those below and those above
+put_between : (p : Part) (L : List Part) → Rising L → Every (λ q. q.span.first ≢ p.span.first) L → put p L ≡ filter (λ q. ltb q.span.first p.span.first) L ++ p ∷ filter (λ q. ltb p.span.first q.span.first) L
+unfolding put Rising
+put_between p [] r other = refl
+put_between p (q ∷ L) r other = elim (cases_lt p.span.first q.span.first) [
+  | inl l ↦
+      let t : ltb p.span.first q.span.first ≡ true = grind (arith, nat_tests) in
+      let later : Every (λ x. p.span.first < x.span.first) (q ∷ L) = (l, every_map (λ x. q.span.first ≤ x.span.first) (λ x. p.span.first < x.span.first) (λ x le. omega arith) L r.0) in
+      let none = filter_none (λ x. ltb x.span.first p.span.first) (q ∷ L) (every_map (λ x. p.span.first < x.span.first) (λ x. ltb x.span.first p.span.first ≡ false) (λ x lt. grind (arith, nat_tests)) (q ∷ L) later) in
+      let all = filter_all (λ x. ltb p.span.first x.span.first) (q ∷ L) (every_map (λ x. p.span.first < x.span.first) (λ x. ltb p.span.first x.span.first ≡ true) (λ x lt. grind (arith, nat_tests)) (q ∷ L) later) in
+      put_first p (q ∷ L) later ∙ sym (λ k. none k ++ p ∷ all k)
+  | inr g ↦
+      let ne = other.0 in
+      let f : ltb p.span.first q.span.first ≡ false = grind (arith, nat_tests) in
+      let low : ltb q.span.first p.span.first ≡ true = grind (arith, nat_tests) in
+      rw (f, low) (ap (λ xs. q ∷ xs) (put_between p L r.1 other.1))
+]
+
+pub order_grows : OrderGrows
+unfolding order Rising
+order_grows parts p other =
+    let all = every_order (λ q. q.span.first ≢ p.span.first) [] parts tt (recursion_from_All (λ q. q.span.first ≢ p.span.first) parts other) in
+    order_push [] parts p ∙ placed_is p (order [] parts) ∙ put_between p (order [] parts) (rising_order [] parts tt) all

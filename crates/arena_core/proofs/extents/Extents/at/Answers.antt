@@ -1,0 +1,9 @@
+use Rattle.space_model.specs.Part.{begins_at}
+use Rattle.arena_core.specs.Extents.{IsThere}
+use Rattle.arena_core.proofs.Finds.{found_inside}
+use Rattle.arena_core.proofs.Swaps.{at_some}
+use Rattle.arena_core.proofs.extents.Extents.at.Goals as goal
+
+pub returns-clause-there : goal.returns-clause-there
+returns-clause-there c =
+    at_some (IsThere c.args.self.now.parts) c.look.result c.unwrap.result c.unwrap.ensures (found_inside (begins_at c.args.first) c.self.view_is c.self.invariant.apart c.look.ensures)

@@ -1,0 +1,5 @@
+use Rattle.arena_core.proofs.FirstPlaces.{lands_first}
+use Rattle.arena_core.proofs.laws.lands_take_the_first.Goals as goal
+
+pub returns : goal.returns
+returns c = lands_first

@@ -1,0 +1,52 @@
+use Rattle.std.proofs.Common.{◌≡◌, ◌∙◌, ◌*◌, [], ◌∷◌, ap, arith, sym}
+use Rattle.std.proofs.lemmas.Bool.Decides.{nat_tests}
+use Rattle.space_model.specs.declared.parts.State.TheVariants.{Flight}
+use Rattle.space_model.specs.Part.{begins_at, exchanged}
+use Rattle.space_model.specs.Span.{same_span}
+use Rattle.space_model.specs.Resizing.{trimmed_at}
+use Rattle.space_model.specs.Step.{high_piece, low_piece}
+use Rattle.space_model.proofs.Sums.{region_bytes_fits}
+use Rattle.arena_core.specs.Indexes.{space_of}
+use Rattle.arena_core.proofs.Emptying.{begins_alone}
+use Rattle.arena_core.proofs.Resized.{page_begins, page_homed, reclassed_is}
+use Rattle.arena_core.proofs.resizes.cut_home.Goals as goal
+
+pub at-part-requires : goal.at-part-requires
+at-part-requires c = page_begins c.args.client c.args.span.first (space_of c.args.indexes.now) (λ p. same_span p.span c.args.span) c.requires.sound c.requires.home
+
+pub overflow_mul-first : goal.overflow_mul-first
+overflow_mul-first c =
+    let h = page_homed c.args.client c.args.span.first (space_of c.args.indexes.now) (λ p. same_span p.span c.args.span) c.requires.sound c.requires.home c.at-part.ensures.at in
+    omega (arith, h.1.placed.2, h.1.start)
+
+pub reclass-requires-clause-held : goal.reclass-requires-clause-held
+reclass-requires-clause-held c =
+    let h = page_homed c.args.client c.args.span.first (space_of c.args.indexes.now) (λ p. same_span p.span c.args.span) c.requires.sound c.requires.home c.at-part.ensures.at in
+    h.1.hand
+
+pub reclass-requires-clause-alone : goal.reclass-requires-clause-alone
+reclass-requires-clause-alone c = begins_alone (space_of c.args.indexes.now) (4096 * c.args.span.first) c.requires.sound
+
+pub reclass-requires-clause-bytes : goal.reclass-requires-clause-bytes
+reclass-requires-clause-bytes c = region_bytes_fits (space_of c.args.indexes.now) c.requires.sound
+
+pub cut_off-requires-clause-fewer : goal.cut_off-requires-clause-fewer
+cut_off-requires-clause-fewer c =
+    let h = page_homed c.args.client c.args.span.first (space_of c.args.indexes.now) (λ p. same_span p.span c.args.span) c.requires.sound c.requires.home c.at-part.ensures.at in
+    grind (arith, nat_tests, h.1.passes, c.requires.fewer)
+
+pub overflow_add-result : goal.overflow_add-result
+overflow_add-result c =
+    let h = page_homed c.args.client c.args.span.first (space_of c.args.indexes.now) (λ p. same_span p.span c.args.span) c.requires.sound c.requires.home c.at-part.ensures.at in
+    let pages : c.at-part.result.span.pages ≡ c.args.span.pages = grind (arith, nat_tests, h.1.passes) in
+    omega (arith, h.1.placed.2, h.1.start, c.requires.fewer, pages)
+
+pub returns-clause-after : goal.returns-clause-after
+returns-clause-after c =
+    let s = space_of c.args.indexes.now in
+    let p = c.at-part.result in
+    let h = page_homed c.args.client c.args.span.first (space_of c.args.indexes.now) (λ p. same_span p.span c.args.span) c.requires.sound c.requires.home c.at-part.ensures.at in
+    let out = ap (λ rest. exchanged (begins_at p.span.first) s.parts (low_piece c.args.left p ∷ record (high_piece c.args.left p) { state = Flight c.args.client rest } ∷ [])) c.rest.ensures in
+    let parts = c.cut_off.ensures.parts ∙ out in
+    let regions = c.reclass.ensures.regions ∙ reclassed_is c.args.client (4096 * c.args.span.first) c.args.class h.0 s.regions h.1.region h.1.holder in
+    (λ i. record s { parts = parts i; regions = regions i }) ∙ ap (λ o. (trimmed_at s c.args.client c.args.left c.args.class o).after) (sym h.1.found)

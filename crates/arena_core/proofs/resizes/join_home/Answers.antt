@@ -1,0 +1,46 @@
+use Rattle.std.proofs.Common.{◌∙◌, ◌*◌, Some, ap, arith, sym}
+use Rattle.std.proofs.lemmas.Bool.Decides.{nat_tests}
+use Rattle.space_model.specs.declared.entries.Reply.TheVariants.{Landed}
+use Rattle.space_model.specs.Span.{same_span}
+use Rattle.space_model.specs.Resizing.{widened_at}
+use Rattle.space_model.proofs.Sums.{region_bytes_fits}
+use Rattle.arena_core.specs.Indexes.{space_of}
+use Rattle.arena_core.proofs.Emptying.{begins_alone}
+use Rattle.arena_core.proofs.Resized.{page_begins, page_homed, reclassed_is}
+use Rattle.arena_core.proofs.resizes.join_home.Goals as goal
+
+pub at-part-requires : goal.at-part-requires
+at-part-requires c = page_begins c.args.client c.args.low.first (space_of c.args.indexes.now) (λ p. same_span p.span c.args.low) c.requires.sound c.requires.home
+
+pub overflow_mul-first : goal.overflow_mul-first
+overflow_mul-first c =
+    let h = page_homed c.args.client c.args.low.first (space_of c.args.indexes.now) (λ p. same_span p.span c.args.low) c.requires.sound c.requires.home c.at-part.ensures.at in
+    omega (arith, h.1.placed.2, h.1.start)
+
+pub reclass-requires-clause-held : goal.reclass-requires-clause-held
+reclass-requires-clause-held c =
+    let h = page_homed c.args.client c.args.low.first (space_of c.args.indexes.now) (λ p. same_span p.span c.args.low) c.requires.sound c.requires.home c.at-part.ensures.at in
+    h.1.hand
+
+pub reclass-requires-clause-alone : goal.reclass-requires-clause-alone
+reclass-requires-clause-alone c = begins_alone (space_of c.args.indexes.now) (4096 * c.args.low.first) c.requires.sound
+
+pub reclass-requires-clause-bytes : goal.reclass-requires-clause-bytes
+reclass-requires-clause-bytes c = region_bytes_fits (space_of c.args.indexes.now) c.requires.sound
+
+pub join-requires-clause-beside : goal.join-requires-clause-beside
+join-requires-clause-beside c =
+    let h = page_homed c.args.client c.args.low.first (space_of c.args.indexes.now) (λ p. same_span p.span c.args.low) c.requires.sound c.requires.home c.at-part.ensures.at in
+    grind (arith, nat_tests, h.1.passes, c.requires.beside)
+
+pub returns-clause-after : goal.returns-clause-after
+returns-clause-after c =
+    let s = space_of c.args.indexes.now in
+    let h = page_homed c.args.client c.args.low.first (space_of c.args.indexes.now) (λ p. same_span p.span c.args.low) c.requires.sound c.requires.home c.at-part.ensures.at in
+    let regions = c.reclass.ensures.regions ∙ reclassed_is c.args.client (4096 * c.args.low.first) c.args.class h.0 s.regions h.1.region h.1.holder in
+    (λ i. record s { parts = c.join.ensures.parts i; regions = regions i }) ∙ ap (λ o. (widened_at s c.args.class o (Some c.args.high.now)).after) (sym h.1.found)
+
+pub returns-clause-reply : goal.returns-clause-reply
+returns-clause-reply c =
+    let h = page_homed c.args.client c.args.low.first (space_of c.args.indexes.now) (λ p. same_span p.span c.args.low) c.requires.sound c.requires.home c.at-part.ensures.at in
+    ap (λ addr. Landed addr 1) (sym h.1.region) ∙ ap (λ o. (widened_at (space_of c.args.indexes.now) c.args.class o (Some c.args.high.now)).reply) (sym h.1.found)

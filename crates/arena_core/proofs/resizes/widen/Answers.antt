@@ -1,0 +1,31 @@
+use Rattle.std.proofs.Common.{◌∙◌, ap, arith, sym, ltb as nat_lt}
+use Rattle.std.proofs.lemmas.Bool.{ltb-true}
+use Rattle.space_model.specs.Resizing.{widen_at}
+use Rattle.arena_core.specs.Indexes.{space_of}
+use Rattle.arena_core.proofs.Resized.{home_begins, homed}
+use Rattle.arena_core.proofs.resizes.widen.Goals as goal
+
+pub at-part-requires : goal.at-part-requires
+at-part-requires c = home_begins c.args.client c.args.addr (space_of c.args.indexes.now) (λ p. nat_lt p.span.pages c.args.pages) c.requires.sound c.requires.stands
+
+pub overflow_add-end : goal.overflow_add-end
+overflow_add-end c =
+    let h = homed c.args.client c.args.addr (space_of c.args.indexes.now) (λ p. nat_lt p.span.pages c.args.pages) c.requires.sound c.requires.stands c.at-part.ensures.at in
+    omega (arith, h.1.placed.2)
+
+pub overflow_sub-pages : goal.overflow_sub-pages
+overflow_sub-pages c =
+    let h = homed c.args.client c.args.addr (space_of c.args.indexes.now) (λ p. nat_lt p.span.pages c.args.pages) c.requires.sound c.requires.stands c.at-part.ensures.at in
+    omega (arith, ltb-true _ _ h.1.passes)
+
+pub returns-clause-after : goal.returns-clause-after
+returns-clause-after c =
+    let s = space_of c.args.indexes.now in
+    let h = homed c.args.client c.args.addr s (λ p. nat_lt p.span.pages c.args.pages) c.requires.sound c.requires.stands c.at-part.ensures.at in
+    c.widen_by.ensures.after ∙ ap (λ o. (widen_at s c.args.client c.args.pages o).after) (sym h.1.found)
+
+pub returns-clause-reply : goal.returns-clause-reply
+returns-clause-reply c =
+    let s = space_of c.args.indexes.now in
+    let h = homed c.args.client c.args.addr s (λ p. nat_lt p.span.pages c.args.pages) c.requires.sound c.requires.stands c.at-part.ensures.at in
+    c.widen_by.ensures.reply ∙ ap (λ o. (widen_at s c.args.client c.args.pages o).reply) (sym h.1.found)

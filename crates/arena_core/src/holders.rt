@@ -1,0 +1,39 @@
+//! How a region goes from one client to another.
+
+ghost use Rattle.std.specs.Prelude.{◌≡◌, ℕ, true};
+ghost use Rattle.space_model.specs.Holding.{after_publish, after_take_over};
+ghost use Rattle.space_model.specs.Step.{holds_at};
+ghost use Rattle.space_model.specs.Sound.{Sound};
+ghost use Rattle.arena_core.specs.Indexes.{HasPlaces, space_of};
+
+use crate::indexes::Indexes;
+use space_model::Reply;
+
+/// Nobody holds the client's region at the address any more.
+pub fn publish(indexes: &mut Indexes, client: u32, addr: u64) -> Reply
+    requires held { holds_at client (space_of indexes.old).regions addr ≡ true }
+    requires sound { Sound (space_of indexes.old) }
+    ensures after { space_of indexes.new ≡ (after_publish (space_of indexes.old) client addr).after }
+    ensures reply { result ≡ (after_publish (space_of indexes.old) client addr).reply }
+    ensures places { (n : ℕ) → HasPlaces indexes.old n → HasPlaces indexes.new n }
+{
+    indexes.regions.hand_over(addr, None);
+    Reply::Noted
+}
+
+/// The client holds the published region at the address from now on, if there is one.
+pub fn take_over(indexes: &mut Indexes, client: u32, addr: u64) -> Reply
+    requires sound { Sound (space_of indexes.old) }
+    ensures after { space_of indexes.new ≡ (after_take_over (space_of indexes.old) client addr).after }
+    ensures reply { result ≡ (after_take_over (space_of indexes.old) client addr).reply }
+    ensures places { (n : ℕ) → HasPlaces indexes.old n → HasPlaces indexes.new n }
+{
+    if !indexes.life.is_live() {
+        return Reply::NoArena;
+    }
+    let Some(class) = indexes.regions.published_at(addr) else {
+        return Reply::Nothing;
+    };
+    indexes.regions.hand_over(addr, Some(client));
+    Reply::Owned { class }
+}

@@ -1,0 +1,73 @@
+//! The extents that are offered to a dalloc hook.
+
+ghost use Rattle.std.specs.Prelude.{◌≡◌, ℕ, ◌+◌, ◌<◌, ◌≤◌, [], ◌∷◌, ◌++◌, OnOk};
+ghost use Rattle.std.specs.List.{position};
+ghost use Rattle.space_model.specs.Purging.{is_offer, without_offer};
+
+use space_model::{Offered, Span};
+use std::alloc::{AllocError as NoMemory, Global};
+use std::marker::Model;
+
+/// The offers of an arena, in the order in which they were made. Contracts see them, and how many more there are places
+/// for.
+#[derive(Drop)]
+pub struct OfferList {
+    offers: Vec<Offered>,
+}
+
+impl Model for OfferList {
+    ghost use Rattle.arena_core.specs.OfferLists.{Offering, shown};
+
+    ghost Value = { Offering };
+
+    ghost view = { shown };
+}
+
+impl OfferList {
+    /// No offer, and no place for one.
+    pub fn new(alloc: Global) -> Self
+        ensures { result.offers ≡ [] }
+    {
+        OfferList {
+            offers: Vec::new(alloc),
+        }
+    }
+
+    /// Makes places for at least `more` further offers. The offers stay.
+    pub fn reserve(&mut self, more: u64) -> Result<(), NoMemory>
+        ensures offers { self.new.offers ≡ self.old.offers }
+        ensures kept { self.old.spare ≤ self.new.spare }
+        ensures ok { OnOk result (more ≤ self.new.spare) }
+    {
+        self.offers.reserve(more as usize)?;
+        Ok(())
+    }
+
+    /// Puts an offer at the end. It takes a place.
+    pub fn push(&mut self, offer: Offered)
+        requires room { 0 < self.old.spare }
+        ensures offers { self.new.offers ≡ self.old.offers ++ offer ∷ [] }
+        ensures spare { self.old.spare ≤ self.new.spare + 1 }
+    {
+        self.offers.push(offer).unwrap();
+    }
+
+    /// Takes the client's first offer of the span off, if there is one.
+    pub fn take(&mut self, client: u32, span: Span, committed: bool)
+        ensures offers { self.new.offers ≡ without_offer client span committed self.old.offers }
+        ensures spare { self.old.spare ≤ self.new.spare }
+    {
+        if let Some(place) = place_of(self.offers.as_slice(), client, span, committed) {
+            self.offers.remove(place);
+        }
+    }
+}
+
+/// The place of the client's first offer of the span, committed or not.
+fn place_of(offers: &[Offered], client: u32, span: Span, committed: bool) -> Option<usize>
+    ensures { result ≡ position (is_offer client span committed) offers.now }
+{
+    offers.iter().position(|offer| {
+        offer.client == client && offer.span == span && offer.committed == committed
+    })
+}
