@@ -1,5 +1,5 @@
 -- What a provider that tells has told.
-use Rattle.std.specs.Prelude.{ℕ, ◌≤◌, ◌&&◌, Bool, false, nat_lt, if◌then◌else◌, List, ◌∷◌, [], ◌++◌, length, Some, None, vec_capacity}
+use Rattle.std.specs.Prelude.{◌≡◌, ℕ, ◌≤◌, ◌&&◌, Bool, false, nat_lt, if◌then◌else◌, List, ◌∷◌, [], ◌++◌, length, Some, None, vec_capacity}
 use Rattle.space_model.specs.declared.Heard.{Heard}
 use Rattle.hook_api.specs.Hooks.{Account}
 use Rattle.addr_space.specs.Hooks.{Placing}
@@ -29,3 +29,9 @@ told_after old heard =
 -- the hooks tell what they heard, while that is all, and refuse what the provider behind refuses
 abbrev pub telling_account : Told → Account
 telling_account old = record { told = if old.tells then Some old.heard else None; refusals = old.inner.refusals }
+
+-- one more ask was told, if there was room for it and all before were told, and from the first that wasn't on none is
+pub record ToldOne (old : Told) (one : Heard) (new : Told) : Type 0 where
+  pub heard : new.heard ≡ (told_after old one).heard
+  pub tells : new.tells ≡ (told_after old one).tells
+  pub room : new.room ≡ old.room

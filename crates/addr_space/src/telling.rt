@@ -1,9 +1,9 @@
 //! A provider that tells what it was asked.
 
-ghost use Rattle.std.specs.Prelude.{◌≡◌, ◌++◌, ◌∷◌, [], true, IfOk};
+ghost use Rattle.std.specs.Prelude.{◌≡◌, ◌↔◌, ℕ, [], true, max, None, Some, IsSome, IfOk, IfSome, IfNone};
 ghost use Rattle.hook_api.specs.Hooks.{HookCall, placed_answer, said_answer};
-ghost use Rattle.addr_space.specs.Chunks.{IsBlank};
-ghost use Rattle.addr_space.specs.Telling.{telling_account, told_after};
+ghost use Rattle.addr_space.specs.Chunks.{FitNowhere, IsFreeSpan, IsLowest, IsOff, IsOn, IsPlacedSpan};
+ghost use Rattle.addr_space.specs.Telling.{ToldOne, telling_account, told_after};
 
 use crate::space::AddrSpace;
 use hook_api::{ExtentHooks, Placed, Said};
@@ -74,7 +74,11 @@ impl ExtentHooks for TellingHooks {
 
     fn alloc(&mut self, at: Option<u64>, pages: u64, align: u64, commit: bool) -> Option<Placed>
         ensures hook { HookCall (telling_account self.old) (Ask.Alloc at pages align commit) (placed_answer result) (telling_account self.new) }
-        ensures room { self.new.room ≡ self.old.room }
+        ensures told { ToldOne self.old (record { ask = Ask.Alloc at pages align commit; answer = placed_answer result }) self.new }
+        ensures lowest { at ≡ None → IfSome result (λ placed. IsLowest self.old.inner.placed pages (max align 1) placed.first) }
+        ensures nowhere { at ≡ None → IfNone result (FitNowhere self.old.inner.placed pages (max align 1)) }
+        ensures wished { (first : ℕ) → at ≡ Some first → IsSome result ↔ IsFreeSpan self.old.inner.placed (record { first = first; pages = pages }) }
+        ensures placed { IfSome result (λ placed. IsOn self.old.inner.placed (record { first = placed.first; pages = pages }) self.new.inner.placed) }
     {
         let placed = self.inner.alloc(at, pages, align, commit);
         let answer = match placed {
@@ -105,7 +109,9 @@ impl ExtentHooks for TellingHooks {
 
     fn dalloc(&mut self, span: Span, committed: bool) -> Said
         ensures hook { HookCall (telling_account self.old) (Ask.Dalloc span committed) (said_answer result) (telling_account self.new) }
-        ensures room { self.new.room ≡ self.old.room }
+        ensures told { ToldOne self.old (record { ask = Ask.Dalloc span committed; answer = said_answer result }) self.new }
+        ensures accepts { (result ≡ Said.Done) ↔ IsPlacedSpan self.old.inner.placed span }
+        ensures off { result ≡ Said.Done → IsOff self.old.inner.placed span self.new.inner.placed }
     {
         let said = self.inner.dalloc(span, committed);
         self.said(Ask::Dalloc { span, committed }, said)
@@ -113,7 +119,7 @@ impl ExtentHooks for TellingHooks {
 
     fn destroy(&mut self, span: Span, committed: bool)
         ensures hook { HookCall (telling_account self.old) (Ask.Destroy span committed) Answer.Done (telling_account self.new) }
-        ensures room { self.new.room ≡ self.old.room }
+        ensures told { ToldOne self.old (record { ask = Ask.Destroy span committed; answer = Answer.Done }) self.new }
     {
         self.inner.destroy(span, committed);
         self.note(Ask::Destroy { span, committed }, Answer::Done);
@@ -121,7 +127,9 @@ impl ExtentHooks for TellingHooks {
 
     fn commit(&mut self, span: Span) -> Said
         ensures hook { HookCall (telling_account self.old) (Ask.Commit span) (said_answer result) (telling_account self.new) }
-        ensures room { self.new.room ≡ self.old.room }
+        ensures told { ToldOne self.old (record { ask = Ask.Commit span; answer = said_answer result }) self.new }
+        ensures accepts { result ≡ Said.Done }
+        ensures same { self.new.inner ≡ self.old.inner }
     {
         let said = self.inner.commit(span);
         self.said(Ask::Commit(span), said)
@@ -129,7 +137,9 @@ impl ExtentHooks for TellingHooks {
 
     fn decommit(&mut self, span: Span) -> Said
         ensures hook { HookCall (telling_account self.old) (Ask.Decommit span) (said_answer result) (telling_account self.new) }
-        ensures room { self.new.room ≡ self.old.room }
+        ensures told { ToldOne self.old (record { ask = Ask.Decommit span; answer = said_answer result }) self.new }
+        ensures accepts { result ≡ Said.Done }
+        ensures same { self.new.inner ≡ self.old.inner }
     {
         let said = self.inner.decommit(span);
         self.said(Ask::Decommit(span), said)
@@ -137,7 +147,9 @@ impl ExtentHooks for TellingHooks {
 
     fn purge_lazy(&mut self, span: Span) -> Said
         ensures hook { HookCall (telling_account self.old) (Ask.PurgeLazy span) (said_answer result) (telling_account self.new) }
-        ensures room { self.new.room ≡ self.old.room }
+        ensures told { ToldOne self.old (record { ask = Ask.PurgeLazy span; answer = said_answer result }) self.new }
+        ensures accepts { result ≡ Said.Done }
+        ensures same { self.new.inner ≡ self.old.inner }
     {
         let said = self.inner.purge_lazy(span);
         self.said(Ask::PurgeLazy(span), said)
@@ -145,7 +157,9 @@ impl ExtentHooks for TellingHooks {
 
     fn purge_forced(&mut self, span: Span) -> Said
         ensures hook { HookCall (telling_account self.old) (Ask.PurgeForced span) (said_answer result) (telling_account self.new) }
-        ensures room { self.new.room ≡ self.old.room }
+        ensures told { ToldOne self.old (record { ask = Ask.PurgeForced span; answer = said_answer result }) self.new }
+        ensures accepts { result ≡ Said.Done }
+        ensures same { self.new.inner ≡ self.old.inner }
     {
         let said = self.inner.purge_forced(span);
         self.said(Ask::PurgeForced(span), said)
@@ -153,7 +167,9 @@ impl ExtentHooks for TellingHooks {
 
     fn split(&mut self, span: Span, left: u64) -> Said
         ensures hook { HookCall (telling_account self.old) (Ask.Split span left) (said_answer result) (telling_account self.new) }
-        ensures room { self.new.room ≡ self.old.room }
+        ensures told { ToldOne self.old (record { ask = Ask.Split span left; answer = said_answer result }) self.new }
+        ensures accepts { result ≡ Said.Done }
+        ensures same { self.new.inner ≡ self.old.inner }
     {
         let said = self.inner.split(span, left);
         self.said(Ask::Split { span, left }, said)
@@ -161,7 +177,9 @@ impl ExtentHooks for TellingHooks {
 
     fn merge(&mut self, low: Span, high: Span) -> Said
         ensures hook { HookCall (telling_account self.old) (Ask.Merge low high) (said_answer result) (telling_account self.new) }
-        ensures room { self.new.room ≡ self.old.room }
+        ensures told { ToldOne self.old (record { ask = Ask.Merge low high; answer = said_answer result }) self.new }
+        ensures accepts { result ≡ Said.Done }
+        ensures same { self.new.inner ≡ self.old.inner }
     {
         let said = self.inner.merge(low, high);
         self.said(Ask::Merge { low, high }, said)
