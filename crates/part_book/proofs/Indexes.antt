@@ -1,5 +1,5 @@
 -- What the indexes of a table say of its extents.
-use Rattle.std.proofs.Common.{◌≡◌, ℕ, ◌-◌, ◌/◌, ◌^◌, ◌<◌, ◌≤◌, Bool, true, false, not, eqb, List, [], ◌∷◌, length, map, filter, find, get_or, slice_get, Option, Some, None, option_map, vec_len, inl, inr, refl, sym, ap, ◌∙◌, subst, arith, All, Contains, nat_cmp}
+use Rattle.std.proofs.Common.{◌≡◌, ℕ, ◌-◌, ◌/◌, ◌^◌, ◌<◌, ◌≤◌, Bool, true, false, cond, not, eqb, List, [], ◌∷◌, length, map, filter, find, get_or, slice_get, Option, Some, None, option_map, count_by, vec_len, inl, inr, refl, sym, ap, ◌∙◌, subst, arith, All, Contains, nat_cmp}
 use Rattle.std.proofs.lemmas.Bool.{cases_Bool, cases_lt, true_from_ne_false}
 use Rattle.std.specs.FinMap as map_of
 use Rattle.std.specs.FinSet as set
@@ -8,14 +8,14 @@ use Rattle.std.proofs.lemmas.Bool.Decides.{nat_tests}
 use Rattle.std.proofs.lemmas.List.Elements.{All-contains, All-head, All-nil, All-tail, Contains-get_or}
 use Rattle.std.proofs.lemmas.Grind.{get_or_default_zero}
 use Rattle.std.proofs.lemmas.List.Folds.{find_at}
-use Rattle.std.proofs.lemmas.List.Sums.{position_or_len_is}
+use Rattle.std.proofs.lemmas.List.Sums.{position_or_len_is, sum_by-cons}
 use Rattle.std.proofs.lemmas.List.Kept.{IsStrictlySortedBy-filter}
 use Rattle.std.proofs.lemmas.Option.{get_or_from_slice_get, slice_get-get_or, slice_get_within}
 use Rattle.ordered_set.specs.declared.key.Key.{Key}
-use Rattle.ordered_set.specs.Keys.{IsAscending, is_below, key_cmp, last_of}
+use Rattle.ordered_set.specs.Keys.{IsAscending, is_below, is_from, key_cmp, last_of}
 use Rattle.ordered_set.proofs.Sorted.{every_member}
 use Rattle.ordered_set.proofs.Members.{filter_from, filter_has}
-use Rattle.ordered_set.proofs.Orders.{from_start, last_greatest, start, start_from}
+use Rattle.ordered_set.proofs.Orders.{from_start, last_greatest, major_less, start, start_from}
 use Rattle.space_model.specs.declared.parts.Part.{Part}
 use Rattle.space_model.specs.declared.parts.State.{State}
 use Rattle.space_model.specs.declared.parts.State.TheVariants.{Active, Dirty, Muzzy, Retained, Flight}
@@ -25,9 +25,11 @@ use Rattle.space_model.specs.declared.parts.Rest.{Rest}
 use Rattle.space_model.specs.declared.parts.Rest.TheVariants.{Dirty as ToDirty, Muzzy as ToMuzzy, Retained as ToRetained}
 use Rattle.part_book.specs.declared.table.AgeList.{AgeList}
 use Rattle.part_book.specs.declared.table.Table.{Table}
+use Rattle.part_book.specs.Books.{IsFirstFrom}
 use Rattle.part_book.specs.Rows.{IsKeyed, IsLastBelow, Row, first_key, flights_in, is_edge, part_at, row_at, size_key}
 use Rattle.part_book.specs.Tables.{IsIndexed, IsListOf, IsSlotted, IsTable, Keeps, rows_of}
-use Rattle.part_book.proofs.Lists.{all_from, count_some, find_map, find_none, found, map_from, map_has, mapped_none, mapped_some}
+use Rattle.part_book.proofs.Lists.{all_from, count_some, find_map, find_none, found, map_from, map_has, mapped_none, mapped_some, none_found}
+use Rattle.part_book.proofs.Walks.{find_some}
 
 -- the extents of some rows
 abbrev pub parts_in : List Row → List Part
@@ -136,7 +138,55 @@ no_row rows keys page firsts e = all_from (λ p. page ≤ p.span.first) (parts_i
       | inr g ↦ omega arith
     ])
 
+-- the row of the first key from a page on
+pub row_from : (rows : List Row) (keys : List Key) (page : ℕ) (key : Key) → IsKeyed first_key rows keys → IsAscending keys → find (is_from (start page)) keys ≡ Some key → (r : Row) × Contains rows r × (r.number ≡ key.minor) × IsFirstFrom page (parts_in rows) r.part
+row_from rows keys page key firsts ascending e =
+    let least = find_some (is_from (start page)) keys key ascending e in
+    let p = firsts.from key least.0 in
+    let is = first_is p.0 key p.2 in
+    let first : p.0.part.span.first ≡ key.major = ap (λ (k : Key). k.major) is in
+    let from = from_start key page least.1 in (
+      p.0,
+      p.1,
+      ap (λ (k : Key). k.minor) is,
+      record {
+        listed = map_has (λ row. row.part) rows p.0 p.1;
+        from = omega arith;
+        first = all_from (λ q. page ≤ q.span.first → p.0.part.span.first ≤ q.span.first) (parts_in rows) (λ q n le.
+            let r = map_from (λ row. row.part) rows q n in
+            let same : r.0.part.span.first ≡ q.span.first = ap (λ (x : Part). x.span.first) r.2 in
+            let k : Key = start_of r.0 in
+            elim (cases_lt k.major key.major) [
+              | inl l ↦ absurd (
+                  let no = least.2 k (firsts.has r.0 k r.1 refl) (major_less k key l) in
+                  let yes = start_from k page (omega arith) in
+                  let wrong : true ≡ false = sym yes ∙ no in cc)
+              | inr g ↦ omega arith
+            ]);
+      },
+    )
+
+-- where there is no key from a page on, each extent begins below it
+pub no_row_from : (rows : List Row) (keys : List Key) (page : ℕ) → IsKeyed first_key rows keys → find (is_from (start page)) keys ≡ None → All (λ p. p.span.first < page) (parts_in rows)
+no_row_from rows keys page firsts e = all_from (λ p. p.span.first < page) (parts_in rows) (λ q n.
+    let r = map_from (λ row. row.part) rows q n in
+    let same : r.0.part.span.first ≡ q.span.first = ap (λ (x : Part). x.span.first) r.2 in
+    elim (cases_lt r.0.part.span.first page) [
+      | inl l ↦ omega arith
+      | inr g ↦ absurd (
+          let no = none_found (is_from (start page)) keys e (start_of r.0) (firsts.has r.0 (start_of r.0) r.1 refl) in
+          let yes = start_from (start_of r.0) page g in
+          let wrong : true ≡ false = sym yes ∙ no in cc)
+    ])
+
 -- ---- the flights
+
+-- the flights are as many as the extents in flight
+pub count_flights : (rows : List Row) → length (flights_in rows) ≡ count_by (λ p. is_in_flight p.state) (parts_in rows)
+count_flights [] = refl
+count_flights (r ∷ rows) =
+    let counted = sum_by-cons (λ (p : Part). cond (is_in_flight p.state) 1 0) r.part (parts_in rows) in
+    elim (cases_Bool (is_in_flight r.part.state)) [ inl t ↦ rw t (omega (arith, rw t at counted, count_flights rows)) | inr f ↦ rw f (omega (arith, rw f at counted, count_flights rows)) ]
 
 -- an extent that is not in flight is in flight for nobody
 grounded : (client : ℕ) (state : State) → is_in_flight state ≡ false → is_flight client state ≡ false

@@ -1,5 +1,5 @@
 -- What callers see of a book of extents.
-use Rattle.std.specs.Prelude.{◌≡◌, ℕ, ◌+◌, Bool, true, false, ◌==◌, List, filter, sum_by}
+use Rattle.std.specs.Prelude.{◌≡◌, ℕ, ◌+◌, ◌≤◌, Bool, true, false, ◌==◌, List, filter, sum_by, All, Contains}
 use Rattle.space_model.specs.declared.parts.Part.{Part}
 use Rattle.space_model.specs.declared.parts.Rest.{Rest}
 use Rattle.space_model.specs.declared.parts.Span.{Span}
@@ -23,6 +23,12 @@ is_beside s false p = ends_at s.first p
 -- the pages of the extents that are listed among those of a rest
 abbrev pub pages_of : Rest → List Part → ℕ
 pages_of rest parts = sum_by (λ p. p.span.pages) (filter (λ p. is_listed rest p.state) parts)
+
+-- the extent is the first one that begins at the page or behind it
+pub record IsFirstFrom (page : ℕ) (parts : List Part) (p : Part) : Type 0 where
+  pub listed : Contains parts p
+  pub from : page ≤ p.span.first
+  pub first : All (λ q. page ≤ q.span.first → p.span.first ≤ q.span.first) parts
 
 -- the second extent begins where the first one ends
 abbrev pub AreBeside : Part → Part → Type 0

@@ -2,9 +2,9 @@
 ghost use Rattle.std.specs.Prelude.{◌≡◌, ◌<◌, ◌≤◌, count_by, find, option_map, slice_get, vec_len, All, IfSome, IsNone};
 ghost use Rattle.std.specs.List.{list_any};
 ghost use Rattle.space_model.specs.Span.{has_page, meets};
-ghost use Rattle.space_model.specs.Part.{begins_at, is_flight, is_listed};
+ghost use Rattle.space_model.specs.Part.{begins_at, is_flight, is_in_flight, is_listed};
 ghost use Rattle.space_model.specs.Fit.{fit_of};
-ghost use Rattle.part_book.specs.Books.{ends_at, pages_of};
+ghost use Rattle.part_book.specs.Books.{IsFirstFrom, ends_at, pages_of};
 ghost use Rattle.part_book.specs.Rows.{IsLastBelow, is_edge, part_at};
 ghost use Rattle.part_book.specs.Tables.{IsListOf, IsTable, parts_of, rows_of};
 
@@ -64,6 +64,19 @@ impl Table {
         ensures last { IfSome result (IsLastBelow page (parts_of self.now)) }
     {
         let key = self.firsts.before(Key {
+            major: page,
+            minor: 0,
+        })?;
+        Some(self.part_at(key.minor as u32))
+    }
+
+    /// The first extent that begins at a page or behind it.
+    pub fn first_from(&self, page: u64) -> Option<Part>
+        requires table { IsTable self.now (rows_of self.now) }
+        ensures none { IsNone result → All (λ p. p.span.first < page) (parts_of self.now) }
+        ensures first { IfSome result (IsFirstFrom page (parts_of self.now)) }
+    {
+        let key = self.firsts.at_or_after(Key {
             major: page,
             minor: 0,
         })?;
@@ -163,6 +176,14 @@ impl Table {
         ensures { result ≡ pages_of rest (parts_of self.now) }
     {
         self.list_of(rest).pages
+    }
+
+    /// How many extents are in flight.
+    pub fn count_flights(&self) -> u64
+        requires table { IsTable self.now (rows_of self.now) }
+        ensures { result ≡ count_by (λ p. is_in_flight p.state) (parts_of self.now) }
+    {
+        self.flights.len() as u64
     }
 
     /// The span of the first extent that the client has in flight.

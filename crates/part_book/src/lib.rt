@@ -2,13 +2,13 @@
 //! `reserve` take memory.
 #![tactic(auto)]
 
-ghost use Rattle.std.specs.Prelude.{◌≡◌, ◌==◌, ◌<◌, ◌+◌, ◌||◌, false, [], ◌∷◌, ◌++◌, not, length, max, find, filter, count_by, option_map, slice_get, IfSome, IsSome, OnOk, OnErr, IfOk};
+ghost use Rattle.std.specs.Prelude.{◌≡◌, ◌==◌, ◌<◌, ◌+◌, ◌||◌, false, [], ◌∷◌, ◌++◌, not, length, max, find, filter, count_by, option_map, slice_get, All, IfSome, IsNone, IsSome, OnOk, OnErr, IfOk};
 ghost use Rattle.std.specs.List.{list_any};
 ghost use Rattle.space_model.specs.Span.{IsPlaced, has_page, meets};
-ghost use Rattle.space_model.specs.Part.{begins_at, exchanged, is_flight, is_listed};
+ghost use Rattle.space_model.specs.Part.{begins_at, exchanged, is_flight, is_in_flight, is_listed};
 ghost use Rattle.space_model.specs.Step.{low_piece, high_piece};
 ghost use Rattle.space_model.specs.Fit.{fit};
-ghost use Rattle.part_book.specs.Books.{AreBeside, is_beside, joined, pages_of};
+ghost use Rattle.part_book.specs.Books.{AreBeside, IsFirstFrom, is_beside, joined, pages_of};
 
 use crate::table::Table;
 use space_model::{Part, Rest, Span, State};
@@ -107,6 +107,14 @@ impl PartBook {
         self.table.holding(page)
     }
 
+    /// The first extent that begins at a page or behind it: from extent to extent it walks through the book by address.
+    pub fn first_from(&self, page: u64) -> Option<Part>
+        ensures none { IsNone result → All (λ p. p.span.first < page) self.now.parts }
+        ensures first { IfSome result (IsFirstFrom page self.now.parts) }
+    {
+        self.table.first_from(page)
+    }
+
     /// Whether some extent shares a page with a span.
     pub fn meets(&self, span: Span) -> bool
         ensures { result ≡ list_any (λ p. meets p.span span) self.now.parts }
@@ -168,6 +176,13 @@ impl PartBook {
         ensures { result ≡ pages_of rest self.now.parts }
     {
         self.table.pages(rest)
+    }
+
+    /// How many extents are in flight.
+    pub fn count_flights(&self) -> u64
+        ensures { result ≡ count_by (λ p. is_in_flight p.state) self.now.parts }
+    {
+        self.table.count_flights()
     }
 
     /// The span of the first extent that the client has in flight.
