@@ -1,5 +1,5 @@
 -- A book of slabs beside a space, as a fill takes regions.
-use Rattle.std.proofs.Common.{◌≡◌, ℕ, ◌+◌, ◌<◌, ◌≤◌, zero, suc, Bool, true, false, cond, not, ◌&&◌, ◌||◌, eqb, ltb, List, [], ◌∷◌, ◌++◌, length, map, filter, take, drop, count_by, All, Contains, IsTrue, if◌then◌else◌, inl, inr, refl, sym, ap, ◌∙◌, subst, arith}
+use Rattle.std.proofs.Common.{◌≡◌, ℕ, ◌<◌, Bool, true, false, not, ◌&&◌, ◌||◌, eqb, ltb, List, [], ◌∷◌, map, filter, take, drop, count_by, Contains, IsTrue, if◌then◌else◌, inl, inr, refl, sym, ap, ◌∙◌, arith}
 use Rattle.std.specs.List.{flat_map, list_any, position_or_len}
 use Rattle.std.proofs.lemmas.Bool.{cases_Bool, eq-eqb, eqb-true, false_from_ne_true}
 use Rattle.std.proofs.lemmas.List.{take-append-drop}
@@ -11,13 +11,13 @@ use Rattle.space_model.specs.declared.parts.Part.{Part}
 use Rattle.space_model.specs.declared.parts.Region.{Region}
 use Rattle.space_model.specs.declared.spaces.Space.{Space}
 use Rattle.space_model.specs.Part.{is_active, turned_in_order}
-use Rattle.space_model.specs.Region.{houses, inserted, is_slab, landing, lies_in, region_of, residents, starts_at}
+use Rattle.space_model.specs.Region.{houses, inserted, is_slab, landing, region_of, residents, starts_at}
 use Rattle.space_model.specs.Slabs.{free_places, lowest_free, places, slabs_of}
 use Rattle.space_model.specs.Sound.{IsInSlab, Sound}
 use Rattle.space_model.proofs.Fills.{Spot, lowest_spots}
-use Rattle.bin_book.specs.Bins.{Slab, free_of, is_among, of_class, with_free, without}
-use Rattle.bin_book.proofs.Lists.{any_from, any_has, any_map, any_none, bit, filter_both, filter_map_is, filter_same, head, map_both, map_from, map_same}
-use Rattle.arena_core.specs.Booked.{AreBooked, BooksStayWhereHoldersChange, BooksStayWhileExtentsDo, FillsAreTaken, FillsTakeTheLowest, ReturnsAreFree, filled, slab_of}
+use Rattle.bin_book.specs.Bins.{Slab, is_among, without}
+use Rattle.bin_book.proofs.Lists.{any_false, any_from, any_has, any_map, any_none, bit, filter_both, filter_map_is, filter_same, head, map_both, map_from, map_same}
+use Rattle.arena_core.specs.Booked.{AreBooked, BooksStayWhereHoldersChange, BooksStayWhileExtentsDo, FillsTakeTheLowest, ReturnsAreFree, filled, slab_of}
 
 -- ---- tests of regions that landed
 
@@ -132,13 +132,16 @@ any_same : {X : Type 0} (p q : X → Bool) (xs : List X) → ((x : X) → p x �
 any_same p q [] same = refl
 any_same p q (x ∷ xs) same = λ k. same x k || any_same p q xs same k
 
--- an extent that serves no region is no slab
-idle_no_slab : (class : ℕ) (regions : List Region) (p : Part) → is_active p.state ≡ false → is_slab class regions p ≡ false
-idle_no_slab class regions p idle = any_none (λ r. eqb r.class class && houses p r) regions (λ r m. rw idle (never (eqb r.class class)))
+-- an extent that serves none of the regions is no slab
+pub serves_none : (class : ℕ) (regions : List Region) (p : Part) → list_any (houses p) regions ≡ false → is_slab class regions p ≡ false
+serves_none class regions p none = any_none (λ r. eqb r.class class && houses p r) regions (λ r m. rw (any_false (houses p) regions r none m) (never (eqb r.class class)))
   where
     never : (b : Bool) → (b && false) ≡ false
     never true = refl
     never false = refl
+
+pub idle_no_slab : (class : ℕ) (regions : List Region) (p : Part) → is_active p.state ≡ false → is_slab class regions p ≡ false
+idle_no_slab class regions p idle = serves_none class regions p (any_none (houses p) regions (λ r m. rw idle refl))
 
 active_slabs : (class : ℕ) (regions : List Region) (parts : List Part) → filter (is_slab class regions) (filter (λ p. is_active p.state) parts) ≡ filter (is_slab class regions) parts
 active_slabs class regions parts = filter_both (λ p. is_active p.state) (is_slab class regions) parts ∙ filter_same (λ p. is_active p.state && is_slab class regions p) (is_slab class regions) parts (λ p m. by p)
@@ -163,13 +166,13 @@ stay_handed s t slabs test holder parts regions booked class small =
 
 -- ---- a return
 
-both_ways : (a b : Bool) → (a ≡ true → b ≡ true) → (b ≡ true → a ≡ true) → a ≡ b
+pub both_ways : (a b : Bool) → (a ≡ true → b ≡ true) → (b ≡ true → a ≡ true) → a ≡ b
 both_ways true b f g = sym (f refl)
 both_ways false true f g = g refl
 both_ways false false f g = refl
 
 -- what a filter keeps is among what it gives
-among_kept : (keep : ℕ → Bool) (xs : List ℕ) (a : ℕ) → Contains xs a → is_among (filter keep xs) a ≡ keep a
+pub among_kept : (keep : ℕ → Bool) (xs : List ℕ) (a : ℕ) → Contains xs a → is_among (filter keep xs) a ≡ keep a
 among_kept keep xs a m = both_ways (is_among (filter keep xs) a) (keep a)
     (λ t. let p = any_from (λ b. eqb b a) (filter keep xs) t in ap keep (sym (eqb-true _ _ p.2)) ∙ (filter_from keep xs p.0 p.1).1)
     (λ t. any_has (λ b. eqb b a) (filter keep xs) a (filter_has keep xs a m t) (eq-eqb a a refl))

@@ -1,5 +1,5 @@
 -- One region is given back: its extent is the only one that can be emptied.
-use Rattle.std.proofs.Common.{◌≡◌, ℕ, ◌+◌, ◌*◌, ◌/◌, ◌<◌, ◌≤◌, Bool, true, false, not, cond, IsTrue, List, [], ◌∷◌, append-nil, length, get_or, find, filter, Option, Some, refl, sym, ◌∙◌, ap, subst, arith, All, ◌&&◌, ◌||◌, eqb, inl, inr}
+use Rattle.std.proofs.Common.{◌≡◌, ℕ, ◌/◌, ◌<◌, ◌≤◌, Bool, true, false, not, cond, IsTrue, List, [], ◌∷◌, append-nil, length, get_or, find, filter, Some, refl, sym, ◌∙◌, ap, subst, arith, All, ◌&&◌, ◌||◌, eqb, inl, inr}
 use Rattle.std.specs.List.{count_by, list_any, sum_by}
 use Rattle.std.proofs.lemmas.Bool.{cases_Bool, eqb-true}
 use Rattle.std.proofs.lemmas.Bool.Decides.{nat_tests}
@@ -12,7 +12,7 @@ use Rattle.ordered_set.proofs.Sorted.{filter_none}
 use Rattle.space_model.specs.declared.parts.Part.{Part}
 use Rattle.space_model.specs.declared.parts.Region.{Region}
 use Rattle.space_model.specs.declared.spaces.Space.{Space}
-use Rattle.space_model.specs.Span.{IsPlaced, has_page, pages_end}
+use Rattle.space_model.specs.Span.{IsPlaced, has_page}
 use Rattle.space_model.specs.Part.{begins_at, exchanged, holders, is_active, taken_out}
 use Rattle.space_model.specs.Region.{covers, homes, houses, is_held_by, residents}
 use Rattle.space_model.specs.Step.{after_back, holds_at, is_emptied, is_given_back, staying, taken_in_order}
@@ -20,7 +20,6 @@ use Rattle.space_model.specs.Sound.{Sound}
 use Rattle.space_model.proofs.Exchange.{filter-begins_at, find_has, find_passes}
 use Rattle.space_model.proofs.Settled.{serves, some_pages}
 use Rattle.space_model.proofs.Settled.{serves-le-share, sum_nothing}
-use Rattle.arena_core.specs.RegionLists.{begins_within}
 use Rattle.arena_core.proofs.Finds.{fewer_pass}
 use Rattle.arena_core.proofs.Homes.{home_shares}
 use Rattle.arena_core.proofs.RegionKeys.{is_at}
@@ -133,12 +132,6 @@ home_of r parts class home most =
     let same = home_shares r parts here p.0 class home most p.1 in
     (p.0, record { found = p.1; home = ones_same (houses p.0 r) (here p.0) same ∙ find_passes here parts p.0 p.1 })
 
--- an extent that serves a region serves those that begin in it
-serves_within : (p : Part) (r q : Region) (parts : List Part) (test : Part → Bool) → find test parts ≡ Some p → houses p r ≡ true → q.class < 121 → homes q parts ≡ 1 → holders (q.addr / 4096) parts ≤ 1 →
-    houses p q ≡ begins_within (4096 * p.span.first) (4096 * p.span.first + 4096 * p.span.pages) q
-serves_within p r q parts test found home class one most =
-    ones_same (houses p q) (has_page (q.addr / 4096) p.span) (home_shares q parts test p class one most found) ∙ grind (arith, nat_tests)
-
 -- ---- what is emptied
 
 -- whether the extent is emptied
@@ -158,8 +151,6 @@ other_serves c addr s r x given none used =
 pub record Empties (c addr : ℕ) (s : Space) (p : Part) : Type 0 where
   pub found : find (λ q. has_page (addr / 4096) q.span) s.parts ≡ Some p
   pub placed : IsPlaced p.span
-  pub within : list_any (houses p) (staying c (addr ∷ []) s.regions)
-      ≡ list_any (begins_within (4096 * p.span.first) (4096 * p.span.first + 4096 * p.span.pages)) (staying c (addr ∷ []) s.regions)
   pub active : is_active p.state ≡ true
   pub region : Region
   pub given : Given c addr s.regions region
@@ -194,10 +185,6 @@ empties c addr s sound held =
       record {
         found = subst (λ a. find (λ q. has_page (a / 4096) q.span) s.parts ≡ Some p) region.1.at home.1.found;
         placed = find_has (λ q. IsPlaced q.span) search s.parts p sound.placed home.1.found;
-        within = any_alike (houses p) (begins_within (4096 * p.span.first) (4096 * p.span.first + 4096 * p.span.pages)) regions
-            (λ k d h. let q : Region = get_or regions k d in
-            serves_within p r q s.parts search home.1.found home.1.home (All-filter (λ x. not (t x)) (λ q. q.class < 121) s.regions sound.classes k d h)
-            (All-filter (λ x. not (t x)) (λ q. homes q s.parts ≡ 1) s.regions sound.homes k d h) (sound.owners (q.addr / 4096)));
         active = active;
         region = r;
         given = region.1;
@@ -234,28 +221,15 @@ given_parts c addr s p e b is =
     let regions = staying c (addr ∷ []) s.regions in
     one_exchanged c (is_emptied regions) s.parts p b (subst (λ x. All (λ q. is_emptied regions q ≡ (begins_at p.span.first q && x)) s.parts) is e.each) e.alone
 
--- ---- as a program reads it, which found an extent at the address, and asked whether one of the regions that stay begins in it
-
--- what was found lies in the space
-pub found_fits : {o : Option Part} {p : Part} (addr : ℕ) (s : Space) → Sound s → o ≡ find (λ q. has_page (addr / 4096) q.span) s.parts → o ≡ Some p → p.span.first + p.span.pages ≤ pages_end
-found_fits {o} {p} addr s sound searched found = (find_has (λ q. IsPlaced q.span) (λ q. has_page (addr / 4096) q.span) s.parts p sound.placed (sym searched ∙ found)).2
-
 -- What the return then comes to: how many extents are emptied, and the extents afterwards.
-pub record Gives (c addr : ℕ) (s : Space) (p : Part) (within : Bool) : Type 0 where
-  pub count : ones (not within) ≡ length (filter (is_emptied (staying c (addr ∷ []) s.regions)) s.parts)
-  pub parts : cond (not within) (exchanged (begins_at p.span.first) s.parts (taken_out c p ∷ [])) s.parts ≡ (after_back s c (addr ∷ [])).after.parts
+pub record Gives (c addr : ℕ) (s : Space) (p : Part) (left : Bool) : Type 0 where
+  pub count : ones left ≡ length (filter (is_emptied (staying c (addr ∷ []) s.regions)) s.parts)
+  pub parts : cond left (exchanged (begins_at p.span.first) s.parts (taken_out c p ∷ [])) s.parts ≡ (after_back s c (addr ∷ [])).after.parts
 
-pub gives : {o : Option Part} {p : Part} {regions : List Region} {within : Bool} (c addr : ℕ) (s : Space) → Sound s → holds_at c s.regions addr ≡ true →
-    o ≡ find (λ q. has_page (addr / 4096) q.span) s.parts → o ≡ Some p → regions ≡ staying c (addr ∷ []) s.regions →
-    within ≡ list_any (begins_within (4096 * p.span.first) (4096 * p.span.first + 4096 * p.span.pages)) regions → Gives c addr s p within
-gives {o} {p} {regions} {within} c addr s sound held searched found stay answer =
-    let e = empties c addr s sound held in
-    let both : Some e.0 ≡ Some p = sym e.1.found ∙ sym searched ∙ found in
-    let same : e.0 ≡ p = cc in
-    let at : Empties c addr s p = subst (Empties c addr s) same e.1 in
-    let asked = answer ∙ ap (list_any (begins_within (4096 * p.span.first) (4096 * p.span.first + 4096 * p.span.pages))) stay in
-    let parts = given_parts c addr s p at (not within) (ap not (at.within ∙ sym asked)) in
-    record { count = sym (ap length parts.0 ∙ counted (not within)); parts = sym parts.1 }
+pub gives : (c addr : ℕ) (s : Space) (p : Part) (left : Bool) → Empties c addr s p → left ≡ is_left (staying c (addr ∷ []) s.regions) p → Gives c addr s p left
+gives c addr s p left e is =
+    let parts = given_parts c addr s p e left (sym is) in
+    record { count = sym (ap length parts.0 ∙ counted left); parts = sym parts.1 }
   where
     counted : (b : Bool) → length (cond b (p ∷ []) []) ≡ ones b
     counted true = refl

@@ -15,7 +15,8 @@ use Rattle.space_model.specs.Step.{is_left_of, is_like, is_right_of}
 use Rattle.space_model.proofs.Exchange.{filter-begins_at}
 use Rattle.space_model.proofs.Settled.{some_pages}
 use Rattle.space_model.proofs.Pieces.{fit-listed}
-use Rattle.part_book.specs.Books.{Book, ends_at, is_beside}
+use Rattle.part_book.specs.Books.{Book, IsFirstFrom, ends_at, is_beside}
+use Rattle.part_book.proofs.Lists.{find_is, only_one}
 use Rattle.arena_core.specs.Extents.{IsApart, IsThere, kept}
 
 -- ---- what is found is there
@@ -89,6 +90,17 @@ pub ends_once : (page : ℕ) (parts : List Part) → IsApart parts → count_by 
 ends_once page parts apart =
     let has : (p : Part) → IsPlaced p.span → ends_at page p ≡ true → has_page (page - 1) p.span ≡ true = λ p placed h. grind (arith, nat_tests, placed.0) in
     omega (arith, apart.owners (page - 1), fewer_pass (ends_at page) (λ p. has_page (page - 1) p.span) parts (λ k d h. has (get_or parts k d) (apart.placed k d h)))
+
+-- an extent that is first from a page on is there
+pub from_inside : {b now : Book} (page : ℕ) (o : Option Part) → b ≡ now → IsApart b.parts → IfSome o (IsFirstFrom page b.parts) → IfSome o (IsThere now.parts)
+from_inside {b} {now} page o view apart e = subst (λ (x : Book). IfSome o (IsThere x.parts)) view (there o e)
+  where
+    there : (o : Option Part) → IfSome o (IsFirstFrom page b.parts) → IfSome o (IsThere b.parts)
+    there None e = tt
+    there (Some p) e =
+        let t = begins_at p.span.first in
+        let itself : t p ≡ true = grind (arith, nat_tests) in
+        find_is t b.parts p e.listed itself (λ q also h. only_one t b.parts p q (begins_once p.span.first b.parts apart) e.listed also itself h)
 
 -- What was found inside by one test, and kept if it passes another, is what a search by both finds, and is there.
 pub record Kept (got : Option Part) (both : Part → Bool) (now : Book) : Type 0 where

@@ -1,5 +1,5 @@
 -- Regions land at the lowest places of a new slab.
-use Rattle.std.proofs.Common.{◌≡◌, ℕ, ◌+◌, ◌-◌, ◌*◌, ◌<◌, ◌≤◌, zero, suc, Bool, true, false, not, ◌||◌, eqb, leb, List, [], ◌∷◌, All, Contains, filter, map, inl, inr, refl, sym, ap, ◌∙◌, arith}
+use Rattle.std.proofs.Common.{◌≡◌, ℕ, ◌+◌, ◌-◌, ◌*◌, ◌<◌, ◌≤◌, zero, suc, Bool, true, false, not, ◌||◌, leb, ◌∷◌, Contains, filter, map, inl, inr, refl, sym, ap, ◌∙◌, arith}
 use mathlib.Core.Logic.{dite}
 use native.Mathlib.Decide.{ℕ_discrete}
 use Rattle.std.specs.List.{list_any, range_with_len}
@@ -7,14 +7,12 @@ use Rattle.std.proofs.lemmas.Bool.{cases_lt, eq-eqb, eqb-true, false_from_ne_tru
 use Rattle.std.proofs.lemmas.Bool.Decides.{nat_tests}
 use Rattle.std.proofs.lemmas.List.Elements.{All-contains}
 use Rattle.size_classes.specs.Classes.{regions_at, size_at}
-use Rattle.space_model.specs.declared.parts.Part.{Part}
-use Rattle.space_model.specs.declared.parts.Region.{Region}
 use Rattle.space_model.specs.Region.{address_of, landing, region_of, regions_from, starts_at}
 use Rattle.space_model.specs.Slabs.{places}
 use Rattle.bin_book.specs.Bins.{place}
 use Rattle.bin_book.proofs.Lists.{any_has, any_map, any_none, filter_map_is, filter_same, map_has, range_from, range_has}
 use Rattle.bin_book.proofs.Places.{same_place}
-use Rattle.arena_core.specs.Booked.{LandsTakeTheFirst, slab_of}
+use Rattle.arena_core.specs.Booked.{LandsTakeTheFirst}
 use Rattle.arena_core.proofs.Booked.{any_landing}
 
 -- the numbers from one on

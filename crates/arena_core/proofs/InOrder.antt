@@ -1,6 +1,6 @@
 -- Extents in order of address, as some go or one comes.
-use Rattle.std.proofs.Common.{◌≡◌, ◌≢◌, ℕ, ◌<◌, ◌≤◌, zero, suc, Bool, true, false, cond, List, [], ◌∷◌, ◌++◌, All, filter, ltb, fold, take, drop, ◌+◌, subst, inl, inr, refl, sym, ap, ◌∙◌, arith}
-use Rattle.std.specs.List.{AllByRecursion as Every, insert, position_or_len}
+use Rattle.std.proofs.Common.{◌≡◌, ◌≢◌, ◌<◌, ◌≤◌, suc, Bool, true, false, cond, List, [], ◌∷◌, ◌++◌, All, filter, ltb, fold, take, drop, ◌+◌, subst, inl, inr, refl, sym, ap, ◌∙◌, arith}
+use Rattle.std.specs.List.{AllByRecursion as Every, position_or_len}
 use Rattle.std.proofs.lemmas.Bool.{cases_Bool, cases_lt}
 use Rattle.std.proofs.lemmas.Bool.Decides.{nat_tests}
 use Rattle.std.proofs.lemmas.List.Elements.{recursion_from_All}
@@ -122,3 +122,26 @@ unfolding order Rising
 order_grows parts p other =
     let all = every_order (λ q. q.span.first ≢ p.span.first) [] parts tt (recursion_from_All (λ q. q.span.first ≢ p.span.first) parts other) in
     order_push [] parts p ∙ placed_is p (order [] parts) ∙ put_between p (order [] parts) (rising_order [] parts tt) all
+
+-- they all stand on one side of it or on the other
+split_at : (p : Part) (L : List Part) → Rising L → Every (λ q. q.span.first ≢ p.span.first) L → filter (λ q. ltb q.span.first p.span.first) L ++ filter (λ q. ltb p.span.first q.span.first) L ≡ L
+unfolding Rising
+split_at p [] r other = refl
+split_at p (q ∷ L) r other = elim (cases_lt p.span.first q.span.first) [
+  | inl l ↦
+      let later : Every (λ x. p.span.first < x.span.first) (q ∷ L) = (l, every_map (λ x. q.span.first ≤ x.span.first) (λ x. p.span.first < x.span.first) (λ x le. omega arith) L r.0) in
+      let none = filter_none (λ x. ltb x.span.first p.span.first) (q ∷ L) (every_map (λ x. p.span.first < x.span.first) (λ x. ltb x.span.first p.span.first ≡ false) (λ x lt. grind (arith, nat_tests)) (q ∷ L) later) in
+      let all = filter_all (λ x. ltb p.span.first x.span.first) (q ∷ L) (every_map (λ x. p.span.first < x.span.first) (λ x. ltb p.span.first x.span.first ≡ true) (λ x lt. grind (arith, nat_tests)) (q ∷ L) later) in
+      λ k. none k ++ all k
+  | inr g ↦
+      let ne = other.0 in
+      let f : ltb p.span.first q.span.first ≡ false = grind (arith, nat_tests) in
+      let low : ltb q.span.first p.span.first ≡ true = grind (arith, nat_tests) in
+      rw (f, low) (ap (λ xs. q ∷ xs) (split_at p L r.1 other.1))
+]
+
+pub order_splits : (parts : List Part) (p : Part) → All (λ q. q.span.first ≢ p.span.first) parts →
+    filter (λ q. ltb q.span.first p.span.first) (turned_in_order (λ q. q) parts) ++ filter (λ q. ltb p.span.first q.span.first) (turned_in_order (λ q. q) parts) ≡ turned_in_order (λ q. q) parts
+unfolding order Rising
+order_splits parts p other =
+    split_at p (order [] parts) (rising_order [] parts tt) (every_order (λ q. q.span.first ≢ p.span.first) [] parts tt (recursion_from_All (λ q. q.span.first ≢ p.span.first) parts other))

@@ -1,5 +1,7 @@
 mod ByClass
+pub mod Coming
 pub mod Emptying
+pub mod Filled
 pub mod Finds
 pub mod Handing
 pub mod Homes
@@ -11,11 +13,16 @@ pub mod Swaps
 pub mod Totals
 pub mod RoomSums
 pub mod Rounds
-pub mod SlabCounts
-pub mod SlabLaw
-pub mod SlabResizes
-pub mod SlabSteps
 pub mod Still
 pub mod Booked
+pub mod Served
+pub mod Books
+pub mod BookLands
+pub mod BookResizes
+pub mod BookLaw
 pub mod InOrder
 pub mod FirstPlaces
+pub mod Turns
+pub mod KeyWalks
+pub mod Loads
+pub mod Serving

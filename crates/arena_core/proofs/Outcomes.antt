@@ -16,9 +16,9 @@ use Rattle.space_model.proofs.Pieces.{both_true}
 use Rattle.space_model.proofs.Steps.{Outcome, Outcome-good, Outcome-others, Outcome-sound}
 use Rattle.space_model.proofs.LawLemmas.{absent_replays_are_good, first_replays_are_good}
 use Rattle.arena_core.specs.declared.steps.Body.{Body}
-use Rattle.arena_core.specs.Arenas.{IsBody, Standing, all_rooms, entry_of, room_after, room_of, rooms_after, standing_of}
-use Rattle.arena_core.specs.Indexes.{HasPlaces, space_of}
-use Rattle.arena_core.specs.Slabs.{AreSlabs}
+use Rattle.arena_core.specs.Arenas.{HasRoom, IsBody, Standing, all_rooms, entry_of, room_after, room_of, rooms_after, standing_of}
+use Rattle.arena_core.specs.Indexes.{space_of}
+use Rattle.arena_core.specs.Slabs.{IsBooked}
 
 -- What a step leaves of a body that callers see as `a`.
 pub record Stepped {E : Type 0} (a : Standing) (new : Body) (client : ℕ) (op : Op) (r : Result Reply E) : Type 0 where
@@ -27,6 +27,7 @@ pub record Stepped {E : Type 0} (a : Standing) (new : Body) (client : ℕ) (op :
   pub reply : IfOk r (λ told. told ≡ reply_to a.space (entry_of client op))
   pub room : OnOk r (room_of client new.rooms ≡ room_after a.space (room_of client a.rooms) client op)
   pub other_rooms : (other : ℕ) → other ≢ client → room_of other new.rooms ≡ room_of other a.rooms
+  pub rooms : OnOk r (new.rooms ≡ rooms_after a client op)
   pub err : OnErr r (standing_of new ≡ a)
   pub good : (turns : List (Entry × Reply)) → Good turns a.space → IfOk r (λ told. Good (turns ++ (entry_of client op, told) ∷ []) (space_of new.indexes))
   pub others : (other : ℕ) → other ≢ client → mine other (space_of new.indexes) ≡ mine other a.space
@@ -34,19 +35,20 @@ pub record Stepped {E : Type 0} (a : Standing) (new : Body) (client : ℕ) (op :
 pub stepped : {E : Type 0} {old new : Body} {a : Standing} {r : Result Reply E} (client : ℕ) (op : Op) → standing_of old ≡ a → IsBody old →
     IsTrue (stands a.space (entry_of client op)) → OnOk r (space_of new.indexes ≡ space_after (space_of old.indexes) (entry_of client op)) →
     IfOk r (λ told. told ≡ reply_to (space_of old.indexes) (entry_of client op)) → OnOk r (new.rooms ≡ rooms_after (standing_of old) client op) →
-    OnErr r (standing_of new ≡ standing_of old) → HasPlaces new.indexes (all_rooms new.rooms) → AreSlabs (space_of new.indexes) new.slabs → Stepped a new client op r
-stepped {E} {old} {new} {a} {r} client op view body stands_now after told rooms same places slabs =
+    OnErr r (standing_of new ≡ standing_of old) → HasRoom new (all_rooms new.rooms) → IsBooked (space_of new.indexes) new.bins.slabs → Stepped a new client op r
+stepped {E} {old} {new} {a} {r} client op view body stands_now after told rooms same places booked =
     let s : Space = space_of old.indexes in
     let t : Space = space_of new.indexes in
     let may = subst (λ (x : Standing). IsTrue (stands x.space (entry_of client op))) (sym view) stands_now in
     let few : client < 32 = ltb-true client 32 (both_true (nat_lt client 32) (op_stands s client op) may).0 in
     let out : Outcome s t (entry_of client op) r = record { after = after; told = told; same = on_err r same } in
     let by : Stepped (standing_of old) new client op r = record {
-      body = record { sound = Outcome-sound s t (entry_of client op) r out body.sound may; clients = clients r rooms same; places = places; slabs = slabs };
+      body = record { sound = Outcome-sound s t (entry_of client op) r out body.sound may; clients = clients r rooms same; places = places; booked = booked };
       after = after;
       reply = told;
       room = room_is r few rooms;
       other_rooms = λ other differ. stays r other differ rooms same;
+      rooms = rooms;
       err = same;
       good = λ turns. Outcome-good s t (entry_of client op) r out may turns;
       others = Outcome-others s t (entry_of client op) r out body.sound may;

@@ -1,5 +1,5 @@
 -- What searches and changes of the keys do to the regions that they stand for.
-use Rattle.std.proofs.Common.{◌≡◌, ℕ, ◌+◌, ◌*◌, ◌/◌, ◌%◌, ◌<◌, ◌≤◌, suc, Bool, true, false, not, cond, List, [], ◌∷◌, map, filter, find, Option, None, Some, Less, Greater, is_gt, is_lt, is_eq, refl, sym, ◌∙◌, ap, subst, arith, ◌≢◌, eqb, ltb as nat_lt, leb as nat_le, inl, inr}
+use Rattle.std.proofs.Common.{◌≡◌, ℕ, ◌+◌, ◌*◌, ◌/◌, ◌%◌, ◌<◌, ◌≤◌, suc, Bool, true, false, not, cond, List, [], ◌∷◌, map, filter, find, Option, None, Some, option_map, Less, Greater, is_gt, is_lt, is_eq, refl, sym, ◌∙◌, ap, subst, arith, ◌≢◌, eqb, ltb as nat_lt, leb as nat_le, inl, inr}
 use Rattle.std.specs.List.{All, AllByRecursion as Every, Contains, count_by, sum_by, list_any, insert, position_or_len}
 use Rattle.std.specs.List.Sorted.{IsStrictlySortedBy}
 use Rattle.std.proofs.lemmas.Bool.{cases_order}
@@ -18,7 +18,8 @@ use Rattle.ordered_set.proofs.Members.{contains_later}
 use Rattle.space_model.specs.declared.parts.Region.{Region}
 use Rattle.space_model.specs.Region.{inserted}
 use Rattle.space_model.specs.Step.{is_given_back, staying, holds_at}
-use Rattle.arena_core.specs.RegionLists.{begins_within, code_of, holder_of, key_of, region_of}
+use Rattle.part_book.proofs.Lists.{find_map}
+use Rattle.arena_core.specs.RegionLists.{begins_from, code_of, holder_of, key_of, region_of}
 
 -- a region is that of its key
 pub region_is : (r : Region) → r.class < 121 → region_of (key_of r) ≡ r
@@ -38,27 +39,20 @@ region_is r small = λ i. record { addr = r.addr; class = class_is i; holder = h
 pub from_is : (k : Key) (major : ℕ) → is_from (start major) k ≡ nat_le major k.major
 from_is k major = grind (arith, nat_tests, from_start k major, start_from k major)
 
+-- the first key from an address on is that of the first region from there on
+pub from_inside : {o : Option Key} {regions : List Region} (addr : ℕ) (keys : List Key) → map region_of keys ≡ regions → o ≡ find (is_from (start addr)) keys →
+    option_map (λ k. k.major) o ≡ option_map (λ r. r.addr) (find (begins_from addr) regions)
+from_inside {o} {regions} addr keys view is =
+    let there = find_map region_of (begins_from addr) keys ∙ sym (λ i. option_map region_of (find (λ k. from_is k addr i) keys)) ∙ ap (option_map region_of) (sym is) in
+    sym (ap (λ rs. option_map (λ (r : Region). r.addr) (find (begins_from addr) rs)) (sym view) ∙ ap (option_map (λ (r : Region). r.addr)) there ∙ twice o)
+  where
+    twice : (o : Option Key) → option_map (λ (r : Region). r.addr) (option_map region_of o) ≡ option_map (λ k. k.major) o
+    twice None = refl
+    twice (Some k) = refl
+
 -- the keys behind one are at no lower address
 pub keys_after : (n : ℕ) (k : Key) (ks : List Key) → n ≤ k.major → Every (λ x. key_cmp k x ≡ Less) ks → Every (λ x. n ≤ x.major) ks
 keys_after n k ks le first = every_map (λ x. key_cmp k x ≡ Less) (λ x. n ≤ x.major) (λ x e. omega (arith, less_major k x e)) ks first
-
--- where all addresses are too high, none is in the range
-none_within : (low high : ℕ) (ks : List Key) → Every (λ k. high ≤ k.major) ks → list_any (begins_within low high) (map region_of ks) ≡ false
-none_within low high [] above = refl
-none_within low high (k ∷ ks) above = grind (arith, nat_tests, above.0, none_within low high ks above.1)
-
--- whether the key that was found lies below an address
-abbrev pub lies_below : ℕ → Option Key → Bool
-lies_below high None = false
-lies_below high (Some k) = nat_lt k.major high
-
--- the first key from an address on tells whether there is one in a range
-within_is : (low high : ℕ) (ks : List Key) → IsAscending ks → lies_below high (find (is_from (start low)) ks) ≡ list_any (begins_within low high) (map region_of ks)
-unfolding IsStrictlySortedBy
-within_is low high [] ascending = refl
-within_is low high (k ∷ ks) ascending =
-    let past : high ≤ k.major → list_any (begins_within low high) (map region_of ks) ≡ false = λ ge. none_within low high ks (keys_after high k ks ge ascending.0) in
-    grind (arith, nat_tests, from_is k low, within_is low high ks ascending.1, past)
 
 -- ---- a region more
 
@@ -192,11 +186,6 @@ pub take_inside : {ks : List Key} {rs : List Region} (c addr : ℕ) → IsAscend
     (key : Key) × Taken c addr ks key
 take_inside {ks} c addr ascending view alone held =
     take_is c addr ks ascending (subst (λ (xs : List Region). count_by (is_at addr) xs ≤ 1) (sym view) alone) (ap (λ (xs : List Region). holds_at c xs addr) view ∙ held)
-
--- a search from an address on tells whether a region begins in a range
-pub within_inside : {rs : List Region} {o : Option Key} (low high : ℕ) (ks : List Key) → IsAscending ks → map region_of ks ≡ rs → o ≡ find (is_from (start low)) ks →
-    lies_below high o ≡ list_any (begins_within low high) rs
-within_inside low high ks ascending view found = ap (lies_below high) found ∙ within_is low high ks ascending ∙ ap (list_any (begins_within low high)) view
 
 -- What the key that was found at the address of a client's region is.
 pub record Goes (c addr : ℕ) (ks : List Key) (rs : List Region) (key : Key) : Type 0 where

@@ -1,11 +1,11 @@
 -- Regions that are given back one after the other, by rising addresses, leave what they leave when given back at once.
-use Rattle.std.proofs.Common.{◌≡◌, ℕ, ◌+◌, ◌*◌, ◌<◌, ◌≤◌, Bool, true, false, not, IsTrue, List, [], ◌∷◌, ◌++◌, append_assoc, append-nil, length, get_or, filter, fold, refl, sym, ◌∙◌, ap, subst, arith, All, ◌&&◌, ◌||◌, eqb, leb as nat_le, ltb as nat_lt, inl, inr, drop, add-one, drop-cons}
-use Rattle.std.specs.List.{count_by, list_all, list_any, position_or_len, sum_by}
-use Rattle.std.proofs.lemmas.Bool.{cases_Bool, cases_lt, not-true}
+use Rattle.std.proofs.Common.{◌≡◌, ℕ, ◌+◌, ◌*◌, ◌<◌, ◌≤◌, Bool, true, false, not, IsTrue, List, [], ◌∷◌, append-nil, length, get_or, filter, refl, sym, ◌∙◌, ap, subst, arith, All, ◌&&◌, ◌||◌, eqb, leb as nat_le, inl, inr, drop, add-one, drop-cons}
+use Rattle.std.specs.List.{count_by, list_all, list_any, sum_by}
+use Rattle.std.proofs.lemmas.Bool.{cases_lt, not-true}
 use Rattle.std.proofs.lemmas.Bool.Decides.{nat_tests}
 use Rattle.std.proofs.lemmas.List.{drop_all}
-use Rattle.std.proofs.lemmas.List.Elements.{All-cons, All-filter, All-head, All-nil, All-tail, All-weaker, filter-append, filter_passes}
-use Rattle.std.proofs.lemmas.List.Filters.{length-filter_both, sum_by-filter_both}
+use Rattle.std.proofs.lemmas.List.Elements.{All-cons, All-filter, All-head, All-nil, All-tail, All-weaker, filter_passes}
+use Rattle.std.proofs.lemmas.List.Filters.{sum_by-filter_both}
 use Rattle.std.proofs.lemmas.List.Sums.{get_or-le-sum_by, sum_by-cons}
 use Rattle.space_model.specs.declared.parts.Part.{Part}
 use Rattle.space_model.specs.declared.parts.Region.{Region}
@@ -15,72 +15,16 @@ use Rattle.space_model.specs.declared.spaces.Space.{Space}
 use Rattle.space_model.specs.Span.{end_of}
 use Rattle.space_model.specs.Part.{begins_at, exchanged, is_active, taken_out}
 use Rattle.space_model.specs.Region.{houses, is_held_by, residents}
-use Rattle.space_model.specs.Step.{after_back, holds_at, is_emptied, is_given_back, is_live, placed, rises_from, staying, taken_in_order}
+use Rattle.space_model.specs.Step.{after_back, holds_at, is_emptied, is_given_back, is_live, rises_from, staying, taken_in_order}
 use Rattle.space_model.specs.Sound.{Sound}
-use Rattle.space_model.proofs.Exchange.{filter-without, find_has, find_passes, share}
+use Rattle.space_model.proofs.Exchange.{find_has, find_passes, share}
 use Rattle.space_model.proofs.Changes.{lawful_sound}
 use Rattle.space_model.proofs.Giving.{back_does}
 use Rattle.space_model.proofs.Settled.{serves}
-use Rattle.space_model.proofs.Landing.{All-insert}
 use Rattle.space_model.proofs.Pieces.{both_true}
 use Rattle.arena_core.proofs.Emptying.{Empties, any_counts, counts_any, empties, filter_alike, given_parts, is_left, none_kept, ones, some_found}
-use Rattle.arena_core.proofs.RegionKeys.{insert_later}
 use Rattle.arena_core.proofs.Swaps.{keeps_all}
-
--- ---- extents in order of address
-
--- an extent as it is put among those that were taken out before
-abbrev put : ℕ → List Part → Part → List Part
-put c taken p = placed (taken_out c p) taken
-
--- the lowest extent comes first
-put_first : (c : ℕ) (p : Part) (acc : List Part) → All (λ q. p.span.first < q.span.first) acc → put c acc p ≡ taken_out c p ∷ acc
-put_first c p [] above = refl
-put_first c p (q ∷ qs) above = grind (arith, nat_tests, All-head (λ q. p.span.first < q.span.first) q qs above)
-
--- a higher one stands behind it
-put_later : (c : ℕ) (p x : Part) (acc : List Part) → p.span.first < x.span.first → put c (taken_out c p ∷ acc) x ≡ taken_out c p ∷ put c acc x
-put_later c p x acc less =
-    let past : nat_lt x.span.first p.span.first ≡ false = grind (arith, nat_tests) in
-    rw past (insert_later (taken_out c p) (taken_out c x) acc (position_or_len (λ (q : Part). nat_lt x.span.first q.span.first) acc))
-
-taken_later : (c : ℕ) (p : Part) (acc xs : List Part) → All (λ q. p.span.first < q.span.first) xs → fold (put c) (taken_out c p ∷ acc) xs ≡ taken_out c p ∷ fold (put c) acc xs
-taken_later c p acc [] above = refl
-taken_later c p acc (x ∷ xs) above =
-    ap (λ ys. fold (put c) ys xs) (put_later c p x acc (All-head (λ q. p.span.first < q.span.first) x xs above))
-    ∙ taken_later c p (put c acc x) xs (All-tail (λ q. p.span.first < q.span.first) x xs above)
-
--- so the lowest of all is the first that is taken out
-taken_first : (c : ℕ) (p : Part) (acc xs : List Part) → All (λ q. p.span.first < q.span.first) acc → filter (begins_at p.span.first) xs ≡ p ∷ [] →
-    All (λ q. p.span.first < q.span.first) (filter (λ q. not (begins_at p.span.first q)) xs) →
-    fold (put c) acc xs ≡ taken_out c p ∷ fold (put c) acc (filter (λ q. not (begins_at p.span.first q)) xs)
-taken_first c p acc [] low one above = absurd (cc)
-taken_first c p acc (x ∷ xs) low one above =
-    let t = begins_at p.span.first in
-    let P : Part → Type 0 = λ q. p.span.first < q.span.first in
-    let others : List Part = filter (λ q. not (t q)) xs in
-    elim (cases_Bool (t x)) [
-      | inl h ↦
-          let e : x ∷ filter t xs ≡ p ∷ [] = (rw h at one) in
-          let k : All P others = (rw h at above) in
-          let none : filter t xs ≡ [] = cc in
-          let rest = keeps_all t xs none in
-          let first = put_first c p acc low in
-          let later = taken_later c p acc xs (subst (All P) rest k) in
-          rw h cc
-      | inr h ↦
-          let k : All P (x ∷ others) = (rw h at above) in
-          rw h (taken_first c p (put c acc x) xs (All-insert P acc _ (taken_out c x) low (All-head P x others k)) (rw h at one) (All-tail P x others k))
-    ]
-
--- ---- two filters
-
-pub filter_twice : {X : Type 0} (f g : X → Bool) (xs : List X) → filter f (filter g xs) ≡ filter (λ x. g x && f x) xs
-filter_twice f g [] = refl
-filter_twice f g (x ∷ xs) = grind (arith, filter_twice f g xs)
-
-pub filters_swap : {X : Type 0} (f g : X → Bool) (xs : List X) → filter f (filter g xs) ≡ filter g (filter f xs)
-filters_swap f g xs = filter_twice f g xs ∙ filter_alike (λ x. g x && f x) (λ x. f x && g x) xs (λ k d h. grind arith) ∙ sym (filter_twice g f xs)
+use Rattle.arena_core.proofs.Turns.{filter_twice, turns_first}
 
 -- ---- the regions
 
@@ -119,26 +63,6 @@ all_still c addr (a ∷ more) regions above h =
     grind (arith, held_still c addr a regions (All-head P a more above), all_still c addr more regions (All-tail P a more above))
 
 -- ---- the extents
-
--- an extent that is emptied first, below all others, is taken out first
-parts_round : (c : ℕ) (parts : List Part) (p : Part) (gone : Part → Bool) → gone p ≡ true → gone (taken_out c p) ≡ false → filter (begins_at p.span.first) parts ≡ p ∷ [] →
-    All (λ q. p.span.first < q.span.first) (filter gone (filter (λ q. not (begins_at p.span.first q)) parts)) →
-    (one : List Part) → one ≡ exchanged (begins_at p.span.first) parts (taken_out c p ∷ []) →
-    (exchanged gone one (taken_in_order c (filter gone one)) ≡ exchanged gone parts (taken_in_order c (filter gone parts))) × (1 + length (filter gone one) ≡ length (filter gone parts))
-parts_round c parts p gone goes stays alone above one is =
-    let t = begins_at p.span.first in
-    let out : Part = taken_out c p in
-    let others : List Part = filter (λ q. not (t q)) parts in
-    let stay = λ (q : Part). not (gone q) in
-    let gone_one : filter gone one ≡ filter gone others = grind (arith, is, stays, filter-append gone others (out ∷ []), append-nil (filter gone others)) in
-    let kept_one : filter stay one ≡ filter stay others ++ out ∷ [] = grind (arith, is, stays, filter-append stay others (out ∷ [])) in
-    let kept = filter-without stay t parts (grind (arith, ap (filter stay) alone, goes)) in
-    let first : filter t (filter gone parts) ≡ p ∷ [] = grind (arith, filters_swap t gone parts, ap (filter gone) alone, goes) in
-    let rest = filters_swap (λ q. not (t q)) gone parts in
-    let taken = taken_first c p [] (filter gone parts) (All-nil (λ q. p.span.first < q.span.first)) first (subst (All (λ q. p.span.first < q.span.first)) (sym rest) above) in (
-      cc (gone_one, kept_one, append_assoc (filter stay others) (out ∷ []) (taken_in_order c (filter gone others)), kept, rest, taken),
-      grind (arith, ap length first, ap length rest, ap length gone_one, length-filter_both t (λ q. not (t q)) (λ _. refl) (filter gone parts)),
-    )
 
 -- what no element passes isn't counted
 none_counted : {X : Type 0} (test : X → Bool) (xs : List X) → list_any test xs ≡ false → count_by test xs ≡ 0
@@ -223,9 +147,9 @@ round_by c addr addrs s p true sound e above left one is gone same =
     let goes : gone p ≡ true = ap (λ (f : Part → Bool). f p) same ∙ emptied_still c addrs first p e.active left in
     let stays : gone (taken_out c p) ≡ false = ap (λ (f : Part → Bool). f (taken_out c p)) same in
     let higher = subst (λ (f : Part → Bool). All (λ q. p.span.first < q.span.first) (filter f (filter (λ q. not (begins_at p.span.first q)) s.parts))) (sym same) (above_first c addr addrs s p sound e above) in
-    let both = parts_round c s.parts p gone goes stays e.alone higher one (is ∙ parts.1) in
+    let both = turns_first (taken_out c) s.parts p gone (λ q. refl) goes stays e.alone higher one (is ∙ parts.1) in
     let n : length (filter (is_emptied first) s.parts) ≡ 1 = ap length parts.0 in
-    (both.0, omega (arith, n, both.1))
+    (both.all, omega (arith, n, both.fewer))
   where
     emptied_still : (c : ℕ) (addrs : List ℕ) (regions : List Region) (p : Part) → is_active p.state ≡ true → is_left regions p ≡ true → is_emptied (staying c addrs regions) p ≡ true
     emptied_still c addrs regions p active left =

@@ -60,14 +60,19 @@ same s = record { parts = refl; regions = refl }
 abbrev pub Idle : Part → Type 0
 Idle p = is_active p.state ≡ false
 
--- behind the others they don't count
-pub idle_behind : (parts pieces : List Part) → All Idle pieces → serving (parts ++ pieces) ≡ serving parts
-idle_behind parts pieces idle =
-    filter-append (λ p. is_active p.state) parts pieces ∙ ap (λ ps. serving parts ++ ps) (none_kept (λ p. is_active p.state) pieces idle) ∙ append-nil (serving parts)
+-- extents that fail a test don't count behind the others
+kept_behind : (f : Part → Bool) (parts pieces : List Part) → All (λ p. f p ≡ false) pieces → filter f (parts ++ pieces) ≡ filter f parts
+kept_behind f parts pieces none = filter-append f parts pieces ∙ ap (λ ps. filter f parts ++ ps) (none_kept f pieces none) ∙ append-nil (filter f parts)
 
 -- nor where they go, and others come
+pub kept_exchanged : (f gone : Part → Bool) (parts pieces : List Part) → filter f (filter gone parts) ≡ [] → All (λ p. f p ≡ false) pieces → filter f (exchanged gone parts pieces) ≡ filter f parts
+kept_exchanged f gone parts pieces none come = kept_behind f (filter (λ p. not (gone p)) parts) pieces come ∙ filter-without f gone parts none
+
+pub idle_behind : (parts pieces : List Part) → All Idle pieces → serving (parts ++ pieces) ≡ serving parts
+idle_behind = kept_behind (λ p. is_active p.state)
+
 pub idle_exchanged : (gone : Part → Bool) (parts pieces : List Part) → serving (filter gone parts) ≡ [] → All Idle pieces → serving (exchanged gone parts pieces) ≡ serving parts
-idle_exchanged gone parts pieces none idle = idle_behind (filter (λ p. not (gone p)) parts) pieces idle ∙ filter-without (λ p. is_active p.state) gone parts none
+idle_exchanged = kept_exchanged (λ p. is_active p.state)
 
 -- one that is found goes
 idle_alone : (s : Space) (test : Part → Bool) (p : Part) → Sound s → find test s.parts ≡ Some p → Idle p → serving (filter (begins_at p.span.first) s.parts) ≡ []

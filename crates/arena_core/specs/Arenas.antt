@@ -1,15 +1,15 @@
 -- What callers see of an arena, and the room that its clients have.
-use Rattle.std.specs.Prelude.{◌≡◌, ℕ, ◌-◌, ◌*◌, Bool, true, false, List, filter, length, max, slice_index_or, slice_set, if◌then◌else◌}
+use Rattle.std.specs.Prelude.{◌≡◌, ℕ, ◌-◌, ◌*◌, ◌≤◌, Bool, true, false, List, filter, length, max, slice_index_or, slice_set, if◌then◌else◌}
 use Rattle.std.specs.List.{sum_by}
 use Rattle.space_model.specs.declared.entries.Entry.{Entry}
 use Rattle.space_model.specs.declared.entries.Op.{Op}
-use Rattle.space_model.specs.declared.entries.Op.TheVariants.{Look, CutDone, GrowDone, CommitDone, Land, Back, PutLook, MergeDone, Fill, Advance, PurgeTake, LazyDone, Offer, OfferDone, DecommitDone, ForcedDone, Publish, TakeOver, Reset, Destroy, DestroyTake, Counts, Set, Widen, JoinDone, Trim, TrimDone}
+use Rattle.space_model.specs.declared.entries.Op.TheVariants.{Look, Back, Fill, Advance, PurgeTake, Publish, TakeOver, Reset, Destroy, DestroyTake, Counts, Set, Widen, Trim}
 use Rattle.space_model.specs.declared.spaces.Space.{Space}
 use Rattle.space_model.specs.Step.{is_emptied, staying}
 use Rattle.space_model.specs.Sound.{Sound}
 use Rattle.arena_core.specs.declared.steps.Body.{Body}
 use Rattle.arena_core.specs.Indexes.{HasPlaces, space_of}
-use Rattle.arena_core.specs.Slabs.{AreSlabs}
+use Rattle.arena_core.specs.Slabs.{IsBooked}
 
 -- an arena's space, and the room of each client: how many more operations it may make that take no memory
 pub record Standing : Type 0 where
@@ -47,34 +47,6 @@ abbrev pub is_return : Op → Bool
 is_return (Back addrs) = true
 is_return _ = false
 
--- whether an arena over indexes carries an operation out, so far
-abbrev pub is_carried : Op → Bool
-is_carried (Look pages align) = true
-is_carried (CutDone heard keep_low) = true
-is_carried (GrowDone heard found) = true
-is_carried (CommitDone heard) = true
-is_carried (Land span class count) = true
-is_carried (Back addrs) = true
-is_carried (PutLook span tries) = true
-is_carried (MergeDone heard own_low) = true
-is_carried (Advance now) = true
-is_carried (Set setting) = true
-is_carried Counts = true
-is_carried (PurgeTake rest keep) = true
-is_carried (LazyDone heard) = true
-is_carried (Offer span) = true
-is_carried (OfferDone heard found) = true
-is_carried (DecommitDone heard) = true
-is_carried (ForcedDone heard) = true
-is_carried (Publish addr) = true
-is_carried (TakeOver addr) = true
-is_carried DestroyTake = true
-is_carried (Widen addr pages) = true
-is_carried (JoinDone heard class) = true
-is_carried (Trim addr class) = true
-is_carried (TrimDone heard class) = true
-is_carried _ = false
-
 -- how many extents are emptied when the client gives regions back
 abbrev pub emptied : ℕ → List ℕ → Space → ℕ
 emptied client addrs s = length (filter (is_emptied (staying client addrs s.regions)) s.parts)
@@ -83,6 +55,11 @@ emptied client addrs s = length (filter (is_emptied (staying client addrs s.regi
 abbrev pub emptied_by : ℕ → Op → Space → ℕ
 emptied_by client (Back addrs) s = emptied client addrs s
 emptied_by client op s = 0
+
+-- how many regions an operation gives back
+abbrev pub given_by : Op → ℕ
+given_by (Back addrs) = length addrs
+given_by op = 0
 
 -- a client's room after an operation: the first one of a unit makes room for 16 more, a return for 16 by each extent that
 -- it empties, and any other operation uses one up
@@ -101,9 +78,14 @@ entry_of client op = record { client = client; op = op }
 abbrev pub standing_of : Body → Standing
 standing_of body = record { space = space_of body.indexes; rooms = body.rooms }
 
--- the space is sound, there are 32 rooms, each index has places for all of them, and the numbers of slabs are the space's
+-- each index and the book of slabs have places for so many operations that take no memory
+pub record HasRoom (body : Body) (places : ℕ) : Type 0 where
+  pub indexes : HasPlaces body.indexes places
+  pub slabs : places ≤ body.bins.spare
+
+-- the space is sound, there are 32 rooms, there are places for all of them, and the slabs of the book are the space's
 pub record IsBody (body : Body) : Type 0 where
   pub sound : Sound (space_of body.indexes)
   pub clients : length body.rooms ≡ 32
-  pub places : HasPlaces body.indexes (all_rooms body.rooms)
-  pub slabs : AreSlabs (space_of body.indexes) body.slabs
+  pub places : HasRoom body (all_rooms body.rooms)
+  pub booked : IsBooked (space_of body.indexes) body.bins.slabs

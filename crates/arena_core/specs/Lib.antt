@@ -1,5 +1,6 @@
 pub mod Arenas
 pub mod Booked
+pub mod Coming
 pub mod Extents
 pub mod Indexes
 pub mod OfferLists

@@ -1,23 +1,70 @@
--- The numbers of slabs by small class, as one comes or goes.
-use Rattle.std.specs.Prelude.{◌≡◌, ℕ, ◌+◌, ◌-◌, nat_lt, List, slice_index_or, slice_set, if◌then◌else◌}
+-- The slabs of an arena's book as its operations go on.
+use Rattle.std.specs.Prelude.{ℕ, ◌+◌, ◌<◌, ◌≤◌, ◌^◌, ◌≡◌, Bool, false, true, not, nat_lt, ◌==◌, List, [], length, filter, map, All, if◌then◌else◌}
+use Rattle.std.specs.List.{list_any}
+use Rattle.size_classes.specs.Classes.{pages_at, regions_at}
 use Rattle.space_model.specs.declared.entries.Op.{Op}
-use Rattle.space_model.specs.declared.entries.Op.TheVariants.{Land}
+use Rattle.space_model.specs.declared.entries.Op.TheVariants.{Fill, Land, Reset, Destroy}
+use Rattle.space_model.specs.declared.parts.Span.{Span}
 use Rattle.space_model.specs.declared.spaces.Space.{Space}
-use Rattle.space_model.specs.Counts.{slabs_by_class}
+use Rattle.space_model.specs.Ending.{after_destroy, after_reset}
+use Rattle.space_model.specs.Slabs.{lowest_free}
+use Rattle.space_model.specs.Stepped.{is_live}
+use Rattle.bin_book.specs.Bins.{Slab, is_unused, meets_slab, slab_with_out, with_free, with_slab, without}
+use Rattle.arena_core.specs.Booked.{AreBooked}
 
--- they are those of a space
-pub record AreSlabs (s : Space) (slabs : List ℕ) : Type 0 where
-  pub numbers : slabs ≡ slabs_by_class s.regions s.parts
+-- a book's slabs are of small classes, and those of each class are the space's
+pub record IsBooked (s : Space) (slabs : List Slab) : Type 0 where
+  pub small : All (λ x. x.class < 36) slabs
+  pub booked : AreBooked s slabs
 
--- the numbers with one more of a class, of which a large one has none
-abbrev pub with_slab : ℕ → List ℕ → List ℕ
-with_slab class slabs = if nat_lt class 36 then slice_set slabs class (slice_index_or slabs class 0 + 1) else slabs
+-- a space without regions is kept by the book without slabs
+abbrev pub NothingIsBooked : Type 0
+NothingIsBooked = (s : Space) → s.regions ≡ [] → IsBooked s []
 
--- the numbers with one fewer
-abbrev pub without_slab : ℕ → List ℕ → List ℕ
-without_slab class slabs = if nat_lt class 36 then slice_set slabs class (slice_index_or slabs class 0 - 1) else slabs
+-- a new slab has a region out and no more than its places, lies in the space, and meets no slab of the book
+pub record CanLand (span : Span) (class count : ℕ) (slabs : List Slab) : Type 0 where
+  pub some : 0 < count
+  pub most : count ≤ regions_at class
+  pub inside : span.first + pages_at class ≤ 2 ^ 32
+  pub apart : list_any (meets_slab class span.first) slabs ≡ false
 
--- the numbers after an operation that empties no extent: small regions land in one more
-abbrev pub slabs_after : Op → List ℕ → List ℕ
-slabs_after (Land span class count) slabs = with_slab class slabs
-slabs_after _ slabs = slabs
+-- where an operation makes a slab, it can
+abbrev pub CanFollow : Op → List Slab → Type 0
+CanFollow (Land span class count) slabs = class < 36 → CanLand span class count slabs
+CanFollow _ slabs = Unit {0}
+
+-- the slabs after regions landed in an extent, which is one more slab if their class is small
+abbrev pub slabs_landed : Span → ℕ → ℕ → List Slab → List Slab
+slabs_landed span class count slabs = if nat_lt class 36 then with_slab slabs (slab_with_out class span.first count) else slabs
+
+-- whether a region that is given back is the last one of its extent, as a large one always is
+abbrev pub is_last : ℕ → ℕ → List Slab → Bool
+is_last class addr slabs = if nat_lt class 36 then list_any is_unused (map (with_free addr) slabs) else true
+
+-- the slabs after a region was given back, without one that then has none out
+abbrev pub slabs_returned : ℕ → ℕ → List Slab → List Slab
+slabs_returned class addr slabs = if nat_lt class 36 then filter (λ x. not (is_unused x)) (map (with_free addr) slabs) else slabs
+
+-- the slabs after the regions at some addresses were taken
+abbrev pub slabs_taken : List ℕ → List Slab → List Slab
+slabs_taken addrs slabs = map (without addrs) slabs
+
+-- the slabs after the lowest free regions of a class were taken, if the arena is live
+abbrev pub slabs_filled : Space → ℕ → ℕ → List Slab → List Slab
+slabs_filled s class count slabs = if is_live s.life then slabs_taken (lowest_free class count s) slabs else slabs
+
+-- the slabs after an operation that may empty the space: there is none where no region is left
+abbrev pub slabs_left : Space → List Slab → List Slab
+slabs_left s slabs = if length s.regions == 0 then [] else slabs
+
+-- the slabs after an operation of a client that begins a unit and gives nothing back
+abbrev pub slabs_begun : ℕ → Space → Op → List Slab → List Slab
+slabs_begun c s (Fill class count) slabs = slabs_filled s class count slabs
+slabs_begun c s (Reset cached) slabs = slabs_left (after_reset s c cached).after slabs
+slabs_begun c s (Destroy cached) slabs = slabs_left (after_destroy s c cached).after slabs
+slabs_begun c s _ slabs = slabs
+
+-- the slabs after an operation that takes no memory
+abbrev pub slabs_followed : Op → List Slab → List Slab
+slabs_followed (Land span class count) slabs = slabs_landed span class count slabs
+slabs_followed _ slabs = slabs

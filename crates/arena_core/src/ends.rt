@@ -1,11 +1,183 @@
-//! What ends an arena.
+//! How an arena is emptied and ended.
 
-ghost use Rattle.std.specs.Prelude.{◌≡◌, ℕ};
-ghost use Rattle.space_model.specs.Ending.{after_destroy_take};
+ghost use Rattle.std.specs.Prelude.{◌≡◌, ◌<◌, ◌≤◌, ℕ, IsTrue, All, AllPairs, [], ◌∷◌, cond, not};
+ghost use Rattle.space_model.specs.Part.{begins_at, exchanged, is_active, is_listed, moved_to, turned};
+ghost use Rattle.space_model.specs.Region.{homes, residents};
+ghost use Rattle.space_model.specs.Ending.{after_destroy, after_destroy_take, after_reset, emptied, ended, flight_count, held_count, reset_stands};
+ghost use Rattle.space_model.specs.Stepped.{is_dirty_time_over};
+ghost use Rattle.space_model.specs.Sound.{Sound};
+ghost use Rattle.arena_core.specs.Extents.{IsApart, IsThere};
 ghost use Rattle.arena_core.specs.Indexes.{HasPlaces, space_of};
+ghost use Rattle.arena_core.specs.Slabs.{slabs_left};
 
+use crate::extents::Extents;
 use crate::indexes::Indexes;
-use space_model::{Life, Reply};
+use crate::regions::RegionSet;
+use crate::{purges, slabs};
+use bin_book::BinBook;
+use size_classes::PAGE_BYTES;
+use space_model::{Life, Part, Reply, Rest, State};
+
+/// What others have in the arena, or the client in its cache: how many regions, and how many extents in flight or offered.
+fn load(indexes: &Indexes, client: u32, cached: u64) -> (u64, u64)
+    requires stands { IsTrue (reset_stands (space_of indexes.now) client cached) }
+    requires sound { Sound (space_of indexes.now) }
+    ensures held { result.0 ≡ held_count (space_of indexes.now) client cached }
+    ensures flights { result.1 ≡ flight_count (space_of indexes.now) client }
+{
+    let held = indexes.regions.count_others(client) + cached;
+    let flights = indexes.extents.count_flights() + indexes.offers.len();
+    (held, flights)
+}
+
+/// Makes each extent that serves regions dirty, in order of address: the next one has the next region.
+fn make_dirty(extents: &mut Extents, regions: &RegionSet)
+    requires apart { IsApart extents.old.parts }
+    requires used { All (λ p. IsTrue (is_active p.state) → 0 < residents p regions.now.regions) extents.old.parts }
+    requires homes { All (λ r. homes r extents.old.parts ≡ 1) regions.now.regions }
+    requires classes { All (λ r. r.class < 121) regions.now.regions }
+    requires ordered { AllPairs (λ q r. q.addr ≤ r.addr) regions.now.regions }
+    ensures parts { extents.new.parts ≡ turned (λ p. is_active p.state) (moved_to Rest.Dirty) extents.old.parts }
+    ensures spare { extents.new.spare ≡ extents.old.spare }
+{
+    let mut page = 0;
+    while let Some(addr) = regions.first_from(PAGE_BYTES * page) {
+        let part = extents.holding(addr / PAGE_BYTES).unwrap();
+        extents.change(&part, State::Dirty, part.committed);
+        page = part.span.first + part.span.pages;
+    }
+}
+
+/// Makes an extent retained that isn't yet.
+fn retain(extents: &mut Extents, part: &Part)
+    requires { IsThere extents.old.parts part.now }
+    ensures parts { extents.new.parts ≡ cond (not (is_listed Rest.Retained part.now.state))
+        (exchanged (begins_at part.now.span.first) extents.old.parts (moved_to Rest.Retained part.now ∷ [])) extents.old.parts }
+    ensures spare { extents.new.spare ≡ extents.old.spare }
+{
+    if !part.state.is_listed(Rest::Retained) {
+        extents.change(part, State::Retained, part.committed);
+    }
+}
+
+/// Makes each extent retained that isn't yet, in order of address.
+fn retain_all(extents: &mut Extents)
+    requires { IsApart extents.old.parts }
+    ensures parts { extents.new.parts
+        ≡ turned (λ p. not (is_listed Rest.Retained p.state)) (moved_to Rest.Retained) extents.old.parts }
+    ensures spare { extents.new.spare ≡ extents.old.spare }
+{
+    let mut page = 0;
+    while let Some(part) = extents.first_from(page) {
+        retain(extents, &part);
+        page = part.span.first + part.span.pages;
+    }
+}
+
+/// All regions go, and each extent that served them is dirty.
+fn empty(indexes: &mut Indexes) -> Reply
+    requires { Sound (space_of indexes.old) }
+    ensures after { space_of indexes.new ≡ (emptied (space_of indexes.old)).after }
+    ensures reply { result ≡ (emptied (space_of indexes.old)).reply }
+    ensures places { (n : ℕ) → HasPlaces indexes.old n → HasPlaces indexes.new n }
+{
+    make_dirty(&mut indexes.extents, &indexes.regions);
+    indexes.regions.clear();
+    if indexes.dirty.ms() == 0 {
+        return Reply::Purge {
+            lazy: purges::is_lazy(indexes),
+        };
+    }
+    Reply::Noted
+}
+
+/// Discards all regions, unless the arena is in use.
+fn reset_space(indexes: &mut Indexes, client: u32, cached: u64) -> Reply
+    requires stands { IsTrue (reset_stands (space_of indexes.old) client cached) }
+    requires sound { Sound (space_of indexes.old) }
+    ensures after { space_of indexes.new ≡ (after_reset (space_of indexes.old) client cached).after }
+    ensures reply { result ≡ (after_reset (space_of indexes.old) client cached).reply }
+    ensures places { (n : ℕ) → HasPlaces indexes.old n → HasPlaces indexes.new n }
+{
+    if !indexes.life.is_live() {
+        return Reply::NoArena;
+    }
+    let (held, flights) = load(indexes, client, cached);
+    if held == 0 && flights == 0 {
+        return empty(indexes);
+    }
+    Reply::Busy {
+        held,
+        flights,
+        threads: 0,
+    }
+}
+
+/// All regions go, each extent is retained, and the client is destroying the arena.
+fn end(indexes: &mut Indexes, client: u32) -> Reply
+    requires { Sound (space_of indexes.old) }
+    ensures after { space_of indexes.new ≡ (ended (space_of indexes.old) client).after }
+    ensures reply { result ≡ (ended (space_of indexes.old) client).reply }
+    ensures places { (n : ℕ) → HasPlaces indexes.old n → HasPlaces indexes.new n }
+{
+    retain_all(&mut indexes.extents);
+    indexes.regions.clear();
+    indexes.life = Life::Dying(client);
+    Reply::Noted
+}
+
+/// Ends the arena, unless it is in use.
+fn destroy_space(indexes: &mut Indexes, client: u32, cached: u64) -> Reply
+    requires stands { IsTrue (reset_stands (space_of indexes.old) client cached) }
+    requires sound { Sound (space_of indexes.old) }
+    ensures after { space_of indexes.new ≡ (after_destroy (space_of indexes.old) client cached).after }
+    ensures reply { result ≡ (after_destroy (space_of indexes.old) client cached).reply }
+    ensures places { (n : ℕ) → HasPlaces indexes.old n → HasPlaces indexes.new n }
+{
+    if !indexes.life.is_live() {
+        return Reply::NoArena;
+    }
+    let (held, flights) = load(indexes, client, cached);
+    let threads = indexes.bound.as_slice().len() as u64;
+    if held == 0 && flights == 0 && threads == 0 {
+        return end(indexes, client);
+    }
+    Reply::Busy {
+        held,
+        flights,
+        threads,
+    }
+}
+
+/// Discards all regions, unless the arena is in use. Where no region is left then, there is no slab.
+pub fn reset(indexes: &mut Indexes, bins: &mut BinBook, client: u32, cached: u64) -> Reply
+    requires stands { IsTrue (reset_stands (space_of indexes.old) client cached) }
+    requires sound { Sound (space_of indexes.old) }
+    ensures after { space_of indexes.new ≡ (after_reset (space_of indexes.old) client cached).after }
+    ensures reply { result ≡ (after_reset (space_of indexes.old) client cached).reply }
+    ensures slabs { bins.new.slabs ≡ slabs_left (after_reset (space_of indexes.old) client cached).after bins.old.slabs }
+    ensures spare { bins.old.spare ≤ bins.new.spare }
+    ensures places { (n : ℕ) → HasPlaces indexes.old n → HasPlaces indexes.new n }
+{
+    let reply = reset_space(indexes, client, cached);
+    slabs::forget(bins, indexes.regions.is_empty());
+    reply
+}
+
+/// Ends the arena, unless it is in use. Where no region is left then, there is no slab.
+pub fn destroy(indexes: &mut Indexes, bins: &mut BinBook, client: u32, cached: u64) -> Reply
+    requires stands { IsTrue (reset_stands (space_of indexes.old) client cached) }
+    requires sound { Sound (space_of indexes.old) }
+    ensures after { space_of indexes.new ≡ (after_destroy (space_of indexes.old) client cached).after }
+    ensures reply { result ≡ (after_destroy (space_of indexes.old) client cached).reply }
+    ensures slabs { bins.new.slabs ≡ slabs_left (after_destroy (space_of indexes.old) client cached).after bins.old.slabs }
+    ensures spare { bins.old.spare ≤ bins.new.spare }
+    ensures places { (n : ℕ) → HasPlaces indexes.old n → HasPlaces indexes.new n }
+{
+    let reply = destroy_space(indexes, client, cached);
+    slabs::forget(bins, indexes.regions.is_empty());
+    reply
+}
 
 /// Takes the oldest extent off an arena that is being destroyed. After the last one it is absent.
 pub fn destroy_take(indexes: &mut Indexes) -> Reply

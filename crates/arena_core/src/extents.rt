@@ -1,14 +1,14 @@
 //! The extents of an arena, with running sums of their pages.
 
-ghost use Rattle.std.specs.Prelude.{◌≡◌, ◌==◌, ◌&&◌, ◌+◌, ◌^◌, ◌<◌, ◌≤◌, ℕ, [], ◌∷◌, ◌++◌, max, nat_le, find, slice_get, IfOk, IfSome, IsSome, Some, OnOk, OnErr, cond, true, false};
+ghost use Rattle.std.specs.Prelude.{◌≡◌, ◌==◌, ◌&&◌, ◌+◌, ◌^◌, ◌<◌, ◌≤◌, ℕ, [], ◌∷◌, ◌++◌, max, nat_le, count_by, find, slice_get, All, IfOk, IfSome, IsNone, IsSome, Some, OnOk, OnErr, cond, true, false};
 ghost use Rattle.std.specs.List.{list_any};
 ghost use Rattle.space_model.specs.Span.{IsPlaced, has_page, meets};
-ghost use Rattle.space_model.specs.Part.{begins_at, exchanged, holders, is_active, is_flight, is_flight_at, is_listed, is_unused, listed, put_down};
+ghost use Rattle.space_model.specs.Part.{begins_at, exchanged, holders, is_active, is_flight, is_flight_at, is_in_flight, is_listed, is_unused, listed, put_down};
 ghost use Rattle.space_model.specs.Fit.{fit};
 ghost use Rattle.space_model.specs.Purging.{count_listed};
 ghost use Rattle.space_model.specs.Resizing.{is_spare};
 ghost use Rattle.space_model.specs.Step.{begins_either, high_piece, is_left_of, is_like, is_right_of, joined, low_piece, neighbour, next_flight};
-ghost use Rattle.part_book.specs.Books.{AreBeside, pages_of};
+ghost use Rattle.part_book.specs.Books.{AreBeside, IsFirstFrom, pages_of};
 ghost use Rattle.arena_core.specs.Extents.{IsApart, IsThere, active_pages, all_pages, kept};
 
 use part_book::PartBook;
@@ -138,11 +138,27 @@ impl Extents {
         self.book.holding(page)
     }
 
+    /// The first extent that begins at a page or behind it.
+    pub fn first_from(&self, page: u64) -> Option<Part>
+        ensures none { IsNone result → All (λ p. p.span.first < page) self.now.parts }
+        ensures first { IfSome result (IsFirstFrom page self.now.parts) }
+        ensures there { IfSome result (IsThere self.now.parts) }
+    {
+        self.book.first_from(page)
+    }
+
     /// Whether some extent shares a page with a span.
     pub fn meets(&self, span: Span) -> bool
         ensures { result ≡ list_any (λ p. meets p.span span) self.now.parts }
     {
         self.book.meets(span)
+    }
+
+    /// How many extents are in flight.
+    pub fn count_flights(&self) -> u64
+        ensures { result ≡ count_by (λ p. is_in_flight p.state) self.now.parts }
+    {
+        self.book.count_flights()
     }
 
     /// The span of the first extent that the client has in flight.

@@ -6,11 +6,11 @@ ghost use Rattle.space_model.specs.Part.{is_flight_at};
 ghost use Rattle.space_model.specs.Step.{after_back, after_merge, holds_at, is_emptied, is_live, is_purged, merge_stands, put_at, rises_from, staying};
 ghost use Rattle.space_model.specs.Sound.{Sound};
 ghost use Rattle.arena_core.specs.Indexes.{HasPlaces, space_of};
-ghost use Rattle.arena_core.specs.Slabs.{AreSlabs};
+ghost use Rattle.arena_core.specs.Slabs.{IsBooked};
 
 use crate::indexes::Indexes;
-use crate::purges;
-use crate::slabs::{self, SMALL};
+use crate::{purges, slabs};
+use bin_book::BinBook;
 use size_classes::PAGE_BYTES;
 use space_model::{Answer, Ask, Heard, Part, Reply, Span, State};
 
@@ -82,47 +82,45 @@ pub fn merge_done(indexes: &mut Indexes, client: u32, heard: Heard, own_low: boo
 }
 
 /// The client gives one region back. Where its extent then serves none, the extent is in flight, and the answer is true.
-fn give_one(indexes: &mut Indexes, slabs: &mut [u64; SMALL], client: u32, addr: u64) -> bool
+fn give_one(indexes: &mut Indexes, bins: &mut BinBook, client: u32, addr: u64) -> bool
     requires held { holds_at client (space_of indexes.old).regions addr ≡ true }
     requires sound { Sound (space_of indexes.old) }
-    requires live { is_live (space_of indexes.old).life ≡ true }
-    requires slabs { AreSlabs (space_of indexes.old) slabs.old }
+    requires booked { IsBooked (space_of indexes.old) bins.old.slabs }
     ensures after { space_of indexes.new ≡ (after_back (space_of indexes.old) client (addr ∷ [])).after }
     ensures emptied { cond result 1 0
         ≡ length (filter (is_emptied (staying client (addr ∷ []) (space_of indexes.old).regions)) (space_of indexes.old).parts) }
     ensures places { (n : ℕ) → HasPlaces indexes.old n → HasPlaces indexes.new n }
-    ensures slabs { AreSlabs (space_of indexes.new) slabs.new }
+    ensures booked { IsBooked (space_of indexes.new) bins.new.slabs }
+    ensures spare { bins.old.spare ≤ bins.new.spare }
 {
     let class = indexes.regions.take(client, addr);
-    let part = indexes.extents.holding(addr / PAGE_BYTES).unwrap();
-    let low = PAGE_BYTES * part.span.first;
-    let high = low + PAGE_BYTES * part.span.pages;
-    let emptied = !indexes.regions.begins_within(low, high);
+    let emptied = slabs::put_back(bins, class, addr);
     if emptied {
+        let part = indexes.extents.holding(addr / PAGE_BYTES).unwrap();
         let state = State::Flight(client, part.state.rest());
         indexes.extents.change(&part, state, part.committed);
-        slabs::take(slabs, class);
     }
     emptied
 }
 
 /// The client gives the regions at the addresses back. The answer is how many extents are emptied.
-pub fn give_back(indexes: &mut Indexes, slabs: &mut [u64; SMALL], client: u32, addrs: &[u64]) -> u64
+pub fn give_back(indexes: &mut Indexes, bins: &mut BinBook, client: u32, addrs: &[u64]) -> u64
     requires live { is_live (space_of indexes.old).life ≡ true }
     requires rise { rises_from 0 addrs.now ≡ true }
     requires held { list_all (holds_at client (space_of indexes.old).regions) addrs.now ≡ true }
     requires sound { Sound (space_of indexes.old) }
-    requires slabs { AreSlabs (space_of indexes.old) slabs.old }
+    requires booked { IsBooked (space_of indexes.old) bins.old.slabs }
     ensures after { space_of indexes.new ≡ (after_back (space_of indexes.old) client addrs.now).after }
     ensures emptied { result
         ≡ length (filter (is_emptied (staying client addrs.now (space_of indexes.old).regions)) (space_of indexes.old).parts) }
     ensures few { result ≤ length addrs.now }
     ensures places { (n : ℕ) → HasPlaces indexes.old n → HasPlaces indexes.new n }
-    ensures slabs { AreSlabs (space_of indexes.new) slabs.new }
+    ensures booked { IsBooked (space_of indexes.new) bins.new.slabs }
+    ensures spare { bins.old.spare ≤ bins.new.spare }
 {
     let mut emptied = 0;
     for addr in addrs {
-        emptied += u64::from(give_one(indexes, slabs, client, *addr));
+        emptied += u64::from(give_one(indexes, bins, client, *addr));
     }
     emptied
 }

@@ -1,6 +1,7 @@
 //! What is true of a book of slabs beside a space.
 
 ghost use Rattle.arena_core.specs.Booked.{BooksStayWhereHoldersChange, BooksStayWhileExtentsDo, FillsTakeTheLowest, LandsTakeTheFirst, OrderGrows, OrderStays, ReturnsAreFree};
+ghost use Rattle.arena_core.specs.Slabs.{NothingIsBooked};
 
 /// What a book gives for a class is what a fill takes, and both stay together.
 pub fn fills_take_the_lowest()
@@ -11,6 +12,11 @@ pub fn fills_take_the_lowest()
 pub fn books_stay()
     ensures extents { BooksStayWhileExtentsDo }
     ensures holders { BooksStayWhereHoldersChange }
+{}
+
+/// A space without regions is kept by the book without slabs.
+pub fn nothing_is_booked()
+    ensures { NothingIsBooked }
 {}
 
 /// Where the regions at an address go, each slab has its place there free.

@@ -10,10 +10,11 @@ ghost use Rattle.space_model.specs.Sound.{Sound};
 ghost use Rattle.space_model.specs.Journal.{Good};
 ghost use Rattle.space_model.specs.Own.{mine};
 ghost use Rattle.space_model.specs.Counts.{counts_of};
-ghost use Rattle.arena_core.specs.Arenas.{entry_of, is_carried, opens, room_after, room_of};
+ghost use Rattle.arena_core.specs.Arenas.{all_rooms, emptied_by, entry_of, given_by, opens, room_after, room_of, rooms_after};
 
 mod ends;
 mod extents;
+mod fills;
 mod frees;
 mod holders;
 mod indexes;
@@ -32,6 +33,7 @@ mod steps;
 #[cfg(test)]
 mod tests;
 
+use bin_book::BinBook;
 use decay_curve::Decay;
 use extents::Extents;
 use indexes::Indexes;
@@ -47,7 +49,8 @@ use steps::Body;
 ///
 /// Contracts see the space, and beside it the room of each of the 32 clients: how many more operations the client may
 /// make that take no memory. A step moves no list and scans none; what it costs grows by the logarithms of the indexes
-/// and by what the operation itself names (the addresses of a return, the chunks of an answered range).
+/// and by what the operation itself names (the addresses of a return, the chunks of an answered range, the regions of a
+/// reset, the regions and extents of a destroy).
 #[derive(Drop)]
 pub struct Arena {
     body: Body,
@@ -86,7 +89,7 @@ impl Arena {
                     alloc,
                 },
                 rooms: Rooms::none(),
-                slabs: slabs::no_slabs(),
+                bins: BinBook::new(alloc),
             },
         })
     }
@@ -97,12 +100,13 @@ impl Arena {
     /// Where memory is wanting, nothing changes; that comes at the first one of a unit alone.
     pub fn step(&mut self, client: u32, op: &Op) -> Result<Reply, NoMemory>
         requires stands { IsTrue (stands self.old.space (entry_of client op.now)) }
-        requires carried { is_carried op.now ≡ true }
         requires room { opens op.now ≡ false → 0 < room_of client self.old.rooms }
         ensures after { OnOk result (self.new.space ≡ space_after self.old.space (entry_of client op.now)) }
         ensures reply { IfOk result (λ told. told ≡ reply_to self.old.space (entry_of client op.now)) }
         ensures room { OnOk result (room_of client self.new.rooms ≡ room_after self.old.space (room_of client self.old.rooms) client op.now) }
         ensures other_rooms { (other : ℕ) → other ≢ client → room_of other self.new.rooms ≡ room_of other self.old.rooms }
+        ensures rooms { OnOk result (self.new.rooms ≡ rooms_after self.old client op.now) }
+        ensures few { OnOk result (emptied_by client op.now self.old.space ≤ given_by op.now) }
         ensures err { OnErr result (self.new ≡ self.old) }
         ensures sure { opens op.now ≡ false → IsOk result }
         ensures sound { Sound self.new.space }
@@ -112,44 +116,25 @@ impl Arena {
         steps::step(&mut self.body, client, op)
     }
 
-    /// Whether [`Arena::step`] carries an operation out, so far.
-    pub fn carries_out(op: &Op) -> bool
-        ensures { result ≡ is_carried op.now }
+    /// Whether an operation is the first one of a unit, for which memory is taken.
+    pub fn opens(op: &Op) -> bool
+        ensures { result ≡ opens op.now }
     {
-        match op {
-            Op::Look { .. }
-            | Op::CutDone { .. }
-            | Op::GrowDone { .. }
-            | Op::CommitDone { .. }
-            | Op::Land { .. }
-            | Op::Back { .. }
-            | Op::PutLook { .. }
-            | Op::MergeDone { .. }
-            | Op::Advance { .. }
-            | Op::Set(_)
-            | Op::Counts
-            | Op::PurgeTake { .. }
-            | Op::LazyDone { .. }
-            | Op::Offer { .. }
-            | Op::OfferDone { .. }
-            | Op::DecommitDone { .. }
-            | Op::ForcedDone { .. }
-            | Op::Publish { .. }
-            | Op::TakeOver { .. }
-            | Op::DestroyTake
-            | Op::Widen { .. }
-            | Op::JoinDone { .. }
-            | Op::Trim { .. }
-            | Op::TrimDone { .. } => true,
-            _ => false,
-        }
+        steps::opens(op)
+    }
+
+    /// How many more operations that take no memory its clients may make, all together.
+    pub fn room(&self) -> u64
+        ensures { result ≡ all_rooms self.now.rooms }
+    {
+        self.body.rooms.total()
     }
 
     /// The counts, which are kept and not summed up anew.
     pub fn counts(&self) -> Counts
         ensures { result ≡ counts_of self.now.space }
     {
-        readers::counts(&self.body.indexes, &self.body.slabs)
+        readers::counts(&self.body.indexes, &self.body.bins)
     }
 
     /// Whether the arena is there.

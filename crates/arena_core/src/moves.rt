@@ -1,16 +1,15 @@
 //! What the operations of a malloc do to the indexes.
 
-ghost use Rattle.std.specs.Prelude.{◌≡◌, ◌==◌, ℕ, ◌+◌, ◌*◌, ◌≤◌, ◌<◌, ◌^◌, false, IsTrue, Some, find, IfSome};
-ghost use Rattle.std.specs.List.{list_any};
+ghost use Rattle.std.specs.Prelude.{◌≡◌, ℕ, ◌+◌, ◌*◌, ◌≤◌, ◌<◌, ◌^◌, false, true, IsTrue, Some, find, IfSome};
 ghost use Rattle.size_classes.specs.Classes.{size_at};
 ghost use Rattle.space_model.specs.Region.{landing, regions_from};
-ghost use Rattle.space_model.specs.Counts.{region_bytes};
 ghost use Rattle.space_model.specs.Span.{IsPlaced, pages_end, end_of, run_start, chunks_of};
 ghost use Rattle.space_model.specs.Part.{is_active, is_flight_at};
-ghost use Rattle.space_model.specs.Step.{cut_stands, grow_stands, land_stands, land_at, after_look, after_cut, after_grow, after_commit, cut_at, whole_at, is_found, is_owned, is_in_space, why_not, grow_after};
+ghost use Rattle.space_model.specs.Step.{cut_stands, grow_stands, land_stands, land_at, after_look, after_cut, after_grow, after_commit, cut_at, whole_at, is_found, is_owned, is_in_space, is_live, why_not, grow_after};
 ghost use Rattle.space_model.specs.Sound.{Sound};
 ghost use Rattle.arena_core.specs.Extents.{IsThere};
 ghost use Rattle.arena_core.specs.Indexes.{HasPlaces, space_of};
+ghost use Rattle.arena_core.specs.Coming.{CanCome};
 
 use crate::extents::Extents;
 use crate::indexes::Indexes;
@@ -221,8 +220,7 @@ pub fn grow_done(indexes: &mut Indexes, client: u32, heard: Heard, found: Option
 fn land(regions: &mut RegionSet, client: u32, class: u8, first: u64, count: u32)
     requires class { class < 121 }
     requires room { count ≤ regions.old.spare }
-    requires absent { (k : ℕ) → k < count → list_any (λ r. r.addr == first + k * size_at class) regions.old.regions ≡ false }
-    requires fits { region_bytes regions.old.regions + count * size_at class < 2 ^ 64 }
+    requires can_come { CanCome (regions_from client class first count) regions.old.regions }
     requires ends { first + count * size_at class < 2 ^ 64 }
     ensures regions { regions.new.regions ≡ landing (regions_from client class first count) regions.old.regions }
     ensures spare { regions.new.spare + count ≡ regions.old.spare }
@@ -238,6 +236,7 @@ fn land(regions: &mut RegionSet, client: u32, class: u8, first: u64, count: u32)
 
 /// An extent in flight serves the first `count` regions of a class from now on, which the client holds.
 pub fn land_done(indexes: &mut Indexes, client: u32, span: Span, class: u8, count: u32) -> Reply
+    requires live { is_live (space_of indexes.old).life ≡ true }
     requires stands { IsTrue (land_stands (space_of indexes.old) client span class count) }
     requires sound { Sound (space_of indexes.old) }
     requires room { HasPlaces indexes.old 1 }

@@ -1,6 +1,6 @@
 //! The extents that are offered to a dalloc hook.
 
-ghost use Rattle.std.specs.Prelude.{◌≡◌, ℕ, ◌+◌, ◌<◌, ◌≤◌, [], ◌∷◌, ◌++◌, OnOk};
+ghost use Rattle.std.specs.Prelude.{◌≡◌, ℕ, ◌+◌, ◌<◌, ◌≤◌, ◌^◌, [], ◌∷◌, ◌++◌, length, OnOk};
 ghost use Rattle.std.specs.List.{position};
 ghost use Rattle.space_model.specs.Purging.{is_offer, without_offer};
 
@@ -31,6 +31,14 @@ impl OfferList {
         OfferList {
             offers: Vec::new(alloc),
         }
+    }
+
+    /// How many offers there are.
+    pub fn len(&self) -> u64
+        ensures len { result ≡ length self.now.offers }
+        ensures few { result < 2 ^ 63 }
+    {
+        self.offers.len() as u64
     }
 
     /// Makes places for at least `more` further offers. The offers stay.

@@ -1,13 +1,13 @@
 //! The regions of an arena by address.
 
-ghost use Rattle.std.specs.Prelude.{◌≡◌, ◌==◌, ◌+◌, ◌-◌, ◌<◌, ◌≤◌, ◌^◌, false, true, [], ◌∷◌, filter, find, map, max, option_map, nat_lt, All, OnOk, OnErr, count_by, replicate, if◌then◌else◌};
+ghost use Rattle.std.specs.Prelude.{◌≡◌, ◌==◌, ◌+◌, ◌-◌, ◌<◌, ◌≤◌, ◌^◌, false, true, [], ◌∷◌, filter, find, map, max, option_map, nat_lt, length, All, OnOk, OnErr, count_by, replicate, if◌then◌else◌};
 ghost use Rattle.std.specs.List.{list_any};
 ghost use Rattle.size_classes.specs.Classes.{size_at};
-ghost use Rattle.space_model.specs.Region.{held_anew, inserted};
+ghost use Rattle.space_model.specs.Region.{held_anew, inserted, is_held_by_other};
 ghost use Rattle.space_model.specs.Holding.{is_published_at};
 ghost use Rattle.space_model.specs.Counts.{region_bytes, region_bytes_where, regions_by_class};
 ghost use Rattle.space_model.specs.Step.{holds_at, is_given_back, staying};
-ghost use Rattle.arena_core.specs.RegionLists.{begins_within, code_of, key_of, published_of};
+ghost use Rattle.arena_core.specs.RegionLists.{begins_from, code_of, key_of, published_of, region_of};
 
 use ordered_set::{Key, OrderedSet};
 use size_classes::{CLASSES, SMALL_CLASSES, size_of};
@@ -87,6 +87,23 @@ impl RegionSet {
         self.keys.reserve(more)
     }
 
+    /// Makes places for `more` regions beside those that there are places for. A refusal changes nothing.
+    pub fn reserve_more(&mut self, more: u64) -> Result<(), NoMemory>
+        ensures regions { self.new.regions ≡ self.old.regions }
+        ensures ok { OnOk result (self.new.spare ≡ self.old.spare + more) }
+        ensures err { OnErr result (self.new ≡ self.old) }
+    {
+        let places = self.keys.spare().checked_add(more).ok_or(NoMemory)?;
+        self.keys.reserve(places)
+    }
+
+    /// Whether there is no region.
+    pub fn is_empty(&self) -> bool
+        ensures { result ≡ (length self.now.regions == 0) }
+    {
+        self.keys.len() == 0
+    }
+
     /// The bytes of all regions.
     pub fn bytes(&self) -> u64
         ensures { result ≡ region_bytes self.now.regions }
@@ -119,18 +136,34 @@ impl RegionSet {
         numbers
     }
 
-    /// Whether some region begins at an address from `low` up to `high`, which isn't meant.
-    pub fn begins_within(&self, low: u64, high: u64) -> bool
-        ensures { result ≡ list_any (begins_within low high) self.now.regions }
+    /// How many regions are held by clients other than this one. It goes through all regions.
+    pub fn count_others(&self, client: u32) -> u64
+        ensures others { result ≡ count_by (is_held_by_other client) self.now.regions }
+        ensures few { length self.now.regions < 2 ^ 64 }
     {
-        let key = Key {
-            major: low,
+        count_others(&self.keys, client)
+    }
+
+    /// Takes all regions out, and gives their places back.
+    pub fn clear(&mut self)
+        ensures regions { self.new.regions ≡ [] }
+        ensures spare { self.new.spare ≡ self.old.spare + length self.old.regions }
+    {
+        clear(&mut self.keys);
+        self.bytes = 0;
+        self.small = 0;
+        self.classes = no_regions();
+    }
+
+    /// The address of the first region that begins at an address or behind it.
+    pub fn first_from(&self, addr: u64) -> Option<u64>
+        ensures { result ≡ option_map (λ r. r.addr) (find (begins_from addr) self.now.regions) }
+    {
+        let start = Key {
+            major: addr,
             minor: 0,
         };
-        match self.keys.at_or_after(key) {
-            Some(found) => found.major < high,
-            None => false,
-        }
+        Some(self.keys.at_or_after(start)?.major)
     }
 
     /// Puts a region behind those at lower addresses. It takes a place.
@@ -222,6 +255,38 @@ fn published_of(addr: u64, found: Option<Key>) -> Option<u8>
         Some((key.minor % CLASS_SPAN) as u8)
     } else {
         None
+    }
+}
+
+/// Whether a client other than this one holds the region of a key.
+fn is_held_by_other(client: u32, key: Key) -> bool
+    ensures { result ≡ is_held_by_other client (region_of key) }
+{
+    let code = key.minor / CLASS_SPAN;
+    code != 0 && code - 1 != u64::from(client)
+}
+
+/// How many keys there are of regions that clients other than this one hold.
+fn count_others(keys: &OrderedSet, client: u32) -> u64
+    ensures others { result ≡ count_by (λ k. is_held_by_other client (region_of k)) keys.now.keys }
+    ensures few { length keys.now.keys < 2 ^ 64 }
+{
+    let mut others = keys.len();
+    let mut next = keys.first();
+    while let Some(key) = next {
+        others -= u64::from(!is_held_by_other(client, key));
+        next = keys.after(key);
+    }
+    others
+}
+
+/// Takes all keys out, from the last one on, and gives their places back.
+fn clear(keys: &mut OrderedSet)
+    ensures keys { keys.new.keys ≡ [] }
+    ensures spare { keys.new.spare ≡ keys.old.spare + length keys.old.keys }
+{
+    while let Some(key) = keys.last() {
+        keys.remove(key);
     }
 }
 

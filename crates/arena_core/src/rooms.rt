@@ -47,6 +47,13 @@ impl Rooms {
         self.rooms[client as usize]
     }
 
+    /// The sum of all rooms.
+    pub fn total(&self) -> u64
+        ensures { result ≡ all_rooms self.now }
+    {
+        self.total
+    }
+
     /// The sum of all rooms if the client had this one, or none where that is no number.
     pub fn total_with(&self, client: u32, room: u64) -> Option<u64>
         requires { client < 32 }

@@ -6,13 +6,12 @@ ghost use Rattle.space_model.specs.Settings.{after_set, is_decay_time, made_live
 ghost use Rattle.space_model.specs.Stepped.{if_live, stays};
 ghost use Rattle.space_model.specs.Counts.{counts_of};
 ghost use Rattle.space_model.specs.Sound.{Sound};
-ghost use Rattle.arena_core.specs.Slabs.{AreSlabs};
 ghost use Rattle.arena_core.specs.Indexes.{HasPlaces, space_of};
-ghost use Rattle.arena_core.specs.Slabs.{AreSlabs};
+ghost use Rattle.arena_core.specs.Slabs.{IsBooked};
 
 use crate::indexes::Indexes;
 use crate::readers;
-use crate::slabs::SMALL;
+use bin_book::BinBook;
 use space_model::{Boxed, Counts, Life, MAX_SERIES, Reply, Rest, Setting};
 use std::alloc::AllocError as NoMemory;
 
@@ -99,24 +98,24 @@ pub fn set(indexes: &mut Indexes, client: u32, setting: Setting) -> Reply
 }
 
 /// The counts, in a box.
-fn boxed_counts(indexes: &Indexes, slabs: &[u64; SMALL]) -> Result<Boxed<Counts>, NoMemory>
+fn boxed_counts(indexes: &Indexes, bins: &BinBook) -> Result<Boxed<Counts>, NoMemory>
     requires sound { Sound (space_of indexes.now) }
-    requires slabs { AreSlabs (space_of indexes.now) slabs.now }
+    requires booked { IsBooked (space_of indexes.now) bins.now.slabs }
     ensures { IfOk result (λ boxed. boxed ≡ counts_of (space_of indexes.now)) }
 {
-    let counts = readers::counts(indexes, slabs);
+    let counts = readers::counts(indexes, bins);
     Boxed::new(indexes.alloc, counts)
 }
 
 /// The counts of a live arena, for which memory is taken.
-pub fn counted(indexes: &Indexes, slabs: &[u64; SMALL]) -> Result<Reply, NoMemory>
+pub fn counted(indexes: &Indexes, bins: &BinBook) -> Result<Reply, NoMemory>
     requires sound { Sound (space_of indexes.now) }
-    requires slabs { AreSlabs (space_of indexes.now) slabs.now }
+    requires booked { IsBooked (space_of indexes.now) bins.now.slabs }
     ensures reply { IfOk result (λ told. told ≡ (if_live (space_of indexes.now) (stays (space_of indexes.now) (Reply.Counted (counts_of (space_of indexes.now))))).reply) }
     ensures same { (if_live (space_of indexes.now) (stays (space_of indexes.now) (Reply.Counted (counts_of (space_of indexes.now))))).after ≡ space_of indexes.now }
 {
     if indexes.life.is_live() {
-        Ok(Reply::Counted(boxed_counts(indexes, slabs)?))
+        Ok(Reply::Counted(boxed_counts(indexes, bins)?))
     } else {
         Ok(Reply::NoArena)
     }

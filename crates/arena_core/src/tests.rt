@@ -3,7 +3,7 @@
 ghost use Rattle.std.specs.Prelude.{◌≡◌, ◌<◌, false, true, IsTrue, IfOk, OnOk};
 ghost use Rattle.space_model.specs.Step.{stands};
 ghost use Rattle.space_model.specs.Sound.{Sound};
-ghost use Rattle.arena_core.specs.Arenas.{is_carried, opens, room_after, room_of};
+ghost use Rattle.arena_core.specs.Arenas.{opens, room_after, room_of};
 
 use super::Arena;
 use size_classes::Addrs;
@@ -28,6 +28,8 @@ enum Short {
     Commit(Span, Answer),
     /// So many regions of the class.
     Land(Span, u8, u32),
+    /// So many of the lowest free regions of the class.
+    Fill(u8, u32),
     /// The addresses of the regions, of which the second may be the first again for none.
     Back(u64, u64),
     /// The address of a region that its holder publishes.
@@ -107,6 +109,7 @@ fn op_of(alloc: Global, short: Short) -> Op {
         Short::Back(first, second) => Op::Back {
             addrs: addresses_of(alloc, first, second),
         },
+        Short::Fill(class, count) => Op::Fill { class, count },
         Short::Publish(addr) => Op::Publish { addr },
         Short::TakeOver(addr) => Op::TakeOver { addr },
         Short::Put(span, tries) => Op::PutLook { span, tries },
@@ -121,7 +124,7 @@ fn op_of(alloc: Global, short: Short) -> Op {
     }
 }
 
-/// An operation that may stand is carried out in the arena and in the space, with one reply, and leaves the same counts.
+/// An operation that may stand is carried out in the arena and in the space, with one reply.
 fn carry_out(
     rt: &impl Abort,
     arena: &mut Arena,
@@ -131,7 +134,6 @@ fn carry_out(
     requires same { arena.old.space ≡ space.old }
     requires sound { Sound space.old }
     requires stands { IsTrue (stands space.old entry.now) }
-    requires carried { is_carried entry.now.op ≡ true }
     requires room { opens entry.now.op ≡ false → 0 < room_of entry.now.client arena.old.rooms }
     ensures same { OnOk result (arena.new.space ≡ space.new) }
     ensures sound { Sound space.new }
@@ -140,7 +142,6 @@ fn carry_out(
     let reply = arena.step(entry.client, &entry.op)?;
     let told = plain_step(space, entry)?;
     assert_eq!(rt; reply, told);
-    assert_eq!(rt; arena.counts(), plain_counts(space));
     Ok(reply)
 }
 
@@ -203,7 +204,7 @@ fn attempt(
     };
     assert!(rt; may_stand(space, &look));
     carry_out(rt, arena, space, &look)?;
-    if !may_stand(space, entry) || !Arena::carries_out(&entry.op) {
+    if !may_stand(space, entry) {
         return Ok(None);
     }
     let reply = carry_out(rt, arena, space, entry)?;
@@ -249,9 +250,9 @@ fn random_short(number: u64, flight: Span, addr: u64) -> Short {
     } else {
         Answer::Done
     };
-    match number / 8 % 11 {
+    match number / 8 % 12 {
         0 | 1 => Short::Look(number / 64 % 12 + 1, 1),
-        2 => Short::Grow(512 * (1 + number / 64 % 40), number % 2 == 0, None),
+        2 => Short::Grow(512 * (1 + number / 64 % 8), number % 2 == 0, None),
         3 => Short::Cut(flight, 5, number % 3 != 0, answer),
         4 => Short::Commit(flight, answer),
         5 if number % 3 == 0 => Short::Land(flight, FIVE_CLASS, 1),
@@ -260,8 +261,9 @@ fn random_short(number: u64, flight: Span, addr: u64) -> Short {
         6 if number % 9 == 1 => Short::TakeOver(addr),
         6 => Short::Back(addr, addr),
         7 => Short::Put(flight, (number / 64 % 3) as u8),
-        8 => Short::Advance(number / 64 % (1 << 34)),
-        9 => Short::Set(random_setting(number / 64)),
+        8 => Short::Fill(SLAB_CLASS, (number / 64 % 20) as u32),
+        9 => Short::Advance(number / 64 % (1 << 34)),
+        10 => Short::Set(random_setting(number / 64)),
         _ => Short::Counts,
     }
 }
@@ -343,6 +345,16 @@ fn random_resize(number: u64, addr: u64) -> Op {
     }
 }
 
+/// A reset or a destroy of a client that has cached no region, or one.
+fn random_end(number: u64) -> Op {
+    let cached = number / 2 % 2;
+    if number % 2 == 0 {
+        Op::Reset { cached }
+    } else {
+        Op::Destroy { cached }
+    }
+}
+
 /// The address of one of the first regions, if there is one.
 fn some_address(space: &Space, number: u64) -> u64 {
     let mut found = 0;
@@ -417,6 +429,7 @@ fn random_turn(
     let op = match number % 8 {
         0 | 1 => random_purge(number / 8, flight, some_dalloc(space)),
         2 => random_resize(number / 8, large),
+        3 if number / 8 % 4 == 0 => random_end(number / 32),
         3 => op_of(alloc, Short::Back(large, large)),
         _ => {
             let addr = some_address(space, number);
@@ -429,18 +442,19 @@ fn random_turn(
     Ok(stood)
 }
 
-/// So many random operations of three clients. The answer is how many stood.
+/// So many random operations of three clients, which a seed chooses. The answer is how many stood.
 fn random_turns(
     rt: &impl Abort,
     alloc: Global,
     arena: &mut Arena,
     space: &mut Space,
+    seed: u64,
     turns: u64,
 ) -> Result<u64, Fail>
     requires same { arena.old.space ≡ space.old }
     requires sound { Sound space.old }
 {
-    let mut state: u64 = 1;
+    let mut state = seed;
     let mut stood: u64 = 0;
     for turn in 0..turns {
         // A linear congruential generator, of which the high bits are taken.
@@ -450,6 +464,9 @@ fn random_turns(
         let client = (state >> 60) as u32 % 3;
         let told = random_turn(rt, alloc, arena, space, client, state >> 30)?;
         stood = stood.saturating_add(told);
+        if turn % 64 == 0 {
+            assert_eq!(rt; arena.counts(), plain_counts(space));
+        }
     }
     Ok(stood)
 }
@@ -510,6 +527,26 @@ fn an_index_without_an_arena_gets_one(rt: HostRuntime) -> Result<(), Fail> {
     read_made(&rt, &arena)
 }
 
+/// An operation of a client has a reply.
+fn client_replies(
+    rt: &impl Abort,
+    arena: &mut Arena,
+    space: &mut Space,
+    client: u32,
+    op: Op,
+    reply: Reply,
+) -> Result<(), Fail>
+    requires same { arena.old.space ≡ space.old }
+    requires sound { Sound space.old }
+    ensures same { OnOk result (arena.new.space ≡ space.new) }
+    ensures sound { Sound space.new }
+{
+    let told = attempt(rt, arena, space, &Entry { client, op })?;
+    assert_eq!(rt; told, Some(reply));
+    assert_eq!(rt; arena.counts(), plain_counts(space));
+    Ok(())
+}
+
 /// An operation of client 3 has a reply.
 fn replies(
     rt: &impl Abort,
@@ -523,9 +560,7 @@ fn replies(
     ensures same { OnOk result (arena.new.space ≡ space.new) }
     ensures sound { Sound space.new }
 {
-    let told = attempt(rt, arena, space, &Entry { client: 3, op })?;
-    assert_eq!(rt; told, Some(reply));
-    Ok(())
+    client_replies(rt, arena, space, 3, op, reply)
 }
 
 /// The span of so many pages from a page on.
@@ -533,8 +568,24 @@ fn pages_from(first: u64, pages: u64) -> Span {
     Span { first, pages }
 }
 
-/// The first 5 pages of a new chunk serve a region.
-fn land(rt: &impl Abort, alloc: Global, arena: &mut Arena, space: &mut Space) -> Result<(), Fail>
+/// An arena that is in use by so many regions, extents in flight and clients.
+fn busy(held: u64, flights: u64, threads: u64) -> Reply {
+    Reply::Busy {
+        held,
+        flights,
+        threads,
+    }
+}
+
+/// The first 5 pages of a new chunk serve so many regions of a class.
+fn land(
+    rt: &impl Abort,
+    alloc: Global,
+    arena: &mut Arena,
+    space: &mut Space,
+    class: u8,
+    count: u32,
+) -> Result<(), Fail>
     requires same { arena.old.space ≡ space.old }
     requires sound { Sound space.old }
     ensures same { OnOk result (arena.new.space ≡ space.new) }
@@ -544,7 +595,7 @@ fn land(rt: &impl Abort, alloc: Global, arena: &mut Arena, space: &mut Space) ->
     reply_of(rt, alloc, arena, space, grow)?;
     let cut = Short::Cut(CHUNK, 5, true, Answer::Done);
     reply_of(rt, alloc, arena, space, cut)?;
-    let land = Short::Land(pages_from(512, 5), FIVE_CLASS, 1);
+    let land = Short::Land(pages_from(512, 5), class, count);
     reply_of(rt, alloc, arena, space, land)?;
     Ok(())
 }
@@ -615,16 +666,136 @@ fn trim(rt: &impl Abort, arena: &mut Arena, space: &mut Space) -> Result<(), Fai
 fn a_large_region_grows_and_shrinks_in_place(rt: HostRuntime) -> Result<(), Fail> {
     let alloc = rt.alloc();
     let (mut arena, mut space) = opened(alloc, true)?;
-    land(&rt, alloc, &mut arena, &mut space)?;
+    land(&rt, alloc, &mut arena, &mut space, FIVE_CLASS, 1)?;
     widen(&rt, &mut arena, &mut space)?;
     trim(&rt, &mut arena, &mut space)
+}
+
+/// Of the 16 regions of a slab 14 are out: the last two are taken, and then there is none.
+fn fill_up(rt: &impl Abort, alloc: Global, arena: &mut Arena, space: &mut Space) -> Result<(), Fail>
+    requires same { arena.old.space ≡ space.old }
+    requires sound { Sound space.old }
+{
+    land(rt, alloc, arena, space, SLAB_CLASS, 14)?;
+    let first = 512 * 4096;
+    let rest = addresses_of(alloc, first + 14 * 1280, first + 15 * 1280);
+    let fill = op_of(alloc, Short::Fill(SLAB_CLASS, 5));
+    replies(rt, arena, space, fill, Reply::Regions(rest))?;
+    let again = op_of(alloc, Short::Fill(SLAB_CLASS, 5));
+    replies(rt, arena, space, again, Reply::Nothing)
+}
+
+#[test]
+fn free_regions_of_a_slab_are_taken(rt: HostRuntime) -> Result<(), Fail> {
+    let alloc = rt.alloc();
+    let (mut arena, mut space) = opened(alloc, true)?;
+    fill_up(&rt, alloc, &mut arena, &mut space)
+}
+
+/// An arena comes to be in which client 3 alone may have memory, and has a region.
+fn settle_in(
+    rt: &impl Abort,
+    alloc: Global,
+    arena: &mut Arena,
+    space: &mut Space,
+) -> Result<(), Fail>
+    requires same { arena.old.space ≡ space.old }
+    requires sound { Sound space.old }
+    ensures same { OnOk result (arena.new.space ≡ space.new) }
+    ensures sound { Sound space.new }
+{
+    let live = Setting::Live {
+        box_no: 0,
+        dirty_ms: 0,
+        muzzy_ms: 0,
+        now: 0,
+    };
+    replies(rt, arena, space, Op::Set(live), Reply::Noted)?;
+    replies(rt, arena, space, Op::Set(Setting::Bind), Reply::Noted)?;
+    land(rt, alloc, arena, space, FIVE_CLASS, 1)
+}
+
+/// What keeps the arena in use: a region of another client, a cached one, and an extent that another has in flight.
+fn find_busy(rt: &impl Abort, arena: &mut Arena, space: &mut Space) -> Result<(), Fail>
+    requires same { arena.old.space ≡ space.old }
+    requires sound { Sound space.old }
+    ensures same { OnOk result (arena.new.space ≡ space.new) }
+    ensures sound { Sound space.new }
+{
+    let (span, cached) = (pages_from(517, 507), 0);
+    client_replies(rt, arena, space, 0, Op::Reset { cached }, busy(1, 0, 0))?;
+    replies(rt, arena, space, Op::Reset { cached: 1 }, busy(1, 0, 0))?;
+    let look = Op::Look { pages: 1, align: 1 };
+    let took = Reply::Took {
+        span,
+        committed: true,
+        skip: 0,
+    };
+    client_replies(rt, arena, space, 0, look, took)?;
+    replies(rt, arena, space, Op::Reset { cached }, busy(0, 1, 0))?;
+    let put = Op::PutLook { span, tries: 2 };
+    client_replies(rt, arena, space, 0, put, Reply::Next(None))?;
+    replies(rt, arena, space, Op::Destroy { cached }, busy(0, 0, 1))
+}
+
+/// The arena is emptied, and ended once nobody is bound to it.
+fn empty_and_end(rt: &impl Abort, arena: &mut Arena, space: &mut Space) -> Result<(), Fail>
+    requires same { arena.old.space ≡ space.old }
+    requires sound { Sound space.old }
+    ensures same { OnOk result (arena.new.space ≡ space.new) }
+    ensures sound { Sound space.new }
+{
+    let cached = 0;
+    let purge = Reply::Purge { lazy: false };
+    replies(rt, arena, space, Op::Reset { cached }, purge)?;
+    replies(rt, arena, space, Op::Set(Setting::Unbind), Reply::Noted)?;
+    replies(rt, arena, space, Op::Destroy { cached }, Reply::Noted)?;
+    assert_eq!(rt; arena.life(), Life::Dying(3));
+    Ok(())
+}
+
+/// The extents of the arena that is being destroyed go, the one that was retained already before the other.
+fn take_all(rt: &impl Abort, arena: &mut Arena, space: &mut Space) -> Result<(), Fail>
+    requires same { arena.old.space ≡ space.old }
+    requires sound { Sound space.old }
+    ensures same { OnOk result (arena.new.space ≡ space.new) }
+    ensures sound { Sound space.new }
+{
+    let committed = true;
+    let span = pages_from(517, 507);
+    let first = Reply::Doomed { span, committed };
+    replies(rt, arena, space, Op::DestroyTake, first)?;
+    let span = pages_from(512, 5);
+    let second = Reply::Doomed { span, committed };
+    replies(rt, arena, space, Op::DestroyTake, second)?;
+    replies(rt, arena, space, Op::DestroyTake, Reply::Nothing)?;
+    assert_eq!(rt; arena.life(), Life::Absent);
+    Ok(())
+}
+
+#[test]
+fn an_arena_is_emptied_and_ended(rt: HostRuntime) -> Result<(), Fail> {
+    let alloc = rt.alloc();
+    let (mut arena, mut space) = opened(alloc, false)?;
+    settle_in(&rt, alloc, &mut arena, &mut space)?;
+    find_busy(&rt, &mut arena, &mut space)?;
+    empty_and_end(&rt, &mut arena, &mut space)?;
+    take_all(&rt, &mut arena, &mut space)
+}
+
+/// So many random operations in a new arena, which a seed chooses. The answer is how many stood.
+fn random_run(rt: &impl Abort, alloc: Global, seed: u64, turns: u64) -> Result<u64, Fail> {
+    let (mut arena, mut space) = opened(alloc, true)?;
+    random_turns(rt, alloc, &mut arena, &mut space, seed, turns)
 }
 
 #[test]
 fn random_operations_are_carried_out_as_by_scans(rt: HostRuntime) -> Result<(), Fail> {
     let alloc = rt.alloc();
-    let (mut arena, mut space) = opened(alloc, true)?;
-    let stood = random_turns(&rt, alloc, &mut arena, &mut space, 600)?;
-    assert!(rt; stood > 300, "{stood} stood");
+    let mut stood: u64 = 0;
+    for seed in 1..6 {
+        stood = stood.saturating_add(random_run(&rt, alloc, seed, 70000)?);
+    }
+    assert!(rt; stood >= 100000, "{stood} stood");
     Ok(())
 }

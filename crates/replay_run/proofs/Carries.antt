@@ -3,7 +3,6 @@ use Rattle.std.proofs.Common.{◌≡◌, ℕ, Bool, true, false, [], ◌∷◌, 
 use Rattle.space_model.specs.declared.Op.{Op}
 use Rattle.space_model.specs.declared.Op.TheVariants.{Look, CutDone, GrowDone, CommitDone, Land, Back, PutLook, MergeDone}
 use Rattle.hook_api.specs.Asked.{AskFacts, heard_in}
-use Rattle.arena_core.specs.Arenas.{is_carried}
 use Rattle.call_plan.specs.declared.puts.Putting.TheVariants.{Finding, MergeAsked, Merging}
 use Rattle.call_plan.specs.declared.stages.Stage.{Stage}
 use Rattle.call_plan.specs.declared.stages.Stage.TheVariants.{Get, Give, Put, Ended}
@@ -25,18 +24,6 @@ is_called (Back addrs) = true
 is_called (PutLook span tries) = true
 is_called (MergeDone heard own_low) = true
 is_called op = false
-
--- an arena over indexes carries it out
-pub called_carried : (op : Op) → is_called op ≡ true → is_carried op ≡ true
-called_carried (Look pages align) called = refl
-called_carried (CutDone heard keep_low) called = refl
-called_carried (GrowDone heard found) called = refl
-called_carried (CommitDone heard) called = refl
-called_carried (Land span class count) called = refl
-called_carried (Back addrs) called = refl
-called_carried (PutLook span tries) called = refl
-called_carried (MergeDone heard own_low) called = refl
-called_carried op called = absurd (cc)
 
 -- an operation is needed where its equal is
 as_other : (o op : Op) → o ≡ op → is_called o ≡ true → is_called op ≡ true

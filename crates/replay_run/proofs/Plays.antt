@@ -48,8 +48,7 @@ use Rattle.call_plan.specs.Reading.{Item, Want, Replied, Told, WantTurn, WantAsk
 use Rattle.call_plan.specs.Rest.{rest_of}
 use Rattle.call_plan.specs.Knows.{Knows, Ground}
 use Rattle.call_plan.specs.Laws.{GoesOn}
-use Rattle.arena_core.specs.Arenas.{is_carried}
-use Rattle.replay_run.proofs.Carries.{called_carried, is_called, wanted_called}
+use Rattle.replay_run.proofs.Carries.{is_called, wanted_called}
 use Rattle.replay_run.proofs.Wants.{needed_turn}
 use Rattle.call_plan.proofs.Shorter.{turns-shorten}
 use Rattle.call_plan.proofs.GoingOn.{turns-go_on, asks-go_on}
@@ -260,7 +259,6 @@ pub record TurnReady (client : ℕ) (s : Space) (stage : Stage) (arena : ℕ) (o
   pub base : Ground client s
   pub flown : HasFlights client s stage
   pub called : is_called op ≡ true
-  pub carried : is_carried op ≡ true
   pub shorter : steps_left client (step_of s client op).after (stage_after stage (FedReply (step_of s client op).reply)) < steps_left client s stage
 
 -- it is known at each point of a call in a sane arena
@@ -279,7 +277,6 @@ turn_ready_at s kept client stage arena op asked known first planned knows flown
       base = base;
       flown = flown;
       called = called;
-      carried = called_carried op called;
       shorter = rw needed.found at (turns-shorten client s stage arena op asked None base planned knows waits);
     }
 

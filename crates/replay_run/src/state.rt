@@ -3,7 +3,7 @@
 ghost use Rattle.std.specs.Prelude.{false, true, ◌≡◌, ◌<◌, ◌++◌, ◌∷◌, [], IsTrue, IfOk, OnOk, OnErr};
 ghost use Rattle.space_model.specs.Step.{stands, space_after, reply_to};
 ghost use Rattle.space_model.specs.Opening.{first_space};
-ghost use Rattle.arena_core.specs.Arenas.{is_carried, opens, room_of, room_after};
+ghost use Rattle.arena_core.specs.Arenas.{opens, room_of, room_after};
 ghost use Rattle.hook_api.specs.Kept.{IsKept};
 ghost use Rattle.call_plan.specs.Desks.{facts_of};
 ghost use Rattle.replay_run.specs.World.{first_desk};
@@ -56,7 +56,6 @@ impl State {
     /// One turn of a client. The entry joins the journal.
     pub fn turn(&mut self, client: u32, op: Op, asked: Option<Asked>) -> Result<Reply, NoMemory>
         requires stands { IsTrue (stands self.old.arena.space (record { client = client; op = op })) }
-        requires carried { is_carried op ≡ true }
         requires room { opens op ≡ false → 0 < room_of client self.old.arena.rooms }
         requires kept { IsKept (record { client = client; op = op }) asked }
         ensures space { OnOk result (self.new.arena.space ≡ space_after self.old.arena.space (record { client = client; op = op })) }

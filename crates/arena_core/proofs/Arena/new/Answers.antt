@@ -1,8 +1,8 @@
-use Rattle.std.proofs.Common.{◌≡◌, ◌∙◌, arith, rules, sym, ap, subst, length}
-use Rattle.space_model.specs.Counts.{slabs_by_class}
+use Rattle.std.proofs.Common.{◌≡◌, arith, rules, refl, sym, ap, subst, length}
 use Rattle.space_model.specs.Opening.{new_pace}
 use Rattle.space_model.specs.Sound.{Sound}
 use Rattle.arena_core.specs.Arenas.{all_rooms}
+use Rattle.arena_core.proofs.Books.{booked_as, nothing_booked}
 use Rattle.arena_core.proofs.Outcomes.{opening_sound}
 use Rattle.arena_core.proofs.Arena.new.Goals as goal
 
@@ -18,6 +18,6 @@ invariant_of-result c =
       sound = subst Sound (λ i. record c.args.space { parts = (parts i).parts; regions = (regions i).regions; offers = offers i; dirty = dirty i; muzzy = muzzy i })
           (opening_sound c.args.space c.requires);
       clients = ap length c.none.ensures;
-      places = record { extents = omega (arith, nothing); regions = omega (arith, nothing); offers = omega (arith, nothing) };
-      slabs = record { numbers = c.no_slabs.ensures ∙ (λ i. slabs_by_class (regions i).regions (parts i).parts) };
+      places = record { indexes = record { extents = omega (arith, nothing); regions = omega (arith, nothing); offers = omega (arith, nothing) }; slabs = omega (arith, nothing) };
+      booked = booked_as (nothing_booked _ (ap (λ r. r.regions) c.new-2.ensures)) refl (ap (λ b. b.slabs) c.new-6.ensures);
     }

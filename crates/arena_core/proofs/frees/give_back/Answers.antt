@@ -15,7 +15,8 @@ loop-addr-init c = record {
   };
   few = omega arith;
   places = λ n h. h;
-  slabs = c.requires.slabs;
+  booked = c.requires.booked;
+  spare = omega arith;
 }
 
 pub give_one-requires-clause-held : goal.give_one-requires-clause-held
@@ -34,5 +35,6 @@ loop-addr-preserved c =
       rest = left_step c.loop-addr.invariant.rest c.loop-addr-test.true c.give_one.ensures.after (one ∙ c.give_one.ensures.emptied);
       few = omega (arith, one, most_one c.give_one.result, c.loop-addr.invariant.few);
       places = λ n h. c.give_one.ensures.places n (c.loop-addr.invariant.places n h);
-      slabs = c.give_one.ensures.slabs;
+      booked = c.give_one.ensures.booked;
+      spare = omega (arith, c.loop-addr.invariant.spare, c.give_one.ensures.spare);
     }

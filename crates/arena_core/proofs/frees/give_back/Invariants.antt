@@ -1,6 +1,6 @@
 use Rattle.std.proofs.Common.{ℕ, ◌≤◌, drop}
 use Rattle.arena_core.specs.Indexes.{HasPlaces, space_of}
-use Rattle.arena_core.specs.Slabs.{AreSlabs}
+use Rattle.arena_core.specs.Slabs.{IsBooked}
 use Rattle.arena_core.proofs.Rounds.{Left}
 use Rattle.arena_core.proofs.frees.give_back.Given as goal
 
@@ -10,5 +10,6 @@ invariant-loop-addr l = record {
   rest : Left l.client (drop l.addr-index l.addrs) l.addrs (space_of l.fn.indexes) (space_of l.indexes) l.emptied;
   few : l.emptied ≤ l.addr-index;
   places : (n : ℕ) → HasPlaces l.fn.indexes n → HasPlaces l.indexes n;
-  slabs : AreSlabs (space_of l.indexes) l.slabs;
+  booked : IsBooked (space_of l.indexes) l.bins.slabs;
+  spare : l.fn.bins.spare ≤ l.bins.spare;
 }

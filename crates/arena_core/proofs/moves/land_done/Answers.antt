@@ -11,8 +11,7 @@ land-requires c =
     let fit = fitting c.args.client (space_of c.args.indexes.now) c.args.span c.args.class c.args.count c.in-Some.part c.requires.sound c.requires.stands c.in-Some.ensures.flight in record {
       class = fit.low;
       room = omega (arith, fit.few, c.requires.room.regions);
-      absent = fit.absent;
-      fits = fit.all;
+      can_come = fit.come c.requires.live;
       ends = omega (arith, fit.bytes, fit.last);
     }
 

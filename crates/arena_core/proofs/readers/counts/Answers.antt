@@ -1,8 +1,9 @@
-use Rattle.std.proofs.Common.{◌≡◌, ℕ, ◌+◌, ◌-◌, ◌*◌, not, ltb, arith}
+use Rattle.std.proofs.Common.{◌≡◌, ℕ, ◌+◌, ◌-◌, ◌*◌, not, ltb, arith, rules}
 use Rattle.space_model.specs.declared.parts.Rest.TheVariants.{Dirty as ToDirty, Muzzy as ToMuzzy, Retained as ToRetained}
 use Rattle.space_model.specs.Part.{is_active, is_listed}
 use Rattle.space_model.specs.Counts.{bytes_where, is_mapped, region_bytes_where}
 use Rattle.arena_core.specs.Indexes.{space_of}
+use Rattle.arena_core.proofs.Books.{slabs_counted}
 use Rattle.arena_core.proofs.ByClass.{both_bytes}
 use Rattle.arena_core.proofs.Totals.{summed}
 use Rattle.arena_core.proofs.readers.counts.Goals as goal
@@ -34,7 +35,7 @@ returns c =
       small = c.small_bytes-small.ensures i;
       large = large i;
       regs = c.small_numbers.ensures i;
-      slabs = c.requires.slabs.numbers i;
+      slabs = slabs_counted (space_of c.args.indexes.now) c.args.bins.now.slabs c.slabs.result c.requires.booked (search rules) c.slabs.ensures i;
       lextents = c.large_numbers.ensures i;
     }
   where

@@ -1,21 +1,21 @@
-use Rattle.std.proofs.Common.{◌≡◌, ◌∙◌, ◌*◌, ◌≤◌, arith, ap, max, slice_set}
+use Rattle.std.proofs.Common.{◌≡◌, ◌∙◌, ◌*◌, ◌≤◌, arith, ap, length, max, slice_set}
 use Rattle.space_model.specs.declared.entries.Reply.TheVariants.{Next}
 use Rattle.space_model.specs.declared.spaces.Space.{Space}
 use Rattle.space_model.specs.Step.{after_back, next_flight}
 use Rattle.arena_core.specs.Arenas.{all_rooms, emptied, room_of}
 use Rattle.arena_core.specs.Indexes.{space_of}
-use Rattle.arena_core.proofs.RoomSums.{places_fewer, places_of, rooms_fewer}
-use Rattle.arena_core.proofs.SlabSteps.{slabs_of}
+use Rattle.arena_core.proofs.RoomSums.{places_fewer, room_of_all, rooms_fewer}
+use Rattle.arena_core.proofs.Books.{booked_as}
 use Rattle.arena_core.proofs.steps.give_back.Goals as goal
 
 pub returns-in_err-make_places-clause-places : goal.returns-in_err-make_places-clause-places
-returns-in_err-make_places-clause-places c = places_of c.make_places.ensures.kept (ap (λ a. a.rooms) c.make_places.ensures.standing) c.requires.body.places
+returns-in_err-make_places-clause-places c = room_of_all c.make_places.ensures.kept (ap (λ a. a.rooms) c.make_places.ensures.standing) c.requires.body.places
 
-pub returns-in_err-make_places-clause-slabs : goal.returns-in_err-make_places-clause-slabs
-returns-in_err-make_places-clause-slabs c = slabs_of c.requires.body.slabs (ap (λ a. a.space) c.make_places.ensures.standing) c.make_places.ensures.slabs
+pub returns-in_err-make_places-clause-booked : goal.returns-in_err-make_places-clause-booked
+returns-in_err-make_places-clause-booked c = booked_as c.requires.body.booked (ap (λ a. a.space) c.make_places.ensures.standing) c.make_places.ensures.slabs
 
-pub give_back-emptied-requires-clause-slabs : goal.give_back-emptied-requires-clause-slabs
-give_back-emptied-requires-clause-slabs c = slabs_of c.requires.body.slabs (ap (λ a. a.space) c.make_places.ensures.standing) c.make_places.ensures.slabs
+pub give_back-emptied-requires-clause-booked : goal.give_back-emptied-requires-clause-booked
+give_back-emptied-requires-clause-booked c = booked_as c.requires.body.booked (ap (λ a. a.space) c.make_places.ensures.standing) c.make_places.ensures.slabs
 
 pub returns : goal.returns
 returns c =
@@ -31,8 +31,12 @@ returns c =
       after = after;
       reply = ap Next (c.next_flight.ensures ∙ ap (λ (s : Space). next_flight c.args.client s.parts) after);
       rooms = c.set.ensures ∙ (λ i. slice_set (rooms i) c.args.client (room i));
+      few = omega (arith, counted, c.give_back-emptied.ensures.few, ap length c.as_slice-addrs.ensures);
       err = tt;
-      places = places_fewer c.give_back-emptied.new.indexes (all_rooms c.set.new.self) (all_rooms (slice_set c.args.body.now.rooms c.args.client c.max.result)) (omega (arith, new, fewer))
-          (c.give_back-emptied.ensures.places _ c.in_ok-make_places.ensures.ok);
-      slabs = c.give_back-emptied.ensures.slabs;
+      places = record {
+        indexes = places_fewer c.give_back-emptied.new.indexes (all_rooms c.set.new.self) (all_rooms (slice_set c.args.body.now.rooms c.args.client c.max.result)) (omega (arith, new, fewer))
+            (c.give_back-emptied.ensures.places _ c.in_ok-make_places.ensures.ok.indexes);
+        slabs = omega (arith, new, fewer, c.give_back-emptied.ensures.spare, c.in_ok-make_places.ensures.ok.slabs);
+      };
+      booked = c.give_back-emptied.ensures.booked;
     }

@@ -12,7 +12,6 @@ pub turn-requires : goal.turn-requires
 turn-requires g t c =
     let ready = turn_ready c.requires.underway c.in-Turn.is c.requires.need in rw c.client.ensures (record {
       stands = ready.may;
-      carried = ready.carried;
       room = room_for c.args.state.now.arena ready c.requires.room;
       kept = ready.kept;
     })

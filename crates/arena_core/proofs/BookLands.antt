@@ -1,0 +1,271 @@
+-- A book of slabs beside a space, as regions land in an extent in flight.
+use Rattle.std.proofs.Common.{◌≡◌, ◌≢◌, ℕ, ◌+◌, ◌*◌, ◌/◌, ◌<◌, ◌≤◌, Bool, true, false, not, cond, List, [], ◌∷◌, ◌++◌, append-nil, get_or, All, Contains, filter, map, max, inl, inr, refl, sym, ◌∙◌, ap, subst, arith, ◌&&◌, ◌||◌, eqb, leb, ltb, lt-ltb, find, Some}
+use Rattle.std.specs.List.{list_any, range_with_len, sum_by}
+use Rattle.std.proofs.lemmas.Bool.{cases_Bool, cases_lt, eq-eqb, eqb-true, false_from_ne_true, le-ltb, leb-true}
+use Rattle.std.proofs.lemmas.Bool.Decides.{nat_tests}
+use Rattle.std.proofs.lemmas.List.Elements.{All-append, All-cons, All-contains, All-contains_itself, All-filter, filter-append}
+use Rattle.std.proofs.lemmas.List.{map-append}
+use Rattle.std.proofs.lemmas.List.Filters.{sum_by-filter_both}
+use Rattle.std.proofs.lemmas.List.Sums.{sum_by-cons}
+use Rattle.std.proofs.lemmas.Nat.{row_fits}
+use Rattle.size_classes.specs.Classes.{pages_at, regions_at, size_at}
+use Rattle.size_classes.proofs.Table.{pages_bounds, size_bounds}
+use Rattle.ordered_set.proofs.Members.{filter_from, filter_has}
+use Rattle.space_model.specs.declared.parts.Part.{Part}
+use Rattle.space_model.specs.declared.parts.Region.{Region}
+use Rattle.space_model.specs.declared.parts.Span.{Span}
+use Rattle.space_model.specs.declared.parts.State.TheVariants.{Active}
+use Rattle.space_model.specs.declared.spaces.Space.{Space}
+use Rattle.space_model.specs.Span.{end_of, has_page, pages_end}
+use Rattle.space_model.specs.Part.{begins_at, is_active, turned_in_order}
+use Rattle.space_model.specs.Region.{address_of, houses, is_slab, lies_in, region_of, regions_from, starts_at}
+use Rattle.space_model.specs.Slabs.{land_at, places, slabs_of}
+use Rattle.space_model.specs.Sound.{Sound}
+use Rattle.space_model.proofs.Exchange.{filter-begins_at, filter-without, share}
+use Rattle.space_model.proofs.Landing.{eqb_itself, lies_between}
+use Rattle.space_model.proofs.Pieces.{both_true}
+use Rattle.space_model.proofs.Settled.{some_pages}
+use Rattle.bin_book.specs.Bins.{Slab, meets_slab, of_class, slab_with_out, with_slab}
+use Rattle.bin_book.proofs.Lists.{any_from, any_has, any_none, count_some, filter_map_is, filter_same, map_from, map_has, map_same, range_from, range_has}
+use Rattle.arena_core.specs.Booked.{slab_of}
+use Rattle.arena_core.specs.Slabs.{CanLand, IsBooked, slabs_landed}
+use Rattle.arena_core.proofs.Booked.{any_landing, idle_no_slab, serves_none}
+use Rattle.arena_core.proofs.Books.{class_stays, filter_swap, from_slabs, only, stands_at}
+use Rattle.arena_core.proofs.Emptying.{ones}
+use Rattle.arena_core.proofs.FirstPlaces.{lands_first}
+use Rattle.arena_core.proofs.Homes.{none_begins}
+use Rattle.arena_core.proofs.InOrder.{order_grows, order_splits}
+use Rattle.arena_core.proofs.Served.{place_page, served_page, slab_at}
+use Rattle.arena_core.proofs.Still.{Idle}
+
+-- An extent that serves no region, in which so many regions of a class may land.
+pub record Lands (c : ℕ) (s : Space) (test : Part → Bool) (p : Part) (class count : ℕ) : Type 0 where
+  pub sound : Sound s
+  pub found : find test s.parts ≡ Some p
+  pub idle : Idle p
+  pub committed : p.committed ≡ true
+  pub pages : p.span.pages ≡ pages_at class
+  pub low : class < 121
+  pub some : 0 < count
+  pub bytes : count * size_at class ≤ 4096 * p.span.pages
+  pub most : class < 36 → count ≤ regions_at class
+  pub last : p.span.first + p.span.pages ≤ pages_end
+
+module _ (c : ℕ) (s : Space) (test : Part → Bool) (p : Part) (class count : ℕ) (l : Lands c s test p class count) (slabs : List Slab) (book : IsBooked s slabs) where
+  abbrev stay : List Part
+  stay = filter (λ q. not (begins_at p.span.first q)) s.parts
+
+  abbrev come : List Region
+  come = regions_from c class (address_of p.span.first) count
+
+  abbrev after : Space
+  after = (land_at s c class count (Some p)).after
+
+  abbrev active : Part
+  active = record p { state = Active }
+
+  alone : filter (begins_at p.span.first) s.parts ≡ p ∷ []
+  alone = filter-begins_at test s.parts p (some_pages s.parts l.sound.placed) (l.sound.owners p.span.first) l.found
+
+  -- no other extent has a page of it
+  apart : (q : Part) → Contains stay q → (page : ℕ) → has_page page p.span ≡ true → has_page page q.span ≡ false
+  apart q m page own = false_from_ne_true _ (λ t.
+      let sums = sum_by-filter_both (begins_at p.span.first) (λ x. not (begins_at p.span.first x)) (λ _. refl) (share page) s.parts in
+      let here : sum_by (share page) (filter (begins_at p.span.first) s.parts) ≡ sum_by (share page) (p ∷ []) = ap (sum_by (share page)) alone in
+      let one : share page p ≡ 1 = ap ones own in
+      let also = count_some (λ x. has_page page x.span) stay q m t in
+      omega (arith, sums, here, one, also, sum_by-cons (share page) p [], l.sound.owners page))
+
+  -- a slab is another extent
+  stays : (d : ℕ) (q : Part) → Contains s.parts q → is_slab d s.regions q ≡ true → Contains stay q
+  stays d q m slab = filter_has (λ x. not (begins_at p.span.first x)) s.parts q m (ap not (false_from_ne_true _ (λ t.
+      let same = only p q (subst (λ xs. Contains xs q) alone (filter_has (begins_at p.span.first) s.parts q m t)) in
+      let none = idle_no_slab d s.regions q (ap (λ (x : Part). is_active x.state) (sym same) ∙ l.idle) in
+      let no : true ≡ false = sym slab ∙ none in
+      cc)))
+
+  -- the regions that land lie in it
+  lands_in : (r : Region) → Contains come r → (r.class ≡ class) × (lies_in p.span r ≡ true)
+  lands_in r m =
+      let at = map_from (λ i. region_of c class (address_of p.span.first + i * size_at class)) (range_with_len 0 count) r m in
+      let i : ℕ = at.0 in
+      let within = range_from 0 count i at.1 in
+      let fits = row_fits i (size_at class) count (size_at class) (omega (arith, within.1)) (omega arith) in
+      let r' : Region = region_of c class (address_of p.span.first + i * size_at class) in
+      let inside : lies_in p.span r' ≡ true = lies_between p.span r' (omega arith) (omega (arith, fits, l.bytes)) in
+      (ap (λ (x : Region). x.class) (sym at.2), subst (λ x. lies_in p.span x ≡ true) at.2 inside)
+
+  lands_page : (r : Region) → Contains come r → has_page (r.addr / 4096) p.span ≡ true
+  lands_page r m =
+      let in_it = lands_in r m in
+      let low : r.class < 121 = omega (arith, in_it.0, l.low) in
+      served_page active r low (rw (l.committed, in_it.1) refl)
+
+  -- so no other extent serves them
+  away : (q : Part) → Contains stay q → (r : Region) → Contains come r → houses q r ≡ false
+  away q m r there = false_from_ne_true _ (λ t.
+      let in_it = lands_in r there in
+      let page = served_page q r (omega (arith, in_it.0, l.low)) t in
+      let no : true ≡ false = sym page ∙ apart q m (r.addr / 4096) (lands_page r there) in
+      cc)
+
+  slab_stays : (d : ℕ) (q : Part) → Contains stay q → is_slab d after.regions q ≡ is_slab d s.regions q
+  slab_stays d q m = any_landing (λ r. eqb r.class d && houses q r) come s.regions ∙ ap (λ b. b || is_slab d s.regions q) (serves_none d come q (any_none (houses q) come (λ r there. away q m r there)))
+
+  free_stays : (d : ℕ) (q : Part) → d < 36 → Contains s.parts q → is_slab d s.regions q ≡ true → slab_of after.regions d q ≡ slab_of s.regions d q
+  free_stays d q low at slab = λ k. record {
+    class = d;
+    first = q.span.first;
+    free = filter_same (λ a. not (list_any (starts_at a) after.regions)) (λ a. not (list_any (starts_at a) s.regions)) (places d q) (λ a m. ap not (any_landing (starts_at a) come s.regions
+        ∙ ap (λ b. b || list_any (starts_at a) s.regions) (any_none (starts_at a) come (λ r there. false_from_ne_true _ (λ t.
+        let pages = (slab_at s d q l.sound low at slab).pages in
+        let page : has_page (r.addr / 4096) q.span ≡ true = ap (λ x. has_page (x / 4096) q.span) (eqb-true _ _ t) ∙ place_page d a q low pages m in
+        let no : true ≡ false = sym page ∙ apart q (stays d q at slab) (r.addr / 4096) (lands_page r there) in
+        cc))))) k;
+  }
+
+  -- no region was in the extent
+  none_within : (r : Region) → Contains s.regions r → lies_in p.span r ≡ false
+  none_within r m = false_from_ne_true _ (λ t.
+      let both = both_true (leb (address_of p.span.first) r.addr) _ t in
+      let size = (size_bounds r.class (All-contains (λ x. x.class < 121) s.regions r l.sound.classes m)).0 in
+      let above = leb-true _ _ both.0 in
+      let below = leb-true _ _ both.1 in
+      let none = none_begins s test p r.addr l.sound l.found l.idle (omega (arith, above)) (omega (arith, below, size)) in
+      let there = any_has (λ x. eqb x.addr r.addr) s.regions r m (eqb_itself r.addr) in
+      let no : true ≡ false = sym there ∙ none in
+      cc)
+
+  -- the extent is a slab of the class, and of no other one
+  active_slab : (d : ℕ) → is_slab d after.regions active ≡ eqb class d
+  active_slab d = any_landing (λ r. eqb r.class d && houses active r) come s.regions ∙ ap (λ b. list_any (λ r. eqb r.class d && houses active r) come || b) none ∙ elim (cases_Bool (eqb class d)) [
+    | inl t ↦
+        let first : Region = region_of c class (address_of p.span.first + 0 * size_at class) in
+        let m = map_has (λ i. region_of c class (address_of p.span.first + i * size_at class)) (range_with_len 0 count) 0 (range_has 0 count 0 (omega arith) (omega (arith, l.some))) in
+        let one = any_has (λ r. eqb r.class d && houses active r) come first m (rw (t, l.committed, (lands_in first m).1) refl) in
+        rw (one, t) refl
+    | inr f ↦
+        let no = any_none (λ r. eqb r.class d && houses active r) come (λ r m. let is : eqb r.class d ≡ false = ap (λ k. eqb k d) (lands_in r m).0 ∙ f in rw is refl) in
+        rw (no, f) refl
+  ]
+    where
+      none : is_slab d s.regions active ≡ false
+      none = serves_none d s.regions active (any_none (houses active) s.regions (λ r m. rw (none_within r m) (never p.committed)))
+        where
+          never : (b : Bool) → (b && false) ≡ false
+          never true = refl
+          never false = refl
+
+  -- the slabs of a class then: as before, with the extent behind them if it is of the class
+  slabs_then : (d : ℕ) → filter (is_slab d after.regions) after.parts ≡ filter (is_slab d s.regions) s.parts ++ cond (eqb class d) (active ∷ []) []
+  slabs_then d =
+      let gone = ap (filter (is_slab d s.regions)) alone ∙ rw (idle_no_slab d s.regions p l.idle) refl in
+      filter-append (is_slab d after.regions) stay (active ∷ [])
+      ∙ (λ k. (filter_same (is_slab d after.regions) (is_slab d s.regions) stay (λ q m. slab_stays d q m) ∙ filter-without (is_slab d s.regions) (begins_at p.span.first) s.parts gone) k ++ cond (active_slab d k) (active ∷ []) [])
+
+  -- where the class is another one, its slabs stay
+  others_stay : (d : ℕ) → d < 36 → eqb class d ≡ false → of_class d slabs ≡ map (slab_of after.regions d) (slabs_of d after)
+  others_stay d low other =
+      class_stays s after slabs d (slabs_then d ∙ ap (λ b. filter (is_slab d s.regions) s.parts ++ cond b (active ∷ []) []) other ∙ append-nil _)
+      (λ q m slab. free_stays d q low m slab) (book.booked d low)
+
+  -- the slabs of a class, and a new one at the extent
+  abbrev new : Slab
+  new = slab_with_out class p.span.first count
+
+  abbrev below : Part → Bool
+  below q = ltb q.span.first p.span.first
+
+  abbrev above : Part → Bool
+  above q = ltb p.span.first q.span.first
+
+  others_differ : (d : ℕ) → All (λ q. q.span.first ≢ p.span.first) (filter (is_slab d s.regions) s.parts)
+  others_differ d k x h e =
+      let q : Part = get_or (filter (is_slab d s.regions) s.parts) k x in
+      let at = filter_from (is_slab d s.regions) s.parts q (All-contains_itself (filter (is_slab d s.regions) s.parts) k x h) in
+      let there = filter_from (λ y. not (begins_at p.span.first y)) s.parts q (stays d q at.0 at.1) in
+      let no : false ≡ true = sym (ap not (eq-eqb q.span.first p.span.first e)) ∙ there.1 in
+      absurd (cc)
+
+  with_of_class : (d : ℕ) → d < 36 → of_class d (with_slab slabs new)
+      ≡ map (slab_of s.regions d) (filter below (slabs_of d s)) ++ (cond (eqb class d) (new ∷ []) [] ++ map (slab_of s.regions d) (filter above (slabs_of d s)))
+  with_of_class d low =
+      let under = λ (x : Slab). ltb x.first p.span.first in
+      let over = λ (x : Slab). ltb p.span.first x.first in
+      let of = λ (x : Slab). eqb x.class d in
+      let first = filter_swap under of slabs ∙ ap (filter under) (book.booked d low) ∙ filter_map_is (slab_of s.regions d) under (slabs_of d s) in
+      let second = filter_swap over of slabs ∙ ap (filter over) (book.booked d low) ∙ filter_map_is (slab_of s.regions d) over (slabs_of d s) in
+      filter-append of (filter under slabs) (new ∷ filter over slabs) ∙ (λ k. first k ++ (in_front (eqb class d) (filter of (filter over slabs)) ∙ ap (λ xs. cond (eqb class d) (new ∷ []) [] ++ xs) second) k)
+    where
+      in_front : (b : Bool) (xs : List Slab) → cond b (new ∷ xs) xs ≡ cond b (new ∷ []) [] ++ xs
+      in_front true xs = refl
+      in_front false xs = refl
+
+  with_booked : class < 36 → IsBooked after (with_slab slabs new)
+  with_booked small = record {
+    small = All-append (λ x. x.class < 36) (filter (λ x. ltb x.first p.span.first) slabs) (new ∷ filter (λ x. ltb p.span.first x.first) slabs)
+        (All-filter (λ x. ltb x.first p.span.first) (λ x. x.class < 36) slabs book.small)
+        (All-cons (λ x. x.class < 36) new (filter (λ x. ltb p.span.first x.first) slabs) small (All-filter (λ x. ltb p.span.first x.first) (λ x. x.class < 36) slabs book.small));
+    booked = λ d low. with_of_class d low ∙ elim (cases_Bool (eqb class d)) [
+      | inr other ↦ rw other (sym (map-append (slab_of s.regions d) (filter below (slabs_of d s)) (filter above (slabs_of d s)))
+          ∙ ap (map (slab_of s.regions d)) (order_splits (filter (is_slab d s.regions) s.parts) p (others_differ d)) ∙ sym (book.booked d low) ∙ others_stay d low other)
+      | inl same ↦ rw same (grown d low (eqb-true _ _ same) same)
+    ];
+  }
+    where
+      kept : (d : ℕ) → d < 36 → (test : Part → Bool) → map (slab_of s.regions d) (filter test (slabs_of d s)) ≡ map (slab_of after.regions d) (filter test (slabs_of d s))
+      kept d low test = map_same (slab_of s.regions d) (slab_of after.regions d) (filter test (slabs_of d s)) (λ q m. let at = from_slabs s d q (filter_from test (slabs_of d s) q m).0 in sym (free_stays d q low at.0 at.1))
+
+      first : (d : ℕ) → class ≡ d → new ≡ slab_of after.regions d active
+      first d is = sym (lands_first s.regions c class count p small (l.most small)
+          (λ k x h. let a : ℕ = get_or (places class p) k x in false_from_ne_true _ (λ t.
+          let r = any_from (starts_at a) s.regions t in
+          let page : has_page (r.0.addr / 4096) p.span ≡ true = ap (λ n. has_page (n / 4096) p.span) (eqb-true _ _ r.2) ∙ place_page class a p small l.pages (All-contains_itself (places class p) k x h) in
+          let bounds = page_bounds r.0.addr p page in
+          let none = none_begins s test p r.0.addr l.sound l.found l.idle bounds.0 bounds.1 in
+          let there = any_has (λ y. eqb y.addr r.0.addr) s.regions r.0 r.1 (eqb_itself r.0.addr) in
+          let no : true ≡ false = sym there ∙ none in
+          cc))) ∙ ap (λ k. slab_of after.regions k active) is
+        where
+          page_bounds : (a : ℕ) (q : Part) → has_page (a / 4096) q.span ≡ true → (4096 * q.span.first ≤ a) × (a < 4096 * end_of q.span)
+          page_bounds a q h = (grind (arith, nat_tests), grind (arith, nat_tests))
+
+      grown : (d : ℕ) → d < 36 → class ≡ d → eqb class d ≡ true → map (slab_of s.regions d) (filter below (slabs_of d s)) ++ new ∷ map (slab_of s.regions d) (filter above (slabs_of d s)) ≡ map (slab_of after.regions d) (slabs_of d after)
+      grown d low is same =
+          (λ k. kept d low below k ++ first d is k ∷ kept d low above k)
+          ∙ sym (map-append (slab_of after.regions d) (filter below (slabs_of d s)) (active ∷ filter above (slabs_of d s)))
+          ∙ ap (map (slab_of after.regions d)) (sym (order_grows (filter (is_slab d s.regions) s.parts) active (others_differ d))
+          ∙ ap (turned_in_order (λ q. q)) (sym (slabs_then d ∙ ap (λ b. filter (is_slab d s.regions) s.parts ++ cond b (active ∷ []) []) same)))
+
+  pub landed_booked : (span : Span) → span.first ≡ p.span.first → IsBooked after (slabs_landed span class count slabs)
+  landed_booked span is = subst (λ n. IsBooked after (cond (ltb class 36) (with_slab slabs (slab_with_out class n count)) slabs)) (sym is) (elim (cases_lt class 36) [
+    | inl low ↦ subst (λ b. IsBooked after (cond b (with_slab slabs new) slabs)) (sym (lt-ltb class 36 low)) (with_booked low)
+    | inr big ↦ subst (λ b. IsBooked after (cond b (with_slab slabs new) slabs)) (sym (le-ltb class 36 big)) (record { small = book.small; booked = λ d low. others_stay d low (grind (arith, nat_tests, big, low)) })
+  ])
+
+  -- the book has a place for it
+  pub can_land : (span : Span) → span.first ≡ p.span.first → class < 36 → CanLand span class count slabs
+  can_land span is low = record {
+    some = l.some;
+    most = l.most low;
+    inside = omega (arith, is, l.pages, l.last);
+    apart = any_none (meets_slab class span.first) slabs (λ x m. false_from_ne_true _ (λ t.
+        let at = stands_at s slabs book x m in
+        let q : Part = at.extent in
+        let pages = (slab_at s x.class q l.sound at.low at.there at.slab).pages in
+        let first : q.span.first ≡ x.first = ap (λ (y : Slab). y.first) at.is in
+        let some = (pages_bounds class (omega (arith, l.low))).0 in
+        let also_some = (pages_bounds x.class (omega (arith, at.low))).0 in
+        let meets = both (span.first) (pages_at class) x.first (pages_at x.class) t in
+        let page : ℕ = max p.span.first q.span.first in
+        let own : has_page page p.span ≡ true = in_both page p.span (omega arith) (omega (arith, meets.0, is, first, l.pages, some)) in
+        let also : has_page page q.span ≡ true = in_both page q.span (omega arith) (omega (arith, meets.1, is, first, pages, also_some)) in
+        let no : true ≡ false = sym also ∙ apart q (stays x.class q at.there at.slab) page own in
+        cc));
+  }
+    where
+      both : (a m b n : ℕ) → (ltb b (a + m) && ltb a (b + n)) ≡ true → (b < a + m) × (a < b + n)
+      both a m b n h = (grind (arith, nat_tests), grind (arith, nat_tests))
+
+      in_both : (page : ℕ) (x : Span) → x.first ≤ page → page < x.first + x.pages → has_page page x ≡ true
+      in_both page x low high = grind (arith, nat_tests, low, high)

@@ -1,0 +1,163 @@
+-- The book of slabs after any operation that gives nothing back.
+use Rattle.std.proofs.Common.{◌⊎◌, ap, inl, inr, length, ◌≡◌, ℕ, ◌<◌, ◌≤◌, Bool, true, false, cond, List, [], ◌∷◌, find, Option, None, Some, refl, sym, ◌∙◌, subst, ◌&&◌, eqb, lt-ltb, ltb as nat_lt, leb as nat_le}
+use Rattle.std.proofs.lemmas.Bool.{eqb-true}
+use Rattle.std.proofs.lemmas.List.{nil_from_length}
+use Rattle.std.proofs.lemmas.List.Elements.{All-map}
+use Rattle.size_classes.specs.Classes.{pages_at, regions_at}
+use Rattle.space_model.specs.declared.entries.Op.{Op}
+use Rattle.space_model.specs.declared.entries.Op.TheVariants.{Look, CutDone, GrowDone, CommitDone, Land, PutLook, MergeDone, Fill, Advance, PurgeTake, LazyDone, Offer, OfferDone, DecommitDone, ForcedDone, Publish, TakeOver, Reset, Destroy, DestroyTake, Counts, Set, Widen, JoinDone, Trim, TrimDone}
+use Rattle.space_model.specs.declared.entries.Reply.TheVariants.{Busy, NoArena}
+use Rattle.space_model.specs.declared.parts.Part.{Part}
+use Rattle.space_model.specs.declared.parts.Region.{Region}
+use Rattle.space_model.specs.declared.parts.Span.{Span}
+use Rattle.space_model.specs.declared.spaces.Space.{Space}
+use Rattle.space_model.specs.Part.{is_flight_at}
+use Rattle.space_model.specs.Region.{held_anew}
+use Rattle.space_model.specs.Ending.{doom_at, emptied, ended, flight_count, held_count}
+use Rattle.space_model.specs.Holding.{is_held_at, is_published_at, take_over_at}
+use Rattle.space_model.specs.Resizing.{large_home}
+use Rattle.space_model.specs.Slabs.{after_fill, fill_at, land_at, land_stands, lowest_free, most_regions}
+use Rattle.space_model.specs.Step.{is_live, op_stands, step_of}
+use Rattle.space_model.specs.Stepped.{Stepped, found_passes, if_live, stays}
+use Rattle.space_model.specs.Sound.{Sound}
+use Rattle.space_model.proofs.Pieces.{both_true}
+use Rattle.space_model.proofs.Steps.{op_keeps}
+use Rattle.bin_book.specs.Bins.{Slab, without}
+use Rattle.arena_core.specs.Arenas.{is_return, opens}
+use Rattle.arena_core.specs.Slabs.{CanFollow, CanLand, IsBooked, slabs_begun, slabs_filled, slabs_followed, slabs_landed, slabs_left, slabs_taken}
+use Rattle.arena_core.proofs.Booked.{fills_taken, stay_handed}
+use Rattle.arena_core.proofs.BookLands.{Lands, can_land, landed_booked}
+use Rattle.arena_core.proofs.BookResizes.{join_step, trim_step}
+use Rattle.arena_core.proofs.Books.{nothing_booked, still_booked}
+use Rattle.arena_core.proofs.Filled.{filled_is, may_fill}
+use Rattle.arena_core.proofs.Homes.{in_flight}
+use Rattle.arena_core.proofs.Landed.{fitting, may_land}
+use Rattle.arena_core.proofs.Still.{commit_still, cut_still, decommit_still, doom_still, grow_still, lazy_still, live_still, look_still, merge_still, offer_done_still, offer_still, purge_still, put_still, same, set_still, still, widen_still}
+
+-- ---- Land
+
+-- what is said of a land that may stand, in an extent that was found
+lands_of : (c : ℕ) (s : Space) (span : Span) (class count : ℕ) (p : Part) → Sound s → land_stands s c span class count ≡ true → find (is_flight_at c span) s.parts ≡ Some p → Lands c s (is_flight_at c span) p class count
+lands_of c s span class count p sound stands found =
+    let at = in_flight c s span p sound (sym found) in
+    let may = may_land s c span class count stands in
+    let fit = fitting c s span class count p sound stands (sym found) in record {
+      sound = sound;
+      found = found;
+      idle = at.idle;
+      committed = subst (λ (o : Option Part). found_passes (λ p. p.committed) o ≡ true) found (both_true (nat_lt class 121 && nat_lt 0 count && nat_le count (most_regions class) && eqb span.pages (pages_at class)) _ stands).1;
+      pages = at.pages ∙ may.1;
+      low = may.0;
+      some = may.2;
+      bytes = fit.bytes;
+      most = λ small. subst (λ b. count ≤ cond b (regions_at class) 1) (lt-ltb class 36 small) may.3;
+      last = fit.last;
+    }
+
+-- that an extent is found
+no_extent : (class count : ℕ) (s : Space) (c : ℕ) (span : Span) → land_stands s c span class count ≡ true → find (is_flight_at c span) s.parts ≡ None → ⊥
+no_extent class count s c span stands e =
+    let none : found_passes (λ p. p.committed) None ≡ true = subst (λ (o : Option Part). found_passes (λ p. p.committed) o ≡ true) e (both_true (nat_lt class 121 && nat_lt 0 count && nat_le count (most_regions class) && eqb span.pages (pages_at class)) _ stands).1 in
+    cc
+
+land_booked : (c : ℕ) (s : Space) (span : Span) (class count : ℕ) (o : Option Part) (slabs : List Slab) → find (is_flight_at c span) s.parts ≡ o → Sound s → land_stands s c span class count ≡ true → IsBooked s slabs →
+    IsBooked (land_at s c class count o).after (slabs_landed span class count slabs)
+land_booked c s span class count None slabs e sound stands book = absurd (no_extent class count s c span stands e)
+land_booked c s span class count (Some p) slabs e sound stands book =
+    landed_booked c s (is_flight_at c span) p class count (lands_of c s span class count p sound stands e) slabs book span (sym (in_flight c s span p sound (sym e)).first)
+
+land_can : (c : ℕ) (s : Space) (span : Span) (class count : ℕ) (o : Option Part) (slabs : List Slab) → find (is_flight_at c span) s.parts ≡ o → Sound s → land_stands s c span class count ≡ true → IsBooked s slabs →
+    class < 36 → CanLand span class count slabs
+land_can c s span class count None slabs e sound stands book = absurd (no_extent class count s c span stands e)
+land_can c s span class count (Some p) slabs e sound stands book =
+    can_land c s (is_flight_at c span) p class count (lands_of c s span class count p sound stands e) slabs book span (sym (in_flight c s span p sound (sym e)).first)
+
+-- ---- an operation that takes no memory
+
+-- its slab, if it makes one, can come
+pub can_follow : (c : ℕ) (s : Space) (op : Op) (slabs : List Slab) → Sound s → op_stands s c op ≡ true → IsBooked s slabs → CanFollow op slabs
+can_follow c s (Land span class count) slabs sound stands book = land_can c s span class count (find (is_flight_at c span) s.parts) slabs refl sound (both_true (is_live s.life) _ stands).1 book
+can_follow c s op slabs sound stands book = tt
+
+pub follows_booked : (c : ℕ) (s : Space) (op : Op) (slabs : List Slab) → Sound s → op_stands s c op ≡ true → opens op ≡ false → IsBooked s slabs → IsBooked (step_of s c op).after (slabs_followed op slabs)
+follows_booked c s (CutDone heard keep_low) slabs sound stands follows book = still_booked s _ slabs book (cut_still s c keep_low heard.ask heard.answer sound)
+follows_booked c s (GrowDone heard found) slabs sound stands follows book = still_booked s _ slabs book (grow_still s c found heard.ask heard.answer)
+follows_booked c s (CommitDone heard) slabs sound stands follows book = still_booked s _ slabs book (commit_still s c heard.ask heard.answer sound)
+follows_booked c s (Land span class count) slabs sound stands follows book = land_booked c s span class count (find (is_flight_at c span) s.parts) slabs refl sound (both_true (is_live s.life) _ stands).1 book
+follows_booked c s (PutLook span tries) slabs sound stands follows book = still_booked s _ slabs book (put_still s c tries span (find (is_flight_at c span) s.parts) refl sound)
+follows_booked c s (MergeDone heard own_low) slabs sound stands follows book = still_booked s _ slabs book (merge_still s c own_low heard.ask heard.answer sound)
+follows_booked c s (LazyDone heard) slabs sound stands follows book = still_booked s _ slabs book (lazy_still s c heard.ask heard.answer sound)
+follows_booked c s (Offer span) slabs sound stands follows book = still_booked s _ slabs book (offer_still s c span (find (is_flight_at c span) s.parts) refl sound)
+follows_booked c s (OfferDone heard found) slabs sound stands follows book = still_booked s _ slabs book (offer_done_still s c found heard.ask heard.answer)
+follows_booked c s (DecommitDone heard) slabs sound stands follows book = still_booked s _ slabs book (decommit_still s c heard.ask heard.answer sound)
+follows_booked c s (ForcedDone heard) slabs sound stands follows book = book
+follows_booked c s (JoinDone heard class) slabs sound stands follows book =
+    join_step c s class heard.ask heard.answer slabs sound (op_keeps c s (JoinDone heard class) sound stands).sound (both_true (is_live s.life) _ stands).1 book
+follows_booked c s (TrimDone heard class) slabs sound stands follows book =
+    trim_step c s class heard.ask heard.answer slabs sound (op_keeps c s (TrimDone heard class) sound stands).sound (both_true (is_live s.life) _ stands).1 book
+follows_booked c s op slabs sound stands follows book = absurd (cc)
+
+-- ---- an operation that begins a unit
+
+-- nobody minds who holds a region
+anew_booked : (s : Space) (test : Region → Bool) (holder : Option ℕ) (slabs : List Slab) → IsBooked s slabs → IsBooked (record s { regions = held_anew test holder s.regions }) slabs
+anew_booked s test holder slabs book = record { small = book.small; booked = stay_handed s (record s { regions = held_anew test holder s.regions }) slabs test holder refl refl book.booked }
+
+-- the lowest free regions of a class are taken
+fill_booked : (c : ℕ) (s : Space) (class count : ℕ) (slabs : List Slab) → Sound s → class < 36 → IsBooked s slabs → IsBooked (after_fill s c class count).after (slabs_filled s class count slabs)
+fill_booked c s class count slabs sound low book =
+    let addrs = lowest_free class count s in
+    elim (is_live s.life) as (λ b. IsBooked (cond b (fill_at s c class addrs) (stays s NoArena)).after (cond b (slabs_taken addrs slabs) slabs)) [
+      | false ↦ book
+      | true ↦ subst (λ t. IsBooked t (slabs_taken addrs slabs)) (sym (filled_is c s class addrs)) (record {
+        small = All-map (λ x. x.class < 36) (without addrs) slabs book.small;
+        booked = (fills_taken s slabs c class count sound low book.booked).booked;
+      })
+    ]
+
+-- ---- an operation that may empty the space
+
+-- it leaves all as it is, or no region
+left_or_none : (s : Space) (live free : Bool) (t : Stepped) (held flights threads : ℕ) → t.after.regions ≡ [] →
+    ((cond live (cond free t (stays s (Busy held flights threads))) (stays s NoArena)).after ≡ s) ⊎ ((cond live (cond free t (stays s (Busy held flights threads))) (stays s NoArena)).after.regions ≡ [])
+left_or_none s true true t held flights threads none = inr none
+left_or_none s true false t held flights threads none = inl refl
+left_or_none s false free t held flights threads none = inl refl
+
+-- the book without slabs, or the one that was, is that of what is left
+left_booked : (s t : Space) (slabs : List Slab) → IsBooked s slabs → (t ≡ s) ⊎ (t.regions ≡ []) → IsBooked t (slabs_left t slabs)
+left_booked s t slabs book left = by (eqb (length t.regions) 0) refl left
+  where
+    by : (b : Bool) → eqb (length t.regions) 0 ≡ b → (t ≡ s) ⊎ (t.regions ≡ []) → IsBooked t (cond b [] slabs)
+    by true e left = nothing_booked t (nil_from_length t.regions (eqb-true _ _ e))
+    by false e (inl same) = subst (λ x. IsBooked x slabs) (sym same) book
+    by false e (inr none) = absurd (let some : eqb (length t.regions) 0 ≡ true = ap (λ rs. eqb (length rs) 0) none in cc)
+
+pub begins_booked : (c : ℕ) (s : Space) (op : Op) (slabs : List Slab) → Sound s → op_stands s c op ≡ true → opens op ≡ true → is_return op ≡ false → IsBooked s slabs →
+    IsBooked (step_of s c op).after (slabs_begun c s op slabs)
+begins_booked c s (Look pages align) slabs sound stands opens other book = still_booked s _ slabs book (look_still s c pages align sound)
+begins_booked c s (Fill class count) slabs sound stands opens other book = fill_booked c s class count slabs sound (may_fill s c class count stands).0 book
+begins_booked c s (Advance now) slabs sound stands opens other book = still_booked s _ slabs book (live_still s _ (still s _ refl refl))
+begins_booked c s (PurgeTake rest keep) slabs sound stands opens other book = still_booked s _ slabs book (purge_still s c rest keep sound)
+begins_booked c s (Publish addr) slabs sound stands opens other book = anew_booked s (is_held_at c addr) None slabs book
+begins_booked c s (TakeOver addr) slabs sound stands opens other book = take_over (find (is_published_at addr) s.regions)
+  where
+    take_over : (o : Option Region) → IsBooked (if_live s (take_over_at s c addr o)).after slabs
+    take_over o = elim (is_live s.life) as (λ b. IsBooked (cond b (take_over_at s c addr o) (stays s NoArena)).after slabs) [
+      | false ↦ book
+      | true ↦ elim o as (λ o. IsBooked (take_over_at s c addr o).after slabs) [ None ↦ book | Some r ↦ anew_booked s (is_published_at addr) (Some c) slabs book ]
+    ]
+begins_booked c s DestroyTake slabs sound stands opens other book = doom s.parts refl
+  where
+    doom : (ps : List Part) → s.parts ≡ ps → IsBooked (doom_at s ps).after slabs
+    doom [] e = still_booked s _ slabs book (still s _ refl refl)
+    doom (p ∷ ps) e = still_booked s _ slabs book (doom_still s c p ps e sound stands)
+begins_booked c s Counts slabs sound stands opens other book = still_booked s _ slabs book (live_still s _ (same s))
+begins_booked c s (Set setting) slabs sound stands opens other book = still_booked s _ slabs book (set_still s c setting)
+begins_booked c s (Widen addr pages) slabs sound stands opens other book = still_booked s _ slabs book (widen_still s c pages (large_home s c addr) sound)
+begins_booked c s (Trim addr class) slabs sound stands opens other book = still_booked s _ slabs book (still s _ refl refl)
+begins_booked c s (Reset cached) slabs sound stands opens other book =
+    left_booked s _ slabs book (left_or_none s (is_live s.life) _ (emptied s) (held_count s c cached) (flight_count s c) 0 refl)
+begins_booked c s (Destroy cached) slabs sound stands opens other book =
+    left_booked s _ slabs book (left_or_none s (is_live s.life) _ (ended s c) (held_count s c cached) (flight_count s c) (length s.bound) refl)
+begins_booked c s op slabs sound stands opens other book = absurd (cc)

@@ -1,0 +1,340 @@
+-- A book of slabs beside a space, as regions land and are given back.
+use Rattle.std.proofs.Common.{◌≡◌, ℕ, ◌/◌, ◌<◌, ◌≤◌, Bool, true, false, not, IsTrue, List, [], ◌∷◌, length, get_or, All, Contains, filter, map, inl, inr, refl, sym, ◌∙◌, ap, subst, arith, ◌&&◌, eqb, lt-ltb, find, Some}
+use Rattle.std.specs.List.{count_by, list_any, sum_by}
+use Rattle.std.proofs.lemmas.Bool.{cases_Bool, cases_lt, eq-eqb, eqb-true, false_from_ne_true, le-ltb}
+use Rattle.std.proofs.lemmas.Bool.Decides.{nat_tests}
+use Rattle.std.proofs.lemmas.List.Elements.{All-cons, All-contains, All-contains_itself, All-filter, All-map, All-nil}
+use Rattle.std.proofs.lemmas.List.Filters.{sum_by-filter_both}
+use Rattle.std.proofs.lemmas.List.{ext_get_or, length-map}
+use Rattle.std.proofs.lemmas.List.FromFn.{length-map-range_with_len}
+use Rattle.std.proofs.lemmas.List.Sums.{length-filter, sum_by-cons}
+use Rattle.ordered_set.proofs.Members.{contains_cases, contains_later, filter_from, filter_has}
+use Rattle.space_model.specs.declared.parts.Part.{Part}
+use Rattle.space_model.specs.declared.parts.Region.{Region}
+use Rattle.space_model.specs.declared.spaces.Space.{Space}
+use Rattle.space_model.specs.Span.{has_page}
+use Rattle.space_model.specs.Part.{begins_at, taken_out, turned_in_order}
+use Rattle.space_model.specs.Region.{fills, houses, is_slab, residents, starts_at}
+use Rattle.space_model.specs.Counts.{slabs_by_class}
+use Rattle.space_model.specs.Slabs.{places, slabs_of}
+use Rattle.space_model.specs.Sound.{Sound}
+use Rattle.space_model.specs.Step.{after_back, holds_at, is_emptied, is_given_back, staying}
+use Rattle.space_model.proofs.Landing.{eqb_itself}
+use Rattle.space_model.proofs.Lists.{only_one}
+use Rattle.space_model.proofs.Pieces.{both_true}
+use Rattle.space_model.proofs.Turned.{All-turned, turned_sum}
+use Rattle.bin_book.specs.Bins.{Slab, is_out, is_unused, of_class, with_free}
+use Rattle.bin_book.proofs.Lists.{any_from, any_has, any_map, filter_all_of, filter_both, filter_map_is, filter_none_of, filter_same, head, map_both, map_from, map_same}
+use Rattle.arena_core.specs.Booked.{slab_of}
+use Rattle.arena_core.specs.Slabs.{IsBooked, NothingIsBooked, is_last, slabs_returned}
+use Rattle.arena_core.proofs.Booked.{among_kept, both_ways, freed, idle_no_slab, serves_none, stay_still}
+use Rattle.arena_core.proofs.Emptying.{Empties, Gives, any_counts, begins_alone, counts_any, empties, given_parts, gives, is_left, ones}
+use Rattle.arena_core.proofs.ByClass.{at_tally, tally}
+use Rattle.arena_core.proofs.Finds.{find_alone}
+use Rattle.arena_core.proofs.InOrder.{order_stays}
+use Rattle.arena_core.proofs.Served.{SlabAt, slab_at, starts_served, still_slab, unused_is}
+use Rattle.arena_core.proofs.Still.{Still, kept_exchanged}
+
+-- ---- the extents of a book's slabs
+
+-- as many pass, so something does where it did
+pub same_any : {X : Type 0} (t : X → Bool) (xs ys : List X) → count_by t xs ≡ count_by t ys → list_any t xs ≡ list_any t ys
+same_any t xs ys same = elim (cases_Bool (list_any t xs)) [
+  | inl some ↦ some ∙ sym (counts_any t ys (omega (arith, same, any_counts t xs some)))
+  | inr none ↦ elim (cases_Bool (list_any t ys)) [
+    | inl some ↦ let e = counts_any t xs (omega (arith, same, any_counts t ys some)) in absurd (cc)
+    | inr also ↦ none ∙ sym also
+  ]
+]
+
+-- the order of extents leaves them the same
+any_order : (t : Part → Bool) (ps : List Part) → list_any t (turned_in_order (λ p. p) ps) ≡ list_any t ps
+any_order t ps = same_any t (turned_in_order (λ p. p) ps) ps (turned_sum (λ p. p) (λ p. ones (t p)) [] ps ∙ omega arith)
+
+from_order : (ps : List Part) (p : Part) → Contains (turned_in_order (λ p. p) ps) p → Contains ps p
+from_order ps p m = All-contains (Contains ps) (turned_in_order (λ p. p) ps) p (All-turned (λ p. p) (Contains ps) [] ps (All-nil (Contains ps)) (All-contains_itself ps)) m
+
+-- the extents that are slabs of a class
+pub from_slabs : (s : Space) (class : ℕ) (q : Part) → Contains (slabs_of class s) q → Contains s.parts q × (is_slab class s.regions q ≡ true)
+from_slabs s class q m = filter_from (is_slab class s.regions) s.parts q (from_order (filter (is_slab class s.regions) s.parts) q m)
+
+-- Where a slab of a book stands.
+pub record Stands (s : Space) (x : Slab) : Type 0 where
+  pub extent : Part
+  pub there : Contains s.parts extent
+  pub low : x.class < 36
+  pub slab : is_slab x.class s.regions extent ≡ true
+  pub is : slab_of s.regions x.class extent ≡ x
+
+pub stands_at : (s : Space) (slabs : List Slab) → IsBooked s slabs → (x : Slab) → Contains slabs x → Stands s x
+stands_at s slabs book x m =
+    let low = All-contains (λ (y : Slab). y.class < 36) slabs x book.small m in
+    let alike = subst (λ ys. Contains ys x) (book.booked x.class low) (filter_has (λ y. eqb y.class x.class) slabs x m (eq-eqb _ _ refl)) in
+    let p = map_from (slab_of s.regions x.class) (slabs_of x.class s) x alike in
+    let at = from_slabs s x.class p.0 p.1 in
+    record { extent = p.0; there = at.0; low = low; slab = at.1; is = p.2 }
+
+-- what the slab of an extent passes, some slab of the book does
+pub book_any : (s : Space) (slabs : List Slab) → IsBooked s slabs → (t : Slab → Bool) (class : ℕ) (q : Part) → class < 36 → Contains s.parts q → is_slab class s.regions q ≡ true → t (slab_of s.regions class q) ≡ true → list_any t slabs ≡ true
+book_any s slabs book t class q low at slab h =
+    let there = any_has (λ p. t (slab_of s.regions class p)) (filter (is_slab class s.regions) s.parts) q (filter_has (is_slab class s.regions) s.parts q at slab) h in
+    let inside : list_any t (of_class class slabs) ≡ true = ap (list_any t) (book.booked class low) ∙ any_map (slab_of s.regions class) t (slabs_of class s) ∙ any_order (λ p. t (slab_of s.regions class p)) (filter (is_slab class s.regions) s.parts) ∙ there in
+    let x = any_from t (of_class class slabs) inside in
+    any_has t slabs x.0 (filter_from (λ y. eqb y.class class) slabs x.0 x.1).0 x.2
+
+-- the slabs of a class stay booked where its extents and their free places stay
+pub class_stays : (s t : Space) (slabs : List Slab) (class : ℕ) → filter (is_slab class t.regions) t.parts ≡ filter (is_slab class s.regions) s.parts →
+    ((q : Part) → Contains s.parts q → is_slab class s.regions q ≡ true → slab_of t.regions class q ≡ slab_of s.regions class q) →
+    of_class class slabs ≡ map (slab_of s.regions class) (slabs_of class s) → of_class class slabs ≡ map (slab_of t.regions class) (slabs_of class t)
+class_stays s t slabs class parts same booked =
+    booked ∙ map_same (slab_of s.regions class) (slab_of t.regions class) (slabs_of class s) (λ q m. let at = from_slabs s class q m in sym (same q at.0 at.1))
+    ∙ ap (λ ps. map (slab_of t.regions class) (turned_in_order (λ p. p) ps)) (sym parts)
+
+-- as many slabs of a class as the space has
+class_count : (s : Space) (slabs : List Slab) → IsBooked s slabs → (class : ℕ) → class < 36 → count_by (λ x. eqb x.class class) slabs ≡ count_by (is_slab class s.regions) s.parts
+class_count s slabs book class low =
+    let parts = filter (is_slab class s.regions) s.parts in
+    let many = ap length (book.booked class low) ∙ length-map (slabs_of class s) (slab_of s.regions class) in
+    omega (arith, length-filter (λ x. eqb x.class class) slabs, many, each_one (slabs_of class s), turned_sum (λ p. p) (λ p. 1) [] parts, each_one parts, length-filter (is_slab class s.regions) s.parts)
+  where
+    each_one : (ps : List Part) → sum_by (λ p. 1) ps ≡ length ps
+    each_one [] = refl
+    each_one (p ∷ ps) = omega (arith, each_one ps, sum_by-cons (λ (q : Part). 1) p ps)
+
+pub slabs_counted : (s : Space) (slabs : List Slab) (numbers : List ℕ) → IsBooked s slabs → length numbers ≡ 36 → ((class : ℕ) → class < 36 → get_or numbers class 0 ≡ count_by (λ x. eqb x.class class) slabs) →
+    numbers ≡ slabs_by_class s.regions s.parts
+slabs_counted s slabs numbers book long told =
+    let f : ℕ → ℕ = λ class. count_by (is_slab class s.regions) s.parts in
+    ext_get_or 0 numbers (tally f 36) (long ∙ sym (length-map-range_with_len f 0 36))
+    (λ k lt. let low : k < 36 = omega (arith, lt, long) in told k low ∙ class_count s slabs book k low ∙ sym (at_tally f 36 k low))
+
+-- all slabs stay booked where the extents that serve regions stay, with their regions
+pub still_booked : (s t : Space) (slabs : List Slab) → IsBooked s slabs → Still s t → IsBooked t slabs
+still_booked s t slabs book h = record { small = book.small; booked = stay_still s t slabs h.parts h.regions book.booked }
+
+-- as the space and the slabs are told
+pub booked_as : {s t : Space} {slabs now : List Slab} → IsBooked s slabs → t ≡ s → now ≡ slabs → IsBooked t now
+booked_as {s} {t} {slabs} {now} book same told = subst (λ x. IsBooked x now) (sym same) (subst (IsBooked s) (sym told) book)
+
+-- no regions, no slabs
+pub nothing_booked : NothingIsBooked
+nothing_booked s none = record {
+  small = All-nil (λ (x : Slab). x.class < 36);
+  booked = λ class low.
+      let empty = filter_none_of (is_slab class s.regions) s.parts (λ q m. ap (λ rs. is_slab class rs q) none) in
+      sym (ap (λ ps. map (slab_of s.regions class) (turned_in_order (λ p. p) ps)) empty);
+}
+
+-- ---- one region is given back
+
+-- what a list of one has
+pub only : {X : Type 0} (y x : X) → Contains (y ∷ []) x → y ≡ x
+only y x m = elim (contains_cases y [] x m) [ inl e ↦ e | inr d ↦ absurd (omega (arith, d.1)) ]
+
+-- two filters in either order
+pub filter_swap : {X : Type 0} (p q : X → Bool) (xs : List X) → filter q (filter p xs) ≡ filter p (filter q xs)
+filter_swap p q xs = filter_both p q xs ∙ filter_same (λ x. p x && q x) (λ x. q x && p x) xs (λ x m. swap (p x) (q x)) ∙ sym (filter_both q p xs)
+  where
+    swap : (a b : Bool) → (a && b) ≡ (b && a)
+    swap true true = refl
+    swap true false = refl
+    swap false true = refl
+    swap false false = refl
+
+-- what changes no member leaves the list
+pub map_itself : {X : Type 0} (h : X → X) (xs : List X) → ((x : X) → Contains xs x → h x ≡ x) → map h xs ≡ xs
+map_itself h [] same = refl
+map_itself h (x ∷ xs) same = λ k. same x (head x xs) k ∷ map_itself h xs (λ y m. same y (contains_later x xs y m)) k
+
+module _ (c addr : ℕ) (s : Space) (p : Part) (slabs : List Slab) (sound : Sound s) (e : Empties c addr s p) (book : IsBooked s slabs) where
+  abbrev rest : List Region
+  rest = staying c (addr ∷ []) s.regions
+
+  sub : (x : Region) → Contains rest x → Contains s.regions x
+  sub x m = (filter_from (λ r. not (is_given_back c (addr ∷ []) r)) s.regions x m).0
+
+  -- the region and its extent are there
+  gone : Contains s.regions e.region × (is_given_back c (addr ∷ []) e.region ≡ true)
+  gone = filter_from (is_given_back c (addr ∷ [])) s.regions e.region (subst (λ xs. Contains xs e.region) (sym e.given.alone) (head e.region []))
+
+  home : Contains s.parts p
+  home = (filter_from (begins_at p.span.first) s.parts p (subst (λ xs. Contains xs p) (sym e.alone) (head p []))).0
+
+  -- it is the one at the address
+  same_region : (x : Region) → Contains s.regions x → starts_at addr x ≡ true → e.region ≡ x
+  same_region x m t =
+      let one = only_one (starts_at addr) (is_given_back c (addr ∷ [])) s.regions e.region (begins_alone s addr sound) (find_alone (is_given_back c (addr ∷ [])) s.regions e.region e.given.alone) (eq-eqb _ _ e.given.at) in
+      only e.region x (subst (λ xs. Contains xs x) one (filter_has (starts_at addr) s.regions x m t))
+
+  given_starts : (x : Region) → is_given_back c (addr ∷ []) x ≡ true → starts_at addr x ≡ true
+  given_starts x h = grind (arith, nat_tests)
+
+  rest_is : rest ≡ filter (λ r. not (starts_at addr r)) s.regions
+  rest_is = filter_same (λ r. not (is_given_back c (addr ∷ []) r)) (λ r. not (starts_at addr r)) s.regions (λ x m. ap not (both_ways (is_given_back c (addr ∷ []) x) (starts_at addr x)
+      (λ t. given_starts x t)
+      (λ t. subst (λ r. is_given_back c (addr ∷ []) r ≡ true) (same_region x m t) gone.1)))
+
+  freed_is : (class : ℕ) (q : Part) → slab_of rest class q ≡ with_free addr (slab_of s.regions class q)
+  freed_is class q = ap (λ rs. slab_of rs class q) rest_is ∙ freed s.regions addr class q
+
+  -- a slab is unused where it is the extent that is emptied
+  unused : (class : ℕ) (q : Part) → class < 36 → Contains s.parts q → is_slab class s.regions q ≡ true → is_unused (with_free addr (slab_of s.regions class q)) ≡ (begins_at p.span.first q && is_left rest p)
+  unused class q low at slab =
+      let active = (slab_at s class q sound low at slab).active in
+      let emptied : is_left rest q ≡ is_emptied rest q = sym (ap (λ b. b && is_left rest q) active) in
+      ap is_unused (sym (freed_is class q)) ∙ unused_is s class q sound low at slab rest sub ∙ emptied
+      ∙ All-contains (λ x. is_emptied rest x ≡ (begins_at p.span.first x && is_left rest p)) s.parts q e.each at
+
+  -- where the region's class is small, its extent is a slab
+  own_slab : is_slab e.region.class s.regions p ≡ true
+  own_slab = any_has (λ r. eqb r.class e.region.class && houses p r) s.regions e.region gone.0 (rw (eqb_itself e.region.class, e.home) refl)
+
+  last_small : e.region.class < 36 → list_any is_unused (map (with_free addr) slabs) ≡ is_left rest p
+  last_small low = both_ways _ _
+      (λ t.
+      let y = any_from is_unused (map (with_free addr) slabs) t in
+      let x = map_from (with_free addr) slabs y.0 y.1 in
+      let at = stands_at s slabs book x.0 x.1 in
+      let is : is_unused (with_free addr (slab_of s.regions x.0.class at.extent)) ≡ true = ap (λ z. is_unused (with_free addr z)) at.is ∙ ap is_unused x.2 ∙ y.2 in
+      (both_true (begins_at p.span.first at.extent) (is_left rest p) (sym (unused x.0.class at.extent at.low at.there at.slab) ∙ is)).1)
+      (λ t. any_map (with_free addr) is_unused slabs ∙ book_any s slabs book (λ z. is_unused (with_free addr z)) e.region.class p low home own_slab
+      (unused e.region.class p low home own_slab ∙ rw (eqb_itself p.span.first, t) refl))
+
+  -- a large region is alone in its extent
+  last_large : 36 ≤ e.region.class → is_left rest p ≡ true
+  last_large big =
+      let t = is_given_back c (addr ∷ []) in
+      let large = (All-contains (λ q. IsTrue (houses q e.region) → 36 ≤ e.region.class → IsTrue (fills q e.region) × (residents q s.regions ≡ 1)) s.parts p
+      (All-contains (λ r. All (λ q. IsTrue (houses q r) → 36 ≤ r.class → IsTrue (fills q r) × (residents q s.regions ≡ 1)) s.parts) s.regions e.region sound.large gone.0) home e.home big).1 in
+      let own : count_by (houses p) (filter t s.regions) ≡ count_by (houses p) (e.region ∷ []) = ap (count_by (houses p)) e.given.alone in
+      let one : ones (houses p e.region) ≡ 1 = ap ones e.home in
+      let none : count_by (houses p) rest ≡ 0 = omega (arith, large, own, one, sum_by-cons (λ q. ones (houses p q)) e.region [], sum_by-filter_both t (λ q. not (t q)) (λ _. refl) (λ q. ones (houses p q)) s.regions) in
+      ap not (false_from_ne_true _ (λ some. let counted = any_counts (houses p) rest some in omega (arith, counted, none)))
+
+  -- so a book tells whether the extent is emptied
+  pub last_is : (class : ℕ) → e.region.class ≡ class → is_last class addr slabs ≡ is_left rest p
+  last_is class is = subst (λ k. is_last k addr slabs ≡ is_left rest p) is (elim (cases_lt e.region.class 36) [
+    | inl low ↦ rw (lt-ltb e.region.class 36 low) (last_small low)
+    | inr big ↦ rw (le-ltb e.region.class 36 big) (sym (last_large big))
+  ])
+
+  -- and the region is one that is out of a slab of the book, if its class is small
+  pub out_is : (class : ℕ) → e.region.class ≡ class → class < 36 → list_any (is_out class addr) slabs ≡ true
+  out_is class is low =
+      let small : e.region.class < 36 = omega (arith, is, low) in
+      let here = slab_at s e.region.class p sound small home own_slab in
+      let place = subst (Contains (places e.region.class p)) e.given.at (here.placed e.region gone.0 e.home) in
+      let among = any_has (λ a. eqb a addr) (places e.region.class p) addr place (eqb_itself addr) in
+      let taken = among_kept (λ a. not (list_any (starts_at a) s.regions)) (places e.region.class p) addr place ∙ ap not (any_has (starts_at addr) s.regions e.region gone.0 (eq-eqb _ _ e.given.at)) in
+      subst (λ k. list_any (is_out k addr) slabs ≡ true) is
+      (book_any s slabs book (is_out e.region.class addr) e.region.class p small home own_slab (rw (eqb_itself e.region.class, among, taken) refl))
+
+  -- what is a slab then: one with a region left
+  one_slab : (class : ℕ) (q : Part) → class < 36 → Contains s.parts q → is_slab class rest q ≡ (is_slab class s.regions q && not (is_unused (slab_of rest class q)))
+  one_slab class q low at = elim (cases_Bool (is_slab class s.regions q)) [
+    | inl t ↦ still_slab s class q sound low at t rest sub ∙ twice (list_any (houses q) rest) ∙ (λ i. sym t i && not (sym (unused_is s class q sound low at t rest sub) i))
+    | inr f ↦
+        let none = false_from_ne_true _ (λ t.
+        let x = any_from (λ r. eqb r.class class && houses q r) rest t in
+        let u = any_has (λ r. eqb r.class class && houses q r) s.regions x.0 (sub x.0 x.1) x.2 in
+        let no : true ≡ false = sym u ∙ f in
+        cc) in
+        none ∙ ap (λ b. b && not (is_unused (slab_of rest class q))) (sym f)
+  ]
+    where
+      twice : (b : Bool) → b ≡ (true && not (not b))
+      twice true = refl
+      twice false = refl
+
+  abbrev after : Space
+  after = (after_back s c (addr ∷ [])).after
+
+  -- the extent that is emptied is no slab any more
+  parts_stay : (class : ℕ) (b : Bool) → is_left rest p ≡ b → filter (is_slab class rest) after.parts ≡ filter (is_slab class rest) s.parts
+  parts_stay class false left = ap (filter (is_slab class rest)) (given_parts c addr s p e false left).1
+  parts_stay class true left =
+      let none : list_any (houses p) rest ≡ false = twice (list_any (houses p) rest) left in
+      let slab = serves_none class rest p none in
+      ap (filter (is_slab class rest)) (given_parts c addr s p e true left).1
+      ∙ kept_exchanged (is_slab class rest) (begins_at p.span.first) s.parts (taken_out c p ∷ []) (ap (filter (is_slab class rest)) e.alone ∙ rw slab refl)
+      (All-cons (λ q. is_slab class rest q ≡ false) (taken_out c p) [] (idle_no_slab class rest (taken_out c p) refl) (All-nil (λ q. is_slab class rest q ≡ false)))
+    where
+      twice : (b : Bool) → not b ≡ true → b ≡ false
+      twice true h = absurd (cc)
+      twice false h = refl
+
+  abbrev keep : Slab → Bool
+  keep x = not (is_unused x)
+
+  returned : IsBooked after (filter keep (map (with_free addr) slabs))
+  returned = record {
+    small = All-filter keep (λ x. x.class < 36) (map (with_free addr) slabs) (All-map (λ x. x.class < 36) (with_free addr) slabs book.small);
+    booked = λ class low.
+        let slab = is_slab class s.regions in
+        let left = λ (q : Part). keep (slab_of rest class q) in
+        let here = filter_both slab left s.parts ∙ filter_same (λ q. slab q && left q) (is_slab class rest) s.parts (λ q m. sym (one_slab class q low m)) ∙ sym (parts_stay class (is_left rest p) refl) in
+        filter_swap keep (λ x. eqb x.class class) (map (with_free addr) slabs)
+        ∙ ap (filter keep) (filter_map_is (with_free addr) (λ x. eqb x.class class) slabs ∙ ap (map (with_free addr)) (book.booked class low)
+        ∙ sym (map_both (slab_of s.regions class) (with_free addr) (slab_of rest class) (slabs_of class s) (λ q m. freed_is class q)))
+        ∙ filter_map_is (slab_of rest class) keep (slabs_of class s)
+        ∙ ap (map (slab_of rest class)) (sym (order_stays left (filter slab s.parts)) ∙ ap (turned_in_order (λ q. q)) here);
+  }
+
+  -- a large region is at no place of a slab
+  free_stays : (class : ℕ) (q : Part) → 36 ≤ e.region.class → class < 36 → Contains s.parts q → SlabAt class s.regions q → slab_of rest class q ≡ slab_of s.regions class q
+  free_stays class q big low at slab = λ k. record {
+    class = class;
+    first = q.span.first;
+    free = filter_same (λ a. not (list_any (starts_at a) rest)) (λ a. not (list_any (starts_at a) s.regions)) (places class q) (λ a m. ap not (both_ways (list_any (starts_at a) rest) (list_any (starts_at a) s.regions)
+        (λ t. let x = any_from (starts_at a) rest t in any_has (starts_at a) s.regions x.0 (sub x.0 x.1) x.2)
+        (λ t.
+        let x = any_from (starts_at a) s.regions t in
+        let place = subst (Contains (places class q)) (sym (eqb-true _ _ x.2)) m in
+        let alike = slab.alike x.0 x.1 (starts_served s class q sound low at slab x.0 x.1 place) in
+        let stays = ap not (false_from_ne_true _ (λ g. let is = ap (λ (r : Region). r.class) (same_region x.0 x.1 (given_starts x.0 g)) in omega (arith, is, alike, big, low))) in
+        any_has (starts_at a) rest x.0 (filter_has (λ r. not (is_given_back c (addr ∷ []) r)) s.regions x.0 x.1 stays) x.2))) k;
+  }
+
+  same_large : 36 ≤ e.region.class → filter keep (map (with_free addr) slabs) ≡ slabs
+  same_large big =
+      let stays : (x : Slab) → Contains slabs x → with_free addr x ≡ x = λ x m.
+      let at = stands_at s slabs book x m in
+      let slab = slab_at s x.class at.extent sound at.low at.there at.slab in
+      ap (with_free addr) (sym at.is) ∙ sym (freed_is x.class at.extent) ∙ free_stays x.class at.extent big at.low at.there slab ∙ at.is in
+      let used : (x : Slab) → Contains slabs x → keep (with_free addr x) ≡ true = λ x m.
+      let at = stands_at s slabs book x m in
+      let slab = slab_at s x.class at.extent sound at.low at.there at.slab in
+      let other = false_from_ne_true _ (λ t.
+      let same = only p at.extent (subst (λ xs. Contains xs at.extent) e.alone (filter_has (begins_at p.span.first) s.parts at.extent at.there t)) in
+      let alike = slab.alike e.region gone.0 (subst (λ q. houses q e.region ≡ true) same e.home) in
+      let low = at.low in
+      omega (arith, alike, big, low)) in
+      ap (λ y. keep (with_free addr y)) (sym at.is) ∙ ap not (unused x.class at.extent at.low at.there at.slab) ∙ rw other refl in
+      filter_all_of keep (map (with_free addr) slabs) (λ y m. let x = map_from (with_free addr) slabs y m in ap keep (sym x.2) ∙ used x.0 x.1) ∙ map_itself (with_free addr) slabs stays
+
+  -- so the book is that of the space afterwards
+  pub back_booked : (class : ℕ) → e.region.class ≡ class → IsBooked after (slabs_returned class addr slabs)
+  back_booked class is = subst (λ k. IsBooked after (slabs_returned k addr slabs)) is (elim (cases_lt e.region.class 36) [
+    | inl low ↦ rw (lt-ltb e.region.class 36 low) returned
+    | inr big ↦ rw (le-ltb e.region.class 36 big) (subst (IsBooked after) (same_large big) returned)
+  ])
+
+-- What giving one region back of a class that was told comes to, by a book.
+pub record Returns (c addr : ℕ) (s : Space) (class : ℕ) (slabs : List Slab) : Type 0 where
+  pub extent : Part
+  pub found : find (λ q. has_page (addr / 4096) q.span) s.parts ≡ Some extent
+  pub out : class < 36 → list_any (is_out class addr) slabs ≡ true
+  pub gives : Gives c addr s extent (is_last class addr slabs)
+  pub booked : IsBooked (after_back s c (addr ∷ [])).after (slabs_returned class addr slabs)
+
+pub returns_one : (c addr : ℕ) (s : Space) (class : ℕ) (slabs : List Slab) → Sound s → holds_at c s.regions addr ≡ true → IsBooked s slabs → map (λ r. r.class) (filter (is_given_back c (addr ∷ [])) s.regions) ≡ class ∷ [] →
+    Returns c addr s class slabs
+returns_one c addr s class slabs sound held book told =
+    let e = empties c addr s sound held in
+    let is : e.1.region.class ≡ class = ap (λ ns. get_or ns 0 0) (sym (ap (map (λ (r : Region). r.class)) e.1.given.alone) ∙ told) in record {
+      extent = e.0;
+      found = e.1.found;
+      out = out_is c addr s e.0 slabs sound e.1 book class is;
+      gives = gives c addr s e.0 (is_last class addr slabs) e.1 (last_is c addr s e.0 slabs sound e.1 book class is);
+      booked = back_booked c addr s e.0 slabs sound e.1 book class is;
+    }
