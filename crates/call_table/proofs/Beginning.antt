@@ -1,11 +1,12 @@
 -- Each request in range begins with what its first point has to know.
-use Rattle.std.proofs.Common.{ℤ, negsuc, ◌≡◌, ℕ, ◌≤◌, ◌<◌, ◌==◌, ◌^◌, true, false, cond, Option, None, Some, refl, arith, nat_lt, lt-ltb, le-leb}
+use Rattle.std.proofs.Common.{ℤ, negsuc, ◌≡◌, ℕ, ◌/◌, ◌*◌, ◌≤◌, ◌<◌, ◌==◌, ◌&&◌, ◌^◌, inl, inr, Bool, true, false, cond, not, min, max, List, [], ◌∷◌, length, take, slice_set, suc, zero, sym, ap, subst, ◌∙◌, Option, None, Some, refl, arith, nat_le, nat_lt, ◌+◌, lt-ltb, le-leb}
+use Rattle.std.specs.List.{Contains}
 use Rattle.std.specs.Int.{is_power_of_two}
 use Rattle.std.specs.Ordering.{int_eq}
 use Rattle.std.proofs.lemmas.Bool.Decides.{nat_tests}
 use Rattle.std.proofs.lemmas.Bool.{ltb-true}
 use lib.Count.{ones}
-use Rattle.size_classes.specs.Classes.{class_for, regions_at}
+use Rattle.size_classes.specs.Classes.{aligned_for, class_for, regions_at, slots_at}
 use Rattle.size_classes.proofs.Least.{class_for_exists}
 use Rattle.size_classes.proofs.Table.{slab_filled}
 use Rattle.space_model.specs.declared.Rest.{Rest}
@@ -15,19 +16,26 @@ use Rattle.space_model.specs.Own.{Mine}
 use Rattle.space_model.specs.Purging.{is_purgeable}
 use Rattle.space_model.specs.Settings.{is_decay_time}
 use Rattle.space_model.specs.Slabs.{most_regions}
+use Rattle.space_model.specs.Step.{rises_from}
 use Rattle.thread_cache.specs.declared.Held.{Held}
-use Rattle.call_table.specs.declared.needs.Answered.TheVariants.{Ok, TooLarge, NoArena as NoSuchArena, Automatic}
+use Rattle.thread_cache.specs.Caches.{cached_in, put_in}
+use Rattle.thread_cache.specs.Desks.{BatchFacts, DeskFacts, batch_of, cached_of, freeing, going, caching, going_with, has_slot, held_at, hit, is_cacheable, older_count, rising_from}
+use Rattle.thread_cache.proofs.Going.{batch_is, cached_is_flat, taken_is_in}
+use Rattle.call_table.specs.declared.needs.Answered.TheVariants.{Ok, TooLarge, BadAlign, NoArena as NoSuchArena, Automatic}
 use Rattle.call_table.specs.declared.needs.Given.TheVariants.{Done as Finished}
-use Rattle.call_table.specs.declared.needs.Request.TheVariants.{Malloc, Free, Publish, Take, Purge as PurgeAll, Decay, Time, Reset, Destroy, Create, Bind, HookBox, GrowLimit}
+use Rattle.call_table.specs.declared.needs.Request.TheVariants.{Malloc, Memalign, Free, FreeForeign, Publish, Take, Flush, Cache, Purge as PurgeAll, Decay, Time, Reset, Destroy, Create, Bind, HookBox, GrowLimit}
 use Rattle.call_table.specs.declared.points.Wish.{Wish}
 use Rattle.call_table.specs.declared.points.Change.TheVariants.{Stops, Visits, Leaves}
 use Rattle.call_table.specs.declared.points.TurnPoint.{TurnPoint}
 use Rattle.call_table.specs.declared.points.TurnPoint.TheVariants.{Filling, Looking, Advancing, Changing, Resetting, Destroying, Owning}
 use Rattle.call_table.specs.declared.points.Point.TheVariants.{Turns}
 use Rattle.call_table.specs.declared.points.Next.TheVariants.{Go, Ends}
-use Rattle.call_table.specs.Runs.{begin_malloc, begin_bind, first_turn, first_turn_but_0, get, stage, wish_for, time_of, after_time, whole_visit}
-use Rattle.call_table.specs.Knows.{IsWish, Idle, Gets, KnowsTurn, IsChange}
-use Rattle.call_table.specs.Laws.{Ready, KnowsNext, BeginsKnow}
+use Rattle.call_table.specs.Runs.{batch_goes, begin_bind, begin_flush, begin_free, begin_get, begin_malloc, begin_memalign, begin_publish, first_turn, first_turn_but_0, get, is_alignment, page_align, share, small_hit, stage, wish_for, time_of, after_time, whole_visit}
+use Rattle.call_table.specs.Desks.{flushes}
+use Rattle.call_table.specs.declared.calls.Stage.{Stage}
+use Rattle.call_table.specs.Knows.{IsWish, Idle, Gets, KnowsTurn, IsChange, is_held}
+use Rattle.call_table.specs.Laws.{Ready, KnowsNext, BatchesKnow, BeginsKnow, Has}
+use Rattle.call_table.proofs.Aligned.{aligned_below, page_power}
 
 -- 1 is a power of two
 power_1 : is_power_of_two 1 ≡ true
@@ -42,33 +50,75 @@ one_fits class =
       | false ↦ λ h. omega arith
     ] refl
 
-wish_is : (class : ℕ) → class < 121 → IsWish (wish_for class 1)
-wish_is class below = record { class = below; some = omega arith; fewer = one_fits class; pages = refl; align = power_1 }
+some_slots : (class : ℕ) → 20 ≤ slots_at class
+some_slots class = elim (nat_lt class 36) as (λ v. 20 ≤ cond v (min 200 (max 20 (2 * regions_at class))) 20) [ true ↦ most_20 (regions_at class) | false ↦ omega arith ]
+  where
+    most_20 : (n : ℕ) → 20 ≤ min 200 (max 20 (2 * n))
+    most_20 n = grind arith
+
+-- at least one region is got
+some_shared : (class : ℕ) (desk : DeskFacts) → 0 < share class desk
+some_shared class desk = elim (desk.caches && nat_lt class 36) as (λ v. 0 < cond v (slots_at class / 2) 1) [ true ↦ omega (arith, some_slots class) | false ↦ omega arith ]
+
+wish_is : (class align count : ℕ) → class < 121 → is_power_of_two align ≡ true → 0 < count → IsWish (wish_for class align (min count (most_regions class)))
+wish_is class align count below power some = record {
+  class = below;
+  some = lesser_some count (most_regions class) some (one_fits class);
+  fewer = lesser_fewer count (most_regions class);
+  pages = refl;
+  align = power;
+}
+  where
+    lesser_some : (a b : ℕ) → 0 < a → 1 ≤ b → 0 < min a b
+    lesser_some a b one other = grind arith
+
+    lesser_fewer : (a b : ℕ) → min a b ≤ b
+    lesser_fewer a b = grind arith
 
 -- a turn that comes first knows what it has to, or there is no such arena
 first_knows : (m : Mine) (arena : ℕ) (point : TurnPoint) → Idle m → KnowsTurn m point → KnowsNext m (first_turn arena point).next
 first_knows m arena point idle knows =
     elim (nat_lt arena 32) as (λ v. KnowsNext m (cond v (Go (Turns point)) (Ends (NoSuchArena arena)))) [ true ↦ knows | false ↦ idle ]
 
-but_0_knows : (m : Mine) (arena : ℕ) (point : TurnPoint) → Idle m → KnowsTurn m point → KnowsNext m (first_turn_but_0 arena point).next
-but_0_knows m arena point idle knows =
-    elim (arena == 0) as (λ v. KnowsNext m (cond v (stage arena (Ends Automatic)) (first_turn arena point)).next) [ true ↦ idle | false ↦ first_knows m arena point idle knows ]
-
-get_knows : (m : Mine) (wish : Wish) → Gets m wish → Idle m → KnowsNext m (get wish)
-get_knows m wish gets idle =
-    elim (nat_lt wish.class 36) as (λ v. nat_lt wish.class 36 ≡ v → KnowsNext m (cond v (Go (Turns (Filling wish))) (Go (Turns (Looking wish))))) [
-      | true ↦ λ h. (gets, idle, ltb-true _ _ h)
+get_knows : (m : Mine) (class align count : ℕ) → Gets m (wish_for class align (min count (most_regions class))) → Idle m → 0 < count → KnowsNext m (get class align count)
+get_knows m class align count gets idle some =
+    let wish : Wish = wish_for class align (min count (most_regions class)) in
+    elim (nat_lt class 36) as (λ v. nat_lt class 36 ≡ v → KnowsNext m (cond v (Go (Turns (Filling wish count))) (Go (Turns (Looking wish))))) [
+      | true ↦ λ h. (gets, idle, ltb-true _ _ h, some)
       | false ↦ λ h. (gets, idle)
     ] refl
 
-malloc_knows : (m : Mine) (arena : ℕ) (held : Option Held) (size : ℕ) → Ready m arena held (stage arena (begin_malloc size)) → KnowsNext m (begin_malloc size)
-malloc_knows m arena held size ready =
-    elim (nat_lt (2 ^ 35) size) as (λ v. nat_lt (2 ^ 35) size ≡ v → KnowsNext m (cond v (Ends TooLarge) (get (wish_for (class_for size) 1)))) [
-      | true ↦ λ h. ready.idle
-      | false ↦ λ h.
+got_knows : (m : Mine) (class align : ℕ) (hit : Option Held) (desk : DeskFacts) → class < 121 → is_power_of_two align ≡ true →
+    Ready m desk (begin_get class align hit desk) → KnowsNext m (begin_get class align hit desk).next
+got_knows m class align (Some region) desk below power ready = ready.idle
+got_knows m class align None desk below power ready =
+    let some = some_shared class desk in
+    get_knows m class align (share class desk) (record { is = wish_is class align (share class desk) below power some; served = ready.served refl }) ready.idle some
+
+malloc_knows : (m : Mine) (size : ℕ) (desk : DeskFacts) → Ready m desk (begin_malloc size desk) → KnowsNext m (begin_malloc size desk).next
+malloc_knows m size desk ready =
+    elim (nat_lt (2 ^ 35) size) as (λ v. nat_lt (2 ^ 35) size ≡ v → Ready m desk (cond v (stage desk.arena (Ends TooLarge)) (begin_get (class_for size) 1 (hit (class_for size) desk) desk)) →
+    KnowsNext m (cond v (stage desk.arena (Ends TooLarge)) (begin_get (class_for size) 1 (hit (class_for size) desk) desk)).next) [
+      | true ↦ λ h r. r.idle
+      | false ↦ λ h r.
           let most : size ≤ 2 ^ 35 = grind (arith, nat_tests) in
-          get_knows m (wish_for (class_for size) 1) (record { is = wish_is (class_for size) (class_for_exists size most); served = ready.served refl }) ready.idle
-    ] refl
+          got_knows m (class_for size) 1 (hit (class_for size) desk) desk (class_for_exists size most) power_1 r
+    ] refl ready
+
+memalign_knows : (m : Mine) (align size : ℕ) (desk : DeskFacts) → Ready m desk (begin_memalign align size desk) → KnowsNext m (begin_memalign align size desk).next
+memalign_knows m align size desk ready =
+    let begun : Stage = begin_get (aligned_for size align) (page_align align) (small_hit (aligned_for size align) desk) desk in
+    let large : Bool → Stage = λ v. cond v (stage desk.arena (Ends TooLarge)) begun in
+    elim (is_alignment align) as (λ v. is_alignment align ≡ v → Ready m desk (cond (not v) (stage desk.arena (Ends BadAlign)) (large (nat_lt (2 ^ 35) size))) →
+    KnowsNext m (cond (not v) (stage desk.arena (Ends BadAlign)) (large (nat_lt (2 ^ 35) size))).next) [
+      | true ↦ λ good. elim (nat_lt (2 ^ 35) size) as (λ v. nat_lt (2 ^ 35) size ≡ v → Ready m desk (large v) → KnowsNext m (large v).next) [
+        | true ↦ λ h r. r.idle
+        | false ↦ λ h r.
+            let most : size ≤ 2 ^ 35 = grind (arith, nat_tests) in
+            got_knows m (aligned_for size align) (page_align align) (small_hit (aligned_for size align) desk) desk (aligned_below size align most) (page_power align good) r
+      ] refl
+      | false ↦ λ bad r. r.idle
+    ] refl ready
 
 change_is : (rest : Rest) (ms : ℤ) → is_purgeable rest ≡ true → IsChange (after_time rest ms)
 change_is rest ms purgeable = elim (int_eq ms (negsuc 0)) as (λ v. IsChange (cond v Stops (Visits (whole_visit rest)))) [ true ↦ tt | false ↦ purgeable ]
@@ -85,19 +135,92 @@ bind_knows m arena index idle =
       | false ↦ first_knows m index (Changing SetBound (Leaves arena)) idle (idle, refl, tt, refl)
     ]
 
+-- ---- regions that go back
+
+-- to rise is the same for a desk and an arena
+rises_too : (least : ℕ) (addrs : List ℕ) → rises_from least addrs ≡ rising_from least addrs
+rises_too least [] = refl
+rises_too least (addr ∷ addrs) = ap (λ v. nat_le least addr && v) (rises_too (addr + 1) addrs)
+
+-- what is so of the batch of some regions, all of which the client has
+batch_knows : (m : Mine) (desk : DeskFacts) (arena : ℕ) (regions : List Held) (batch : Option BatchFacts) → batch_of regions ≡ batch → ((region : Held) → Contains regions region → Has desk region) →
+    Ready m desk (batch_goes arena batch) → KnowsNext m (batch_goes arena batch).next
+batch_knows m desk arena regions None e has ready = ready.idle
+batch_knows m desk arena regions (Some batch) e has ready =
+    let is = batch_is regions batch e in record {
+      some = is.some;
+      rise = rises_too 0 batch.addrs ∙ is.rise;
+      held = is.all (is_held m) (λ region there home. ready.holds region (has region there) (sym home));
+      idle = ready.idle;
+    }
+
+-- all that is to go is the client's
+going_is_had : (desk : DeskFacts) (hand : Option Held) (all : Bool) → ((region : Held) → hand ≡ Some region → Has desk region) → (region : Held) → Contains (going_with hand all desk) region → Has desk region
+going_is_had desk (Some own) all has region among =
+    elim (is_cacheable own.class desk) as (λ v. Contains (cond v (take (older_count own.class desk) (cached_in desk.cached own.class)) (own ∷ [])) region → Has desk region) [
+      | true ↦ λ there. inr (inl (cached_is_flat desk.cached own.class region (taken_is_in (older_count own.class desk) (cached_in desk.cached own.class) region there)))
+      | false ↦ λ there. has region (ap Some (only_one there))
+    ] among
+  where
+    only_one : Contains (own ∷ []) region → own ≡ region
+    only_one (zero, inside, is) = is
+    only_one (suc k, inside, is) = absurd (omega (arith, inside))
+going_is_had desk None true has region among = inr (inl among)
+going_is_had desk None false has region (k, inside, is) = absurd (omega (arith, inside))
+
+pub batches-know : BatchesKnow
+batches-know m request desk arena ready =
+    batch_knows m desk arena (going (flushes request) desk) (batch_of (going (flushes request) desk)) refl (going_is_had desk desk.hand (flushes request) (λ region e. inr (inr e))) ready
+
+-- a region that is cached leaves the hand as it is
+cached_hand : (region own : Held) (desk : DeskFacts) → (caching region desk).hand ≡ Some own → desk.hand ≡ Some own
+cached_hand region own desk is = elim (nat_lt region.class 41) as (λ v. (cond v (record desk { cached = slice_set desk.cached region.class (put_in region.class region (cached_in desk.cached region.class)) }) desk).hand ≡ Some own → desk.hand ≡ Some own) [ true ↦ λ e. e | false ↦ λ e. e ] is
+
+free_knows : (m : Mine) (addr : ℕ) (held : Option Held) (desk : DeskFacts) → held_at addr desk ≡ held → Ready m desk (begin_free addr held desk) → KnowsNext m (begin_free addr held desk).next
+free_knows m addr None desk e ready = ready.idle
+free_knows m addr (Some region) desk held ready =
+    batch_knows m desk region.arena (going_with (freeing region desk).hand false desk) _ refl (going_is_had desk (freeing region desk).hand false (λ own is. hand_is_had own is)) ready
+  where
+    hand_is_had : (own : Held) → (freeing region desk).hand ≡ Some own → Has desk own
+    hand_is_had own is =
+        elim (is_cacheable region.class desk && has_slot region.class desk) as (λ v. (cond v (caching region desk) (record desk { hand = Some region })).hand ≡ Some own → Has desk own) [
+          | true ↦ λ e. inr (inr (cached_hand region own desk e))
+          | false ↦ λ e. inl (addr, held ∙ e)
+        ] is
+
+publish_knows : (m : Mine) (addr : ℕ) (held : Option Held) (desk : DeskFacts) → held_at addr desk ≡ held → Ready m desk (begin_publish addr held) → KnowsNext m (begin_publish addr held).next
+publish_knows m addr None desk e ready = ready.idle
+publish_knows m addr (Some region) desk e ready = (ready.idle, ready.holds region (inl (addr, e)) refl)
+
+flush_knows : (m : Mine) (desk : DeskFacts) → Ready m desk (begin_flush desk) → KnowsNext m (begin_flush desk).next
+flush_knows m desk ready = batch_knows m desk desk.arena (going true desk) _ refl (going_is_had desk desk.hand true (λ region e. inr (inr e))) ready
+
+-- an arena but the first is emptied or ends with what the client has cached of it
+emptied_knows : (m : Mine) (desk : DeskFacts) (index : ℕ) (point : ℕ → TurnPoint) → ((n : ℕ) → n ≤ length m.regions → KnowsTurn m (point n)) →
+    Ready m desk (first_turn_but_0 index (point (cached_of index desk))) → KnowsNext m (first_turn_but_0 index (point (cached_of index desk))).next
+emptied_knows m desk index point knows ready =
+    elim (index == 0) as (λ v. Ready m desk (cond v (stage index (Ends Automatic)) (first_turn index (point (cached_of index desk)))) →
+    KnowsNext m (cond v (stage index (Ends Automatic)) (first_turn index (point (cached_of index desk)))).next) [
+      | true ↦ λ r. r.idle
+      | false ↦ λ r. first_knows m index (point (cached_of index desk)) r.idle (knows (cached_of index desk) r.cached)
+    ] ready
+
 pub begins-know : BeginsKnow
-begins-know m arena held (Malloc size) range ready = malloc_knows m arena held size ready
-begins-know m arena None (Free addr) range ready = ready.idle
-begins-know m arena (Some region) (Free addr) range ready = let holds = ready.holds region refl refl in record { some = omega arith; rise = rw (le-leb 0 region.addr (omega arith)) refl; held = rw holds refl; idle = ready.idle }
-begins-know m arena None (Publish addr) range ready = ready.idle
-begins-know m arena (Some region) (Publish addr) range ready = (ready.idle, ready.holds region refl refl)
-begins-know m arena held (Take addr index) range ready = first_knows m index (Owning addr) ready.idle ready.idle
-begins-know m arena held (PurgeAll index) range ready = first_knows m index _ ready.idle (ready.idle, refl, tt)
-begins-know m arena held (Decay index now) range ready = first_knows m index (Advancing now) ready.idle ready.idle
-begins-know m arena held (Time index rest ms now) range ready = first_knows m index _ ready.idle (time_knows m index rest ms now ready.idle range.0 range.1)
-begins-know m arena held (Reset index) range ready = but_0_knows m index (Resetting 0) ready.idle (ready.idle, omega arith)
-begins-know m arena held (Destroy index) range ready = but_0_knows m index (Destroying 0) ready.idle (ready.idle, omega arith)
-begins-know m arena held (Create box_no dirty_ms muzzy_ms now) range ready = (ready.idle, rw (lt-ltb _ _ range.0, range.1, range.2) refl, refl)
-begins-know m arena held (Bind index) range ready = bind_knows m arena index ready.idle
-begins-know m arena held (HookBox index box_no) range ready = first_knows m index _ ready.idle (ready.idle, lt-ltb _ _ range, tt, refl)
-begins-know m arena held (GrowLimit index chunks) range ready = first_knows m index _ ready.idle (ready.idle, rw (le-leb _ _ range.0, le-leb _ _ range.1) refl, tt, refl)
+begins-know m (Malloc size) desk range ready = malloc_knows m size desk ready
+begins-know m (Memalign align size) desk range ready = memalign_knows m align size desk ready
+begins-know m (Free addr) desk range ready = free_knows m addr (held_at addr desk) desk refl ready
+begins-know m (FreeForeign addr index) desk range ready = first_knows m index (Owning addr true) ready.idle ready.idle
+begins-know m (Publish addr) desk range ready = publish_knows m addr (held_at addr desk) desk refl ready
+begins-know m (Take addr index) desk range ready = first_knows m index (Owning addr false) ready.idle ready.idle
+begins-know m Flush desk range ready = flush_knows m desk ready
+begins-know m (Cache true) desk range ready = ready.idle
+begins-know m (Cache false) desk range ready = flush_knows m desk ready
+begins-know m (PurgeAll index) desk range ready = first_knows m index _ ready.idle (ready.idle, refl, tt)
+begins-know m (Decay index now) desk range ready = first_knows m index (Advancing now) ready.idle ready.idle
+begins-know m (Time index rest ms now) desk range ready = first_knows m index _ ready.idle (time_knows m index rest ms now ready.idle range.0 range.1)
+begins-know m (Reset index) desk range ready = emptied_knows m desk index Resetting (λ n few. (ready.idle, few)) ready
+begins-know m (Destroy index) desk range ready = emptied_knows m desk index Destroying (λ n few. (ready.idle, few)) ready
+begins-know m (Create box_no dirty_ms muzzy_ms now) desk range ready = (ready.idle, rw (lt-ltb _ _ range.0, range.1, range.2) refl, refl)
+begins-know m (Bind index) desk range ready = bind_knows m desk.arena index ready.idle
+begins-know m (HookBox index box_no) desk range ready = first_knows m index _ ready.idle (ready.idle, lt-ltb _ _ range, tt, refl)
+begins-know m (GrowLimit index chunks) desk range ready = first_knows m index _ ready.idle (ready.idle, rw (le-leb _ _ range.0, le-leb _ _ range.1) refl, tt, refl)

@@ -1,13 +1,18 @@
 -- A malloc makes few asks and few turns: each step of it leaves fewer.
-use Rattle.std.proofs.Common.{sym, ◌∙◌, ap, subst, ◌-◌, ◌≡◌, ℕ, ◌+◌, ◌≤◌, ◌^◌, Bool, true, false, cond, min, List, [], ◌∷◌, None, Some, refl, arith, nat_lt, count_by}
+use Rattle.std.proofs.Common.{sym, ◌∙◌, ap, subst, ◌-◌, ◌≡◌, ℕ, ◌+◌, ◌≤◌, ◌^◌, Bool, true, false, cond, not, min, List, [], ◌∷◌, Option, None, Some, refl, arith, nat_lt, count_by}
 use Rattle.std.proofs.lemmas.List.Sums.{sum_by-cons}
-use Rattle.size_classes.specs.Classes.{class_for}
+use Rattle.size_classes.specs.Classes.{aligned_for, class_for}
 use Rattle.space_model.specs.declared.Reply.{Reply}
 use Rattle.space_model.specs.declared.Reply.TheVariants.{Nothing, Noted, Took, Grow, Cut, Whole, Refused as Refuse, Grown, Landed, Regions}
 use Rattle.space_model.specs.declared.Span.{Span}
 use Rattle.space_model.specs.Span.{max_series}
 use Rattle.hook_api.specs.Asked.{AskFacts}
+use Rattle.thread_cache.specs.declared.Held.{Held}
+use Rattle.thread_cache.specs.Desks.{DeskFacts, hit}
 use Rattle.call_table.specs.declared.needs.Answered.{Answered}
+use Rattle.call_table.specs.declared.needs.Request.{Request}
+use Rattle.call_table.specs.declared.needs.Request.TheVariants.{Malloc, Memalign}
+use Rattle.call_table.specs.declared.calls.Stage.{Stage}
 use Rattle.call_table.specs.declared.needs.Item.{Item}
 use Rattle.call_table.specs.declared.needs.Item.TheVariants.{Replied, Told, Starved}
 use Rattle.call_table.specs.declared.points.Wish.{Wish}
@@ -19,13 +24,14 @@ use Rattle.call_table.specs.declared.points.Point.TheVariants.{Turns, Asks, Tell
 use Rattle.call_table.specs.declared.points.Next.{Next}
 use Rattle.call_table.specs.declared.points.Next.TheVariants.{Go, Over, More, Gone, Ends, Nowhere}
 use Rattle.call_table.specs.Table.{is_marked, op_of, starved, turned, told, chunks_for, commit, trim}
-use Rattle.call_table.specs.Runs.{begin_malloc, get, run, settle, stage, wish_for}
+use Rattle.call_table.specs.Runs.{begin_get, begin_stage, get, is_alignment, moment, page_align, run, settle, share, small_hit}
+use Rattle.call_table.specs.Desks.{desk_fed}
 use Rattle.call_table.specs.Laws.{unheard}
-use Rattle.call_table.specs.Bounds.{is_told, is_turn, MallocsAreShort}
+use Rattle.call_table.specs.Bounds.{is_malloc, is_told, is_turn, MallocsAreShort}
 
 -- the asks and the turns that can still come in a malloc, each ask with the turn behind it
 abbrev pub asks_turn : TurnPoint → ℕ → ℕ → Type 0
-asks_turn (Filling wish) asks turns = (5 ≤ asks) × (8 ≤ turns)
+asks_turn (Filling wish count) asks turns = (5 ≤ asks) × (8 ≤ turns)
 asks_turn (Looking wish) asks turns = (5 ≤ asks) × (7 ≤ turns)
 asks_turn (Landing wish span) asks turns = 1 ≤ turns
 asks_turn point asks turns = ⊥
@@ -46,6 +52,7 @@ Fits asks turns (Go (Turns point)) = asks_turn point asks turns
 Fits asks turns (Go (Asks point heard)) = asks_ask point (unheard heard) asks turns
 Fits asks turns (Go (Tells span b)) = ⊥
 Fits asks turns (Over index point) = ⊥
+Fits asks turns More = ⊥
 Fits asks turns next = Unit {0}
 
 chosen : (v : Bool) (asks turns : ℕ) (x y : Next) → Fits asks turns x → Fits asks turns y → Fits asks turns (cond v x y)
@@ -60,10 +67,10 @@ trim_fits : (wish : Wish) (span : Span) (b : Bool) (asks turns : ℕ) → 4 ≤ 
 trim_fits wish span b asks turns a t = chosen (nat_lt wish.pages span.pages) asks turns _ _ (omega arith, omega arith) (commit_fits wish span b asks turns (omega arith) (omega arith))
 
 turned_fits : (point : TurnPoint) (reply : Reply) (asks turns : ℕ) → asks_turn point asks (turns + 1) → Fits asks turns (turned point reply)
-turned_fits (Filling wish) Nothing asks turns fits = (fits.0, omega (arith, fits.1))
-turned_fits (Filling wish) (Regions []) asks turns fits = tt
-turned_fits (Filling wish) (Regions (addr ∷ addrs)) asks turns fits = tt
-turned_fits (Filling wish) reply asks turns fits = tt
+turned_fits (Filling wish count) Nothing asks turns fits = (fits.0, omega (arith, fits.1))
+turned_fits (Filling wish count) (Regions []) asks turns fits = tt
+turned_fits (Filling wish count) (Regions (addr ∷ addrs)) asks turns fits = tt
+turned_fits (Filling wish count) reply asks turns fits = tt
 turned_fits (Looking wish) (Took span b skip) asks turns fits =
     chosen (nat_lt 0 skip) asks turns _ _ (omega (arith, fits.0), omega (arith, fits.1)) (trim_fits wish span b asks turns (omega (arith, fits.0)) (omega (arith, fits.1)))
 turned_fits (Looking wish) (Grow series) asks turns fits =
@@ -108,29 +115,29 @@ heard_fits point asks turns fits = absurd fits
 
 -- ---- the fold
 
-settled_fits : (arena asks turns : ℕ) (next : Next) → Fits asks turns next → Fits asks turns (settle arena next).next
-settled_fits arena asks turns (Go point) fits = fits
-settled_fits arena asks turns (Over index point) fits = absurd fits
-settled_fits arena asks turns More fits = tt
-settled_fits arena asks turns Gone fits = tt
-settled_fits arena asks turns (Ends answer) fits = tt
-settled_fits arena asks turns Nowhere fits = tt
+settled_fits : (request : Request) (desk : DeskFacts) (arena asks turns : ℕ) (next : Next) → Fits asks turns next → Fits asks turns (settle request desk arena next).next
+settled_fits request desk arena asks turns (Go point) fits = fits
+settled_fits request desk arena asks turns (Over index point) fits = absurd fits
+settled_fits request desk arena asks turns More fits = absurd fits
+settled_fits request desk arena asks turns Gone fits = tt
+settled_fits request desk arena asks turns (Ends answer) fits = tt
+settled_fits request desk arena asks turns Nowhere fits = tt
 
 starved_fits : (v : Bool) (asks turns : ℕ) → Fits asks turns (starved v)
 starved_fits true asks turns = tt
 starved_fits false asks turns = tt
 
 -- what leads nowhere ends nowhere
-nowhere_run : (arena : ℕ) (items : List Item) → (run (stage arena Nowhere) items).next ≡ Nowhere
-nowhere_run arena [] = refl
-nowhere_run arena (item ∷ items) = nowhere_run arena items
+nowhere_run : (request : Request) (desk : DeskFacts) (arena : ℕ) (items : List Item) → (run (moment request desk arena Nowhere) items).stage.next ≡ Nowhere
+nowhere_run request desk arena [] = refl
+nowhere_run request desk arena (item ∷ items) = nowhere_run request desk arena items
 
-pub never_ends : (arena : ℕ) (items : List Item) (answer : Answered) → (run (stage arena Nowhere) items).next ≡ Ends answer → ⊥
-never_ends arena items answer e = let no = nowhere_run arena items in let both : Nowhere ≡ Ends answer = sym no ∙ e in cc
+pub never_ends : (request : Request) (desk : DeskFacts) (arena : ℕ) (items : List Item) (answer : Answered) → (run (moment request desk arena Nowhere) items).stage.next ≡ Ends answer → ⊥
+never_ends request desk arena items answer e = let no = nowhere_run request desk arena items in let both : Nowhere ≡ Ends answer = sym no ∙ e in cc
 
 -- a turn uses up one turn, and an ask one ask
 turn_some : (point : TurnPoint) (asks turns : ℕ) → asks_turn point asks turns → 1 ≤ turns
-turn_some (Filling wish) asks turns fits = omega (arith, fits.1)
+turn_some (Filling wish count) asks turns fits = omega (arith, fits.1)
 turn_some (Looking wish) asks turns fits = omega (arith, fits.1)
 turn_some (Landing wish span) asks turns fits = fits
 turn_some point asks turns fits = absurd fits
@@ -174,41 +181,58 @@ one_turn asks turns item items not_told is some few =
       turns_few = omega (arith, few.turns_few, some, sum_by-cons (λ i. cond (is_turn i) 1 0) item items, ap one is);
     }
 
-run_fits : (items : List Item) (arena asks turns : ℕ) (next : Next) (answer : Answered) → Fits asks turns next → (run (stage arena next) items).next ≡ Ends answer → Few asks turns items
-run_fits [] arena asks turns next answer fits e = record { told_few = omega arith; turns_few = omega arith }
-run_fits (Replied reply ∷ items) arena asks turns (Go (Turns point)) answer fits e =
+run_fits : (items : List Item) (request : Request) (desk : DeskFacts) (arena asks turns : ℕ) (next : Next) (answer : Answered) → Fits asks turns next →
+    (run (moment request desk arena next) items).stage.next ≡ Ends answer → Few asks turns items
+run_fits [] request desk arena asks turns next answer fits e = record { told_few = omega arith; turns_few = omega arith }
+run_fits (Replied reply ∷ items) request desk arena asks turns (Go (Turns point)) answer fits e =
     let some = turn_some point asks turns fits in
     let same : turns ≡ turns - 1 + 1 = omega (arith, some) in
     one_turn asks turns (Replied reply) items refl refl some
-    (run_fits items _ asks (turns - 1) _ answer (settled_fits arena asks (turns - 1) (turned point reply) (turned_fits point reply asks (turns - 1) (subst (asks_turn point asks) same fits))) e)
-run_fits (Starved ∷ items) arena asks turns (Go (Turns point)) answer fits e =
+    (run_fits items request _ _ asks (turns - 1) _ answer (settled_fits request (desk_fed desk arena (Go (Turns point)) (Replied reply)) arena asks (turns - 1) (turned point reply) (turned_fits point reply asks (turns - 1) (subst (asks_turn point asks) same fits))) e)
+run_fits (Starved ∷ items) request desk arena asks turns (Go (Turns point)) answer fits e =
     one_turn asks turns Starved items refl refl (turn_some point asks turns fits)
-    (run_fits items _ asks (turns - 1) _ answer (settled_fits arena asks (turns - 1) (starved (is_marked (op_of point))) (starved_fits (is_marked (op_of point)) asks (turns - 1))) e)
-run_fits (Told asked ∷ items) arena asks turns (Go (Turns point)) answer fits e = absurd (never_ends arena items answer e)
-run_fits (Told asked ∷ items) arena asks turns (Go (Asks point None)) answer fits e =
+    (run_fits items request _ _ asks (turns - 1) _ answer (settled_fits request (desk_fed desk arena (Go (Turns point)) Starved) arena asks (turns - 1) (starved (is_marked (op_of point))) (starved_fits (is_marked (op_of point)) asks (turns - 1))) e)
+run_fits (Told asked ∷ items) request desk arena asks turns (Go (Turns point)) answer fits e = absurd (never_ends request _ arena items answer e)
+run_fits (Told asked ∷ items) request desk arena asks turns (Go (Asks point None)) answer fits e =
     let some = ask_some point asks turns fits in
     let same : asks ≡ asks - 1 + 1 = omega (arith, some) in
-    one_told asks turns asked items some (run_fits items arena (asks - 1) turns (Go (Asks point (Some asked))) answer (heard_fits point (asks - 1) turns (subst (λ n. asks_ask point 1 n turns) same fits)) e)
-run_fits (Replied reply ∷ items) arena asks turns (Go (Asks point None)) answer fits e = absurd (never_ends arena items answer e)
-run_fits (Starved ∷ items) arena asks turns (Go (Asks point None)) answer fits e = absurd (never_ends arena items answer e)
-run_fits (Replied reply ∷ items) arena asks turns (Go (Asks point (Some asked))) answer fits e =
+    one_told asks turns asked items some (run_fits items request _ arena (asks - 1) turns (Go (Asks point (Some asked))) answer (heard_fits point (asks - 1) turns (subst (λ n. asks_ask point 1 n turns) same fits)) e)
+run_fits (Replied reply ∷ items) request desk arena asks turns (Go (Asks point None)) answer fits e = absurd (never_ends request _ arena items answer e)
+run_fits (Starved ∷ items) request desk arena asks turns (Go (Asks point None)) answer fits e = absurd (never_ends request _ arena items answer e)
+run_fits (Replied reply ∷ items) request desk arena asks turns (Go (Asks point (Some asked))) answer fits e =
     let some = done_some point asks turns fits in
     let same : turns ≡ turns - 1 + 1 = omega (arith, some) in
     one_turn asks turns (Replied reply) items refl refl some
-    (run_fits items _ asks (turns - 1) _ answer (settled_fits arena asks (turns - 1) (told point asked reply) (told_fits point asked reply asks (turns - 1) (subst (asks_ask point 0 asks) same fits))) e)
-run_fits (Told other ∷ items) arena asks turns (Go (Asks point (Some asked))) answer fits e = absurd (never_ends arena items answer e)
-run_fits (Starved ∷ items) arena asks turns (Go (Asks point (Some asked))) answer fits e = absurd (never_ends arena items answer e)
-run_fits (item ∷ items) arena asks turns (Go (Tells span b)) answer fits e = absurd fits
-run_fits (item ∷ items) arena asks turns (Over index point) answer fits e = absurd fits
-run_fits (item ∷ items) arena asks turns More answer fits e = absurd (never_ends arena items answer e)
-run_fits (item ∷ items) arena asks turns Gone answer fits e = absurd (never_ends arena items answer e)
-run_fits (item ∷ items) arena asks turns (Ends given) answer fits e = absurd (never_ends arena items answer e)
-run_fits (item ∷ items) arena asks turns Nowhere answer fits e = absurd (never_ends arena items answer e)
+    (run_fits items request _ _ asks (turns - 1) _ answer (settled_fits request (desk_fed desk arena (Go (Asks point (Some asked))) (Replied reply)) arena asks (turns - 1) (told point asked reply) (told_fits point asked reply asks (turns - 1) (subst (asks_ask point 0 asks) same fits))) e)
+run_fits (Told other ∷ items) request desk arena asks turns (Go (Asks point (Some asked))) answer fits e = absurd (never_ends request _ arena items answer e)
+run_fits (Starved ∷ items) request desk arena asks turns (Go (Asks point (Some asked))) answer fits e = absurd (never_ends request _ arena items answer e)
+run_fits (item ∷ items) request desk arena asks turns (Go (Tells span b)) answer fits e = absurd fits
+run_fits (item ∷ items) request desk arena asks turns (Over index point) answer fits e = absurd fits
+run_fits (item ∷ items) request desk arena asks turns More answer fits e = absurd fits
+run_fits (item ∷ items) request desk arena asks turns Gone answer fits e = absurd (never_ends request _ arena items answer e)
+run_fits (item ∷ items) request desk arena asks turns (Ends given) answer fits e = absurd (never_ends request _ arena items answer e)
+run_fits (item ∷ items) request desk arena asks turns Nowhere answer fits e = absurd (never_ends request _ arena items answer e)
 
-get_fits : (wish : Wish) → Fits 5 8 (get wish)
-get_fits wish = chosen (nat_lt wish.class 36) 5 8 _ _ (omega arith, omega arith) (omega arith, omega arith)
+get_fits : (class align count : ℕ) → Fits 5 8 (get class align count)
+get_fits class align count = chosen (nat_lt class 36) 5 8 _ _ (omega arith, omega arith) (omega arith, omega arith)
+
+got_fits : (class align : ℕ) (hit : Option Held) (desk : DeskFacts) → Fits 5 8 (begin_get class align hit desk).next
+got_fits class align (Some region) desk = tt
+got_fits class align None desk = get_fits class align (share class desk)
+
+-- a choice of where to begin
+pub chosen_stage : (P : Next → Type 0) (v : Bool) (x y : Stage) → P x.next → P y.next → P (cond v x y).next
+chosen_stage P true x y one other = one
+chosen_stage P false x y one other = other
+
+begin_fits : (request : Request) (desk : DeskFacts) → is_malloc request ≡ true → Fits 5 8 (begin_stage request desk).next
+begin_fits (Malloc size) desk is = chosen_stage (Fits 5 8) (nat_lt (2 ^ 35) size) _ _ tt (got_fits (class_for size) 1 (hit (class_for size) desk) desk)
+begin_fits (Memalign align size) desk is =
+    chosen_stage (Fits 5 8) (not (is_alignment align)) _ _ tt (chosen_stage (Fits 5 8) (nat_lt (2 ^ 35) size) _ _ tt
+    (got_fits (aligned_for size align) (page_align align) (small_hit (aligned_for size align) desk) desk))
+begin_fits request desk is = absurd (cc)
 
 pub mallocs-are_short : MallocsAreShort
-mallocs-are_short arena held size items answer e =
-    let few = run_fits items arena 5 8 (begin_malloc size) answer (chosen (nat_lt (2 ^ 35) size) 5 8 _ _ tt (get_fits (wish_for (class_for size) 1))) e in
+mallocs-are_short request desk items answer is e =
+    let few = run_fits items request _ _ 5 8 _ answer (begin_fits request desk is) e in
     record { asks = few.told_few; turns = few.turns_few }

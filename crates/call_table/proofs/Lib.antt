@@ -1,14 +1,16 @@
 pub mod Lists
 pub mod Powers
+pub mod Aligned
+pub mod Shares
 pub mod Own
 pub mod Getting
 pub mod Putting
 pub mod Dropping
 pub mod Standing
 pub mod Steps
-pub mod Sizes
 pub mod Bounds
 pub mod Beginning
 pub mod Causes
 pub mod Reasons
 pub mod Credits
+pub mod Rooms

@@ -1,9 +1,9 @@
 -- The reasons of each point to which a call comes, and of its answer.
-use Rattle.std.proofs.Common.{ℤ, negsuc, ◌≡◌, ℕ, ◌*◌, ◌≤◌, ◌^◌, ◌==◌, ◌&&◌, ◌⊎◌, inl, inr, Bool, true, false, cond, min, max, List, [], ◌∷◌, ◌++◌, Option, None, Some, refl, sym, ◌∙◌, ap, subst, arith, nat_lt, append_assoc, append-nil}
+use Rattle.std.proofs.Common.{ℤ, negsuc, ◌≡◌, ℕ, ◌*◌, ◌≤◌, ◌^◌, ◌==◌, ◌&&◌, ◌⊎◌, inl, inr, Bool, true, false, cond, not, min, max, List, [], ◌∷◌, ◌++◌, Option, None, Some, refl, sym, ◌∙◌, ap, subst, arith, nat_lt, append_assoc, append-nil}
 use Rattle.std.specs.List.{Contains}
 use Rattle.std.proofs.lemmas.Bool.{ltb-true, eqb-true}
 use Rattle.std.proofs.lemmas.Bool.Decides.{nat_tests}
-use Rattle.size_classes.specs.Classes.{class_for}
+use Rattle.size_classes.specs.Classes.{aligned_for, class_for}
 use Rattle.space_model.specs.declared.Answer.TheVariants.{Refused as Refuses}
 use Rattle.space_model.specs.declared.Reply.{Reply}
 use Rattle.space_model.specs.declared.Reply.TheVariants.{NoArena, Nothing, Noted, Took, Grow, Cut, Whole, Refused as Refuse, Bad, Grown, Landed, Next as NextFlight, Beside, Purge, Joined, Regions, Limits as LimitsAre, Taken, Lazy, Kept, Abandoned, Decommitted, Owned, Busy as InUse}
@@ -13,15 +13,17 @@ use Rattle.space_model.specs.declared.Why.{Why}
 use Rattle.space_model.specs.Span.{max_series, end_of}
 use Rattle.space_model.specs.Step.{after_cut, after_commit, after_grow}
 use Rattle.hook_api.specs.Asked.{AskFacts}
+use Rattle.space_model.specs.Slabs.{most_regions}
 use Rattle.thread_cache.specs.declared.Held.{Held}
+use Rattle.thread_cache.specs.Desks.{BatchFacts, DeskFacts, batch_of, cached_of, freeing, going, going_with, held_at, hit}
 use Rattle.call_table.specs.declared.needs.Answered.{Answered}
-use Rattle.call_table.specs.declared.needs.Answered.TheVariants.{Ok, Refused, BadAnswer, TooLarge, NotHeld, NoArena as NoSuchArena, Automatic}
+use Rattle.call_table.specs.declared.needs.Answered.TheVariants.{Ok, Refused, BadAnswer, TooLarge, BadAlign, NotHeld, NoArena as NoSuchArena, Automatic}
 use Rattle.call_table.specs.declared.needs.Given.{Given}
 use Rattle.call_table.specs.declared.needs.Item.{Item}
 use Rattle.call_table.specs.declared.needs.Item.TheVariants.{Replied, Told, Starved}
 use Rattle.call_table.specs.declared.needs.Request.{Request}
 use Rattle.call_table.specs.declared.points.Wish.{Wish}
-use Rattle.call_table.specs.declared.needs.Request.TheVariants.{Malloc, Free, Publish, Take, Purge as PurgeAll, Decay, Time, Reset, Destroy, Create, Bind, HookBox, GrowLimit}
+use Rattle.call_table.specs.declared.needs.Request.TheVariants.{Malloc, Memalign, Free, FreeForeign, Publish, Take, Flush, Cache, Purge as PurgeAll, Decay, Time, Reset, Destroy, Create, Bind, HookBox, GrowLimit}
 use Rattle.call_table.specs.declared.needs.Given.TheVariants.{Region, Done as Finished, Arena, Limits}
 use Rattle.space_model.specs.declared.Setting.TheVariants.{Bind as SetBound, HookBox as SetBox, GrowLimit as SetLimit}
 use Rattle.space_model.specs.declared.Rest.{Rest}
@@ -41,431 +43,481 @@ use Rattle.call_table.specs.declared.points.Point.{Point}
 use Rattle.call_table.specs.declared.points.Point.TheVariants.{Turns, Asks, Tells}
 use Rattle.call_table.specs.declared.points.Next.{Next}
 use Rattle.call_table.specs.declared.points.Next.TheVariants.{Go, Over, More, Gone, Ends, Nowhere}
-use Rattle.call_table.specs.Table.{answered_span, trimmed, alloc_of, ask_of, done_of, op_of, is_marked, starved, chunks_for, whole_chunks, step, turned, told, commit, trim, visited, onward, put_next, drop, limited, changed}
-use Rattle.call_table.specs.Runs.{begin, begin_malloc, begin_bind, first_turn, first_turn_but_0, get, run, settle, stage, wish_for, time_of, after_time, whole_visit}
+use Rattle.call_table.specs.Table.{answered_span, trimmed, alloc_of, ask_of, done_of, op_of, is_marked, starved, chunks_for, whole_chunks, step, turned, told, commit, trim, visited, onward, put_next, drop, limited, changed, took_over}
+use Rattle.call_table.specs.Runs.{batch_goes, begin_bind, begin_free, begin_get, begin_malloc, begin_memalign, begin_publish, begin_stage, first_turn, first_turn_but_0, get, is_alignment, moment, page_align, run, settle, share, small_hit, stage, wish_for, time_of, after_time, whole_visit}
+use Rattle.call_table.specs.Desks.{desk_fed, flushes}
 use Rattle.call_table.specs.Laws.{with_found}
-use Rattle.call_table.specs.Causes.{extent, extent_of, NothingFits, WasGranted, IsNeeded, IsWishOf, RegionCause, GivenCause, CauseOf, Came, AllCame, AnswersHaveCauses}
+use Rattle.call_table.specs.Causes.{extent, extent_of, NothingFits, WasGranted, IsNeeded, IsWishOf, GotCause, RegionCause, GivenCause, CauseOf, Came, AllCame, AnswersHaveCauses}
+use Rattle.call_table.proofs.Aligned.{failing_is_not, passing_is}
 use Rattle.call_table.proofs.Causes.{cut_whole, commit_whole, grow_refused, grow_bad, grow_grown, last_in, more_in, extent_next, fits_more}
 
--- ---- the reasons of each point
+-- what the client had at the start of its call
+module _ (desk : DeskFacts) where
+  -- ---- the reasons of each point
 
--- the answer that comes in the end has its cause already
-abbrev pub LaterWhy : Request → List Item → Later → Type 0
-LaterWhy request items (Answers given) = GivenCause request items given
-LaterWhy request items (DirtyToo keep given) = GivenCause request items given
+  -- the answer that comes in the end has its cause already
+  abbrev pub LaterWhy : Request → List Item → Later → Type 0
+  LaterWhy request items (Answers given) = GivenCause desk request items given
+  LaterWhy request items (DirtyToo keep given) = GivenCause desk request items given
 
-abbrev pub ThenWhy : Request → List Item → Then → Type 0
-ThenWhy request items Batches = Unit {0}
-ThenWhy request items (Visiting visit left) = LaterWhy request items visit.later
+  abbrev pub ThenWhy : Request → List Item → Then → Type 0
+  ThenWhy request items Batches = Unit {0}
+  ThenWhy request items (Visiting visit left) = LaterWhy request items visit.later
 
-abbrev pub ChangeWhy : Request → List Item → Change → Type 0
-ChangeWhy request items Stops = Unit {0}
-ChangeWhy request items (Visits visit) = LaterWhy request items visit.later
-ChangeWhy request items (Leaves arena) = Unit {0}
+  abbrev pub ChangeWhy : Request → List Item → Change → Type 0
+  ChangeWhy request items Stops = Unit {0}
+  ChangeWhy request items (Visits visit) = LaterWhy request items visit.later
+  ChangeWhy request items (Leaves arena) = Unit {0}
 
--- the region that is taken over is that of the request
-abbrev pub OwnWhy : Request → ℕ → Type 0
-OwnWhy (Take at arena) addr = addr ≡ at
-OwnWhy request addr = ⊥
+  -- the region that is taken over is that of the request, and goes back where it is to be freed
+  abbrev pub OwnWhy : Request → ℕ → Bool → Type 0
+  OwnWhy (Take at arena) addr false = addr ≡ at
+  OwnWhy (FreeForeign at arena) addr true = addr ≡ at
+  OwnWhy request addr frees = ⊥
 
-abbrev pub TurnWhy : Request → List Item → TurnPoint → Type 0
-TurnWhy request items (Filling wish) = IsWishOf request wish
-TurnWhy request items (Looking wish) = IsWishOf request wish
-TurnWhy request items (Landing wish span) = IsWishOf request wish
-TurnWhy request items (Finding own tries fresh later) = ThenWhy request items later
-TurnWhy request items (Taking visit left) = LaterWhy request items visit.later
-TurnWhy request items (Offering span later) = ThenWhy request items later
-TurnWhy request items (Changing setting change) = ChangeWhy request items change
-TurnWhy request items (Owning addr) = OwnWhy request addr
-TurnWhy request items point = Unit {0}
+  abbrev pub TurnWhy : Request → List Item → TurnPoint → Type 0
+  TurnWhy request items (Filling wish count) = IsWishOf request wish
+  TurnWhy request items (Looking wish) = IsWishOf request wish
+  TurnWhy request items (Landing wish span) = IsWishOf request wish
+  TurnWhy request items (Finding own tries fresh later) = ThenWhy request items later
+  TurnWhy request items (Taking visit left) = LaterWhy request items visit.later
+  TurnWhy request items (Offering span later) = ThenWhy request items later
+  TurnWhy request items (Changing setting change) = ChangeWhy request items change
+  TurnWhy request items (Owning addr frees) = OwnWhy request addr frees
+  TurnWhy request items point = Unit {0}
 
--- the extent of a malloc is as the point says
-abbrev pub Had : Request → List Item → Wish → Span → Bool → Type 0
-Had request items wish span b = IsWishOf request wish × (extent_of items ≡ Some (extent span b))
+  -- the extent of a malloc is as the point says
+  abbrev pub Had : Request → List Item → Wish → Span → Bool → Type 0
+  Had request items wish span b = IsWishOf request wish × (extent_of items ≡ Some (extent span b))
 
-abbrev pub AskWhy : Request → List Item → AskPoint → Type 0
-AskWhy request items (Skipping wish span b skip) = Had request items wish span b
-AskWhy request items (Trimming wish span b) = Had request items wish span b
-AskWhy request items (Growing wish chunks) = IsWishOf request wish × NothingFits items
-AskWhy request items (Paring wish span b) = Had request items wish span b
-AskWhy request items (Needing wish) = IsWishOf request wish × NothingFits items
-AskWhy request items (Granting wish span b) = Had request items wish span b × WasGranted wish items span
-AskWhy request items (Committing wish span) = Had request items wish span false
-AskWhy request items (Merging low high own_low fresh later) = ThenWhy request items later
-AskWhy request items (Easing span later) = ThenWhy request items later
-AskWhy request items (Returning span later) = ThenWhy request items later
-AskWhy request items (Decommitting span later) = ThenWhy request items later
-AskWhy request items (Forcing span later) = ThenWhy request items later
+  abbrev pub AskWhy : Request → List Item → AskPoint → Type 0
+  AskWhy request items (Skipping wish span b skip) = Had request items wish span b
+  AskWhy request items (Trimming wish span b) = Had request items wish span b
+  AskWhy request items (Growing wish chunks) = IsWishOf request wish × NothingFits items
+  AskWhy request items (Paring wish span b) = Had request items wish span b
+  AskWhy request items (Needing wish) = IsWishOf request wish × NothingFits items
+  AskWhy request items (Granting wish span b) = Had request items wish span b × WasGranted wish items span
+  AskWhy request items (Committing wish span) = Had request items wish span false
+  AskWhy request items (Merging low high own_low fresh later) = ThenWhy request items later
+  AskWhy request items (Easing span later) = ThenWhy request items later
+  AskWhy request items (Returning span later) = ThenWhy request items later
+  AskWhy request items (Decommitting span later) = ThenWhy request items later
+  AskWhy request items (Forcing span later) = ThenWhy request items later
 
--- The ask was made after these items, and its answer is the last one since.
-pub record HeardWhy (request : Request) (items : List Item) (point : AskPoint) (asked : AskFacts) : Type 0 where
-  pub earlier : List Item
-  pub told : items ≡ earlier ++ Told asked ∷ []
-  pub why : AskWhy request earlier point
-  pub is : asked.ask ≡ ask_of point
+  -- The ask was made after these items, and its answer is the last one since.
+  pub record HeardWhy (request : Request) (items : List Item) (point : AskPoint) (asked : AskFacts) : Type 0 where
+    pub earlier : List Item
+    pub told : items ≡ earlier ++ Told asked ∷ []
+    pub why : AskWhy request earlier point
+    pub is : asked.ask ≡ ask_of point
 
-abbrev pub PointWhy : Request → List Item → Point → Type 0
-PointWhy request items (Turns point) = TurnWhy request items point
-PointWhy request items (Asks point None) = AskWhy request items point
-PointWhy request items (Asks point (Some asked)) = HeardWhy request items point asked
-PointWhy request items (Tells span b) = Unit {0}
+  abbrev pub PointWhy : Request → List Item → Point → Type 0
+  PointWhy request items (Turns point) = TurnWhy request items point
+  PointWhy request items (Asks point None) = AskWhy request items point
+  PointWhy request items (Asks point (Some asked)) = HeardWhy request items point asked
+  PointWhy request items (Tells span b) = Unit {0}
 
-abbrev pub NextWhy : Option Held → Request → List Item → Next → Type 0
-NextWhy held request items (Go point) = PointWhy request items point
-NextWhy held request items (Over index point) = PointWhy request items point
-NextWhy held request items More = Unit {0}
-NextWhy held request items Gone = Contains items (Replied NoArena)
-NextWhy held request items (Ends answer) = CauseOf held request items answer
-NextWhy held request items Nowhere = Unit {0}
+  abbrev pub NextWhy : Request → List Item → Next → Type 0
+  NextWhy request items (Go point) = PointWhy request items point
+  NextWhy request items (Over index point) = PointWhy request items point
+  NextWhy request items More = Unit {0}
+  NextWhy request items Gone = Contains items (Replied NoArena)
+  NextWhy request items (Ends answer) = CauseOf desk request items answer
+  NextWhy request items Nowhere = Unit {0}
 
--- ---- reasons last
+  -- ---- reasons last
 
-given_more : (request : Request) (items : List Item) (item : Item) (given : Given) → GivenCause request items given → GivenCause request (items ++ item ∷ []) given
-given_more request items item Finished why = tt
-given_more request items item (Arena index) why = more_in items item (Replied Noted) why
-given_more request items item (Limits dirty muzzy) why = more_in items item (Replied (LimitsAre dirty muzzy)) why
-given_more request items item (Region addr class) why = region_more request why
-  where
-    region_more : (request : Request) → RegionCause request items addr class → RegionCause request (items ++ item ∷ []) addr class
-    region_more (Malloc size) (is, inl (count, has)) = (is, inl (count, more_in items item (Replied (Landed addr count)) has))
-    region_more (Malloc size) (is, inr (others, has)) = (is, inr (others, more_in items item (Replied (Regions (addr ∷ others))) has))
-    region_more (Take at arena) (is, has) = (is, more_in items item (Replied (Owned class)) has)
-    region_more request why = absurd why
+  given_more : (request : Request) (items : List Item) (item : Item) (given : Given) → GivenCause desk request items given → GivenCause desk request (items ++ item ∷ []) given
+  given_more request items item Finished why = tt
+  given_more request items item (Arena index) why = more_in items item (Replied Noted) why
+  given_more request items item (Limits dirty muzzy) why = more_in items item (Replied (LimitsAre dirty muzzy)) why
+  given_more request items item (Region addr class) why = region_more request why
+    where
+      got_more : (hit : Option Held) → GotCause hit items addr → GotCause hit (items ++ item ∷ []) addr
+      got_more hit (inl was) = inl was
+      got_more hit (inr (inl (count, has))) = inr (inl (count, more_in items item (Replied (Landed addr count)) has))
+      got_more hit (inr (inr (others, has))) = inr (inr (others, more_in items item (Replied (Regions (addr ∷ others))) has))
 
-later_more : (request : Request) (items : List Item) (item : Item) (later : Later) → LaterWhy request items later → LaterWhy request (items ++ item ∷ []) later
-later_more request items item (Answers given) why = given_more request items item given why
-later_more request items item (DirtyToo keep given) why = given_more request items item given why
+      region_more : (request : Request) → RegionCause desk request items addr class → RegionCause desk request (items ++ item ∷ []) addr class
+      region_more (Malloc size) (is, got) = (is, got_more (hit class desk) got)
+      region_more (Memalign align size) (is, got) = (is, got_more (small_hit class desk) got)
+      region_more (Take at arena) (is, has) = (is, more_in items item (Replied (Owned class)) has)
+      region_more request why = absurd why
 
-then_more : (request : Request) (items : List Item) (item : Item) (later : Then) → ThenWhy request items later → ThenWhy request (items ++ item ∷ []) later
-then_more request items item Batches why = tt
-then_more request items item (Visiting visit left) why = later_more request items item visit.later why
+  later_more : (request : Request) (items : List Item) (item : Item) (later : Later) → LaterWhy request items later → LaterWhy request (items ++ item ∷ []) later
+  later_more request items item (Answers given) why = given_more request items item given why
+  later_more request items item (DirtyToo keep given) why = given_more request items item given why
 
--- ---- where a point leads
+  then_more : (request : Request) (items : List Item) (item : Item) (later : Then) → ThenWhy request items later → ThenWhy request (items ++ item ∷ []) later
+  then_more request items item Batches why = tt
+  then_more request items item (Visiting visit left) why = later_more request items item visit.later why
 
-chosen : (held : Option Held) (request : Request) (items : List Item) (v : Bool) (x y : Next) → NextWhy held request items x → NextWhy held request items y → NextWhy held request items (cond v x y)
-chosen held request items true x y one other = one
-chosen held request items false x y one other = other
+  -- ---- where a point leads
 
-commit_why : (held : Option Held) (request : Request) (items : List Item) (wish : Wish) (span : Span) (b : Bool) → Had request items wish span b → NextWhy held request items (commit wish span b)
-commit_why held request items wish span true had = had.0
-commit_why held request items wish span false had = had
+  chosen : (request : Request) (items : List Item) (v : Bool) (x y : Next) → NextWhy request items x → NextWhy request items y → NextWhy request items (cond v x y)
+  chosen request items true x y one other = one
+  chosen request items false x y one other = other
 
-trim_why : (held : Option Held) (request : Request) (items : List Item) (wish : Wish) (span : Span) (b : Bool) → Had request items wish span b → NextWhy held request items (trim wish span b)
-trim_why held request items wish span b had = chosen held request items (nat_lt wish.pages span.pages) _ _ had (commit_why held request items wish span b had)
+  commit_why : (request : Request) (items : List Item) (wish : Wish) (span : Span) (b : Bool) → Had request items wish span b → NextWhy request items (commit wish span b)
+  commit_why request items wish span true had = had.0
+  commit_why request items wish span false had = had
 
-visited_why : (held : Option Held) (request : Request) (items : List Item) (later : Later) → LaterWhy request items later → NextWhy held request items (visited later)
-visited_why held request items (Answers given) why = why
-visited_why held request items (DirtyToo keep given) why = why
+  trim_why : (request : Request) (items : List Item) (wish : Wish) (span : Span) (b : Bool) → Had request items wish span b → NextWhy request items (trim wish span b)
+  trim_why request items wish span b had = chosen request items (nat_lt wish.pages span.pages) _ _ had (commit_why request items wish span b had)
 
-onward_why : (held : Option Held) (request : Request) (items : List Item) (later : Then) → ThenWhy request items later → NextWhy held request items (onward later)
-onward_why held request items Batches why = tt
-onward_why held request items (Visiting visit left) why = chosen held request items (left == 0) _ _ (visited_why held request items visit.later why) why
+  visited_why : (request : Request) (items : List Item) (later : Later) → LaterWhy request items later → NextWhy request items (visited later)
+  visited_why request items (Answers given) why = why
+  visited_why request items (DirtyToo keep given) why = why
 
-put_why : (held : Option Held) (request : Request) (items : List Item) (later : Then) (next : Option Span) → ThenWhy request items later → NextWhy held request items (put_next later next)
-put_why held request items later None why = onward_why held request items later why
-put_why held request items later (Some span) why = why
+  onward_why : (request : Request) (items : List Item) (later : Then) → ThenWhy request items later → NextWhy request items (onward later)
+  onward_why request items Batches why = tt
+  onward_why request items (Visiting visit left) why = chosen request items (left == 0) _ _ (visited_why request items visit.later why) why
 
-drop_why : (held : Option Held) (request : Request) (items : List Item) (span : Span) (lazy : Bool) (later : Then) → ThenWhy request items later → NextWhy held request items (drop span lazy later)
-drop_why held request items span true later why = why
-drop_why held request items span false later why = why
+  put_why : (request : Request) (items : List Item) (later : Then) (next : Option Span) → ThenWhy request items later → NextWhy request items (put_next later next)
+  put_why request items later None why = onward_why request items later why
+  put_why request items later (Some span) why = why
 
-limited_why : (held : Option Held) (request : Request) (items : List Item) (dirty muzzy : Option ℕ) → Contains items (Replied (LimitsAre dirty muzzy)) → NextWhy held request items (limited dirty muzzy)
-limited_why held request items None None has = has
-limited_why held request items (Some d) None has = has
-limited_why held request items None (Some m) has = has
-limited_why held request items (Some d) (Some m) has = has
+  drop_why : (request : Request) (items : List Item) (span : Span) (lazy : Bool) (later : Then) → ThenWhy request items later → NextWhy request items (drop span lazy later)
+  drop_why request items span true later why = why
+  drop_why request items span false later why = why
 
-changed_why : (held : Option Held) (request : Request) (items : List Item) (change : Change) → ChangeWhy request items change → NextWhy held request items (changed change)
-changed_why held request items Stops why = tt
-changed_why held request items (Visits visit) why = why
-changed_why held request items (Leaves arena) why = tt
+  limited_why : (request : Request) (items : List Item) (dirty muzzy : Option ℕ) → Contains items (Replied (LimitsAre dirty muzzy)) → NextWhy request items (limited dirty muzzy)
+  limited_why request items None None has = has
+  limited_why request items (Some d) None has = has
+  limited_why request items None (Some m) has = has
+  limited_why request items (Some d) (Some m) has = has
 
--- a region that landed, or was free in a slab, is of the class of the request
-landed_why : (request : Request) (items : List Item) (wish : Wish) (addr : ℕ) → IsWishOf request wish →
-    (((count : ℕ) × Contains items (Replied (Landed addr count))) ⊎ ((others : List ℕ) × Contains items (Replied (Regions (addr ∷ others))))) → RegionCause request items addr wish.class
-landed_why (Malloc size) items wish addr is has = (ap (λ (w : Wish). w.class) is, has)
-landed_why request items wish addr is has = absurd is
+  changed_why : (request : Request) (items : List Item) (change : Change) → ChangeWhy request items change → NextWhy request items (changed change)
+  changed_why request items Stops why = tt
+  changed_why request items (Visits visit) why = why
+  changed_why request items (Leaves arena) why = tt
 
-owned_why : (request : Request) (items : List Item) (addr class : ℕ) → OwnWhy request addr → Contains items (Replied (Owned class)) → RegionCause request items addr class
-owned_why (Take at arena) items addr class is has = (is, has)
-owned_why request items addr class is has = absurd is
+  -- a region that landed, or was free in a slab, is of the class of the request
+  landed_why : (request : Request) (items : List Item) (wish : Wish) (addr : ℕ) → IsWishOf request wish →
+      (((count : ℕ) × Contains items (Replied (Landed addr count))) ⊎ ((others : List ℕ) × Contains items (Replied (Regions (addr ∷ others))))) → RegionCause desk request items addr wish.class
+  landed_why (Malloc size) items wish addr is has = (ap (λ (w : Wish). w.class) is, inr has)
+  landed_why (Memalign align size) items wish addr is has = (ap (λ (w : Wish). w.class) is, inr has)
+  landed_why request items wish addr is has = absurd is
 
-unowned_why : (held : Option Held) (request : Request) (items : List Item) (addr : ℕ) → OwnWhy request addr → Contains items (Replied Nothing) → CauseOf held request items (NotHeld addr)
-unowned_why held (Take at arena) items addr is has = (is, has)
-unowned_why held request items addr is has = absurd is
+  owned_why : (request : Request) (items : List Item) (addr class : ℕ) (frees : Bool) → OwnWhy request addr frees → Contains items (Replied (Owned class)) → NextWhy request items (took_over addr class frees)
+  owned_why (Take at arena) items addr class false is has = (is, has)
+  owned_why request items addr class true is has = tt
+  owned_why request items addr class false is has = absurd is
 
-found_why : (held : Option Held) (request : Request) (items : List Item) (own : Span) (tries : ℕ) (fresh : Bool) (later : Then) (reply : Reply) → ThenWhy request (items ++ Replied reply ∷ []) later →
-    NextWhy held request (items ++ Replied reply ∷ []) (turned (Finding own tries fresh later) reply)
-found_why held request items own tries fresh later (Beside other) why = chosen held request _ (tries == 0 && other.first == end_of own) _ _ why (chosen held request _ (nat_lt tries 2) _ _ why tt)
-found_why held request items own tries fresh later (NextFlight next) why = put_why held request _ later next why
-found_why held request items own tries true later (Purge lazy) why = drop_why held request _ own lazy later why
-found_why held request items own tries false later (Purge lazy) why = tt
-found_why held request items own tries fresh later reply why = tt
+  unowned_why : (request : Request) (items : List Item) (addr : ℕ) (frees : Bool) → OwnWhy request addr frees → Contains items (Replied Nothing) → CauseOf desk request items (NotHeld addr)
+  unowned_why (Take at arena) items addr false is has = (is, has)
+  unowned_why (FreeForeign at arena) items addr true is has = (is, has)
+  unowned_why request items addr frees is has = absurd is
 
-turned_why : (held : Option Held) (request : Request) (items : List Item) (point : TurnPoint) (reply : Reply) → TurnWhy request items point →
-    NextWhy held request (items ++ Replied reply ∷ []) (turned point reply)
-turned_why held request items (Filling wish) (Regions []) why = tt
-turned_why held request items (Filling wish) (Regions (addr ∷ addrs)) why = landed_why request _ wish addr why (inr (addrs, last_in items (Replied (Regions (addr ∷ addrs)))))
-turned_why held request items (Filling wish) Nothing why = why
-turned_why held request items (Filling wish) NoArena why = last_in items (Replied NoArena)
-turned_why held request items (Filling wish) reply why = tt
-turned_why held request items (Looking wish) (Took span b skip) why =
-    let had : Had request (items ++ Replied (Took span b skip) ∷ []) wish span b = (why, extent_next items (Replied (Took span b skip)) _ refl) in
-    chosen held request _ (nat_lt 0 skip) _ _ had (trim_why held request _ wish span b had)
-turned_why held request items (Looking wish) (Grow series) why =
-    let fits : NothingFits (items ++ Replied (Grow series) ∷ []) = inl (series, last_in items (Replied (Grow series))) in
-    chosen held request _ (nat_lt (chunks_for wish.pages) (min series max_series)) _ _ (why, fits) (why, fits)
-turned_why held request items (Looking wish) NoArena why = last_in items (Replied NoArena)
-turned_why held request items (Looking wish) reply why = tt
-turned_why held request items (Landing wish span) (Landed first count) why = landed_why request _ wish first why (inl (count, last_in items (Replied (Landed first count))))
-turned_why held request items (Landing wish span) reply why = tt
-turned_why held request items (Giving addrs) (NextFlight next) why = put_why held request _ Batches next tt
-turned_why held request items (Giving addrs) reply why = tt
-turned_why held request items (Finding own tries fresh later) reply why = found_why held request items own tries fresh later reply (then_more request items (Replied reply) later why)
-turned_why held request items (Taking visit left) (Taken span lazy listed) why = drop_why held request _ span lazy _ (later_more request items _ visit.later why)
-turned_why held request items (Taking visit left) Nothing why = visited_why held request _ visit.later (later_more request items _ visit.later why)
-turned_why held request items (Taking visit left) NoArena why = last_in items (Replied NoArena)
-turned_why held request items (Taking visit left) reply why = tt
-turned_why held request items (Offering span later) Noted why = then_more request items (Replied Noted) later why
-turned_why held request items (Offering span later) reply why = tt
-turned_why held request items (Advancing now) (LimitsAre dirty muzzy) why = limited_why held request _ dirty muzzy (last_in items (Replied (LimitsAre dirty muzzy)))
-turned_why held request items (Advancing now) NoArena why = last_in items (Replied NoArena)
-turned_why held request items (Advancing now) reply why = tt
-turned_why held request items (Changing setting change) Noted why = changed_why held request _ change (change_more change why)
-  where
-    change_more : (change : Change) → ChangeWhy request items change → ChangeWhy request (items ++ Replied Noted ∷ []) change
-    change_more Stops why = tt
-    change_more (Visits visit) why = later_more request items (Replied Noted) visit.later why
-    change_more (Leaves arena) why = tt
-turned_why held request items (Changing setting change) NoArena why = last_in items (Replied NoArena)
-turned_why held request items (Changing setting change) reply why = tt
-turned_why held request items (Making index setting) Noted why = last_in items (Replied Noted)
-turned_why held request items (Making index setting) Nothing why = chosen held request _ (nat_lt index 31) _ _ tt (last_in items (Replied Nothing))
-turned_why held request items (Making index setting) reply why = tt
-turned_why held request items (Resetting cached) (InUse others flights threads) why = last_in items (Replied (InUse others flights threads))
-turned_why held request items (Resetting cached) NoArena why = last_in items (Replied NoArena)
-turned_why held request items (Resetting cached) reply why = tt
-turned_why held request items (Destroying cached) (InUse others flights threads) why = last_in items (Replied (InUse others flights threads))
-turned_why held request items (Destroying cached) NoArena why = last_in items (Replied NoArena)
-turned_why held request items (Destroying cached) reply why = tt
-turned_why held request items Dooming Nothing why = tt
-turned_why held request items Dooming reply why = tt
-turned_why held request items (Publishing addr) Noted why = tt
-turned_why held request items (Publishing addr) reply why = tt
-turned_why held request items (Owning addr) (Owned class) why = owned_why request _ addr class why (last_in items (Replied (Owned class)))
-turned_why held request items (Owning addr) Nothing why = unowned_why held request _ addr why (last_in items (Replied Nothing))
-turned_why held request items (Owning addr) NoArena why = last_in items (Replied NoArena)
-turned_why held request items (Owning addr) reply why = tt
+  found_why : (request : Request) (items : List Item) (own : Span) (tries : ℕ) (fresh : Bool) (later : Then) (reply : Reply) → ThenWhy request (items ++ Replied reply ∷ []) later →
+      NextWhy request (items ++ Replied reply ∷ []) (turned (Finding own tries fresh later) reply)
+  found_why request items own tries fresh later (Beside other) why = chosen request _ (tries == 0 && other.first == end_of own) _ _ why (chosen request _ (nat_lt tries 2) _ _ why tt)
+  found_why request items own tries fresh later (NextFlight next) why = put_why request _ later next why
+  found_why request items own tries true later (Purge lazy) why = drop_why request _ own lazy later why
+  found_why request items own tries false later (Purge lazy) why = tt
+  found_why request items own tries fresh later reply why = tt
 
--- ---- after an answer was taken in
+  turned_why : (request : Request) (items : List Item) (point : TurnPoint) (reply : Reply) → TurnWhy request items point →
+      NextWhy request (items ++ Replied reply ∷ []) (turned point reply)
+  turned_why request items (Filling wish count) (Regions []) why = tt
+  turned_why request items (Filling wish count) (Regions (addr ∷ addrs)) why = landed_why request _ wish addr why (inr (addrs, last_in items (Replied (Regions (addr ∷ addrs)))))
+  turned_why request items (Filling wish count) Nothing why = why
+  turned_why request items (Filling wish count) NoArena why = last_in items (Replied NoArena)
+  turned_why request items (Filling wish count) reply why = tt
+  turned_why request items (Looking wish) (Took span b skip) why =
+      let had : Had request (items ++ Replied (Took span b skip) ∷ []) wish span b = (why, extent_next items (Replied (Took span b skip)) _ refl) in
+      chosen request _ (nat_lt 0 skip) _ _ had (trim_why request _ wish span b had)
+  turned_why request items (Looking wish) (Grow series) why =
+      let fits : NothingFits (items ++ Replied (Grow series) ∷ []) = inl (series, last_in items (Replied (Grow series))) in
+      chosen request _ (nat_lt (chunks_for wish.pages) (min series max_series)) _ _ (why, fits) (why, fits)
+  turned_why request items (Looking wish) NoArena why = last_in items (Replied NoArena)
+  turned_why request items (Looking wish) reply why = tt
+  turned_why request items (Landing wish span) (Landed first count) why = landed_why request _ wish first why (inl (count, last_in items (Replied (Landed first count))))
+  turned_why request items (Landing wish span) reply why = tt
+  turned_why request items (Giving addrs) (NextFlight next) why = put_why request _ Batches next tt
+  turned_why request items (Giving addrs) reply why = tt
+  turned_why request items (Finding own tries fresh later) reply why = found_why request items own tries fresh later reply (then_more request items (Replied reply) later why)
+  turned_why request items (Taking visit left) (Taken span lazy listed) why = drop_why request _ span lazy _ (later_more request items _ visit.later why)
+  turned_why request items (Taking visit left) Nothing why = visited_why request _ visit.later (later_more request items _ visit.later why)
+  turned_why request items (Taking visit left) NoArena why = last_in items (Replied NoArena)
+  turned_why request items (Taking visit left) reply why = tt
+  turned_why request items (Offering span later) Noted why = then_more request items (Replied Noted) later why
+  turned_why request items (Offering span later) reply why = tt
+  turned_why request items (Advancing now) (LimitsAre dirty muzzy) why = limited_why request _ dirty muzzy (last_in items (Replied (LimitsAre dirty muzzy)))
+  turned_why request items (Advancing now) NoArena why = last_in items (Replied NoArena)
+  turned_why request items (Advancing now) reply why = tt
+  turned_why request items (Changing setting change) Noted why = changed_why request _ change (change_more change why)
+    where
+      change_more : (change : Change) → ChangeWhy request items change → ChangeWhy request (items ++ Replied Noted ∷ []) change
+      change_more Stops why = tt
+      change_more (Visits visit) why = later_more request items (Replied Noted) visit.later why
+      change_more (Leaves arena) why = tt
+  turned_why request items (Changing setting change) NoArena why = last_in items (Replied NoArena)
+  turned_why request items (Changing setting change) reply why = tt
+  turned_why request items (Making index setting) Noted why = last_in items (Replied Noted)
+  turned_why request items (Making index setting) Nothing why = chosen request _ (nat_lt index 31) _ _ tt (last_in items (Replied Nothing))
+  turned_why request items (Making index setting) reply why = tt
+  turned_why request items (Resetting cached) (InUse others flights threads) why = last_in items (Replied (InUse others flights threads))
+  turned_why request items (Resetting cached) NoArena why = last_in items (Replied NoArena)
+  turned_why request items (Resetting cached) reply why = tt
+  turned_why request items (Destroying cached) (InUse others flights threads) why = last_in items (Replied (InUse others flights threads))
+  turned_why request items (Destroying cached) NoArena why = last_in items (Replied NoArena)
+  turned_why request items (Destroying cached) reply why = tt
+  turned_why request items Dooming Nothing why = tt
+  turned_why request items Dooming reply why = tt
+  turned_why request items (Publishing addr) Noted why = tt
+  turned_why request items (Publishing addr) reply why = tt
+  turned_why request items (Owning addr frees) (Owned class) why = owned_why request _ addr class frees why (last_in items (Replied (Owned class)))
+  turned_why request items (Owning addr frees) Nothing why = unowned_why request _ addr frees why (last_in items (Replied Nothing))
+  turned_why request items (Owning addr frees) NoArena why = last_in items (Replied NoArena)
+  turned_why request items (Owning addr frees) reply why = tt
 
--- the reply came of the turn
-abbrev pub Turned : ℕ → AskPoint → AskFacts → Reply → Type 0
-Turned c point asked reply = (s : Space) × (found : Option ℕ) × (reply ≡ (step_of s c (with_found found (done_of point asked))).reply)
+  -- ---- after an answer was taken in
 
--- the extent is as it was before the answer
-still_had : (request : Request) (items earlier : List Item) (asked : AskFacts) (wish : Wish) (span : Span) (b : Bool) → items ≡ earlier ++ Told asked ∷ [] → Had request earlier wish span b → Had request items wish span b
-still_had request items earlier asked wish span b told (wished, had) = (wished, ap extent_of told ∙ extent_next earlier (Told asked) (Some (extent span b)) had)
+  -- the reply came of the turn
+  abbrev pub Turned : ℕ → AskPoint → AskFacts → Reply → Type 0
+  Turned c point asked reply = (s : Space) × (found : Option ℕ) × (reply ≡ (step_of s c (with_found found (done_of point asked))).reply)
 
--- a piece of it is left after a cut
-cut_had : (request : Request) (items : List Item) (wish : Wish) (span kept : Span) (b : Bool) → Had request items wish span b → Had request (items ++ Replied (Cut kept) ∷ []) wish kept b
-cut_had request items wish span kept b (wished, had) = (wished, extent_next items (Replied (Cut kept)) (Some (extent span b)) had)
+  -- the extent is as it was before the answer
+  still_had : (request : Request) (items earlier : List Item) (asked : AskFacts) (wish : Wish) (span : Span) (b : Bool) → items ≡ earlier ++ Told asked ∷ [] → Had request earlier wish span b → Had request items wish span b
+  still_had request items earlier asked wish span b told (wished, had) = (wished, ap extent_of told ∙ extent_next earlier (Told asked) (Some (extent span b)) had)
 
--- nothing fits after a refused split
-whole_fits : (items : List Item) → NothingFits (items ++ Replied Whole ∷ [])
-whole_fits items = inr (last_in items (Replied Whole))
+  -- a piece of it is left after a cut
+  cut_had : (request : Request) (items : List Item) (wish : Wish) (span kept : Span) (b : Bool) → Had request items wish span b → Had request (items ++ Replied (Cut kept) ∷ []) wish kept b
+  cut_had request items wish span kept b (wished, had) = (wished, extent_next items (Replied (Cut kept)) (Some (extent span b)) had)
 
--- a refused ask that was needed is why the call is refused
-refused_why : (held : Option Held) (request : Request) (items : List Item) (point : AskPoint) (asked : AskFacts) (wish : Wish) (reply : Reply) → IsWishOf request wish → (why : HeardWhy request items point asked) →
-    asked.answer ≡ Refuses → IsNeeded wish why.earlier (ask_of point) → CauseOf held request (items ++ Replied reply ∷ []) (Refused asked)
-refused_why held request items point asked wish reply wished why refused needed = record {
-  wish = wish;
-  wished = wished;
-  earlier = why.earlier;
-  later = Replied reply ∷ [];
-  told = ap (λ (xs : List Item). xs ++ Replied reply ∷ []) why.told ∙ append_assoc why.earlier (Told asked ∷ []) (Replied reply ∷ []);
-  refused = refused;
-  needed = subst (IsNeeded wish why.earlier) (sym why.is) needed;
-}
+  -- nothing fits after a refused split
+  whole_fits : (items : List Item) → NothingFits (items ++ Replied Whole ∷ [])
+  whole_fits items = inr (last_in items (Replied Whole))
 
--- the ask is among the items
-asked_in : (request : Request) (items : List Item) (point : AskPoint) (asked : AskFacts) (reply : Reply) → (why : HeardWhy request items point asked) → Contains (items ++ Replied reply ∷ []) (Told asked)
-asked_in request items point asked reply why = more_in items (Replied reply) (Told asked) (subst (λ (xs : List Item). Contains xs (Told asked)) (sym why.told) (last_in why.earlier (Told asked)))
+  -- a refused ask that was needed is why the call is refused
+  refused_why : (request : Request) (items : List Item) (point : AskPoint) (asked : AskFacts) (wish : Wish) (reply : Reply) → IsWishOf request wish → (why : HeardWhy request items point asked) →
+      asked.answer ≡ Refuses → IsNeeded wish why.earlier (ask_of point) → CauseOf desk request (items ++ Replied reply ∷ []) (Refused asked)
+  refused_why request items point asked wish reply wished why refused needed = record {
+    wish = wish;
+    wished = wished;
+    earlier = why.earlier;
+    later = Replied reply ∷ [];
+    told = ap (λ (xs : List Item). xs ++ Replied reply ∷ []) why.told ∙ append_assoc why.earlier (Told asked ∷ []) (Replied reply ∷ []);
+    refused = refused;
+    needed = subst (IsNeeded wish why.earlier) (sym why.is) needed;
+  }
 
--- a range that can't be taken is why the call has a bad answer
-bad_why : (held : Option Held) (request : Request) (items : List Item) (point : AskPoint) (asked : AskFacts) (wish : Wish) (pages : ℕ) (why : Why) → IsWishOf request wish → HeardWhy request items point asked →
-    ask_of point ≡ alloc_of wish pages → (s : Space) (c : ℕ) (found : Option ℕ) → Bad why ≡ (after_grow s c found asked.ask asked.answer).reply →
-    CauseOf held request (items ++ Replied (Bad why) ∷ []) (BadAnswer (answered_span pages asked.answer) why)
-bad_why held request items point asked wish pages why wished heard is s c found replied =
-    let ask : asked.ask ≡ alloc_of wish pages = heard.is ∙ is in
-    let at = subst (λ a. Bad why ≡ (after_grow s c found a asked.answer).reply) ask replied in
-    let bad = grow_bad s c found pages (max 512 wish.align) asked.answer why at in record {
-      wish = wish;
-      wished = wished;
-      asked = asked;
-      told = asked_in request items point asked (Bad why) heard;
-      alloc = ask ∙ ap (alloc_of wish) (sym bad.0.pages_are);
-      is_committed = bad.0.is_committed;
-      zeroed = bad.0.zeroed;
-      placed = bad.0.placed;
-      found = found;
-      parts = s.parts;
-      against = bad.1;
-    }
+  -- the ask is among the items
+  asked_in : (request : Request) (items : List Item) (point : AskPoint) (asked : AskFacts) (reply : Reply) → (why : HeardWhy request items point asked) → Contains (items ++ Replied reply ∷ []) (Told asked)
+  asked_in request items point asked reply why = more_in items (Replied reply) (Told asked) (subst (λ (xs : List Item). Contains xs (Told asked)) (sym why.told) (last_in why.earlier (Told asked)))
 
--- what follows has its reasons still
-heard_more : (request : Request) (items earlier : List Item) (asked : AskFacts) (reply : Reply) (later : Then) → items ≡ earlier ++ Told asked ∷ [] → ThenWhy request earlier later → ThenWhy request (items ++ Replied reply ∷ []) later
-heard_more request items earlier asked reply later told why =
-    then_more request items (Replied reply) later (subst (λ (xs : List Item). ThenWhy request xs later) (sym told) (then_more request earlier (Told asked) later why))
+  -- a range that can't be taken is why the call has a bad answer
+  bad_why : (request : Request) (items : List Item) (point : AskPoint) (asked : AskFacts) (wish : Wish) (pages : ℕ) (why : Why) → IsWishOf request wish → HeardWhy request items point asked →
+      ask_of point ≡ alloc_of wish pages → (s : Space) (c : ℕ) (found : Option ℕ) → Bad why ≡ (after_grow s c found asked.ask asked.answer).reply →
+      CauseOf desk request (items ++ Replied (Bad why) ∷ []) (BadAnswer (answered_span pages asked.answer) why)
+  bad_why request items point asked wish pages why wished heard is s c found replied =
+      let ask : asked.ask ≡ alloc_of wish pages = heard.is ∙ is in
+      let at = subst (λ a. Bad why ≡ (after_grow s c found a asked.answer).reply) ask replied in
+      let bad = grow_bad s c found pages (max 512 wish.align) asked.answer why at in record {
+        wish = wish;
+        wished = wished;
+        asked = asked;
+        told = asked_in request items point asked (Bad why) heard;
+        alloc = ask ∙ ap (alloc_of wish) (sym bad.0.pages_are);
+        is_committed = bad.0.is_committed;
+        zeroed = bad.0.zeroed;
+        placed = bad.0.placed;
+        found = found;
+        parts = s.parts;
+        against = bad.1;
+      }
 
-trimmed_why : (held : Option Held) (request : Request) (items : List Item) (wish : Wish) (span : Span) (b : Bool) (reply : Reply) → Had request items wish span b → NextWhy held request (items ++ Replied reply ∷ []) (trimmed wish b reply)
-trimmed_why held request items wish span b (Cut low) had = commit_why held request _ wish low b (cut_had request items wish span low b had)
-trimmed_why held request items wish span b Whole had = (had.0, whole_fits items)
-trimmed_why held request items wish span b reply had = tt
+  -- what follows has its reasons still
+  heard_more : (request : Request) (items earlier : List Item) (asked : AskFacts) (reply : Reply) (later : Then) → items ≡ earlier ++ Told asked ∷ [] → ThenWhy request earlier later → ThenWhy request (items ++ Replied reply ∷ []) later
+  heard_more request items earlier asked reply later told why =
+      then_more request items (Replied reply) later (subst (λ (xs : List Item). ThenWhy request xs later) (sym told) (then_more request earlier (Told asked) later why))
 
-told_why : (held : Option Held) (request : Request) (items : List Item) (c : ℕ) (point : AskPoint) (asked : AskFacts) (reply : Reply) → HeardWhy request items point asked → Turned c point asked reply →
-    NextWhy held request (items ++ Replied reply ∷ []) (told point asked reply)
-told_why held request items c (Skipping wish span b skip) asked (Cut high) why came =
-    trim_why held request _ wish high b (cut_had request items wish span high b (still_had request items why.earlier asked wish span b why.told why.why))
-told_why held request items c (Skipping wish span b skip) asked Whole why came = (why.why.0, whole_fits items)
-told_why held request items c (Skipping wish span b skip) asked reply why came = tt
-told_why held request items c (Trimming wish span b) asked reply why came = trimmed_why held request items wish span b reply (still_had request items why.earlier asked wish span b why.told why.why)
-told_why held request items c (Paring wish span b) asked reply why came = trimmed_why held request items wish span b reply (still_had request items why.earlier asked wish span b why.told why.why)
-told_why held request items c (Growing wish chunks) asked Refuse why came =
-    (why.why.0, fits_more items (Replied Refuse) (subst NothingFits (sym why.told) (fits_more why.earlier (Told asked) why.why.1)))
-told_why held request items c (Growing wish chunks) asked (Bad reason) why (s, found, replied) = bad_why held request items (Growing wish chunks) asked wish (chunks * 512) reason why.why.0 why refl s c found replied
-told_why held request items c (Growing wish chunks) asked (Grown span b) why came = (why.why.0, extent_next items (Replied (Grown span b)) (extent_of items) refl)
-told_why held request items c (Growing wish chunks) asked reply why came = tt
-told_why held request items c (Needing wish) asked Refuse why (s, found, replied) =
-    refused_why held request items (Needing wish) asked wish Refuse why.why.0 why
-    (grow_refused s c found (whole_chunks wish.pages) (max 512 wish.align) asked.answer (subst (λ a. Refuse ≡ (after_grow s c found a asked.answer).reply) why.is replied)) (refl, why.why.1)
-told_why held request items c (Needing wish) asked (Bad reason) why (s, found, replied) = bad_why held request items (Needing wish) asked wish (whole_chunks wish.pages) reason why.why.0 why refl s c found replied
-told_why held request items c (Needing wish) asked (Grown span b) why (s, found, replied) =
-    let had : Had request (items ++ Replied (Grown span b) ∷ []) wish span b = (why.why.0, extent_next items (Replied (Grown span b)) (extent_of items) refl) in
-    let placed = grow_grown s c found (whole_chunks wish.pages) (max 512 wish.align) asked.answer span b (subst (λ a. Grown span b ≡ (after_grow s c found a asked.answer).reply) why.is replied) in
-    elim (nat_lt wish.pages span.pages) as (λ v. nat_lt wish.pages span.pages ≡ v → NextWhy held request (items ++ Replied (Grown span b) ∷ []) (cond v (Go (Asks (Granting wish span b) None)) (commit wish span b))) [
-      | true ↦ λ h. (had, record { asked = asked; told = asked_in request items (Needing wish) asked (Grown span b) why; exact = why.is; is_committed = b; zeroed = placed.0; placed = placed.1; replied = last_in items (Replied (Grown span b)); more = ltb-true _ _ h })
-      | false ↦ λ h. commit_why held request _ wish span b had
-    ] refl
-told_why held request items c (Needing wish) asked reply why came = tt
-told_why held request items c (Granting wish span b) asked (Cut low) why came =
-    commit_why held request _ wish low b (cut_had request items wish span low b (still_had request items why.earlier asked wish span b why.told why.why.0))
-told_why held request items c (Granting wish span b) asked Whole why (s, found, replied) =
-    refused_why held request items (Granting wish span b) asked wish Whole why.why.0.0 why
-    (cut_whole s c true span wish.pages asked.answer (subst (λ a. Whole ≡ (after_cut s c true a asked.answer).reply) why.is replied)) (refl, why.why.1)
-told_why held request items c (Granting wish span b) asked reply why came = tt
-told_why held request items c (Committing wish span) asked Noted why came = why.why.0
-told_why held request items c (Committing wish span) asked Whole why (s, found, replied) =
-    refused_why held request items (Committing wish span) asked wish Whole why.why.0 why
-    (commit_whole s c span asked.answer (subst (λ a. Whole ≡ (after_commit s c a asked.answer).reply) why.is replied)) why.why.1
-told_why held request items c (Committing wish span) asked reply why came = tt
-told_why held request items c (Merging low high own_low fresh later) asked (Joined own) why came = heard_more request items why.earlier asked (Joined own) later why.told why.why
-told_why held request items c (Merging low high own_low fresh later) asked reply why came = tt
-told_why held request items c (Easing span later) asked (Lazy true) why came = heard_more request items why.earlier asked (Lazy true) later why.told why.why
-told_why held request items c (Easing span later) asked (Lazy false) why came = heard_more request items why.earlier asked (Lazy false) later why.told why.why
-told_why held request items c (Easing span later) asked reply why came = tt
-told_why held request items c (Returning span later) asked (NextFlight next) why came = put_why held request _ later next (heard_more request items why.earlier asked (NextFlight next) later why.told why.why)
-told_why held request items c (Returning span later) asked (Abandoned next) why came = put_why held request _ later next (heard_more request items why.earlier asked (Abandoned next) later why.told why.why)
-told_why held request items c (Returning span later) asked Kept why came = heard_more request items why.earlier asked Kept later why.told why.why
-told_why held request items c (Returning span later) asked reply why came = tt
-told_why held request items c (Decommitting span later) asked (Decommitted true) why came = heard_more request items why.earlier asked (Decommitted true) later why.told why.why
-told_why held request items c (Decommitting span later) asked (Decommitted false) why came = heard_more request items why.earlier asked (Decommitted false) later why.told why.why
-told_why held request items c (Decommitting span later) asked reply why came = tt
-told_why held request items c (Forcing span later) asked Noted why came = heard_more request items why.earlier asked Noted later why.told why.why
-told_why held request items c (Forcing span later) asked reply why came = tt
+  trimmed_why : (request : Request) (items : List Item) (wish : Wish) (span : Span) (b : Bool) (reply : Reply) → Had request items wish span b → NextWhy request (items ++ Replied reply ∷ []) (trimmed wish b reply)
+  trimmed_why request items wish span b (Cut low) had = commit_why request _ wish low b (cut_had request items wish span low b had)
+  trimmed_why request items wish span b Whole had = (had.0, whole_fits items)
+  trimmed_why request items wish span b reply had = tt
 
--- ---- the fold
+  told_why : (request : Request) (items : List Item) (c : ℕ) (point : AskPoint) (asked : AskFacts) (reply : Reply) → HeardWhy request items point asked → Turned c point asked reply →
+      NextWhy request (items ++ Replied reply ∷ []) (told point asked reply)
+  told_why request items c (Skipping wish span b skip) asked (Cut high) why came =
+      trim_why request _ wish high b (cut_had request items wish span high b (still_had request items why.earlier asked wish span b why.told why.why))
+  told_why request items c (Skipping wish span b skip) asked Whole why came = (why.why.0, whole_fits items)
+  told_why request items c (Skipping wish span b skip) asked reply why came = tt
+  told_why request items c (Trimming wish span b) asked reply why came = trimmed_why request items wish span b reply (still_had request items why.earlier asked wish span b why.told why.why)
+  told_why request items c (Paring wish span b) asked reply why came = trimmed_why request items wish span b reply (still_had request items why.earlier asked wish span b why.told why.why)
+  told_why request items c (Growing wish chunks) asked Refuse why came =
+      (why.why.0, fits_more items (Replied Refuse) (subst NothingFits (sym why.told) (fits_more why.earlier (Told asked) why.why.1)))
+  told_why request items c (Growing wish chunks) asked (Bad reason) why (s, found, replied) = bad_why request items (Growing wish chunks) asked wish (chunks * 512) reason why.why.0 why refl s c found replied
+  told_why request items c (Growing wish chunks) asked (Grown span b) why came = (why.why.0, extent_next items (Replied (Grown span b)) (extent_of items) refl)
+  told_why request items c (Growing wish chunks) asked reply why came = tt
+  told_why request items c (Needing wish) asked Refuse why (s, found, replied) =
+      refused_why request items (Needing wish) asked wish Refuse why.why.0 why
+      (grow_refused s c found (whole_chunks wish.pages) (max 512 wish.align) asked.answer (subst (λ a. Refuse ≡ (after_grow s c found a asked.answer).reply) why.is replied)) (refl, why.why.1)
+  told_why request items c (Needing wish) asked (Bad reason) why (s, found, replied) = bad_why request items (Needing wish) asked wish (whole_chunks wish.pages) reason why.why.0 why refl s c found replied
+  told_why request items c (Needing wish) asked (Grown span b) why (s, found, replied) =
+      let had : Had request (items ++ Replied (Grown span b) ∷ []) wish span b = (why.why.0, extent_next items (Replied (Grown span b)) (extent_of items) refl) in
+      let placed = grow_grown s c found (whole_chunks wish.pages) (max 512 wish.align) asked.answer span b (subst (λ a. Grown span b ≡ (after_grow s c found a asked.answer).reply) why.is replied) in
+      elim (nat_lt wish.pages span.pages) as (λ v. nat_lt wish.pages span.pages ≡ v → NextWhy request (items ++ Replied (Grown span b) ∷ []) (cond v (Go (Asks (Granting wish span b) None)) (commit wish span b))) [
+        | true ↦ λ h. (had, record { asked = asked; told = asked_in request items (Needing wish) asked (Grown span b) why; exact = why.is; is_committed = b; zeroed = placed.0; placed = placed.1; replied = last_in items (Replied (Grown span b)); more = ltb-true _ _ h })
+        | false ↦ λ h. commit_why request _ wish span b had
+      ] refl
+  told_why request items c (Needing wish) asked reply why came = tt
+  told_why request items c (Granting wish span b) asked (Cut low) why came =
+      commit_why request _ wish low b (cut_had request items wish span low b (still_had request items why.earlier asked wish span b why.told why.why.0))
+  told_why request items c (Granting wish span b) asked Whole why (s, found, replied) =
+      refused_why request items (Granting wish span b) asked wish Whole why.why.0.0 why
+      (cut_whole s c true span wish.pages asked.answer (subst (λ a. Whole ≡ (after_cut s c true a asked.answer).reply) why.is replied)) (refl, why.why.1)
+  told_why request items c (Granting wish span b) asked reply why came = tt
+  told_why request items c (Committing wish span) asked Noted why came = why.why.0
+  told_why request items c (Committing wish span) asked Whole why (s, found, replied) =
+      refused_why request items (Committing wish span) asked wish Whole why.why.0 why
+      (commit_whole s c span asked.answer (subst (λ a. Whole ≡ (after_commit s c a asked.answer).reply) why.is replied)) why.why.1
+  told_why request items c (Committing wish span) asked reply why came = tt
+  told_why request items c (Merging low high own_low fresh later) asked (Joined own) why came = heard_more request items why.earlier asked (Joined own) later why.told why.why
+  told_why request items c (Merging low high own_low fresh later) asked reply why came = tt
+  told_why request items c (Easing span later) asked (Lazy true) why came = heard_more request items why.earlier asked (Lazy true) later why.told why.why
+  told_why request items c (Easing span later) asked (Lazy false) why came = heard_more request items why.earlier asked (Lazy false) later why.told why.why
+  told_why request items c (Easing span later) asked reply why came = tt
+  told_why request items c (Returning span later) asked (NextFlight next) why came = put_why request _ later next (heard_more request items why.earlier asked (NextFlight next) later why.told why.why)
+  told_why request items c (Returning span later) asked (Abandoned next) why came = put_why request _ later next (heard_more request items why.earlier asked (Abandoned next) later why.told why.why)
+  told_why request items c (Returning span later) asked Kept why came = heard_more request items why.earlier asked Kept later why.told why.why
+  told_why request items c (Returning span later) asked reply why came = tt
+  told_why request items c (Decommitting span later) asked (Decommitted true) why came = heard_more request items why.earlier asked (Decommitted true) later why.told why.why
+  told_why request items c (Decommitting span later) asked (Decommitted false) why came = heard_more request items why.earlier asked (Decommitted false) later why.told why.why
+  told_why request items c (Decommitting span later) asked reply why came = tt
+  told_why request items c (Forcing span later) asked Noted why came = heard_more request items why.earlier asked Noted later why.told why.why
+  told_why request items c (Forcing span later) asked reply why came = tt
 
-settle_why : (held : Option Held) (request : Request) (items : List Item) (arena : ℕ) (next : Next) → NextWhy held request items next → NextWhy held request items (settle arena next).next
-settle_why held request items arena (Go point) why = why
-settle_why held request items arena (Over index point) why = why
-settle_why held request items arena More why = tt
-settle_why held request items arena Gone why = inr why
-settle_why held request items arena (Ends answer) why = why
-settle_why held request items arena Nowhere why = tt
+  -- ---- the fold
 
-starved_why : (held : Option Held) (request : Request) (items : List Item) (v : Bool) → NextWhy held request (items ++ Starved ∷ []) (starved v)
-starved_why held request items true = last_in items Starved
-starved_why held request items false = tt
+  batch_why : (request : Request) (items : List Item) (arena : ℕ) (batch : Option BatchFacts) → NextWhy request items (batch_goes arena batch).next
+  batch_why request items arena None = tt
+  batch_why request items arena (Some batch) = tt
 
-step_why : (held : Option Held) (request : Request) (items : List Item) (c : ℕ) (point : Point) (item : Item) → PointWhy request items point → Came c (Go point) item →
-    NextWhy held request (items ++ item ∷ []) (step point item)
-step_why held request items c (Turns point) (Replied reply) why came = turned_why held request items point reply why
-step_why held request items c (Turns point) Starved why came = starved_why held request items (is_marked (op_of point))
-step_why held request items c (Turns point) (Told asked) why came = tt
-step_why held request items c (Asks point None) (Told asked) why (s, t, sound, (is, kind, same)) = record { earlier = items; told = refl; why = why; is = is }
-step_why held request items c (Asks point None) (Replied reply) why came = tt
-step_why held request items c (Asks point None) Starved why came = tt
-step_why held request items c (Asks point (Some asked)) (Replied reply) why (s, t, sound, (found, left, replied)) = told_why held request items c point asked reply why (s, found, replied)
-step_why held request items c (Asks point (Some asked)) (Told other) why came = tt
-step_why held request items c (Asks point (Some asked)) Starved why came = tt
-step_why held request items c (Tells span b) (Told asked) why came = tt
-step_why held request items c (Tells span b) (Replied reply) why came = tt
-step_why held request items c (Tells span b) Starved why came = tt
+  settle_why : (request : Request) (items : List Item) (now : DeskFacts) (arena : ℕ) (next : Next) → NextWhy request items next → NextWhy request items (settle request now arena next).next
+  settle_why request items now arena (Go point) why = why
+  settle_why request items now arena (Over index point) why = why
+  settle_why request items now arena More why = batch_why request items arena (batch_of (going (flushes request) now))
+  settle_why request items now arena Gone why = inr why
+  settle_why request items now arena (Ends answer) why = why
+  settle_why request items now arena Nowhere why = tt
 
-run_why : (held : Option Held) (request : Request) (c : ℕ) (items past : List Item) (arena : ℕ) (next : Next) (answer : Answered) → NextWhy held request past next → AllCame c (stage arena next) items →
-    (run (stage arena next) items).next ≡ Ends answer → CauseOf held request (past ++ items) answer
-run_why held request c [] past arena next answer why came e =
-    subst (λ (xs : List Item). CauseOf held request xs answer) (sym (append-nil past)) (subst (NextWhy held request past) e why)
-run_why held request c (item ∷ items) past arena (Go point) answer why (one, others) e =
-    subst (λ (xs : List Item). CauseOf held request xs answer) (append_assoc past (item ∷ []) items)
-    (run_why held request c items (past ++ item ∷ []) _ _ answer (settle_why held request _ arena (step point item) (step_why held request past c point item why one)) others e)
-run_why held request c (item ∷ items) past arena (Over index point) answer why (one, others) e = absurd one
-run_why held request c (item ∷ items) past arena More answer why (one, others) e = absurd one
-run_why held request c (item ∷ items) past arena Gone answer why (one, others) e = absurd one
-run_why held request c (item ∷ items) past arena (Ends given) answer why (one, others) e = absurd one
-run_why held request c (item ∷ items) past arena Nowhere answer why (one, others) e = absurd one
+  starved_why : (request : Request) (items : List Item) (v : Bool) → NextWhy request (items ++ Starved ∷ []) (starved v)
+  starved_why request items true = last_in items Starved
+  starved_why request items false = tt
 
--- ---- where a request begins
+  step_why : (request : Request) (items : List Item) (c : ℕ) (point : Point) (item : Item) → PointWhy request items point → Came c (Go point) item →
+      NextWhy request (items ++ item ∷ []) (step point item)
+  step_why request items c (Turns point) (Replied reply) why came = turned_why request items point reply why
+  step_why request items c (Turns point) Starved why came = starved_why request items (is_marked (op_of point))
+  step_why request items c (Turns point) (Told asked) why came = tt
+  step_why request items c (Asks point None) (Told asked) why (s, t, sound, (is, kind, same)) = record { earlier = items; told = refl; why = why; is = is }
+  step_why request items c (Asks point None) (Replied reply) why came = tt
+  step_why request items c (Asks point None) Starved why came = tt
+  step_why request items c (Asks point (Some asked)) (Replied reply) why (s, t, sound, (found, left, replied)) = told_why request items c point asked reply why (s, found, replied)
+  step_why request items c (Asks point (Some asked)) (Told other) why came = tt
+  step_why request items c (Asks point (Some asked)) Starved why came = tt
+  step_why request items c (Tells span b) (Told asked) why came = tt
+  step_why request items c (Tells span b) (Replied reply) why came = tt
+  step_why request items c (Tells span b) Starved why came = tt
 
-first_why : (held : Option Held) (request : Request) (arena : ℕ) (point : TurnPoint) → TurnWhy request [] point → NextWhy held request [] (first_turn arena point).next
-first_why held request arena point why =
-    elim (nat_lt arena 32) as (λ v. nat_lt arena 32 ≡ v → NextWhy held request [] (cond v (Go (Turns point)) (Ends (NoSuchArena arena)))) [
-      | true ↦ λ h. why
-      | false ↦ λ h. let most : 32 ≤ arena = grind (arith, nat_tests) in inl most
-    ] refl
+  run_why : (request : Request) (c : ℕ) (items past : List Item) (now : DeskFacts) (arena : ℕ) (next : Next) (answer : Answered) → NextWhy request past next → AllCame c (moment request now arena next) items →
+      (run (moment request now arena next) items).stage.next ≡ Ends answer → CauseOf desk request (past ++ items) answer
+  run_why request c [] past now arena next answer why came e =
+      subst (λ (xs : List Item). CauseOf desk request xs answer) (sym (append-nil past)) (subst (NextWhy request past) e why)
+  run_why request c (item ∷ items) past now arena (Go point) answer why (one, others) e =
+      subst (λ (xs : List Item). CauseOf desk request xs answer) (append_assoc past (item ∷ []) items)
+      (run_why request c items (past ++ item ∷ []) _ _ _ answer (settle_why request _ (desk_fed now arena (Go point) item) arena (step point item) (step_why request past c point item why one)) others e)
+  run_why request c (item ∷ items) past now arena (Over index point) answer why (one, others) e = absurd one
+  run_why request c (item ∷ items) past now arena More answer why (one, others) e = absurd one
+  run_why request c (item ∷ items) past now arena Gone answer why (one, others) e = absurd one
+  run_why request c (item ∷ items) past now arena (Ends given) answer why (one, others) e = absurd one
+  run_why request c (item ∷ items) past now arena Nowhere answer why (one, others) e = absurd one
 
-but_0_why : (held : Option Held) (request : Request) (arena : ℕ) (point : TurnPoint) → (arena ≡ 0 → CauseOf held request [] Automatic) → TurnWhy request [] point → NextWhy held request [] (first_turn_but_0 arena point).next
-but_0_why held request arena point automatic why =
-    elim (arena == 0) as (λ v. arena == 0 ≡ v → NextWhy held request [] (cond v (stage arena (Ends Automatic)) (first_turn arena point)).next) [
-      | true ↦ λ h. automatic (eqb-true _ _ h)
-      | false ↦ λ h. first_why held request arena point why
-    ] refl
+  -- ---- where a request begins
 
-malloc_why : (held : Option Held) (size : ℕ) → NextWhy held (Malloc size) [] (begin_malloc size)
-malloc_why held size =
-    elim (nat_lt (2 ^ 35) size) as (λ v. nat_lt (2 ^ 35) size ≡ v → NextWhy held (Malloc size) [] (cond v (Ends TooLarge) (get (wish_for (class_for size) 1)))) [
-      | true ↦ λ h. ltb-true _ _ h
-      | false ↦ λ h. chosen held (Malloc size) [] (nat_lt (class_for size) 36) (Go (Turns (Filling (wish_for (class_for size) 1)))) (Go (Turns (Looking (wish_for (class_for size) 1)))) refl refl
-    ] refl
+  first_why : (request : Request) (arena : ℕ) (point : TurnPoint) → TurnWhy request [] point → NextWhy request [] (first_turn arena point).next
+  first_why request arena point why =
+      elim (nat_lt arena 32) as (λ v. nat_lt arena 32 ≡ v → NextWhy request [] (cond v (Go (Turns point)) (Ends (NoSuchArena arena)))) [
+        | true ↦ λ h. why
+        | false ↦ λ h. let most : 32 ≤ arena = grind (arith, nat_tests) in inl most
+      ] refl
 
-time_why : (rest : Rest) (ms : ℤ) (request : Request) → ChangeWhy request [] (after_time rest ms)
-time_why rest ms request = elim (int_eq ms (negsuc 0)) as (λ v. ChangeWhy request [] (cond v Stops (Visits (whole_visit rest)))) [ true ↦ tt | false ↦ tt ]
+  but_0_why : (request : Request) (arena : ℕ) (point : TurnPoint) → (arena ≡ 0 → CauseOf desk request [] Automatic) → TurnWhy request [] point → NextWhy request [] (first_turn_but_0 arena point).next
+  but_0_why request arena point automatic why =
+      elim (arena == 0) as (λ v. arena == 0 ≡ v → NextWhy request [] (cond v (stage arena (Ends Automatic)) (first_turn arena point)).next) [
+        | true ↦ λ h. automatic (eqb-true _ _ h)
+        | false ↦ λ h. first_why request arena point why
+      ] refl
 
-bind_why : (held : Option Held) (arena index : ℕ) → NextWhy held (Bind index) [] (begin_bind arena index).next
-bind_why held arena index =
-    elim (index == arena) as (λ v. NextWhy held (Bind index) [] (cond v (stage arena (Ends (Ok Finished))) (first_turn index (Changing SetBound (Leaves arena)))).next) [
-      | true ↦ tt
-      | false ↦ first_why held (Bind index) index (Changing SetBound (Leaves arena)) tt
-    ]
+  get_why : (request : Request) (class align count : ℕ) → IsWishOf request (wish_for class align (min count (most_regions class))) → NextWhy request [] (get class align count)
+  get_why request class align count wished = chosen request [] (nat_lt class 36) _ _ wished wished
 
-begin_why : (arena : ℕ) (held : Option Held) (request : Request) → NextWhy held request [] (begin arena held request).next
-begin_why arena held (Malloc size) = malloc_why held size
-begin_why arena None (Free addr) = (refl, refl)
-begin_why arena (Some region) (Free addr) = tt
-begin_why arena None (Publish addr) = (refl, refl)
-begin_why arena (Some region) (Publish addr) = tt
-begin_why arena held (Take addr index) = first_why held (Take addr index) index (Owning addr) refl
-begin_why arena held (PurgeAll index) = first_why held (PurgeAll index) index _ tt
-begin_why arena held (Decay index now) = first_why held (Decay index now) index (Advancing now) tt
-begin_why arena held (Time index rest ms now) = first_why held (Time index rest ms now) index (Changing (time_of rest ms now) (after_time rest ms)) (time_why rest ms (Time index rest ms now))
-begin_why arena held (Reset index) = but_0_why held (Reset index) index (Resetting 0) (λ e. e) tt
-begin_why arena held (Destroy index) = but_0_why held (Destroy index) index (Destroying 0) (λ e. e) tt
-begin_why arena held (Create box_no dirty_ms muzzy_ms now) = tt
-begin_why arena held (Bind index) = bind_why held arena index
-begin_why arena held (HookBox index box_no) = first_why held (HookBox index box_no) index (Changing (SetBox box_no) Stops) tt
-begin_why arena held (GrowLimit index chunks) = first_why held (GrowLimit index chunks) index (Changing (SetLimit chunks) Stops) tt
+  malloc_why : (size : ℕ) → NextWhy (Malloc size) [] (begin_malloc size desk).next
+  malloc_why size =
+      elim (nat_lt (2 ^ 35) size) as (λ v. nat_lt (2 ^ 35) size ≡ v → NextWhy (Malloc size) [] (cond v (stage desk.arena (Ends TooLarge)) (begin_get (class_for size) 1 (hit (class_for size) desk) desk)).next) [
+        | true ↦ λ h. ltb-true _ _ h
+        | false ↦ λ h. got_why (hit (class_for size) desk) refl
+      ] refl
+    where
+      got_why : (found : Option Held) → hit (class_for size) desk ≡ found → NextWhy (Malloc size) [] (begin_get (class_for size) 1 found desk).next
+      got_why (Some region) e = (refl, inl (region, e, refl))
+      got_why None e = get_why (Malloc size) (class_for size) 1 (share (class_for size) desk) refl
+
+  memalign_why : (align size : ℕ) → NextWhy (Memalign align size) [] (begin_memalign align size desk).next
+  memalign_why align size =
+      elim (is_alignment align) as (λ v. is_alignment align ≡ v → NextWhy (Memalign align size) []
+      (cond (not v) (stage desk.arena (Ends BadAlign)) (cond (nat_lt (2 ^ 35) size) (stage desk.arena (Ends TooLarge)) (begin_get (aligned_for size align) (page_align align) (small_hit (aligned_for size align) desk) desk))).next) [
+        | true ↦ λ good. elim (nat_lt (2 ^ 35) size) as (λ v. nat_lt (2 ^ 35) size ≡ v → NextWhy (Memalign align size) []
+            (cond v (stage desk.arena (Ends TooLarge)) (begin_get (aligned_for size align) (page_align align) (small_hit (aligned_for size align) desk) desk)).next) [
+              | true ↦ λ h. (passing_is align good, ltb-true _ _ h)
+              | false ↦ λ h. got_why (small_hit (aligned_for size align) desk) refl
+            ] refl
+        | false ↦ λ bad. failing_is_not align bad
+      ] refl
+    where
+      got_why : (found : Option Held) → small_hit (aligned_for size align) desk ≡ found → NextWhy (Memalign align size) [] (begin_get (aligned_for size align) (page_align align) found desk).next
+      got_why (Some region) e = (refl, inl (region, e, refl))
+      got_why None e = get_why (Memalign align size) (aligned_for size align) (page_align align) (share (aligned_for size align) desk) refl
+
+  time_why : (rest : Rest) (ms : ℤ) (request : Request) → ChangeWhy request [] (after_time rest ms)
+  time_why rest ms request = elim (int_eq ms (negsuc 0)) as (λ v. ChangeWhy request [] (cond v Stops (Visits (whole_visit rest)))) [ true ↦ tt | false ↦ tt ]
+
+  bind_why : (arena index : ℕ) → NextWhy (Bind index) [] (begin_bind arena index).next
+  bind_why arena index =
+      elim (index == arena) as (λ v. NextWhy (Bind index) [] (cond v (stage arena (Ends (Ok Finished))) (first_turn index (Changing SetBound (Leaves arena)))).next) [
+        | true ↦ tt
+        | false ↦ first_why (Bind index) index (Changing SetBound (Leaves arena)) tt
+      ]
+
+  free_why : (addr : ℕ) (held : Option Held) → held_at addr desk ≡ held → NextWhy (Free addr) [] (begin_free addr held desk).next
+  free_why addr None e = (refl, e)
+  free_why addr (Some region) e = batch_why (Free addr) [] region.arena (batch_of (going_with (freeing region desk).hand false desk))
+
+  publish_why : (addr : ℕ) (held : Option Held) → held_at addr desk ≡ held → NextWhy (Publish addr) [] (begin_publish addr held).next
+  publish_why addr None e = (refl, e)
+  publish_why addr (Some region) e = tt
+
+  begin_why : (request : Request) → NextWhy request [] (begin_stage request desk).next
+  begin_why (Malloc size) = malloc_why size
+  begin_why (Memalign align size) = memalign_why align size
+  begin_why (Free addr) = free_why addr (held_at addr desk) refl
+  begin_why (FreeForeign addr index) = first_why (FreeForeign addr index) index (Owning addr true) refl
+  begin_why (Publish addr) = publish_why addr (held_at addr desk) refl
+  begin_why (Take addr index) = first_why (Take addr index) index (Owning addr false) refl
+  begin_why Flush = batch_why Flush [] desk.arena (batch_of (going true desk))
+  begin_why (Cache true) = tt
+  begin_why (Cache false) = batch_why (Cache false) [] desk.arena (batch_of (going true desk))
+  begin_why (PurgeAll index) = first_why (PurgeAll index) index _ tt
+  begin_why (Decay index now) = first_why (Decay index now) index (Advancing now) tt
+  begin_why (Time index rest ms now) = first_why (Time index rest ms now) index (Changing (time_of rest ms now) (after_time rest ms)) (time_why rest ms (Time index rest ms now))
+  begin_why (Reset index) = but_0_why (Reset index) index (Resetting (cached_of index desk)) (λ e. e) tt
+  begin_why (Destroy index) = but_0_why (Destroy index) index (Destroying (cached_of index desk)) (λ e. e) tt
+  begin_why (Create box_no dirty_ms muzzy_ms now) = tt
+  begin_why (Bind index) = bind_why desk.arena index
+  begin_why (HookBox index box_no) = first_why (HookBox index box_no) index (Changing (SetBox box_no) Stops) tt
+  begin_why (GrowLimit index chunks) = first_why (GrowLimit index chunks) index (Changing (SetLimit chunks) Stops) tt
 
 pub answers-have_causes : AnswersHaveCauses
-answers-have_causes c arena held request items answer came e =
-    run_why held request c items [] (begin arena held request).arena (begin arena held request).next answer (begin_why arena held request) came e
+answers-have_causes c request desk items answer came e = run_why desk request c items [] _ _ _ answer (begin_why desk request) came e

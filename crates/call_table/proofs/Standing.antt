@@ -81,7 +81,7 @@ reset_stands_at c s cached idle fewer =
     rw (none_in_flight c s idle, none_offered c s idle, le-leb _ _ most) refl
 
 turn_stands : (c : ℕ) (s : Space) (point : TurnPoint) (found : Option ℕ) → Sound s → KnowsTurn (mine c s) point → op_stands s c (with_found found (op_of point)) ≡ true
-turn_stands c s (Filling wish) found sound (gets, idle, small) = rw (lt-ltb _ _ small, lt-ltb _ _ gets.is.some) refl
+turn_stands c s (Filling wish count) found sound (gets, idle, small, some) = rw (lt-ltb _ _ small, lt-ltb _ _ some) refl
 turn_stands c s (Looking wish) found sound (gets, idle) = rw (lt-ltb _ _ (wish_some wish gets.is), gets.is.align) refl
 turn_stands c s (Landing wish span) found sound (gets, alone, pages) =
     let same : span.pages ≡ pages_at wish.class = pages ∙ gets.is.pages in
@@ -102,7 +102,7 @@ turn_stands c s Dooming found sound (idle, dying) = dying
 turn_stands c s (Publishing addr) found sound (idle, held) =
     let all : list_all (is_held (mine c s)) (addr ∷ []) ≡ true = rw held refl in
     rw (live_held c s (addr ∷ []) sound (omega arith) all, region_found c s.regions addr, held) refl
-turn_stands c s (Owning addr) found sound idle = refl
+turn_stands c s (Owning addr frees) found sound idle = refl
 
 cut_stands_at : (c : ℕ) (s : Space) (keep_low : Bool) (asked : AskFacts) (span : Span) (left : ℕ) (b : Bool) (found : Option ℕ) → Sound s → Alone (mine c s) span b →
     0 < left → left < span.pages → asked.ask ≡ Split span left → AnswersTo (Split span left) asked.answer →

@@ -68,9 +68,9 @@ moved_flies_not c r (p ∷ ps) done none =
 moved_idle : (c : ℕ) (s : Space) (r : Rest) (test : Part → Bool) → Idle (mine c s) → filter (λ q. is_flight c q.state) (turned_parts test (moved_to r) s.parts) ≡ []
 moved_idle c s r test idle = replaced_idle c s test (turned_in_order (moved_to r) (filter test s.parts)) idle.flights ∙ moved_flies_not c r (filter test s.parts) [] refl
 
-fill_keeps : (c : ℕ) (s : Space) (wish : Wish) (addrs : List ℕ) → Gets (mine c s) wish → Idle (mine c s) → Onto c (turned (Filling wish)) 1 0 (fill_at s c wish.class addrs)
-fill_keeps c s wish [] gets idle = ((gets, idle), inl (omega arith))
-fill_keeps c s wish (addr ∷ addrs) gets idle = record { flights = idle.flights; offers = idle.offers }
+fill_keeps : (c : ℕ) (s : Space) (wish : Wish) (count : ℕ) (addrs : List ℕ) → Gets (mine c s) wish → Idle (mine c s) → Onto c (turned (Filling wish count)) 1 0 (fill_at s c wish.class addrs)
+fill_keeps c s wish count [] gets idle = ((gets, idle), inl (omega arith))
+fill_keeps c s wish count (addr ∷ addrs) gets idle = record { flights = idle.flights; offers = idle.offers }
 
 limited_goes : (c : ℕ) (t : Space) (bound : ℕ) (dirty muzzy : Option ℕ) → Idle (mine c t) → Keeps c t 4 bound (limited dirty muzzy)
 limited_goes c t bound None None idle = idle
@@ -151,9 +151,10 @@ doom_keeps c s (p ∷ ps) e idle dying =
     let count : length t.parts ≡ length (filter (λ q. not (begins_at p.span.first q)) s.parts) = ap length (append-nil (filter (λ q. not (begins_at p.span.first q)) s.parts)) in
     ((still, dying), inr (refl, omega (arith, fewer, count)))
 
-own_keeps : (c : ℕ) (s : Space) (addr : ℕ) (o : Option Region) → Idle (mine c s) → Onto c (turned (Owning addr)) 0 0 (take_over_at s c addr o)
-own_keeps c s addr None idle = idle
-own_keeps c s addr (Some r) idle = record { flights = idle.flights; offers = idle.offers }
+own_keeps : (c : ℕ) (s : Space) (addr : ℕ) (frees : Bool) (o : Option Region) → Idle (mine c s) → Onto c (turned (Owning addr frees)) 0 0 (take_over_at s c addr o)
+own_keeps c s addr frees None idle = idle
+own_keeps c s addr true (Some r) idle = record { flights = idle.flights; offers = idle.offers }
+own_keeps c s addr false (Some r) idle = record { flights = idle.flights; offers = idle.offers }
 
 -- the answer to a split behind the run, or of a grant of more chunks than are needed
 trim_keeps : (c : ℕ) (s : Space) (wish : Wish) (span : Span) (b : Bool) (asked : AskFacts) → Gets (mine c s) wish → Alone (mine c s) span b →
@@ -168,8 +169,8 @@ trim_keeps c s wish span b asked gets alone is kind =
 
 turn_keeps : (c : ℕ) (s : Space) (point : TurnPoint) (found : Option ℕ) → Sound s → KnowsTurn (mine c s) point →
     Onto c (turned point) (stages_turn point) (left c s (Turns point)) (step_of s c (with_found found (op_of point)))
-turn_keeps c s (Filling wish) found sound (gets, idle, small) =
-    live_keeps c s (turned (Filling wish)) 1 0 _ refl idle (fill_keeps c s wish (lowest_free wish.class wish.count s) gets idle)
+turn_keeps c s (Filling wish count) found sound (gets, idle, small, some) =
+    live_keeps c s (turned (Filling wish count)) 1 0 _ refl idle (fill_keeps c s wish count (lowest_free wish.class count s) gets idle)
 turn_keeps c s (Looking wish) found sound (gets, idle) = look_onto c s wish gets idle
 turn_keeps c s (Landing wish span) found sound (gets, alone, pages) = land_onto c s wish span alone
 turn_keeps c s (Giving addrs) found sound gives = back_onto c s addrs gives.idle.offers
@@ -184,7 +185,7 @@ turn_keeps c s (Resetting cached) found sound (idle, fewer) = reset_keeps c s ca
 turn_keeps c s (Destroying cached) found sound (idle, fewer) = destroy_keeps c s cached idle
 turn_keeps c s Dooming found sound (idle, dying) = doom_keeps c s s.parts refl idle dying
 turn_keeps c s (Publishing addr) found sound (idle, held) = record { flights = idle.flights; offers = idle.offers }
-turn_keeps c s (Owning addr) found sound idle = live_keeps c s (turned (Owning addr)) 0 0 _ refl idle (own_keeps c s addr (find (is_published_at addr) s.regions) idle)
+turn_keeps c s (Owning addr frees) found sound idle = live_keeps c s (turned (Owning addr frees)) 0 0 _ refl idle (own_keeps c s addr frees (find (is_published_at addr) s.regions) idle)
 
 ask_keeps : (c : ℕ) (s : Space) (point : AskPoint) (asked : AskFacts) (found : Option ℕ) → Sound s → KnowsAsk (mine c s) point → Heard point (Some asked) →
     Onto c (told point asked) (stages_ask point) (left_ask (flights_of c s) point) (step_of s c (with_found found (done_of point asked)))
@@ -232,9 +233,9 @@ ask_keeps c s (Decommitting span later) asked found sound (flies, then_is) (is, 
 ask_keeps c s (Forcing span later) asked found sound (flies, then_is) (is, kind) = forced_onto c s span later flies then_is
 
 -- a turn that found no memory changed nothing, and the client had nothing in flight
-starved_keeps : (c : ℕ) (s : Space) (point : TurnPoint) (stage bound : ℕ) → KnowsTurn (mine c s) point → is_marked (op_of point) ≡ true →
+pub starved_keeps : (c : ℕ) (s : Space) (point : TurnPoint) (stage bound : ℕ) → KnowsTurn (mine c s) point → is_marked (op_of point) ≡ true →
     Keeps c s stage bound (starved (is_marked (op_of point)))
-starved_keeps c s (Filling wish) stage bound (gets, idle, small) may = idle
+starved_keeps c s (Filling wish count) stage bound (gets, idle, small, some) may = idle
 starved_keeps c s (Looking wish) stage bound (gets, idle) may = idle
 starved_keeps c s (Giving addrs) stage bound gives may = gives.idle
 starved_keeps c s (Taking visit left) stage bound (idle, is, some) may = idle
@@ -245,12 +246,12 @@ starved_keeps c s (Resetting cached) stage bound (idle, fewer) may = idle
 starved_keeps c s (Destroying cached) stage bound (idle, fewer) may = idle
 starved_keeps c s Dooming stage bound (idle, dying) may = idle
 starved_keeps c s (Publishing addr) stage bound (idle, held) may = idle
-starved_keeps c s (Owning addr) stage bound idle may = idle
+starved_keeps c s (Owning addr frees) stage bound idle may = idle
 starved_keeps c s (Landing wish span) stage bound knows may = absurd (cc)
 starved_keeps c s (Finding own tries fresh later) stage bound knows may = absurd (cc)
 starved_keeps c s (Offering span later) stage bound knows may = absurd (cc)
 
-never_starves : (point : AskPoint) (asked : AskFacts) → is_marked (done_of point asked) ≡ false
+pub never_starves : (point : AskPoint) (asked : AskFacts) → is_marked (done_of point asked) ≡ false
 never_starves (Skipping wish span b skip) asked = refl
 never_starves (Trimming wish span b) asked = refl
 never_starves (Growing wish chunks) asked = refl

@@ -1,13 +1,13 @@
 -- How long the run of a call is.
-use Rattle.std.specs.Prelude.{◌≡◌, ℕ, ◌+◌, ◌≤◌, Bool, true, false, List, Option, Some, count_by}
+use Rattle.std.specs.Prelude.{◌≡◌, ℕ, ◌+◌, ◌≤◌, Bool, true, false, List, Some, count_by}
 use Rattle.std.specs.List.{sum_by}
 use Rattle.space_model.specs.declared.Reply.TheVariants.{Next as NextFlight, Abandoned, Purge, Taken, Doomed}
-use Rattle.thread_cache.specs.declared.Held.{Held}
+use Rattle.thread_cache.specs.Desks.{DeskFacts}
 use Rattle.call_table.specs.declared.needs.Answered.{Answered}
 use Rattle.call_table.specs.declared.needs.Item.{Item}
 use Rattle.call_table.specs.declared.needs.Item.TheVariants.{Replied, Told}
 use Rattle.call_table.specs.declared.needs.Request.{Request}
-use Rattle.call_table.specs.declared.needs.Request.TheVariants.{Malloc}
+use Rattle.call_table.specs.declared.needs.Request.TheVariants.{Malloc, Memalign}
 use Rattle.call_table.specs.declared.points.Next.TheVariants.{Ends}
 use Rattle.call_table.specs.Runs.{begin, run}
 
@@ -26,10 +26,16 @@ pub record IsShort (items : List Item) : Type 0 where
   pub asks : count_by is_told items ≤ 5
   pub turns : count_by is_turn items ≤ 8
 
+-- whether the request is a malloc, aligned or not
+abbrev pub is_malloc : Request → Bool
+is_malloc (Malloc size) = true
+is_malloc (Memalign align size) = true
+is_malloc request = false
+
 -- every malloc that ends was short
 abbrev pub MallocsAreShort : Type 0
-MallocsAreShort = (arena : ℕ) (held : Option Held) (size : ℕ) (items : List Item) (answer : Answered)
-    → (run (begin arena held (Malloc size)) items).next ≡ Ends answer → IsShort items
+MallocsAreShort = (request : Request) (desk : DeskFacts) (items : List Item) (answer : Answered)
+    → is_malloc request ≡ true → (run (begin request desk) items).stage.next ≡ Ends answer → IsShort items
 
 -- ---- every request
 
@@ -46,9 +52,10 @@ brings item = 0
 -- how many asks a request makes at most beside those
 abbrev pub most_asks : Request → ℕ
 most_asks (Malloc size) = 5
+most_asks (Memalign align size) = 5
 most_asks request = 0
 
 -- every call that ends has made few asks
 abbrev pub AsksAreFew : Type 0
-AsksAreFew = (arena : ℕ) (held : Option Held) (request : Request) (items : List Item) (answer : Answered)
-    → (run (begin arena held request) items).next ≡ Ends answer → count_by is_told items ≤ most_asks request + sum_by brings items
+AsksAreFew = (request : Request) (desk : DeskFacts) (items : List Item) (answer : Answered)
+    → (run (begin request desk) items).stage.next ≡ Ends answer → count_by is_told items ≤ most_asks request + sum_by brings items

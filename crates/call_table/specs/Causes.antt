@@ -1,7 +1,7 @@
 -- Why each answer of a call comes, by what the call was fed.
 use Rattle.std.specs.Prelude.{◌≡◌, ℕ, ◌<◌, ◌≤◌, ◌^◌, ◌⊎◌, max, Bool, true, false, List, [], ◌∷◌, ◌++◌, fold, Contains, Option, None, Some}
 use Rattle.std.specs.Option.{option_map}
-use Rattle.size_classes.specs.Classes.{class_for}
+use Rattle.size_classes.specs.Classes.{IsAlignment, aligned_for, class_for}
 use Rattle.space_model.specs.declared.Ask.{Ask}
 use Rattle.space_model.specs.declared.Ask.TheVariants.{Alloc, Commit, Split}
 use Rattle.space_model.specs.declared.Answer.TheVariants.{Placed, Refused as Refuses}
@@ -14,20 +14,20 @@ use Rattle.space_model.specs.Step.{why_not}
 use Rattle.space_model.specs.Sound.{Sound}
 use Rattle.hook_api.specs.Asked.{AskFacts}
 use Rattle.thread_cache.specs.declared.Held.{Held}
+use Rattle.thread_cache.specs.Desks.{DeskFacts, held_at, hit}
 use Rattle.call_table.specs.declared.needs.Answered.{Answered}
-use Rattle.call_table.specs.declared.needs.Answered.TheVariants.{Ok, Refused, BadAnswer, TooLarge, NotHeld, NoArena as NoSuchArena, Busy, NoMemory, ArenasFull, Automatic}
+use Rattle.call_table.specs.declared.needs.Answered.TheVariants.{Ok, Refused, BadAnswer, TooLarge, BadAlign, NotHeld, NoArena as NoSuchArena, Busy, NoMemory, ArenasFull, Automatic}
 use Rattle.call_table.specs.declared.needs.Given.{Given}
 use Rattle.call_table.specs.declared.needs.Given.TheVariants.{Region, Done as Finished, Arena, Limits}
 use Rattle.call_table.specs.declared.needs.Item.{Item}
 use Rattle.call_table.specs.declared.needs.Item.TheVariants.{Replied, Told, Starved}
 use Rattle.call_table.specs.declared.needs.Request.{Request}
-use Rattle.call_table.specs.declared.needs.Request.TheVariants.{Malloc, Free, Publish, Take, Reset, Destroy}
+use Rattle.call_table.specs.declared.needs.Request.TheVariants.{Malloc, Memalign, Free, FreeForeign, Publish, Take, Reset, Destroy}
 use Rattle.call_table.specs.declared.points.Wish.{Wish}
 use Rattle.call_table.specs.declared.points.Next.{Next}
 use Rattle.call_table.specs.declared.points.Next.TheVariants.{Go, Ends}
-use Rattle.call_table.specs.declared.calls.Stage.{Stage}
 use Rattle.call_table.specs.Table.{alloc_of, want, whole_chunks}
-use Rattle.call_table.specs.Runs.{after, begin, run, wish_for}
+use Rattle.call_table.specs.Runs.{Moment, after, begin, page_align, run, small_hit, wish_for}
 use Rattle.call_table.specs.Laws.{Moves}
 
 -- ---- what came
@@ -38,9 +38,9 @@ Came c (Go point) item = (s : Space) × (t : Space) × Sound s × Moves c s (wan
 Came c next item = ⊥
 
 -- each item came of what was wanted when it came
-abbrev pub AllCame : ℕ → Stage → List Item → Type 0
+abbrev pub AllCame : ℕ → Moment → List Item → Type 0
 AllCame c at [] = Unit {0}
-AllCame c at (item ∷ items) = Came c at.next item × AllCame c (after at item) items
+AllCame c at (item ∷ items) = Came c at.stage.next item × AllCame c (after at item) items
 
 -- ---- the extent that a malloc has
 
@@ -94,9 +94,14 @@ IsNeeded wish items ask = ⊥
 
 -- ---- the causes
 
+-- the wish is for regions of a class, at an alignment in pages
+abbrev pub IsWishFor : ℕ → ℕ → Wish → Type 0
+IsWishFor class align wish = wish ≡ wish_for class align wish.count
+
 -- the wish is that of the request
 abbrev pub IsWishOf : Request → Wish → Type 0
-IsWishOf (Malloc size) wish = wish ≡ wish_for (class_for size) 1
+IsWishOf (Malloc size) wish = IsWishFor (class_for size) 1 wish
+IsWishOf (Memalign align size) wish = IsWishFor (aligned_for size align) (page_align align) wish
 IsWishOf request wish = ⊥
 
 -- An ask of this call was refused, and it was needed after what the call had been fed.
@@ -124,49 +129,63 @@ pub record BadCause (request : Request) (items : List Item) (span : Span) (why :
   pub parts : List Part
   pub against : why_not found (max 512 wish.align) parts span ≡ Some why
 
--- a region was landed, found in a slab, or taken over
-abbrev pub RegionCause : Request → List Item → ℕ → ℕ → Type 0
-RegionCause (Malloc size) items addr class = (class ≡ class_for size)
-    × (((count : ℕ) × Contains items (Replied (Landed addr count))) ⊎ ((others : List ℕ) × Contains items (Replied (Regions (addr ∷ others)))))
-RegionCause (Take at arena) items addr class = (addr ≡ at) × Contains items (Replied (Owned class))
-RegionCause request items addr class = ⊥
+-- the region at an address was cached, or it landed or was free in a slab
+abbrev pub GotCause : Option Held → List Item → ℕ → Type 0
+GotCause found items addr =
+    ((region : Held) × (found ≡ Some region) × (addr ≡ region.addr))
+    ⊎ ((count : ℕ) × Contains items (Replied (Landed addr count)))
+    ⊎ ((others : List ℕ) × Contains items (Replied (Regions (addr ∷ others))))
 
-abbrev pub GivenCause : Request → List Item → Given → Type 0
-GivenCause request items (Region addr class) = RegionCause request items addr class
-GivenCause request items Finished = Unit {0}
-GivenCause request items (Arena index) = Contains items (Replied Noted)
-GivenCause request items (Limits dirty muzzy) = Contains items (Replied (LimitsAre dirty muzzy))
+-- a region is of the class of the request and was got, or was taken over
+abbrev pub RegionCause : DeskFacts → Request → List Item → ℕ → ℕ → Type 0
+RegionCause desk (Malloc size) items addr class = (class ≡ class_for size) × GotCause (hit class desk) items addr
+RegionCause desk (Memalign align size) items addr class = (class ≡ aligned_for size align) × GotCause (small_hit class desk) items addr
+RegionCause desk (Take at arena) items addr class = (addr ≡ at) × Contains items (Replied (Owned class))
+RegionCause desk request items addr class = ⊥
+
+abbrev pub GivenCause : DeskFacts → Request → List Item → Given → Type 0
+GivenCause desk request items (Region addr class) = RegionCause desk request items addr class
+GivenCause desk request items Finished = Unit {0}
+GivenCause desk request items (Arena index) = Contains items (Replied Noted)
+GivenCause desk request items (Limits dirty muzzy) = Contains items (Replied (LimitsAre dirty muzzy))
 
 -- the client held no region at the address of the request, or none was published there
-abbrev pub NotHeldCause : Option Held → Request → List Item → ℕ → Type 0
-NotHeldCause held (Free at) items addr = (addr ≡ at) × (held ≡ None)
-NotHeldCause held (Publish at) items addr = (addr ≡ at) × (held ≡ None)
-NotHeldCause held (Take at arena) items addr = (addr ≡ at) × Contains items (Replied Nothing)
-NotHeldCause held request items addr = ⊥
+abbrev pub NotHeldCause : DeskFacts → Request → List Item → ℕ → Type 0
+NotHeldCause desk (Free at) items addr = (addr ≡ at) × (held_at at desk ≡ None)
+NotHeldCause desk (Publish at) items addr = (addr ≡ at) × (held_at at desk ≡ None)
+NotHeldCause desk (Take at arena) items addr = (addr ≡ at) × Contains items (Replied Nothing)
+NotHeldCause desk (FreeForeign at arena) items addr = (addr ≡ at) × Contains items (Replied Nothing)
+NotHeldCause desk request items addr = ⊥
 
 abbrev pub TooLargeCause : Request → Type 0
 TooLargeCause (Malloc size) = 2 ^ 35 < size
+TooLargeCause (Memalign align size) = IsAlignment align × (2 ^ 35 < size)
 TooLargeCause request = ⊥
+
+abbrev pub BadAlignCause : Request → Type 0
+BadAlignCause (Memalign align size) = ¬ IsAlignment align
+BadAlignCause request = ⊥
 
 abbrev pub AutomaticCause : Request → Type 0
 AutomaticCause (Reset index) = index ≡ 0
 AutomaticCause (Destroy index) = index ≡ 0
 AutomaticCause request = ⊥
 
--- why a request of a client that held this region at its address had its answer after these items
-abbrev pub CauseOf : Option Held → Request → List Item → Answered → Type 0
-CauseOf held request items (Ok given) = GivenCause request items given
-CauseOf held request items (Refused asked) = RefusedCause request items asked
-CauseOf held request items (BadAnswer span why) = BadCause request items span why
-CauseOf held request items TooLarge = TooLargeCause request
-CauseOf held request items (NotHeld addr) = NotHeldCause held request items addr
-CauseOf held request items (NoSuchArena index) = (32 ≤ index) ⊎ Contains items (Replied NoArena)
-CauseOf held request items (Busy others flights threads) = Contains items (Replied (InUse others flights threads))
-CauseOf held request items NoMemory = Contains items Starved
-CauseOf held request items ArenasFull = Contains items (Replied Nothing)
-CauseOf held request items Automatic = AutomaticCause request
+-- why a request of a client that had this at its start had its answer after these items
+abbrev pub CauseOf : DeskFacts → Request → List Item → Answered → Type 0
+CauseOf desk request items (Ok given) = GivenCause desk request items given
+CauseOf desk request items (Refused asked) = RefusedCause request items asked
+CauseOf desk request items (BadAnswer span why) = BadCause request items span why
+CauseOf desk request items TooLarge = TooLargeCause request
+CauseOf desk request items BadAlign = BadAlignCause request
+CauseOf desk request items (NotHeld addr) = NotHeldCause desk request items addr
+CauseOf desk request items (NoSuchArena index) = (32 ≤ index) ⊎ Contains items (Replied NoArena)
+CauseOf desk request items (Busy others flights threads) = Contains items (Replied (InUse others flights threads))
+CauseOf desk request items NoMemory = Contains items Starved
+CauseOf desk request items ArenasFull = Contains items (Replied Nothing)
+CauseOf desk request items Automatic = AutomaticCause request
 
 -- every answer has its cause among what this very call was fed
 abbrev pub AnswersHaveCauses : Type 0
-AnswersHaveCauses = (c arena : ℕ) (held : Option Held) (request : Request) (items : List Item) (answer : Answered)
-    → AllCame c (begin arena held request) items → (run (begin arena held request) items).next ≡ Ends answer → CauseOf held request items answer
+AnswersHaveCauses = (c : ℕ) (request : Request) (desk : DeskFacts) (items : List Item) (answer : Answered)
+    → AllCame c (begin request desk) items → (run (begin request desk) items).stage.next ≡ Ends answer → CauseOf desk request items answer

@@ -147,7 +147,7 @@ is_of_arena setting = true
 
 -- what a call knows at a point at which it waits for the reply to a turn
 abbrev pub KnowsTurn : Mine → TurnPoint → Type 0
-KnowsTurn m (Filling wish) = Gets m wish × Idle m × (wish.class < 36)
+KnowsTurn m (Filling wish count) = Gets m wish × Idle m × (wish.class < 36) × (0 < count)
 KnowsTurn m (Looking wish) = Gets m wish × Idle m
 KnowsTurn m (Landing wish span) = Gets m wish × Alone m span true × (span.pages ≡ wish.pages)
 KnowsTurn m (Giving addrs) = Gives m addrs
@@ -161,7 +161,7 @@ KnowsTurn m (Resetting cached) = Idle m × (cached ≤ length m.regions)
 KnowsTurn m (Destroying cached) = Idle m × (cached ≤ length m.regions)
 KnowsTurn m Dooming = Idle m × (m.dying ≡ true)
 KnowsTurn m (Publishing addr) = Idle m × (is_held m addr ≡ true)
-KnowsTurn m (Owning addr) = Idle m
+KnowsTurn m (Owning addr frees) = Idle m
 
 -- what a call knows at a point at which it waits for an ask
 abbrev pub KnowsAsk : Mine → AskPoint → Type 0

@@ -1,5 +1,6 @@
 -- What is always true between a call and the space of its arena.
-use Rattle.std.specs.Prelude.{◌≡◌, ℕ, ◌+◌, ◌-◌, ◌*◌, ◌<◌, ◌≤◌, ◌==◌, ◌⊎◌, true, length, Bool, Option, None, Some, if◌then◌else◌}
+use Rattle.std.specs.Prelude.{◌≡◌, ℕ, ◌+◌, ◌-◌, ◌*◌, ◌<◌, ◌≤◌, ◌==◌, ◌⊎◌, true, length, Contains, Some, Bool, Option, None, if◌then◌else◌}
+use Rattle.std.specs.List.{flat_map}
 use Rattle.space_model.specs.declared.Op.{Op}
 use Rattle.space_model.specs.declared.Op.TheVariants.{GrowDone, OfferDone}
 use Rattle.space_model.specs.declared.Space.{Space}
@@ -14,6 +15,7 @@ use Rattle.hook_api.specs.Hooks.{Answers as AnswersTo}
 use Rattle.call_table.specs.declared.needs.Item.{Item}
 use Rattle.call_table.specs.declared.needs.Item.TheVariants.{Replied, Told, Starved}
 use Rattle.thread_cache.specs.declared.Held.{Held}
+use Rattle.thread_cache.specs.Desks.{DeskFacts, cached_of, held_at}
 use Rattle.call_table.specs.declared.calls.Stage.{Stage}
 use Rattle.call_table.specs.declared.needs.Request.{Request}
 use Rattle.call_table.specs.declared.needs.Request.TheVariants.{Time, Create, HookBox, GrowLimit as SetGrowLimit}
@@ -34,7 +36,7 @@ use Rattle.call_table.specs.declared.points.Next.{Next}
 use Rattle.call_table.specs.declared.points.Next.TheVariants.{Go, Over, More, Gone, Ends, Nowhere}
 use Rattle.call_table.specs.Table.{Want, WantTurn, WantAsk, want, step, is_marked}
 use Rattle.call_table.specs.Knows.{Idle, Knows, is_held, is_served}
-use Rattle.call_table.specs.Runs.{begin}
+use Rattle.call_table.specs.Runs.{begin_stage, settle}
 
 -- ---- what may be fed
 
@@ -79,7 +81,7 @@ stages_visit visit None = 1 + stages_later visit.later
 stages_visit visit (Some left) = stages_later visit.later
 
 abbrev pub stages_turn : TurnPoint → ℕ
-stages_turn (Filling wish) = 1
+stages_turn (Filling wish count) = 1
 stages_turn (Looking wish) = 0
 stages_turn (Landing wish span) = 0
 stages_turn (Giving addrs) = 1
@@ -93,7 +95,7 @@ stages_turn (Resetting cached) = 2
 stages_turn (Destroying cached) = 1
 stages_turn Dooming = 0
 stages_turn (Publishing addr) = 0
-stages_turn (Owning addr) = 0
+stages_turn (Owning addr frees) = 0
 
 abbrev pub stages_ask : AskPoint → ℕ
 stages_ask (Merging low high own_low fresh later) = stages_then later
@@ -128,7 +130,7 @@ left_visit (Some left) = 30 * left
 -- the turns and asks that can come at most from a point of a turn on before the next stage, itself among them, where the
 -- client has so many extents in flight and the arena has so many
 abbrev pub left_turn : ℕ → ℕ → TurnPoint → ℕ
-left_turn flights parts (Filling wish) = 0
+left_turn flights parts (Filling wish count) = 0
 left_turn flights parts (Looking wish) = 12
 left_turn flights parts (Landing wish span) = 1
 left_turn flights parts (Giving addrs) = 0
@@ -208,12 +210,18 @@ IsInRange (HookBox arena box_no) = box_no < 32
 IsInRange (SetGrowLimit arena chunks) = (1 ≤ chunks) × (chunks ≤ max_series)
 IsInRange request = Unit {0}
 
--- What is so of a client's own in the space where a request begins: nothing is in flight, the client is a customer of the
--- arena from which it allocates, and holds the region that the request is about.
-pub record Ready (m : Mine) (arena : ℕ) (held : Option Held) (at : Stage) : Type 0 where
+-- the client has the region: it holds it at some address, has cached it, or has it in hand
+abbrev pub Has : DeskFacts → Held → Type 0
+Has desk region = ((addr : ℕ) × (held_at addr desk ≡ Some region)) ⊎ Contains (flat_map (λ list. list) desk.cached) region ⊎ (desk.hand ≡ Some region)
+
+-- What is so of a client's own in the space of the arena where a request begins, or where it goes on once regions went back:
+-- nothing is in flight, the client is a customer of the arena from which it allocates, and the regions of the arena that it has
+-- are regions that it holds there.
+pub record Ready (m : Mine) (desk : DeskFacts) (at : Stage) : Type 0 where
   pub idle : Idle m
-  pub served : at.arena ≡ arena → is_served m ≡ true
-  pub holds : (region : Held) → held ≡ Some region → at.arena ≡ region.arena → is_held m region.addr ≡ true
+  pub served : at.arena ≡ desk.arena → is_served m ≡ true
+  pub holds : (region : Held) → Has desk region → at.arena ≡ region.arena → is_held m region.addr ≡ true
+  pub cached : cached_of at.arena desk ≤ length m.regions
 
 -- what is known where a request begins, or that it has ended with nothing in flight
 abbrev pub KnowsNext : Mine → Next → Type 0
@@ -223,5 +231,10 @@ KnowsNext m next = ⊥
 
 -- each request in range begins with what its first point has to know
 abbrev pub BeginsKnow : Type 0
-BeginsKnow = (m : Mine) (arena : ℕ) (held : Option Held) (request : Request) → IsInRange request
-    → Ready m arena held (begin arena held request) → KnowsNext m (begin arena held request).next
+BeginsKnow = (m : Mine) (request : Request) (desk : DeskFacts) → IsInRange request
+    → Ready m desk (begin_stage request desk) → KnowsNext m (begin_stage request desk).next
+
+-- where a call goes on once regions went back, it knows what it has to
+abbrev pub BatchesKnow : Type 0
+BatchesKnow = (m : Mine) (request : Request) (desk : DeskFacts) (arena : ℕ)
+    → Ready m desk (settle request desk arena More) → KnowsNext m (settle request desk arena More).next

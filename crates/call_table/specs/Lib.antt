@@ -1,9 +1,11 @@
 pub mod Table
 pub mod Points
+pub mod Desks
 pub mod Runs
 pub mod Needs
 pub mod Calls
 pub mod Knows
 pub mod Laws
+pub mod Rooms
 pub mod Bounds
 pub mod Causes

@@ -2,6 +2,8 @@
 use Rattle.std.specs.Prelude.{◌≡◌, ◌≤◌, ℕ, length}
 use Rattle.call_table.specs.declared.needs.Need.{Need}
 use Rattle.call_table.specs.declared.needs.Need.TheVariants.{Turn as NeedsTurn, Ask as NeedsAsk, Done as IsDone}
+use Rattle.call_table.specs.declared.needs.Request.{Request}
+use Rattle.call_table.specs.declared.needs.Request.TheVariants.{Malloc, Memalign, Free, Publish, Flush, Cache}
 use Rattle.call_table.specs.declared.points.TurnPoint.{TurnPoint}
 use Rattle.call_table.specs.declared.points.TurnPoint.TheVariants.{Giving}
 use Rattle.call_table.specs.declared.points.Point.TheVariants.{Turns}
@@ -19,6 +21,16 @@ abbrev pub NeedIs : ℕ → ℕ → Next → Need → Type 0
 NeedIs client arena (Go point) need = NeedsWant client arena (want point) need
 NeedIs client arena (Ends answer) need = need ≡ IsDone answer
 NeedIs client arena next need = ⊥
+
+-- what the client has stays as it is where the request begins, and no memory is taken
+abbrev pub LeavesDesk : Request → Type 0
+LeavesDesk (Malloc size) = ⊥
+LeavesDesk (Memalign align size) = ⊥
+LeavesDesk (Free addr) = ⊥
+LeavesDesk (Publish addr) = ⊥
+LeavesDesk Flush = ⊥
+LeavesDesk (Cache on) = ⊥
+LeavesDesk request = Unit {0}
 
 -- a call waits at a point, or has ended
 abbrev pub IsPlace : Next → Type 0

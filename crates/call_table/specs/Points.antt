@@ -1,5 +1,5 @@
 -- What is so of every point of a call, whatever it was fed: what it asks for fits into a number.
-use Rattle.std.specs.Prelude.{◌≤◌, ◌^◌}
+use Rattle.std.specs.Prelude.{◌<◌, ◌≤◌, ◌^◌}
 use Rattle.space_model.specs.Span.{max_series}
 use Rattle.call_table.specs.declared.points.Wish.{Wish}
 use Rattle.call_table.specs.declared.points.TurnPoint.{TurnPoint}
@@ -11,12 +11,12 @@ use Rattle.call_table.specs.declared.points.Point.TheVariants.{Turns, Asks, Tell
 use Rattle.call_table.specs.declared.points.Next.{Next}
 use Rattle.call_table.specs.declared.points.Next.TheVariants.{Go, Over}
 
--- the pages of a wish are few
+-- the pages of a wish are few, and its class is one
 abbrev pub IsFew : Wish → Type 0
-IsFew wish = wish.pages ≤ 2 ^ 32
+IsFew wish = (wish.pages ≤ 2 ^ 32) × (wish.class < 121)
 
 abbrev pub IsSizedTurn : TurnPoint → Type 0
-IsSizedTurn (Filling wish) = IsFew wish
+IsSizedTurn (Filling wish count) = IsFew wish
 IsSizedTurn (Looking wish) = IsFew wish
 IsSizedTurn (Landing wish span) = IsFew wish
 IsSizedTurn point = Unit {0}

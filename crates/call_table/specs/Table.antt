@@ -57,7 +57,7 @@ alloc_of wish pages = Alloc None pages (max 512 wish.align) false
 
 -- the operation of a turn that takes in no answer
 abbrev pub op_of : TurnPoint → Op
-op_of (Filling wish) = Fill wish.class wish.count
+op_of (Filling wish count) = Fill wish.class count
 op_of (Looking wish) = Look wish.pages wish.align
 op_of (Landing wish span) = Land span wish.class wish.count
 op_of (Giving addrs) = Back addrs
@@ -71,7 +71,7 @@ op_of (Resetting cached) = Reset cached
 op_of (Destroying cached) = Destroy cached
 op_of Dooming = DestroyTake
 op_of (Publishing addr) = Publish addr
-op_of (Owning addr) = TakeOver addr
+op_of (Owning addr frees) = TakeOver addr
 
 -- the ask at a point
 abbrev pub ask_of : AskPoint → Ask
@@ -218,13 +218,18 @@ changed (Leaves arena) = Over arena (Turns (Changing Unbind Stops))
 abbrev pub make_next : ℕ → Setting → Next
 make_next index setting = if nat_lt index 31 then Over (index + 1) (Turns (Making (index + 1) setting)) else Ends ArenasFull
 
+-- what follows once a region is taken over: it is held, or goes back
+abbrev pub took_over : ℕ → ℕ → Bool → Next
+took_over addr class true = More
+took_over addr class false = Ends (Ok (Region addr class))
+
 -- ---- where an item leads
 
 -- where the reply to a turn leads that took in no answer
 abbrev pub turned : TurnPoint → Reply → Next
-turned (Filling wish) (Regions (addr ∷ addrs)) = Ends (Ok (Region addr wish.class))
-turned (Filling wish) Nothing = Go (Turns (Looking wish))
-turned (Filling wish) NoArena = Gone
+turned (Filling wish count) (Regions (addr ∷ addrs)) = Ends (Ok (Region addr wish.class))
+turned (Filling wish count) Nothing = Go (Turns (Looking wish))
+turned (Filling wish count) NoArena = Gone
 turned (Looking wish) (Took span is_committed skip) = skip_to wish span is_committed skip
 turned (Looking wish) (Grow series) = grow wish series
 turned (Looking wish) NoArena = Gone
@@ -253,9 +258,9 @@ turned (Destroying cached) NoArena = Gone
 turned Dooming (Doomed span is_committed) = Go (Tells span is_committed)
 turned Dooming Nothing = Ends (Ok Finished)
 turned (Publishing addr) Noted = Ends (Ok Finished)
-turned (Owning addr) (Owned class) = Ends (Ok (Region addr class))
-turned (Owning addr) Nothing = Ends (NotHeld addr)
-turned (Owning addr) NoArena = Gone
+turned (Owning addr frees) (Owned class) = took_over addr class frees
+turned (Owning addr frees) Nothing = Ends (NotHeld addr)
+turned (Owning addr frees) NoArena = Gone
 turned point reply = Nowhere
 
 -- after the split of what stands before the run

@@ -1,48 +1,132 @@
 //! Where a request begins.
 
-ghost use Rattle.std.specs.Prelude.{◌≡◌, ◌<◌};
+ghost use Rattle.std.specs.Prelude.{◌≡◌, ◌<◌, ◌≤◌, min, IfOk, OnOk, OnErr};
+ghost use Rattle.std.specs.Option.{option_map};
+ghost use Rattle.space_model.specs.Slabs.{most_regions};
+ghost use Rattle.thread_cache.specs.Desks.{batch_facts, held_at};
+ghost use Rattle.call_table.specs.Needs.{LeavesDesk};
 ghost use Rattle.call_table.specs.Points.{IsSizedNext};
-ghost use Rattle.call_table.specs.Runs.{after_time, begin, begin_bind, begin_free, begin_malloc, begin_publish, begin_set, first_turn, first_turn_but_0, get, purge_visit, stage, time_of, whole_visit, wish_for};
+ghost use Rattle.call_table.specs.Runs.{after_time, batch_goes, begin_bind, begin_cache, begin_desk, begin_flush, begin_free, begin_get, begin_malloc, begin_memalign, begin_publish, begin_set, begin_stage, first_turn, first_turn_but_0, get, purge_visit, share, stage, time_of, whole_visit, wish_for};
 
 use crate::{Answered, Change, Given, Later, Next, Request, Stage, TurnPoint, Visit, Wish};
-use size_classes::{Addrs, SMALL_CLASSES, class_of, class_pages};
+use size_classes::{
+    PAGE_BYTES, SMALL_CLASSES, SizeFault, aligned_class, class_of, class_pages, slab_regions, slots,
+};
 use space_model::{Addresses, Rest, Setting};
-use std::alloc::Global;
-use thread_cache::Held;
+use std::alloc::{AllocError as NoMemory, Global};
+use thread_cache::{Batch, Desk, Held};
 
 impl Wish {
-    /// One region of a class, in an extent at an alignment in pages.
-    fn of_class(class: u8, align: u64) -> Wish
+    /// So many regions of a class, in an extent at an alignment in pages.
+    fn of_class(class: u8, align: u64, count: u32) -> Wish
         requires { class < 121 }
-        ensures { result ≡ wish_for class align }
+        ensures { result ≡ wish_for class align count }
     {
         Wish {
             pages: class_pages(class),
             align,
             class,
-            count: 1,
-        }
-    }
-
-    /// A region of a small class is looked for in the slabs first.
-    fn get(self) -> Next
-        ensures { result ≡ get self }
-    {
-        if self.class < SMALL_CLASSES {
-            TurnPoint::Filling(self).next()
-        } else {
-            TurnPoint::Looking(self).next()
+            count,
         }
     }
 }
 
-/// A malloc of so many bytes.
-fn malloc(size: u64) -> Next
-    ensures { result ≡ begin_malloc size }
+/// As many regions of the class as are wanted, or as one extent serves of them, if these are fewer.
+fn served(class: u8, count: u32) -> u32
+    requires { class < 121 }
+    ensures { result ≡ min count (most_regions class) }
 {
-    match class_of(size) {
-        Ok(class) => Wish::of_class(class, 1).get(),
-        Err(_) => Next::Ends(Answered::TooLarge),
+    let most = if class < SMALL_CLASSES {
+        slab_regions(class)
+    } else {
+        1
+    };
+    u64::from(count).min(most) as u32
+}
+
+/// Regions of a small class are looked for in the slabs first.
+fn get(class: u8, align: u64, count: u32) -> Next
+    requires { class < 121 }
+    ensures { result ≡ get class align count }
+{
+    let wish = Wish::of_class(class, align, served(class, count));
+    if class < SMALL_CLASSES {
+        TurnPoint::Filling(wish, count).next()
+    } else {
+        TurnPoint::Looking(wish).next()
+    }
+}
+
+/// How many regions of a class are got at once.
+fn share(class: u8, desk: &Desk) -> u32
+    ensures { result ≡ share class desk.now.facts }
+{
+    if desk.caches() && class < SMALL_CLASSES {
+        slots(class) / 2
+    } else {
+        1
+    }
+}
+
+impl Stage {
+    /// The call ends with an answer before any turn.
+    pub(crate) fn ended(arena: u32, answer: Answered) -> Stage
+        ensures { result ≡ stage arena (Next.Ends answer) }
+    {
+        Stage {
+            arena,
+            next: Next::Ends(answer),
+        }
+    }
+
+    /// A region of a class: the one that was hit in the cache, or one of those that are got.
+    fn get(class: u8, align: u64, hit: Option<Held>, desk: &Desk) -> Stage
+        requires { class < 121 }
+        ensures { result ≡ begin_get class align hit desk.now.facts }
+    {
+        match hit {
+            Some(region) => {
+                let addr = region.addr;
+                Stage::ended(region.arena, Answered::Ok(Given::Region { addr, class }))
+            }
+            None => Stage {
+                arena: desk.arena(),
+                next: get(class, align, share(class, desk)),
+            },
+        }
+    }
+
+    /// A malloc of so many bytes.
+    fn malloc(size: u64, desk: &mut Desk) -> Stage
+        ensures stage { result ≡ begin_malloc size desk.old.facts }
+        ensures facts { desk.new.facts ≡ begin_desk (Request.Malloc size) desk.old.facts }
+        ensures room { desk.new.room ≡ desk.old.room }
+    {
+        match class_of(size) {
+            Ok(class) => {
+                let hit = desk.take_hit(class);
+                Stage::get(class, 1, hit, desk)
+            }
+            Err(_) => Stage::ended(desk.arena(), Answered::TooLarge),
+        }
+    }
+
+    /// A malloc of so many bytes at an alignment in bytes.
+    fn memalign(align: u64, size: u64, desk: &mut Desk) -> Stage
+        ensures stage { result ≡ begin_memalign align size desk.old.facts }
+        ensures facts { desk.new.facts ≡ begin_desk (Request.Memalign align size) desk.old.facts }
+        ensures room { desk.new.room ≡ desk.old.room }
+    {
+        let pages = (align / PAGE_BYTES).max(1);
+        match aligned_class(size, align) {
+            Ok(class) if class < SMALL_CLASSES => {
+                let hit = desk.take_hit(class);
+                Stage::get(class, pages, hit, desk)
+            }
+            Ok(class) => Stage::get(class, pages, None, desk),
+            Err(SizeFault::TooLarge) => Stage::ended(desk.arena(), Answered::TooLarge),
+            Err(SizeFault::BadAlign) => Stage::ended(desk.arena(), Answered::BadAlign),
+        }
     }
 }
 
@@ -72,39 +156,70 @@ impl Stage {
     }
 }
 
-/// The region that the client holds at an address goes back.
-fn free(addr: u64, held: Option<Held>, alloc: Global) -> Stage
-    ensures { result ≡ begin_free addr held }
-{
-    match held {
-        Some(held) => {
-            let mut addrs = Addrs::new(alloc);
-            addrs.push(held.addr);
-            Stage {
-                arena: held.arena,
-                next: TurnPoint::Giving(Addresses::new(addrs)).next(),
-            }
+impl Stage {
+    /// The batch goes back, or where there is none, all is done.
+    pub(crate) fn batch(arena: u32, batch: Option<Batch>) -> Stage
+        ensures { result ≡ batch_goes arena (option_map batch_facts batch) }
+    {
+        match batch {
+            Some(batch) => Stage {
+                arena: batch.arena,
+                next: TurnPoint::Giving(Addresses::new(batch.addrs)).next(),
+            },
+            None => Stage::ended(arena, Answered::Ok(Given::Done)),
         }
-        None => Stage {
-            arena: 0,
-            next: Next::Ends(Answered::NotHeld(addr)),
-        },
     }
-}
 
-/// The region that the client holds at an address is published.
-fn publish(addr: u64, held: Option<Held>) -> Stage
-    ensures { result ≡ begin_publish addr held }
-{
-    match held {
-        Some(held) => Stage {
-            arena: held.arena,
-            next: TurnPoint::Publishing(held.addr).next(),
-        },
-        None => Stage {
-            arena: 0,
-            next: Next::Ends(Answered::NotHeld(addr)),
-        },
+    /// The region that the client holds at an address is freed.
+    fn free(addr: u64, desk: &mut Desk, alloc: Global) -> Result<Stage, NoMemory>
+        ensures stage { IfOk result (λ at. at ≡ begin_free addr (held_at addr desk.old.facts) desk.old.facts) }
+        ensures facts { OnOk result (desk.new.facts ≡ begin_desk (Request.Free addr) desk.old.facts) }
+        ensures room { desk.old.room ≤ desk.new.room }
+        ensures err { OnErr result (desk.new.facts ≡ desk.old.facts) }
+    {
+        let Some(region) = desk.held_at(addr) else {
+            return Ok(Stage::ended(0, Answered::NotHeld(addr)));
+        };
+        let batch = desk.batch(desk.hand_for(region), false, alloc)?;
+        desk.lose(addr);
+        desk.free(region);
+        Ok(Stage::batch(region.arena, batch))
+    }
+
+    /// The region that the client holds at an address is published.
+    fn publish(addr: u64, desk: &mut Desk) -> Stage
+        ensures stage { result ≡ begin_publish addr (held_at addr desk.old.facts) }
+        ensures facts { desk.new.facts ≡ begin_desk (Request.Publish addr) desk.old.facts }
+        ensures room { desk.old.room ≤ desk.new.room }
+    {
+        let Some(region) = desk.held_at(addr) else {
+            return Stage::ended(0, Answered::NotHeld(addr));
+        };
+        desk.lose(addr);
+        desk.take(region);
+        Stage {
+            arena: region.arena,
+            next: TurnPoint::Publishing(region.addr).next(),
+        }
+    }
+
+    /// All cached regions go back.
+    fn flush(desk: &Desk, alloc: Global) -> Result<Stage, NoMemory>
+        ensures { IfOk result (λ at. at ≡ begin_flush desk.now.facts) }
+    {
+        let batch = desk.batch(desk.hand(), true, alloc)?;
+        Ok(Stage::batch(desk.arena(), batch))
+    }
+
+    /// The cache is on at once, or it is flushed first.
+    fn cache(on: bool, desk: &Desk, alloc: Global) -> Result<Stage, NoMemory>
+        ensures { IfOk result (λ at. at ≡ begin_cache on desk.now.facts) }
+    {
+        if on {
+            Ok(Stage::ended(desk.arena(), Answered::Ok(Given::Done)))
+        } else {
+            Stage::flush(desk, alloc)
+        }
     }
 }
 
@@ -175,33 +290,31 @@ fn set(index: u32, setting: Setting) -> Stage
     Stage::first(index, TurnPoint::Changing(setting, Change::Stops))
 }
 
-/// Where a request begins.
-fn begun(arena: u32, held: Option<Held>, request: Request, alloc: Global) -> Stage
-    ensures { result ≡ begin arena held request }
+/// Where a request begins that leaves what the client has as it is, and takes no memory.
+fn begun(request: Request, desk: &Desk) -> Stage
+    requires { LeavesDesk request }
+    ensures { result ≡ begin_stage request desk.now.facts }
 {
     match request {
-        Request::Malloc { size } => {
-            let next = malloc(size);
-            Stage { arena, next }
-        }
-        Request::Free { addr } => free(addr, held, alloc),
-        Request::Publish { addr } => publish(addr, held),
-        Request::Take { addr, arena: index } => Stage::first(index, TurnPoint::Owning(addr)),
-        Request::Purge { arena: index } => {
-            Stage::first(index, TurnPoint::Taking(Visit::purge(), None))
-        }
-        Request::Decay { arena: index, now } => Stage::first(index, TurnPoint::Advancing(now)),
+        Request::FreeForeign { addr, arena } => Stage::first(arena, TurnPoint::Owning(addr, true)),
+        Request::Take { addr, arena } => Stage::first(arena, TurnPoint::Owning(addr, false)),
+        Request::Purge { arena } => Stage::first(arena, TurnPoint::Taking(Visit::purge(), None)),
+        Request::Decay { arena, now } => Stage::first(arena, TurnPoint::Advancing(now)),
         Request::Time {
-            arena: index,
+            arena,
             rest,
             ms,
             now,
         } => Stage::first(
-            index,
+            arena,
             TurnPoint::Changing(time_of(rest, ms, now), after_time(rest, ms)),
         ),
-        Request::Reset { arena: index } => { Stage::first_but_0(index, TurnPoint::Resetting(0)) }
-        Request::Destroy { arena: index } => { Stage::first_but_0(index, TurnPoint::Destroying(0)) }
+        Request::Reset { arena } => {
+            Stage::first_but_0(arena, TurnPoint::Resetting(desk.cached_of(arena)))
+        }
+        Request::Destroy { arena } => {
+            Stage::first_but_0(arena, TurnPoint::Destroying(desk.cached_of(arena)))
+        }
         Request::Create {
             box_no,
             dirty_ms,
@@ -219,25 +332,31 @@ fn begun(arena: u32, held: Option<Held>, request: Request, alloc: Global) -> Sta
                 },
             ),
         ),
-        Request::Bind { arena: index } => bind(arena, index),
-        Request::HookBox {
-            arena: index,
-            box_no,
-        } => set(index, Setting::HookBox(box_no)),
-        Request::GrowLimit {
-            arena: index,
-            chunks,
-        } => set(index, Setting::GrowLimit { chunks }),
+        Request::Bind { arena } => bind(desk.arena(), arena),
+        Request::HookBox { arena, box_no } => set(arena, Setting::HookBox(box_no)),
+        Request::GrowLimit { arena, chunks } => set(arena, Setting::GrowLimit { chunks }),
+        _ => unreachable!(),
     }
 }
 
 impl Stage {
-    /// Where a request begins of a client that allocates from an arena and holds this region at the address of the
-    /// request, if it holds one there. Takes no memory.
-    pub(crate) fn begin(arena: u32, held: Option<Held>, request: Request, alloc: Global) -> Stage
-        ensures stage { result ≡ begin arena held request }
-        ensures sized { IsSizedNext result.next }
+    /// Where a request begins of a client, whose desk is as it is then. `NoMemory` only where there is none to name several
+    /// regions that go back: the desk is as it was.
+    pub(crate) fn begin(request: Request, desk: &mut Desk, alloc: Global) -> Result<Stage, NoMemory>
+        ensures stage { IfOk result (λ at. at ≡ begin_stage request desk.old.facts) }
+        ensures facts { OnOk result (desk.new.facts ≡ begin_desk request desk.old.facts) }
+        ensures sized { IfOk result (λ at. IsSizedNext at.next) }
+        ensures room { desk.old.room ≤ desk.new.room }
+        ensures err { OnErr result (desk.new.facts ≡ desk.old.facts) }
     {
-        begun(arena, held, request, alloc)
+        match request {
+            Request::Malloc { size } => Ok(Stage::malloc(size, desk)),
+            Request::Memalign { align, size } => Ok(Stage::memalign(align, size, desk)),
+            Request::Free { addr } => Stage::free(addr, desk, alloc),
+            Request::Publish { addr } => Ok(Stage::publish(addr, desk)),
+            Request::Flush => Stage::flush(desk, alloc),
+            Request::Cache { on } => Stage::cache(on, desk, alloc),
+            request => Ok(begun(request, desk)),
+        }
     }
 }

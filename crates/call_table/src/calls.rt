@@ -1,18 +1,20 @@
 //! The automaton of a call.
 
-ghost use Rattle.std.specs.Prelude.{◌≡◌, List, ◌∷◌, IfOk, IsOk, ◌≤◌, length};
+ghost use Rattle.std.specs.Prelude.{◌≡◌, List, ◌∷◌, IfOk, IsOk, OnOk, OnErr, ◌≤◌, length};
+ghost use Rattle.call_table.specs.Calls.{HasRoom, moment_of};
+ghost use Rattle.call_table.specs.Desks.{flushes};
 ghost use Rattle.call_table.specs.Points.{IsSizedNext, IsSizedPoint};
 ghost use Rattle.call_table.specs.Needs.{Goes, HasFewAddresses, IsFewAddresses, NeedIs, NeedsWant};
-ghost use Rattle.call_table.specs.Runs.{after, begin, run, settle, step_next};
+ghost use Rattle.call_table.specs.Runs.{after, begin, run, settle, starved_after, step_next};
 ghost use Rattle.call_table.specs.Table.{op_of, step, want};
 
-use crate::{Answered, Given, Item, Need, Next, Point, Request, Turn, TurnPoint};
+use crate::{Answered, Item, Need, Next, Point, Request, Turn, TurnPoint};
 use size_classes::Addrs;
 use space_model::{Addresses, Ask, Op};
 use std::alloc::{AllocError as NoMemory, Global};
 use std::marker::Model;
 use std::mem;
-use thread_cache::Held;
+use thread_cache::Desk;
 
 /// Where a call stands: the arena whose turn or ask it waits for, and the point, or its answer.
 #[derive(Drop)]
@@ -43,9 +45,9 @@ impl TurnPoint {
         ensures few { HasFewAddresses self.now → IsOk result }
     {
         Ok(match self {
-            TurnPoint::Filling(wish) => Op::Fill {
+            TurnPoint::Filling(wish, count) => Op::Fill {
                 class: wish.class,
-                count: wish.count,
+                count: *count,
             },
             TurnPoint::Looking(wish) => Op::Look {
                 pages: wish.pages,
@@ -75,7 +77,7 @@ impl TurnPoint {
             TurnPoint::Destroying(cached) => Op::Destroy { cached: *cached },
             TurnPoint::Dooming => Op::DestroyTake,
             TurnPoint::Publishing(addr) => Op::Publish { addr: *addr },
-            TurnPoint::Owning(addr) => Op::TakeOver { addr: *addr },
+            TurnPoint::Owning(addr, _) => Op::TakeOver { addr: *addr },
         })
     }
 }
@@ -157,12 +159,32 @@ impl Next {
     }
 }
 
-impl Stage {
-    /// Where a step leads from a point of the arena.
-    fn settle(arena: u32, next: Next) -> Stage
-        ensures { result ≡ settle arena next }
+impl Request {
+    /// Whether all cached regions go back.
+    fn flushes(self) -> bool
+        ensures { result ≡ flushes self }
     {
-        match next {
+        match self {
+            Request::Flush => true,
+            Request::Cache { on } => !on,
+            _ => false,
+        }
+    }
+}
+
+impl Stage {
+    /// Where a step leads from a point of the arena, by what the client has then. `NoMemory` only where there is none to name
+    /// several regions that go back.
+    fn settle(
+        request: Request,
+        desk: &Desk,
+        arena: u32,
+        next: Next,
+        alloc: Global,
+    ) -> Result<Stage, NoMemory>
+        ensures { IfOk result (λ at. at ≡ settle request desk.now.facts arena next) }
+    {
+        Ok(match next {
             Next::Go(point) => {
                 let next = Next::Go(point);
                 Stage { arena, next }
@@ -172,38 +194,39 @@ impl Stage {
                 Stage { arena, next }
             }
             Next::More => {
-                let next = Next::Ends(Answered::Ok(Given::Done));
-                Stage { arena, next }
+                let batch = desk.batch(desk.hand(), request.flushes(), alloc)?;
+                Stage::batch(arena, batch)
             }
-            Next::Gone => {
-                let next = Next::Ends(Answered::NoArena(arena));
-                Stage { arena, next }
-            }
-            Next::Ends(answer) => {
-                let next = Next::Ends(answer);
-                Stage { arena, next }
-            }
+            Next::Gone => Stage::ended(arena, Answered::NoArena(arena)),
+            Next::Ends(answer) => Stage::ended(arena, answer),
             Next::Nowhere => {
                 let next = Next::Nowhere;
                 Stage { arena, next }
             }
-        }
+        })
     }
 
-    /// The stage after an item.
-    pub(crate) fn after(self, item: Item) -> Stage
+    /// The stage after an item, by what the client has after it.
+    pub(crate) fn after(
+        self,
+        request: Request,
+        desk: &Desk,
+        item: Item,
+        alloc: Global,
+    ) -> Result<Stage, NoMemory>
         requires { IsSizedNext self.next }
-        ensures stage { result ≡ after self item }
-        ensures sized { IsSizedNext result.next }
+        ensures stage { IfOk result (λ at. at ≡ settle request desk.now.facts self.arena (step_next self.next item)) }
+        ensures sized { IfOk result (λ at. IsSizedNext at.next) }
     {
-        Stage::settle(self.arena, self.next.step(item))
+        Stage::settle(request, desk, self.arena, self.next.step(item), alloc)
     }
 }
 
-/// A call of a client: one automaton for all requests. Contracts see its client and where it stands.
+/// A call of a client: one automaton for all requests. Contracts see its client, what that wants, and where it stands.
 #[derive(Drop)]
 pub struct Call {
     client: u32,
+    request: Request,
     stage: Stage,
 }
 
@@ -212,30 +235,36 @@ impl Model for Call {
 
     ghost Value = { CallFacts };
 
-    ghost view = { λ c. record { client = c.client; stage = c.stage } };
+    ghost view = { λ c. record { client = c.client; request = c.request; stage = c.stage } };
 
     ghost invariant = { λ c. IsCall c.stage };
 
-    ghost inverse = { λ f. record { client = f.client; stage = f.stage } };
+    ghost inverse = { λ f. record { client = f.client; request = f.request; stage = f.stage } };
 }
 
 impl Call {
-    /// A call that carries out a request of a client that allocates from an arena, and holds this region at the address of
-    /// the request, if it holds one there. Takes no memory.
+    /// A call that carries out a request of a client. Its desk is from now on as the call leaves it, with room for the region
+    /// that it may come to hold. `NoMemory` where there is none for that, or to name several regions that go back first: the
+    /// client has what it had.
     pub fn start(
         client: u32,
-        arena: u32,
-        held: Option<Held>,
+        desk: &mut Desk,
         request: Request,
         alloc: Global,
-    ) -> Call
-        ensures client { result.client ≡ client }
-        ensures stage { result.stage ≡ begin arena held request }
+    ) -> Result<Call, NoMemory>
+        ensures client { IfOk result (λ call. call.client ≡ client) }
+        ensures moment { IfOk result (λ call. moment_of call desk.new.facts ≡ begin request desk.old.facts) }
+        ensures room { IfOk result (λ call. HasRoom desk.new.room call.stage.next) }
+        ensures err { OnErr result (desk.new.facts ≡ desk.old.facts) }
     {
-        Call {
+        desk.reserve()?;
+        let stage = Stage::begin(request, desk, alloc)?;
+        stage.close(request, desk);
+        Ok(Call {
             client,
-            stage: Stage::begin(arena, held, request, alloc),
-        }
+            request,
+            stage,
+        })
     }
 
     /// The client whose call it is.
@@ -258,20 +287,39 @@ impl Call {
         }
     }
 
-    /// Takes in what came of its need. Takes no memory. The item is one that could come there.
+    /// Takes in what came of its need, with its client's desk, which is as the call left it but for held regions that others
+    /// were given since. The item is one that could come there.
     ///
-    /// The run of the call goes on as from here.
-    pub fn next(&mut self, item: Item)
-        requires { Goes (after self.old.stage item).next }
+    /// The run of the call goes on as from here. `NoMemory` only where there is none to name the regions that go back next: the
+    /// call has ended with that answer.
+    pub fn next(&mut self, desk: &mut Desk, item: Item, alloc: Global) -> Result<(), NoMemory>
+        requires goes { Goes (after (moment_of self.old desk.old.facts) item).stage.next }
+        requires room { 1 ≤ desk.old.room }
         ensures client { self.new.client ≡ self.old.client }
-        ensures stage { self.new.stage ≡ after self.old.stage item }
-        ensures reads { (items : List Item) → run self.old.stage (item ∷ items) ≡ run self.new.stage items }
+        ensures moment { OnOk result (moment_of self.new desk.new.facts ≡ after (moment_of self.old desk.old.facts) item) }
+        ensures reads { OnOk result ((items : List Item) → run (moment_of self.old desk.old.facts) (item ∷ items) ≡ run (moment_of self.new desk.new.facts) items) }
+        ensures err { OnErr result (moment_of self.new desk.new.facts ≡ starved_after (moment_of self.old desk.old.facts) item) }
+        ensures room { HasRoom desk.new.room self.new.stage.next }
     {
+        let arena = self.stage.arena;
         let here = Stage {
-            arena: self.stage.arena,
+            arena,
             next: Next::Nowhere,
         };
         let stage = mem::replace(&mut self.stage, here);
-        self.stage = stage.after(item);
+        stage.next.tell(desk, arena, &item);
+        match stage.after(self.request, desk, item, alloc) {
+            Ok(stage) => {
+                stage.close(self.request, desk);
+                self.stage = stage;
+                Ok(())
+            }
+            Err(error) => {
+                let stage = Stage::ended(arena, Answered::NoMemory);
+                stage.close(self.request, desk);
+                self.stage = stage;
+                Err(error)
+            }
+        }
     }
 }

@@ -139,8 +139,8 @@ impl Wish {
     }
 
     /// After free regions of a small class were looked for.
-    pub(crate) fn filled(self, reply: Reply) -> Next
-        ensures { result ≡ turned (TurnPoint.Filling self) reply }
+    pub(crate) fn filled(self, count: u32, reply: Reply) -> Next
+        ensures { result ≡ turned (TurnPoint.Filling self count) reply }
     {
         match reply {
             Reply::Regions(addrs) => match addrs.as_slice().first() {

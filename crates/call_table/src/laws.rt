@@ -1,13 +1,19 @@
 //! Laws of calls, as contracts of functions that do nothing.
 
-ghost use Rattle.call_table.specs.Laws.{BeginsKnow, KnowledgeIsOwn, StepsKeep, WantsStand};
+ghost use Rattle.call_table.specs.Laws.{BatchesKnow, BeginsKnow, KnowledgeIsOwn, StepsKeep, WantsStand};
+ghost use Rattle.call_table.specs.Rooms.{RoomsSuffice};
 ghost use Rattle.call_table.specs.Bounds.{AsksAreFew, MallocsAreShort};
 ghost use Rattle.call_table.specs.Causes.{AnswersHaveCauses};
 
-/// What a call knows at the point where it begins: its client has nothing in flight, and holds the region that it gives
+/// What a call knows at the point where it begins: its client has nothing in flight, and holds the regions that it gives
 /// back.
 pub fn begins_know()
     ensures { BeginsKnow }
+{}
+
+/// Where regions went back and more are to go, the next ones are such that the client holds in the next arena.
+pub fn batches_know()
+    ensures { BatchesKnow }
 {}
 
 /// Every turn that a call wants may stand in the space of its arena, whatever others did meanwhile, and whatever chunk of
@@ -42,4 +48,10 @@ pub fn asks_are_few()
 /// published; a refused ask that was needed; a bad range that its alloc placed, and what speaks against it.
 pub fn answers_have_causes()
     ensures { AnswersHaveCauses }
+{}
+
+/// Whoever has the room that is needed at a point has it wherever the call goes: a turn that takes memory makes room for
+/// the turns without memory that follow it.
+pub fn rooms_suffice()
+    ensures { RoomsSuffice }
 {}

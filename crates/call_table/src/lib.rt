@@ -8,6 +8,7 @@
 mod asks;
 mod begins;
 mod calls;
+mod desks;
 mod gets;
 mod laws;
 mod needs;
@@ -18,8 +19,8 @@ mod turns;
 
 pub use calls::{Call, Stage};
 pub use laws::{
-    answers_have_causes, asks_are_few, begins_know, knowledge_is_own, mallocs_are_short,
-    steps_keep, wants_stand,
+    answers_have_causes, asks_are_few, batches_know, begins_know, knowledge_is_own,
+    mallocs_are_short, rooms_suffice, steps_keep, wants_stand,
 };
 pub use needs::{Answered, Given, Item, Need, Request, Turn};
 pub use points::{AskPoint, Change, Later, Next, Point, Then, TurnPoint, Visit, Wish};

@@ -11,10 +11,24 @@ pub enum Request {
         /// The bytes.
         size: u64,
     },
+    /// `aligned_alloc`: a region of at least so many bytes, where 0 counts as 1, at a multiple of the alignment.
+    Memalign {
+        /// The alignment in bytes, a power of two from 1 to 2^30.
+        align: u64,
+        /// The bytes.
+        size: u64,
+    },
     /// `free`: the client gives a region back that it holds.
     Free {
         /// The address of its first byte.
         addr: u64,
+    },
+    /// `free` of a region that another client held: once it is published, it is taken over and given back.
+    FreeForeign {
+        /// The address of its first byte.
+        addr: u64,
+        /// The index of its arena.
+        arena: u32,
     },
     /// The client publishes a region that it holds, so that another one may take it over.
     Publish {
@@ -27,6 +41,13 @@ pub enum Request {
         addr: u64,
         /// The index of its arena.
         arena: u32,
+    },
+    /// `thread.tcache.flush`: all regions that the client has cached go back.
+    Flush,
+    /// `thread.tcache.enabled`: the client's cache is on or off from now on. It is flushed before it is off.
+    Cache {
+        /// Whether it is on.
+        on: bool,
     },
     /// `arena.<i>.purge`.
     Purge {
@@ -172,6 +193,8 @@ pub enum Answered {
     },
     /// The size is above 2^35 bytes.
     TooLarge,
+    /// The alignment isn't a power of two from 1 to 2^30.
+    BadAlign,
     /// The client holds no region at the address, or none is published there.
     NotHeld(u64),
     /// The arena isn't live.

@@ -60,8 +60,8 @@ pub enum Change {
 /// A point at which a call waits for the reply to a turn that takes in no answer of a hook.
 #[derive(Drop)]
 pub enum TurnPoint {
-    /// Free regions of a small class are taken.
-    Filling(Wish),
+    /// Free regions of a small class are taken, so many or as many as there are.
+    Filling(Wish, u32),
     /// Looking for an unused extent.
     Looking(Wish),
     /// The regions land in the extent.
@@ -97,8 +97,8 @@ pub enum TurnPoint {
     Dooming,
     /// The region at the address is published.
     Publishing(u64),
-    /// The region at the address is taken over.
-    Owning(u64),
+    /// The region at the address is taken over, and then goes back, if that is told.
+    Owning(u64, bool),
 }
 
 /// A point at which a call waits for an answer of a hook, and then for the reply to the turn that takes it in.

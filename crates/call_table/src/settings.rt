@@ -157,10 +157,11 @@ pub(crate) fn published(addr: u64, reply: Reply) -> Next
 }
 
 /// After a region was to be taken over.
-pub(crate) fn owned(addr: u64, reply: Reply) -> Next
-    ensures { result ≡ turned (TurnPoint.Owning addr) reply }
+pub(crate) fn owned(addr: u64, frees: bool, reply: Reply) -> Next
+    ensures { result ≡ turned (TurnPoint.Owning addr frees) reply }
 {
     match reply {
+        Reply::Owned { .. } if frees => Next::More,
         Reply::Owned { class } => Next::Ends(Answered::Ok(Given::Region { addr, class })),
         Reply::Nothing => Next::Ends(Answered::NotHeld(addr)),
         Reply::NoArena => Next::Gone,

@@ -23,7 +23,7 @@ impl TurnPoint {
         ensures { result ≡ turned self reply }
     {
         match self {
-            TurnPoint::Filling(wish) => wish.filled(reply),
+            TurnPoint::Filling(wish, count) => wish.filled(count, reply),
             TurnPoint::Looking(wish) => wish.looked(reply),
             TurnPoint::Landing(wish, span) => wish.landed(span, reply),
             TurnPoint::Giving(addrs) => gave(addrs, reply),
@@ -42,7 +42,7 @@ impl TurnPoint {
             TurnPoint::Destroying(cached) => ended(cached, reply),
             TurnPoint::Dooming => doomed(reply),
             TurnPoint::Publishing(addr) => published(addr, reply),
-            TurnPoint::Owning(addr) => owned(addr, reply),
+            TurnPoint::Owning(addr, frees) => owned(addr, frees, reply),
         }
     }
 

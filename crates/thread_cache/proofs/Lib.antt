@@ -1,1 +1,4 @@
 pub mod ByClass
+pub mod Flat
+pub mod Gone
+pub mod Going

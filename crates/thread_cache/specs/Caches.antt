@@ -1,5 +1,5 @@
 -- A cache of regions: one list for each class, in the order in which the regions were put.
-use Rattle.std.specs.Prelude.{◌≡◌, ℕ, ◌==◌, ◌≤◌, nat_lt, Bool, if◌then◌else◌, List, [], ◌∷◌, ◌++◌, length, map, remove, slice_index_or, slice_set, Option, Some, None, vec_capacity}
+use Rattle.std.specs.Prelude.{◌≡◌, ℕ, ◌==◌, ◌≤◌, nat_lt, Bool, not, if◌then◌else◌, List, [], ◌∷◌, ◌++◌, drop, filter, length, map, remove, take, slice_index_or, slice_set, Option, Some, None, vec_capacity}
 use Rattle.std.specs.List.{list_any, position, range_with_len}
 use Rattle.size_classes.specs.Classes.{slots_at}
 use Rattle.thread_cache.specs.declared.Held.{Held}
@@ -42,6 +42,14 @@ told_in class held regions = if nat_lt (length regions) (slots_at class) then Ke
 abbrev pub without_place : {X : Type 0} → List X → Option ℕ → List X
 without_place xs None = xs
 without_place xs (Some i) = remove xs i
+
+-- whether a region is of another arena
+abbrev pub is_elsewhere : ℕ → Held → Bool
+is_elsewhere arena held = not (held.arena == arena)
+
+-- of the first so many regions those of the arena are gone
+abbrev pub gone_from : ℕ → ℕ → List Held → List Held
+gone_from arena count regions = filter (is_elsewhere arena) (take count regions) ++ drop count regions
 
 -- the regions without the first one at the address
 abbrev pub without : ℕ → List Held → List Held

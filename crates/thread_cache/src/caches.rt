@@ -1,9 +1,9 @@
 //! A client's cache: the cached regions of each class.
 
-ghost use Rattle.std.specs.Prelude.{◌≡◌, ℕ, ◌/◌, ◌<◌, ◌≤◌, [], ◌∷◌, ◌++◌, length, replicate, take, slice_get, slice_set, true, IfOk, IfSome, IfNone};
+ghost use Rattle.std.specs.Prelude.{◌≡◌, ℕ, ◌/◌, ◌<◌, ◌≤◌, [], ◌∷◌, ◌++◌, filter, length, map, replicate, take, slice_get, slice_set, true, IfOk, IfSome, IfNone};
 ghost use Rattle.std.specs.List.{position};
 ghost use Rattle.size_classes.specs.Classes.{slots_at};
-ghost use Rattle.thread_cache.specs.Caches.{Listed, addrs_of, cached_in, dropped, has_at, is_cached, put_in, told_in};
+ghost use Rattle.thread_cache.specs.Caches.{Listed, addrs_of, cached_in, dropped, gone_from, has_at, is_cached, is_elsewhere, put_in, told_in};
 
 use crate::stacks::{Put, Stack};
 use crate::{CACHED_CLASSES, Held};
@@ -51,11 +51,11 @@ impl Cache {
         Ok(Cache { stacks })
     }
 
-    /// Takes the region of the class that was put last. `None` exactly where none is cached.
+    /// Takes the region of the class that was put last. `None` exactly where none is cached, and the cache stays then.
     pub fn take_cached(&mut self, class: u8) -> Option<Held>
         requires { class < 41 }
         ensures some { IfSome result (λ held. cached_in self.old class ≡ cached_in self.new class ++ held ∷ []) }
-        ensures none { IfNone result (cached_in self.old class ≡ []) }
+        ensures none { IfNone result ((cached_in self.old class ≡ []) × (self.new ≡ self.old)) }
         ensures others { self.new ≡ slice_set self.old class (cached_in self.new class) }
     {
         self.stacks[class as usize].pop()
@@ -88,6 +88,34 @@ impl Cache {
     {
         let class = class_of(self.stacks.as_slice(), addr).unwrap();
         self.stacks[class].drop_at(addr);
+    }
+
+    /// The regions of the class, in the order in which they were put.
+    pub fn of_class(&self, class: u8) -> &[Held]
+        requires { class < 41 }
+        ensures list { result.now ≡ cached_in self.now class }
+        ensures within { length result.now ≤ 200 }
+        ensures classes { length self.now ≡ 41 }
+    {
+        self.stacks[class as usize].as_slice()
+    }
+
+    /// Takes all regions of an arena out.
+    pub fn drop_of(&mut self, arena: u32)
+        ensures { self.new ≡ map (filter (is_elsewhere arena)) self.old }
+    {
+        for class in 0..CACHED_CLASSES {
+            self.stacks[class as usize].drop_of(arena);
+        }
+    }
+
+    /// Of so many regions of the class that were put first, takes those of an arena out.
+    pub fn drop_first_of(&mut self, class: u8, count: u32, arena: u32)
+        requires class { class < 41 }
+        requires within { count ≤ length (cached_in self.old class) }
+        ensures { self.new ≡ slice_set self.old class (gone_from arena count (cached_in self.old class)) }
+    {
+        self.stacks[class as usize].drop_first_of(count as usize, arena);
     }
 
     /// How many regions of the class are cached, at most its slots.

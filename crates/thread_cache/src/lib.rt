@@ -1,12 +1,18 @@
 //! What a client keeps of the regions that it has: a cache of those that it may hand out again without a turn.
 #![tactic(auto)]
 
+mod batches;
 mod caches;
+mod desks;
+mod laws;
 mod stacks;
 #[cfg(test)]
 mod tests;
 
+pub use batches::Batch;
 pub use caches::Cache;
+pub use desks::Desk;
+pub use laws::{batches_end, batches_rise};
 pub use stacks::Put;
 
 /// How many size classes a cache has lists for: those below it. Regions of the others are never cached.

@@ -1,9 +1,9 @@
 //! The cached regions of one class.
 
-ghost use Rattle.std.specs.Prelude.{◌≡◌, ℕ, ◌+◌, ◌/◌, ◌<◌, ◌≤◌, [], ◌∷◌, ◌++◌, length, map, take, true, IfOk, IfSome, IfNone, Some, None, slice_get};
+ghost use Rattle.std.specs.Prelude.{◌≡◌, ℕ, ◌+◌, ◌/◌, ◌<◌, ◌≤◌, [], ◌∷◌, ◌++◌, filter, length, map, take, true, IfOk, IfSome, IfNone, Some, None, slice_get};
 ghost use Rattle.std.specs.List.{list_any, position};
 ghost use Rattle.size_classes.specs.Classes.{slots_at};
-ghost use Rattle.thread_cache.specs.Caches.{addrs_of, is_at, put_in, told_in, without};
+ghost use Rattle.thread_cache.specs.Caches.{addrs_of, gone_from, is_at, is_elsewhere, put_in, told_in, without};
 
 use crate::Held;
 use size_classes::{Addrs, slots};
@@ -113,6 +113,35 @@ impl Stack {
     {
         let place = self.place_of(addr).unwrap();
         self.regions.remove(place);
+    }
+
+    /// The regions, in the order in which they were put.
+    pub(crate) fn as_slice(&self) -> &[Held]
+        ensures regions { result.now ≡ self.now.regions }
+        ensures within { length result.now ≤ 200 }
+    {
+        self.regions.as_slice()
+    }
+
+    /// Takes the regions of an arena out.
+    pub(crate) fn drop_of(&mut self, arena: u32)
+        ensures class { self.new.class ≡ self.old.class }
+        ensures regions { self.new.regions ≡ filter (is_elsewhere arena) self.old.regions }
+    {
+        self.regions.retain(|held| held.arena != arena);
+    }
+
+    /// Of so many regions that were put first, takes those of an arena out.
+    pub(crate) fn drop_first_of(&mut self, count: usize, arena: u32)
+        requires { count ≤ length self.old.regions }
+        ensures class { self.new.class ≡ self.old.class }
+        ensures regions { self.new.regions ≡ gone_from arena count self.old.regions }
+    {
+        for place in (0..count).rev() {
+            if self.regions[place].arena == arena {
+                self.regions.remove(place);
+            }
+        }
     }
 
     /// The region at a place, counted from 0 at the one put first.

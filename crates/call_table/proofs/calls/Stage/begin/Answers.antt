@@ -1,9 +1,14 @@
 use Rattle.std.proofs.Common.{subst, sym}
 use Rattle.call_table.specs.declared.calls.Stage.{Stage}
+use Rattle.call_table.specs.declared.needs.Request.TheVariants.{Malloc, Memalign}
 use Rattle.call_table.specs.Points.{IsSizedNext}
-use Rattle.call_table.proofs.Sizes.{begin-is_call}
+use Rattle.call_table.proofs.Credits.{begin-is_call}
 use Rattle.call_table.proofs.calls.Stage.begin.Goals as goal
 
-pub returns-clause-sized : goal.returns-clause-sized
-returns-clause-sized c =
-    subst (λ (at : Stage). IsSizedNext at.next) (sym c.begun.ensures) (begin-is_call c.args.arena c.args.held c.args.request).1
+pub returns-in-Malloc-clause-sized : goal.returns-in-Malloc-clause-sized
+returns-in-Malloc-clause-sized c =
+    subst (λ (at : Stage). IsSizedNext at.next) (sym c.malloc.ensures.stage) (begin-is_call (Malloc c.in-Malloc.size) c.args.desk.now.facts).1
+
+pub returns-in-Memalign-clause-sized : goal.returns-in-Memalign-clause-sized
+returns-in-Memalign-clause-sized c =
+    subst (λ (at : Stage). IsSizedNext at.next) (sym c.memalign.ensures.stage) (begin-is_call (Memalign c.in-Memalign.align c.in-Memalign.size) c.args.desk.now.facts).1

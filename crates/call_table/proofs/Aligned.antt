@@ -1,0 +1,118 @@
+-- The alignments that may be asked for, and the classes at them.
+use Rattle.std.proofs.Common.{◌≡◌, ℕ, ◌+◌, ◌^◌, ◌<◌, ◌≤◌, ◌==◌, inl, inr, max, true, false, cond, ◌&&◌, Option, None, Some, IfNone, IfSome, get_or, sym, zero-add, lt-ltb, nat_lt, refl, ◌∙◌, ap, arith, leb, ltb}
+use Rattle.std.proofs.Math.Nat.{pow-le-pow_right}
+use Rattle.std.specs.List.{range_with_len}
+use Rattle.std.specs.Int.{is_power_of_two, next_multiple_of}
+use Rattle.std.proofs.lemmas.Bool.Decides.{nat_tests}
+use Rattle.std.proofs.lemmas.Bool.{cases_lt, eqb-true}
+use Rattle.std.proofs.lemmas.List.Folds.{Any-from_list_any, list_any_at}
+use Rattle.std.proofs.lemmas.List.FromFn.{get_or-range_with_len, length-range_with_len}
+use lib.Count.{ones}
+use Rattle.size_classes.specs.Classes.{IsAlignment, aligned_for, class_for}
+use Rattle.size_classes.proofs.Least.{class_for_exists}
+use Rattle.size_classes.proofs.Table.{passes_below, at}
+use Rattle.thread_cache.specs.declared.Held.{Held}
+use Rattle.thread_cache.specs.Desks.{DeskFacts, hit, hitting}
+use Rattle.call_table.specs.declared.needs.Answered.TheVariants.{TooLarge, BadAlign}
+use Rattle.call_table.specs.declared.needs.Request.TheVariants.{Memalign}
+use Rattle.call_table.specs.declared.points.Next.TheVariants.{Ends}
+use Rattle.call_table.specs.Runs.{begin_desk, begin_get, begin_memalign, desk_got, is_alignment, page_align, small_hit, stage}
+
+-- an alignment passes the test
+pub alignment_passes : (align : ℕ) → IsAlignment align → is_alignment align ≡ true
+unfolding is_alignment
+alignment_passes align ((k, power), most) =
+    elim (cases_lt k 31) [
+      | inl few ↦
+          let here : get_or (range_with_len 0 31) k 0 ≡ k = get_or-range_with_len 0 31 k 0 few ∙ zero-add k in
+          let at : (align == 2 ^ get_or (range_with_len 0 31) k 0) ≡ true = ap (λ n. align == 2 ^ n) here ∙ same align (2 ^ k) power in
+          list_any_at (λ n. align == 2 ^ n) (range_with_len 0 31) k 0 (omega (arith, few, length-range_with_len 0 31)) at
+      | inr many ↦ let above : 2 ^ 31 ≤ 2 ^ k = pow-le-pow_right (omega arith) {i = 31} {j = k} (omega (arith, many)) in absurd (omega (arith, above, power, most))
+    ]
+  where
+    same : (a b : ℕ) → a ≡ b → (a == b) ≡ true
+    same a b e = grind (arith, nat_tests)
+
+-- what passes the test is one of the powers
+power_of : (align : ℕ) → is_alignment align ≡ true → (k : ℕ) × (k < 31) × (align ≡ 2 ^ k)
+unfolding is_alignment
+power_of align passes =
+    let (i, k, inside, is, same) = Any-from_list_any (λ k. align == 2 ^ k) (range_with_len 0 31) passes in
+    let few : i < 31 = omega (arith, inside, length-range_with_len 0 31) in
+    let here : k ≡ 0 + i = sym is ∙ get_or-range_with_len 0 31 i k few in
+    (k, omega (arith, here, few), eqb-true _ _ same)
+
+-- which are at most 2 ^ 30
+power_most : (k align : ℕ) → k < 31 → align ≡ 2 ^ k → align ≤ 2 ^ 30
+power_most k align few power = let within : 2 ^ k ≤ 2 ^ 30 = pow-le-pow_right (omega arith) {i = k} {j = 30} (omega (arith, few)) in omega (arith, power, within)
+
+-- what fails it is none
+pub failing_is_none : (align : ℕ) → ¬ IsAlignment align → is_alignment align ≡ false
+failing_is_none align none =
+    elim (is_alignment align) as (λ v. is_alignment align ≡ v → v ≡ false) [
+      | true ↦ λ h. let power = power_of align h in absurd (none ((power.0, power.2), power_most power.0 align power.1 power.2))
+      | false ↦ λ h. refl
+    ] refl
+
+page_powers : passes_below (λ k. is_power_of_two (page_align (2 ^ k))) 31 ≡ true
+unfolding ones
+page_powers = refl
+
+-- so what passes it is one, and what fails it isn't
+pub passing_is : (align : ℕ) → is_alignment align ≡ true → IsAlignment align
+passing_is align passes = let power = power_of align passes in ((power.0, power.2), power_most power.0 align power.1 power.2)
+
+pub failing_is_not : (align : ℕ) → is_alignment align ≡ false → ¬ IsAlignment align
+failing_is_not align fails good = let passes = alignment_passes align good in absurd (cc)
+
+-- the alignment in pages is a power of two
+pub page_power : (align : ℕ) → is_alignment align ≡ true → is_power_of_two (page_align align) ≡ true
+page_power align passes =
+    let power = power_of align passes in
+    ap (λ n. is_power_of_two (page_align n)) power.2 ∙ at (λ k. is_power_of_two (page_align (2 ^ k))) 31 power.0 page_powers power.1
+
+-- the class for an aligned size is one of those that there are
+pub aligned_below : (size align : ℕ) → size ≤ 2 ^ 35 → aligned_for size align < 121
+aligned_below size align most = chosen_below align (class_for (next_multiple_of (max size 1) align)) (class_for size) (class_for_exists size most)
+  where
+    chosen_below : (align r c : ℕ) → c < 121 → cond (leb align 4096 && ltb r 36) r (max 36 c) < 121
+    chosen_below align r c below = grind (arith, nat_tests)
+
+-- ---- where an aligned malloc begins
+
+-- with a good alignment and size
+pub memalign_good : (align size : ℕ) (desk : DeskFacts) → IsAlignment align → size ≤ 2 ^ 35 →
+    (begin_memalign align size desk ≡ begin_get (aligned_for size align) (page_align align) (small_hit (aligned_for size align) desk) desk)
+    × (begin_desk (Memalign align size) desk ≡ desk_got (aligned_for size align) (small_hit (aligned_for size align) desk) desk)
+memalign_good align size desk good few = rw (alignment_passes align good, not_above size few) (refl, refl)
+  where
+    not_above : (size : ℕ) → size ≤ 2 ^ 35 → nat_lt (2 ^ 35) size ≡ false
+    not_above size few = grind (arith, nat_tests)
+
+-- with a good alignment, and a size that is too large
+pub memalign_large : (align size : ℕ) (desk : DeskFacts) → IsAlignment align → 2 ^ 35 < size →
+    (begin_memalign align size desk ≡ stage desk.arena (Ends TooLarge)) × (begin_desk (Memalign align size) desk ≡ desk)
+memalign_large align size desk good many = rw (alignment_passes align good, lt-ltb _ _ many) (refl, refl)
+
+-- with another alignment
+pub memalign_bad : (align size : ℕ) (desk : DeskFacts) → ¬ IsAlignment align →
+    (begin_memalign align size desk ≡ stage desk.arena (Ends BadAlign)) × (begin_desk (Memalign align size) desk ≡ desk)
+memalign_bad align size desk bad = rw (failing_is_none align bad) (refl, refl)
+
+-- what is hit is asked of the client's cache alone, and what is got of its desk
+pub get_same : (class align : ℕ) (hit : Option Held) (desk other : DeskFacts) → IfNone hit (desk ≡ other) → begin_get class align hit desk ≡ begin_get class align hit other
+get_same class align None desk other same = ap (begin_get class align None) same
+get_same class align (Some region) desk other same = refl
+
+-- a small class is asked of the cache
+pub small_hit_is : (class : ℕ) (desk : DeskFacts) → class < 36 → small_hit class desk ≡ hit class desk
+small_hit_is class desk small = rw (lt-ltb _ _ small) refl
+
+-- and a large one isn't
+pub large_missed : (class : ℕ) (desk : DeskFacts) → 36 ≤ class → small_hit class desk ≡ None
+large_missed class desk large = let no_small : nat_lt class 36 ≡ false = grind (arith, nat_tests) in rw no_small refl
+
+-- what is left of the cache once it was asked
+pub got_is : (class : ℕ) (hit : Option Held) (desk after : DeskFacts) → IfSome hit (λ _. after ≡ hitting class desk) → IfNone hit (after ≡ desk) → after ≡ desk_got class hit desk
+got_is class None desk after some none = none
+got_is class (Some region) desk after some none = some

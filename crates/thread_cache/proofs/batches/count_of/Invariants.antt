@@ -1,0 +1,7 @@
+use Rattle.std.proofs.Common.{◌≡◌, ◌≤◌, count_by, take}
+use Rattle.thread_cache.specs.Desks.{is_in}
+use Rattle.thread_cache.proofs.batches.count_of.Given as goal
+
+-- the regions so far
+abbrev pub invariant-loop-region : goal.invariant-loop-region
+invariant-loop-region l = (l.count ≡ count_by (is_in l.arena) (take l.region-index l.regions)) × (l.count ≤ l.region-index)

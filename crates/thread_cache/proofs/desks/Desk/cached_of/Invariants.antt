@@ -1,0 +1,8 @@
+use Rattle.std.proofs.Common.{◌≡◌, ◌<◌, ◌≤◌, ◌*◌, count_by, length, take}
+use Rattle.std.specs.List.{flat_map}
+use Rattle.thread_cache.specs.Desks.{is_in}
+use Rattle.thread_cache.proofs.desks.Desk.cached_of.Given as goal
+
+-- those of the classes so far
+abbrev pub invariant-loop-class : goal.invariant-loop-class
+invariant-loop-class l = (l.count ≡ count_by (is_in l.arena) (flat_map (λ list. list) (take l.class l.self.facts.cached))) × (l.count ≤ 200 * l.class) × (0 < l.class → length l.self.facts.cached ≡ 41)

@@ -1,0 +1,190 @@
+//! What goes back of the regions that a client has: one batch for each arena.
+
+ghost use Rattle.std.specs.Prelude.{◌≡◌, ◌<◌, ◌≤◌, [], ◌∷◌, fold, count_by, length, Some, IfOk, OnOk};
+ghost use Rattle.std.specs.List.{flat_map};
+ghost use Rattle.std.specs.Option.{option_map};
+ghost use Rattle.thread_cache.specs.Caches.{cached_in};
+ghost use Rattle.thread_cache.specs.Desks.{added, addrs_in, batch_facts, batch_of, cached_of, gave, going_with, is_in, least_arena, lesser, older_count};
+
+use crate::{CACHED_CLASSES, Desk, Held};
+use size_classes::{Addrs, slots};
+use std::alloc::{AllocError as NoMemory, Global};
+use std::collections::BTreeSet;
+
+/// Regions of one arena that go back.
+#[derive(Drop)]
+pub struct Batch {
+    /// The index of the arena.
+    pub arena: u32,
+    /// Their addresses, rising, each once.
+    pub addrs: Addrs,
+}
+
+/// The least of an index, if there is one, and the indexes of the arenas of some regions.
+fn least_of(found: Option<u32>, regions: &[Held]) -> Option<u32>
+    ensures { result ≡ fold lesser found regions.now }
+{
+    let mut least = found;
+    for region in regions {
+        least = match least {
+            Some(arena) => Some(arena.min(region.arena)),
+            None => Some(region.arena),
+        };
+    }
+    least
+}
+
+/// Adds the addresses of those regions that are of an arena.
+fn add_of(addrs: &mut BTreeSet<u64>, regions: &[Held], arena: u32) -> Result<(), NoMemory>
+    ensures { OnOk result (addrs.new.keys ≡ fold (added arena) addrs.old.keys regions.now) }
+{
+    for region in regions {
+        if region.arena == arena {
+            addrs.insert(region.addr)?;
+        }
+    }
+    Ok(())
+}
+
+/// How many of some regions are of an arena.
+fn count_of(regions: &[Held], arena: u32) -> u64
+    ensures count { result ≡ count_by (is_in arena) regions.now }
+    ensures within { result ≤ length regions.now }
+{
+    let mut count = 0;
+    for region in regions {
+        if region.arena == arena {
+            count += 1;
+        }
+    }
+    count
+}
+
+/// The addresses of a set as a list.
+fn listed(set: &BTreeSet<u64>, alloc: Global) -> Result<Addrs, NoMemory>
+    ensures { IfOk result (λ addrs. addrs.items ≡ set.now.keys) }
+{
+    let mut addrs = Addrs::new(alloc);
+    addrs.reserve(set.len() as u64)?;
+    for addr in set.iter() {
+        addrs.push(*addr);
+    }
+    Ok(addrs)
+}
+
+/// The regions of the least arena among some.
+fn batch_of(regions: &[Held], alloc: Global) -> Result<Option<Batch>, NoMemory>
+    ensures { IfOk result (λ batch. option_map batch_facts batch ≡ batch_of regions.now) }
+{
+    let Some(arena) = least_of(None, regions) else {
+        return Ok(None);
+    };
+    let mut set = BTreeSet::new(alloc);
+    add_of(&mut set, regions, arena)?;
+    let addrs = listed(&set, alloc)?;
+    Ok(Some(Batch { arena, addrs }))
+}
+
+/// One region alone. Takes no memory.
+fn batch_of_one(region: Held, alloc: Global) -> Batch
+    ensures { Some (batch_facts result) ≡ batch_of (region ∷ []) }
+{
+    let mut addrs = Addrs::new(alloc);
+    addrs.push(region.addr);
+    Batch {
+        arena: region.arena,
+        addrs,
+    }
+}
+
+impl Desk {
+    /// How many regions of a class go back that was full.
+    fn older_count(&self, class: u8) -> u32
+        requires { class < 41 }
+        ensures count { result ≡ older_count class self.now.facts }
+        ensures within { result ≤ length (cached_in self.now.facts.cached class) }
+    {
+        let stay = slots(class) - slots(class) / 2;
+        self.cache.len(class).saturating_sub(stay)
+    }
+
+    /// The least arena of which regions are cached.
+    fn least_cached(&self) -> Option<u32>
+        ensures { result ≡ least_arena (flat_map (λ list. list) self.now.facts.cached) }
+    {
+        let mut least = None;
+        for class in 0..CACHED_CLASSES {
+            least = least_of(least, self.cache.of_class(class));
+        }
+        least
+    }
+
+    /// The addresses of the cached regions of an arena.
+    fn cached_in(&self, arena: u32, alloc: Global) -> Result<Addrs, NoMemory>
+        ensures { IfOk result (λ addrs. addrs.items ≡ addrs_in arena (flat_map (λ list. list) self.now.facts.cached)) }
+    {
+        let mut set = BTreeSet::new(alloc);
+        for class in 0..CACHED_CLASSES {
+            add_of(&mut set, self.cache.of_class(class), arena)?;
+        }
+        listed(&set, alloc)
+    }
+
+    /// All cached regions of the least arena of which there are some.
+    fn batch_of_cached(&self, alloc: Global) -> Result<Option<Batch>, NoMemory>
+        ensures { IfOk result (λ batch. option_map batch_facts batch ≡ batch_of (flat_map (λ list. list) self.now.facts.cached)) }
+    {
+        let Some(arena) = self.least_cached() else {
+            return Ok(None);
+        };
+        let addrs = self.cached_in(arena, alloc)?;
+        Ok(Some(Batch { arena, addrs }))
+    }
+
+    /// The next batch that goes back: for the region that is in hand then, if one is, or else of all cached ones, if these
+    /// are to go. Takes no memory where nothing goes, or a region that isn't to be cached.
+    pub fn batch(
+        &self,
+        hand: Option<Held>,
+        all: bool,
+        alloc: Global,
+    ) -> Result<Option<Batch>, NoMemory>
+        ensures { IfOk result (λ batch. option_map batch_facts batch ≡ batch_of (going_with hand all self.now.facts)) }
+    {
+        match hand {
+            Some(region) if self.is_cacheable(region.class) => {
+                let count = self.older_count(region.class) as usize;
+                batch_of(&self.cache.of_class(region.class)[..count], alloc)
+            }
+            Some(region) => Ok(Some(batch_of_one(region, alloc))),
+            None if all => self.batch_of_cached(alloc),
+            None => Ok(None),
+        }
+    }
+
+    /// The batch of an arena went back: its regions are cached no more, or the one in hand is there no more.
+    pub fn gave(&mut self, arena: u32)
+        ensures facts { self.new.facts ≡ gave arena self.old.facts }
+        ensures room { self.new.room ≡ self.old.room }
+    {
+        match self.hand {
+            Some(region) if self.is_cacheable(region.class) => {
+                let count = self.older_count(region.class);
+                self.cache.drop_first_of(region.class, count, arena);
+            }
+            Some(_) => self.let_go(),
+            None => self.cache.drop_of(arena),
+        }
+    }
+
+    /// How many regions of an arena are cached.
+    pub fn cached_of(&self, arena: u32) -> u64
+        ensures { result ≡ cached_of arena self.now.facts }
+    {
+        let mut count = 0;
+        for class in 0..CACHED_CLASSES {
+            count += count_of(self.cache.of_class(class), arena);
+        }
+        count
+    }
+}
