@@ -1,3 +1,7 @@
 pub mod Boxes
 pub mod Chains
 pub mod PlanSteps
+pub mod SeatSums
+pub mod ShareAsks
+pub mod ShareDeals
+pub mod ShareKeeps

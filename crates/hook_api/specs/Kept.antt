@@ -3,7 +3,7 @@ use Rattle.std.specs.Prelude.{◌≡◌, Option, Some, None, IfSome, IsSomeAnd}
 use Rattle.space_model.specs.declared.Entry.{Entry}
 use Rattle.space_model.specs.declared.Heard.{Heard}
 use Rattle.space_model.specs.declared.Op.{Op}
-use Rattle.space_model.specs.declared.Op.TheVariants.{CutDone, GrowDone, CommitDone, MergeDone}
+use Rattle.space_model.specs.declared.Op.TheVariants.{CutDone, GrowDone, CommitDone, MergeDone, LazyDone, OfferDone, DecommitDone, ForcedDone, JoinDone, TrimDone}
 use Rattle.hook_api.specs.Asked.{AskFacts, heard_in}
 
 -- the ask and answer that an operation carries, if it carries one
@@ -12,6 +12,12 @@ heard_of (CutDone heard keep_low) = Some heard
 heard_of (GrowDone heard found) = Some heard
 heard_of (CommitDone heard) = Some heard
 heard_of (MergeDone heard own_low) = Some heard
+heard_of (LazyDone heard) = Some heard
+heard_of (OfferDone heard found) = Some heard
+heard_of (DecommitDone heard) = Some heard
+heard_of (ForcedDone heard) = Some heard
+heard_of (JoinDone heard class) = Some heard
+heard_of (TrimDone heard class) = Some heard
 heard_of _ = None
 
 -- an entry, and the ask that was made for it

@@ -4,7 +4,12 @@ pub mod Counts
 pub mod Hooks
 pub mod Journals
 pub mod Kept
+pub mod Orders
 pub mod Plans
 pub mod Rising
 pub mod Shelf
+pub mod Seats
+pub mod ShareSteps
+pub mod Shared
+pub mod Sharing
 pub mod ShelfOf

@@ -26,6 +26,10 @@ no_account = record { told = None; refusals = 0 }
 abbrev pub new_book : Book
 new_book = record { next_place = 0; planned = 0; plans = no_plans }
 
+-- what is known of no box
+abbrev pub no_box : BoxState
+no_box = record { account = no_account; book = new_book }
+
 -- the box number n of a shelf
 abbrev pub box_at : Shelf → ℕ → BoxState
 box_at shelf n = record { account = slice_index_or shelf.accounts n no_account; book = slice_index_or shelf.books n new_book }

@@ -1,7 +1,7 @@
 //! What a shelf gives back for an ask.
 
 ghost use Rattle.std.specs.Prelude.{◌≡◌};
-ghost use Rattle.hook_api.specs.Asked.{heard_in, RefusalCounts};
+ghost use Rattle.hook_api.specs.Asked.{by_box, heard_in, RefusalCounts};
 
 use space_model::{Answer, Ask, Heard, Seq};
 use std::marker::Model;
@@ -39,7 +39,8 @@ impl Asked {
         self.box_no
     }
 
-    /// Which ask of that box number it is, counted from 0. It stays at the greatest `u64` once it is reached.
+    /// Which ask of that box number it is, counted from 0; at a shared shelf, which of those that its seat made. It stays
+    /// at the greatest `u64` once it is reached.
     pub fn place(&self) -> u64
         ensures { result ≡ self.now.place }
     {
@@ -80,6 +81,20 @@ impl Asked {
         ensures { result ≡ self.now.planned }
     {
         self.planned
+    }
+
+    /// The same ask at another place.
+    pub(crate) fn at(self, place: u64) -> Asked
+        ensures { result ≡ record self { place = place } }
+    {
+        Asked { place, ..self }
+    }
+
+    /// Whether the box refused the ask, and no plan.
+    pub(crate) fn by_box(&self) -> bool
+        ensures { result ≡ by_box self.now }
+    {
+        matches!(self.answer, Answer::Refused) && !self.planned
     }
 
     /// The ask with its answer.

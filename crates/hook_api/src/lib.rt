@@ -3,16 +3,28 @@
 //! A box is whatever stands behind the hooks of an arena, and nothing is assumed of the ranges that it answers. The
 //! shelf has 32 boxes by number, refuses the asks that a plan names, and passes every other ask on. What it gives back,
 //! an [`Asked`], nobody else can make: a journal that keeps one beside an entry keeps an ask that was really made.
+//! A [`SharedShelf`] has each box under a lock of its own, and a seat for each client that asks.
 #![tactic(auto)]
 
 mod asked;
 mod books;
+mod boxed;
+mod desk;
 mod hooks;
 mod kept;
 mod laws;
+mod locks;
+mod orders;
 mod plans;
 mod rising;
+mod seat;
+mod seats;
+mod share;
+mod share_rule;
+mod shared;
 mod shelf;
+mod sights;
+mod unshare;
 
 pub use asked::{Asked, Askeds};
 pub use hooks::{Boxes, ExtentHooks, Placed, Said};
@@ -22,6 +34,9 @@ pub use laws::{
 };
 pub use plans::Kind;
 pub use rising::RisingHooks;
+pub use seat::AskSeat;
+pub use seats::AskSeats;
+pub use shared::SharedShelf;
 pub use shelf::HookShelf;
 
 #[cfg(test)]

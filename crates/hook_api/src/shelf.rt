@@ -11,7 +11,7 @@ use crate::plans::Kind;
 use space_model::{Answer, Ask};
 
 /// How many boxes a shelf has.
-const BOXES: usize = 32;
+pub(crate) const BOXES: usize = 32;
 
 /// 32 boxes of hooks by number, and the plans that refuse asks before a box hears of them.
 #[derive(Drop)]
@@ -52,8 +52,8 @@ fn heard_said(said: Said) -> Answer
 }
 
 /// Calls the hook of an ask.
-fn call(hooks: &mut Box<dyn ExtentHooks + Send>, ask: Ask) -> Answer
-    ensures { HookCall (account hooks.old) ask result (account hooks.new) }
+fn call<H: ExtentHooks>(hooks: &mut H, ask: Ask) -> Answer
+    ensures { HookCall (H.account hooks.old) ask result (H.account hooks.new) }
 {
     match ask {
         Ask::Alloc {
@@ -77,15 +77,20 @@ fn call(hooks: &mut Box<dyn ExtentHooks + Send>, ask: Ask) -> Answer
 }
 
 /// The count of refusals of a box number: the box's own and the planned ones.
-fn count(hooks: &Box<dyn ExtentHooks + Send>, book: &Book) -> u64
-    ensures { result ≡ count_of (record { account = account hooks.now; book = book.now }) }
+fn count<H: ExtentHooks>(hooks: &H, book: &Book) -> u64
+    ensures { result ≡ count_of (record { account = H.account hooks.now; book = book.now }) }
 {
     hooks.refusals().saturating_add(book.planned)
 }
 
 /// Asks one box, except where a plan refuses the ask.
-fn ask_box(hooks: &mut Box<dyn ExtentHooks + Send>, book: &mut Book, box_no: u32, ask: Ask) -> Asked
-    ensures step { BoxStep (record { account = account hooks.old; book = book.old }) result (record { account = account hooks.new; book = book.new }) }
+pub(crate) fn ask_box<H: ExtentHooks>(
+    hooks: &mut H,
+    book: &mut Book,
+    box_no: u32,
+    ask: Ask,
+) -> Asked
+    ensures step { BoxStep (record { account = H.account hooks.old; book = book.old }) result (record { account = H.account hooks.new; book = book.new }) }
     ensures of_box { result.box_no ≡ box_no }
     ensures of_ask { result.ask ≡ ask }
 {

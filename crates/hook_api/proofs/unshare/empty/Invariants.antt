@@ -1,0 +1,13 @@
+use Rattle.std.proofs.Common.{◌≡◌, ℕ, ◌<◌, ◌≤◌, false, IsTrue, map, slice_index_or, take, vec_capacity, vec_len}
+use Rattle.std.specs.Mem.Slots.{slots_items, slots_len, slots_filled}
+use Rattle.hook_api.specs.Shelf.{BoxState}
+use Rattle.hook_api.proofs.unshare.empty.Given as goal
+
+abbrev pub invariant-loop-i : goal.invariant-loop-i
+invariant-loop-i g l = record {
+  slots : (slots_len l.closed.slots ≡ 32) × (slots_items l.closed.slots ≡ slots_items l.initial.closed.slots);
+  full : (k : ℕ) → l.i ≤ k → k < 32 → IsTrue (slice_index_or (slots_filled l.closed.slots) k false);
+  emptied : (k : ℕ) → k < l.i → slice_index_or (slots_filled l.closed.slots) k false ≡ false;
+  boxes : map g.H.ExtentHooks.account l.boxes.items ≡ take l.i (map (λ (d : BoxState). d.account) (slots_items l.initial.closed.slots));
+  room : (vec_len l.boxes ≡ l.i) × (32 ≤ vec_capacity l.boxes);
+}

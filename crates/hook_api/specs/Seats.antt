@@ -1,0 +1,25 @@
+-- What a clause says of the seats at a shared shelf.
+use Rattle.std.specs.Prelude.{ℕ, ◌-◌, List, map, slice_index, vec_capacity, vec_len}
+use Rattle.hook_api.specs.declared.seat.AskSeat.{AskSeat}
+use Rattle.hook_api.specs.declared.seats.AskSeats.{AskSeats}
+use Rattle.hook_api.specs.declared.sights.Tally.{Tally}
+
+-- the place of a seat's next ask of a box number
+abbrev pub place_at : AskSeat → ℕ → ℕ
+place_at seat n = slice_index seat.places n
+
+-- how many of its asks the box refused, planned refusals aside
+abbrev pub refused_at : AskSeat → ℕ → ℕ
+refused_at seat n = slice_index seat.refused n
+
+-- the seats in a list of seats
+abbrev pub seats : AskSeats → List AskSeat
+seats list = list.items.items
+
+-- how many seats can be added to it
+abbrev pub room : AskSeats → ℕ
+room list = vec_capacity list.items - vec_len list.items
+
+-- what seats have counted, each in a tally
+abbrev pub tallies_of : List AskSeat → List Tally
+tallies_of seats = map (λ (seat : AskSeat). record { refused = seat.refused }) seats
