@@ -1,0 +1,35 @@
+-- What a turn of the lock tells of the arena.
+use Rattle.std.proofs.Common.{◌≡◌, Result, Ok, Err, IfOk, ap, ◌∙◌, subst}
+use Rattle.std.specs.declared.snapshot.Snapshot.{Snapshot}
+use Rattle.space_model.specs.declared.entries.Entry.{Entry}
+use Rattle.space_model.specs.declared.entries.Op.{Op}
+use Rattle.space_model.specs.declared.entries.Reply.{Reply}
+use Rattle.space_model.specs.Own.{mine}
+use Rattle.space_model.specs.Step.{space_after, reply_to}
+use Rattle.arena_core.specs.Arenas.{entry_of}
+use Rattle.turn_lock.specs.declared.machine.Machine.{Ghosts}
+use Rattle.turn_lock.specs.declared.lock.TurnLock.{TurnLock}
+use Rattle.turn_lock.specs.declared.lock.Pass.{Pass}
+use Rattle.turn_lock.specs.Locks.{number, seen, Turned as LockTurned}
+use Rattle.heap_shared.specs.Shared.{Facts, Logs, Owned, after_entry, owned_by}
+use Rattle.heap_shared.specs.Turns.{Turned, space_at}
+
+-- what follows of each answer follows of the one that came
+if_ok : {A E : Type 0} {P Q : A → Type 0} (r : Result A E) → ((a : A) → P a → Q a) → IfOk r P → IfOk r Q
+if_ok (Ok a) more holds = more a holds
+if_ok (Err e) more holds = holds
+
+module _ {M : Type 0} {g : Ghosts M Facts Op (Snapshot Entry) Reply Owned} (lock : TurnLock M Facts Op (Snapshot Entry) Reply Owned) (old new : Pass M Facts Op (Snapshot Entry) Reply Owned g) (op : Op) where
+  -- a turn of the lock is one of the arena
+  told : (r : Reply) → number new ≡ number old → LockTurned Logs after_entry owned_by {g = g} lock old new op r → Turned lock old new op r
+  told r same t = record {
+    before = t.before;
+    found = ap (λ (w : Owned). w.has) t.met;
+    reply = t.reply ∙ ap (reply_to (space_at lock t.before)) t.logged.0;
+    left = subst (λ n. mine n (space_at lock (seen new)) ≡ mine (number old) (space_after (space_at lock t.before) (entry_of (number old) op))) same
+        (ap (λ (w : Owned). w.has) t.left ∙ ap (λ (e : Entry). mine (number old) (space_after (space_at lock t.before) e)) t.logged.0);
+  }
+
+  -- whatever came of it
+  pub told_if_ok : {E : Type 0} (r : Result Reply E) → number new ≡ number old → IfOk r (λ a. LockTurned Logs after_entry owned_by {g = g} lock old new op a) → IfOk r (λ a. Turned lock old new op a)
+  told_if_ok r same t = if_ok r (λ a. told a same) t

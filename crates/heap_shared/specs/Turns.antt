@@ -1,0 +1,36 @@
+-- What a turn of a client finds, and what it leaves.
+use Rattle.std.specs.Prelude.{◌≡◌, List}
+use Rattle.std.specs.declared.snapshot.Snapshot.{Snapshot}
+use Rattle.space_model.specs.declared.entries.Entry.{Entry}
+use Rattle.space_model.specs.declared.entries.Op.{Op}
+use Rattle.space_model.specs.declared.entries.Reply.{Reply}
+use Rattle.space_model.specs.declared.spaces.Space.{Space}
+use Rattle.space_model.specs.Own.{mine}
+use Rattle.space_model.specs.Step.{space_after, reply_to}
+use Rattle.arena_core.specs.Arenas.{entry_of}
+use Rattle.turn_lock.specs.declared.machine.Machine.{Ghosts}
+use Rattle.turn_lock.specs.declared.lock.TurnLock.{TurnLock}
+use Rattle.turn_lock.specs.declared.lock.Pass.{Pass}
+use Rattle.turn_lock.specs.declared.view.Turn.{Turn}
+use Rattle.turn_lock.specs.History.{replay}
+use Rattle.turn_lock.specs.Locks.{first, number, own_known, seen}
+use Rattle.heap_shared.specs.Shared.{Facts, MayStand, Owned, after_entry, owned_by}
+
+module _ {M : Type 0} where
+  -- the space after a history
+  abbrev pub space_at : TurnLock M Facts Op (Snapshot Entry) Reply Owned → List (Turn (Snapshot Entry)) → Space
+  space_at lock log = (replay after_entry (first lock) log).space
+
+  module _ {g : Ghosts M Facts Op (Snapshot Entry) Reply Owned} where
+    -- an operation may stand by what the pass knows of its client
+    abbrev pub PassMay : TurnLock M Facts Op (Snapshot Entry) Reply Owned → Pass M Facts Op (Snapshot Entry) Reply Owned g → Op → Type 0
+    PassMay lock pass op = MayStand (own_known after_entry owned_by lock pass) op
+
+  -- a turn of a client, whose pass is `old` before it and `new` after it
+  pub record Turned {g : Ghosts M Facts Op (Snapshot Entry) Reply Owned} (lock : TurnLock M Facts Op (Snapshot Entry) Reply Owned) (old new : Pass M Facts Op (Snapshot Entry) Reply Owned g) (op : Op) (r : Reply) : Type 0 where
+    pub before : List (Turn (Snapshot Entry))
+    -- the client owns what it owned after its last turn, whatever others did since
+    pub found : mine (number old) (space_at lock before) ≡ mine (number old) (space_at lock (seen old))
+    -- the reply is that of the step of one arena, and the pass knows what the client owns then
+    pub reply : r ≡ reply_to (space_at lock before) (entry_of (number old) op)
+    pub left : mine (number old) (space_at lock (seen new)) ≡ mine (number old) (space_after (space_at lock before) (entry_of (number old) op))

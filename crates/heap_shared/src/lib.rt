@@ -1,0 +1,10 @@
+//! An arena that threads share: its steps are turns of a ticket lock.
+#![tactic(auto)]
+
+mod machine;
+#[cfg(test)]
+mod tests;
+mod turns;
+
+pub use machine::{ArenaTurns, OwnedBy, SharedArena};
+pub use turns::turn;
