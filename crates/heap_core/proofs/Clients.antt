@@ -1,0 +1,269 @@
+-- What a turn leaves of the calls of all clients.
+use Rattle.std.proofs.Common.{◌≡◌, ◌≢◌, ℕ, ◌<◌, ◌≤◌, ◌==◌, ◌&&◌, Bool, true, false, List, Option, None, Some, slice_set, refl, sym, ◌∙◌, ap, subst, arith, IsTrue, IfSome, IsSomeAnd, lt-ltb, nat_lt}
+use Rattle.std.proofs.lemmas.Bool.Decides.{nat_tests}
+use Rattle.std.proofs.lemmas.List.{get_or-set_other, get_or-set_same}
+use Rattle.space_model.specs.declared.entries.Op.{Op}
+use Rattle.space_model.specs.declared.entries.Op.TheVariants.{Look, Back, GrowDone, OfferDone, Fill, Advance, PurgeTake, Publish, TakeOver, Reset, Destroy, DestroyTake, Set}
+use Rattle.space_model.specs.declared.entries.Reply.{Reply}
+use Rattle.space_model.specs.declared.asks.Heard.{Heard}
+use Rattle.space_model.specs.declared.spaces.Space.{Space}
+use Rattle.space_model.specs.Own.{mine}
+use Rattle.space_model.specs.Sound.{Sound}
+use Rattle.space_model.specs.Step.{op_stands, step_of}
+use Rattle.space_model.proofs.Pieces.{both_true}
+use Rattle.space_model.proofs.Steps.{op_keeps}
+use Rattle.hook_api.specs.Asked.{AskFacts, heard_in}
+use Rattle.hook_api.specs.Hooks.{Answers as AnswersTo}
+use Rattle.hook_api.specs.Kept.{IsKept, heard_of}
+use Rattle.arena_core.specs.Arenas.{entry_of, opens, room_after, room_of}
+use Rattle.call_table.specs.declared.needs.Item.TheVariants.{Replied}
+use Rattle.call_table.specs.declared.points.TurnPoint.{TurnPoint}
+use Rattle.call_table.specs.declared.points.TurnPoint.TheVariants.{Filling, Looking, Landing, Giving, Finding, Taking, Offering, Advancing, Changing, Making, Resetting, Destroying, Dooming, Publishing, Owning}
+use Rattle.call_table.specs.declared.points.AskPoint.{AskPoint}
+use Rattle.call_table.specs.declared.points.AskPoint.TheVariants.{Skipping, Trimming, Growing, Paring, Needing, Granting, Committing, Merging, Easing, Returning, Decommitting, Forcing}
+use Rattle.call_table.specs.declared.points.Point.{Point}
+use Rattle.call_table.specs.declared.points.Point.TheVariants.{Turns, Asks, Tells}
+use Rattle.call_table.specs.declared.points.Next.{Next}
+use Rattle.call_table.specs.declared.points.Next.TheVariants.{Go, Over, More, Gone, Ends, Nowhere}
+use Rattle.call_table.specs.Table.{WantTurn, ask_of, done_of, is_marked, op_of, step, want}
+use Rattle.call_table.specs.Knows.{Idle, Knows}
+use Rattle.call_table.specs.Laws.{Keeps, Moves, Stands, left, stages, with_found}
+use Rattle.call_table.specs.Rooms.{Suffices, flying, needed_at, needed_next, room_then}
+use Rattle.call_table.proofs.Rooms.{rooms-suffice}
+use Rattle.call_table.proofs.Standing.{wants-stand}
+use Rattle.call_table.proofs.Steps.{steps-keep}
+use Rattle.heap_core.specs.Arenas.{IsArenas, no_record, record_after, record_at, room_in, spaces_of}
+use Rattle.heap_core.specs.Chunks.{met_by_alloc, met_by_dalloc, others_of, settled}
+use Rattle.heap_core.specs.Clients.{AsksLeadOn, CanTurn, IsIdle, OthersStay, TurnsLeadOn, Waits, WaitsNext, after_turn, mine_in}
+use Rattle.heap_core.specs.Records.{Record}
+use Rattle.heap_core.proofs.Turned.{replayed_sound}
+
+-- ---- the arena of a turn, and the others
+
+there_is : (records : List Record) (arena : ℕ) (new : Record) → IsArenas records → arena < 32 → record_at (slice_set records arena new) arena ≡ new
+there_is records arena new is there = get_or-set_same records arena new no_record (omega (arith, there, is.number))
+
+elsewhere_is : (records : List Record) (arena i : ℕ) (new : Record) → i ≢ arena → record_at (slice_set records arena new) i ≡ record_at records i
+elsewhere_is records arena i new other = get_or-set_other records arena i new no_record other
+
+-- what is so of a value in each arena that a turn leaves alone, and of the one that it leaves in its own
+by_arena : (records : List Record) (arena : ℕ) (new : Record) (P : ℕ → Record → Type 0) → IsArenas records → arena < 32 → P arena new → ((i : ℕ) → i ≢ arena → P i (record_at records i)) →
+    (i : ℕ) → P i (record_at (slice_set records arena new) i)
+by_arena records arena new P is there own others i = by (arena == i) refl
+  where
+    by : (v : Bool) → (arena == i) ≡ v → P i (record_at (slice_set records arena new) i)
+    by true e = let same : arena ≡ i = grind (arith, nat_tests) in subst (λ k. P k (record_at (slice_set records arena new) k)) same (subst (P arena) (sym (there_is records arena new is there)) own)
+    by false e = let other : i ≢ arena = λ same. grind (arith, nat_tests) in subst (P i) (sym (elsewhere_is records arena i new other)) (others i other)
+
+-- ---- other clients
+
+sound_at : (records : List Record) (i : ℕ) → IsArenas records → i < 32 → Sound (record_at records i).space
+sound_at records i is there = replayed_sound i (record_at records i).kept (record_at records i).space (is.replayed i there)
+
+pub others-stay : OthersStay
+others-stay records arena c other op asked is there differ may = (
+  (λ at point waits. record {
+    there = waits.there;
+    knows = subst (λ m. Knows m point) (sym (mines at)) waits.knows;
+    elsewhere = λ i ne. subst Idle (sym (mines i)) (waits.elsewhere i ne);
+    room = subst (λ n. needed_at (flying (mine_in (after_turn records arena c op asked) other at)) point ≤ n) (sym (rooms at))
+        (subst (λ m. needed_at (flying m) point ≤ room_in records at other) (sym (mines at)) waits.room);
+  }),
+  λ idle i. subst Idle (sym (mines i)) (idle i),
+)
+  where
+    r : Record
+    r = record_at records arena
+
+    new : Record
+    new = record_after r c (settled (spaces_of records) arena op) asked
+
+    mines : (i : ℕ) → mine_in (after_turn records arena c op asked) other i ≡ mine_in records other i
+    mines = by_arena records arena new (λ i x. mine other x.space ≡ mine_in records other i) is there
+        ((op_keeps c r.space (settled (spaces_of records) arena op) (sound_at records arena is there) (both_true (nat_lt c 32) _ may).1).others other differ) (λ i ne. refl)
+
+    rooms : (i : ℕ) → room_in (after_turn records arena c op asked) i other ≡ room_in records i other
+    rooms = by_arena records arena new (λ i x. room_of other x.rooms ≡ room_in records i other) is there (get_or-set_other r.rooms c other _ 0 differ) (λ i ne. refl)
+
+-- ---- the turn that a call wants
+
+-- the chunk that is found for an operation, where it carries one
+abbrev pub found_for : List Space → ℕ → Op → Option ℕ
+found_for spaces arena (GrowDone heard found) = met_by_alloc spaces heard.ask heard.answer
+found_for spaces arena (OfferDone heard found) = met_by_dalloc (others_of arena spaces) heard.ask heard.answer
+found_for spaces arena op = None
+
+settled_is : (spaces : List Space) (arena : ℕ) (op : Op) → settled spaces arena op ≡ with_found (found_for spaces arena op) op
+settled_is spaces arena (GrowDone heard found) = refl
+settled_is spaces arena (OfferDone heard found) = refl
+settled_is spaces arena op = refl
+
+-- the ask that an operation of a point carries is at hand
+carries_none : (point : TurnPoint) → heard_of (op_of point) ≡ None
+carries_none (Filling wish count) = refl
+carries_none (Looking wish) = refl
+carries_none (Landing wish span) = refl
+carries_none (Giving addrs) = refl
+carries_none (Finding own tries fresh later) = refl
+carries_none (Taking visit n) = refl
+carries_none (Offering span later) = refl
+carries_none (Advancing now) = refl
+carries_none (Changing setting change) = refl
+carries_none (Making index setting) = refl
+carries_none (Resetting cached) = refl
+carries_none (Destroying cached) = refl
+carries_none Dooming = refl
+carries_none (Publishing addr) = refl
+carries_none (Owning addr frees) = refl
+
+carries_one : (point : AskPoint) (asked : AskFacts) → heard_of (done_of point asked) ≡ Some (heard_in asked)
+carries_one (Skipping wish span b skip) asked = refl
+carries_one (Trimming wish span b) asked = refl
+carries_one (Growing wish chunks) asked = refl
+carries_one (Paring wish span b) asked = refl
+carries_one (Needing wish) asked = refl
+carries_one (Granting wish span b) asked = refl
+carries_one (Committing wish span) asked = refl
+carries_one (Merging low high own_low fresh later) asked = refl
+carries_one (Easing span later) asked = refl
+carries_one (Returning span later) asked = refl
+carries_one (Decommitting span later) asked = refl
+carries_one (Forcing span later) asked = refl
+
+kept_of : (c : ℕ) (op : Op) (asked : Option AskFacts) (o : Option Heard) → heard_of op ≡ o → IfSome o (λ heard. IsSomeAnd asked (λ made. heard_in made ≡ heard)) → IsKept (entry_of c op) asked
+kept_of c op asked o e is = subst (λ o. IfSome o (λ heard. IsSomeAnd asked (λ made. heard_in made ≡ heard))) (sym e) is
+
+kept_at : (c : ℕ) (point : Point) (op : Op) (asked : Option AskFacts) → want point ≡ WantTurn op asked → IsKept (entry_of c op) asked
+kept_at c (Turns point) op asked e =
+    let same : op_of point ≡ op = cc in
+    kept_of c op asked None (ap heard_of (sym same) ∙ carries_none point) tt
+kept_at c (Asks point (Some told)) op asked e =
+    let same : done_of point told ≡ op = cc in
+    let with : Some told ≡ asked = cc in
+    kept_of c op asked (Some (heard_in told)) (ap heard_of (sym same) ∙ carries_one point told) (subst (λ a. IsSomeAnd a (λ made. heard_in made ≡ heard_in told)) with refl)
+kept_at c (Asks point None) op asked e = absurd (cc)
+kept_at c (Tells span b) op asked e = absurd (cc)
+
+-- what opens no unit takes no memory
+opens_less : (op : Op) → opens op ≡ false → is_marked op ≡ false
+opens_less op e = by op e
+  where
+    by : (op : Op) → opens op ≡ false → is_marked op ≡ false
+    by (Look pages align) e = absurd (cc)
+    by (Back addrs) e = absurd (cc)
+    by (Fill class count) e = absurd (cc)
+    by (Advance now) e = absurd (cc)
+    by (PurgeTake rest keep) e = absurd (cc)
+    by (Publish addr) e = absurd (cc)
+    by (TakeOver addr) e = absurd (cc)
+    by (Reset cached) e = absurd (cc)
+    by (Destroy cached) e = absurd (cc)
+    by DestroyTake e = absurd (cc)
+    by (Set setting) e = absurd (cc)
+    by op e = refl
+
+-- an arena leaves its client at least the room that the table reckons with
+room_enough : (s : Space) (c room : ℕ) (spaces : List Space) (arena : ℕ) (op : Op) → room_then c s room op ≤ room_after s room c (settled spaces arena op)
+room_enough s c room spaces arena (Back addrs) = omega arith
+room_enough s c room spaces arena (Look pages align) = omega arith
+room_enough s c room spaces arena (GrowDone heard found) = omega arith
+room_enough s c room spaces arena (OfferDone heard found) = omega arith
+room_enough s c room spaces arena op = omega arith
+
+-- an operation opens a unit with the chunk that was found or without
+opens_settled : (spaces : List Space) (arena : ℕ) (op : Op) → opens (settled spaces arena op) ≡ opens op
+opens_settled spaces arena (GrowDone heard found) = refl
+opens_settled spaces arena (OfferDone heard found) = refl
+opens_settled spaces arena op = refl
+
+module _ (records : List Record) (c arena : ℕ) (point : Point) (op : Op) (asked : Option AskFacts) (is : IsArenas records) (few : c < 32) (waits : Waits records c arena point) (wants : want point ≡ WantTurn op asked) where
+  abbrev s : Space
+  s = (record_at records arena).space
+
+  abbrev spaces : List Space
+  spaces = spaces_of records
+
+  abbrev t : Space
+  t = (step_of s c (settled spaces arena op)).after
+
+  abbrev reply : Reply
+  reply = (step_of s c (settled spaces arena op)).reply
+
+  abbrev found : Option ℕ
+  found = found_for spaces arena op
+
+  sound : Sound s
+  sound = sound_at records arena is waits.there
+
+  may : op_stands s c (settled spaces arena op) ≡ true
+  may =
+      let all : Stands c s (WantTurn op asked) = subst (Stands c s) wants (wants-stand c s point sound waits.knows) in
+      ap (op_stands s c) (settled_is spaces arena op) ∙ all found
+
+  moves : Moves c s (want point) (Replied reply) t
+  moves = subst (λ w. Moves c s w (Replied reply) t) (sym wants) (found, ap (λ o. (step_of s c o).after) (settled_is spaces arena op), ap (λ o. (step_of s c o).reply) (settled_is spaces arena op))
+
+  keeps : Keeps c t (stages point) (left c s point) (step point (Replied reply))
+  keeps = steps-keep c s t point (Replied reply) sound waits.knows moves
+
+  enough : (is_marked op ≡ false → 0 < room_in records arena c) × (needed_next (flying (mine c t)) (step point (Replied reply)) ≤ room_then c s (room_in records arena c) op)
+  enough = subst (λ w. Suffices c s t (room_in records arena c) w (step point (Replied reply))) wants (rooms-suffice c s t point (Replied reply) (room_in records arena c) sound waits.knows moves waits.room)
+
+  can : CanTurn records c arena op asked
+  can = record {
+    stands = subst (λ b. IsTrue (b && op_stands s c (settled spaces arena op))) (sym (lt-ltb c 32 few)) may;
+    room = λ e. enough.0 (opens_less op e);
+    kept = kept_at c point op asked wants;
+  }
+
+  abbrev after : List Record
+  after = after_turn records arena c op asked
+
+  abbrev new : Record
+  new = record_after (record_at records arena) c (settled spaces arena op) asked
+
+  room_left : needed_next (flying (mine c t)) (step point (Replied reply)) ≤ room_of c new.rooms
+  room_left =
+      let set : room_of c new.rooms ≡ room_after s (room_in records arena c) c (settled spaces arena op) = get_or-set_same (record_at records arena).rooms c (room_after s (room_in records arena c) c (settled spaces arena op)) 0 (omega (arith, few, is.clients arena waits.there)) in
+      omega (arith, set, enough.1, room_enough s c (room_in records arena c) spaces arena op)
+
+  idle_then : Idle (mine c t) → IsIdle after c
+  idle_then idle = by_arena records arena new (λ i x. Idle (mine c x.space)) is waits.there idle waits.elsewhere
+
+  leads : (next : Next) (stage bound : ℕ) → Keeps c t stage bound next → needed_next (flying (mine c t)) next ≤ room_of c new.rooms → WaitsNext after c arena next
+  leads (Go p) stage bound known room = record {
+    there = waits.there;
+    knows = subst (λ (x : Record). Knows (mine c x.space) p) (sym (there_is records arena new is waits.there)) known.0;
+    elsewhere = λ i ne. subst (λ (x : Record). Idle (mine c x.space)) (sym (elsewhere_is records arena i new ne)) (waits.elsewhere i ne);
+    room = subst (λ (x : Record). needed_at (flying (mine c x.space)) p ≤ room_of c x.rooms) (sym (there_is records arena new is waits.there)) room;
+  }
+  leads (Over index p) stage bound known room = (idle_then known.0, known.1)
+  leads More stage bound known room = idle_then known
+  leads Gone stage bound known room = idle_then known
+  leads (Ends answer) stage bound known room = idle_then known
+  leads Nowhere stage bound known room = absurd known
+
+pub turns-lead_on : TurnsLeadOn
+turns-lead_on records c arena point op asked is few waits wants = (
+  can records c arena point op asked is few waits wants,
+  leads records c arena point op asked is few waits wants (step point (Replied (reply records c arena point op asked is few waits wants))) (stages point) (left c (record_at records arena).space point) (keeps records c arena point op asked is few waits wants) (room_left records c arena point op asked is few waits wants),
+)
+
+-- ---- the ask that a call wants
+
+pub asks-lead_on : AsksLeadOn
+asks-lead_on records c arena (Asks point None) asked is waits wants kind =
+    let same : ask_of point ≡ asked.ask = cc in record {
+      there = waits.there;
+      knows = (waits.knows.0, (sym same, subst (λ a. AnswersTo a asked.answer) (sym same) kind));
+      elsewhere = waits.elsewhere;
+      room = waits.room;
+    }
+asks-lead_on records c arena (Tells span b) asked is waits wants kind = record {
+  there = waits.there;
+  knows = waits.knows;
+  elsewhere = waits.elsewhere;
+  room = omega arith;
+}
+asks-lead_on records c arena (Turns point) asked is waits wants kind = absurd (cc)
+asks-lead_on records c arena (Asks point (Some told)) asked is waits wants kind = absurd (cc)

@@ -1,0 +1,5 @@
+pub mod Owning
+pub mod Spaces
+pub mod Turned
+pub mod Clients
+pub mod Turning

@@ -1,0 +1,161 @@
+-- What a turn in one of the arenas leaves of all of them.
+use Rattle.std.proofs.Common.{inr, ◌≡◌, ℕ, ◌+◌, ◌<◌, ◌≤◌, ◌==◌, Bool, true, false, cond, suc, zero, List, [], ◌∷◌, Option, Result, Ok, Err, OnOk, OnErr, IfSome, IsSomeAnd, length, nat_lt, map, slice_set, get_or, refl, sym, ◌∙◌, ap, subst, arith, IsTrue}
+use Rattle.std.specs.List.{list_any, range_with_len}
+use Rattle.std.proofs.lemmas.Bool.{ltb-true}
+use Rattle.std.proofs.lemmas.Bool.Decides.{nat_tests}
+use Rattle.std.proofs.lemmas.Grind.{same_number_lists}
+use Rattle.std.proofs.lemmas.List.FromFn.{get_or-map-range_with_len, get_or-range_with_len}
+use Rattle.hook_api.specs.declared.kept.Journal.{Journal}
+use Rattle.hook_api.specs.Journals.{IsByIndex}
+use Rattle.std.proofs.lemmas.List.{get_or_default, get_or-set_other, get_or-set_same, length-map, length-set, map-set, set-get_or}
+use Rattle.std.proofs.Math.ListN.{get_or-map}
+use Rattle.space_model.specs.declared.entries.Op.{Op}
+use Rattle.space_model.specs.declared.entries.Op.TheVariants.{GrowDone, OfferDone}
+use Rattle.space_model.specs.declared.entries.Reply.{Reply}
+use Rattle.space_model.specs.declared.spaces.Space.{Space}
+use Rattle.space_model.specs.Span.{chunk_span, meets}
+use Rattle.space_model.specs.Sound.{Sound}
+use Rattle.space_model.specs.Step.{op_stands, stands, step_of}
+use Rattle.space_model.specs.Journal.{all_stand, replay}
+use Rattle.space_model.specs.Opening.{absent_space, first_space}
+use Rattle.space_model.proofs.LawLemmas.{first_replays_are_good, absent_replays_are_good}
+use Rattle.space_model.proofs.Pieces.{both_true}
+use Rattle.hook_api.specs.Asked.{AskFacts, heard_in}
+use Rattle.hook_api.specs.Kept.{IsKept, KeptFacts, heard_of}
+use Rattle.arena_core.specs.Arenas.{entry_of}
+use Rattle.heap_core.specs.Arenas.{IsArenas, journal_of, no_record, opening_record, opening_records, record_after, record_at, spaces_of}
+use Rattle.heap_core.specs.Chunks.{Apart, owns, settled, space_at}
+use Rattle.heap_core.specs.Records.{IsReplayed, Record, entries_of, opening}
+use Rattle.heap_core.proofs.Owning.{apart_turn}
+
+-- what a journal leaves is sound
+pub replayed_sound : (i : ℕ) (kept : List KeptFacts) (s : Space) → IsReplayed i kept s → Sound s
+replayed_sound i kept s is = subst Sound (sym is.space) (by (i == 0) refl)
+  where
+    by : (v : Bool) → (i == 0) ≡ v → Sound (replay (opening i) (entries_of kept))
+    by true e =
+        let first : opening i ≡ first_space = rw e refl in
+        subst (λ (o : Space). Sound (replay o (entries_of kept))) (sym first) (first_replays_are_good (entries_of kept) (subst (λ (o : Space). all_stand o (entries_of kept) ≡ true) first is.stand)).sound
+    by false e =
+        let none : opening i ≡ absent_space = rw e refl in
+        subst (λ (o : Space). Sound (replay o (entries_of kept))) (sym none) (absent_replays_are_good (entries_of kept) (subst (λ (o : Space). all_stand o (entries_of kept) ≡ true) none is.stand)).sound
+
+-- the space of an arena is among the spaces at its index
+pub space_of_record : (records : List Record) (i : ℕ) → space_at (spaces_of records) i ≡ (record_at records i).space
+space_of_record records i = get_or-map (λ (r : Record). r.space) records i no_record
+
+-- an operation that was settled carries the same answer
+heard_settled : (spaces : List Space) (arena : ℕ) (op : Op) → heard_of (settled spaces arena op) ≡ heard_of op
+heard_settled spaces arena (GrowDone heard found) = refl
+heard_settled spaces arena (OfferDone heard found) = refl
+heard_settled spaces arena op = refl
+
+pub kept_settled : (spaces : List Space) (arena client : ℕ) (op settled_op : Op) (asked : Option AskFacts) → settled_op ≡ settled spaces arena op → IsKept (entry_of client op) asked → IsKept (entry_of client settled_op) asked
+kept_settled spaces arena client op settled_op asked is kept =
+    subst (λ o. IfSome o (λ heard. IsSomeAnd asked (λ made. heard_in made ≡ heard))) (sym (ap heard_of is ∙ heard_settled spaces arena op)) kept
+
+-- an arena that may stand there leaves the arenas as they have to be
+pub arenas_set : (records : List Record) (arena : ℕ) (new : Record) → IsArenas records → arena < 32 → new.index ≡ (record_at records arena).index → length new.rooms ≡ 32 → IsReplayed new.index new.kept new.space →
+    Apart (slice_set (spaces_of records) arena new.space) → IsArenas (slice_set records arena new)
+arenas_set records arena new is there index clients replayed apart = record {
+  number = length-set records arena new ∙ is.number;
+  replayed = λ i few. at (λ r. IsReplayed i r.kept r.space) i (λ same. subst (λ (k : ℕ). IsReplayed k new.kept new.space) (index ∙ is.indexes arena there ∙ same) replayed) (is.replayed i few);
+  indexes = λ i few. at (λ r. r.index ≡ i) i (λ same. index ∙ is.indexes arena there ∙ same) (is.indexes i few);
+  clients = λ i few. at (λ r. length r.rooms ≡ 32) i (λ same. clients) (is.clients i few);
+  apart = subst Apart (sym (map-set (λ (r : Record). r.space) records arena new)) apart;
+}
+  where
+    at : (P : Record → Type 0) (i : ℕ) → (arena ≡ i → P new) → P (record_at records i) → P (record_at (slice_set records arena new) i)
+    at P i here there_too = by (arena == i) refl
+      where
+        by : (v : Bool) → (arena == i) ≡ v → P (record_at (slice_set records arena new) i)
+        by true e =
+            let same : arena ≡ i = grind (arith, nat_tests) in
+            subst P (sym (subst (λ k. record_at (slice_set records arena new) k ≡ new) same (get_or-set_same records arena new no_record (omega (arith, there, is.number))))) (here same)
+        by false e = subst P (sym (get_or-set_other records arena i new no_record (λ same. grind (arith, nat_tests)))) there_too
+
+-- after a turn of a client, or where memory was wanting for it, still no chunk has two owners
+pub arenas_turned : {E : Type 0} (records : List Record) (arena client : ℕ) (op settled_op : Op) (asked : Option AskFacts) (r : Result Reply E) (new : Record) → IsArenas records → arena < 32 →
+    settled_op ≡ settled (spaces_of records) arena op → IsTrue (stands (record_at records arena).space (entry_of client (settled (spaces_of records) arena op))) →
+    OnOk r (new ≡ record_after (record_at records arena) client settled_op asked) → OnErr r (new ≡ record_at records arena) →
+    new.index ≡ (record_at records arena).index → IsReplayed new.index new.kept new.space → IsArenas (slice_set records arena new)
+arenas_turned records arena client op settled_op asked (Err e) new is there settles may after same index replayed =
+    subst IsArenas (sym (ap (slice_set records arena) same ∙ set-get_or records arena no_record)) is
+arenas_turned records arena client op settled_op asked (Ok reply) new is there settles may after same index replayed =
+    let spaces : List Space = spaces_of records in
+    let here = space_of_record records arena in
+    let all : length spaces ≡ length records = length-map records (λ (r : Record). r.space) in
+    let within : arena < length spaces = omega (arith, there, all, is.number) in
+    let sound : Sound (space_at spaces arena) = subst Sound (sym here) (replayed_sound arena (record_at records arena).kept (record_at records arena).space (is.replayed arena there)) in
+    let may_here : op_stands (space_at spaces arena) client (settled spaces arena op) ≡ true =
+    subst (λ s. op_stands s client (settled spaces arena op) ≡ true) (sym here) (both_true (nat_lt client 32) _ may).1 in
+    let space : new.space ≡ (step_of (space_at spaces arena) client (settled spaces arena op)).after =
+    ap (λ (x : Record). x.space) after ∙ (λ i. (step_of (sym here i) client (settles i)).after) in
+    let clients : length new.rooms ≡ 32 = ap (λ (x : Record). length x.rooms) after ∙ length-set (record_at records arena).rooms client _ ∙ is.clients arena there in
+    arenas_set records arena new is there index clients replayed (subst (λ t. Apart (slice_set spaces arena t)) (sym space) (apart_turn spaces arena client op within is.apart sound may_here))
+
+pub arenas_turned_from : {E : Type 0} (records : List Record) (arena client : ℕ) (op settled_op : Op) (asked : Option AskFacts) (r : Result Reply E) (old new : Record) → old ≡ record_at records arena → IsArenas records → arena < 32 →
+    settled_op ≡ settled (spaces_of records) arena op → IsTrue (stands (record_at records arena).space (entry_of client (settled (spaces_of records) arena op))) →
+    OnOk r (new ≡ record_after old client settled_op asked) → OnErr r (new ≡ old) → new.index ≡ old.index → IsReplayed new.index new.kept new.space → IsArenas (slice_set records arena new)
+arenas_turned_from records arena client op settled_op asked r old new at is there settles may after same index replayed =
+    arenas_turned records arena client op settled_op asked r new is there settles may (subst (λ o. OnOk r (new ≡ record_after o client settled_op asked)) at after)
+    (subst (λ o. OnErr r (new ≡ o)) at same) (index ∙ ap (λ (o : Record). o.index) at) replayed
+
+-- ---- the beginning
+
+-- no arena has an extent when a heap begins
+opening_empty : (i : ℕ) → (opening i).parts ≡ []
+opening_empty i = elim (i == 0) as (λ v. (cond v first_space absent_space).parts ≡ []) [ true ↦ refl | false ↦ refl ]
+
+opening_at : (i : ℕ) → i < 32 → record_at opening_records i ≡ opening_record i
+opening_at i few = get_or-map-range_with_len opening_record 0 32 i i no_record few (omega arith)
+
+past : {X : Type 0} (xs : List X) (i : ℕ) (d : X) → length xs ≤ i → get_or xs i d ≡ d
+past [] i d far = refl
+past (x ∷ xs) zero d far = absurd (omega (arith, far))
+past (x ∷ xs) (suc i) d far = past xs i d (omega (arith, far))
+
+-- an arena of a new heap has no extent
+none_owned : (chunk i : ℕ) → owns chunk (space_at (spaces_of opening_records) i) ≡ false
+none_owned chunk i = by (nat_lt i 32) refl
+  where
+    at : (s : Space) → s.parts ≡ [] → owns chunk s ≡ false
+    at s e = ap (list_any (λ p. meets p.span (chunk_span chunk))) e
+
+    by : (v : Bool) → nat_lt i 32 ≡ v → owns chunk (space_at (spaces_of opening_records) i) ≡ false
+    by true e = at (space_at (spaces_of opening_records) i) (ap (λ (s : Space). s.parts) (space_of_record opening_records i ∙ ap (λ (r : Record). r.space) (opening_at i (ltb-true i 32 e))) ∙ opening_empty i)
+    by false e = let beyond : 32 ≤ i = grind (arith, nat_tests) in at (space_at (spaces_of opening_records) i) (ap (λ (s : Space). s.parts) (past (spaces_of opening_records) i absent_space beyond))
+
+-- a new heap's arenas are as they have to be
+pub opening_is : IsArenas opening_records
+opening_is = record {
+  number = refl;
+  replayed = λ i few. subst (λ (r : Record). IsReplayed i r.kept r.space) (sym (opening_at i few)) (record { stand = refl; space = refl });
+  indexes = λ i few. ap (λ (r : Record). r.index) (opening_at i few);
+  clients = λ i few. ap (λ (r : Record). length r.rooms) (opening_at i few);
+  apart = λ chunk i j first second. absurd (let none = none_owned chunk i in cc);
+}
+
+-- ---- the end
+
+zero_more : (k : ℕ) → 0 + k ≡ k
+zero_more k = omega arith
+
+-- the journals stand by the indexes of their arenas
+pub by_index : (records : List Record) → IsArenas records → map (λ (j : Journal). j.index) (map journal_of records) ≡ range_with_len 0 32
+by_index records is =
+    let long : length (map (λ (j : Journal). j.index) (map journal_of records)) ≡ 32 = length-map (map journal_of records) (λ (j : Journal). j.index) ∙ length-map records journal_of ∙ is.number in
+    same_number_lists (map (λ (j : Journal). j.index) (map journal_of records)) (range_with_len 0 32) long (λ k few.
+    let low : k < 32 = omega (arith, few, long) in
+    past_default k few
+    ∙ ap (λ (j : Journal). j.index) (get_or-map journal_of records k no_record)
+    ∙ is.indexes k low ∙ sym (get_or-range_with_len 0 32 k 0 low ∙ zero_more k))
+  where
+    past_default : (k : ℕ) → k < length (map (λ (j : Journal). j.index) (map journal_of records)) →
+        get_or (map (λ (j : Journal). j.index) (map journal_of records)) k 0 ≡ (get_or (map journal_of records) k (journal_of no_record)).index
+    past_default k few =
+        get_or_default (map (λ (j : Journal). j.index) (map journal_of records)) k 0 32 few
+        ∙ get_or-map (λ (j : Journal). j.index) (map journal_of records) k (journal_of no_record)
+
+pub stand_by_index : (records : List Record) (journals : List Journal) → IsArenas records → journals ≡ map journal_of records → IsByIndex journals
+stand_by_index records journals is same = inr (ap (map (λ (j : Journal). j.index)) same ∙ by_index records is)

@@ -1,0 +1,89 @@
+-- What a turn does to a journal and to the places behind it.
+use Rattle.std.proofs.Common.{◌≡◌, ℕ, ◌+◌, ◌-◌, ◌*◌, ◌<◌, ◌≤◌, ◌&&◌, Bool, true, false, List, [], ◌∷◌, ◌++◌, length, max, cond, refl, sym, ◌∙◌, ap, subst, arith, nat_lt, IsTrue}
+use Rattle.std.proofs.lemmas.Bool.{ltb-true}
+use Rattle.std.proofs.lemmas.List.{length-set}
+use Rattle.std.proofs.lemmas.List.Sums.{get_or-le-sum_by}
+use Rattle.space_model.specs.declared.entries.Entry.{Entry}
+use Rattle.space_model.specs.declared.entries.Op.{Op}
+use Rattle.space_model.specs.declared.spaces.Space.{Space}
+use Rattle.space_model.specs.Step.{op_stands, space_after, stands}
+use Rattle.space_model.specs.Journal.{all_stand, replay}
+use Rattle.hook_api.specs.Kept.{KeptFacts}
+use Rattle.arena_core.specs.Arenas.{all_rooms, emptied_by, entry_of, given_by, opens, room_after, room_of, rooms_after}
+use Rattle.space_model.proofs.Pieces.{both_true}
+use Rattle.arena_core.proofs.RoomSums.{rooms_with}
+use Rattle.heap_core.specs.Records.{IsRecorded, IsReplayed, Record, entries_of, most_room, opening, shown}
+use Rattle.heap_core.specs.declared.records.Recorded.TheInside.{Inside}
+
+-- a journal with one more entry that may stand leaves what that entry leaves
+one_more : (s : Space) (es : List Entry) (e : Entry) → all_stand s es ≡ true → stands (replay s es) e ≡ true →
+    (all_stand s (es ++ e ∷ []) ≡ true) × (replay s (es ++ e ∷ []) ≡ space_after (replay s es) e)
+one_more s [] e all one = (rw one refl, refl)
+one_more s (x ∷ xs) e all one = both (stands s x) (all_stand (space_after s x) xs) all (λ first rest. let more = one_more (space_after s x) xs e rest one in (rw (first, more.0) refl, more.1))
+  where
+    both : {P : Type 0} (a b : Bool) → (a && b) ≡ true → (a ≡ true → b ≡ true → P) → P
+    both true true h f = f refl refl
+    both true false h f = absurd (cc)
+    both false b h f = absurd (cc)
+
+entries_more : (kept : List KeptFacts) (k : KeptFacts) → entries_of (kept ++ k ∷ []) ≡ entries_of kept ++ k.entry ∷ []
+entries_more [] k = refl
+entries_more (x ∷ xs) k = ap (λ es. x.entry ∷ es) (entries_more xs k)
+
+pub replayed_more : (index : ℕ) (kept : List KeptFacts) (k : KeptFacts) (s : Space) → IsReplayed index kept s → stands s k.entry ≡ true → IsReplayed index (kept ++ k ∷ []) (space_after s k.entry)
+replayed_more index kept k s is may =
+    let at = is.space in
+    let more = one_more (opening index) (entries_of kept) k.entry is.stand (rw at at may) in record {
+      stand = rw (entries_more kept k) more.0;
+      space = rw (entries_more kept k) (ap (λ t. space_after t k.entry) at ∙ sym more.1);
+    }
+
+-- a room is one of those that there are
+pub one_room : (rooms : List ℕ) (client : ℕ) → client < length rooms → room_of client rooms ≤ all_rooms rooms
+one_room rooms client within = get_or-le-sum_by (λ n. n) rooms client 0 within
+
+-- the rooms after an operation that takes no memory are one less, and after one that does no more than so many
+pub rooms_then : (s : Space) (rooms : List ℕ) (client : ℕ) (op : Op) → client < length rooms → emptied_by client op s ≤ given_by op →
+    (opens op ≡ false → 0 < room_of client rooms) → (o : Bool) → opens op ≡ o →
+    all_rooms (rooms_after (record { space = s; rooms = rooms }) client op) + cond o 0 1 ≤ all_rooms rooms + cond o (most_room op) 0
+rooms_then s rooms client op within few some true e =
+    let room : room_after s (room_of client rooms) client op ≡ max (max (room_of client rooms) 16) (16 * emptied_by client op s) = rw e refl in
+    omega (arith, rooms_with rooms client (room_after s (room_of client rooms) client op) within, room, few)
+rooms_then s rooms client op within few some false e =
+    let room : room_after s (room_of client rooms) client op ≡ room_of client rooms - 1 = rw e refl in
+    omega (arith, rooms_with rooms client (room_after s (room_of client rooms) client op) within, room, some e)
+
+-- ---- a turn
+
+-- a client that may make the operation is one of the 32
+client_is : (s : Space) (client : ℕ) (op : Op) → IsTrue (stands s (entry_of client op)) → client < 32
+client_is s client op may = ltb-true client 32 (both_true (nat_lt client 32) (op_stands s client op) may).0
+
+-- the journal has a place for the entry
+pub has_place : (r : Inside) (now : Record) (client : ℕ) (op : Op) (spare : ℕ) → shown r ≡ now → IsRecorded r → IsTrue (stands now.space (entry_of client op)) →
+    (opens op ≡ false → 0 < room_of client now.rooms) → r.journal.spare ≤ spare → (opens op ≡ true → all_rooms r.arena.rooms + most_room op < spare) → (o : Bool) → opens op ≡ o → 0 < spare
+has_place r now client op spare view is may some more made true e = let much = made e in omega (arith, much)
+has_place r now client op spare view is may some more made false e =
+    let room : 0 < room_of client r.arena.rooms = subst (λ (x : Record). 0 < room_of client x.rooms) (sym view) (some e) in
+    let within : client < length r.arena.rooms = omega (arith, client_is now.space client op may, is.clients) in
+    omega (arith, room, one_room r.arena.rooms client within, is.places, more)
+
+-- What a turn leaves is recorded.
+pub turn_recorded : (r new : Inside) (now : Record) (client : ℕ) (op : Op) (k : KeptFacts) (spare : ℕ) → shown r ≡ now → IsRecorded r → IsTrue (stands now.space (entry_of client op)) →
+    (opens op ≡ false → 0 < room_of client now.rooms) → r.journal.spare ≤ spare → (opens op ≡ true → all_rooms r.arena.rooms + most_room op < spare) →
+    k.entry ≡ entry_of client op → new.index ≡ r.index → new.arena.space ≡ space_after r.arena.space (entry_of client op) → new.arena.rooms ≡ rooms_after r.arena client op →
+    emptied_by client op r.arena.space ≤ given_by op → new.journal.items ≡ r.journal.items ++ k ∷ [] → spare ≤ new.journal.spare + 1 → IsRecorded new
+turn_recorded r new now client op k spare view is may some more made entry index after rooms few items one =
+    let may_here : stands r.arena.space k.entry ≡ true = subst (λ (x : Record). stands x.space k.entry ≡ true) (sym view) (subst (λ e. stands now.space e ≡ true) (sym entry) may) in
+    let within : client < length r.arena.rooms = omega (arith, client_is now.space client op may, is.clients) in
+    let room : opens op ≡ false → 0 < room_of client r.arena.rooms = λ e. subst (λ (x : Record). 0 < room_of client x.rooms) (sym view) (some e) in
+    record {
+      replayed = rw (index, items) (subst (IsReplayed r.index (r.journal.items ++ k ∷ [])) (ap (space_after r.arena.space) entry ∙ sym after) (replayed_more r.index r.journal.items k r.arena.space is.replayed may_here));
+      clients = ap length rooms ∙ length-set r.arena.rooms client _ ∙ is.clients;
+      places = fits (opens op) refl within room;
+    }
+  where
+    fits : (o : Bool) → opens op ≡ o → client < length r.arena.rooms → (opens op ≡ false → 0 < room_of client r.arena.rooms) → all_rooms new.arena.rooms ≤ new.journal.spare
+    fits true e within room = let much = made e in
+        omega (arith, rooms_then r.arena.space r.arena.rooms client op within few room true e, ap all_rooms rooms, much, one)
+    fits false e within room = omega (arith, rooms_then r.arena.space r.arena.rooms client op within few room false e, ap all_rooms rooms, is.places, more, one)

@@ -1,0 +1,7 @@
+use Rattle.std.proofs.Common.{◌≡◌, map}
+use Rattle.heap_core.specs.Arenas.{journal_of}
+use Rattle.heap_core.proofs.arenas.Arenas.into_journals.Given as goal
+
+-- the journals so far are those of the arenas so far
+abbrev pub invariant-loop-record : goal.invariant-loop-record
+invariant-loop-record l = l.journals.items ≡ map journal_of l.yielded

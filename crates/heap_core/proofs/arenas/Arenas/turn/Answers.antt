@@ -1,0 +1,19 @@
+use Rattle.std.proofs.lemmas.List.{get_or_default}
+use Rattle.std.proofs.Common.{◌∙◌, List, arith, IsTrue, ap, subst, sym}
+use Rattle.space_model.specs.Step.{stands}
+use Rattle.arena_core.specs.Arenas.{entry_of}
+use Rattle.heap_core.specs.Records.{Record}
+use Rattle.heap_core.specs.Chunks.{settled}
+use Rattle.heap_core.specs.Arenas.{no_record, record_at, spaces_of}
+use Rattle.heap_core.proofs.Turned.{arenas_turned_from, kept_settled}
+use Rattle.heap_core.proofs.arenas.Arenas.turn.Goals as goal
+
+pub turn-requires-clause-kept : goal.turn-requires-clause-kept
+turn-requires-clause-kept c =
+    kept_settled (spaces_of c.self.inside.records.items) c.args.arena c.args.client c.args.op c.settled-op.result c.args.asked (c.settled-op.ensures ∙ ap (λ rs. settled (spaces_of rs) c.args.arena c.args.op) c.deref.ensures.value) c.requires.kept
+
+pub invariant_of-self : goal.invariant_of-self
+invariant_of-self c =
+    arenas_turned_from c.self.inside.records.items c.args.arena c.args.client c.args.op c.settled-op.result c.args.asked c.turn.result c.index_mut.result.now c.turn.new.self
+    (c.index_mut.ensures.value ∙ get_or_default c.self.inside.records.items c.args.arena c.index_mut.result.now no_record (omega (arith, c.requires.arena, c.self.invariant.number))) c.self.invariant c.requires.arena
+    (c.settled-op.ensures ∙ ap (λ rs. settled (spaces_of rs) c.args.arena c.args.op) c.deref.ensures.value) (subst (λ (rs : List Record). IsTrue (stands (record_at rs c.args.arena).space (entry_of c.args.client (settled (spaces_of rs) c.args.arena c.args.op)))) (sym c.self.view_is) c.requires.stands) c.turn.ensures.after c.turn.ensures.err c.turn.ensures.index c.turn.ensures.replayed

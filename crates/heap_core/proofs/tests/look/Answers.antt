@@ -1,0 +1,6 @@
+use Rattle.heap_core.proofs.tests.look.Goals as goal
+use Rattle.std.proofs.Common.{refl}
+
+pub turn-requires-clause-stands : goal.turn-requires-clause-stands
+unfolding lib.Count.ones
+turn-requires-clause-stands g c = refl

@@ -1,0 +1,53 @@
+-- Which arenas own a chunk, and the chunk that speaks against an answer.
+use Rattle.std.specs.Prelude.{◌≡◌, ℕ, ◌%◌, ◌==◌, ◌&&◌, Bool, true, List, Option, None, find, slice_index_or, slice_set, if◌then◌else◌}
+use Rattle.std.specs.List.{list_any}
+use Rattle.space_model.specs.declared.asks.Ask.{Ask}
+use Rattle.space_model.specs.declared.asks.Ask.TheVariants.{Alloc, Dalloc}
+use Rattle.space_model.specs.declared.asks.Answer.{Answer}
+use Rattle.space_model.specs.declared.asks.Answer.TheVariants.{Refused, Placed}
+use Rattle.space_model.specs.declared.entries.Op.{Op}
+use Rattle.space_model.specs.declared.entries.Op.TheVariants.{GrowDone, OfferDone}
+use Rattle.space_model.specs.declared.parts.Span.{Span}
+use Rattle.space_model.specs.declared.spaces.Space.{Space}
+use Rattle.space_model.specs.Opening.{absent_space}
+use Rattle.space_model.specs.Span.{chunk_span, chunks_of, meets}
+use Rattle.space_model.specs.Step.{is_in_space}
+
+-- the space of the arena with an index; where there is none, it is that of an index without an arena
+abbrev pub space_at : List Space → ℕ → Space
+space_at spaces i = slice_index_or spaces i absent_space
+
+-- whether an extent of the space meets the chunk
+abbrev pub owns : ℕ → Space → Bool
+owns chunk s = list_any (λ p. meets p.span (chunk_span chunk)) s.parts
+
+-- no chunk is met by extents of two arenas
+abbrev pub Apart : List Space → Type 0
+Apart spaces = (chunk i j : ℕ) → owns chunk (space_at spaces i) ≡ true → owns chunk (space_at spaces j) ≡ true → i ≡ j
+
+-- the spaces of all arenas but one
+abbrev pub others_of : ℕ → List Space → List Space
+others_of arena spaces = slice_set spaces arena absent_space
+
+-- the least chunk of a span that an extent of some arena meets
+abbrev pub met_in : List Space → Span → Option ℕ
+met_in spaces span = find (λ chunk. list_any (owns chunk) spaces) (chunks_of span)
+
+-- the chunk that speaks against the answer to an alloc: none where that was refused, off the space or unaligned
+abbrev pub met_by_alloc : List Space → Ask → Answer → Option ℕ
+met_by_alloc spaces (Alloc at pages align commit) (Placed first committed zeroed) =
+    let s : Span = record { first = first; pages = pages } in
+    if is_in_space s && s.first % align == 0 then met_in spaces s else None
+met_by_alloc spaces ask answer = None
+
+-- the chunk that speaks against a dalloc that was refused
+abbrev pub met_by_dalloc : List Space → Ask → Answer → Option ℕ
+met_by_dalloc spaces (Dalloc span committed) Refused = met_in spaces span
+met_by_dalloc spaces ask answer = None
+
+-- the operation of an arena as it enters its journal: an alloc is told the least chunk that has an owner, and a dalloc that
+-- was refused the least one that has another one
+abbrev pub settled : List Space → ℕ → Op → Op
+settled spaces arena (GrowDone heard found) = GrowDone heard (met_by_alloc spaces heard.ask heard.answer)
+settled spaces arena (OfferDone heard found) = OfferDone heard (met_by_dalloc (others_of arena spaces) heard.ask heard.answer)
+settled spaces arena op = op

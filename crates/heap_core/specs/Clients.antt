@@ -1,0 +1,76 @@
+-- What is so of a client's call among the arenas of a heap, whoever takes a turn.
+use Rattle.std.specs.Prelude.{◌≡◌, ◌≢◌, ℕ, ◌<◌, ◌≤◌, false, IsTrue, List, Option}
+use Rattle.space_model.specs.declared.entries.Op.{Op}
+use Rattle.space_model.specs.Own.{Mine, mine}
+use Rattle.space_model.specs.Step.{stands}
+use Rattle.hook_api.specs.Asked.{AskFacts}
+use Rattle.hook_api.specs.Hooks.{Answers as AnswersTo}
+use Rattle.hook_api.specs.Kept.{IsKept}
+use Rattle.arena_core.specs.Arenas.{entry_of, opens}
+use Rattle.call_table.specs.declared.needs.Item.TheVariants.{Replied, Told}
+use Rattle.call_table.specs.declared.points.Point.{Point}
+use Rattle.call_table.specs.declared.points.Next.{Next}
+use Rattle.call_table.specs.declared.points.Next.TheVariants.{Go, Over, More, Gone, Ends, Nowhere}
+use Rattle.call_table.specs.Table.{WantTurn, WantAsk, step, want}
+use Rattle.call_table.specs.Knows.{Idle, Knows}
+use Rattle.call_table.specs.Rooms.{flying, needed_at}
+use Rattle.heap_core.specs.Arenas.{IsArenas, record_at, reply_in, room_in, spaces_of, turned}
+use Rattle.heap_core.specs.Chunks.{settled}
+use Rattle.heap_core.specs.Records.{Record}
+
+-- what a client owns in an arena
+abbrev pub mine_in : List Record → ℕ → ℕ → Mine
+mine_in records c i = mine c (record_at records i).space
+
+-- the client has nothing in flight and nothing offered in any arena
+abbrev pub IsIdle : List Record → ℕ → Type 0
+IsIdle records c = (i : ℕ) → Idle (mine_in records c i)
+
+-- A client's call waits at a point of an arena: it knows there what it has to, has the room that it needs, and has nothing in
+-- flight in any other arena.
+pub record Waits (records : List Record) (c arena : ℕ) (point : Point) : Type 0 where
+  pub there : arena < 32
+  pub knows : Knows (mine_in records c arena) point
+  pub elsewhere : (i : ℕ) → i ≢ arena → Idle (mine_in records c i)
+  pub room : needed_at (flying (mine_in records c arena)) point ≤ room_in records arena c
+
+-- where a call goes next it waits again, or has nothing in flight: at its end, before its next batch, or where it goes over to
+-- another arena, whose first point then knows all that it has to
+abbrev pub WaitsNext : List Record → ℕ → ℕ → Next → Type 0
+WaitsNext records c arena (Go point) = Waits records c arena point
+WaitsNext records c arena (Over index point) = IsIdle records c × ((m : Mine) → Idle m → Knows m point)
+WaitsNext records c arena More = IsIdle records c
+WaitsNext records c arena Gone = IsIdle records c
+WaitsNext records c arena (Ends answer) = IsIdle records c
+WaitsNext records c arena Nowhere = ⊥
+
+-- What a turn of a waiting call asks of its arena is so: it may stand with the chunk that is found, there is room for it, and
+-- the ask that it carries is at hand.
+pub record CanTurn (records : List Record) (c arena : ℕ) (op : Op) (asked : Option AskFacts) : Type 0 where
+  pub stands : IsTrue (stands (record_at records arena).space (entry_of c (settled (spaces_of records) arena op)))
+  pub room : opens op ≡ false → 0 < room_in records arena c
+  pub kept : IsKept (entry_of c op) asked
+
+-- the arenas after the turn that a call wants
+abbrev pub after_turn : List Record → ℕ → ℕ → Op → Option AskFacts → List Record
+after_turn records arena c op asked = turned records arena c (settled (spaces_of records) arena op) asked
+
+-- whatever turn another client takes in whatever arena, a call waits as it did, and an idle client is idle
+abbrev pub OthersStay : Type 0
+OthersStay = (records : List Record) (arena c other : ℕ) (op : Op) (asked : Option AskFacts) → IsArenas records → arena < 32 → other ≢ c
+    → IsTrue (stands (record_at records arena).space (entry_of c (settled (spaces_of records) arena op)))
+    → ((at : ℕ) (point : Point) → Waits records other at point → Waits (after_turn records arena c op asked) other at point)
+    × (IsIdle records other → IsIdle (after_turn records arena c op asked) other)
+
+-- the turn that a waiting call wants can be taken, and leads on
+abbrev pub TurnsLeadOn : Type 0
+TurnsLeadOn = (records : List Record) (c arena : ℕ) (point : Point) (op : Op) (asked : Option AskFacts) → IsArenas records → c < 32
+    → Waits records c arena point → want point ≡ WantTurn op asked
+    → CanTurn records c arena op asked
+    × WaitsNext (after_turn records arena c op asked) c arena (step point (Replied (reply_in records arena c (settled (spaces_of records) arena op))))
+
+-- whatever answer of its kind an ask has that a waiting call wants, the call waits on, and nothing else changes
+abbrev pub AsksLeadOn : Type 0
+AsksLeadOn = (records : List Record) (c arena : ℕ) (point : Point) (asked : AskFacts) → IsArenas records
+    → Waits records c arena point → want point ≡ WantAsk asked.ask → AnswersTo asked.ask asked.answer
+    → WaitsNext records c arena (step point (Told asked))

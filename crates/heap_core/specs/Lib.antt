@@ -1,0 +1,5 @@
+pub mod Arenas
+pub mod Chunks
+pub mod Clients
+pub mod Records
+pub mod Reserves

@@ -1,0 +1,200 @@
+//! The arenas of a heap.
+
+ghost use Rattle.std.specs.Prelude.{◌≡◌, ◌≢◌, ◌+◌, ◌<◌, ℕ, false, true, length, map, IsTrue, IsOk, IfOk, OnOk, OnErr};
+ghost use Rattle.std.specs.List.{list_any};
+ghost use Rattle.space_model.specs.Step.{stands};
+ghost use Rattle.space_model.specs.Own.{mine};
+ghost use Rattle.hook_api.specs.Kept.{IsKept};
+ghost use Rattle.arena_core.specs.Arenas.{entry_of, opens};
+ghost use Rattle.heap_core.specs.Arenas.{journal_of, opening_records, record_at, reply_in, room_in, spaces_of, turned};
+ghost use Rattle.heap_core.specs.Records.{IsReplayed};
+ghost use Rattle.heap_core.specs.Chunks.{Apart, met_by_alloc, met_by_dalloc, met_in, others_of, owns, settled};
+
+use crate::records::Recorded;
+use arena_core::Arena;
+use hook_api::{Asked, Journals};
+use space_model::{Answer, Ask, Heard, Op, Reply, Span};
+use std::alloc::{AllocError as NoMemory, Global};
+use std::marker::Model;
+
+/// How many arenas there are.
+pub const ARENAS: u32 = 32;
+
+/// How many pages a chunk has.
+const CHUNK_PAGES: u64 = 512;
+
+/// The 32 arenas of a heap, each with its journal. Contracts see them as their list.
+#[derive(Drop)]
+pub struct Arenas {
+    records: Vec<Recorded>,
+}
+
+impl Model for Arenas {
+    ghost use Rattle.std.specs.Prelude.{List};
+    ghost use Rattle.heap_core.specs.Records.{Record};
+    ghost use Rattle.heap_core.specs.Arenas.{IsArenas};
+
+    ghost Value = { List Record };
+
+    ghost view = { λ arenas. arenas.records.items };
+
+    ghost invariant = { λ arenas. IsArenas arenas.records.items };
+}
+
+/// Whether some of the arenas owns a chunk.
+fn any_owns(records: &[Recorded], chunk: u64) -> bool
+    ensures { result ≡ list_any (λ r. owns chunk r.space) records.now }
+{
+    records
+        .iter()
+        .any(|record| record.arena().owns_chunk(chunk))
+}
+
+/// Whether some arena owns a chunk.
+fn is_owned(records: &[Recorded], chunk: u64) -> bool
+    ensures { result ≡ list_any (owns chunk) (spaces_of records.now) }
+{
+    any_owns(records, chunk)
+}
+
+/// Whether some arena but one owns a chunk.
+fn is_owned_elsewhere(records: &[Recorded], arena: u32, chunk: u64) -> bool
+    requires { arena < length records.now }
+    ensures { result ≡ list_any (owns chunk) (others_of arena (spaces_of records.now)) }
+{
+    let arena = arena as usize;
+    any_owns(&records[..arena], chunk) || any_owns(&records[arena + 1..], chunk)
+}
+
+/// The least chunk of a span that some arena owns.
+fn met_in(records: &[Recorded], span: Span) -> Option<u64>
+    ensures { result ≡ met_in (spaces_of records.now) span }
+{
+    let low = span.first / CHUNK_PAGES;
+    let high = span.end().div_ceil(u128::from(CHUNK_PAGES)) as u64;
+    (low..high).find(|chunk| is_owned(records, *chunk))
+}
+
+/// The least chunk of a span that some arena but one owns.
+fn met_elsewhere(records: &[Recorded], arena: u32, span: Span) -> Option<u64>
+    requires { arena < length records.now }
+    ensures { result ≡ met_in (others_of arena (spaces_of records.now)) span }
+{
+    let low = span.first / CHUNK_PAGES;
+    let high = span.end().div_ceil(u128::from(CHUNK_PAGES)) as u64;
+    (low..high).find(|chunk| is_owned_elsewhere(records, arena, *chunk))
+}
+
+/// The chunk that speaks against the answer to an alloc.
+fn met_by_alloc(records: &[Recorded], heard: Heard) -> Option<u64>
+    ensures { result ≡ met_by_alloc (spaces_of records.now) heard.ask heard.answer }
+{
+    let (Ask::Alloc { pages, align, .. }, Answer::Placed { first, .. }) = (heard.ask, heard.answer)
+    else {
+        return None;
+    };
+    let span = Span { first, pages };
+    if span.is_in_space() && align != 0 && first % align == 0 {
+        met_in(records, span)
+    } else {
+        None
+    }
+}
+
+/// The chunk that speaks against a dalloc of an arena that was refused.
+fn met_by_dalloc(records: &[Recorded], arena: u32, heard: Heard) -> Option<u64>
+    requires { arena < length records.now }
+    ensures { result ≡ met_by_dalloc (others_of arena (spaces_of records.now)) heard.ask heard.answer }
+{
+    match (heard.ask, heard.answer) {
+        (Ask::Dalloc { span, .. }, Answer::Refused) => met_elsewhere(records, arena, span),
+        _ => None,
+    }
+}
+
+/// The operation of an arena as it enters its journal, with the chunk that speaks against the answer it carries.
+fn settled(records: &[Recorded], arena: u32, op: Op) -> Op
+    requires { arena < length records.now }
+    ensures { result ≡ settled (spaces_of records.now) arena op }
+{
+    match op {
+        Op::GrowDone { heard, .. } => {
+            let found = met_by_alloc(records, heard);
+            Op::GrowDone { heard, found }
+        }
+        Op::OfferDone { heard, .. } => {
+            let found = met_by_dalloc(records, arena, heard);
+            Op::OfferDone { heard, found }
+        }
+        op => op,
+    }
+}
+
+impl Arenas {
+    /// The arenas of a new heap: arena 0 is there, and no other. Their journals are empty.
+    pub fn new(alloc: Global) -> Result<Arenas, NoMemory>
+        ensures { IfOk result (λ arenas. arenas ≡ opening_records) }
+    {
+        let mut records = Vec::new(alloc);
+        for index in 0..ARENAS {
+            records.push(Recorded::new(alloc, index)?)?;
+        }
+        Ok(Arenas { records })
+    }
+
+    /// A turn of a client in an arena, whose entry joins the journal beside the ask that it carries. The chunk that speaks
+    /// against that ask's answer is looked for among all arenas in this very turn. Where memory is wanting, nothing changes;
+    /// that comes at the first turn of a unit alone.
+    pub fn turn(
+        &mut self,
+        arena: u32,
+        client: u32,
+        op: Op,
+        asked: Option<Asked>,
+    ) -> Result<Reply, NoMemory>
+        requires arena { arena < 32 }
+        requires stands { IsTrue (stands (record_at self.old arena).space (entry_of client (settled (spaces_of self.old) arena op))) }
+        requires room { opens op ≡ false → 0 < room_in self.old arena client }
+        requires kept { IsKept (entry_of client op) asked }
+        ensures after { OnOk result (self.new ≡ turned self.old arena client (settled (spaces_of self.old) arena op) asked) }
+        ensures reply { IfOk result (λ told. told ≡ reply_in self.old arena client (settled (spaces_of self.old) arena op)) }
+        ensures err { OnErr result (self.new ≡ self.old) }
+        ensures sure { opens op ≡ false → IsOk result }
+        ensures others { (other : ℕ) → other ≢ client → (i : ℕ) → mine other (record_at self.new i).space ≡ mine other (record_at self.old i).space }
+    {
+        let op = settled(&self.records, arena, op);
+        self.records[arena as usize].turn(client, op, asked)
+    }
+
+    /// What is always so: no chunk is met by extents of two arenas, and each arena is what its journal leaves of its
+    /// opening, where every entry could stand when it came.
+    pub fn are_apart(&self)
+        ensures apart { Apart (spaces_of self.now) }
+        ensures replayed { (i : ℕ) → i < 32 → IsReplayed i (record_at self.now i).kept (record_at self.now i).space }
+    {
+        let _records = &self.records;
+    }
+
+    /// The arena with an index.
+    pub fn at(&self, arena: u32) -> &Arena
+        requires { arena < 32 }
+        ensures space { result.now.space ≡ (record_at self.now arena).space }
+        ensures rooms { result.now.rooms ≡ (record_at self.now arena).rooms }
+    {
+        self.records[arena as usize].arena()
+    }
+
+    /// The journals of all arenas, once no turn is to come: each leaves the space of its arena. `NoMemory` only where there
+    /// is none for the list of the 32.
+    #[tactic(auto, using(crate::proofs::Turned::stand_by_index))]
+    pub fn into_journals(self, alloc: Global) -> Result<Journals, NoMemory>
+        ensures journals { IfOk result (λ journals. journals ≡ map journal_of self) }
+        ensures replayed { (i : ℕ) → i < 32 → IsReplayed i (record_at self i).kept (record_at self i).space }
+    {
+        let mut journals = Vec::new(alloc);
+        for record in self.records {
+            journals.push(record.into_journal())?;
+        }
+        Ok(Journals::from_vec(journals))
+    }
+}

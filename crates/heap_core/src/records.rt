@@ -1,0 +1,125 @@
+//! An arena with its journal.
+
+ghost use Rattle.std.specs.Prelude.{◌≡◌, ◌≢◌, ◌+◌, ◌*◌, ◌<◌, ◌≤◌, ℕ, false, true, [], ◌∷◌, ◌++◌, length, max, replicate, IsTrue, IsOk, IfOk, IfSome, OnOk, OnErr};
+ghost use Rattle.space_model.specs.Opening.{absent_space, first_space};
+ghost use Rattle.space_model.specs.Own.{mine};
+ghost use Rattle.space_model.specs.Step.{reply_to, space_after, stands};
+ghost use Rattle.hook_api.specs.Kept.{IsKept};
+ghost use Rattle.arena_core.specs.Arenas.{all_rooms, entry_of, given_by, opens, room_of, rooms_after};
+ghost use Rattle.heap_core.specs.Arenas.{record_after};
+ghost use Rattle.heap_core.specs.Records.{IsReplayed, most_room, opening};
+
+use crate::reserves::Reserved;
+use arena_core::Arena;
+use hook_api::{Asked, Journal, Kept, Kepts};
+use space_model::{Entry, Op, Reply, Space};
+use std::alloc::{AllocError as NoMemory, Global};
+use std::marker::Model;
+
+/// How many operations that take no memory may follow one that makes room for them.
+const UNIT: u64 = 16;
+
+/// An arena with its journal. Each turn adds its entry, and a turn for which the arena takes no memory takes none for the
+/// journal.
+#[derive(Drop)]
+pub struct Recorded {
+    index: u32,
+    arena: Arena,
+    journal: Reserved<Kept>,
+}
+
+impl Model for Recorded {
+    ghost use Rattle.heap_core.specs.Records.{IsRecorded, Record, shown};
+
+    ghost Value = { Record };
+
+    ghost view = { shown };
+
+    ghost invariant = { IsRecorded };
+}
+
+/// How many operations without memory may follow an operation at most that takes memory, by all that it may empty.
+fn most_room(op: &Op) -> Option<u64>
+    ensures { IfSome result (λ room. room ≡ most_room op.now) }
+{
+    let given = match op {
+        Op::Back { addrs } => addrs.as_slice().len() as u64,
+        _ => 0,
+    };
+    UNIT.checked_mul(given.max(1))
+}
+
+/// Makes places in a journal of an arena for a turn that takes memory, and for those that may follow it.
+fn make_places(journal: &mut Reserved<Kept>, arena: &Arena, op: &Op) -> Result<(), NoMemory>
+    ensures items { journal.new.items ≡ journal.old.items }
+    ensures kept { journal.old.spare ≤ journal.new.spare }
+    ensures ok { OnOk result (opens op.now ≡ true → all_rooms arena.now.rooms + most_room op.now < journal.new.spare) }
+    ensures sure { opens op.now ≡ false → IsOk result }
+{
+    if !Arena::opens(op) {
+        return Ok(());
+    }
+    let room = most_room(op).ok_or(NoMemory)?;
+    let places = arena.room().checked_add(room).ok_or(NoMemory)?;
+    journal.reserve(places.checked_add(1).ok_or(NoMemory)?)
+}
+
+impl Recorded {
+    /// The arena with an index, with an empty journal: arena 0 is there, and no other.
+    pub fn new(alloc: Global, index: u32) -> Result<Recorded, NoMemory>
+        ensures { IfOk result (λ r. r ≡ record { index = index; space = opening index; rooms = replicate 32 0; kept = [] }) }
+    {
+        let space = if index == 0 {
+            Space::first(alloc)
+        } else {
+            Space::absent(alloc)
+        };
+        Ok(Recorded {
+            index,
+            arena: Arena::new(alloc, space)?,
+            journal: Reserved::new(alloc),
+        })
+    }
+
+    /// The arena.
+    pub fn arena(&self) -> &Arena
+        ensures replayed { IsReplayed self.now.index self.now.kept self.now.space }
+        ensures space { result.now.space ≡ self.now.space }
+        ensures rooms { result.now.rooms ≡ self.now.rooms }
+    {
+        &self.arena
+    }
+
+    /// A turn of a client, whose entry joins the journal beside the ask that it carries. Where memory is wanting, nothing
+    /// changes; that comes at the first turn of a unit alone.
+    pub fn turn(&mut self, client: u32, op: Op, asked: Option<Asked>) -> Result<Reply, NoMemory>
+        requires stands { IsTrue (stands self.old.space (entry_of client op)) }
+        requires room { opens op ≡ false → 0 < room_of client self.old.rooms }
+        requires kept { IsKept (entry_of client op) asked }
+        ensures index { self.new.index ≡ self.old.index }
+        ensures after { OnOk result (self.new ≡ record_after self.old client op asked) }
+        ensures reply { IfOk result (λ told. told ≡ reply_to self.old.space (entry_of client op)) }
+        ensures replayed { IsReplayed self.new.index self.new.kept self.new.space }
+        ensures err { OnErr result (self.new ≡ self.old) }
+        ensures sure { opens op ≡ false → IsOk result }
+        ensures others { (other : ℕ) → other ≢ client → mine other self.new.space ≡ mine other self.old.space }
+    {
+        make_places(&mut self.journal, &self.arena, &op)?;
+        let reply = self.arena.step(client, &op)?;
+        self.journal.push(Kept::new(Entry { client, op }, asked));
+        Ok(reply)
+    }
+
+    /// The journal, once no turn is to come.
+    pub fn into_journal(self) -> Journal
+        ensures index { result.index ≡ self.index }
+        ensures kept { result.kept ≡ self.kept }
+        ensures replayed { IsReplayed self.index self.kept self.space }
+    {
+        let Recorded { index, journal, .. } = self;
+        Journal {
+            index,
+            kept: Kepts::from_vec(journal.into_vec()),
+        }
+    }
+}
