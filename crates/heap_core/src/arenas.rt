@@ -1,7 +1,8 @@
 //! The arenas of a heap.
 
-ghost use Rattle.std.specs.Prelude.{◌≡◌, ◌≢◌, ◌+◌, ◌<◌, ℕ, false, true, length, map, IsTrue, IsOk, IfOk, OnOk, OnErr};
-ghost use Rattle.std.specs.List.{list_any};
+ghost use Rattle.std.specs.Prelude.{◌≡◌, ◌≢◌, ◌+◌, ◌<◌, ℕ, false, true, length, map, IsTrue, IsOk, IfOk, IfSome, OnOk, OnErr};
+ghost use Rattle.std.specs.List.{list_any, position};
+ghost use Rattle.space_model.specs.Span.{has_page};
 ghost use Rattle.space_model.specs.Step.{stands};
 ghost use Rattle.space_model.specs.Own.{mine};
 ghost use Rattle.hook_api.specs.Kept.{IsKept};
@@ -83,6 +84,16 @@ fn met_elsewhere(records: &[Recorded], arena: u32, span: Span) -> Option<u64>
     let low = span.first / CHUNK_PAGES;
     let high = span.end().div_ceil(u128::from(CHUNK_PAGES)) as u64;
     (low..high).find(|chunk| is_owned_elsewhere(records, arena, *chunk))
+}
+
+/// The place of the first arena of which an extent has a page.
+fn place_of(records: &[Recorded], page: u64) -> Option<usize>
+    ensures place { result ≡ position (λ r. list_any (λ p. has_page page p.span) r.space.parts) records.now }
+    ensures within { IfSome result (λ place. place < length records.now) }
+{
+    records
+        .iter()
+        .position(|record| record.arena().holds_page(page))
 }
 
 /// The chunk that speaks against the answer to an alloc.
@@ -173,6 +184,14 @@ impl Arenas {
         ensures replayed { (i : ℕ) → i < 32 → IsReplayed i (record_at self.now i).kept (record_at self.now i).space }
     {
         let _records = &self.records;
+    }
+
+    /// The index of the arena of which an extent has a page, if there is one; no other arena has the page's chunk.
+    pub fn arena_of(&self, page: u64) -> Option<u32>
+        ensures { result ≡ position (λ r. list_any (λ p. has_page page p.span) r.space.parts) self.now }
+    {
+        let index = place_of(&self.records, page)?;
+        Some(index as u32)
     }
 
     /// The arena with an index.

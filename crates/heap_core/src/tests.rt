@@ -45,6 +45,7 @@ fn arenas_have_turns_of_their_own(rt: HostRuntime) -> Result<(), Fail> {
     look(&rt, &mut arenas, 0, Reply::Grow { series: 1 })?;
     look(&rt, &mut arenas, 2, Reply::NoArena)?;
     assert_eq!(rt; arenas.at(2).life(), Life::Absent);
+    assert_eq!(rt; arenas.arena_of(512), None);
     Ok(())
 }
 
