@@ -1,5 +1,5 @@
 -- What a turn in one of the arenas leaves of all of them.
-use Rattle.std.proofs.Common.{inr, ◌≡◌, ℕ, ◌+◌, ◌<◌, ◌≤◌, ◌==◌, Bool, true, false, cond, suc, zero, List, [], ◌∷◌, Option, Result, Ok, Err, OnOk, OnErr, IfSome, IsSomeAnd, length, nat_lt, map, slice_set, get_or, refl, sym, ◌∙◌, ap, subst, arith, IsTrue}
+use Rattle.std.proofs.Common.{inr, ◌≡◌, ℕ, ◌+◌, ◌/◌, ◌<◌, ◌≤◌, ◌==◌, Bool, true, false, cond, suc, zero, List, [], ◌∷◌, Option, Result, Ok, Err, OnOk, OnErr, IfSome, IsSomeAnd, length, nat_lt, map, slice_set, get_or, refl, sym, ◌∙◌, ap, subst, arith, IsTrue}
 use Rattle.std.specs.List.{list_any, range_with_len}
 use Rattle.std.proofs.lemmas.Bool.{ltb-true}
 use Rattle.std.proofs.lemmas.Bool.Decides.{nat_tests}
@@ -13,7 +13,8 @@ use Rattle.space_model.specs.declared.entries.Op.{Op}
 use Rattle.space_model.specs.declared.entries.Op.TheVariants.{GrowDone, OfferDone}
 use Rattle.space_model.specs.declared.entries.Reply.{Reply}
 use Rattle.space_model.specs.declared.spaces.Space.{Space}
-use Rattle.space_model.specs.Span.{chunk_span, meets}
+use Rattle.arena_core.proofs.Emptying.{any_counts}
+use Rattle.space_model.specs.Span.{chunk_span, has_page, meets}
 use Rattle.space_model.specs.Sound.{Sound}
 use Rattle.space_model.specs.Step.{op_stands, stands, step_of}
 use Rattle.space_model.specs.Journal.{all_stand, replay}
@@ -26,7 +27,7 @@ use Rattle.arena_core.specs.Arenas.{entry_of}
 use Rattle.heap_core.specs.Arenas.{IsArenas, journal_of, no_record, opening_record, opening_records, record_after, record_at, spaces_of}
 use Rattle.heap_core.specs.Chunks.{Apart, owns, settled, space_at}
 use Rattle.heap_core.specs.Records.{IsReplayed, Record, entries_of, opening}
-use Rattle.heap_core.proofs.Owning.{apart_turn}
+use Rattle.heap_core.proofs.Owning.{apart_turn, page_owned}
 
 -- what a journal leaves is sound
 pub replayed_sound : (i : ℕ) (kept : List KeptFacts) (s : Space) → IsReplayed i kept s → Sound s
@@ -159,3 +160,19 @@ by_index records is =
 
 pub stand_by_index : (records : List Record) (journals : List Journal) → IsArenas records → journals ≡ map journal_of records → IsByIndex journals
 stand_by_index records journals is same = inr (ap (map (λ (j : Journal). j.index)) same ∙ by_index records is)
+
+-- ---- pages
+
+-- a page is in the chunk of its number
+page_in_chunk : (page : ℕ) → has_page page (chunk_span (page / 512)) ≡ true
+page_in_chunk page = grind (arith, nat_tests)
+
+-- no page is in extents of two arenas
+pub one_owner : (records : List Record) → IsArenas records → (page i j : ℕ) → list_any (λ p. has_page page p.span) (record_at records i).space.parts ≡ true →
+    list_any (λ p. has_page page p.span) (record_at records j).space.parts ≡ true → i ≡ j
+one_owner records is page i j first second = is.apart (page / 512) i j (owned i first) (owned j second)
+  where
+    owned : (k : ℕ) → list_any (λ p. has_page page p.span) (record_at records k).space.parts ≡ true → owns (page / 512) (space_at (spaces_of records) k) ≡ true
+    owned k has =
+        ap (owns (page / 512)) (space_of_record records k)
+        ∙ page_owned (page / 512) page (record_at records k).space.parts (page_in_chunk page) (any_counts (λ p. has_page page p.span) (record_at records k).space.parts has)

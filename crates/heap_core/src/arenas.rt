@@ -177,10 +177,13 @@ impl Arenas {
         self.records[arena as usize].turn(client, op, asked)
     }
 
-    /// What is always so: no chunk is met by extents of two arenas, and each arena is what its journal leaves of its
-    /// opening, where every entry could stand when it came.
+    /// What is always so: no chunk is met by extents of two arenas, so no page is in two of them, and each arena is what its
+    /// journal leaves of its opening, where every entry could stand when it came.
+    #[tactic(auto, using(crate::proofs::Turned::one_owner))]
     pub fn are_apart(&self)
         ensures apart { Apart (spaces_of self.now) }
+        ensures pages { (page i j : ℕ) → list_any (λ p. has_page page p.span) (record_at self.now i).space.parts ≡ true
+            → list_any (λ p. has_page page p.span) (record_at self.now j).space.parts ≡ true → i ≡ j }
         ensures replayed { (i : ℕ) → i < 32 → IsReplayed i (record_at self.now i).kept (record_at self.now i).space }
     {
         let _records = &self.records;
