@@ -47,7 +47,7 @@ impl<R: Read> Source for ReadEdge<R> {
     }
 }
 
-/// A writer as a sink. It tells what the writer tells.
+/// A writer as a sink. It tells what the writer tells: what waits in a buffered one is held too.
 #[derive(Drop)]
 pub struct WriteEdge<W> {
     inner: W,
@@ -78,5 +78,13 @@ impl<W: Write> Sink for WriteEdge<W> {
             count_fault(&mut self.faults);
         }
         Ok(n)
+    }
+
+    fn flush(&mut self) -> Result<(), Failed> {
+        if self.inner.flush().is_err() {
+            count_fault(&mut self.faults);
+            return Err(Failed);
+        }
+        Ok(())
     }
 }

@@ -1,5 +1,5 @@
 //! A source and a sink that live in memory and fail at planned calls.
-ghost use Rattle.std.specs.Prelude.{◌≡◌, ◌+◌, ◌-◌, ◌^◌, ◌<◌, ◌≤◌, ◌↔◌, ◌||◌, min, [], ◌++◌, length, take, drop, false, true, Some, IfOk, OnOk, OnErr, IsErr, IsTrue};
+ghost use Rattle.std.specs.Prelude.{◌≡◌, ◌+◌, ◌-◌, ◌^◌, ◌<◌, ◌≤◌, ◌↔◌, ◌||◌, min, [], ◌++◌, length, take, drop, false, true, Some, IfOk, OnOk, OnErr, IsErr, IsOk, IsTrue};
 ghost use Rattle.edge_io.specs.Bytes.{Rose, is_end};
 ghost use Rattle.edge_io.specs.Planned.{FailsNext};
 
@@ -82,6 +82,7 @@ impl Source for MemSource {
         ensures failed { OnErr result (Rose self.old.faults self.new.faults) }
         ensures kept { OnErr result (self.new.left ≡ self.old.left) }
         ensures unfailed { OnOk result (self.new.faults ≡ self.old.faults) }
+        ensures by_one { self.new.faults ≤ self.old.faults + 1 }
         ensures counts { self.old.faults ≤ self.new.faults }
         ensures plan { self.new.fail ≡ self.old.fail }
         ensures calls { self.new.calls ≡ min (self.old.calls + 1) (2 ^ 64 - 1) }
@@ -172,6 +173,7 @@ impl Sink for MemSink {
         ensures failed { OnErr result (Rose self.old.faults self.new.faults) }
         ensures kept { OnErr result (self.new.held ≡ self.old.held) }
         ensures unfailed { OnOk result (self.new.faults ≡ self.old.faults) }
+        ensures by_one { self.new.faults ≤ self.old.faults + 1 }
         ensures counts { self.old.faults ≤ self.new.faults }
         ensures plan { self.new.fail ≡ self.old.fail }
         ensures calls { self.new.calls ≡ min (self.old.calls + 1) (2 ^ 64 - 1) }
@@ -181,5 +183,12 @@ impl Sink for MemSink {
             return Err(Failed);
         }
         Ok(piece.len())
+    }
+
+    fn flush(&mut self) -> Result<(), Failed>
+        ensures same { self.new ≡ self.old }
+        ensures ok { IsOk result }
+    {
+        Ok(())
     }
 }

@@ -1,5 +1,5 @@
 //! What a source and a sink promise.
-ghost use Rattle.std.specs.Prelude.{◌≡◌, ℕ, ◌<◌, ◌≤◌, ◌||◌, List, length, take, Option, Bool, IfOk, OnErr};
+ghost use Rattle.std.specs.Prelude.{◌≡◌, ℕ, ◌+◌, ◌<◌, ◌≤◌, ◌⊎◌, ◌||◌, List, length, take, Option, Bool, IfOk, OnOk, OnErr};
 ghost use Rattle.edge_io.specs.Bytes.{Consumes, Appends, Keeps, IsAtEnd, Rose, is_end};
 
 /// A read or a write failed.
@@ -28,6 +28,8 @@ pub trait Source {
         ensures mark { ended self.new ≡ (ended self.old || is_end result (length buf.old)) }
         ensures failed { OnErr result (Rose (faults self.old) (faults self.new)) }
         ensures kept { OnErr result (Keeps (left self.old) (left self.new)) }
+        ensures unfailed { OnOk result (faults self.new ≡ faults self.old) }
+        ensures by_one { faults self.new ≤ faults self.old + 1 }
         ensures counts { faults self.old ≤ faults self.new };
 }
 
@@ -36,7 +38,8 @@ pub trait Sink {
     /// The bytes that the sink holds, where it tells them.
     ghost held: { Self → Option (List ℕ) };
 
-    /// How many writes have failed or taken nothing of a piece that isn't empty, up to the greatest `u64`.
+    /// How many writes and flushes have failed, and how many writes have taken nothing of a piece that isn't empty, up to the
+    /// greatest `u64`.
     ghost faults: { Self → ℕ };
 
     /// Appends the first bytes of the piece, and gives how many they are.
@@ -48,12 +51,25 @@ pub trait Sink {
         ensures nothing { IfOk result (λ n. n ≡ 0 → 0 < length piece.now → Rose (faults self.old) (faults self.new)) }
         ensures failed { OnErr result (Rose (faults self.old) (faults self.new)) }
         ensures kept { OnErr result (Keeps (held self.old) (held self.new)) }
+        ensures unfailed { IfOk result (λ n. 0 < n ⊎ length piece.now ≡ 0 → faults self.new ≡ faults self.old) }
+        ensures by_one { faults self.new ≤ faults self.old + 1 }
+        ensures counts { faults self.old ≤ faults self.new };
+
+    /// Hands on what waits in the sink. What it holds stays, whether or not it waits.
+    ///
+    /// `Failed` comes only where the count of faults rose.
+    fn flush(&mut self) -> Result<(), Failed>
+        ensures kept { Keeps (held self.old) (held self.new) }
+        ensures failed { OnErr result (Rose (faults self.old) (faults self.new)) }
+        ensures unfailed { OnOk result (faults self.new ≡ faults self.old) }
+        ensures by_one { faults self.new ≤ faults self.old + 1 }
         ensures counts { faults self.old ≤ faults self.new };
 }
 
 /// Raises a count of faults, which stays at the greatest `u64`.
 pub(crate) fn count_fault(faults: &mut u64)
     ensures rose { Rose faults.old faults.new }
+    ensures by_one { faults.new ≤ faults.old + 1 }
     ensures counts { faults.old ≤ faults.new }
 {
     *faults = faults.saturating_add(1);
