@@ -1,47 +1,239 @@
 -- The limits that a line keeps to.
-use Rattle.std.proofs.Common.{◌≡◌, ℕ, ◌<◌, Bool, true, false, ltb, eqb, cond, List, [], ◌∷◌, Result, Ok, Err, refl, arith}
-use Rattle.std.specs.Prelude.{IfOk}
-use Rattle.std.proofs.lemmas.Bool.{ltb-false}
+use Rattle.std.proofs.Common.{◌≡◌, ℕ, ℤ, pos, negsuc, ◌^◌, ◌<◌, Bool, true, false, ltb, leb, eqb, cond, List, [], ◌∷◌, Result, Ok, Err, refl, arith}
+use Rattle.std.specs.Prelude.{IfOk, codes}
+use Rattle.std.specs.Str.{bytes_eq}
+use Rattle.std.proofs.lemmas.Bool.{ltb-true, ltb-false}
+use Rattle.space_model.specs.declared.parts.Rest.{Rest}
+use Rattle.space_model.specs.Purging.{is_purgeable}
+use Rattle.space_model.specs.Settings.{is_decay_time}
 use Rattle.trace_text.specs.declared.faults.LineFault.{LineFault}
-use Rattle.trace_text.specs.declared.faults.LineFault.TheVariants.{Words, Threads}
+use Rattle.trace_text.specs.declared.faults.LineFault.TheVariants.{Words, Range}
 use Rattle.trace_text.specs.declared.lines.Verb.{Verb}
+use Rattle.trace_text.specs.declared.lines.Verb.TheVariants.{Free, Publish, Take, Purge, Decay, Reset, Destroy, Create, Bind, Cache, Flush, CtlWrite}
 use Rattle.trace_text.specs.declared.lines.Line.{Line}
-use Rattle.trace_text.specs.declared.lines.Line.TheVariants.{Call}
+use Rattle.trace_text.specs.declared.lines.Line.TheVariants.{Call, Start, Step, End, At, Counts, Phase, Join}
 use Rattle.trace_text.specs.Causes.{◌>>=◌, both, Gives}
 use Rattle.trace_text.specs.Numbers.{decimal_of}
-use Rattle.trace_text.specs.Grammar.{client_of, verb_of, call_of, IsWithinLimits}
+use Rattle.trace_text.specs.Names.{name_of, control_of, value_of}
+use Rattle.trace_text.specs.Ranges.{client_of, box_of, index_of, time_of}
+use Rattle.trace_text.specs.Verbs.{nothing_of, in_one, pointer_of, malloc_of, memalign_of, decay_time_of, switch_of, control_call_of, client_verb_of, arena_verb_of, unused_verb_of, verb_of}
+use Rattle.trace_text.specs.Grammar.{refusals_of, plan_of, client_line_of, setting_of, begins_client, said_of, IsVerbWithinLimits, IsWithinLimits}
 
--- a number that is let through is at most 31
-limited : (t : Bool) (c : ℕ) → ltb 31 c ≡ t → IfOk (cond t (Err Threads) (Ok c)) (λ n. n < 32)
-limited true c e = tt
-limited false c e = let le = ltb-false 31 c e in omega arith
+abbrev IsAny : {A : Type 0} → A → Type 0
+IsAny x = Unit {0}
 
-passed : (r : Result ℕ LineFault) → IfOk (r >>= λ c. cond (ltb 31 c) (Err Threads) (Ok c)) (λ n. n < 32)
-passed (Ok c) = limited (ltb 31 c) c refl
-passed (Err e) = tt
+-- any part keeps to nothing
+kept_any : {A : Type 0} (r : Result A LineFault) → IfOk r IsAny
+kept_any (Ok x) = tt
+kept_any (Err e) = tt
 
-client_by : (t : Bool) (r : Result ℕ LineFault) → IfOk r (λ n. n < 32) → IfOk (cond t r (Err Words)) (λ n. n < 32)
-client_by true r h = h
-client_by false r h = tt
+-- what is made of a part keeps to what follows from what the part keeps to
+kept_on : {A B : Type 0} (P : A → Type 0) (Q : B → Type 0) (r : Result A LineFault) (f : A → Result B LineFault) → IfOk r P → ((x : A) → P x → IfOk (f x) Q) → IfOk (r >>= f) Q
+kept_on P Q (Ok x) f h g = g x h
+kept_on P Q (Err e) f h g = tt
 
-client_below : (word : List ℕ) → IfOk (client_of word) (λ n. n < 32)
+-- two parts keep to what each keeps to
+kept_both : {A B : Type 0} (P : A → Type 0) (Q : B → Type 0) (a : Result A LineFault) (b : Result B LineFault) → IfOk a P → IfOk b Q → IfOk (both a b) (λ p. P p.0 × Q p.1)
+unfolding both
+kept_both P Q (Ok a) (Ok b) h k = (h, k)
+kept_both P Q (Ok a) (Err f) h k = tt
+kept_both P Q (Err e) (Ok b) h k = tt
+kept_both P Q (Err e) (Err f) h k = tt
+
+-- either way of a test
+kept_if : {A : Type 0} (P : A → Type 0) (t : Bool) (a b : Result A LineFault) → (t ≡ true → IfOk a P) → (t ≡ false → IfOk b P) → IfOk (cond t a b) P
+kept_if P true a b h k = h refl
+kept_if P false a b h k = k refl
+
+kept_either : {A : Type 0} (P : A → Type 0) (t : Bool) (a b : Result A LineFault) → IfOk a P → IfOk b P → IfOk (cond t a b) P
+kept_either P true a b h k = h
+kept_either P false a b h k = k
+
+-- the only word
+kept_one : {A : Type 0} (P : A → Type 0) (f : List ℕ → Result A LineFault) (words : List (List ℕ)) → ((word : List ℕ) → IfOk (f word) P) → IfOk (in_one f words) P
+kept_one P f [] h = tt
+kept_one P f (word ∷ []) h = h word
+kept_one P f (word ∷ next ∷ words) h = tt
+
+abbrev IsBelow : ℕ → ℕ → Type 0
+IsBelow limit n = n < limit
+
+abbrev IsTime : ℤ → Type 0
+IsTime ms = is_decay_time ms ≡ true
+
+client_below : (word : List ℕ) → IfOk (client_of word) (IsBelow 32)
 unfolding client_of
 client_below [] = tt
-client_below (b ∷ digits) = client_by (eqb b 116) _ (passed (decimal_of digits))
+client_below (b ∷ digits) =
+    kept_either (IsBelow 32) (eqb b 116) _ _
+    (kept_on IsAny (IsBelow 32) (decimal_of digits) _ (kept_any (decimal_of digits)) (λ c _. kept_if (IsBelow 32) (ltb 31 c) _ _ (λ _. tt) (λ e. let le = ltb-false 31 c e in omega arith)))
+    tt
 
-call_by : (c : Result ℕ LineFault) (v : Result Verb LineFault) → IfOk c (λ n. n < 32) → IfOk (both c v >>= λ p. Ok (Call p.0 p.1)) IsWithinLimits
-unfolding both
-call_by (Ok c) (Ok v) h = h
-call_by (Ok c) (Err f) h = tt
-call_by (Err e) (Ok v) h = tt
-call_by (Err e) (Err f) h = tt
+box_below : (word : List ℕ) → IfOk (box_of word) (IsBelow 32)
+unfolding box_of
+box_below word =
+    kept_on IsAny (IsBelow 32) (decimal_of word) _ (kept_any (decimal_of word)) (λ b _. kept_if (IsBelow 32) (ltb 31 b) _ _ (λ _. tt) (λ e. let le = ltb-false 31 b e in omega arith))
 
-call_within : (words : List (List ℕ)) → IfOk (call_of words) IsWithinLimits
-unfolding call_of
-call_within [] = tt
-call_within (client ∷ call) = call_by (client_of client) (verb_of call) (client_below client)
+index_below : (word : List ℕ) → IfOk (index_of word) (IsBelow (2 ^ 32))
+unfolding index_of
+index_below word =
+    kept_on IsAny (IsBelow (2 ^ 32)) (decimal_of word) _ (kept_any (decimal_of word)) (λ i _. kept_if (IsBelow (2 ^ 32)) (ltb i (2 ^ 32)) _ _ (λ e. ltb-true i (2 ^ 32) e) (λ _. tt))
+
+time_within : (word : List ℕ) → IfOk (time_of word) IsTime
+unfolding time_of
+time_within word =
+    kept_either IsTime (bytes_eq word (codes "-1")) (Ok (negsuc 0)) _ refl
+    (kept_on IsAny IsTime (decimal_of word) _ (kept_any (decimal_of word)) (λ ms _. kept_if IsTime (leb ms 1000000000) (Ok (pos ms)) (Err Range) (λ e. e) (λ _. tt)))
+
+-- a call that keeps to nothing
+free_call : {A : Type 0} (make : A → Verb) → ((x : A) → IsVerbWithinLimits (make x)) → (r : Result A LineFault) → IfOk (r >>= λ x. Ok (make x)) IsVerbWithinLimits
+free_call make h r = kept_on IsAny IsVerbWithinLimits r _ (kept_any r) (λ x _. h x)
+
+-- a call of an arena
+index_call : (make : ℕ → Verb) → ((i : ℕ) → i < 2 ^ 32 → IsVerbWithinLimits (make i)) → (words : List (List ℕ)) → IfOk (in_one index_of words >>= λ i. Ok (make i)) IsVerbWithinLimits
+index_call make h words =
+    kept_on (IsBelow (2 ^ 32)) IsVerbWithinLimits (in_one index_of words) _ (kept_one (IsBelow (2 ^ 32)) index_of words index_below) h
+
+create_call : (words : List (List ℕ)) → IfOk (in_one box_of words >>= λ b. Ok (Create b)) IsVerbWithinLimits
+create_call words =
+    kept_on (IsBelow 32) IsVerbWithinLimits (in_one box_of words) _ (kept_one (IsBelow 32) box_of words box_below) (λ b h. h)
+
+malloc_within : (words : List (List ℕ)) → IfOk (malloc_of words) IsVerbWithinLimits
+unfolding malloc_of
+malloc_within [] = tt
+malloc_within (name ∷ []) = tt
+malloc_within (name ∷ size ∷ []) = free_call _ (λ p. tt) (both (name_of name) (decimal_of size))
+malloc_within (name ∷ size ∷ more ∷ words) = tt
+
+memalign_within : (words : List (List ℕ)) → IfOk (memalign_of words) IsVerbWithinLimits
+unfolding memalign_of
+memalign_within [] = tt
+memalign_within (name ∷ []) = tt
+memalign_within (name ∷ align ∷ []) = tt
+memalign_within (name ∷ align ∷ size ∷ []) =
+    free_call _ (λ p. tt) (both (name_of name) (both (decimal_of align) (decimal_of size)))
+memalign_within (name ∷ align ∷ size ∷ more ∷ words) = tt
+
+decay_time_within : (rest : Rest) (words : List (List ℕ)) → is_purgeable rest ≡ true → IfOk (decay_time_of rest words) IsVerbWithinLimits
+unfolding decay_time_of
+decay_time_within rest [] purged = tt
+decay_time_within rest (arena ∷ []) purged = tt
+decay_time_within rest (arena ∷ ms ∷ []) purged =
+    kept_on (λ p. IsBelow (2 ^ 32) p.0 × IsTime p.1) IsVerbWithinLimits (both (index_of arena) (time_of ms)) _
+    (kept_both (IsBelow (2 ^ 32)) IsTime (index_of arena) (time_of ms) (index_below arena) (time_within ms))
+    (λ p h. (h.0, h.1, purged))
+decay_time_within rest (arena ∷ ms ∷ more ∷ words) purged = tt
+
+switch_within : (word : List ℕ) → IfOk (switch_of word) IsVerbWithinLimits
+unfolding switch_of
+switch_within word =
+    kept_either IsVerbWithinLimits (bytes_eq word (codes "on")) (Ok (Cache true)) _ tt
+    (kept_either IsVerbWithinLimits (bytes_eq word (codes "off")) (Ok (Cache false)) (Err Words) tt tt)
+
+control_within : (words : List (List ℕ)) → IfOk (control_call_of words) IsVerbWithinLimits
+unfolding control_call_of
+control_within [] = tt
+control_within (name ∷ []) = free_call _ (λ n. tt) (control_of name)
+control_within (name ∷ equals ∷ []) = tt
+control_within (name ∷ equals ∷ value ∷ []) =
+    kept_either IsVerbWithinLimits (bytes_eq equals (codes "=")) _ (Err Words)
+    (free_call (λ p. CtlWrite p.0 p.1) (λ p. tt) (both (control_of name) (value_of value))) tt
+control_within (name ∷ equals ∷ value ∷ more ∷ words) = tt
+
+client_verb_within : (word : List ℕ) (arguments : List (List ℕ)) → IfOk (client_verb_of word arguments) IsVerbWithinLimits
+unfolding client_verb_of
+client_verb_within word arguments =
+    kept_either IsVerbWithinLimits (bytes_eq word (codes "cache")) (in_one switch_of arguments) _ (kept_one IsVerbWithinLimits switch_of arguments switch_within)
+    (kept_either IsVerbWithinLimits (bytes_eq word (codes "flush")) (nothing_of arguments >>= λ _. Ok Flush) _ (free_call (λ u. Flush) (λ u. tt) (nothing_of arguments))
+    (kept_either IsVerbWithinLimits (bytes_eq word (codes "ctl")) (control_call_of arguments) (Err Words) (control_within arguments) tt))
+
+arena_verb_within : (word : List ℕ) (arguments : List (List ℕ)) → IfOk (arena_verb_of word arguments) IsVerbWithinLimits
+unfolding arena_verb_of
+arena_verb_within word arguments =
+    kept_either IsVerbWithinLimits (bytes_eq word (codes "reset")) _ _ (index_call Reset (λ i h. h) arguments)
+    (kept_either IsVerbWithinLimits (bytes_eq word (codes "destroy")) _ _ (index_call Destroy (λ i h. h) arguments)
+    (kept_either IsVerbWithinLimits (bytes_eq word (codes "create")) _ _ (create_call arguments)
+    (kept_either IsVerbWithinLimits (bytes_eq word (codes "arena")) _ _ (index_call Bind (λ i h. h) arguments)
+    (client_verb_within word arguments))))
+
+unused_verb_within : (word : List ℕ) (arguments : List (List ℕ)) → IfOk (unused_verb_of word arguments) IsVerbWithinLimits
+unfolding unused_verb_of
+unused_verb_within word arguments =
+    kept_either IsVerbWithinLimits (bytes_eq word (codes "purge")) _ _ (index_call Purge (λ i h. h) arguments)
+    (kept_either IsVerbWithinLimits (bytes_eq word (codes "decay")) _ _ (index_call Decay (λ i h. h) arguments)
+    (kept_either IsVerbWithinLimits (bytes_eq word (codes "dirty")) _ _ (decay_time_within _ arguments refl)
+    (kept_either IsVerbWithinLimits (bytes_eq word (codes "muzzy")) _ _ (decay_time_within _ arguments refl)
+    (arena_verb_within word arguments))))
+
+verb_within : (words : List (List ℕ)) → IfOk (verb_of words) IsVerbWithinLimits
+unfolding verb_of
+verb_within [] = tt
+verb_within (word ∷ arguments) =
+    kept_either IsVerbWithinLimits (bytes_eq word (codes "malloc")) _ _ (malloc_within arguments)
+    (kept_either IsVerbWithinLimits (bytes_eq word (codes "free")) _ _ (free_call Free (λ p. tt) (in_one pointer_of arguments))
+    (kept_either IsVerbWithinLimits (bytes_eq word (codes "memalign")) _ _ (memalign_within arguments)
+    (kept_either IsVerbWithinLimits (bytes_eq word (codes "publish")) _ _ (free_call Publish (λ p. tt) (in_one pointer_of arguments))
+    (kept_either IsVerbWithinLimits (bytes_eq word (codes "take")) _ _ (free_call Take (λ p. tt) (in_one pointer_of arguments))
+    (unused_verb_within word arguments)))))
+
+plan_within : (words : List (List ℕ)) → IfOk (plan_of words) IsWithinLimits
+unfolding plan_of
+plan_within [] = tt
+plan_within (box_no ∷ []) = tt
+plan_within (box_no ∷ kind ∷ []) = tt
+plan_within (box_no ∷ kind ∷ nth ∷ []) =
+    let asks = refusals_of kind nth in
+    kept_on (λ p. IsBelow 32 p.0 × IsAny p.1) IsWithinLimits (both (box_of box_no) asks) _
+    (kept_both (IsBelow 32) IsAny (box_of box_no) asks (box_below box_no) (kept_any asks))
+    (λ p h. h.0)
+plan_within (box_no ∷ kind ∷ nth ∷ more ∷ words) = tt
+
+-- a client and its call, made to a line
+called : (make : ℕ → Verb → Line) → ((c : ℕ) (v : Verb) → c < 32 → IsVerbWithinLimits v → IsWithinLimits (make c v)) → (word : List ℕ) (words : List (List ℕ)) → IfOk (both (client_of word) (verb_of words) >>= λ p. Ok (make p.0 p.1)) IsWithinLimits
+called make h word words =
+    kept_on (λ p. IsBelow 32 p.0 × IsVerbWithinLimits p.1) IsWithinLimits (both (client_of word) (verb_of words)) _
+    (kept_both (IsBelow 32) IsVerbWithinLimits (client_of word) (verb_of words) (client_below word) (verb_within words))
+    (λ p k. h p.0 p.1 k.0 k.1)
+
+-- a client's line with nothing behind it
+alone : (make : ℕ → Line) → ((c : ℕ) → c < 32 → IsWithinLimits (make c)) → (word : List ℕ) (words : List (List ℕ)) → IfOk (nothing_of words >>= λ _. client_of word >>= λ c. Ok (make c)) IsWithinLimits
+alone make h word words =
+    kept_on IsAny IsWithinLimits (nothing_of words) _ (kept_any (nothing_of words))
+    (λ _ _. kept_on (IsBelow 32) IsWithinLimits (client_of word) _ (client_below word) h)
+
+client_line_within : (client : List ℕ) (words : List (List ℕ)) → IfOk (client_line_of client words) IsWithinLimits
+unfolding client_line_of
+client_line_within client [] = tt
+client_line_within client (word ∷ words) =
+    kept_either IsWithinLimits (bytes_eq word (codes "step")) _ _ (alone Step (λ c h. h) client words)
+    (kept_either IsWithinLimits (bytes_eq word (codes "end")) _ _ (alone End (λ c h. h) client words)
+    (kept_either IsWithinLimits (bytes_eq word (codes "call")) _ _ (called Start (λ c v h k. (h, k)) client words)
+    (called Call (λ c v h k. (h, k)) client (word ∷ words))))
+
+-- a line that keeps to nothing
+free_line : {A : Type 0} (make : A → Line) → ((x : A) → IsWithinLimits (make x)) → (r : Result A LineFault) → IfOk (r >>= λ x. Ok (make x)) IsWithinLimits
+free_line make h r = kept_on IsAny IsWithinLimits r _ (kept_any r) (λ x _. h x)
+
+counts_within : (words : List (List ℕ)) → IfOk (in_one index_of words >>= λ i. Ok (Counts i)) IsWithinLimits
+counts_within words =
+    kept_on (IsBelow (2 ^ 32)) IsWithinLimits (in_one index_of words) _ (kept_one (IsBelow (2 ^ 32)) index_of words index_below) (λ i h. h)
+
+setting_within : (word : List ℕ) (words : List (List ℕ)) → IfOk (setting_of word words) IsWithinLimits
+unfolding setting_of
+setting_within word words =
+    kept_either IsWithinLimits (bytes_eq word (codes "at")) _ _ (free_line At (λ n. tt) (in_one decimal_of words))
+    (kept_either IsWithinLimits (bytes_eq word (codes "refuse")) _ _ (plan_within words)
+    (kept_either IsWithinLimits (bytes_eq word (codes "counts")) _ _ (counts_within words)
+    (kept_either IsWithinLimits (bytes_eq word (codes "phase")) _ _ (free_line (λ u. Phase) (λ u. tt) (nothing_of words))
+    (kept_either IsWithinLimits (bytes_eq word (codes "join")) _ (Err Words) (free_line (λ u. Join) (λ u. tt) (nothing_of words)) tt))))
+
+said_within : (words : List (List ℕ)) → IfOk (said_of words) IsWithinLimits
+unfolding said_of
+said_within [] = tt
+said_within (word ∷ words) =
+    kept_either IsWithinLimits (begins_client word) _ _ (client_line_within word words) (setting_within word words)
 
 -- what is read of words in the grammar keeps to the limits
-pub within_limits : (words : List (List ℕ)) (r : Result Line LineFault) → Gives r (call_of words) → IfOk r IsWithinLimits
-within_limits words (Ok l) said = let h = call_within words in rw said at h
+pub within_limits : (words : List (List ℕ)) (r : Result Line LineFault) → Gives r (said_of words) → IfOk r IsWithinLimits
+within_limits words (Ok l) said = let h = said_within words in rw said at h
 within_limits words (Err e) said = tt

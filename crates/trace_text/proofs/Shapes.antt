@@ -6,7 +6,7 @@ use Rattle.trace_text.specs.declared.lines.Ptr.TheVariants.{Name, At}
 use Rattle.trace_text.specs.Causes.{◌>>=◌}
 use Rattle.trace_text.specs.Numbers.{address_of}
 use Rattle.trace_text.specs.Names.{name_of}
-use Rattle.trace_text.specs.Grammar.{pointer_of}
+use Rattle.trace_text.specs.Verbs.{pointer_of}
 
 -- a word that doesn't begin with `@` is a name
 pub named : (word : List ℕ) → pointwise eqb (take 1 word) (64 ∷ []) ≡ false → pointer_of word ≡ (name_of word >>= λ n. Ok (Name n))

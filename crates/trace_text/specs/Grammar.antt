@@ -1,18 +1,21 @@
 -- The grammar of a line. What a line says is a value, or the first cause for which it isn't read.
-use Rattle.std.specs.Prelude.{◌==◌, ℕ, ◌<◌, Bool, ◌&&◌, List, [], ◌∷◌, nat_lt, nat_le, Result, Ok, Err, if◌then◌else◌, codes}
+use Rattle.std.specs.Prelude.{◌≡◌, ◌==◌, ℕ, ◌^◌, ◌<◌, Bool, true, false, ◌&&◌, List, [], ◌∷◌, nat_le, Result, Ok, Err, if◌then◌else◌, codes}
 use Rattle.std.specs.List.{slice_split, list_all}
 use Rattle.std.specs.Str.{bytes_eq}
+use Rattle.hook_api.specs.declared.plans.Kind.{Kind}
+use Rattle.hook_api.specs.declared.plans.Kind.TheVariants.{Alloc, Dalloc, Commit, Decommit, PurgeLazy, PurgeForced, Split, Merge}
+use Rattle.space_model.specs.Purging.{is_purgeable}
+use Rattle.space_model.specs.Settings.{is_decay_time}
 use Rattle.trace_text.specs.declared.faults.LineFault.{LineFault}
-use Rattle.trace_text.specs.declared.faults.LineFault.TheVariants.{Bytes, Words, Threads}
-use Rattle.trace_text.specs.declared.lines.Ptr.{Ptr}
-use Rattle.trace_text.specs.declared.lines.Ptr.TheVariants.{Name, At}
+use Rattle.trace_text.specs.declared.faults.LineFault.TheVariants.{Bytes, Words}
 use Rattle.trace_text.specs.declared.lines.Verb.{Verb}
-use Rattle.trace_text.specs.declared.lines.Verb.TheVariants.{Malloc, Free}
+use Rattle.trace_text.specs.declared.lines.Verb.TheVariants.{Malloc, Memalign, Free, Publish, Take, Purge, Decay, Time, Reset, Destroy, Create, Bind, Cache, Flush, CtlPlain, CtlWrite}
 use Rattle.trace_text.specs.declared.lines.Line.{Line}
-use Rattle.trace_text.specs.declared.lines.Line.TheVariants.{Call}
+use Rattle.trace_text.specs.declared.lines.Line.TheVariants.{Blank, Call, Start, Step, End, At, Refuse, Counts, Phase, Join}
 use Rattle.trace_text.specs.Causes.{◌>>=◌, both}
-use Rattle.trace_text.specs.Numbers.{decimal_of, address_of}
-use Rattle.trace_text.specs.Names.{name_of}
+use Rattle.trace_text.specs.Numbers.{decimal_of}
+use Rattle.trace_text.specs.Ranges.{client_of, box_of, index_of, nth_of}
+use Rattle.trace_text.specs.Verbs.{nothing_of, in_one, verb_of}
 
 -- a byte that a line may have
 abbrev pub is_printable : ℕ → Bool
@@ -22,43 +25,103 @@ is_printable b = nat_le 32 b && nat_le b 126
 abbrev pub words_of : List ℕ → List (List ℕ)
 words_of line = slice_split (λ b. b == 32) line
 
--- a client: `t` and its number, at most 31
-unfoldable pub client_of : List ℕ → Result ℕ LineFault
-client_of [] = Err Words
-client_of (b ∷ digits) = if b == 116 then (decimal_of digits >>= λ c. if nat_lt 31 c then Err Threads else Ok c) else Err Words
+-- a line that says nothing: the empty one, or a comment, which begins with `#`
+abbrev pub is_blank : List ℕ → Bool
+is_blank [] = true
+is_blank (b ∷ bytes) = b == 35
 
--- what a call names its region by: `@` and an address, or a name
-unfoldable pub pointer_of : List ℕ → Result Ptr LineFault
-pointer_of [] = Err Words
-pointer_of (b ∷ digits) = if b == 64 then (address_of digits >>= λ a. Ok (At a)) else (name_of (b ∷ digits) >>= λ n. Ok (Name n))
+-- a kind of asks about what a range holds
+unfoldable pub holding_kind_of : List ℕ → Result Kind LineFault
+holding_kind_of word =
+    if bytes_eq word (codes "commit") then Ok Commit
+    else (if bytes_eq word (codes "decommit") then Ok Decommit
+    else (if bytes_eq word (codes "purge_lazy") then Ok PurgeLazy
+    else (if bytes_eq word (codes "purge_forced") then Ok PurgeForced
+    else Err Words)))
 
--- the arguments of a malloc: NAME N
-unfoldable pub malloc_of : List (List ℕ) → Result Verb LineFault
-malloc_of (name ∷ size ∷ []) = both (name_of name) (decimal_of size) >>= λ p. Ok (Malloc p.0 p.1)
-malloc_of _ = Err Words
+-- a kind of asks: one about ranges, or about what a range holds
+unfoldable pub kind_of_word : List ℕ → Result Kind LineFault
+kind_of_word word =
+    if bytes_eq word (codes "alloc") then Ok Alloc
+    else (if bytes_eq word (codes "dalloc") then Ok Dalloc
+    else (if bytes_eq word (codes "split") then Ok Split
+    else (if bytes_eq word (codes "merge") then Ok Merge
+    else holding_kind_of word)))
 
--- the argument of a free: PTR
-unfoldable pub free_of : List (List ℕ) → Result Verb LineFault
-free_of (region ∷ []) = pointer_of region >>= λ p. Ok (Free p)
-free_of _ = Err Words
+-- which asks a plan refuses: KIND N, or KIND all
+unfoldable pub refusals_of : List ℕ → List ℕ → Result (Kind × ℕ) LineFault
+refusals_of kind nth = both (kind_of_word kind) (nth_of nth)
 
--- a call, by its first word
-unfoldable pub verb_of : List (List ℕ) → Result Verb LineFault
-verb_of [] = Err Words
-verb_of (word ∷ arguments) =
-    if bytes_eq word (codes "malloc") then malloc_of arguments
-    else (if bytes_eq word (codes "free") then free_of arguments
-    else Err Words)
+-- a plan of a box: B, and the asks that it refuses
+unfoldable pub plan_of : List (List ℕ) → Result Line LineFault
+plan_of (box_no ∷ kind ∷ nth ∷ []) =
+    both (box_of box_no) (refusals_of kind nth) >>= λ p. Ok (Refuse p.0 p.1.0 p.1.1)
+plan_of _ = Err Words
 
--- the words of a line: a client and its call
-unfoldable pub call_of : List (List ℕ) → Result Line LineFault
-call_of [] = Err Words
-call_of (client ∷ call) = both (client_of client) (verb_of call) >>= λ p. Ok (Call p.0 p.1)
+-- a client's line: its client and, behind it, a step, an end or a call
+unfoldable pub client_line_of : List ℕ → List (List ℕ) → Result Line LineFault
+client_line_of client [] = Err Words
+client_line_of client (word ∷ words) =
+    if bytes_eq word (codes "step") then (nothing_of words >>= λ _. client_of client >>= λ c. Ok (Step c))
+    else (if bytes_eq word (codes "end") then (nothing_of words >>= λ _. client_of client >>= λ c. Ok (End c))
+    else (if bytes_eq word (codes "call") then (both (client_of client) (verb_of words) >>= λ p. Ok (Start p.0 p.1))
+    else (both (client_of client) (verb_of (word ∷ words)) >>= λ p. Ok (Call p.0 p.1))))
+
+-- a line that is no client's, by its first word
+unfoldable pub setting_of : List ℕ → List (List ℕ) → Result Line LineFault
+setting_of word words =
+    if bytes_eq word (codes "at") then (in_one decimal_of words >>= λ n. Ok (At n))
+    else (if bytes_eq word (codes "refuse") then plan_of words
+    else (if bytes_eq word (codes "counts") then (in_one index_of words >>= λ i. Ok (Counts i))
+    else (if bytes_eq word (codes "phase") then (nothing_of words >>= λ _. Ok Phase)
+    else (if bytes_eq word (codes "join") then (nothing_of words >>= λ _. Ok Join)
+    else Err Words))))
+
+-- a word that may name a client: it begins with `t`
+abbrev pub begins_client : List ℕ → Bool
+begins_client [] = false
+begins_client (b ∷ bytes) = b == 116
+
+-- the words of a line
+unfoldable pub said_of : List (List ℕ) → Result Line LineFault
+said_of [] = Err Words
+said_of (word ∷ words) = if begins_client word then client_line_of word words else setting_of word words
 
 -- a line, without its newline
 unfoldable pub line_of : List ℕ → Result Line LineFault
-line_of line = if list_all is_printable line then call_of (words_of line) else Err Bytes
+line_of line =
+    if list_all is_printable line then (if is_blank line then Ok Blank else said_of (words_of line))
+    else Err Bytes
 
--- what every line that is read keeps to: its client is below 32
+-- what every call that is read keeps to: its arena is below 2 ^ 32, its box below 32, and its time one that may be set of
+-- a list that is purged
+abbrev pub IsVerbWithinLimits : Verb → Type 0
+IsVerbWithinLimits (Malloc name size) = Unit {0}
+IsVerbWithinLimits (Memalign name align size) = Unit {0}
+IsVerbWithinLimits (Free region) = Unit {0}
+IsVerbWithinLimits (Publish region) = Unit {0}
+IsVerbWithinLimits (Take region) = Unit {0}
+IsVerbWithinLimits (Purge arena) = arena < 2 ^ 32
+IsVerbWithinLimits (Decay arena) = arena < 2 ^ 32
+IsVerbWithinLimits (Time arena rest ms) = (arena < 2 ^ 32) × (is_decay_time ms ≡ true) × (is_purgeable rest ≡ true)
+IsVerbWithinLimits (Reset arena) = arena < 2 ^ 32
+IsVerbWithinLimits (Destroy arena) = arena < 2 ^ 32
+IsVerbWithinLimits (Create box_no) = box_no < 32
+IsVerbWithinLimits (Bind arena) = arena < 2 ^ 32
+IsVerbWithinLimits (Cache is_on) = Unit {0}
+IsVerbWithinLimits Flush = Unit {0}
+IsVerbWithinLimits (CtlPlain name) = Unit {0}
+IsVerbWithinLimits (CtlWrite name value) = Unit {0}
+
+-- what every line that is read keeps to: its client and its box are below 32, its arena below 2 ^ 32, and so is its call
 abbrev pub IsWithinLimits : Line → Type 0
-IsWithinLimits (Call client verb) = client < 32
+IsWithinLimits Blank = Unit {0}
+IsWithinLimits (Call client verb) = (client < 32) × IsVerbWithinLimits verb
+IsWithinLimits (Start client verb) = (client < 32) × IsVerbWithinLimits verb
+IsWithinLimits (Step client) = client < 32
+IsWithinLimits (End client) = client < 32
+IsWithinLimits (At moment) = Unit {0}
+IsWithinLimits (Refuse box_no kind nth) = box_no < 32
+IsWithinLimits (Counts arena) = arena < 2 ^ 32
+IsWithinLimits Phase = Unit {0}
+IsWithinLimits Join = Unit {0}

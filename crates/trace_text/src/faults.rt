@@ -24,7 +24,8 @@ pub enum LineFault {
     /// A client above 31.
     #[error("a client above 31")]
     Threads,
-    /// A number outside the range of its place in the line. No line that is read now has such a place.
+    /// A number outside the range of its place in the line: a box above 31, an arena of 2^32 or more, a time above
+    /// 1000000000 milliseconds, or 0 where the refusals of a plan are counted from 1.
     #[error("a number outside its range")]
     Range,
 }

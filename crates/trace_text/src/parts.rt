@@ -3,10 +3,11 @@
 ghost use Rattle.std.specs.Prelude.{◌≡◌, ◌+◌, ◌*◌, ◌^◌, ◌<◌, ◌≤◌, Result};
 ghost use Rattle.trace_text.specs.Causes.{first_cause, both, Gives};
 ghost use Rattle.trace_text.specs.Numbers.{is_decimal, is_hexadecimal, value_in, number_in, decimal_of, address_of, is_lower_hex};
-ghost use Rattle.trace_text.specs.Names.{is_name_byte, is_name, name_of};
+ghost use Rattle.trace_text.specs.Names.{is_name_byte, is_name, name_of, is_control_byte, is_control, control_of, value_of};
 ghost use Rattle.std.specs.Char.{digit_value, is_ascii_digit};
 ghost use Rattle.std.specs.List.{list_all};
 ghost use Rattle.std.specs.Option.{SomeIff};
+ghost use Rattle.std.specs.Str.{bytes_eq};
 ghost use Rattle.std.specs.Str.Parse.{AllDigits};
 
 use crate::{LineFault, Name};
@@ -14,6 +15,10 @@ use std::alloc::Global;
 
 /// How many bytes a region's name has at most.
 const NAME_LIMIT: usize = 32;
+/// How many bytes a control's name has at most.
+const CONTROL_LIMIT: usize = 100;
+/// How many bytes the value of a control has at most.
+const VALUE_LIMIT: usize = 20;
 /// How many hexadecimal digits an address has at most.
 const ADDRESS_DIGITS: usize = 16;
 
@@ -23,7 +28,8 @@ pub fn both_parts<A: Drop, B: Drop>(
     a: Result<A, LineFault>,
     b: Result<B, LineFault>,
 ) -> Result<(A, B), LineFault>
-    ensures { (x : Result A LineFault) (y : Result B LineFault) → Gives a x → Gives b y → Gives result (both x y) }
+    ensures same { result ≡ both a b }
+    ensures given { (x : Result A LineFault) (y : Result B LineFault) → Gives a x → Gives b y → Gives result (both x y) }
 {
     match (a, b) {
         (Ok(a), Ok(b)) => Ok((a, b)),
@@ -36,6 +42,13 @@ fn first_fault(a: LineFault, b: LineFault) -> LineFault
     ensures { result ≡ first_cause a b }
 {
     if a as u8 <= b as u8 { a } else { b }
+}
+
+/// Whether a word is this text.
+pub fn is(word: &[u8], text: &str) -> bool
+    ensures { result ≡ bytes_eq word.now text.now }
+{
+    word == text.as_bytes()
 }
 
 /// The name of a region: a lower-case letter and up to 31 lower-case letters, digits or `_`.
@@ -68,6 +81,40 @@ fn is_name_byte(byte: u8) -> bool
     ensures { result ≡ is_name_byte byte }
 {
     byte.is_ascii_lowercase() || byte.is_ascii_digit() || byte == b'_'
+}
+
+/// The name of a control: 1 to 100 lower-case letters, digits, `_` and `.`.
+#[tactic(auto, unfolding(crate::specs::Names::control_of))]
+pub fn control(alloc: Global, word: &[u8]) -> Result<Name, LineFault>
+    ensures { Gives result (control_of word.now) }
+{
+    if !is_control(word) {
+        return Err(LineFault::Words);
+    }
+    Ok(Name::new(alloc, word)?)
+}
+
+fn is_control(word: &[u8]) -> bool
+    ensures { result ≡ is_control word.now }
+{
+    !word.is_empty() && word.len() <= CONTROL_LIMIT && all_control_bytes(word)
+}
+
+fn all_control_bytes(word: &[u8]) -> bool
+    ensures { result ≡ list_all is_control_byte word.now }
+{
+    word.iter().all(|byte| is_name_byte(*byte) || *byte == b'.')
+}
+
+/// What is written to a control: any word of 1 to 20 bytes.
+#[tactic(auto, unfolding(crate::specs::Names::value_of))]
+pub fn written(alloc: Global, word: &[u8]) -> Result<Name, LineFault>
+    ensures { Gives result (value_of word.now) }
+{
+    if word.is_empty() || word.len() > VALUE_LIMIT {
+        return Err(LineFault::Words);
+    }
+    Ok(Name::new(alloc, word)?)
 }
 
 /// A decimal number, of any number of digits.

@@ -3,20 +3,27 @@
 ghost use Rattle.std.specs.Prelude.{◌≡◌, map, IfOk};
 ghost use Rattle.std.specs.List.{list_all};
 ghost use Rattle.trace_text.specs.Causes.{Gives};
-ghost use Rattle.trace_text.specs.Grammar.{is_printable, words_of, client_of, pointer_of, malloc_of, free_of, verb_of, call_of, line_of, IsWithinLimits};
+ghost use Rattle.trace_text.specs.Numbers.{decimal_of};
+ghost use Rattle.trace_text.specs.Verbs.{in_one};
+ghost use Rattle.trace_text.specs.Grammar.{is_printable, words_of, is_blank, holding_kind_of, kind_of_word, refusals_of, plan_of, client_line_of, setting_of, begins_client, said_of, line_of, IsWithinLimits};
 
-use crate::parts::{address, both_parts, decimal, name};
-use crate::{Line, LineFault, Name, Ptr, Verb};
+use crate::parts::{both_parts, decimal, is};
+use crate::ranges::{box_number, client, nth};
+use crate::verbs::{nothing, only_index, verb};
+use crate::{Line, LineFault};
+use hook_api::Kind;
+use smallvec::SmallVec;
 use std::alloc::{AllocError as NoMemory, Global};
 
-/// The highest client.
-const LAST_CLIENT: u64 = 31;
+/// How many words a line has at most, if it has a shape at all. More of them take an allocation.
+const USUAL_WORDS: usize = 6;
 
 /// What a line says, which is given without its newline.
 ///
-/// A line has the shape `tC malloc NAME N` or `tC free PTR`, where C and N are decimal numbers, NAME is a
-/// lower-case letter and up to 31 lower-case letters, digits or `_`, and PTR is a NAME or `@` and an address of 1 to
-/// 16 lower-case hexadecimal digits. An `Err` is the first cause that holds, in the order of `LineFault`. Each but
+/// Its words are parted by exactly one space, and its shape is that of a variant of `Line` or of `Verb`. C, B, I, N and
+/// ALIGN are decimal numbers and MS is one or `-1`. NAME is a lower-case letter and up to 31 lower-case letters, digits
+/// or `_`; of a `ctl` it is 1 to 100 of these or `.`, and VALUE is 1 to 20 bytes. PTR is a NAME or `@` and an address of
+/// 1 to 16 lower-case hexadecimal digits. An `Err` is the first cause that holds, in the order of `LineFault`. Each but
 /// `NoMemory` comes exactly where it holds first.
 #[tactic(auto, unfolding(crate::specs::Grammar::line_of), using(crate::proofs::Limits::within_limits))]
 pub fn read(alloc: Global, line: &[u8]) -> Result<Line, LineFault>
@@ -26,8 +33,11 @@ pub fn read(alloc: Global, line: &[u8]) -> Result<Line, LineFault>
     if !all_printable(line) {
         return Err(LineFault::Bytes);
     }
+    if is_blank(line) {
+        return Ok(Line::Blank);
+    }
     let words = words(alloc, line)?;
-    call(alloc, words.as_slice())
+    said(alloc, words.as_slice())
 }
 
 fn all_printable(line: &[u8]) -> bool
@@ -42,78 +52,138 @@ fn is_printable(byte: u8) -> bool
     (b' '..=b'~').contains(&byte)
 }
 
-fn words(alloc: Global, line: &[u8]) -> Result<Vec<&[u8]>, NoMemory>
+fn is_blank(line: &[u8]) -> bool
+    ensures { result ≡ is_blank line.now }
+{
+    matches!(line, [] | [b'#', ..])
+}
+
+fn words(alloc: Global, line: &[u8]) -> Result<SmallVec<&[u8], USUAL_WORDS>, NoMemory>
     ensures { IfOk result (λ v. map (λ w. w.now) v.items ≡ words_of line.now) }
 {
     line.split(|byte| *byte == b' ').collect(alloc)
 }
 
-#[tactic(auto, unfolding(crate::specs::Grammar::call_of), using(crate::proofs::Causes::both_gives))]
-fn call(alloc: Global, words: &[&[u8]]) -> Result<Line, LineFault>
-    ensures { Gives result (call_of (map (λ w. w.now) words.now)) }
+#[tactic(auto, unfolding(crate::specs::Grammar::said_of))]
+fn said(alloc: Global, words: &[&[u8]]) -> Result<Line, LineFault>
+    ensures { Gives result (said_of (map (λ w. w.now) words.now)) }
 {
-    let [first, rest @ ..] = words else {
+    let [word, words @ ..] = words else {
         return Err(LineFault::Words);
     };
-    let (client, verb) = both_parts(client(first), verb(alloc, rest))?;
-    Ok(Line::Call { client, verb })
+    if begins_client(word) {
+        client_line(alloc, word, words)
+    } else {
+        setting(word, words)
+    }
 }
 
-#[tactic(auto, unfolding(crate::specs::Grammar::verb_of))]
-fn verb(alloc: Global, words: &[&[u8]]) -> Result<Verb, LineFault>
-    ensures { Gives result (verb_of (map (λ w. w.now) words.now)) }
+fn begins_client(word: &[u8]) -> bool
+    ensures { result ≡ begins_client word.now }
 {
-    let [first, arguments @ ..] = words else {
-        return Err(LineFault::Words);
-    };
-    match *first {
-        b"malloc" => malloc(alloc, arguments),
-        b"free" => free(alloc, arguments),
+    matches!(word, [b't', ..])
+}
+
+#[tactic(auto, unfolding(crate::specs::Grammar::setting_of))]
+fn setting(word: &[u8], words: &[&[u8]]) -> Result<Line, LineFault>
+    ensures { Gives result (setting_of word.now (map (λ w. w.now) words.now)) }
+{
+    if is(word, "at") {
+        Ok(Line::At(only_decimal(words)?))
+    } else if is(word, "refuse") {
+        plan(words)
+    } else if is(word, "counts") {
+        Ok(Line::Counts(only_index(words)?))
+    } else if is(word, "phase") {
+        nothing(words)?;
+        Ok(Line::Phase)
+    } else if is(word, "join") {
+        nothing(words)?;
+        Ok(Line::Join)
+    } else {
+        Err(LineFault::Words)
+    }
+}
+
+fn only_decimal(words: &[&[u8]]) -> Result<u64, LineFault>
+    ensures { result ≡ in_one decimal_of (map (λ w. w.now) words.now) }
+{
+    match words {
+        [number] => decimal(number),
         _ => Err(LineFault::Words),
     }
 }
 
-#[tactic(auto, unfolding(crate::specs::Grammar::malloc_of), using(crate::proofs::Causes::both_gives))]
-fn malloc(alloc: Global, arguments: &[&[u8]]) -> Result<Verb, LineFault>
-    ensures { Gives result (malloc_of (map (λ w. w.now) arguments.now)) }
+#[tactic(auto, unfolding(crate::specs::Grammar::plan_of), using(crate::proofs::Causes::both_gives))]
+fn plan(words: &[&[u8]]) -> Result<Line, LineFault>
+    ensures { Gives result (plan_of (map (λ w. w.now) words.now)) }
 {
-    let [region, bytes] = arguments else {
+    let [box_no, kind, which] = words else {
         return Err(LineFault::Words);
     };
-    let (name, size) = both_parts(name(alloc, region), decimal(bytes))?;
-    Ok(Verb::Malloc { name, size })
+    let (box_no, (kind, nth)) = both_parts(box_number(box_no), refusals(kind, which))?;
+    Ok(Line::Refuse { box_no, kind, nth })
 }
 
-#[tactic(auto, unfolding(crate::specs::Grammar::free_of))]
-fn free(alloc: Global, arguments: &[&[u8]]) -> Result<Verb, LineFault>
-    ensures { Gives result (free_of (map (λ w. w.now) arguments.now)) }
+#[tactic(auto, unfolding(crate::specs::Grammar::refusals_of))]
+fn refusals(kind_word: &[u8], which: &[u8]) -> Result<(Kind, u64), LineFault>
+    ensures { result ≡ refusals_of kind_word.now which.now }
 {
-    let [region] = arguments else {
-        return Err(LineFault::Words);
-    };
-    Ok(Verb::Free(pointer(alloc, region)?))
+    both_parts(kind(kind_word), nth(which))
 }
 
-#[tactic(auto, unfolding(crate::specs::Grammar::client_of))]
-fn client(word: &[u8]) -> Result<u32, LineFault>
-    ensures { result ≡ client_of word.now }
+#[tactic(auto, unfolding(crate::specs::Grammar::kind_of_word))]
+fn kind(word: &[u8]) -> Result<Kind, LineFault>
+    ensures { result ≡ kind_of_word word.now }
 {
-    let [b't', digits @ ..] = word else {
-        return Err(LineFault::Words);
-    };
-    let client = decimal(digits)?;
-    if client > LAST_CLIENT {
-        return Err(LineFault::Threads);
+    if is(word, "alloc") {
+        Ok(Kind::Alloc)
+    } else if is(word, "dalloc") {
+        Ok(Kind::Dalloc)
+    } else if is(word, "split") {
+        Ok(Kind::Split)
+    } else if is(word, "merge") {
+        Ok(Kind::Merge)
+    } else {
+        holding_kind(word)
     }
-    Ok(client as u32)
 }
 
-#[tactic(auto, using(crate::proofs::Shapes::pointers))]
-fn pointer(alloc: Global, word: &[u8]) -> Result<Ptr, LineFault>
-    ensures { Gives result (pointer_of word.now) }
+#[tactic(auto, unfolding(crate::specs::Grammar::holding_kind_of))]
+fn holding_kind(word: &[u8]) -> Result<Kind, LineFault>
+    ensures { result ≡ holding_kind_of word.now }
 {
-    match word.strip_prefix(b"@".as_slice()) {
-        Some(digits) => Ok(Ptr::At(address(digits)?)),
-        None => Ok(Ptr::Name(name(alloc, word)?)),
+    if is(word, "commit") {
+        Ok(Kind::Commit)
+    } else if is(word, "decommit") {
+        Ok(Kind::Decommit)
+    } else if is(word, "purge_lazy") {
+        Ok(Kind::PurgeLazy)
+    } else if is(word, "purge_forced") {
+        Ok(Kind::PurgeForced)
+    } else {
+        Err(LineFault::Words)
+    }
+}
+
+#[tactic(auto, unfolding(crate::specs::Grammar::client_line_of), using(crate::proofs::Causes::both_gives))]
+fn client_line(alloc: Global, first: &[u8], words: &[&[u8]]) -> Result<Line, LineFault>
+    ensures { Gives result (client_line_of first.now (map (λ w. w.now) words.now)) }
+{
+    let [word, rest @ ..] = words else {
+        return Err(LineFault::Words);
+    };
+    if is(word, "step") {
+        nothing(rest)?;
+        Ok(Line::Step(client(first)?))
+    } else if is(word, "end") {
+        nothing(rest)?;
+        Ok(Line::End(client(first)?))
+    } else if is(word, "call") {
+        let (client, verb) = both_parts(client(first), verb(alloc, rest))?;
+        Ok(Line::Start { client, verb })
+    } else {
+        let (client, verb) = both_parts(client(first), verb(alloc, words))?;
+        Ok(Line::Call { client, verb })
     }
 }

@@ -3,8 +3,11 @@
 ghost use Rattle.std.specs.Prelude.{◌≤◌, length};
 
 use crate::{Line, LineFault, Name, Ptr, Verb, read};
+use hook_api::Kind;
+use space_model::Rest;
 use std::alloc::{AllocError, Global};
 use std::collections::HashMap;
+use std::process::Abort;
 use std::test::Fail;
 
 fn malloc(alloc: Global, client: u32, name: &[u8], size: u64) -> Result<Line, AllocError>
@@ -18,107 +21,176 @@ fn malloc(alloc: Global, client: u32, name: &[u8], size: u64) -> Result<Line, Al
 }
 
 fn free(client: u32, region: Ptr) -> Line {
-    Line::Call {
-        client,
-        verb: Verb::Free(region),
-    }
+    call(client, Verb::Free(region))
+}
+
+fn call(client: u32, verb: Verb) -> Line {
+    Line::Call { client, verb }
+}
+
+fn time(arena: u32, rest: Rest, ms: i64) -> Line {
+    call(0, Verb::Time { arena, rest, ms })
+}
+
+fn refuse(box_no: u32, kind: Kind, nth: u64) -> Line {
+    Line::Refuse { box_no, kind, nth }
+}
+
+/// Checks what a line says.
+fn says(rt: &impl Abort, alloc: Global, line: &[u8], said: Line) -> Result<(), Fail> {
+    assert_eq!(rt; read(alloc, line), Ok(said));
+    Ok(())
 }
 
 #[test]
 fn lines_say_their_calls(rt: HostRuntime) -> Result<(), Fail> {
     let alloc = rt.alloc();
-    let mallocs: [(&[u8], u32, &[u8], u64); 6] = [
-        (b"t0 malloc a 20000", 0, b"a", 20000),
-        (b"t0 malloc b 100", 0, b"b", 100),
-        (b"t0 malloc a 34359738369", 0, b"a", 34359738369),
-        (b"t0 malloc z_9 18446744073709551615", 0, b"z_9", u64::MAX),
-        (b"t31 malloc a 0", 31, b"a", 0),
-        (
-            b"t9 malloc a23456789_123456789_123456789_12 1",
-            9,
-            b"a23456789_123456789_123456789_12",
-            1,
-        ),
-    ];
-    for (line, client, name, size) in mallocs {
-        assert!(rt; name.len() <= 100);
-        assert_eq!(rt; read(alloc, line), Ok(malloc(alloc, client, name, size)?));
-    }
-    let name = Name::new(alloc, b"malloc".as_slice())?;
+    let line = malloc(alloc, 31, b"z_9", u64::MAX)?;
+    says(&rt, alloc, b"t31 malloc z_9 18446744073709551615", line)?;
+    says(&rt, alloc, b"t0 free @a", free(0, Ptr::At(10)))?;
+    says(
+        &rt,
+        alloc,
+        b"t0 purge 4294967295",
+        call(0, Verb::Purge(u32::MAX)),
+    )?;
+    says(&rt, alloc, b"t0 dirty 0 -1", time(0, Rest::Dirty, -1))?;
+    says(
+        &rt,
+        alloc,
+        b"t0 muzzy 40 1000000000",
+        time(40, Rest::Muzzy, 1_000_000_000),
+    )
+}
+
+#[test]
+fn lines_say_their_settings(rt: HostRuntime) -> Result<(), Fail> {
+    let alloc = rt.alloc();
+    says(&rt, alloc, b"t0 cache off", call(0, Verb::Cache(false)))?;
+    says(
+        &rt,
+        alloc,
+        b"refuse 31 dalloc all",
+        refuse(31, Kind::Dalloc, 0),
+    )?;
+    says(
+        &rt,
+        alloc,
+        b"refuse 0 purge_lazy 2",
+        refuse(0, Kind::PurgeLazy, 2),
+    )?;
+    says(&rt, alloc, b"counts 4294967295", Line::Counts(u32::MAX))?;
+    says(&rt, alloc, b"at 0", Line::At(0))
+}
+
+#[test]
+fn lines_say_their_steps(rt: HostRuntime) -> Result<(), Fail> {
+    let alloc = rt.alloc();
+    let verb = Verb::Flush;
+    says(
+        &rt,
+        alloc,
+        b"t5 call flush",
+        Line::Start { client: 5, verb },
+    )?;
+    says(&rt, alloc, b"t5 step", Line::Step(5))?;
+    says(&rt, alloc, b"t31 end", Line::End(31))?;
+    says(&rt, alloc, b"phase", Line::Phase)?;
+    says(&rt, alloc, b"#  t0 free  a ", Line::Blank)
+}
+
+fn memalign(alloc: Global, name: &[u8], align: u64, size: u64) -> Result<Line, AllocError>
+    requires { length name.now ≤ 100 }
+{
+    let name = Name::new(alloc, name)?;
+    Ok(call(2, Verb::Memalign { name, align, size }))
+}
+
+fn publish(alloc: Global, name: &[u8]) -> Result<Line, AllocError>
+    requires { length name.now ≤ 100 }
+{
+    let name = Name::new(alloc, name)?;
+    Ok(call(2, Verb::Publish(Ptr::Name(name))))
+}
+
+fn control(alloc: Global, name: &[u8]) -> Result<Line, AllocError>
+    requires { length name.now ≤ 100 }
+{
+    Ok(call(2, Verb::CtlPlain(Name::new(alloc, name)?)))
+}
+
+fn write(alloc: Global, name: &[u8], value: &[u8]) -> Result<Line, AllocError>
+    requires name { length name.now ≤ 100 }
+    requires value { length value.now ≤ 100 }
+{
+    let name = Name::new(alloc, name)?;
+    let value = Name::new(alloc, value)?;
+    Ok(call(2, Verb::CtlWrite { name, value }))
+}
+
+#[test]
+fn memaligns_say_their_name(rt: HostRuntime) -> Result<(), Fail> {
+    let want = memalign(rt.alloc(), b"a_1", 64, 3)?;
+    assert_eq!(rt; read(rt.alloc(), b"t2 memalign a_1 64 3"), Ok(want));
+    Ok(())
+}
+
+#[test]
+fn publishes_say_their_region(rt: HostRuntime) -> Result<(), Fail> {
+    let want = publish(rt.alloc(), b"a")?;
+    assert_eq!(rt; read(rt.alloc(), b"t2 publish a"), Ok(want));
+    Ok(())
+}
+
+#[test]
+fn controls_say_their_name(rt: HostRuntime) -> Result<(), Fail> {
+    let want = control(rt.alloc(), b"arena.0.purge")?;
+    assert_eq!(rt; read(rt.alloc(), b"t2 ctl arena.0.purge"), Ok(want));
+    Ok(())
+}
+
+#[test]
+fn writes_say_their_value(rt: HostRuntime) -> Result<(), Fail> {
+    let want = write(rt.alloc(), b"0._", b"=@A~8901234567890123")?;
     assert_eq!(rt;
-        read(alloc, b"t1 free malloc"),
-        Ok(free(1, Ptr::Name(name)))
+        read(rt.alloc(), b"t2 ctl 0._ = =@A~8901234567890123"),
+        Ok(want)
     );
-    let addresses: [(&[u8], u64); 4] = [
-        (b"t0 free @205008", 0x205008),
-        (b"t0 free @0", 0),
-        (b"t0 free @a", 10),
-        (b"t0 free @ffffffffffffffff", u64::MAX),
-    ];
-    for (line, address) in addresses {
-        assert_eq!(rt; read(alloc, line), Ok(free(0, Ptr::At(address))));
+    Ok(())
+}
+
+/// Checks that each line of a text has this cause.
+fn all_have(rt: &impl Abort, alloc: Global, text: &[u8], fault: LineFault) -> Result<(), Fail> {
+    for line in text.split(|byte| *byte == b'\n') {
+        assert_eq!(rt; read(alloc, line), Err(fault));
     }
     Ok(())
 }
 
 #[test]
-fn other_lines_have_their_causes(rt: HostRuntime) -> Result<(), Fail> {
-    let lines: [(&[u8], LineFault); 47] = [
-        (b"t0 malloc a 1\r", LineFault::Bytes),
-        (b"t0\tfree a", LineFault::Bytes),
-        (b"\x1f", LineFault::Bytes),
-        (b"t32 malloc A 01\x7f", LineFault::Bytes),
-        (b"t0 free \xc3\xa4", LineFault::Bytes),
-        (b"", LineFault::Words),
-        (b" ", LineFault::Words),
-        (b" #", LineFault::Words),
-        (b" t0 free a", LineFault::Words),
-        (b"t0 free a ", LineFault::Words),
-        (b"t0  free a", LineFault::Words),
-        (b"t0", LineFault::Words),
-        (b"t0 free", LineFault::Words),
-        (b"t0 free a b", LineFault::Words),
-        (b"t0 malloc a", LineFault::Words),
-        (b"t0 malloc a 1 1", LineFault::Words),
-        (b"t0 mallocs a 1", LineFault::Words),
-        (b"t0 Free a", LineFault::Words),
-        (b"t free a", LineFault::Words),
-        (b"T0 free a", LineFault::Words),
-        (b"0 free a", LineFault::Words),
-        (b"t-1 free a", LineFault::Words),
-        (b"t0 malloc a +1", LineFault::Words),
-        (b"t0 malloc a 0x10", LineFault::Words),
-        (b"t0 malloc A 1", LineFault::Words),
-        (b"t0 malloc _a 1", LineFault::Words),
-        (b"t0 malloc 1a 1", LineFault::Words),
-        (b"t0 malloc a-b 1", LineFault::Words),
-        (
-            b"t0 malloc a23456789_123456789_123456789_123 1",
-            LineFault::Words,
-        ),
-        (b"t0 malloc @1 1", LineFault::Words),
-        (b"t0 free @", LineFault::Words),
-        (b"t0 free @A", LineFault::Words),
-        (b"t0 free @g", LineFault::Words),
-        (b"t0 free @00000000000000001", LineFault::Words),
-        (b"t00 free A", LineFault::Words),
-        (b"t0 malloc a 01", LineFault::Number),
-        (b"t0 malloc a 00", LineFault::Number),
-        (b"t0 malloc a 18446744073709551616", LineFault::Number),
-        (b"t0 malloc a 0000000000000000000000001", LineFault::Number),
-        (b"t0 free @00", LineFault::Number),
-        (b"t0 free @0000000000000001", LineFault::Number),
-        (b"t00 free a", LineFault::Number),
-        (b"t18446744073709551616 free a", LineFault::Number),
-        (b"t32 malloc a 01", LineFault::Number),
-        (b"t32 malloc a 1", LineFault::Threads),
-        (b"t4294967296 free a", LineFault::Threads),
-        (b"t18446744073709551615 free @1", LineFault::Threads),
-    ];
-    for (line, fault) in lines {
-        assert_eq!(rt; read(rt.alloc(), line), Err(fault));
-    }
-    Ok(())
+fn lines_have_bytes_and_ranges(rt: HostRuntime) -> Result<(), Fail> {
+    let alloc = rt.alloc();
+    let bytes = b"t0\tfree a\n# \x7f\nt32 malloc A 01\x7f";
+    all_have(&rt, alloc, bytes, LineFault::Bytes)?;
+    let threads = b"t32 malloc a 1\nt4294967296 flush\nt32 purge 4294967296";
+    all_have(&rt, alloc, threads, LineFault::Threads)?;
+    let range =
+        b"t0 purge 4294967296\nt0 create 32\nt0 dirty 0 1000000001\nrefuse 0 alloc 0\nrefuse 32 alloc 1";
+    all_have(&rt, alloc, range, LineFault::Range)
+}
+
+#[test]
+fn lines_have_words_and_numbers(rt: HostRuntime) -> Result<(), Fail> {
+    let alloc = rt.alloc();
+    let shapes =
+        b" \n #\nt0  free a\nt0 free a \nt0\nt0 call step\nt0 ctl a = 1 2\nrefuse 0 destroy 1\nphase background 01";
+    all_have(&rt, alloc, shapes, LineFault::Words)?;
+    let words =
+        b"t0 malloc A 1\nt0 malloc a +1\nt0 free @A\nt0 free @00000000000000001\nt0 dirty 0 -2\nt0 realloc a 1";
+    all_have(&rt, alloc, words, LineFault::Words)?;
+    let number =
+        b"t0 malloc a 01\nt0 malloc a 18446744073709551616\nt0 free @00\nt00 flush\nt32 malloc a 01";
+    all_have(&rt, alloc, number, LineFault::Number)
 }
 
 #[test]
