@@ -1,16 +1,20 @@
--- The texts of the answers of calls.
-use Rattle.std.specs.Prelude.{ℕ, List, ◌++◌, codes}
+-- The texts of the answers of calls and of hooks.
+use Rattle.std.specs.Prelude.{ℕ, List, ◌++◌, Option, None, Some, codes}
 use Rattle.std.specs.Fmt.{decimal}
 use Rattle.size_classes.specs.Classes.{size_at}
 use Rattle.space_model.specs.declared.asks.Ask.{Ask}
 use Rattle.space_model.specs.declared.asks.Ask.TheVariants.{Alloc, Dalloc, Destroy, Commit, Decommit, PurgeLazy, PurgeForced, Split, Merge}
+use Rattle.space_model.specs.declared.asks.Answer.{Answer}
+use Rattle.space_model.specs.declared.asks.Answer.TheVariants.{Refused as HookRefused, Done as HookDone, Placed}
 use Rattle.space_model.specs.declared.entries.Why.{Why}
 use Rattle.space_model.specs.declared.entries.Why.TheVariants.{OffSpace, Unaligned, Meets}
-use Rattle.call_plan.specs.declared.needs.Answered.{Answered}
-use Rattle.call_plan.specs.declared.needs.Answered.TheVariants.{Ok, Refused, BadAnswer, TooLarge, NotHeld, NoArena, NoMemory}
-use Rattle.call_plan.specs.declared.needs.Given.{Given}
-use Rattle.call_plan.specs.declared.needs.Given.TheVariants.{Region, Done}
-use Rattle.report_text.specs.Places.{address_text, span_text}
+use Rattle.call_table.specs.declared.needs.Answered.{Answered}
+use Rattle.call_table.specs.declared.needs.Answered.TheVariants.{Ok, Refused, BadAnswer, TooLarge, BadAlign, NotHeld, NoArena, Busy, NoMemory, ArenasFull, Automatic}
+use Rattle.call_table.specs.declared.needs.Given.{Given}
+use Rattle.call_table.specs.declared.needs.Given.TheVariants.{Region, Done, Arena, Limits}
+use Rattle.report_text.specs.declared.heads.Head.{Head}
+use Rattle.report_text.specs.declared.heads.Head.TheVariants.{Take}
+use Rattle.report_text.specs.Places.{address_text, page_text, span_text}
 
 -- the kind of an ask
 abbrev pub kind_text : Ask → List ℕ
@@ -30,10 +34,23 @@ why_text OffSpace = codes "off space"
 why_text Unaligned = codes "unaligned"
 why_text (Meets chunk) = codes "meets " ++ span_text chunk
 
--- what a call gives: a region's address and the size of its class, or nothing
+-- how many pages may stay, or `-` where that wasn't told
+abbrev pub limit_text : Option ℕ → List ℕ
+limit_text None = codes "-"
+limit_text (Some pages) = decimal pages
+
+-- what a call gives: a region's address and the size of its class, an arena's index, the limits of its unused pages, or
+-- nothing
 abbrev pub given_text : Given → List ℕ
 given_text (Region addr class) = address_text addr ++ codes " " ++ decimal (size_at class)
 given_text Done = codes "ok"
+given_text (Arena index) = decimal index
+given_text (Limits dirty muzzy) = codes "dirty " ++ limit_text dirty ++ codes " muzzy " ++ limit_text muzzy
+
+-- what uses an arena that can't be reset or destroyed
+abbrev pub busy_text : ℕ → ℕ → ℕ → List ℕ
+busy_text held flights threads =
+    codes "busy held " ++ decimal held ++ codes " flights " ++ decimal flights ++ codes " threads " ++ decimal threads
 
 -- the answer of a call
 abbrev pub answer_text : Answered → List ℕ
@@ -41,6 +58,21 @@ answer_text (Ok given) = given_text given
 answer_text (Refused asked) = codes "refused " ++ kind_text asked.ask
 answer_text (BadAnswer span why) = codes "bad answer " ++ span_text span ++ codes " " ++ why_text why
 answer_text TooLarge = codes "too large"
+answer_text BadAlign = codes "bad alignment"
 answer_text (NotHeld addr) = codes "not held " ++ address_text addr
 answer_text (NoArena index) = codes "no arena " ++ decimal index
+answer_text (Busy held flights threads) = busy_text held flights threads
 answer_text NoMemory = codes "no memory"
+answer_text ArenasFull = codes "arenas full"
+answer_text Automatic = codes "automatic arena"
+
+-- the answer of the call of this head: a take says nothing of its region
+abbrev pub ended_text : Head → Answered → List ℕ
+ended_text Take (Ok (Region addr class)) = codes "ok"
+ended_text head answered = answer_text answered
+
+-- the answer of a hook: of a range that was placed, where it begins
+abbrev pub said_text : Answer → List ℕ
+said_text HookRefused = codes "refused"
+said_text HookDone = codes "done"
+said_text (Placed first is_committed is_zeroed) = codes "placed " ++ page_text first

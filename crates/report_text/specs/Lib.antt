@@ -1,3 +1,5 @@
 pub mod Places
+pub mod Heads
 pub mod Answers
+pub mod Causes
 pub mod Lines

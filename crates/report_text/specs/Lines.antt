@@ -2,21 +2,37 @@
 use Rattle.std.specs.Prelude.{ℕ, List, [], ◌∷◌, ◌++◌, codes}
 use Rattle.std.specs.Fmt.{decimal}
 use Rattle.space_model.specs.declared.counts.Counts.{Counts}
-use Rattle.call_plan.specs.declared.needs.Answered.{Answered}
-use Rattle.report_text.specs.Answers.{answer_text}
+use Rattle.space_model.specs.declared.asks.Ask.{Ask}
+use Rattle.space_model.specs.declared.asks.Answer.{Answer}
+use Rattle.call_table.specs.declared.needs.Answered.{Answered}
+use Rattle.report_text.specs.declared.heads.Head.{Head}
+use Rattle.report_text.specs.declared.causes.Cause.{Cause}
+use Rattle.report_text.specs.Heads.{head_word, head_name}
+use Rattle.report_text.specs.Answers.{kind_text, ended_text, said_text}
+use Rattle.report_text.specs.Causes.{cause_text}
 
 -- the end of a line
 abbrev pub newline : List ℕ
 newline = 10 ∷ []
 
--- a malloc that has ended: its client, the name and the answer
-unfoldable pub malloc_line : ℕ → List ℕ → Answered → List ℕ
-malloc_line client name answered =
-    codes "t" ++ decimal client ++ codes " malloc " ++ name ++ codes " " ++ answer_text answered ++ newline
+-- a call that has ended: its client, which call it was, and the answer
+unfoldable pub call_line : ℕ → Head → Answered → List ℕ
+call_line client head answered =
+    codes "t" ++ decimal client ++ codes " " ++ head_word head ++ head_name head ++
+    codes " " ++ ended_text head answered ++ newline
 
--- a free that has ended: its client and the answer
-unfoldable pub free_line : ℕ → Answered → List ℕ
-free_line client answered = codes "t" ++ decimal client ++ codes " free " ++ answer_text answered ++ newline
+-- a turn that a client's step took
+unfoldable pub turn_line : ℕ → List ℕ
+turn_line client = codes "t" ++ decimal client ++ codes " turn" ++ newline
+
+-- an ask that a client's step made: its kind and its answer
+unfoldable pub ask_line : ℕ → Ask → Answer → List ℕ
+ask_line client ask answer =
+    codes "t" ++ decimal client ++ codes " ask " ++ kind_text ask ++ codes " " ++ said_text answer ++ newline
+
+-- a step or an end where the client has no open call
+unfoldable pub idle_line : ℕ → List ℕ
+idle_line client = codes "t" ++ decimal client ++ codes " idle" ++ newline
 
 -- the counts of an arena that serve or served regions, in bytes
 unfoldable pub used_text : Counts → List ℕ
@@ -37,17 +53,13 @@ counts_line index counts =
     codes "arena " ++ decimal index ++
     codes " " ++ used_text counts ++ codes " " ++ unused_text counts ++ codes " " ++ mapped_text counts ++ newline
 
+-- what stands in place of the counts of an arena that isn't live
+unfoldable pub no_arena_line : ℕ → List ℕ
+no_arena_line index = codes "no arena " ++ decimal index ++ newline
+
 -- a line of the input that can't be carried out, by its number, and the cause
-unfoldable pub bad_line : ℕ → List ℕ → List ℕ
-bad_line number cause = codes "line " ++ decimal number ++ codes ": " ++ cause ++ newline
-
--- the cause of a line that isn't built yet
-abbrev pub unbuilt : List ℕ
-unbuilt = codes "unbuilt"
-
--- the cause of a line behind the last one that a trace may have
-abbrev pub limit_lines : List ℕ
-limit_lines = codes "limit lines"
+unfoldable pub bad_line : ℕ → Cause → List ℕ
+bad_line number cause = codes "line " ++ decimal number ++ codes ": " ++ cause_text cause ++ newline
 
 -- the word lists that there are
 unfoldable pub usage_line : List ℕ

@@ -1,13 +1,13 @@
-//! The texts of the answers of calls.
+//! The texts of the answers of calls and of hooks.
 
 ghost use Rattle.std.specs.Prelude.{◌≡◌, Some};
 ghost use Rattle.size_classes.specs.Classes.{size_at};
-ghost use Rattle.report_text.specs.Answers.{kind_text, why_text, given_text, answer_text};
+ghost use Rattle.report_text.specs.Answers.{kind_text, why_text, limit_text, given_text, answer_text, said_text};
 
-use crate::places::SpanText;
-use call_plan::{Answered, Given};
+use crate::places::{PageText, SpanText};
+use call_table::{Answered, Given};
 use size_classes::{CLASSES, size_of};
-use space_model::{Ask, Why};
+use space_model::{Answer, Ask, Why};
 use std::fmt;
 
 /// The answer of a call.
@@ -25,9 +25,17 @@ impl fmt::Display for AnswerText {
                 write!(f, "bad answer {} {}", SpanText(span), WhyText(why))
             }
             Answered::TooLarge => f.write_str("too large"),
+            Answered::BadAlign => f.write_str("bad alignment"),
             Answered::NotHeld(addr) => write!(f, "not held @{addr:x}"),
             Answered::NoArena(index) => write!(f, "no arena {index}"),
+            Answered::Busy {
+                held,
+                flights,
+                threads,
+            } => write!(f, "busy held {held} flights {flights} threads {threads}"),
             Answered::NoMemory => f.write_str("no memory"),
+            Answered::ArenasFull => f.write_str("arenas full"),
+            Answered::Automatic => f.write_str("automatic arena"),
         }
     }
 }
@@ -43,6 +51,25 @@ impl fmt::Display for GivenText {
         match self.0 {
             Given::Region { addr, class } => write!(f, "@{addr:x} {}", size(class)),
             Given::Done => f.write_str("ok"),
+            Given::Arena(index) => write!(f, "{index}"),
+            Given::Limits { dirty, muzzy } => {
+                write!(f, "dirty {} muzzy {}", LimitText(dirty), LimitText(muzzy))
+            }
+        }
+    }
+}
+
+/// How many pages may stay, if that was told.
+#[derive(Drop)]
+struct LimitText(Option<u64>);
+
+impl fmt::Display for LimitText {
+    ghost output = { λ limit. Some (limit_text limit.0) };
+
+    fn fmt<W: fmt::Write>(&self, f: &mut fmt::Formatter<W>) -> fmt::Result {
+        match self.0 {
+            Some(pages) => write!(f, "{pages}"),
+            None => f.write_str("-"),
         }
     }
 }
@@ -63,8 +90,24 @@ impl fmt::Display for WhyText {
     }
 }
 
+/// The answer of a hook.
+#[derive(Drop)]
+pub(crate) struct SaidText(pub(crate) Answer);
+
+impl fmt::Display for SaidText {
+    ghost output = { λ said. Some (said_text said.0) };
+
+    fn fmt<W: fmt::Write>(&self, f: &mut fmt::Formatter<W>) -> fmt::Result {
+        match self.0 {
+            Answer::Refused => f.write_str("refused"),
+            Answer::Done => f.write_str("done"),
+            Answer::Placed { first, .. } => write!(f, "placed {}", PageText(first)),
+        }
+    }
+}
+
 /// The kind of an ask.
-fn kind(ask: Ask) -> &'static str
+pub(crate) fn kind(ask: Ask) -> &'static str
     ensures { result.now ≡ kind_text ask }
 {
     match ask {

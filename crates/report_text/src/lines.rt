@@ -1,62 +1,115 @@
-//! The lines of a report.
+//! The lines of a report. Each is written behind what the buffer has. Where memory runs out, its beginning may be there.
 
-ghost use Rattle.std.specs.Prelude.{◌≡◌, IfOk};
-ghost use Rattle.report_text.specs.Lines.{malloc_line, free_line, counts_line, bad_line, usage_line};
+ghost use Rattle.std.specs.Prelude.{◌≡◌, ◌++◌, OnOk, codes};
+ghost use Rattle.report_text.specs.Heads.{head_name};
+ghost use Rattle.report_text.specs.Answers.{ended_text};
+ghost use Rattle.report_text.specs.Lines.{newline, call_line, turn_line, ask_line, idle_line, counts_line, no_arena_line, bad_line, usage_line};
 
-use crate::answers::AnswerText;
+use crate::answers::{AnswerText, SaidText, kind};
 use crate::counts::{MappedText, UnusedText, UsedText};
-use call_plan::Answered;
-use space_model::Counts;
-use std::alloc::{AllocError as NoMemory, Global};
+use crate::heads::word;
+use crate::{Cause, Head};
+use call_table::{Answered, Given};
+use space_model::{Answer, Ask, Counts};
+use std::alloc::AllocError as NoMemory;
+use std::io::{Error, Write};
 
-/// The line of a malloc that has ended: `tC malloc NAME` and its answer.
+/// The line of a call that has ended: `tC`, its first word, the name that it binds, if it does, and its answer.
 ///
-/// A region is `@ADDR SIZE`, with the size of its class in bytes, which is 0 of a class that isn't in the table.
-#[tactic(auto, unfolding(crate::specs::Lines::malloc_line))]
-pub fn malloc_line(
-    alloc: Global,
+/// A region is `@ADDR SIZE`, with the size of its class in bytes, which is 0 of a class that isn't in the table; for
+/// `take` it is `ok`.
+#[tactic(auto, unfolding(crate::specs::Lines::call_line))]
+pub fn call_line(
+    out: &mut Vec<u8>,
     client: u32,
-    name: &[u8],
+    head: Head<'_>,
     answered: &Answered,
-) -> Result<Vec<u8>, NoMemory>
-    ensures { IfOk result (λ line. line.items ≡ malloc_line client name.now answered.now) }
+) -> Result<(), NoMemory>
+    ensures { OnOk result (out.new.items ≡ out.old.items ++ call_line client head.entry answered.now) }
 {
-    let mut line = format!(in alloc; "t{client} malloc ")?.into_bytes();
-    line.extend_from_slice(name)?;
-    let answer = format!(in alloc; " {}\n", AnswerText(*answered))?;
-    line.extend_from_slice(answer.as_bytes())?;
-    Ok(line)
+    write!(out, "t{client} {}", word(head)).map_err(no_memory)?;
+    write_name(out, head)?;
+    write_ended(out, head, answered)
 }
 
-/// The line of a free that has ended: `tC free` and its answer.
-#[tactic(auto, unfolding(crate::specs::Lines::free_line))]
-pub fn free_line(alloc: Global, client: u32, answered: &Answered) -> Result<Vec<u8>, NoMemory>
-    ensures { IfOk result (λ line. line.items ≡ free_line client answered.now) }
+fn write_name(out: &mut Vec<u8>, head: Head<'_>) -> Result<(), NoMemory>
+    ensures { OnOk result (out.new.items ≡ out.old.items ++ head_name head.entry) }
 {
-    let line = format!(in alloc; "t{client} free {}\n", AnswerText(*answered))?;
-    Ok(line.into_bytes())
+    if let Head::Malloc(name) | Head::Memalign(name) = head {
+        out.push(b' ')?;
+        out.extend_from_slice(name)?;
+    }
+    Ok(())
+}
+
+fn write_ended(out: &mut Vec<u8>, head: Head<'_>, answered: &Answered) -> Result<(), NoMemory>
+    ensures { OnOk result (out.new.items ≡ out.old.items ++ (codes " " ++ ended_text head.entry answered.now ++ newline)) }
+{
+    let written = match (head, *answered) {
+        (Head::Take, Answered::Ok(Given::Region { .. })) => writeln!(out, " ok"),
+        (_, answered) => writeln!(out, " {}", AnswerText(answered)),
+    };
+    written.map_err(no_memory)
+}
+
+/// Growing the buffer is all that can fail.
+fn no_memory(_: Error) -> NoMemory {
+    NoMemory
+}
+
+/// The line of a turn that a client's step took: `tC turn`.
+#[tactic(auto, unfolding(crate::specs::Lines::turn_line))]
+pub fn turn_line(out: &mut Vec<u8>, client: u32) -> Result<(), NoMemory>
+    ensures { OnOk result (out.new.items ≡ out.old.items ++ turn_line client) }
+{
+    writeln!(out, "t{client} turn").map_err(no_memory)
+}
+
+/// The line of an ask that a client's step made: `tC ask KIND` and `done`, `refused` or `placed @ADDR`.
+#[tactic(auto, unfolding(crate::specs::Lines::ask_line))]
+pub fn ask_line(out: &mut Vec<u8>, client: u32, ask: Ask, answer: Answer) -> Result<(), NoMemory>
+    ensures { OnOk result (out.new.items ≡ out.old.items ++ ask_line client ask answer) }
+{
+    writeln!(out, "t{client} ask {} {}", kind(ask), SaidText(answer)).map_err(no_memory)
+}
+
+/// The line of a step or an end where the client has no open call: `tC idle`.
+#[tactic(auto, unfolding(crate::specs::Lines::idle_line))]
+pub fn idle_line(out: &mut Vec<u8>, client: u32) -> Result<(), NoMemory>
+    ensures { OnOk result (out.new.items ≡ out.old.items ++ idle_line client) }
+{
+    writeln!(out, "t{client} idle").map_err(no_memory)
 }
 
 /// The count line of an arena: `arena I` and its counts by name, in bytes.
 #[tactic(auto, unfolding(crate::specs::Lines::counts_line))]
-pub fn counts_line(alloc: Global, index: u32, counts: &Counts) -> Result<Vec<u8>, NoMemory>
-    ensures { IfOk result (λ line. line.items ≡ counts_line index counts.now) }
+pub fn counts_line(out: &mut Vec<u8>, index: u32, counts: &Counts) -> Result<(), NoMemory>
+    ensures { OnOk result (out.new.items ≡ out.old.items ++ counts_line index counts.now) }
 {
-    let line = format!(in alloc;
-        "arena {index} {} {} {}\n",
+    writeln!(
+        out,
+        "arena {index} {} {} {}",
         UsedText(counts),
         UnusedText(counts),
         MappedText(counts)
-    )?;
-    Ok(line.into_bytes())
+    )
+    .map_err(no_memory)
+}
+
+/// The line in place of the counts of an arena that isn't live: `no arena I`.
+#[tactic(auto, unfolding(crate::specs::Lines::no_arena_line))]
+pub fn no_arena_line(out: &mut Vec<u8>, index: u32) -> Result<(), NoMemory>
+    ensures { OnOk result (out.new.items ≡ out.old.items ++ no_arena_line index) }
+{
+    writeln!(out, "no arena {index}").map_err(no_memory)
 }
 
 /// The line on a line of the input that can't be carried out: `line N: CAUSE`.
 #[tactic(auto, unfolding(crate::specs::Lines::bad_line))]
-pub fn bad_line(alloc: Global, number: u64, cause: &str) -> Result<Vec<u8>, NoMemory>
-    ensures { IfOk result (λ line. line.items ≡ bad_line number cause.now) }
+pub fn bad_line(out: &mut Vec<u8>, number: u64, cause: Cause) -> Result<(), NoMemory>
+    ensures { OnOk result (out.new.items ≡ out.old.items ++ bad_line number cause) }
 {
-    Ok(format!(in alloc; "line {number}: {cause}\n")?.into_bytes())
+    writeln!(out, "line {number}: {cause}").map_err(no_memory)
 }
 
 /// The line on words that are in no list that there is.

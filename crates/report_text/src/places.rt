@@ -8,7 +8,7 @@ use std::fmt;
 
 /// The address of a page's first byte. It may pass 2^64, so it is printed from the page's own digits.
 #[derive(Drop)]
-struct PageText(u64);
+pub(crate) struct PageText(pub(crate) u64);
 
 impl fmt::Display for PageText {
     ghost output = { λ page. Some (page_text page.0) };

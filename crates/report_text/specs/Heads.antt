@@ -1,0 +1,28 @@
+-- The heads of calls: which call a line is about.
+use Rattle.std.specs.Prelude.{ℕ, List, [], ◌++◌, codes}
+use Rattle.report_text.specs.declared.heads.Head.{Head}
+use Rattle.report_text.specs.declared.heads.Head.TheVariants.{Malloc, Memalign, Free, Publish, Take, Purge, Decay, Dirty, Muzzy, Reset, Destroy, Create, Arena, Cache, Flush}
+
+-- the first word of a call
+abbrev pub head_word : Head → List ℕ
+head_word (Malloc name) = codes "malloc"
+head_word (Memalign name) = codes "memalign"
+head_word Free = codes "free"
+head_word Publish = codes "publish"
+head_word Take = codes "take"
+head_word Purge = codes "purge"
+head_word Decay = codes "decay"
+head_word Dirty = codes "dirty"
+head_word Muzzy = codes "muzzy"
+head_word Reset = codes "reset"
+head_word Destroy = codes "destroy"
+head_word Create = codes "create"
+head_word Arena = codes "arena"
+head_word Cache = codes "cache"
+head_word Flush = codes "flush"
+
+-- the name that a malloc or a memalign binds, behind a space
+abbrev pub head_name : Head → List ℕ
+head_name (Malloc name) = codes " " ++ name.now
+head_name (Memalign name) = codes " " ++ name.now
+head_name head = []
