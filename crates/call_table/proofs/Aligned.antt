@@ -34,7 +34,7 @@ alignment_passes align ((k, power), most) =
     same a b e = grind (arith, nat_tests)
 
 -- what passes the test is one of the powers
-power_of : (align : ℕ) → is_alignment align ≡ true → (k : ℕ) × (k < 31) × (align ≡ 2 ^ k)
+pub power_of : (align : ℕ) → is_alignment align ≡ true → (k : ℕ) × (k < 31) × (align ≡ 2 ^ k)
 unfolding is_alignment
 power_of align passes =
     let (i, k, inside, is, same) = Any-from_list_any (λ k. align == 2 ^ k) (range_with_len 0 31) passes in

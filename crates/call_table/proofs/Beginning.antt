@@ -1,5 +1,5 @@
 -- Each request in range begins with what its first point has to know.
-use Rattle.std.proofs.Common.{ℤ, negsuc, ◌≡◌, ℕ, ◌/◌, ◌*◌, ◌≤◌, ◌<◌, ◌==◌, ◌&&◌, ◌^◌, inl, inr, Bool, true, false, cond, not, min, max, List, [], ◌∷◌, length, take, slice_set, suc, zero, sym, ap, subst, ◌∙◌, Option, None, Some, refl, arith, nat_le, nat_lt, ◌+◌, lt-ltb, le-leb}
+use Rattle.std.proofs.Common.{ℤ, negsuc, ◌≡◌, ℕ, ◌/◌, ◌*◌, ◌≤◌, ◌<◌, ◌==◌, ◌&&◌, ◌^◌, inl, inr, Bool, true, false, cond, not, min, max, List, [], ◌∷◌, length, take, slice_set, suc, zero, sym, ap, ◌∙◌, Option, None, Some, refl, arith, nat_le, nat_lt, ◌+◌, lt-ltb, le-leb}
 use Rattle.std.specs.List.{Contains}
 use Rattle.std.specs.Int.{is_power_of_two}
 use Rattle.std.specs.Ordering.{int_eq}

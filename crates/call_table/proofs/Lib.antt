@@ -14,3 +14,5 @@ pub mod Causes
 pub mod Reasons
 pub mod Credits
 pub mod Rooms
+pub mod Multiples
+pub mod Memaligns

@@ -395,7 +395,7 @@ module _ (desk : DeskFacts) where
   batch_why request items arena None = tt
   batch_why request items arena (Some batch) = tt
 
-  settle_why : (request : Request) (items : List Item) (now : DeskFacts) (arena : ℕ) (next : Next) → NextWhy request items next → NextWhy request items (settle request now arena next).next
+  pub settle_why : (request : Request) (items : List Item) (now : DeskFacts) (arena : ℕ) (next : Next) → NextWhy request items next → NextWhy request items (settle request now arena next).next
   settle_why request items now arena (Go point) why = why
   settle_why request items now arena (Over index point) why = why
   settle_why request items now arena More why = batch_why request items arena (batch_of (going (flushes request) now))
@@ -407,7 +407,7 @@ module _ (desk : DeskFacts) where
   starved_why request items true = last_in items Starved
   starved_why request items false = tt
 
-  step_why : (request : Request) (items : List Item) (c : ℕ) (point : Point) (item : Item) → PointWhy request items point → Came c (Go point) item →
+  pub step_why : (request : Request) (items : List Item) (c : ℕ) (point : Point) (item : Item) → PointWhy request items point → Came c (Go point) item →
       NextWhy request (items ++ item ∷ []) (step point item)
   step_why request items c (Turns point) (Replied reply) why came = turned_why request items point reply why
   step_why request items c (Turns point) Starved why came = starved_why request items (is_marked (op_of point))
@@ -499,7 +499,7 @@ module _ (desk : DeskFacts) where
   publish_why addr None e = (refl, e)
   publish_why addr (Some region) e = tt
 
-  begin_why : (request : Request) → NextWhy request [] (begin_stage request desk).next
+  pub begin_why : (request : Request) → NextWhy request [] (begin_stage request desk).next
   begin_why (Malloc size) = malloc_why size
   begin_why (Memalign align size) = memalign_why align size
   begin_why (Free addr) = free_why addr (held_at addr desk) refl

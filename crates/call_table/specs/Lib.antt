@@ -1,5 +1,6 @@
 pub mod Table
 pub mod Points
+pub mod Reads
 pub mod Desks
 pub mod Runs
 pub mod Needs
@@ -9,3 +10,4 @@ pub mod Laws
 pub mod Rooms
 pub mod Bounds
 pub mod Causes
+pub mod Aligned

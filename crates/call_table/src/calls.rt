@@ -4,9 +4,11 @@ ghost use Rattle.std.specs.Prelude.{◌≡◌, List, ◌∷◌, IfOk, IsOk, OnOk
 ghost use Rattle.call_table.specs.Calls.{HasRoom, moment_of};
 ghost use Rattle.call_table.specs.Desks.{flushes};
 ghost use Rattle.call_table.specs.Points.{IsSizedNext, IsSizedPoint};
-ghost use Rattle.call_table.specs.Needs.{Goes, HasFewAddresses, IsFewAddresses, NeedIs, NeedsWant};
+ghost use Rattle.call_table.specs.Needs.{Goes, HasFewAddresses, IsFewAddresses, IsPlace, NeedIs, NeedsWant};
+ghost use Rattle.call_table.specs.Reads.{aimed, ended_by, taken_next};
 ghost use Rattle.call_table.specs.Runs.{after, begin, run, settle, starved_after, step_next};
 ghost use Rattle.call_table.specs.Table.{op_of, step, want};
+ghost use Rattle.call_table.specs.declared.points.Next.TheVariants.{More};
 
 use crate::{Answered, Item, Need, Next, Point, Request, Turn, TurnPoint};
 use size_classes::Addrs;
@@ -182,7 +184,8 @@ impl Stage {
         next: Next,
         alloc: Global,
     ) -> Result<Stage, NoMemory>
-        ensures { IfOk result (λ at. at ≡ settle request desk.now.facts arena next) }
+        ensures stage { IfOk result (λ at. at ≡ settle request desk.now.facts arena next) }
+        ensures more { OnErr result (next ≡ More) }
     {
         Ok(match next {
             Next::Go(point) => {
@@ -217,6 +220,7 @@ impl Stage {
         requires { IsSizedNext self.next }
         ensures stage { IfOk result (λ at. at ≡ settle request desk.now.facts self.arena (step_next self.next item)) }
         ensures sized { IfOk result (λ at. IsSizedNext at.next) }
+        ensures more { OnErr result (step_next self.next item ≡ More) }
     {
         Stage::settle(request, desk, self.arena, self.next.step(item), alloc)
     }
@@ -287,6 +291,34 @@ impl Call {
         }
     }
 
+    /// Its answer, where it has ended.
+    pub fn answer(&self) -> Option<Answered>
+        ensures answer { result ≡ ended_by self.now.stage.next }
+        ensures place { IsPlace self.now.stage.next }
+    {
+        match &self.stage.next {
+            Next::Ends(answer) => Some(*answer),
+            _ => None,
+        }
+    }
+
+    /// The address of a region of another client, where the call takes that over next to free it.
+    pub fn takes(&self) -> Option<u64>
+        ensures { result ≡ taken_next self.now.stage.next }
+    {
+        match &self.stage.next {
+            Next::Go(Point::Turns(TurnPoint::Owning(addr, true))) => Some(*addr),
+            _ => None,
+        }
+    }
+
+    /// Takes that region over in the arena with this index.
+    pub fn aim(&mut self, arena: u32)
+        ensures { self.new ≡ aimed self.old arena }
+    {
+        self.stage.arena = arena;
+    }
+
     /// Takes in what came of its need, with its client's desk, which is as the call left it but for held regions that others
     /// were given since. The item is one that could come there.
     ///
@@ -299,6 +331,7 @@ impl Call {
         ensures moment { OnOk result (moment_of self.new desk.new.facts ≡ after (moment_of self.old desk.old.facts) item) }
         ensures reads { OnOk result ((items : List Item) → run (moment_of self.old desk.old.facts) (item ∷ items) ≡ run (moment_of self.new desk.new.facts) items) }
         ensures err { OnErr result (moment_of self.new desk.new.facts ≡ starved_after (moment_of self.old desk.old.facts) item) }
+        ensures more { OnErr result (step_next self.old.stage.next item ≡ More) }
         ensures room { HasRoom desk.new.room self.new.stage.next }
     {
         let arena = self.stage.arena;

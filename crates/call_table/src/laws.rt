@@ -4,6 +4,7 @@ ghost use Rattle.call_table.specs.Laws.{BatchesKnow, BeginsKnow, KnowledgeIsOwn,
 ghost use Rattle.call_table.specs.Rooms.{RoomsSuffice};
 ghost use Rattle.call_table.specs.Bounds.{AsksAreFew, MallocsAreShort};
 ghost use Rattle.call_table.specs.Causes.{AnswersHaveCauses};
+ghost use Rattle.call_table.specs.Aligned.{MemalignsAreAligned};
 
 /// What a call knows at the point where it begins: its client has nothing in flight, and holds the regions that it gives
 /// back.
@@ -48,6 +49,12 @@ pub fn asks_are_few()
 /// published; a refused ask that was needed; a bad range that its alloc placed, and what speaks against it.
 pub fn answers_have_causes()
     ensures { AnswersHaveCauses }
+{}
+
+/// A memalign that answers a region gives one of the class for its size and alignment, at an address that is a multiple of the
+/// alignment asked, wherever the region comes from: the cache, a slab, or an extent that landed.
+pub fn memaligns_are_aligned()
+    ensures { MemalignsAreAligned }
 {}
 
 /// Whoever has the room that is needed at a point has it wherever the call goes: a turn that takes memory makes room for

@@ -16,4 +16,4 @@ returns-clause-sized c =
     where_ok c.settle.result _ (λ at. IsSizedNext at.next)
     (λ at same. subst (λ (a : Stage). IsSizedNext a.next) (sym (same ∙ ap (settle c.args.request desk c.args.self.arena) c.step.ensures))
     (settle_few c.args.request desk c.args.self.arena (step_next c.args.self.next c.args.item) (next_few c.args.self.next c.args.item c.requires)))
-    c.settle.ensures
+    c.settle.ensures.stage

@@ -1,0 +1,23 @@
+-- Where the region of a memalign stands.
+use Rattle.std.specs.Prelude.{◌≡◌, ℕ, ◌%◌, List, All}
+use Rattle.size_classes.specs.Classes.{IsSmall, align_at, aligned_for}
+use Rattle.thread_cache.specs.declared.Held.{Held}
+use Rattle.thread_cache.specs.Caches.{cached_in}
+use Rattle.thread_cache.specs.Desks.{DeskFacts}
+use Rattle.call_table.specs.declared.needs.Answered.TheVariants.{Ok}
+use Rattle.call_table.specs.declared.needs.Given.TheVariants.{Region}
+use Rattle.call_table.specs.declared.needs.Item.{Item}
+use Rattle.call_table.specs.declared.needs.Request.TheVariants.{Memalign}
+use Rattle.call_table.specs.declared.points.Next.TheVariants.{Ends}
+use Rattle.call_table.specs.Runs.{begin, run}
+use Rattle.call_table.specs.Causes.{AllCame}
+
+-- each cached region of a small class stands at a multiple of the class's alignment
+abbrev pub IsCacheAligned : DeskFacts → Type 0
+IsCacheAligned desk = (class : ℕ) → IsSmall class → All (λ (region : Held). region.addr % align_at class ≡ 0) (cached_in desk.cached class)
+
+-- a memalign that answers a region gives one of the class for its size and alignment, at a multiple of that alignment
+abbrev pub MemalignsAreAligned : Type 0
+MemalignsAreAligned = (c align size : ℕ) (desk : DeskFacts) (items : List Item) (addr class : ℕ) → IsCacheAligned desk
+    → AllCame c (begin (Memalign align size) desk) items → (run (begin (Memalign align size) desk) items).stage.next ≡ Ends (Ok (Region addr class))
+    → (class ≡ aligned_for size align) × (addr % align ≡ 0)

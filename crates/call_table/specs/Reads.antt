@@ -1,0 +1,22 @@
+-- What is read of a call, and where a call is aimed that takes a region over.
+use Rattle.std.specs.Prelude.{ℕ, true, Option, None, Some}
+use Rattle.call_table.specs.declared.needs.Answered.{Answered}
+use Rattle.call_table.specs.declared.points.TurnPoint.TheVariants.{Owning}
+use Rattle.call_table.specs.declared.points.Point.TheVariants.{Turns}
+use Rattle.call_table.specs.declared.points.Next.{Next}
+use Rattle.call_table.specs.declared.points.Next.TheVariants.{Go, Ends}
+use Rattle.call_table.specs.Calls.{CallFacts}
+
+-- the answer of a call that has ended
+abbrev pub ended_by : Next → Option Answered
+ended_by (Ends answer) = Some answer
+ended_by next = None
+
+-- the address of a region of another client that a call takes over next to free it
+abbrev pub taken_next : Next → Option ℕ
+taken_next (Go (Turns (Owning addr true))) = Some addr
+taken_next next = None
+
+-- the call takes the region over in the arena with this index
+abbrev pub aimed : CallFacts → ℕ → CallFacts
+aimed call arena = record call { stage = record { arena = arena; next = call.stage.next } }
