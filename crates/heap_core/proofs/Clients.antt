@@ -9,7 +9,7 @@ use Rattle.space_model.specs.declared.asks.Heard.{Heard}
 use Rattle.space_model.specs.declared.spaces.Space.{Space}
 use Rattle.space_model.specs.Own.{mine}
 use Rattle.space_model.specs.Sound.{Sound}
-use Rattle.space_model.specs.Step.{op_stands, step_of}
+use Rattle.space_model.specs.Step.{op_stands, stands, step_of}
 use Rattle.space_model.proofs.Pieces.{both_true}
 use Rattle.space_model.proofs.Steps.{op_keeps}
 use Rattle.hook_api.specs.Asked.{AskFacts, heard_in}
@@ -40,14 +40,14 @@ use Rattle.heap_core.proofs.Turned.{replayed_sound}
 
 -- ---- the arena of a turn, and the others
 
-there_is : (records : List Record) (arena : ℕ) (new : Record) → IsArenas records → arena < 32 → record_at (slice_set records arena new) arena ≡ new
+pub there_is : (records : List Record) (arena : ℕ) (new : Record) → IsArenas records → arena < 32 → record_at (slice_set records arena new) arena ≡ new
 there_is records arena new is there = get_or-set_same records arena new no_record (omega (arith, there, is.number))
 
-elsewhere_is : (records : List Record) (arena i : ℕ) (new : Record) → i ≢ arena → record_at (slice_set records arena new) i ≡ record_at records i
+pub elsewhere_is : (records : List Record) (arena i : ℕ) (new : Record) → i ≢ arena → record_at (slice_set records arena new) i ≡ record_at records i
 elsewhere_is records arena i new other = get_or-set_other records arena i new no_record other
 
 -- what is so of a value in each arena that a turn leaves alone, and of the one that it leaves in its own
-by_arena : (records : List Record) (arena : ℕ) (new : Record) (P : ℕ → Record → Type 0) → IsArenas records → arena < 32 → P arena new → ((i : ℕ) → i ≢ arena → P i (record_at records i)) →
+pub by_arena : (records : List Record) (arena : ℕ) (new : Record) (P : ℕ → Record → Type 0) → IsArenas records → arena < 32 → P arena new → ((i : ℕ) → i ≢ arena → P i (record_at records i)) →
     (i : ℕ) → P i (record_at (slice_set records arena new) i)
 by_arena records arena new P is there own others i = by (arena == i) refl
   where
@@ -57,8 +57,17 @@ by_arena records arena new P is there own others i = by (arena == i) refl
 
 -- ---- other clients
 
-sound_at : (records : List Record) (i : ℕ) → IsArenas records → i < 32 → Sound (record_at records i).space
+pub sound_at : (records : List Record) (i : ℕ) → IsArenas records → i < 32 → Sound (record_at records i).space
 sound_at records i is there = replayed_sound i (record_at records i).kept (record_at records i).space (is.replayed i there)
+
+-- a turn leaves what another client owns as it was, in every arena
+pub others_own : (records : List Record) (arena c other : ℕ) (op : Op) (asked : Option AskFacts) → IsArenas records → arena < 32 → other ≢ c →
+    IsTrue (stands (record_at records arena).space (entry_of c (settled (spaces_of records) arena op))) → (i : ℕ) → mine_in (after_turn records arena c op asked) other i ≡ mine_in records other i
+others_own records arena c other op asked is there differ may =
+    let s : Space = (record_at records arena).space in
+    let done : Op = settled (spaces_of records) arena op in
+    by_arena records arena (record_after (record_at records arena) c done asked) (λ i x. mine other x.space ≡ mine_in records other i) is there
+    ((op_keeps c s done (sound_at records arena is there) (both_true (nat_lt c 32) _ may).1).others other differ) (λ i ne. refl)
 
 pub others-stay : OthersStay
 others-stay records arena c other op asked is there differ may = (
@@ -79,8 +88,7 @@ others-stay records arena c other op asked is there differ may = (
     new = record_after r c (settled (spaces_of records) arena op) asked
 
     mines : (i : ℕ) → mine_in (after_turn records arena c op asked) other i ≡ mine_in records other i
-    mines = by_arena records arena new (λ i x. mine other x.space ≡ mine_in records other i) is there
-        ((op_keeps c r.space (settled (spaces_of records) arena op) (sound_at records arena is there) (both_true (nat_lt c 32) _ may).1).others other differ) (λ i ne. refl)
+    mines = others_own records arena c other op asked is there differ may
 
     rooms : (i : ℕ) → room_in (after_turn records arena c op asked) i other ≡ room_in records i other
     rooms = by_arena records arena new (λ i x. room_of other x.rooms ≡ room_in records i other) is there (get_or-set_other r.rooms c other _ 0 differ) (λ i ne. refl)

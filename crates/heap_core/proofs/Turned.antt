@@ -1,5 +1,5 @@
 -- What a turn in one of the arenas leaves of all of them.
-use Rattle.std.proofs.Common.{inr, ◌≡◌, ℕ, ◌+◌, ◌/◌, ◌<◌, ◌≤◌, ◌==◌, Bool, true, false, cond, suc, zero, List, [], ◌∷◌, Option, Result, Ok, Err, OnOk, OnErr, IfSome, IsSomeAnd, length, nat_lt, map, slice_set, get_or, refl, sym, ◌∙◌, ap, subst, arith, IsTrue}
+use Rattle.std.proofs.Common.{inr, ◌≡◌, ℕ, ◌+◌, ◌/◌, ◌<◌, ◌≤◌, ◌^◌, ◌==◌, Bool, true, false, cond, suc, zero, List, [], ◌∷◌, Option, Result, Ok, Err, OnOk, OnErr, IfSome, IsSomeAnd, length, nat_lt, map, slice_set, get_or, refl, sym, ◌∙◌, ap, subst, arith, IsTrue}
 use Rattle.std.specs.List.{list_any, range_with_len}
 use Rattle.std.proofs.lemmas.Bool.{ltb-true}
 use Rattle.std.proofs.lemmas.Bool.Decides.{nat_tests}
@@ -23,10 +23,10 @@ use Rattle.space_model.proofs.LawLemmas.{first_replays_are_good, absent_replays_
 use Rattle.space_model.proofs.Pieces.{both_true}
 use Rattle.hook_api.specs.Asked.{AskFacts, heard_in}
 use Rattle.hook_api.specs.Kept.{IsKept, KeptFacts, heard_of}
-use Rattle.arena_core.specs.Arenas.{entry_of}
-use Rattle.heap_core.specs.Arenas.{IsArenas, journal_of, no_record, opening_record, opening_records, record_after, record_at, spaces_of}
+use Rattle.arena_core.specs.Arenas.{all_rooms, room_of, entry_of}
+use Rattle.heap_core.specs.Arenas.{AreRecorded, room_in, IsArenas, journal_of, no_record, opening_record, opening_records, record_after, record_at, spaces_of}
 use Rattle.heap_core.specs.Chunks.{Apart, owns, settled, space_at}
-use Rattle.heap_core.specs.Records.{IsReplayed, Record, entries_of, opening}
+use Rattle.heap_core.specs.Records.{IsReplayed, most_room, Record, entries_of, opening}
 use Rattle.heap_core.proofs.Owning.{apart_turn, page_owned}
 
 -- what a journal leaves is sound
@@ -102,16 +102,32 @@ arenas_turned_from records arena client op settled_op asked r old new at is ther
     arenas_turned records arena client op settled_op asked r new is there settles may (subst (λ o. OnOk r (new ≡ record_after o client settled_op asked)) at after)
     (subst (λ o. OnErr r (new ≡ o)) at same) (index ∙ ap (λ (o : Record). o.index) at) replayed
 
+-- the room of a client after a turn, where it is bounded by those that there were
+given_settled : (spaces : List Space) (arena : ℕ) (op : Op) → most_room (settled spaces arena op) ≡ most_room op
+given_settled spaces arena (GrowDone heard found) = refl
+given_settled spaces arena (OfferDone heard found) = refl
+given_settled spaces arena op = refl
+
+pub room_turned : {E : Type 0} (records now : List Record) (arena client : ℕ) (op settled_op : Op) (r : Result Reply E) (old new : Record) → records ≡ now → old ≡ record_at records arena → IsArenas records → arena < 32 →
+    settled_op ≡ settled (spaces_of records) arena op → OnOk r (room_of client new.rooms ≤ all_rooms old.rooms + most_room settled_op) →
+    OnOk r (room_in (slice_set records arena new) arena client ≤ all_rooms (record_at now arena).rooms + most_room op)
+room_turned records now arena client op settled_op (Err e) old new view at is there settles few = tt
+room_turned records now arena client op settled_op (Ok reply) old new view at is there settles few =
+    let set : room_in (slice_set records arena new) arena client ≡ room_of client new.rooms = ap (λ (r : Record). room_of client r.rooms) (get_or-set_same records arena new no_record (omega (arith, there, is.number))) in
+    let most : most_room settled_op ≡ most_room op = ap most_room settles ∙ given_settled (spaces_of records) arena op in
+    let rooms : all_rooms old.rooms ≡ all_rooms (record_at now arena).rooms = ap (λ (r : Record). all_rooms r.rooms) (at ∙ ap (λ rs. record_at rs arena) view) in
+    omega (arith, set, most, rooms, few)
+
 -- ---- the beginning
 
 -- no arena has an extent when a heap begins
 opening_empty : (i : ℕ) → (opening i).parts ≡ []
 opening_empty i = elim (i == 0) as (λ v. (cond v first_space absent_space).parts ≡ []) [ true ↦ refl | false ↦ refl ]
 
-opening_at : (i : ℕ) → i < 32 → record_at opening_records i ≡ opening_record i
+pub opening_at : (i : ℕ) → i < 32 → record_at opening_records i ≡ opening_record i
 opening_at i few = get_or-map-range_with_len opening_record 0 32 i i no_record few (omega arith)
 
-past : {X : Type 0} (xs : List X) (i : ℕ) (d : X) → length xs ≤ i → get_or xs i d ≡ d
+pub past : {X : Type 0} (xs : List X) (i : ℕ) (d : X) → length xs ≤ i → get_or xs i d ≡ d
 past [] i d far = refl
 past (x ∷ xs) zero d far = absurd (omega (arith, far))
 past (x ∷ xs) (suc i) d far = past xs i d (omega (arith, far))
@@ -176,3 +192,28 @@ one_owner records is page i j first second = is.apart (page / 512) i j (owned i 
     owned k has =
         ap (owns (page / 512)) (space_of_record records k)
         ∙ page_owned (page / 512) page (record_at records k).space.parts (page_in_chunk page) (any_counts (λ p. has_page page p.span) (record_at records k).space.parts has)
+
+-- ---- the entries of the journals can be counted
+
+pub opening_recorded : AreRecorded opening_records
+opening_recorded = record { arenas = opening_is; few = λ i few. subst (λ (r : Record). length r.kept < 2 ^ 64) (sym (opening_at i few)) (omega arith) }
+
+-- after a turn, or where memory was wanting for it
+pub recorded_turned : {A E : Type 0} (records : List Record) (arena : ℕ) (r : Result A E) (old new : Record) → AreRecorded records → arena < 32 → old ≡ record_at records arena → OnOk r (length new.kept < 2 ^ 64) → OnErr r (new ≡ old) →
+    IsArenas (slice_set records arena new) → AreRecorded (slice_set records arena new)
+recorded_turned records arena r old new is there at few same arenas = record { arenas = arenas; few = at_each }
+  where
+    here : {A E : Type 0} (r : Result A E) → OnOk r (length new.kept < 2 ^ 64) → OnErr r (new ≡ old) → length new.kept < 2 ^ 64
+    here (Ok told) few same = few
+    here (Err error) few same = subst (λ (x : Record). length x.kept < 2 ^ 64) (sym (same ∙ at)) (is.few arena there)
+
+    at_each : (i : ℕ) → i < 32 → length (record_at (slice_set records arena new) i).kept < 2 ^ 64
+    at_each i low = by (arena == i) refl
+      where
+        by : (v : Bool) → (arena == i) ≡ v → length (record_at (slice_set records arena new) i).kept < 2 ^ 64
+        by true e =
+            let equal : arena ≡ i = grind (arith, nat_tests) in
+            subst (λ k. length (record_at (slice_set records arena new) k).kept < 2 ^ 64) equal
+            (subst (λ (x : Record). length x.kept < 2 ^ 64) (sym (get_or-set_same records arena new no_record (omega (arith, there, is.arenas.number)))) (here r few same))
+        by false e =
+            subst (λ (x : Record). length x.kept < 2 ^ 64) (sym (get_or-set_other records arena i new no_record (λ equal. grind (arith, nat_tests)))) (is.few i low)

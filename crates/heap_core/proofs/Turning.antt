@@ -87,3 +87,25 @@ turn_recorded r new now client op k spare view is may some more made entry index
     fits true e within room = let much = made e in
         omega (arith, rooms_then r.arena.space r.arena.rooms client op within few room true e, ap all_rooms rooms, much, one)
     fits false e within room = omega (arith, rooms_then r.arena.space r.arena.rooms client op within few room false e, ap all_rooms rooms, is.places, more, one)
+
+-- The client's room after it is at most all the rooms before with what the operation makes.
+pub room_bound : (r : Inside) (now : Record) (client : ℕ) (op : Op) (rooms : List ℕ) → shown r ≡ now → IsRecorded r → IsTrue (stands now.space (entry_of client op)) →
+    (opens op ≡ false → 0 < room_of client now.rooms) → rooms ≡ rooms_after r.arena client op → emptied_by client op r.arena.space ≤ given_by op →
+    room_of client rooms ≤ all_rooms now.rooms + most_room op
+room_bound r now client op rooms view is may some after few = by (opens op) refl
+  where
+    within : client < length r.arena.rooms
+    within = omega (arith, client_is now.space client op may, is.clients)
+
+    room : opens op ≡ false → 0 < room_of client r.arena.rooms
+    room e = subst (λ (x : Record). 0 < room_of client x.rooms) (sym view) (some e)
+
+    one : room_of client rooms ≤ all_rooms rooms
+    one = one_room rooms client (omega (arith, within, ap length after ∙ length-set r.arena.rooms client _))
+
+    sums : all_rooms r.arena.rooms ≡ all_rooms now.rooms
+    sums = ap (λ (x : Record). all_rooms x.rooms) view
+
+    by : (o : Bool) → opens op ≡ o → room_of client rooms ≤ all_rooms now.rooms + most_room op
+    by true e = omega (arith, rooms_then r.arena.space r.arena.rooms client op within few room true e, one, ap all_rooms after, sums)
+    by false e = omega (arith, rooms_then r.arena.space r.arena.rooms client op within few room false e, one, ap all_rooms after, sums)

@@ -1,5 +1,5 @@
 -- The arenas of a heap, each with its journal.
-use Rattle.std.specs.Prelude.{◌≡◌, ℕ, ◌<◌, ◌++◌, ◌∷◌, [], List, Option, length, map, replicate, slice_index_or, slice_set}
+use Rattle.std.specs.Prelude.{◌≡◌, ℕ, ◌<◌, ◌^◌, ◌++◌, ◌∷◌, [], List, Option, length, map, replicate, slice_index_or, slice_set}
 use Rattle.std.specs.List.{range_with_len}
 use Rattle.space_model.specs.declared.entries.Op.{Op}
 use Rattle.space_model.specs.declared.entries.Reply.{Reply}
@@ -52,6 +52,11 @@ pub record IsArenas (records : List Record) : Type 0 where
   pub indexes : (i : ℕ) → i < 32 → (record_at records i).index ≡ i
   pub clients : (i : ℕ) → i < 32 → length (record_at records i).rooms ≡ 32
   pub apart : Apart (spaces_of records)
+
+-- The arenas are as they have to be, and the entries of each journal can be counted.
+pub record AreRecorded (records : List Record) : Type 0 where
+  pub arenas : IsArenas records
+  pub few : (i : ℕ) → i < 32 → length (record_at records i).kept < 2 ^ 64
 
 -- the arena with an index when a heap begins: its journal is empty
 abbrev pub opening_record : ℕ → Record

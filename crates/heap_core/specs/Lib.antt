@@ -1,5 +1,12 @@
 pub mod Arenas
 pub mod Chunks
 pub mod Clients
+pub mod Feeding
+pub mod Heaps
+pub mod Logs
+pub mod Owing
 pub mod Records
 pub mod Reserves
+pub mod Seats
+pub mod Sitting
+pub mod Stepping

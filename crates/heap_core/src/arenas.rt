@@ -1,14 +1,14 @@
 //! The arenas of a heap.
 
-ghost use Rattle.std.specs.Prelude.{◌≡◌, ◌≢◌, ◌+◌, ◌<◌, ℕ, false, true, length, map, IsTrue, IsOk, IfOk, IfSome, OnOk, OnErr};
+ghost use Rattle.std.specs.Prelude.{◌≡◌, ◌≢◌, ◌+◌, ◌<◌, ◌≤◌, ◌^◌, ℕ, false, true, length, map, IsTrue, IsOk, IfOk, IfSome, OnOk, OnErr};
 ghost use Rattle.std.specs.List.{list_any, position};
 ghost use Rattle.space_model.specs.Span.{has_page};
 ghost use Rattle.space_model.specs.Step.{stands};
 ghost use Rattle.space_model.specs.Own.{mine};
 ghost use Rattle.hook_api.specs.Kept.{IsKept};
-ghost use Rattle.arena_core.specs.Arenas.{entry_of, opens};
-ghost use Rattle.heap_core.specs.Arenas.{journal_of, opening_records, record_at, reply_in, room_in, spaces_of, turned};
-ghost use Rattle.heap_core.specs.Records.{IsReplayed};
+ghost use Rattle.arena_core.specs.Arenas.{all_rooms, entry_of, opens};
+ghost use Rattle.heap_core.specs.Arenas.{IsArenas, journal_of, opening_records, record_at, reply_in, room_in, spaces_of, turned};
+ghost use Rattle.heap_core.specs.Records.{IsReplayed, most_room};
 ghost use Rattle.heap_core.specs.Chunks.{Apart, met_by_alloc, met_by_dalloc, met_in, others_of, owns, settled};
 
 use crate::records::Recorded;
@@ -33,13 +33,13 @@ pub struct Arenas {
 impl Model for Arenas {
     ghost use Rattle.std.specs.Prelude.{List};
     ghost use Rattle.heap_core.specs.Records.{Record};
-    ghost use Rattle.heap_core.specs.Arenas.{IsArenas};
+    ghost use Rattle.heap_core.specs.Arenas.{AreRecorded};
 
     ghost Value = { List Record };
 
     ghost view = { λ arenas. arenas.records.items };
 
-    ghost invariant = { λ arenas. IsArenas arenas.records.items };
+    ghost invariant = { λ arenas. AreRecorded arenas.records.items };
 }
 
 /// Whether some of the arenas owns a chunk.
@@ -169,6 +169,7 @@ impl Arenas {
         requires kept { IsKept (entry_of client op) asked }
         ensures after { OnOk result (self.new ≡ turned self.old arena client (settled (spaces_of self.old) arena op) asked) }
         ensures reply { IfOk result (λ told. told ≡ reply_in self.old arena client (settled (spaces_of self.old) arena op)) }
+        ensures room { OnOk result (room_in self.new arena client ≤ all_rooms (record_at self.old arena).rooms + most_room op) }
         ensures err { OnErr result (self.new ≡ self.old) }
         ensures sure { opens op ≡ false → IsOk result }
         ensures others { (other : ℕ) → other ≢ client → (i : ℕ) → mine other (record_at self.new i).space ≡ mine other (record_at self.old i).space }
@@ -178,13 +179,15 @@ impl Arenas {
     }
 
     /// What is always so: no chunk is met by extents of two arenas, so no page is in two of them, and each arena is what its
-    /// journal leaves of its opening, where every entry could stand when it came.
+    /// journal leaves of its opening, where every entry could stand when it came. A journal has fewer than 2^64 entries.
     #[tactic(auto, using(crate::proofs::Turned::one_owner))]
     pub fn are_apart(&self)
+        ensures arenas { IsArenas self.now }
         ensures apart { Apart (spaces_of self.now) }
         ensures pages { (page i j : ℕ) → list_any (λ p. has_page page p.span) (record_at self.now i).space.parts ≡ true
             → list_any (λ p. has_page page p.span) (record_at self.now j).space.parts ≡ true → i ≡ j }
         ensures replayed { (i : ℕ) → i < 32 → IsReplayed i (record_at self.now i).kept (record_at self.now i).space }
+        ensures few { (i : ℕ) → i < 32 → length (record_at self.now i).kept < 2 ^ 64 }
     {
         let _records = &self.records;
     }

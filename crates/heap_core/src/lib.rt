@@ -1,13 +1,21 @@
-//! The arenas of a heap, each with its journal, of which none owns what another one does.
+//! A heap: its arenas, each with its journal, of which none owns what another one does, and its clients with their calls.
 #![tactic(auto)]
 
 mod arenas;
+mod heaps;
 mod laws;
+mod logs;
 mod records;
 mod reserves;
+mod seats;
+mod steps;
 
 pub use arenas::{ARENAS, Arenas};
-pub use laws::{asks_lead_on, others_stay, turns_lead_on};
+pub use heaps::{Did, Heap, Stepped};
+pub use laws::{
+    aims_sit, asks_lead_on, asks_sit, holders_publish, opening_sits, others_sit, others_stay,
+    starts_sit, starves_sit, turns_lead_on, turns_sit,
+};
 
 #[cfg(test)]
 mod tests;

@@ -1,6 +1,6 @@
 //! An arena with its journal.
 
-ghost use Rattle.std.specs.Prelude.{◌≡◌, ◌≢◌, ◌+◌, ◌*◌, ◌<◌, ◌≤◌, ℕ, false, true, [], ◌∷◌, ◌++◌, length, max, replicate, IsTrue, IsOk, IfOk, IfSome, OnOk, OnErr};
+ghost use Rattle.std.specs.Prelude.{◌≡◌, ◌≢◌, ◌+◌, ◌*◌, ◌<◌, ◌≤◌, ◌^◌, ℕ, false, true, [], ◌∷◌, ◌++◌, length, max, replicate, IsTrue, IsOk, IfOk, IfSome, OnOk, OnErr};
 ghost use Rattle.space_model.specs.Opening.{absent_space, first_space};
 ghost use Rattle.space_model.specs.Own.{mine};
 ghost use Rattle.space_model.specs.Step.{reply_to, space_after, stands};
@@ -49,6 +49,16 @@ fn most_room(op: &Op) -> Option<u64>
     UNIT.checked_mul(given.max(1))
 }
 
+/// How many operations of all clients there may be at most in an arena until each takes memory again: one that takes memory
+/// and all that may follow it, and all that may follow others. `NoMemory` where that is no number.
+pub fn places_for(arena: &Arena, op: &Op) -> Result<u64, NoMemory>
+    ensures { IfOk result (λ places. places ≡ all_rooms arena.now.rooms + most_room op.now + 1) }
+{
+    let room = most_room(op).ok_or(NoMemory)?;
+    let places = arena.room().checked_add(room).ok_or(NoMemory)?;
+    places.checked_add(1).ok_or(NoMemory)
+}
+
 /// Makes places in a journal of an arena for a turn that takes memory, and for those that may follow it.
 fn make_places(journal: &mut Reserved<Kept>, arena: &Arena, op: &Op) -> Result<(), NoMemory>
     ensures items { journal.new.items ≡ journal.old.items }
@@ -59,9 +69,7 @@ fn make_places(journal: &mut Reserved<Kept>, arena: &Arena, op: &Op) -> Result<(
     if !Arena::opens(op) {
         return Ok(());
     }
-    let room = most_room(op).ok_or(NoMemory)?;
-    let places = arena.room().checked_add(room).ok_or(NoMemory)?;
-    journal.reserve(places.checked_add(1).ok_or(NoMemory)?)
+    journal.reserve(places_for(arena, op)?)
 }
 
 impl Recorded {
@@ -100,6 +108,8 @@ impl Recorded {
         ensures after { OnOk result (self.new ≡ record_after self.old client op asked) }
         ensures reply { IfOk result (λ told. told ≡ reply_to self.old.space (entry_of client op)) }
         ensures replayed { IsReplayed self.new.index self.new.kept self.new.space }
+        ensures few { OnOk result (length self.new.kept < 2 ^ 64) }
+        ensures room { OnOk result (room_of client self.new.rooms ≤ all_rooms self.old.rooms + most_room op) }
         ensures err { OnErr result (self.new ≡ self.old) }
         ensures sure { opens op ≡ false → IsOk result }
         ensures others { (other : ℕ) → other ≢ client → mine other self.new.space ≡ mine other self.old.space }

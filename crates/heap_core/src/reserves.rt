@@ -1,6 +1,6 @@
 //! Lists that grow only within places that were reserved.
 
-ghost use Rattle.std.specs.Prelude.{◌≡◌, ◌+◌, ◌<◌, ◌≤◌, [], ◌∷◌, ◌++◌, OnOk};
+ghost use Rattle.std.specs.Prelude.{◌≡◌, ◌+◌, ◌<◌, ◌≤◌, ◌^◌, [], ◌∷◌, ◌++◌, length, OnOk};
 
 use std::alloc::{AllocError as NoMemory, Global};
 use std::marker::Model;
@@ -44,6 +44,7 @@ impl<T> Reserved<T> {
         requires room { 0 < self.old.spare }
         ensures items { self.new.items ≡ self.old.items ++ item ∷ [] }
         ensures spare { self.old.spare ≤ self.new.spare + 1 }
+        ensures few { length self.new.items < 2 ^ 64 }
     {
         self.items.push(item).unwrap();
     }

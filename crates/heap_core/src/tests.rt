@@ -1,10 +1,13 @@
-//! Turns in several arenas, and what their journals have then.
+//! Turns in several arenas, what their journals have then, and calls of several clients.
 
 ghost use Rattle.std.specs.Prelude.{◌<◌};
+ghost use Rattle.call_table.specs.Laws.{IsInRange};
 
-use crate::Arenas;
+use crate::{Arenas, Heap};
+use call_table::{Answered, Given, Request};
+use hook_api::{Boxes, HookShelf, Kind, RisingHooks};
 use space_model::{Life, Op, Reply, Setting};
-use std::alloc::Global;
+use std::alloc::{AllocError as NoMemory, Global};
 use std::process::Abort;
 use std::test::Fail;
 
@@ -61,5 +64,124 @@ fn journals_have_the_entries_of_their_arena(rt: HostRuntime) -> Result<(), Fail>
     assert_eq!(rt; journals[0].kept.as_slice().len(), 2);
     assert_eq!(rt; journals[1].kept.as_slice().len(), 1);
     assert!(rt; journals[31].kept.as_slice().is_empty());
+    Ok(())
+}
+
+/// A shelf of 32 boxes, each of which places ever higher ranges.
+fn rising(alloc: Global) -> Result<HookShelf, NoMemory> {
+    let mut boxes: Boxes = Vec::new(alloc);
+    while boxes.len() < 32 {
+        boxes.push(Box::new(alloc, RisingHooks::new())?)?;
+    }
+    Ok(HookShelf::new(boxes))
+}
+
+/// Begins a call of a client that has none open.
+fn start(
+    heap: &mut Heap,
+    client: u32,
+    request: Request,
+    alloc: Global,
+) -> Result<Option<Answered>, NoMemory>
+    requires client { client < 32 }
+    requires range { IsInRange request }
+{
+    if heap.has_call(client) {
+        return Ok(None);
+    }
+    heap.start(client, request, alloc)
+}
+
+/// Carries a call of a client out, to its answer.
+fn carry_out(
+    heap: &mut Heap,
+    shelf: &mut HookShelf,
+    client: u32,
+    request: Request,
+    alloc: Global,
+) -> Result<Option<Answered>, NoMemory>
+    requires client { client < 32 }
+    requires range { IsInRange request }
+{
+    let ended = start(heap, client, request, alloc)?;
+    if ended.is_some() {
+        return Ok(ended);
+    }
+    for _ in 0..1000 {
+        let told = heap.step_client(client, shelf, alloc);
+        if told.ended.is_some() {
+            return Ok(told.ended);
+        }
+    }
+    Ok(None)
+}
+
+/// The address of the region that a call gave.
+fn region(answer: Option<Answered>) -> Option<u64> {
+    match answer {
+        Some(Answered::Ok(Given::Region { addr, .. })) => Some(addr),
+        _ => None,
+    }
+}
+
+#[test]
+fn a_region_is_freed_by_another_client(rt: HostRuntime) -> Result<(), Fail> {
+    let alloc = rt.alloc();
+    let mut shelf = rising(alloc)?;
+    let mut heap = Heap::new(alloc)?;
+    let size = 20000;
+    let got = carry_out(&mut heap, &mut shelf, 0, Request::Malloc { size }, alloc)?;
+    let addr = region(got).unwrap_or(0);
+    assert_eq!(rt; heap.arena_of(addr), Some(0));
+    assert!(rt; heap.desk(0).held_at(addr).is_some());
+    let freed = carry_out(&mut heap, &mut shelf, 1, Request::Free { addr }, alloc)?;
+    assert!(rt; matches!(freed, Some(Answered::Ok(Given::Done))));
+    assert!(rt; heap.desk(0).held_at(addr).is_none());
+    assert_eq!(rt; heap.arena(0).counts().allocated, 0);
+    Ok(())
+}
+
+/// Steps two clients in turn, each to the end of its call. Gives the addresses of the regions that they got.
+fn by_turns(heap: &mut Heap, shelf: &mut HookShelf, alloc: Global) -> (Option<u64>, Option<u64>) {
+    let mut got = (None, None);
+    for _ in 0..1000 {
+        if let Some(addr) = region(heap.step_client(0, shelf, alloc).ended) {
+            got.0 = Some(addr);
+        }
+        if let Some(addr) = region(heap.step_client(1, shelf, alloc).ended) {
+            got.1 = Some(addr);
+        }
+    }
+    got
+}
+
+#[test]
+fn calls_of_two_clients_interleave(rt: HostRuntime) -> Result<(), Fail> {
+    let alloc = rt.alloc();
+    let mut shelf = rising(alloc)?;
+    let mut heap = Heap::new(alloc)?;
+    let size = 20000;
+    start(&mut heap, 0, Request::Malloc { size }, alloc)?;
+    start(&mut heap, 1, Request::Malloc { size: 9 }, alloc)?;
+    let (first, second) = by_turns(&mut heap, &mut shelf, alloc);
+    assert!(rt; first.is_some() && second.is_some() && first != second);
+    assert_eq!(rt; heap.arena(0).counts().allocated, 20480 + 16);
+    let (journals, asks) = heap.finish(alloc)?;
+    assert!(rt; !journals.as_slice()[0].kept.as_slice().is_empty());
+    assert!(rt; !asks.as_slice().is_empty());
+    Ok(())
+}
+
+#[test]
+fn a_refused_alloc_ends_a_malloc(rt: HostRuntime) -> Result<(), Fail> {
+    let alloc = rt.alloc();
+    let mut shelf = rising(alloc)?;
+    let mut heap = Heap::new(alloc)?;
+    shelf.plan(0, Kind::Alloc, 1);
+    let size = 20000;
+    let refused = carry_out(&mut heap, &mut shelf, 0, Request::Malloc { size }, alloc)?;
+    assert!(rt; matches!(refused, Some(Answered::Refused(_))));
+    let got = carry_out(&mut heap, &mut shelf, 0, Request::Malloc { size }, alloc)?;
+    assert!(rt; region(got).is_some());
     Ok(())
 }

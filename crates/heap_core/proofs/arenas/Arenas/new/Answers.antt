@@ -1,8 +1,8 @@
 use Rattle.std.proofs.Common.{◌≡◌, ◌∙◌, ◌++◌, ◌∷◌, [], ap, arith, map, subst, sym}
 use Rattle.std.specs.List.{range_with_len}
 use Rattle.std.proofs.lemmas.List.FromFn.{map-range_with_len_more}
-use Rattle.heap_core.specs.Arenas.{IsArenas, opening_record}
-use Rattle.heap_core.proofs.Turned.{opening_is}
+use Rattle.heap_core.specs.Arenas.{AreRecorded, opening_record}
+use Rattle.heap_core.proofs.Turned.{opening_recorded}
 use Rattle.heap_core.proofs.arenas.Arenas.new.Goals as goal
 
 pub loop-index-preserved : goal.loop-index-preserved
@@ -13,4 +13,4 @@ loop-index-preserved c =
 pub invariant_of-result : goal.invariant_of-result
 invariant_of-result c =
     let end : c.loop-index.index ≡ 32 = omega (arith, c.loop-index.auto.index-end, c.loop-index-test.false) in
-    subst IsArenas (sym (c.loop-index.invariant ∙ ap (λ n. map opening_record (range_with_len 0 n)) end)) opening_is
+    subst AreRecorded (sym (c.loop-index.invariant ∙ ap (λ n. map opening_record (range_with_len 0 n)) end)) opening_recorded

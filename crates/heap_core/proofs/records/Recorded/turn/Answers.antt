@@ -1,6 +1,6 @@
 use Rattle.std.proofs.Common.{◌∙◌, ◌++◌, ◌∷◌, [], ap, refl}
 use Rattle.arena_core.specs.Arenas.{opens}
-use Rattle.heap_core.proofs.Turning.{has_place, turn_recorded}
+use Rattle.heap_core.proofs.Turning.{has_place, room_bound, turn_recorded}
 use Rattle.heap_core.proofs.records.Recorded.turn.Goals as goal
 
 pub push-requires : goal.push-requires
@@ -20,3 +20,7 @@ returns-clause-replayed c =
     (turn_recorded c.self.inside (record { index = c.self.inside.index; arena = c.step.new.self; journal = c.push.new.self }) c.args.self.now c.args.client c.args.op c.new.result
     c.make_places.new.journal.spare c.self.view_is c.self.invariant c.requires.stands c.requires.room c.make_places.ensures.kept c.in_ok-make_places.ensures.ok
     (ap (λ k. k.entry) c.new.ensures) refl c.in_ok-reply.ensures.after c.in_ok-reply.ensures.rooms c.in_ok-reply.ensures.few (c.push.ensures.items ∙ ap (λ kept. kept ++ c.new.result ∷ []) c.make_places.ensures.items) c.push.ensures.spare).replayed
+
+pub returns-clause-room : goal.returns-clause-room
+returns-clause-room c =
+    room_bound c.self.inside c.args.self.now c.args.client c.args.op c.step.new.self.rooms c.self.view_is c.self.invariant c.requires.stands c.requires.room c.in_ok-reply.ensures.rooms c.in_ok-reply.ensures.few

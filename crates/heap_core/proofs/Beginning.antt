@@ -1,0 +1,60 @@
+-- A request begins, and so does a heap.
+use Rattle.std.proofs.Common.{◌≡◌, ◌≤◌, ◌<◌, ℕ, ◌+◌, List, Option, None, Some, Result, Ok, Err, OnOk, OnErr, length, replicate, slice_set, [], ◌∷◌, ◌++◌, length-append, refl, sym, ap, subst, ◌∙◌, arith}
+use Rattle.std.proofs.lemmas.List.{get_or-replicate, length-replicate, replicate-append-replicate, set-get_or}
+use Rattle.thread_cache.specs.declared.Held.{Held}
+use Rattle.thread_cache.specs.Desks.{held_at}
+use Rattle.call_table.specs.declared.needs.Request.{Request}
+use Rattle.call_table.specs.declared.needs.Request.TheVariants.{Malloc, Free}
+use Rattle.call_table.specs.Laws.{IsInRange}
+use Rattle.call_table.specs.Runs.{begin}
+use Rattle.heap_core.specs.Arenas.{IsArenas, opening_records}
+use Rattle.heap_core.specs.Logs.{owed_to}
+use Rattle.heap_core.specs.Owing.{IsHeap, owing}
+use Rattle.heap_core.specs.Records.{Record}
+use Rattle.heap_core.specs.Seats.{Seat, asked_for, first_seat, free_of, held_by, holder_of, seat_at, seat_of}
+use Rattle.heap_core.specs.Sitting.{IsSeated, SeatSound}
+use Rattle.heap_core.proofs.Asking.{owed_begun}
+use Rattle.heap_core.proofs.Changes.{heap_seated}
+use Rattle.heap_core.proofs.Sitting.{opening-sits, starts-sit}
+
+-- a free of a region of another client is in range too
+free_in_range : (addr : ℕ) (own other : Option Held) → IsInRange (free_of addr own other)
+free_in_range addr None (Some region) = tt
+free_in_range addr None None = tt
+free_in_range addr (Some own) other = tt
+
+asked_in_range : (seats : List Seat) (c : ℕ) (request : Request) → IsInRange request → IsInRange (asked_for seats c request)
+asked_in_range seats c (Free addr) is = free_in_range addr (held_at addr (seat_at seats c).desk) (held_by addr seats (holder_of addr seats))
+asked_in_range seats c (Malloc size) is = is
+asked_in_range seats c request is = is
+
+-- the heap is as it has to be after a request began, or where memory was wanting for it
+pub start_heap : {A E : Type 0} (records : List Record) (seats : List Seat) (owed : List ℕ) (c : ℕ) (request asked : Request) (told : Result A E) (old seat : Seat) → IsHeap records seats owed → IsArenas records → c < 32 → (seat_at seats c).call ≡ None →
+    IsInRange request → asked ≡ asked_for seats c request → old ≡ seat_at seats c → OnOk told (seat ≡ seat_of c (begin asked old.desk)) → OnErr told (seat ≡ old) → IsHeap records (slice_set seats c seat) owed
+start_heap records seats owed c request asked (Err error) old seat heap arenas few rests range is same ok err =
+    subst (λ s. IsHeap records s owed) (sym (ap (slice_set seats c) (err ∙ same) ∙ set-get_or seats c first_seat)) heap
+start_heap records seats owed c request asked (Ok told) old seat heap arenas few rests range is same ok err =
+    let desk = (seat_at seats c).desk in
+    let sat : IsSeated records c desk None = subst (IsSeated records c desk) rests (heap.sound c few) in
+    let may : IsInRange asked = subst IsInRange (sym is) (asked_in_range seats c request range) in
+    let came = starts-sit records c desk asked arenas few sat may in
+    let begun : seat ≡ seat_of c (begin asked desk) = ok ∙ ap (λ (s : Seat). seat_of c (begin asked s.desk)) same in
+    heap_seated records seats owed owed c seat heap few (λ o differ. refl) (subst (SeatSound records c) (sym begun) came.1)
+    (subst (λ (s : Seat). owing records c s.call ≤ owed_to owed c) (sym begun) (owed_begun records c (owed_to owed c) asked desk))
+
+-- one more client of a new heap
+pub one_more : (seats seats' : List Seat) → seats ≡ replicate (length seats) first_seat → seats' ≡ seats ++ first_seat ∷ [] → seats' ≡ replicate (length seats') first_seat
+one_more seats seats' was is =
+    let long : length seats' ≡ length seats + 1 = ap length is ∙ length-append seats (first_seat ∷ []) in
+    is ∙ ap (λ s. s ++ first_seat ∷ []) was ∙ replicate-append-replicate (length seats) 1 first_seat ∙ sym (ap (λ n. replicate n first_seat) long)
+
+-- a new heap is as it has to be
+pub opening_heap_is : (records : List Record) (seats : List Seat) (owed : List ℕ) → records ≡ opening_records → seats ≡ replicate 32 first_seat → IsHeap records seats owed
+opening_heap_is records seats owed begun is = subst (λ rs. IsHeap rs seats owed) (sym begun) (record {
+  number = ap length is ∙ length-replicate 32 first_seat;
+  sound = λ c few. subst (SeatSound opening_records c) (sym (at c few)) (opening-sits c few);
+  promised = λ c few. subst (λ (s : Seat). owing opening_records c s.call ≤ owed_to owed c) (sym (at c few)) (omega arith);
+})
+  where
+    at : (c : ℕ) → c < 32 → seat_at seats c ≡ first_seat
+    at c few = ap (λ s. seat_at s c) is ∙ get_or-replicate 32 c first_seat first_seat few

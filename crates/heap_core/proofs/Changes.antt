@@ -1,0 +1,103 @@
+-- What a change of one client leaves of a heap.
+use Rattle.std.proofs.Common.{◌≡◌, ◌≢◌, ◌≤◌, ◌<◌, ℕ, ◌-◌, ◌==◌, Bool, true, false, List, Option, None, Some, length, slice_set, get_or, refl, sym, ap, subst, ◌∙◌, arith}
+use Rattle.std.proofs.lemmas.Bool.Decides.{nat_tests}
+use Rattle.std.proofs.lemmas.List.{get_or_default, get_or-set_other, get_or-set_same, length-set}
+use Rattle.space_model.specs.declared.entries.Op.{Op}
+use Rattle.space_model.specs.declared.entries.Op.TheVariants.{GrowDone, OfferDone}
+use Rattle.space_model.specs.declared.spaces.Space.{Space}
+use Rattle.hook_api.specs.Asked.{AskFacts}
+use Rattle.arena_core.specs.Arenas.{opens, room_after, room_of}
+use Rattle.call_table.specs.Calls.{CallFacts}
+use Rattle.heap_core.specs.Arenas.{IsArenas, no_record, record_after, record_at, room_in, spaces_of}
+use Rattle.heap_core.specs.Chunks.{settled}
+use Rattle.heap_core.specs.Clients.{CanTurn, after_turn}
+use Rattle.heap_core.specs.Logs.{owed_to}
+use Rattle.heap_core.specs.Owing.{IsHeap, asks_next, owing}
+use Rattle.heap_core.specs.Records.{Record}
+use Rattle.heap_core.specs.Seats.{Seat, first_seat, seat_at}
+use Rattle.heap_core.specs.Sitting.{SeatSound}
+use Rattle.heap_core.proofs.Sitting.{others-sit}
+
+-- ---- rooms
+
+-- a turn leaves the rooms of other clients, and those in other arenas
+pub room_elsewhere : (records : List Record) (arena c i other : ℕ) (op : Op) (asked : Option AskFacts) → IsArenas records → arena < 32 → (arena ≡ i → other ≢ c) →
+    room_in (after_turn records arena c op asked) i other ≡ room_in records i other
+room_elsewhere records arena c i other op asked is there differ = by (arena == i) refl
+  where
+    new : Record
+    new = record_after (record_at records arena) c (settled (spaces_of records) arena op) asked
+
+    by : (v : Bool) → (arena == i) ≡ v → room_in (after_turn records arena c op asked) i other ≡ room_in records i other
+    by true e =
+        let same : arena ≡ i = grind (arith, nat_tests) in
+        subst (λ k. room_in (after_turn records arena c op asked) k other ≡ room_in records k other) same
+        (ap (λ (r : Record). room_of other r.rooms) (get_or-set_same records arena new no_record (omega (arith, there, is.number))) ∙ get_or-set_other (record_at records arena).rooms c other _ 0 (differ same))
+    by false e =
+        let far : i ≢ arena = λ same. grind (arith, nat_tests) in
+        ap (λ (r : Record). room_of other r.rooms) (get_or-set_other records arena i new no_record far)
+
+opens_settled : (spaces : List Space) (arena : ℕ) (op : Op) → opens (settled spaces arena op) ≡ opens op
+opens_settled spaces arena (GrowDone heard found) = refl
+opens_settled spaces arena (OfferDone heard found) = refl
+opens_settled spaces arena op = refl
+
+-- a turn without memory takes one of its client's room
+pub room_used : (records : List Record) (arena c : ℕ) (op : Op) (asked : Option AskFacts) → IsArenas records → arena < 32 → c < 32 → opens op ≡ false →
+    room_in (after_turn records arena c op asked) arena c ≡ room_in records arena c - 1
+room_used records arena c op asked is there few uses =
+    let r = record_at records arena in
+    let settles = settled (spaces_of records) arena op in
+    let new : Record = record_after r c settles asked in
+    let still : opens settles ≡ false = opens_settled (spaces_of records) arena op ∙ uses in
+    let set : room_of c new.rooms ≡ room_after r.space (room_in records arena c) c settles = get_or-set_same r.rooms c (room_after r.space (room_in records arena c) c settles) 0 (omega (arith, few, is.clients arena there)) in
+    let less : room_after r.space (room_in records arena c) c settles ≡ room_in records arena c - 1 = rw still refl in
+    ap (λ (x : Record). room_of c x.rooms) (get_or-set_same records arena new no_record (omega (arith, there, is.number))) ∙ set ∙ less
+
+-- what a call may ask is told by the rooms of its client
+owing_same : (records records' : List Record) (c : ℕ) (call : Option CallFacts) → ((i : ℕ) → room_in records' i c ≡ room_in records i c) → owing records' c call ≡ owing records c call
+owing_same records records' c None same = refl
+owing_same records records' c (Some call) same = ap (λ room. asks_next room call.stage.next) (same call.stage.arena)
+
+-- ---- a change of one client
+
+-- where other clients are as they have to be in the arenas after it, with the same rooms, and were promised no less
+heap_changed : (records records' : List Record) (seats : List Seat) (owed owed' : List ℕ) (c : ℕ) (seat : Seat) → IsHeap records seats owed → c < 32 →
+    ((o : ℕ) → o ≢ c → (s : Seat) → SeatSound records o s → SeatSound records' o s) → ((o : ℕ) → o ≢ c → (i : ℕ) → room_in records' i o ≡ room_in records i o) →
+    ((o : ℕ) → o ≢ c → owed_to owed' o ≡ owed_to owed o) → SeatSound records' c seat → owing records' c seat.call ≤ owed_to owed' c → IsHeap records' (slice_set seats c seat) owed'
+heap_changed records records' seats owed owed' c seat is few stays rooms owes sound enough = record {
+  number = length-set seats c seat ∙ is.number;
+  sound = λ o low. at o (SeatSound records' o) (λ same. subst (λ k. SeatSound records' k seat) same sound) (λ differ. stays o differ (seat_at seats o) (is.sound o low));
+  promised = λ o low. at o (λ s. owing records' o s.call ≤ owed_to owed' o) (λ same. subst (λ k. owing records' k seat.call ≤ owed_to owed' k) same enough)
+      (λ differ. let same = owing_same records records' o (seat_at seats o).call (rooms o differ) in let was = is.promised o low in omega (arith, same, was, owes o differ));
+}
+  where
+    at : (o : ℕ) (P : Seat → Type 0) → (c ≡ o → P seat) → (o ≢ c → P (seat_at seats o)) → P (seat_at (slice_set seats c seat) o)
+    at o P here there = by (c == o) refl
+      where
+        by : (v : Bool) → (c == o) ≡ v → P (seat_at (slice_set seats c seat) o)
+        by true e =
+            let same : c ≡ o = grind (arith, nat_tests) in
+            subst P (sym (subst (λ k. seat_at (slice_set seats c seat) k ≡ seat) same (get_or-set_same seats c seat first_seat (omega (arith, few, is.number))))) (here same)
+        by false e =
+            let far : o ≢ c = λ same. grind (arith, nat_tests) in
+            subst P (sym (get_or-set_other seats c o seat first_seat far)) (there far)
+
+-- a turn of a client, after which it is as it has to be
+pub heap_turned : (records : List Record) (seats : List Seat) (owed owed' : List ℕ) (c arena : ℕ) (op : Op) (asked : Option AskFacts) (seat : Seat) → IsHeap records seats owed → IsArenas records → c < 32 → arena < 32 →
+    CanTurn records c arena op asked → ((o : ℕ) → o ≢ c → owed_to owed' o ≡ owed_to owed o) → SeatSound (after_turn records arena c op asked) c seat →
+    owing (after_turn records arena c op asked) c seat.call ≤ owed_to owed' c → IsHeap (after_turn records arena c op asked) (slice_set seats c seat) owed'
+heap_turned records seats owed owed' c arena op asked seat is arenas few there can owes sound enough =
+    heap_changed records (after_turn records arena c op asked) seats owed owed' c seat is few
+    (λ o differ s. others-sit records arena c o op asked s arenas there differ can.stands)
+    (λ o differ i. room_elsewhere records arena c i o op asked arenas there (λ same. differ)) owes sound enough
+
+-- a client is another one, and the arenas stay
+pub heap_seated : (records : List Record) (seats : List Seat) (owed owed' : List ℕ) (c : ℕ) (seat : Seat) → IsHeap records seats owed → c < 32 →
+    ((o : ℕ) → o ≢ c → owed_to owed' o ≡ owed_to owed o) → SeatSound records c seat → owing records c seat.call ≤ owed_to owed' c → IsHeap records (slice_set seats c seat) owed'
+heap_seated records seats owed owed' c seat is few owes sound enough =
+    heap_changed records records seats owed owed' c seat is few (λ o differ s was. was) (λ o differ i. refl) owes sound enough
+
+-- a client that was found by its index is the one there
+pub seat_is : (seats : List Seat) (c : ℕ) (seat : Seat) → length seats ≡ 32 → c < 32 → seat ≡ get_or seats c seat → seat ≡ seat_at seats c
+seat_is seats c seat number few is = is ∙ get_or_default seats c seat first_seat (omega (arith, number, few))

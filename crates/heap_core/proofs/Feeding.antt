@@ -1,0 +1,57 @@
+-- What is kept of a call that was fed.
+use Rattle.std.proofs.Common.{inl, inr, ◌≡◌, ◌≤◌, ℕ, Option, None, Some, Result, Ok, Err, OnOk, OnErr, IfSome, refl, sym, subst, ◌∙◌, ap}
+use Rattle.thread_cache.specs.Desks.{DeskFacts}
+use Rattle.call_table.specs.declared.needs.Answered.{Answered}
+use Rattle.call_table.specs.declared.needs.Item.{Item}
+use Rattle.call_table.specs.declared.points.Next.{Next}
+use Rattle.call_table.specs.declared.points.Next.TheVariants.{Go, Over, More, Gone, Ends, Nowhere}
+use Rattle.call_table.specs.Calls.{CallFacts, HasRoom, moment_of}
+use Rattle.call_table.specs.Needs.{IsPlace}
+use Rattle.call_table.specs.Reads.{ended_by}
+use Rattle.call_table.specs.Runs.{Moment, after, starved_after, step_next}
+use Rattle.heap_core.specs.Feeding.{FedTo}
+use Rattle.heap_core.specs.Seats.{Seat, answer_of, open_call, seat_of}
+
+-- a call that is kept has room for the region that it may get
+room_at : (c room : ℕ) (at : Moment) (next : Next) → HasRoom room next → IfSome (open_call c at next) (λ call. 1 ≤ room)
+room_at c room at (Go point) has = has
+room_at c room at (Over index point) has = tt
+room_at c room at More has = tt
+room_at c room at Gone has = tt
+room_at c room at (Ends answer) has = tt
+room_at c room at Nowhere has = tt
+
+pub room_kept : (c room : ℕ) (at : Moment) (next : Next) (kept : Option CallFacts) → kept ≡ open_call c at next → HasRoom room next → IfSome kept (λ call. 1 ≤ room)
+room_kept c room at next kept is has = subst (λ k. IfSome k (λ call. 1 ≤ room)) (sym is) (room_at c room at next has)
+
+-- a call without an answer is open
+open_at : (c : ℕ) (at : Moment) (next : Next) → IsPlace next → ended_by next ≡ None → open_call c at next ≡ Some (record { client = c; request = at.request; stage = at.stage })
+open_at c at (Go point) place none = refl
+open_at c at (Over index point) place none = absurd place
+open_at c at More place none = absurd place
+open_at c at Gone place none = absurd place
+open_at c at (Ends answer) place none = absurd (cc)
+open_at c at Nowhere place none = absurd place
+
+pub still_open : (call : CallFacts) (desk : DeskFacts) → IsPlace call.stage.next → ended_by call.stage.next ≡ None → Some call ≡ open_call call.client (moment_of call desk) call.stage.next
+still_open call desk place none = sym (open_at call.client (moment_of call desk) call.stage.next place none)
+
+-- What the call and its client's desk are after an item is what the client is then.
+pub fed_to : {A E : Type 0} (seat : Seat) (desk desk' : DeskFacts) (call call' : CallFacts) (item : Item) (named : Result A E) (place : Option CallFacts) (ended : Option Answered) →
+    record { desk = desk; call = Some call } ≡ seat → call'.client ≡ call.client → OnOk named (moment_of call' desk' ≡ after (moment_of call desk) item) →
+    OnErr named (moment_of call' desk' ≡ starved_after (moment_of call desk) item) → OnErr named (step_next call.stage.next item ≡ More) →
+    place ≡ open_call call'.client (moment_of call' desk') call'.stage.next → ended ≡ ended_by call'.stage.next →
+    IfSome seat.call (λ k. FedTo k seat.desk item ended (record { desk = desk'; call = place }))
+fed_to seat desk desk' call call' item named place ended view client ok err more kept answer = subst (λ (s : Seat). IfSome s.call (λ k. FedTo k s.desk item ended (record { desk = desk'; call = place }))) view (by named ok err more)
+  where
+    seated : (m : Moment) → moment_of call' desk' ≡ m → record { desk = desk'; call = place } ≡ seat_of call.client m
+    seated m is = ap (λ (k : Option CallFacts). record { desk = desk'; call = k }) kept ∙ ap (λ c. seat_of c (moment_of call' desk')) client ∙ ap (seat_of call.client) is
+
+    told : (m : Moment) → moment_of call' desk' ≡ m → ended ≡ answer_of m
+    told m is = answer ∙ ap answer_of is
+
+    by : {A E : Type 0} (named : Result A E) → OnOk named (moment_of call' desk' ≡ after (moment_of call desk) item) →
+        OnErr named (moment_of call' desk' ≡ starved_after (moment_of call desk) item) → OnErr named (step_next call.stage.next item ≡ More) →
+        FedTo call desk item ended (record { desk = desk'; call = place })
+    by (Ok named) ok err more = inl (seated (after (moment_of call desk) item) ok, told (after (moment_of call desk) item) ok)
+    by (Err error) ok err more = inr (seated (starved_after (moment_of call desk) item) err, told (starved_after (moment_of call desk) item) err, more)

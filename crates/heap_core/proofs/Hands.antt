@@ -1,0 +1,294 @@
+-- The regions that a client has are those that it holds in the arenas, however they are counted there.
+use Rattle.std.proofs.Common.{◌≡◌, ◌≢◌, ℕ, ◌+◌, ◌<◌, ◌≤◌, ◌==◌, ◌&&◌, ◌||◌, inl, inr, Bool, true, false, not, cond, List, [], ◌∷◌, All, None, Some, length, get_or, refl, sym, ◌∙◌, ap, subst, arith, suc, zero, nat_eq, filter}
+use Rattle.std.specs.List.{count_by, flat_map, sum_by}
+use Rattle.std.specs.Map.{lookup}
+use Rattle.std.proofs.lemmas.Bool.{eqb-true}
+use Rattle.std.proofs.lemmas.Bool.Decides.{nat_tests}
+use Rattle.std.proofs.lemmas.List.Elements.{All-head, All-tail}
+use Rattle.std.proofs.lemmas.List.Sums.{get_or-le-sum_by, sum_by-cons}
+use Rattle.space_model.specs.declared.parts.Region.{Region}
+use Rattle.space_model.proofs.Landing.{eqb_itself}
+use Rattle.space_model.proofs.Lists.{ones}
+use Rattle.thread_cache.specs.declared.Held.{Held}
+use Rattle.thread_cache.specs.Caches.{is_elsewhere}
+use Rattle.thread_cache.specs.Desks.{DeskFacts, cached_of, discarding, held_at, holding, is_in}
+use Rattle.call_table.specs.Laws.{Has}
+use Rattle.heap_core.specs.Sitting.{is_region}
+use Rattle.heap_core.proofs.Entries.{IsKeyed, none_found, of_entry}
+use Rattle.heap_core.proofs.Having.{Shaped, hold_over, of_hand, over}
+use Rattle.heap_core.proofs.Parting.{Parts}
+use Rattle.heap_core.proofs.Regions.{any_at, one_in}
+
+-- how many regions of a class at an address the client holds in each arena
+abbrev pub Count : Type 0
+Count = ℕ → ℕ → ℕ → ℕ
+
+-- Each is there at most once, and no two are at one address.
+pub record Single (n : Count) : Type 0 where
+  pub once : (i a k : ℕ) → n i a k ≤ 1
+  pub alone : (i j a k l : ℕ) → 0 < n i a k → 0 < n j a l → (i ≡ j) × (k ≡ l)
+
+-- the client holds there what it has, and some regions more
+abbrev pub Hands : Count → List Held → DeskFacts → Type 0
+Hands n extra desk = (i a k : ℕ) → n i a k ≡ sum_by (one_in i a k) extra + over (one_in i a k) desk
+
+-- a region counts at its own place
+pub counts_itself : (r : Held) → one_in r.arena r.addr r.class r ≡ 1
+counts_itself r = rw (eqb_itself r.arena, eqb_itself r.addr, eqb_itself r.class) refl
+
+-- ---- what is held stands alone
+
+-- a region that is found is at its address, and is one of those that are held
+found_is : (f : Held → ℕ) (k : ℕ) (es : List (ℕ × Held)) (q : Held) → All IsKeyed es → lookup (nat_eq k) es ≡ Some q → (q.addr ≡ k) × (f q ≤ sum_by (of_entry f) es)
+found_is f k [] q all found = absurd (cc)
+found_is f k (e ∷ es) q all found =
+    elim (nat_eq k e.0) as (λ v. nat_eq k e.0 ≡ v → cond v (Some e.1) (lookup (nat_eq k) es) ≡ Some q → (q.addr ≡ k) × (f q ≤ sum_by (of_entry f) (e ∷ es))) [
+      | true ↦ λ h is.
+          let same : e.1 ≡ q = cc in
+          let one : f e.1 ≡ f q = ap f same in
+          (ap (λ (r : Held). r.addr) (sym same) ∙ sym (All-head IsKeyed e es all) ∙ sym (eqb-true k e.0 h), omega (arith, one, sum_by-cons (of_entry f) e es))
+      | false ↦ λ h is. let rest = found_is f k es q (All-tail IsKeyed e es all) is in (rest.0, omega (arith, rest.1, sum_by-cons (of_entry f) e es))
+    ] refl found
+
+pub held_is : (k : ℕ) (desk : DeskFacts) (q : Held) → Shaped desk → held_at k desk ≡ Some q → q.addr ≡ k
+held_is k desk q is found = (found_is (λ r. 0) k desk.held q is.keyed found).0
+
+pub held_counts : (f : Held → ℕ) (k : ℕ) (desk : DeskFacts) (q : Held) → Shaped desk → held_at k desk ≡ Some q → f q ≤ sum_by (of_entry f) desk.held
+held_counts f k desk q is found = (found_is f k desk.held q is.keyed found).1
+
+-- a region that a client has beside those that are held is at the address of none of them
+pub stands_alone : (n : Count) (extra : List Held) (desk : DeskFacts) (r : Held) → Single n → Hands n extra desk → Shaped desk →
+    ((f : Held → ℕ) → f r ≤ sum_by f extra + (sum_by f (flat_map (λ l. l) desk.cached) + of_hand f desk.hand)) → held_at r.addr desk ≡ None
+stands_alone n extra desk r single hands is beside = none_found r.addr desk.held (λ q found. absurd (twice q found))
+  where
+    twice : (q : Held) → held_at r.addr desk ≡ Some q → ⊥
+    twice q found =
+        let at : q.addr ≡ r.addr = held_is r.addr desk q is found in
+        let own : 0 < n r.arena r.addr r.class = omega (arith, hands r.arena r.addr r.class, counts_itself r, beside (one_in r.arena r.addr r.class)) in
+        let other : 0 < n q.arena q.addr q.class = omega (arith, hands q.arena q.addr q.class, counts_itself q, held_counts (one_in q.arena q.addr q.class) r.addr desk q is found) in
+        let same = single.alone r.arena q.arena r.addr r.class q.class own (subst (λ a. 0 < n q.arena a q.class) at other) in
+        let here : one_in r.arena r.addr r.class q ≡ 1 = rw (sym same.0, at, sym same.1, eqb_itself r.arena, eqb_itself r.addr, eqb_itself r.class) refl in
+        omega (
+          arith,
+          here,
+          single.once r.arena r.addr r.class,
+          hands r.arena r.addr r.class,
+          counts_itself r,
+          beside (one_in r.arena r.addr r.class),
+          held_counts (one_in r.arena r.addr r.class) r.addr desk q is found,
+        )
+
+-- a region that a client came by is held from then on
+pub hands_held : (n : Count) (r : Held) (desk : DeskFacts) → Single n → Hands n (r ∷ []) desk → Shaped desk → (held_at r.addr desk ≡ None) × Hands n [] (holding r desk)
+hands_held n r desk single hands is =
+    let none = stands_alone n (r ∷ []) desk r single hands is (λ f. omega (arith, sum_by-cons f r [])) in
+    (none, λ i a k. omega (arith, hands i a k, sum_by-cons (one_in i a k) r [], hold_over (one_in i a k) r desk none))
+
+-- the one in hand is at the address of none that is held
+pub hand_alone : (n : Count) (desk : DeskFacts) (r : Held) → Single n → Hands n [] desk → Shaped desk → desk.hand ≡ Some r → held_at r.addr desk ≡ None
+hand_alone n desk r single hands is e = stands_alone n [] desk r single hands is (λ f. let own : of_hand f desk.hand ≡ f r = ap (of_hand f) e in omega (arith, own))
+
+-- ---- regions come and go in an arena
+
+-- regions of an arena come, some of which are handed out
+pub hands_come : (n m : Count) (arena : ℕ) (come extra : List Held) (desk after : DeskFacts) → Hands n [] desk →
+    ((f : Held → ℕ) → sum_by f extra + over f after ≡ over f desk + sum_by f come) → ((a k : ℕ) → m arena a k ≡ n arena a k + sum_by (one_in arena a k) come) →
+    ((i a k : ℕ) → i ≢ arena → (m i a k ≡ n i a k) × (sum_by (one_in i a k) come ≡ 0)) → Hands m extra after
+hands_come n m arena come extra desk after hands more here others i a k = by (i == arena) refl
+  where
+    by : (v : Bool) → (i == arena) ≡ v → m i a k ≡ sum_by (one_in i a k) extra + over (one_in i a k) after
+    by true e =
+        let same : i ≡ arena = eqb-true i arena e in
+        let now : m i a k ≡ n i a k + sum_by (one_in i a k) come = subst (λ j. m j a k ≡ n j a k + sum_by (one_in j a k) come) (sym same) (here a k) in
+        omega (arith, now, hands i a k, more (one_in i a k))
+    by false e =
+        let differ : i ≢ arena = λ same. grind (arith, nat_tests) in
+        omega (arith, others i a k differ, hands i a k, more (one_in i a k))
+
+-- an address is that of none or of some of the regions
+none_at : (i a k : ℕ) (gone : List Held) → any_at a gone ≡ false → sum_by (one_in i a k) gone ≡ 0
+none_at i a k [] none = refl
+none_at i a k (r ∷ gone) none =
+    elim (r.addr == a) as (λ v. (v || any_at a gone) ≡ false → (r.addr == a) ≡ v → sum_by (one_in i a k) (r ∷ gone) ≡ 0) [
+      | true ↦ λ h e. absurd (cc)
+      | false ↦ λ h e.
+          let zero_here : one_in i a k r ≡ 0 = out (r.arena == i) (r.addr == a) (r.class == k) e in
+          omega (arith, zero_here, none_at i a k gone h, sum_by-cons (one_in i a k) r gone)
+    ] none refl
+  where
+    out : (x y z : Bool) → y ≡ false → ones (x && y && z) ≡ 0
+    out true true z e = absurd (cc)
+    out true false z e = refl
+    out false y z e = refl
+
+some_at : (arena a : ℕ) (gone : List Held) → All (λ (r : Held). r.arena ≡ arena) gone → any_at a gone ≡ true → (l : ℕ) × (0 < sum_by (one_in arena a l) gone)
+some_at arena a [] home some = absurd (cc)
+some_at arena a (r ∷ gone) home some =
+    elim (r.addr == a) as (λ v. (r.addr == a) ≡ v → (v || any_at a gone) ≡ true → (l : ℕ) × (0 < sum_by (one_in arena a l) (r ∷ gone))) [
+      | true ↦ λ e h.
+          let here : one_in arena a r.class r ≡ 1 = rw (e, All-head (λ (r : Held). r.arena ≡ arena) r gone home, eqb_itself arena, eqb_itself r.class) refl in
+          (r.class, omega (arith, here, sum_by-cons (one_in arena a r.class) r gone))
+      | false ↦ λ e h.
+          let rest = some_at arena a gone (All-tail (λ (r : Held). r.arena ≡ arena) r gone home) h in
+          (rest.0, omega (arith, rest.1, sum_by-cons (one_in arena a rest.0) r gone))
+    ] refl some
+
+none_home : (i arena a k : ℕ) (gone : List Held) → All (λ (r : Held). r.arena ≡ arena) gone → i ≢ arena → sum_by (one_in i a k) gone ≡ 0
+none_home i arena a k [] home differ = refl
+none_home i arena a k (r ∷ gone) home differ =
+    let out : one_in i a k r ≡ 0 = (elim (r.arena == i) as (λ v. (r.arena == i) ≡ v → ones (v && r.addr == a && r.class == k) ≡ 0) [
+      | true ↦ λ e. absurd (differ (sym (eqb-true r.arena i e) ∙ All-head (λ (r : Held). r.arena ≡ arena) r gone home))
+      | false ↦ λ e. refl
+    ] refl) in
+    omega (arith, out, none_home i arena a k gone (All-tail (λ (r : Held). r.arena ≡ arena) r gone home) differ, sum_by-cons (one_in i a k) r gone)
+
+-- regions of an arena go, and with them all that the client held at their addresses
+pub hands_part : (n m : Count) (arena : ℕ) (gone : List Held) (desk after : DeskFacts) → Single n → Hands n [] desk → Parts desk after gone → All (λ (r : Held). r.arena ≡ arena) gone →
+    ((a k : ℕ) → m arena a k ≡ cond (any_at a gone) 0 (n arena a k)) → ((i a k : ℕ) → i ≢ arena → m i a k ≡ n i a k) → Hands m [] after
+hands_part n m arena gone desk after single hands parts home here others i a k = let at = by (i == arena) refl in omega (arith, at)
+  where
+    at_home : (v : Bool) → any_at a gone ≡ v → m arena a k ≡ cond v 0 (n arena a k) → m arena a k ≡ over (one_in arena a k) after
+    at_home false e now = omega (arith, now, none_at arena a k gone e, hands arena a k, parts.less (one_in arena a k))
+    at_home true e now =
+        let some = some_at arena a gone home e in
+        let l : ℕ = some.0 in
+        let there : 0 < n arena a l = omega (arith, some.1, hands arena a l, parts.less (one_in arena a l)) in
+        class_is l some.1 there (k == l) refl now
+      where
+        class_is : (l : ℕ) → 0 < sum_by (one_in arena a l) gone → 0 < n arena a l → (w : Bool) → (k == l) ≡ w → m arena a k ≡ 0 → m arena a k ≡ over (one_in arena a k) after
+        class_is l some there true w now =
+            let same : k ≡ l = eqb-true k l w in
+            let sum : 0 < sum_by (one_in arena a k) gone = subst (λ (j : ℕ). 0 < sum_by (one_in arena a j) gone) (sym same) some in
+            omega (arith, now, sum, single.once arena a k, hands arena a k, parts.less (one_in arena a k))
+        class_is l some there false w now = none_of (n arena a k) refl
+          where
+            none_of : (many : ℕ) → n arena a k ≡ many → m arena a k ≡ over (one_in arena a k) after
+            none_of zero z = omega (arith, now, z, hands arena a k, parts.less (one_in arena a k))
+            none_of (suc many) z =
+                let same : k ≡ l = (single.alone arena arena a k l (omega (arith, z)) there).1 in
+                absurd (let no : (k == l) ≡ true = ap (λ j. j == l) same ∙ eqb_itself l in cc)
+
+    by : (v : Bool) → (i == arena) ≡ v → m i a k ≡ over (one_in i a k) after
+    by true e =
+        let same : i ≡ arena = eqb-true i arena e in
+        subst (λ j. m j a k ≡ over (one_in j a k) after) (sym same) (at_home (any_at a gone) refl (here a k))
+    by false e =
+        let differ : i ≢ arena = λ same. grind (arith, nat_tests) in
+        omega (arith, others i a k differ, hands i a k, parts.less (one_in i a k), none_home i arena a k gone home differ)
+
+-- ---- nothing is left in an arena
+
+-- what no region of a list is of, none is at
+none_of_arena : (arena a k : ℕ) (rs : List Held) → count_by (is_in arena) rs ≡ 0 → sum_by (one_in arena a k) rs ≡ 0
+none_of_arena arena a k [] none = refl
+none_of_arena arena a k (r ∷ rs) none =
+    elim (is_in arena r) as (λ v. ones (is_in arena r) ≡ ones v → one_in arena a k r ≡ ones (v && r.addr == a && r.class == k) → sum_by (one_in arena a k) (r ∷ rs) ≡ 0) [
+      | true ↦ λ e h. absurd (omega (arith, e, none, sum_by-cons (λ (q : Held). ones (is_in arena q)) r rs))
+      | false ↦ λ e h. omega (arith, h, none_of_arena arena a k rs (omega (arith, e, none, sum_by-cons (λ (q : Held). ones (is_in arena q)) r rs)), sum_by-cons (one_in arena a k) r rs)
+    ] refl refl
+
+-- what is held elsewhere stays
+elsewhere_sum : (arena i a k : ℕ) (es : List (ℕ × Held)) →
+    sum_by (of_entry (one_in i a k)) (filter (λ (e : ℕ × Held). is_elsewhere arena e.1) es) ≡ cond (i == arena) 0 (sum_by (of_entry (one_in i a k)) es)
+elsewhere_sum arena i a k es = by (i == arena) refl
+  where
+    here : (x : ℕ × Held) → i ≡ arena → is_elsewhere arena x.1 ≡ true → of_entry (one_in i a k) x ≡ 0
+    here x same out = zero_there (x.1.arena == arena) (x.1.arena == i) (ap (λ j. x.1.arena == j) same) out
+      where
+        zero_there : (p q : Bool) → q ≡ p → not p ≡ true → ones (q && x.1.addr == a && x.1.class == k) ≡ 0
+        zero_there true q e out = absurd (cc)
+        zero_there false true e out = absurd (cc)
+        zero_there false false e out = refl
+
+    gone : (x : ℕ × Held) → i ≢ arena → is_elsewhere arena x.1 ≡ false → of_entry (one_in i a k) x ≡ 0
+    gone x differ out = zero_there (x.1.arena == arena) (x.1.arena == i) refl refl out
+      where
+        zero_there : (p q : Bool) → (x.1.arena == arena) ≡ p → (x.1.arena == i) ≡ q → not p ≡ false → ones (q && x.1.addr == a && x.1.class == k) ≡ 0
+        zero_there false q e f out = absurd (cc)
+        zero_there true false e f out = refl
+        zero_there true true e f out = absurd (differ (sym (eqb-true x.1.arena i f) ∙ eqb-true x.1.arena arena e))
+
+    sums_here : (xs : List (ℕ × Held)) → i ≡ arena → sum_by (of_entry (one_in i a k)) (filter (λ (e : ℕ × Held). is_elsewhere arena e.1) xs) ≡ 0
+    sums_here [] same = refl
+    sums_here (x ∷ xs) same =
+        elim (is_elsewhere arena x.1) as (λ v. is_elsewhere arena x.1 ≡ v → sum_by (of_entry (one_in i a k)) (cond v (x ∷ filter (λ (e : ℕ × Held). is_elsewhere arena e.1) xs) (filter (λ (e : ℕ × Held). is_elsewhere arena e.1) xs)) ≡ 0) [
+          | true ↦ λ e. omega (arith, here x same e, sums_here xs same, sum_by-cons (of_entry (one_in i a k)) x (filter (λ (e : ℕ × Held). is_elsewhere arena e.1) xs))
+          | false ↦ λ e. sums_here xs same
+        ] refl
+
+    sums_there : (xs : List (ℕ × Held)) → i ≢ arena → sum_by (of_entry (one_in i a k)) (filter (λ (e : ℕ × Held). is_elsewhere arena e.1) xs) ≡ sum_by (of_entry (one_in i a k)) xs
+    sums_there [] differ = refl
+    sums_there (x ∷ xs) differ =
+        elim (is_elsewhere arena x.1) as (λ v. is_elsewhere arena x.1 ≡ v → sum_by (of_entry (one_in i a k)) (cond v (x ∷ filter (λ (e : ℕ × Held). is_elsewhere arena e.1) xs) (filter (λ (e : ℕ × Held). is_elsewhere arena e.1) xs)) ≡ sum_by (of_entry (one_in i a k)) (x ∷ xs)) [
+          | true ↦ λ e. omega (arith, sums_there xs differ, sum_by-cons (of_entry (one_in i a k)) x (filter (λ (e : ℕ × Held). is_elsewhere arena e.1) xs), sum_by-cons (of_entry (one_in i a k)) x xs)
+          | false ↦ λ e. omega (arith, gone x differ e, sums_there xs differ, sum_by-cons (of_entry (one_in i a k)) x xs)
+        ] refl
+
+    by : (v : Bool) → (i == arena) ≡ v → sum_by (of_entry (one_in i a k)) (filter (λ (e : ℕ × Held). is_elsewhere arena e.1) es) ≡ cond v 0 (sum_by (of_entry (one_in i a k)) es)
+    by true e = sums_here es (eqb-true i arena e)
+    by false e = sums_there es (λ same. grind (arith, nat_tests))
+
+-- all regions of an arena go, of which the client has none cached
+pub hands_discard : (n m : Count) (arena : ℕ) (desk : DeskFacts) → Hands n [] desk → desk.hand ≡ None → cached_of arena desk ≡ 0 →
+    ((a k : ℕ) → m arena a k ≡ 0) → ((i a k : ℕ) → i ≢ arena → m i a k ≡ n i a k) → Hands m [] (discarding arena desk)
+hands_discard n m arena desk hands empty none here others i a k = by (i == arena) refl (elsewhere_sum arena i a k desk.held)
+  where
+    by : (v : Bool) → (i == arena) ≡ v → sum_by (of_entry (one_in i a k)) (filter (λ (e : ℕ × Held). is_elsewhere arena e.1) desk.held) ≡ cond v 0 (sum_by (of_entry (one_in i a k)) desk.held) →
+        m i a k ≡ sum_by (one_in i a k) [] + over (one_in i a k) (discarding arena desk)
+    by true e kept =
+        let same : i ≡ arena = eqb-true i arena e in
+        let now : m i a k ≡ 0 = subst (λ j. m j a k ≡ 0) (sym same) (here a k) in
+        let cached : sum_by (one_in i a k) (flat_map (λ l. l) desk.cached) ≡ 0 = subst (λ j. sum_by (one_in j a k) (flat_map (λ l. l) desk.cached) ≡ 0) (sym same) (none_of_arena arena a k (flat_map (λ l. l) desk.cached) none) in
+        let hand : of_hand (one_in i a k) desk.hand ≡ 0 = ap (of_hand (one_in i a k)) empty in
+        omega (arith, now, kept, cached, hand)
+    by false e kept =
+        let differ : i ≢ arena = λ same. grind (arith, nat_tests) in
+        omega (arith, others i a k differ, hands i a k, kept)
+
+-- ---- what a client has it holds
+
+-- a region that a client has counts there
+pub had_counts : (n : Count) (desk : DeskFacts) (r : Held) → Hands n [] desk → Has desk r → Shaped desk → 0 < n r.arena r.addr r.class
+had_counts n desk r hands (inl (k, found)) is = omega (arith, hands r.arena r.addr r.class, counts_itself r, held_counts (one_in r.arena r.addr r.class) k desk r is found)
+had_counts n desk r hands (inr (inl (j, within, at))) is =
+    let f : Held → ℕ = one_in r.arena r.addr r.class in
+    let same : f (get_or (flat_map (λ l. l) desk.cached) j r) ≡ f r = ap f at in
+    omega (arith, hands r.arena r.addr r.class, counts_itself r, same, get_or-le-sum_by f (flat_map (λ l. l) desk.cached) j r within)
+had_counts n desk r hands (inr (inr e)) is =
+    let own : of_hand (one_in r.arena r.addr r.class) desk.hand ≡ one_in r.arena r.addr r.class r = ap (of_hand (one_in r.arena r.addr r.class)) e in
+    omega (arith, hands r.arena r.addr r.class, counts_itself r, own)
+
+-- one that passes a test is taken out of a list
+one_out : (p : Region → Bool) (ys : List Region) → 0 < count_by p ys → (x : Region) × (zs : List Region) × (p x ≡ true) × (length ys ≡ suc (length zs)) × ((f : Region → ℕ) → sum_by f ys ≡ f x + sum_by f zs)
+one_out p [] some = absurd (omega (arith, some))
+one_out p (y ∷ ys) some =
+    elim (p y) as (λ v. p y ≡ v → ones (p y) ≡ ones v → (x : Region) × (zs : List Region) × (p x ≡ true) × (suc (length ys) ≡ suc (length zs)) × ((f : Region → ℕ) → sum_by f (y ∷ ys) ≡ f x + sum_by f zs)) [
+      | true ↦ λ e o. (y, ys, e, refl, λ f. sum_by-cons f y ys)
+      | false ↦ λ e o.
+          let rest = one_out p ys (omega (arith, some, o, sum_by-cons (λ q. ones (p q)) y ys)) in
+          (rest.0, y ∷ rest.1, rest.2, ap suc rest.3, λ f. omega (arith, rest.4 f, sum_by-cons f y ys, sum_by-cons f y rest.1))
+    ] refl refl
+
+-- no more regions of an arena are listed than there are, where each is
+pub no_more : (arena : ℕ) (xs : List Held) (ys : List Region) → ((a k : ℕ) → sum_by (one_in arena a k) xs ≤ count_by (is_region a k) ys) → count_by (is_in arena) xs ≤ length ys
+no_more arena [] ys within = omega arith
+no_more arena (r ∷ rs) ys within =
+    elim (is_in arena r) as (λ v. is_in arena r ≡ v → ones (is_in arena r) ≡ ones v → count_by (is_in arena) (r ∷ rs) ≤ length ys) [
+      | true ↦ λ e o.
+          let own : one_in arena r.addr r.class r ≡ 1 = rw (e, eqb_itself r.addr, eqb_itself r.class) refl in
+          let out = one_out (is_region r.addr r.class) ys (omega (arith, own, within r.addr r.class, sum_by-cons (one_in arena r.addr r.class) r rs)) in
+          let rest = no_more arena rs out.1 (λ a k. omega (arith, alike a k e out.0 out.2, within a k, out.4 (λ q. ones (is_region a k q)), sum_by-cons (one_in arena a k) r rs)) in
+          omega (arith, o, rest, out.3, sum_by-cons (λ (q : Held). ones (is_in arena q)) r rs)
+      | false ↦ λ e o.
+          let rest = no_more arena rs ys (λ a k. omega (arith, within a k, sum_by-cons (one_in arena a k) r rs)) in
+          omega (arith, o, rest, sum_by-cons (λ (q : Held). ones (is_in arena q)) r rs)
+    ] refl refl
+  where
+    both : (p q : Bool) → (p && q) ≡ true → (p ≡ true) × (q ≡ true)
+    both true q h = (refl, h)
+    both false q h = absurd (cc)
+
+    alike : (a k : ℕ) → is_in arena r ≡ true → (x : Region) → is_region r.addr r.class x ≡ true → one_in arena a k r ≡ ones (is_region a k x)
+    alike a k e x is =
+        let tests = both (x.addr == r.addr) (x.class == r.class) is in
+        ap (λ v. ones (v && r.addr == a && r.class == k)) e ∙ sym (ap (λ n. ones (n == a && x.class == k)) (eqb-true x.addr r.addr tests.0) ∙ ap (λ n. ones (r.addr == a && n == k)) (eqb-true x.class r.class tests.1))

@@ -1,0 +1,258 @@
+-- What changes of what a client has do to its regions.
+use Rattle.std.proofs.Common.{◌≡◌, ℕ, ◌+◌, ◌-◌, ◌<◌, ◌≤◌, ◌==◌, ◌&&◌, ◌≢◌, Bool, true, false, cond, List, [], ◌∷◌, ◌++◌, All, Option, None, Some, length, map, get_or, take, drop, slice_get, slice_set, refl, sym, ◌∙◌, ap, subst, arith, suc, nat_lt, lt-ltb}
+use Rattle.std.specs.List.{flat_map, sum_by}
+use Rattle.std.proofs.lemmas.Bool.{ltb-true}
+use Rattle.std.proofs.lemmas.Bool.Decides.{nat_tests}
+use Rattle.std.proofs.lemmas.Option.{get_or_from_slice_get, slice_get-get_or, slice_get_within}
+use Rattle.std.proofs.lemmas.List.{drop_more, length-drop, nil_from_length, get_or-set_other, get_or-set_same, length-append, length-set}
+use Rattle.std.proofs.lemmas.List.Elements.{All-append, All-cons, All-filter, All-nil, All-take}
+use Rattle.std.proofs.lemmas.List.Sums.{sum_by-cons, sum_by-take-drop, sum_by_push}
+use Rattle.size_classes.specs.Classes.{slots_at}
+use Rattle.thread_cache.specs.declared.Held.{Held}
+use Rattle.thread_cache.specs.Caches.{cached_in, is_elsewhere, put_in}
+use Rattle.thread_cache.specs.Desks.{DeskFacts, before_last, caching, discarding, freeing, has_slot, held_again, held_again_with, held_at, hit, hitting, holding, is_cacheable, kept, kept_with, not_holding}
+use Rattle.call_table.specs.Desks.{region_at, sharing}
+use Rattle.heap_core.proofs.Entries.{IsKeyed, keyed_insert, keyed_remove, of_entry, sum_insert, sum_remove, sum_set}
+
+-- what is summed over the region in hand
+abbrev pub of_hand : (Held → ℕ) → Option Held → ℕ
+of_hand f None = 0
+of_hand f (Some r) = f r
+
+-- a sum over the regions that a client has
+abbrev pub over : (Held → ℕ) → DeskFacts → ℕ
+over f desk = sum_by (of_entry f) desk.held + sum_by f (flat_map (λ l. l) desk.cached) + of_hand f desk.hand
+
+-- What a client has is in order: what is held by its address, and what is cached by its class.
+pub record Shaped (desk : DeskFacts) : Type 0 where
+  pub keyed : All IsKeyed desk.held
+  pub lists : length desk.cached ≡ 41
+  pub classed : (class : ℕ) → All (λ (r : Held). r.class ≡ class) (cached_in desk.cached class)
+
+-- ---- what is held
+
+pub hold_over : (f : Held → ℕ) (r : Held) (desk : DeskFacts) → held_at r.addr desk ≡ None → over f (holding r desk) ≡ over f desk + f r
+hold_over f r desk none = omega (arith, sum_insert f desk.held r none)
+
+pub hold_shaped : (r : Held) (desk : DeskFacts) → Shaped desk → Shaped (holding r desk)
+hold_shaped r desk is = record { keyed = keyed_insert desk.held r is.keyed; lists = is.lists; classed = is.classed }
+
+pub drop_over : (f : Held → ℕ) (addr : ℕ) (r : Held) (desk : DeskFacts) → held_at addr desk ≡ Some r → over f (not_holding addr desk) + f r ≡ over f desk
+drop_over f addr r desk found = omega (arith, sum_remove f desk.held addr r found)
+
+pub drop_shaped : (addr : ℕ) (desk : DeskFacts) → Shaped desk → Shaped (not_holding addr desk)
+drop_shaped addr desk is = record { keyed = keyed_remove desk.held addr is.keyed; lists = is.lists; classed = is.classed }
+
+pub discard_shaped : (arena : ℕ) (desk : DeskFacts) → Shaped desk → Shaped (discarding arena desk)
+discard_shaped arena desk is =
+    record { keyed = All-filter (λ (e : ℕ × Held). is_elsewhere arena e.1) IsKeyed desk.held is.keyed; lists = is.lists; classed = is.classed }
+
+-- ---- one list of the cache changes
+
+-- what is known of the lists where the one of a class is others of it
+pub set_classed : (desk : DeskFacts) (class : ℕ) (list : List Held) → Shaped desk → All (λ (r : Held). r.class ≡ class) list → class < 41 → Shaped (record desk { cached = slice_set desk.cached class list })
+set_classed desk class list is all small = record {
+  keyed = is.keyed;
+  lists = length-set desk.cached class list ∙ is.lists;
+  classed = λ k. by k (class == k) refl;
+}
+  where
+    by : (k : ℕ) (v : Bool) → (class == k) ≡ v → All (λ (r : Held). r.class ≡ k) (get_or (slice_set desk.cached class list) k [])
+    by k true e =
+        let same : class ≡ k = grind (arith, nat_tests) in
+        subst (λ j. All (λ (r : Held). r.class ≡ j) (get_or (slice_set desk.cached class list) j [])) same
+        (subst (All (λ (r : Held). r.class ≡ class)) (sym (get_or-set_same desk.cached class list [] (omega (arith, small, is.lists)))) all)
+    by k false e =
+        let other : k ≢ class = λ same. grind (arith, nat_tests) in
+        subst (All (λ (r : Held). r.class ≡ k)) (sym (get_or-set_other desk.cached class k list [] other)) (is.classed k)
+
+-- ---- what is cached
+
+-- A region is cached where its class has a slot: it comes last in the list of its class, and nothing else changes.
+pub cached_as : (r : Held) (desk : DeskFacts) → r.class < 41 → has_slot r.class desk ≡ true →
+    caching r desk ≡ record desk { cached = slice_set desk.cached r.class (cached_in desk.cached r.class ++ r ∷ []) }
+cached_as r desk small slot =
+    ap (λ v. cond v (record desk { cached = slice_set desk.cached r.class (put_in r.class r (cached_in desk.cached r.class)) }) desk) (lt-ltb r.class 41 small)
+    ∙ ap (λ v. record desk { cached = slice_set desk.cached r.class (cond v (cached_in desk.cached r.class ++ r ∷ []) (cached_in desk.cached r.class)) }) slot
+
+abbrev cached_with : Held → DeskFacts → DeskFacts
+cached_with r desk = record desk { cached = slice_set desk.cached r.class (cached_in desk.cached r.class ++ r ∷ []) }
+
+with_over : (f : Held → ℕ) (r : Held) (desk : DeskFacts) → r.class < 41 → Shaped desk → over f (cached_with r desk) ≡ over f desk + f r
+with_over f r desk small is = omega (
+  arith,
+  sum_set f desk.cached r.class (cached_in desk.cached r.class ++ r ∷ []) (omega (arith, small, is.lists)),
+  sum_by_push f (cached_in desk.cached r.class) r,
+)
+
+with_shaped : (r : Held) (desk : DeskFacts) → r.class < 41 → Shaped desk → Shaped (cached_with r desk)
+with_shaped r desk small is =
+    set_classed desk r.class (cached_in desk.cached r.class ++ r ∷ []) is
+    (All-append (λ (q : Held). q.class ≡ r.class) (cached_in desk.cached r.class) (r ∷ []) (is.classed r.class) (All-cons (λ (q : Held). q.class ≡ r.class) r [] refl (All-nil (λ (q : Held). q.class ≡ r.class)))) small
+
+pub cache_over : (f : Held → ℕ) (r : Held) (desk : DeskFacts) → r.class < 41 → has_slot r.class desk ≡ true → Shaped desk → over f (caching r desk) ≡ over f desk + f r
+cache_over f r desk small slot is = ap (over f) (cached_as r desk small slot) ∙ with_over f r desk small is
+
+pub cache_shaped : (r : Held) (desk : DeskFacts) → r.class < 41 → has_slot r.class desk ≡ true → Shaped desk → Shaped (caching r desk)
+cache_shaped r desk small slot is = subst Shaped (sym (cached_as r desk small slot)) (with_shaped r desk small is)
+
+pub cache_hand : (r : Held) (desk : DeskFacts) → (caching r desk).hand ≡ desk.hand
+cache_hand r desk = elim (nat_lt r.class 41) as (λ v. (cond v (record desk { cached = slice_set desk.cached r.class (put_in r.class r (cached_in desk.cached r.class)) }) desk).hand ≡ desk.hand) [ true ↦ refl | false ↦ refl ]
+
+pub cache_arena : (r : Held) (desk : DeskFacts) → (caching r desk).arena ≡ desk.arena
+cache_arena r desk = elim (nat_lt r.class 41) as (λ v. (cond v (record desk { cached = slice_set desk.cached r.class (put_in r.class r (cached_in desk.cached r.class)) }) desk).arena ≡ desk.arena) [ true ↦ refl | false ↦ refl ]
+
+-- ---- regions of a class are shared out
+
+-- What is so once regions of a class were cached: they are all the client has more.
+pub record Shares (desk after : DeskFacts) (class : ℕ) (regions : List Held) : Type 0 where
+  pub more : (f : Held → ℕ) → over f after ≡ over f desk + sum_by f regions
+  pub shaped : Shaped after
+  pub hand : after.hand ≡ desk.hand
+  pub arena : after.arena ≡ desk.arena
+  pub long : length (cached_in after.cached class) ≡ length (cached_in desk.cached class) + length regions
+
+slot_left : (n most : ℕ) → n < most → nat_lt n most ≡ true
+slot_left n most below = lt-ltb n most below
+
+pub share_all : (arena class : ℕ) (addrs : List ℕ) (desk : DeskFacts) → Shaped desk → (0 < length addrs → (class < 41) × (length (cached_in desk.cached class) + length addrs ≤ slots_at class)) →
+    Shares desk (sharing arena class addrs desk) class (map (region_at arena class) addrs)
+share_all arena class [] desk is slots = record { more = λ f. omega arith; shaped = is; hand = refl; arena = refl; long = omega arith }
+share_all arena class (addr ∷ addrs) desk is slots =
+    let room = slots (omega arith) in
+    let rest = share_all arena class addrs desk is (λ some. (room.0, omega (arith, room.1))) in
+    let shared : DeskFacts = sharing arena class addrs desk in
+    let n : length (map (region_at arena class) addrs) ≡ length addrs = map_length addrs in
+    let slot : has_slot class shared ≡ true = slot_left _ _ (omega (arith, rest.long, n, room.1)) in
+    let r : Held = region_at arena class addr in
+    let same = cached_as r shared room.0 slot in record {
+      more = λ f. omega (arith, cache_over f r shared room.0 slot rest.shaped, rest.more f, sum_by-cons f r (map (region_at arena class) addrs));
+      shaped = cache_shaped r shared room.0 slot rest.shaped;
+      hand = cache_hand r shared ∙ rest.hand;
+      arena = cache_arena r shared ∙ rest.arena;
+      long = ap (λ (d : DeskFacts). length (cached_in d.cached class)) same
+          ∙ ap length (get_or-set_same shared.cached class (cached_in shared.cached class ++ r ∷ []) [] (omega (arith, room.0, rest.shaped.lists)))
+          ∙ omega (arith, length-append (cached_in shared.cached class) (r ∷ []), rest.long);
+    }
+  where
+    map_length : (xs : List ℕ) → length (map (region_at arena class) xs) ≡ length xs
+    map_length [] = refl
+    map_length (x ∷ xs) = ap suc (map_length xs)
+
+-- ---- a region that is freed
+
+-- What a client has more by one region, which is cached or in hand.
+pub record Gains (desk after : DeskFacts) (r : Held) : Type 0 where
+  pub more : (f : Held → ℕ) → over f after ≡ over f desk + f r
+  pub shaped : Shaped after
+  pub arena : after.arena ≡ desk.arena
+
+pub free_gains : (r : Held) (desk : DeskFacts) → Shaped desk → desk.hand ≡ None → Gains desk (freeing r desk) r
+free_gains r desk is empty = by (is_cacheable r.class desk && has_slot r.class desk) refl
+  where
+    both_true : (a b : Bool) → (a && b) ≡ true → (a ≡ true) × (b ≡ true)
+    both_true true b h = (refl, h)
+    both_true false b h = absurd (cc)
+
+    by : (v : Bool) → (is_cacheable r.class desk && has_slot r.class desk) ≡ v → Gains desk (cond v (caching r desk) (record desk { hand = Some r })) r
+    by true e =
+        let both = both_true (is_cacheable r.class desk) (has_slot r.class desk) e in
+        let small = ltb-true r.class 41 (both_true desk.caches (nat_lt r.class 41) both.0).1 in record {
+          more = λ f. cache_over f r desk small both.1 is;
+          shaped = cache_shaped r desk small both.1 is;
+          arena = cache_arena r desk;
+        }
+    by false e = record {
+      more = λ f. let none : of_hand f desk.hand ≡ 0 = ap (of_hand f) empty in omega (arith, none);
+      shaped = record { keyed = is.keyed; lists = is.lists; classed = is.classed };
+      arena = refl;
+    }
+
+-- ---- the region in hand
+
+-- the region in hand can be cached
+abbrev pub CanKeep : DeskFacts → Option Held → Type 0
+CanKeep desk None = Unit {0}
+CanKeep desk (Some r) = (r.class < 41) × (has_slot r.class desk ≡ true)
+
+-- What a client has stays, and nothing is in hand.
+pub record Settles (desk after : DeskFacts) : Type 0 where
+  pub same : (f : Held → ℕ) → over f after ≡ over f desk
+  pub shaped : Shaped after
+  pub arena : after.arena ≡ desk.arena
+  pub hand : after.hand ≡ None
+
+pub keep_settles : (desk : DeskFacts) → Shaped desk → CanKeep desk desk.hand → Settles desk (kept desk)
+keep_settles desk is can = by desk.hand refl can
+  where
+    by : (hand : Option Held) → desk.hand ≡ hand → CanKeep desk hand → Settles desk (kept_with hand desk)
+    by None e can = record { same = λ f. refl; shaped = is; arena = refl; hand = e }
+    by (Some r) e can =
+        let shaped = cache_shaped r desk can.0 can.1 is in record {
+          same = λ f.
+              let none : of_hand f (caching r desk).hand ≡ f r = ap (of_hand f) (cache_hand r desk ∙ e) in
+              let had : of_hand f desk.hand ≡ f r = ap (of_hand f) e in
+              omega (arith, cache_over f r desk can.0 can.1 is, none, had);
+          shaped = record { keyed = shaped.keyed; lists = shaped.lists; classed = shaped.classed };
+          arena = cache_arena r desk;
+          hand = refl;
+        }
+
+pub hold_settles : (desk : DeskFacts) → Shaped desk → ((r : Held) → desk.hand ≡ Some r → held_at r.addr desk ≡ None) → Settles desk (held_again desk)
+hold_settles desk is free = by desk.hand refl
+  where
+    by : (hand : Option Held) → desk.hand ≡ hand → Settles desk (held_again_with hand desk)
+    by None e = record { same = λ f. refl; shaped = is; arena = refl; hand = e }
+    by (Some r) e =
+        let shaped = hold_shaped r desk is in record {
+          same = λ f.
+              let had : of_hand f desk.hand ≡ f r = ap (of_hand f) e in
+              omega (arith, hold_over f r desk (free r e), had);
+          shaped = record { keyed = shaped.keyed; lists = shaped.lists; classed = shaped.classed };
+          arena = refl;
+          hand = refl;
+        }
+
+-- ---- a region that was hit
+
+-- a region that was hit is one of its class
+pub hit_is : (class : ℕ) (desk : DeskFacts) (r : Held) → Shaped desk → hit class desk ≡ Some r → (class < 41) × (r.class ≡ class)
+    × ((f : Held → ℕ) → over f (hitting class desk) + f r ≡ over f desk) × Shaped (hitting class desk)
+hit_is class desk r is found =
+    elim (is_cacheable class desk) as (λ v. is_cacheable class desk ≡ v → cond v (slice_get (cached_in desk.cached class) (before_last class desk)) None ≡ Some r → (class < 41) × (r.class ≡ class)
+    × ((f : Held → ℕ) → over f (hitting class desk) + f r ≡ over f desk) × Shaped (hitting class desk)) [
+      | true ↦ λ e is_it.
+          let list : List Held = cached_in desk.cached class in
+          let small : class < 41 = ltb-true class 41 (both_true desk.caches (nat_lt class 41) e).1 in
+          let within = slice_get_within list (length list - 1) r is_it in
+          let at : get_or list (length list - 1) r ≡ r = get_or_from_slice_get list (length list - 1) r r is_it in (
+            small,
+            sym (ap (λ (q : Held). q.class) at) ∙ is.classed class (length list - 1) r within,
+            λ f. let last : f (get_or list (length list - 1) r) ≡ f r = ap f at in omega (
+              arith,
+              last,
+              sum_set f desk.cached class (take (length list - 1) list) (omega (arith, small, is.lists)),
+              sum_by-take-drop f list (length list - 1),
+              ap (sum_by f) (drop_more list (length list - 1) r within),
+              sum_by-cons f (get_or list (length list - 1) r) (drop (length list - 1 + 1) list),
+              ap (sum_by f) (none_behind list within),
+            ),
+            set_classed desk class (take (length list - 1) list) is (All-take (λ (q : Held). q.class ≡ class) (length list - 1) list (is.classed class)) small,
+          )
+      | false ↦ λ e is_it. absurd (cc)
+    ] refl found
+  where
+    both_true : (a b : Bool) → (a && b) ≡ true → (a ≡ true) × (b ≡ true)
+    both_true true b h = (refl, h)
+    both_true false b h = absurd (cc)
+
+    none_behind : (list : List Held) → length list - 1 < length list → drop (length list - 1 + 1) list ≡ []
+    none_behind list within = nil_from_length (drop (length list - 1 + 1) list) (length-drop (length list - 1 + 1) list ∙ omega (arith, within))
+
+-- where none was hit of a class that is cached, there is none
+pub miss_is : (class : ℕ) (desk : DeskFacts) → is_cacheable class desk ≡ true → hit class desk ≡ None → cached_in desk.cached class ≡ []
+miss_is class desk e none = by (cached_in desk.cached class) (sym (ap (λ v. cond v (slice_get (cached_in desk.cached class) (before_last class desk)) None) e) ∙ none)
+  where
+    by : (list : List Held) → slice_get list (length list - 1) ≡ None → list ≡ []
+    by [] h = refl
+    by (x ∷ xs) h = let there = slice_get-get_or (x ∷ xs) (length (x ∷ xs) - 1) x (omega arith) in absurd (cc)

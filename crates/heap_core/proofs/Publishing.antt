@@ -1,0 +1,377 @@
+-- A client may publish a region that it holds at any moment.
+use Rattle.std.proofs.Common.{◌≡◌, ◌≢◌, inl, inr, ℕ, ◌*◌, ◌<◌, ◌≤◌, ◌==◌, ◌&&◌, ◌||◌, Bool, true, false, cond, IsTrue, List, [], ◌∷◌, Option, None, Some, length, max, refl, sym, ◌∙◌, ap, subst, arith, lt-ltb}
+use Rattle.std.specs.List.{count_by, list_any}
+use Rattle.std.proofs.lemmas.Bool.{eqb-true}
+use Rattle.std.proofs.lemmas.Bool.Decides.{nat_tests}
+use Rattle.std.proofs.lemmas.List.{get_or-set_same}
+use Rattle.std.proofs.lemmas.List.Elements.{All-cons, All-nil}
+use Rattle.std.proofs.lemmas.List.Sums.{sum_by-cons}
+use Rattle.space_model.specs.declared.entries.Setting.{Setting}
+use Rattle.space_model.specs.declared.entries.Setting.TheVariants.{Bind, Unbind}
+use Rattle.space_model.specs.declared.parts.Part.{Part}
+use Rattle.space_model.specs.declared.parts.Span.{Span}
+use Rattle.call_table.specs.declared.needs.Request.TheVariants.{Flush}
+use Rattle.call_table.specs.declared.points.Then.{Then}
+use Rattle.call_table.specs.declared.points.Then.TheVariants.{Batches, Visiting}
+use Rattle.call_table.specs.declared.points.Change.{Change}
+use Rattle.call_table.specs.declared.points.Change.TheVariants.{Stops, Visits, Leaves}
+use Rattle.space_model.specs.declared.entries.Op.{Op}
+use Rattle.space_model.specs.declared.entries.Op.TheVariants.{Publish}
+use Rattle.space_model.specs.declared.spaces.Space.{Space}
+use Rattle.space_model.specs.Own.{Mine, mine}
+use Rattle.space_model.specs.Step.{holds_at, is_live}
+use Rattle.arena_core.specs.Arenas.{emptied_by, room_after, room_of}
+use Rattle.thread_cache.specs.declared.Held.{Held}
+use Rattle.thread_cache.specs.Desks.{BatchFacts, DeskFacts, batch_of, going_with, held_at, not_holding}
+use Rattle.call_table.specs.declared.needs.Request.{Request}
+use Rattle.call_table.specs.declared.points.Wish.{Wish}
+use Rattle.call_table.specs.declared.points.TurnPoint.{TurnPoint}
+use Rattle.call_table.specs.declared.points.TurnPoint.TheVariants.{Filling, Looking, Landing, Giving, Finding, Taking, Offering, Advancing, Changing, Making, Resetting, Destroying, Dooming, Publishing, Owning}
+use Rattle.call_table.specs.declared.points.AskPoint.{AskPoint}
+use Rattle.call_table.specs.declared.points.AskPoint.TheVariants.{Skipping, Trimming, Growing, Paring, Needing, Granting, Committing, Merging, Easing, Returning, Decommitting, Forcing}
+use Rattle.call_table.specs.declared.points.Point.{Point}
+use Rattle.call_table.specs.declared.points.Point.TheVariants.{Turns, Asks, Tells}
+use Rattle.call_table.specs.declared.points.Next.{Next}
+use Rattle.call_table.specs.declared.points.Next.TheVariants.{Go}
+use Rattle.call_table.specs.Calls.{CallFacts}
+use Rattle.call_table.specs.Desks.{flushes}
+use Rattle.call_table.specs.Knows.{Alone, Droppable, Flies, Settled, in_flight, Gets, Gives, HasOffered, Idle, Knows, KnowsAsk, KnowsTurn, Pair, is_held}
+use Rattle.call_table.specs.Laws.{KnowsNext, Ready}
+use Rattle.call_table.specs.Rooms.{flying, needed_at}
+use Rattle.call_table.specs.Runs.{batch_goes, stage}
+use Rattle.call_table.proofs.Beginning.{batches-know}
+use Rattle.call_table.proofs.Own.{Nothing, live_where, region_found}
+use Rattle.heap_core.specs.Arenas.{IsArenas, record_after, record_at, room_in}
+use Rattle.heap_core.specs.Clients.{CanTurn, IsIdle, after_turn, mine_in}
+use Rattle.heap_core.specs.Records.{Record}
+use Rattle.heap_core.specs.Sitting.{AimsSit, Has, HoldersPublish, IsSeated, IsTheHand, Sits, SitsAt, Suits, SuitsAsk, SuitsChange, SuitsGet, SuitsThen, SuitsTurn, is_region}
+use Rattle.heap_core.proofs.Clients.{elsewhere_is, sound_at, there_is}
+use Rattle.heap_core.proofs.Hands.{had_counts, hands_part, held_is}
+use Rattle.heap_core.proofs.Having.{drop_over, drop_shaped}
+use Rattle.heap_core.proofs.Parting.{Parts}
+use Rattle.heap_core.proofs.Regions.{count_at, published_counts}
+use Rattle.heap_core.proofs.Settling.{Owns, any_region, count_in, counts_low, has_owns, is_ready, owns_has, single_in}
+use Rattle.heap_core.proofs.Turns.{count_else, count_here, still_bound, was_bound}
+
+-- ---- what suits a point doesn't hang on what is held
+
+abbrev held_as : List (ℕ × Held) → DeskFacts → DeskFacts
+held_as held desk = record desk { held = held }
+
+get_held : (held : List (ℕ × Held)) (desk : DeskFacts) (arena class count : ℕ) → SuitsGet desk arena class count → SuitsGet (held_as held desk) arena class count
+get_held held desk arena class count suits = record { empty = suits.empty; own = suits.own; slots = suits.slots }
+
+later_held : (held : List (ℕ × Held)) (desk : DeskFacts) (later : Then) → SuitsThen desk later → SuitsThen (held_as held desk) later
+later_held held desk Batches suits = suits
+later_held held desk (Visiting visit left) suits = suits
+
+change_held : (held : List (ℕ × Held)) (desk : DeskFacts) (arena : ℕ) (setting : Setting) (change : Change) → SuitsChange desk arena setting change → SuitsChange (held_as held desk) arena setting change
+change_held held desk arena Unbind Stops suits = suits
+change_held held desk arena setting Stops suits = tt
+change_held held desk arena Unbind (Visits visit) suits = suits
+change_held held desk arena setting (Visits visit) suits = (tt, suits.1)
+change_held held desk arena Bind (Leaves old) suits = suits
+change_held held desk arena setting (Leaves old) suits = absurd suits
+
+ask_held : (held : List (ℕ × Held)) (desk : DeskFacts) (arena : ℕ) (point : AskPoint) → SuitsAsk desk arena point → SuitsAsk (held_as held desk) arena point
+ask_held held desk arena (Skipping wish span b skip) suits = get_held held desk arena wish.class wish.count suits
+ask_held held desk arena (Trimming wish span b) suits = get_held held desk arena wish.class wish.count suits
+ask_held held desk arena (Growing wish chunks) suits = get_held held desk arena wish.class wish.count suits
+ask_held held desk arena (Paring wish span b) suits = get_held held desk arena wish.class wish.count suits
+ask_held held desk arena (Needing wish) suits = get_held held desk arena wish.class wish.count suits
+ask_held held desk arena (Granting wish span b) suits = get_held held desk arena wish.class wish.count suits
+ask_held held desk arena (Committing wish span) suits = get_held held desk arena wish.class wish.count suits
+ask_held held desk arena (Merging low high own_low fresh later) suits = later_held held desk later suits
+ask_held held desk arena (Easing span later) suits = later_held held desk later suits
+ask_held held desk arena (Returning span later) suits = later_held held desk later suits
+ask_held held desk arena (Decommitting span later) suits = later_held held desk later suits
+ask_held held desk arena (Forcing span later) suits = later_held held desk later suits
+
+turn_held : (held : List (ℕ × Held)) (desk : DeskFacts) (request : Request) (arena : ℕ) (point : TurnPoint) → SuitsTurn desk request arena point → SuitsTurn (held_as held desk) request arena point
+turn_held held desk request arena (Filling wish count) suits = (get_held held desk arena wish.class count suits.0, suits.1)
+turn_held held desk request arena (Looking wish) suits = get_held held desk arena wish.class wish.count suits
+turn_held held desk request arena (Landing wish span) suits = get_held held desk arena wish.class wish.count suits
+turn_held held desk request arena (Giving addrs) suits = by desk.hand suits
+  where
+    by : (hand : Option Held) → batch_of (going_with hand (flushes request) desk) ≡ Some (record { arena = arena; addrs = addrs }) → batch_of (going_with hand (flushes request) (held_as held desk)) ≡ Some (record { arena = arena; addrs = addrs })
+    by None e = all (flushes request) e
+      where
+        all : (v : Bool) → batch_of (going_with None v desk) ≡ Some (record { arena = arena; addrs = addrs }) → batch_of (going_with None v (held_as held desk)) ≡ Some (record { arena = arena; addrs = addrs })
+        all true e = e
+        all false e = e
+    by (Some r) e = e
+turn_held held desk request arena (Finding own tries fresh later) suits = later_held held desk later suits
+turn_held held desk request arena (Taking visit left) suits = suits
+turn_held held desk request arena (Offering span later) suits = later_held held desk later suits
+turn_held held desk request arena (Advancing now) suits = suits
+turn_held held desk request arena (Changing setting change) suits = (suits.0, change_held held desk arena setting change suits.1)
+turn_held held desk request arena (Making index setting) suits = suits
+turn_held held desk request arena (Resetting cached) suits = suits
+turn_held held desk request arena (Destroying cached) suits = suits
+turn_held held desk request arena Dooming suits = suits
+turn_held held desk request arena (Publishing addr) suits = suits
+turn_held held desk request arena (Owning addr frees) suits = suits
+
+suits_held : (held : List (ℕ × Held)) (desk : DeskFacts) (request : Request) (arena : ℕ) (point : Point) → Suits desk request arena point → Suits (held_as held desk) request arena point
+suits_held held desk request arena (Turns point) suits = turn_held held desk request arena point suits
+suits_held held desk request arena (Asks point heard) suits = ask_held held desk arena point suits
+suits_held held desk request arena (Tells span b) suits = suits
+
+-- ---- what is known again
+
+-- What a client owns but for its regions is as it was.
+pub record Alike (m m' : Mine) : Type 0 where
+  pub flights : m'.flights ≡ m.flights
+  pub offers : m'.offers ≡ m.offers
+  pub bound : m'.bound ≡ m.bound
+  pub dying : m'.dying ≡ m.dying
+
+idle_again : (m m' : Mine) → Alike m m' → Idle m → Idle m'
+idle_again m m' alike idle = record { flights = alike.flights ∙ idle.flights; offers = alike.offers ∙ idle.offers }
+
+module _ (records : List Record) (c arena : ℕ) (desk : DeskFacts) (request : Request) (m : Mine) (owns : Owns records c [] desk) (alike : Alike m (mine_in records c arena)) (others : (i : ℕ) → i ≢ arena → Idle (mine_in records c i)) where
+  abbrev m' : Mine
+  m' = mine_in records c arena
+
+  all_idle : Idle m' → IsIdle records c
+  all_idle idle i = by (i == arena) refl
+    where
+      by : (v : Bool) → (i == arena) ≡ v → Idle (mine_in records c i)
+      by true e = let home : i ≡ arena = eqb-true i arena e in subst (λ n. Idle (mine_in records c n)) (sym home) idle
+      by false e = others i (λ home. grind (arith, nat_tests))
+
+  ready : Idle m → (next : Next) → Ready m' desk (stage arena next)
+  ready idle next = is_ready records c desk (stage arena next) owns (all_idle (idle_again m m' alike idle))
+
+  gets_again : (wish : Wish) (count : ℕ) → SuitsGet desk arena wish.class count → Gets m wish → Gets m' wish
+  gets_again wish count suits gets = record {
+    is = gets.is;
+    served = ap (λ v. v || list_any (λ _. true) m'.regions) (subst (λ n. (mine_in records c n).bound ≡ true) (sym suits.own) owns.bound);
+  }
+
+  alone_again : (span : Span) (b : Bool) → Alone m span b → Alone m' span b
+  alone_again span b alone = record { part = alone.part; flights = alike.flights ∙ alone.flights; spans = alone.spans; committed = alone.committed; offers = alike.offers ∙ alone.offers }
+
+  flies_again : (span : Span) (P : Part → Type 0) → Flies m span P → Flies m' span P
+  flies_again span P flies = record { part = flies.part; found = ap (in_flight span) alike.flights ∙ flies.found; is = flies.is; offers = alike.offers ∙ flies.offers }
+
+  pair_again : (low high : Span) (fresh : Bool) → Pair m low high fresh → Pair m' low high fresh
+  pair_again low high fresh pair = record {
+    low_part = pair.low_part;
+    high_part = pair.high_part;
+    low_found = ap (in_flight low) alike.flights ∙ pair.low_found;
+    high_found = ap (in_flight high) alike.flights ∙ pair.high_found;
+    alike = pair.alike;
+    side_by_side = pair.side_by_side;
+    low_settled = pair.low_settled;
+    high_settled = pair.high_settled;
+    offers = alike.offers ∙ pair.offers;
+  }
+
+  offered_again : (span : Span) → HasOffered m span → HasOffered m' span
+  offered_again span offered = record { offer = offered.offer; offers = alike.offers ∙ offered.offers; spans = offered.spans; committed = offered.committed }
+
+  gives_again : (addrs : List ℕ) → SuitsTurn desk request arena (Giving addrs) → Gives m addrs → Gives m' addrs
+  gives_again addrs suits gives =
+      let batch : BatchFacts = record { arena = arena; addrs = addrs } in
+      let at : Next = Go (Turns (Giving addrs)) in
+      let know : Ready m' desk (batch_goes arena (Some batch)) → KnowsNext m' at = subst (λ o. Ready m' desk (batch_goes arena o) → KnowsNext m' (batch_goes arena o).next) suits (batches-know m' request desk arena) in
+      know (ready gives.idle at)
+
+  hand_again : (addr : ℕ) (hand : Option Held) → desk.hand ≡ hand → IsTheHand arena addr hand → Idle m → is_held m' addr ≡ true
+  hand_again addr None e is idle = absurd is
+  hand_again addr (Some r) e is idle = subst (λ a. is_held m' a ≡ true) is.0 ((ready idle (Go (Turns (Publishing addr)))).holds r (inr (inr e)) (sym is.1))
+
+  turn_again : (point : TurnPoint) → SuitsTurn desk request arena point → KnowsTurn m point → KnowsTurn m' point
+  turn_again (Filling wish count) suits knows = (gets_again wish count suits.0 knows.0, idle_again m m' alike knows.1, knows.2, knows.3)
+  turn_again (Looking wish) suits knows = (gets_again wish wish.count suits knows.0, idle_again m m' alike knows.1)
+  turn_again (Landing wish span) suits knows = (gets_again wish wish.count suits knows.0, alone_again span true knows.1, knows.2)
+  turn_again (Giving addrs) suits knows = gives_again addrs suits knows
+  turn_again (Finding own tries fresh later) suits knows = (knows.0, flies_again own (Settled fresh) knows.1, knows.2)
+  turn_again (Taking visit left) suits knows = (idle_again m m' alike knows.0, knows.1, knows.2)
+  turn_again (Offering span later) suits knows = (flies_again span Droppable knows.0, knows.1)
+  turn_again (Advancing now) suits knows = idle_again m m' alike knows
+  turn_again (Changing setting change) suits knows = (idle_again m m' alike knows.0, knows.1, knows.2, knows.3)
+  turn_again (Making index setting) suits knows = (idle_again m m' alike knows.0, knows.1, knows.2)
+  turn_again (Resetting cached) suits knows =
+      (idle_again m m' alike knows.0, (let few = (ready knows.0 (Go (Turns (Resetting cached)))).cached in omega (arith, few, suits.1)))
+  turn_again (Destroying cached) suits knows =
+      (idle_again m m' alike knows.0, (let few = (ready knows.0 (Go (Turns (Destroying cached)))).cached in omega (arith, few, suits.1)))
+  turn_again Dooming suits knows = (idle_again m m' alike knows.0, alike.dying ∙ knows.1)
+  turn_again (Publishing addr) suits knows = (idle_again m m' alike knows.0, hand_again addr desk.hand refl suits knows.0)
+  turn_again (Owning addr frees) suits knows = idle_again m m' alike knows
+
+  ask_again : (point : AskPoint) → SuitsAsk desk arena point → KnowsAsk m point → KnowsAsk m' point
+  ask_again (Skipping wish span b skip) suits knows = (gets_again wish wish.count suits knows.0, alone_again span b knows.1, knows.2, knows.3)
+  ask_again (Trimming wish span b) suits knows = (gets_again wish wish.count suits knows.0, alone_again span b knows.1, knows.2)
+  ask_again (Growing wish chunks) suits knows = (gets_again wish wish.count suits knows.0, idle_again m m' alike knows.1, knows.2)
+  ask_again (Paring wish span b) suits knows = (gets_again wish wish.count suits knows.0, alone_again span b knows.1, knows.2)
+  ask_again (Needing wish) suits knows = (gets_again wish wish.count suits knows.0, idle_again m m' alike knows.1)
+  ask_again (Granting wish span b) suits knows = (gets_again wish wish.count suits knows.0, alone_again span b knows.1, knows.2)
+  ask_again (Committing wish span) suits knows = (gets_again wish wish.count suits knows.0, alone_again span false knows.1, knows.2)
+  ask_again (Merging low high own_low fresh later) suits knows = (pair_again low high fresh knows.0, knows.1)
+  ask_again (Easing span later) suits knows = (flies_again span _ knows.0, knows.1)
+  ask_again (Returning span later) suits knows = (offered_again span knows.0, knows.1)
+  ask_again (Decommitting span later) suits knows = (flies_again span _ knows.0, knows.1)
+  ask_again (Forcing span later) suits knows = (flies_again span _ knows.0, knows.1)
+
+  pub knows_again : (point : Point) → Suits desk request arena point → Knows m point → Knows m' point
+  knows_again (Turns point) suits knows = turn_again point suits knows
+  knows_again (Asks point heard) suits knows = (ask_again point suits knows.0, knows.1)
+  knows_again (Tells span b) suits knows = (idle_again m m' alike knows.0, alike.dying ∙ knows.1)
+
+-- ---- a region that is held is published
+
+module _ (records : List Record) (c : ℕ) (region : Held) (desk : DeskFacts) (is : IsArenas records) (few : c < 32) (owns : Owns records c [] desk) (found : held_at region.addr desk ≡ Some region) where
+  abbrev op : Op
+  op = Publish region.addr
+
+  abbrev s : Space
+  s = (record_at records region.arena).space
+
+  abbrev rest : List Record
+  rest = after_turn records region.arena c op None
+
+  abbrev less : DeskFacts
+  less = not_holding region.addr desk
+
+  some : 0 < count_in records c region.arena region.addr region.class
+  some = had_counts (count_in records c) desk region owns.hands (inl (region.addr, found)) owns.shaped
+
+  low : region.arena < 32
+  low = counts_low records c region.arena region.addr region.class is some
+
+  not_nothing : ¬ Nothing (mine c s)
+  not_nothing nothing =
+      let none : count_in records c region.arena region.addr region.class ≡ 0 = ap (count_by (is_region region.addr region.class)) nothing.regions in
+      omega (arith, some, none)
+
+  can : CanTurn records c region.arena op None
+  can =
+      let live = live_where c s (sound_at records region.arena is low) not_nothing in
+      let held : holds_at c s.regions region.addr ≡ true = region_found c s.regions region.addr ∙ any_region region.addr region.class (mine c s).regions some in record {
+        stands = subst (λ b. IsTrue (b && (is_live s.life && holds_at c s.regions region.addr))) (sym (lt-ltb c 32 few)) (subst (λ b. IsTrue (b && holds_at c s.regions region.addr)) (sym live) held);
+        room = λ e. absurd (cc);
+        kept = tt;
+      }
+
+  owns_less : Owns rest c [] less
+  owns_less =
+      let parts : Parts desk less (region ∷ []) = record {
+        less = λ f. omega (arith, drop_over f region.addr region desk found, sum_by-cons f region []);
+        shaped = drop_shaped region.addr desk owns.shaped;
+        arena = refl;
+      } in
+      let bound = still_bound records c region.arena desk empty_request None is low owns op less (inl (refl, λ home. was_bound records c region.arena desk empty_request None is low owns home)) in record {
+        hands = hands_part (count_in records c) (count_in rest c) region.arena (region ∷ []) desk less (single_in records c is) owns.hands parts (All-cons (λ (q : Held). q.arena ≡ region.arena) region [] refl (All-nil (λ (q : Held). q.arena ≡ region.arena)))
+            (λ a k. count_here records c region.arena desk empty_request None is low owns op a k ∙ published_counts c region.addr a k s.regions ∙ ap (λ v. cond v 0 (count_at c a k s.regions)) (or_none (region.addr == a)))
+            (λ i a k differ. count_else records c region.arena desk empty_request None is low owns op i a k differ);
+        shaped = parts.shaped;
+        low = bound.0;
+        bound = bound.1;
+      }
+    where
+      empty_request : Request
+      empty_request = Flush
+
+      or_none : (v : Bool) → v ≡ (v || false)
+      or_none true = refl
+      or_none false = refl
+
+  -- what the client owns in any arena but for its regions
+  alike : (i : ℕ) → Alike (mine_in records c i) (mine_in rest c i)
+  alike i = by (i == region.arena) refl
+    where
+      new : Record
+      new = record_after (record_at records region.arena) c op None
+
+      of_record : (r r' : Record) → r' ≡ r → Alike (mine c r.space) (mine c r'.space)
+      of_record r r' e = subst (λ (x : Record). Alike (mine c r.space) (mine c x.space)) (sym e) (record { flights = refl; offers = refl; bound = refl; dying = refl })
+
+      here : Alike (mine c s) (mine c new.space)
+      here = record { flights = refl; offers = refl; bound = refl; dying = refl }
+
+      by : (v : Bool) → (i == region.arena) ≡ v → Alike (mine_in records c i) (mine_in rest c i)
+      by true e =
+          let home : i ≡ region.arena = eqb-true i region.arena e in
+          subst (λ n. Alike (mine_in records c n) (mine_in rest c n)) (sym home) (subst (λ (x : Record). Alike (mine c s) (mine c x.space)) (sym (there_is records region.arena new is low)) here)
+      by false e = of_record (record_at records i) (record_at rest i) (elsewhere_is records region.arena i new (λ home. grind (arith, nat_tests)))
+
+  more_room : (i : ℕ) → room_in records i c ≤ room_in rest i c
+  more_room i = by (i == region.arena) refl
+    where
+      new : Record
+      new = record_after (record_at records region.arena) c op None
+
+      grows : (room emptied : ℕ) → room ≤ max (max room 16) (16 * emptied)
+      grows room emptied = grind arith
+
+      by : (v : Bool) → (i == region.arena) ≡ v → room_in records i c ≤ room_in rest i c
+      by true e =
+          let home : i ≡ region.arena = eqb-true i region.arena e in
+          let set : room_of c new.rooms ≡ max (max (room_in records region.arena c) 16) (16 * emptied_by c op s) =
+          get_or-set_same (record_at records region.arena).rooms c (room_after s (room_in records region.arena c) c op) 0 (omega (arith, few, is.clients region.arena low)) in
+          let at : room_in rest region.arena c ≡ room_of c new.rooms = ap (λ (x : Record). room_of c x.rooms) (there_is records region.arena new is low) in
+          let grown : room_in records region.arena c ≤ room_in rest region.arena c = omega (arith, set, at, grows (room_in records region.arena c) (emptied_by c op s)) in
+          subst (λ n. room_in records n c ≤ room_in rest n c) (sym home) grown
+      by false e =
+          let same : room_in rest i c ≡ room_in records i c = ap (λ (x : Record). room_of c x.rooms) (elsewhere_is records region.arena i new (λ home. grind (arith, nat_tests))) in omega (arith, same)
+
+  sits_less : (request : Request) (arena : ℕ) (point : Point) → Sits records c desk request arena point → Sits rest c less request arena point
+  sits_less request arena point sits =
+      let suits = suits_held less.held desk request arena point sits.suits in
+      let others : (i : ℕ) → i ≢ arena → Idle (mine_in rest c i) = λ i ne. idle_again (mine_in records c i) (mine_in rest c i) (alike i) (sits.waits.elsewhere i ne) in
+      let same : flying (mine_in rest c arena) ≡ flying (mine_in records c arena) = ap length (alike arena).flights in record {
+        has = owns_has rest c less owns_less;
+        waits = record {
+          there = sits.waits.there;
+          knows = knows_again rest c arena less request (mine_in records c arena) owns_less (alike arena) others point suits sits.waits.knows;
+          elsewhere = others;
+          room = subst (λ n. needed_at n point ≤ room_in rest arena c) (sym same) (omega (arith, sits.waits.room, more_room arena));
+        };
+        suits = suits;
+      }
+
+  sits_at_less : (call : CallFacts) (next : Next) → SitsAt records c desk call next → SitsAt rest c less call next
+  sits_at_less call (Go point) sits = sits_less call.request call.stage.arena point sits
+  sits_at_less call next sits = sits
+
+  seated_less : (call : Option CallFacts) → IsSeated records c desk call → IsSeated rest c less call
+  seated_less None rests = record {
+    has = owns_has rest c less owns_less;
+    idle = λ i. idle_again (mine_in records c i) (mine_in rest c i) (alike i) (rests.idle i);
+    empty = rests.empty;
+  }
+  seated_less (Some call) sits = (sits.0, sits_at_less call call.stage.next sits.1)
+
+-- what a client has is so at any moment
+seat_has : (records : List Record) (c : ℕ) (desk : DeskFacts) (call : Option CallFacts) → IsSeated records c desk call → Has records c desk
+seat_has records c desk None rests = rests.has
+seat_has records c desk (Some call) sits = by call.stage.next sits.1
+  where
+    by : (next : Next) → SitsAt records c desk call next → Has records c desk
+    by (Go point) sits = sits.has
+    by next sits = absurd sits
+
+pub holders-publish : HoldersPublish
+holders-publish records c addr seat region is few sound held =
+    let owns = has_owns records c seat.desk (seat_has records c seat.desk seat.call sound) in
+    let at : region.addr ≡ addr = held_is addr seat.desk region owns.shaped held in
+    let found : held_at region.addr seat.desk ≡ Some region = ap (λ a. held_at a seat.desk) at ∙ held in
+    (at, low records c region seat.desk is few owns found, can records c region seat.desk is few owns found, seated_less records c region seat.desk is few owns found seat.call sound)
+
+-- ---- a call takes a region over in any arena
+
+pub aims-sit : AimsSit
+aims-sit records c addr arena arena' desk request low sits = record {
+  has = sits.has;
+  waits = record { there = low; knows = idle arena'; elsewhere = λ i ne. idle i; room = omega arith };
+  suits = sits.suits;
+}
+  where
+    idle : (i : ℕ) → Idle (mine_in records c i)
+    idle i = by (i == arena) refl
+      where
+        by : (v : Bool) → (i == arena) ≡ v → Idle (mine_in records c i)
+        by true e = let home : i ≡ arena = eqb-true i arena e in subst (λ n. Idle (mine_in records c n)) (sym home) sits.waits.knows
+        by false e = sits.waits.elsewhere i (λ home. grind (arith, nat_tests))

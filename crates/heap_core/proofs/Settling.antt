@@ -1,0 +1,309 @@
+-- Where a call came, its client is as it has to be.
+use Rattle.std.proofs.Common.{◌≡◌, ℕ, ◌+◌, ◌-◌, ◌*◌, ◌/◌, ◌<◌, ◌≤◌, ◌==◌, ◌&&◌, ◌||◌, ◌++◌, Bool, true, false, cond, List, [], ◌∷◌, Option, None, Some, length, map, take, refl, sym, ◌∙◌, ap, subst, arith, min, max, nat_lt}
+use Rattle.std.specs.List.{count_by, flat_map, list_all, list_any, sum_by}
+use Rattle.std.proofs.lemmas.Bool.{eqb-true, ltb-true}
+use Rattle.std.proofs.lemmas.Bool.Decides.{nat_tests}
+use Rattle.std.proofs.lemmas.List.{length-take}
+use Rattle.std.proofs.lemmas.List.Sums.{sum_by-append, sum_by-cons}
+use Rattle.size_classes.specs.Classes.{regions_at, slots_at}
+use Rattle.space_model.specs.declared.parts.Region.{Region as SpaceRegion}
+use Rattle.space_model.specs.Own.{Mine, mine}
+use Rattle.space_model.specs.Span.{has_page}
+use Rattle.space_model.proofs.Lists.{counted_any, map_terms, ones}
+use Rattle.thread_cache.specs.declared.Held.{Held}
+use Rattle.thread_cache.specs.Caches.{cached_in}
+use Rattle.thread_cache.specs.Desks.{BatchFacts, DeskFacts, batch_of, going, going_with, held_again, holding, is_cacheable, kept, older_count}
+use Rattle.call_table.specs.declared.calls.Stage.{Stage}
+use Rattle.call_table.specs.declared.needs.Answered.{Answered}
+use Rattle.call_table.specs.declared.needs.Answered.TheVariants.{Ok, NoArena}
+use Rattle.call_table.specs.declared.needs.Given.TheVariants.{Region, Done as Finished, Arena, Limits}
+use Rattle.call_table.specs.declared.needs.Request.{Request}
+use Rattle.call_table.specs.declared.needs.Request.TheVariants.{Cache}
+use Rattle.call_table.specs.declared.points.Point.{Point}
+use Rattle.call_table.specs.declared.points.Point.TheVariants.{Turns}
+use Rattle.call_table.specs.declared.points.TurnPoint.TheVariants.{Giving}
+use Rattle.call_table.specs.declared.points.Next.{Next}
+use Rattle.call_table.specs.declared.points.Next.TheVariants.{Go, Over, More, Gone, Ends, Nowhere}
+use Rattle.call_table.specs.Desks.{desk_ended, flushes, region_at, switched}
+use Rattle.call_table.specs.Knows.{Gives, Idle, Knows, is_held, is_served}
+use Rattle.call_table.specs.Laws.{KnowsNext, Ready}
+use Rattle.call_table.specs.Rooms.{flying, needed_at}
+use Rattle.call_table.specs.Runs.{batch_goes, closed, moved, settle}
+use Rattle.call_table.proofs.Beginning.{batches-know}
+use Rattle.heap_core.specs.Arenas.{IsArenas, no_record, record_at, room_in}
+use Rattle.heap_core.specs.Clients.{IsIdle, Waits, WaitsNext, mine_in}
+use Rattle.heap_core.specs.Records.{Record}
+use Rattle.heap_core.specs.Sitting.{Comes, Has, Rests, in_hand, is_region, is_region_in, regions_of}
+use Rattle.heap_core.proofs.Clients.{sound_at}
+use Rattle.heap_core.proofs.Hands.{Count, Hands, Single, had_counts, hand_alone, hands_held, no_more}
+use Rattle.heap_core.proofs.Having.{CanKeep, Settles, Shaped, hold_settles, hold_shaped, keep_settles, of_hand, over}
+use Rattle.heap_core.proofs.Parting.{no_batch}
+use Rattle.heap_core.proofs.Regions.{one_in}
+use Rattle.heap_core.proofs.Singles.{held_page, most_one, two_classes}
+use Rattle.heap_core.proofs.Suiting.{Suited, SuitsAnswer}
+use Rattle.heap_core.proofs.Turned.{one_owner, past}
+
+-- ---- what a client holds in the arenas
+
+-- how many regions of a class at an address a client holds in an arena
+abbrev pub count_in : List Record → ℕ → Count
+count_in records c i a k = count_by (is_region a k) (mine_in records c i).regions
+
+-- nobody holds anything where there is no arena
+none_past : (records : List Record) (c i : ℕ) → IsArenas records → 32 ≤ i → (mine_in records c i).regions ≡ []
+none_past records c i is far = ap (λ (r : Record). (mine c r.space).regions) (past records i no_record (omega (arith, far, is.number)))
+
+pub counts_low : (records : List Record) (c i a k : ℕ) → IsArenas records → 0 < count_in records c i a k → i < 32
+counts_low records c i a k is some = by (nat_lt i 32) refl
+  where
+    by : (v : Bool) → nat_lt i 32 ≡ v → i < 32
+    by true e = ltb-true i 32 e
+    by false e =
+        let far : 32 ≤ i = grind (arith, nat_tests) in
+        let none : count_in records c i a k ≡ 0 = ap (count_by (is_region a k)) (none_past records c i is far) in
+        absurd (omega (arith, some, none))
+
+-- each region is held once, and no two at one address
+pub single_in : (records : List Record) (c : ℕ) → IsArenas records → Single (count_in records c)
+single_in records c is = record {
+  once = λ i a k. once i a k (nat_lt i 32) refl;
+  alone = λ i j a k l first second. alone i j a k l first second;
+}
+  where
+    once : (i a k : ℕ) (v : Bool) → nat_lt i 32 ≡ v → count_in records c i a k ≤ 1
+    once i a k true e = most_one c a k (record_at records i).space (sound_at records i is (ltb-true i 32 e))
+    once i a k false e =
+        let far : 32 ≤ i = grind (arith, nat_tests) in
+        let none : count_in records c i a k ≡ 0 = ap (count_by (is_region a k)) (none_past records c i is far) in
+        omega (arith, none)
+
+    page_at : (i a k : ℕ) → 0 < count_in records c i a k → list_any (λ p. has_page (a / 4096) p.span) (record_at records i).space.parts ≡ true
+    page_at i a k some = counted_any (λ p. has_page (a / 4096) p.span) (record_at records i).space.parts (held_page c a k (record_at records i).space (sound_at records i is (counts_low records c i a k is some)) some)
+
+    alone : (i j a k l : ℕ) → 0 < count_in records c i a k → 0 < count_in records c j a l → (i ≡ j) × (k ≡ l)
+    alone i j a k l first second =
+        let same : i ≡ j = one_owner records is (a / 4096) i j (page_at i a k first) (page_at j a l second) in
+        let here : 0 < count_in records c i a l = subst (λ n. 0 < count_in records c n a l) (sym same) second in
+        (same, class_of (k == l) refl here)
+      where
+        class_of : (v : Bool) → (k == l) ≡ v → 0 < count_in records c i a l → k ≡ l
+        class_of true e here = eqb-true k l e
+        class_of false e here =
+            let two = two_classes c a k l (record_at records i).space (sound_at records i is (counts_low records c i a k is first)) (λ same. grind (arith, nat_tests)) in
+            absurd (omega (arith, two, first, here))
+
+-- ---- what a client has
+
+-- a count over its regions, part by part
+pub regions_over : (test : Held → Bool) (desk : DeskFacts) → count_by test (regions_of desk) ≡ over (λ r. ones (test r)) desk
+regions_over test desk =
+    let f : Held → ℕ = λ r. ones (test r) in
+    let cached : List Held = flat_map (λ list. list) desk.cached in
+    let held : List Held = map (λ (e : ℕ × Held). e.1) desk.held in
+    let all : count_by test (regions_of desk) ≡ sum_by f (held ++ cached) + sum_by f (in_hand desk.hand) = sum_by-append f (held ++ cached) (in_hand desk.hand) in
+    let last : sum_by f (in_hand desk.hand) ≡ of_hand f desk.hand = hand_over desk.hand in
+    omega (arith, all, last, sum_by-append f held cached, map_terms f (λ (e : ℕ × Held). e.1) desk.held)
+  where
+    hand_over : (hand : Option Held) → count_by test (in_hand hand) ≡ of_hand (λ r. ones (test r)) hand
+    hand_over None = refl
+    hand_over (Some r) = omega (arith, sum_by-cons (λ q. ones (test q)) r [])
+
+-- What a client has, and some regions that it came by beside, is so among the arenas.
+pub record Owns (records : List Record) (c : ℕ) (extra : List Held) (desk : DeskFacts) : Type 0 where
+  pub hands : Hands (count_in records c) extra desk
+  pub shaped : Shaped desk
+  pub low : desk.arena < 32
+  pub bound : (mine_in records c desk.arena).bound ≡ true
+
+pub owns_has : (records : List Record) (c : ℕ) (desk : DeskFacts) → Owns records c [] desk → Has records c desk
+owns_has records c desk owns = record {
+  hands = λ i a k. omega (arith, owns.hands i a k, regions_over (is_region_in i a k) desk);
+  keyed = owns.shaped.keyed;
+  lists = owns.shaped.lists;
+  classed = owns.shaped.classed;
+  arena = owns.low;
+  bound = owns.bound;
+}
+
+pub has_owns : (records : List Record) (c : ℕ) (desk : DeskFacts) → Has records c desk → Owns records c [] desk
+has_owns records c desk has = record {
+  hands = λ i a k. omega (arith, has.hands i a k, regions_over (is_region_in i a k) desk);
+  shaped = record { keyed = has.keyed; lists = has.lists; classed = has.classed };
+  low = has.arena;
+  bound = has.bound;
+}
+
+-- a client with the same regions, bound as it was
+pub settles_owns : (records : List Record) (c : ℕ) (desk after : DeskFacts) → Owns records c [] desk → Settles desk after → Owns records c [] after
+settles_owns records c desk after owns same = record {
+  hands = λ i a k. omega (arith, owns.hands i a k, same.same (one_in i a k));
+  shaped = same.shaped;
+  low = omega (arith, owns.low, same.arena);
+  bound = subst (λ n. (mine_in records c n).bound ≡ true) (sym same.arena) owns.bound;
+}
+
+-- ---- the end of a call
+
+-- the region in hand can be held again
+pub again_settles : (records : List Record) (c : ℕ) (desk : DeskFacts) → IsArenas records → Owns records c [] desk → Settles desk (held_again desk)
+again_settles records c desk is owns = hold_settles desk owns.shaped (λ r e. hand_alone (count_in records c) desk r (single_in records c is) owns.hands owns.shaped e)
+
+pub at_rest : (records : List Record) (c : ℕ) (desk after : DeskFacts) → Owns records c [] desk → IsIdle records c → Settles desk after → Rests records c after
+at_rest records c desk after owns idle same = record { has = owns_has records c after (settles_owns records c desk after owns same); idle = idle; empty = same.hand }
+
+-- a cache that was to be on or off is so
+switch_rests : (records : List Record) (c : ℕ) (request : Request) (desk : DeskFacts) → Rests records c desk → Rests records c (switched request desk)
+switch_rests records c (Cache on) desk rests = record {
+  has = record {
+    hands = rests.has.hands;
+    keyed = rests.has.keyed;
+    lists = rests.has.lists;
+    classed = rests.has.classed;
+    arena = rests.has.arena;
+    bound = rests.has.bound;
+  };
+  idle = rests.idle;
+  empty = rests.empty;
+}
+switch_rests records c request desk rests = rests
+
+pub ends_rest : (records : List Record) (c arena : ℕ) (request : Request) (desk : DeskFacts) (extra : List Held) (answer : Answered) → IsArenas records → Owns records c extra desk → IsIdle records c →
+    SuitsAnswer extra desk arena answer → Rests records c (desk_ended request arena answer desk)
+ends_rest records c arena request desk extra (Ok (Region addr class)) is owns idle suits =
+    let r : Held = region_at arena class addr in
+    let held = hands_held (count_in records c) r desk (single_in records c is) (subst (λ extra. Hands (count_in records c) extra desk) suits.0 owns.hands) owns.shaped in record {
+      has = owns_has records c (holding r desk) (record { hands = held.1; shaped = hold_shaped r desk owns.shaped; low = owns.low; bound = owns.bound });
+      idle = idle;
+      empty = suits.1;
+    }
+ends_rest records c arena request desk extra (Ok Finished) is owns idle suits =
+    let mine : Owns records c [] desk = subst (λ extra. Owns records c extra desk) suits.0 owns in
+    switch_rests records c request (kept desk) (at_rest records c desk (kept desk) mine idle (keep_settles desk mine.shaped suits.1))
+ends_rest records c arena request desk extra (Ok (Arena index)) is owns idle suits =
+    let mine : Owns records c [] desk = subst (λ extra. Owns records c extra desk) suits.0 owns in
+    at_rest records c desk (held_again desk) mine idle (again_settles records c desk is mine)
+ends_rest records c arena request desk extra (Ok (Limits dirty muzzy)) is owns idle suits =
+    let mine : Owns records c [] desk = subst (λ extra. Owns records c extra desk) suits.0 owns in
+    at_rest records c desk (held_again desk) mine idle (again_settles records c desk is mine)
+ends_rest records c arena request desk extra answer is owns idle suits =
+    let mine : Owns records c [] desk = subst (λ extra. Owns records c extra desk) suits owns in
+    at_rest records c desk (held_again desk) mine idle (again_settles records c desk is mine)
+
+-- ---- what is known where regions go back
+
+pub any_region : (a k : ℕ) (rs : List SpaceRegion) → 0 < count_by (is_region a k) rs → list_any (λ (r : SpaceRegion). r.addr == a) rs ≡ true
+any_region a k [] some = absurd (omega (arith, some))
+any_region a k (r ∷ rs) some =
+    elim (r.addr == a) as (λ v. ones (is_region a k r) ≡ ones (v && r.class == k) → (v || list_any (λ (q : SpaceRegion). q.addr == a) rs) ≡ true) [
+      | true ↦ λ e. refl
+      | false ↦ λ e. any_region a k rs (omega (arith, e, some, sum_by-cons (λ (q : SpaceRegion). ones (is_region a k q)) r rs))
+    ] refl
+
+pub is_ready : (records : List Record) (c : ℕ) (desk : DeskFacts) (at : Stage) → Owns records c [] desk → IsIdle records c → Ready (mine_in records c at.arena) desk at
+is_ready records c desk at owns idle = record {
+  idle = idle at.arena;
+  served = λ same. bound_serves (mine_in records c at.arena) (subst (λ n. (mine_in records c n).bound ≡ true) (sym same) owns.bound);
+  holds = λ region has same.
+      subst (λ n. is_held (mine_in records c n) region.addr ≡ true) (sym same)
+      (any_region region.addr region.class (mine_in records c region.arena).regions (had_counts (count_in records c) desk region owns.hands has owns.shaped));
+  cached = no_more at.arena (flat_map (λ list. list) desk.cached) (mine_in records c at.arena).regions (λ a k. omega (arith, owns.hands at.arena a k));
+}
+  where
+    bound_serves : (m : Mine) → m.bound ≡ true → is_served m ≡ true
+    bound_serves m e = ap (λ v. v || list_any (λ _. true) m.regions) e
+
+-- regions that go back are those of an arena that there is
+gives_low : (records : List Record) (c i : ℕ) (addrs : List ℕ) → IsArenas records → Gives (mine_in records c i) addrs → i < 32
+gives_low records c i addrs is gives = by (nat_lt i 32) refl
+  where
+    none_held : (addrs : List ℕ) → 0 < length addrs → list_all (λ (a : ℕ). false) addrs ≡ true → ⊥
+    none_held [] some all = absurd (omega (arith, some))
+    none_held (a ∷ addrs) some all = absurd (cc)
+
+    by : (v : Bool) → nat_lt i 32 ≡ v → i < 32
+    by true e = ltb-true i 32 e
+    by false e =
+        let far : 32 ≤ i = grind (arith, nat_tests) in
+        absurd (none_held addrs gives.some (subst (λ (rs : List SpaceRegion). list_all (λ a. list_any (λ (r : SpaceRegion). r.addr == a) rs) addrs ≡ true) (none_past records c i is far) gives.held))
+
+-- where no more is to go back, the region in hand has a slot
+no_more_keeps : (desk : DeskFacts) (all : Bool) → batch_of (going all desk) ≡ None → CanKeep desk desk.hand
+no_more_keeps desk all none = by desk.hand none
+  where
+    some_slots : (class : ℕ) → 20 ≤ slots_at class
+    some_slots class = elim (nat_lt class 36) as (λ v. 20 ≤ cond v (min 200 (max 20 (2 * regions_at class))) 20) [ true ↦ most_20 (regions_at class) | false ↦ omega arith ]
+      where
+        most_20 : (n : ℕ) → 20 ≤ min 200 (max 20 (2 * n))
+        most_20 n = grind arith
+
+    left_slot : (n slots : ℕ) → 20 ≤ slots → 0 ≡ min (n - (slots - slots / 2)) n → nat_lt n slots ≡ true
+    left_slot n slots some none = grind (arith, nat_tests)
+
+    by : (hand : Option Held) → batch_of (going_with hand all desk) ≡ None → CanKeep desk hand
+    by None e = tt
+    by (Some r) e =
+        elim (is_cacheable r.class desk) as (λ v. is_cacheable r.class desk ≡ v → batch_of (cond v (take (older_count r.class desk) (cached_in desk.cached r.class)) (r ∷ [])) ≡ None → CanKeep desk (Some r)) [
+          | true ↦ λ can none.
+              let list : List Held = cached_in desk.cached r.class in
+              let empty = no_batch (take (older_count r.class desk) list) none in (
+                small desk.caches (nat_lt r.class 41) can (λ h. ltb-true r.class 41 h),
+                left_slot (length list) (slots_at r.class) (some_slots r.class) (sym (ap length empty) ∙ length-take (older_count r.class desk) list),
+              )
+          | false ↦ λ can none. absurd (cc)
+        ] refl e
+      where
+        small : (a b : Bool) → (a && b) ≡ true → (b ≡ true → r.class < 41) → r.class < 41
+        small true b k then = then k
+        small false b k then = absurd (cc)
+
+-- ---- where a call goes
+
+nothing_flies : (m : Mine) → Idle m → flying m ≡ 0
+nothing_flies m idle = ap length idle.flights
+
+-- a call with nothing in flight may wait at a first point of an arena
+pub first_waits : (records : List Record) (c arena : ℕ) (point : Point) → arena < 32 → IsIdle records c → Knows (mine_in records c arena) point → needed_at 0 point ≡ 0 → Waits records c arena point
+first_waits records c arena point low idle knows none = record {
+  there = low;
+  knows = knows;
+  elsewhere = λ i ne. idle i;
+  room = subst (λ n. needed_at n point ≤ room_in records arena c) (sym (nothing_flies (mine_in records c arena) (idle arena))) (omega (arith, none));
+}
+
+pub comes_more : (records : List Record) (c arena : ℕ) (request : Request) (desk : DeskFacts) → IsArenas records → Owns records c [] desk → IsIdle records c → Comes records c (moved request desk arena More)
+comes_more records c arena request desk is owns idle =
+    by (batch_of (going (flushes request) desk)) refl (batches-know (mine_in records c (settle request desk arena More).arena) request desk arena (is_ready records c desk (settle request desk arena More) owns idle))
+  where
+    by : (batch : Option BatchFacts) → batch_of (going (flushes request) desk) ≡ batch → KnowsNext (mine_in records c (batch_goes arena batch).arena) (batch_goes arena batch).next → Comes records c (closed request desk (batch_goes arena batch))
+    by None e knows = (tt, ends_rest records c arena request desk [] (Ok Finished) is owns idle (refl, no_more_keeps desk (flushes request) e))
+    by (Some batch) e knows = (
+      tt,
+      (
+        refl,
+        record {
+          has = owns_has records c desk owns;
+          waits = first_waits records c batch.arena (Turns (Giving batch.addrs)) (gives_low records c batch.arena batch.addrs is knows) idle knows refl;
+          suits = e;
+        },
+      ),
+    )
+
+pub comes_on : (records : List Record) (c arena : ℕ) (request : Request) (desk : DeskFacts) (extra : List Held) (next : Next) → IsArenas records → Owns records c extra desk → WaitsNext records c arena next →
+    Suited extra desk request arena next → Comes records c (moved request desk arena next)
+comes_on records c arena request desk extra (Go point) is owns waits suits =
+    (tt, (refl, record { has = owns_has records c desk (subst (λ extra. Owns records c extra desk) suits.0 owns); waits = waits; suits = suits.1 }))
+comes_on records c arena request desk extra (Over index point) is owns waits suits = (
+  tt,
+  (
+    refl,
+    record {
+      has = owns_has records c desk (subst (λ extra. Owns records c extra desk) suits.0 owns);
+      waits = first_waits records c index point suits.1 waits.0 (waits.1 (mine_in records c index) (waits.0 index)) suits.3;
+      suits = suits.2;
+    },
+  ),
+)
+comes_on records c arena request desk extra More is owns waits suits = comes_more records c arena request desk is (subst (λ extra. Owns records c extra desk) suits owns) waits
+comes_on records c arena request desk extra Gone is owns waits suits = (tt, ends_rest records c arena request desk extra (NoArena arena) is owns waits suits)
+comes_on records c arena request desk extra (Ends answer) is owns waits suits = (tt, ends_rest records c arena request desk extra answer is owns waits suits)
+comes_on records c arena request desk extra Nowhere is owns waits suits = absurd waits

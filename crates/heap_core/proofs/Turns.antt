@@ -1,0 +1,419 @@
+-- The turn that a call wants leads on, with all that its client has.
+use Rattle.std.proofs.Common.{◌≡◌, ◌≢◌, ◌⊎◌, inl, inr, ℕ, ◌<◌, ◌==◌, ◌&&◌, Bool, true, false, cond, IsTrue, List, [], ◌∷◌, Option, None, Some, Ok, Result, slice_set, refl, sym, ◌∙◌, ap, subst, arith}
+use Rattle.std.specs.List.{count_by}
+use Rattle.std.proofs.lemmas.Bool.Decides.{nat_tests}
+use Rattle.space_model.specs.declared.entries.Op.{Op}
+use Rattle.space_model.specs.declared.entries.Op.TheVariants.{Set}
+use Rattle.space_model.specs.declared.entries.Reply.{Reply}
+use Rattle.space_model.specs.declared.entries.Reply.TheVariants.{NoArena, Noted, Next as NextFlight, Regions, Landed, Purge, Owned}
+use Rattle.space_model.specs.declared.entries.Setting.{Setting}
+use Rattle.space_model.specs.declared.entries.Setting.TheVariants.{DirtyMs, MuzzyMs, HookBox, Bind, Unbind, GrowLimit, Live as MakeLive}
+use Rattle.space_model.specs.declared.spaces.Space.{Space}
+use Rattle.space_model.specs.Clients.{is_in}
+use Rattle.space_model.specs.Own.{Mine, mine}
+use Rattle.space_model.specs.Settings.{with_setting}
+use Rattle.space_model.specs.Step.{is_live, stands, stays, step_of}
+use Rattle.space_model.specs.Stepped.{Stepped}
+use Rattle.hook_api.specs.Asked.{AskFacts}
+use Rattle.arena_core.specs.Arenas.{entry_of}
+use Rattle.thread_cache.specs.declared.Held.{Held}
+use Rattle.thread_cache.specs.Caches.{cached_in, gone_from}
+use Rattle.thread_cache.specs.Desks.{DeskFacts, caching, older_count, freeing, gave, gave_with, has_slot, is_cacheable}
+use Rattle.call_table.specs.declared.needs.Answered.TheVariants.{NoMemory}
+use Rattle.call_table.specs.declared.needs.Item.{Item}
+use Rattle.call_table.specs.declared.needs.Item.TheVariants.{Replied, Told, Starved}
+use Rattle.call_table.specs.declared.needs.Request.{Request}
+use Rattle.call_table.specs.declared.points.Change.{Change}
+use Rattle.call_table.specs.declared.points.Change.TheVariants.{Stops, Visits, Leaves}
+use Rattle.call_table.specs.declared.points.TurnPoint.{TurnPoint}
+use Rattle.call_table.specs.declared.points.TurnPoint.TheVariants.{Filling, Looking, Landing, Giving, Finding, Taking, Offering, Advancing, Changing, Making, Resetting, Destroying, Dooming, Publishing, Owning}
+use Rattle.call_table.specs.declared.points.AskPoint.{AskPoint}
+use Rattle.call_table.specs.declared.points.AskPoint.TheVariants.{Skipping, Trimming, Growing, Paring, Needing, Granting, Committing, Merging, Easing, Returning, Decommitting, Forcing}
+use Rattle.call_table.specs.declared.points.Point.{Point}
+use Rattle.call_table.specs.declared.points.Point.TheVariants.{Turns, Asks, Tells}
+use Rattle.call_table.specs.declared.points.Next.{Next}
+use Rattle.call_table.specs.declared.points.Next.TheVariants.{Go, More, Ends}
+use Rattle.call_table.specs.Calls.{CallFacts}
+use Rattle.call_table.specs.Desks.{desk_fed, desk_turned, landed_behind, region_at, sharing}
+use Rattle.call_table.specs.Knows.{Idle, KnowsTurn, is_of_arena}
+use Rattle.call_table.specs.Runs.{after, closed, moved, stage, step_next}
+use Rattle.call_table.specs.Table.{WantTurn, WantAsk, done_of, is_marked, op_of, starved, step, want}
+use Rattle.heap_core.specs.Arenas.{IsArenas, record_after, record_at, reply_in, spaces_of}
+use Rattle.heap_core.specs.Chunks.{settled}
+use Rattle.heap_core.specs.Clients.{CanTurn, IsIdle, Waits, WaitsNext, after_turn, mine_in}
+use Rattle.heap_core.specs.Records.{IsReplayed, Record}
+use Rattle.heap_core.specs.Seats.{seat_of}
+use Rattle.heap_core.specs.Sitting.{AsksSit, Comes, Has, IsSeated, OthersSit, SeatSound, Sits, SitsAt, StarvesSit, Suits, SuitsChange, SuitsTurn, TurnsSit, is_region}
+use Rattle.heap_core.proofs.Carrying.{carries}
+use Rattle.heap_core.proofs.Clients.{asks-lead_on, elsewhere_is, others-stay, others_own, sound_at, there_is, turns-lead_on}
+use Rattle.heap_core.proofs.Having.{cache_arena}
+use Rattle.heap_core.proofs.Regions.{count_at}
+use Rattle.heap_core.proofs.Settling.{Owns, comes_on, count_in, ends_rest, has_owns, single_in}
+use Rattle.heap_core.proofs.Steady.{IsSteady, added_in, bind_keeps, moves_bound, op_steady, set_steady}
+use Rattle.heap_core.proofs.Suiting.{Suited, came, told_suits, turned_suits}
+use Rattle.heap_core.proofs.Turned.{arenas_turned}
+use Rattle.heap_core.proofs.Turning.{replayed_more}
+
+-- ---- the arenas after a turn
+
+-- they are as they have to be
+pub turned_is : (records : List Record) (arena c : ℕ) (op : Op) (asked : Option AskFacts) → IsArenas records → arena < 32 →
+    IsTrue (stands (record_at records arena).space (entry_of c (settled (spaces_of records) arena op))) → IsArenas (after_turn records arena c op asked)
+turned_is records arena c op asked is there may =
+    let r : Record = record_at records arena in
+    let done : Op = settled (spaces_of records) arena op in
+    let new : Record = record_after r c done asked in
+    let told : Result Reply ℕ = Ok (step_of r.space c done).reply in
+    arenas_turned records arena c op done asked told new is there refl may refl tt refl
+    (subst (λ (i : ℕ). IsReplayed i new.kept new.space) (sym (is.indexes arena there)) (replayed_more arena r.kept (record { entry = entry_of c done; asked = asked }) r.space (is.replayed arena there) may))
+
+-- ---- the arena from which the client allocates
+
+share_arena : (arena class : ℕ) (addrs : List ℕ) (desk : DeskFacts) → (sharing arena class addrs desk).arena ≡ desk.arena
+share_arena arena class [] desk = refl
+share_arena arena class (addr ∷ addrs) desk = cache_arena (region_at arena class addr) (sharing arena class addrs desk) ∙ share_arena arena class addrs desk
+
+gave_arena : (arena : ℕ) (desk : DeskFacts) → (gave arena desk).arena ≡ desk.arena
+gave_arena arena desk = by desk.hand
+  where
+    by : (hand : Option Held) → (gave_with hand arena desk).arena ≡ desk.arena
+    by None = refl
+    by (Some r) = elim (is_cacheable r.class desk) as (λ v. (cond v (record desk { cached = slice_set desk.cached r.class (gone_from arena (older_count r.class desk) (cached_in desk.cached r.class)) }) (record desk { hand = None })).arena ≡ desk.arena) [ true ↦ refl | false ↦ refl ]
+
+free_arena : (r : Held) (desk : DeskFacts) → (freeing r desk).arena ≡ desk.arena
+free_arena r desk = elim (is_cacheable r.class desk && has_slot r.class desk) as (λ v. (cond v (caching r desk) (record desk { hand = Some r })).arena ≡ desk.arena) [ true ↦ cache_arena r desk | false ↦ refl ]
+
+-- the client allocates from the same arena after a turn that changes no setting
+pub turned_arena : (desk : DeskFacts) (arena : ℕ) (point : TurnPoint) (reply : Reply) → ((setting : Setting) (change : Change) → point ≡ Changing setting change → ⊥) → (desk_turned desk arena point reply).arena ≡ desk.arena
+turned_arena desk arena (Filling wish count) (Regions (addr ∷ others)) else = share_arena arena wish.class others desk
+turned_arena desk arena (Landing wish span) (Landed first count) else = share_arena arena wish.class (landed_behind first wish.class count) desk
+turned_arena desk arena (Giving addrs) (NextFlight next) else = gave_arena arena desk
+turned_arena desk arena (Changing setting change) reply else = absurd (else setting change refl)
+turned_arena desk arena (Resetting cached) Noted else = refl
+turned_arena desk arena (Resetting cached) (Purge lazy) else = refl
+turned_arena desk arena (Destroying cached) Noted else = refl
+turned_arena desk arena (Publishing addr) Noted else = refl
+turned_arena desk arena (Owning addr true) (Owned class) else = free_arena (region_at arena class addr) desk
+turned_arena desk arena (Owning addr false) reply else = refl
+turned_arena desk arena point reply else = refl
+
+-- The client is bound to the arena from which it allocates then: to the one that it had, or to that of the turn.
+abbrev pub BindsTo : DeskFacts → DeskFacts → ℕ → ℕ → Space → Type 0
+BindsTo desk after arena c t = ((after.arena ≡ desk.arena) × (desk.arena ≡ arena → is_in c t.bound ≡ true)) ⊎ ((after.arena ≡ arena) × (is_in c t.bound ≡ true))
+
+module _ (s : Space) (c arena : ℕ) (desk : DeskFacts) (request : Request) (was : desk.arena ≡ arena → is_in c s.bound ≡ true) where
+  abbrev pub Binds : TurnPoint → Stepped → Type 0
+  Binds point step = BindsTo desk (desk_turned desk arena point step.reply) arena c step.after
+
+  same_bound : (point : TurnPoint) → ((setting : Setting) (change : Change) → point ≡ Changing setting change → ⊥) → (step_of s c (op_of point)).after.bound ≡ s.bound → Binds point (step_of s c (op_of point))
+  same_bound point else same = inl (turned_arena desk arena point (step_of s c (op_of point)).reply else, λ home. ap (is_in c) same ∙ was home)
+
+  change_binds : (setting : Setting) (change : Change) → SuitsChange desk arena setting change → Binds (Changing setting change) (step_of s c (Set setting))
+  change_binds Bind Stops suits = inl (refl, λ home. bind_keeps s c (was home))
+  change_binds Bind (Visits visit) suits = inl (refl, λ home. bind_keeps s c (was home))
+  change_binds Bind (Leaves old) suits =
+      elim (is_live s.life) as (λ v. Binds (Changing Bind (Leaves old)) (cond v (stays (with_setting s c Bind) Noted) (stays s NoArena))) [
+        | true ↦ inr (refl, added_in c s.bound)
+        | false ↦ inl (refl, was)
+      ]
+  change_binds Unbind Stops suits = inl (refl, λ home. absurd (suits (sym home)))
+  change_binds Unbind (Visits visit) suits = inl (refl, λ home. absurd (suits.0 (sym home)))
+  change_binds (DirtyMs ms now) Stops suits = inl (refl, λ home. ap (is_in c) (set_steady s c (DirtyMs ms now) tt).bound ∙ was home)
+  change_binds (DirtyMs ms now) (Visits visit) suits = inl (refl, λ home. ap (is_in c) (set_steady s c (DirtyMs ms now) tt).bound ∙ was home)
+  change_binds (MuzzyMs ms now) Stops suits = inl (refl, λ home. ap (is_in c) (set_steady s c (MuzzyMs ms now) tt).bound ∙ was home)
+  change_binds (MuzzyMs ms now) (Visits visit) suits = inl (refl, λ home. ap (is_in c) (set_steady s c (MuzzyMs ms now) tt).bound ∙ was home)
+  change_binds (HookBox box_no) Stops suits = inl (refl, λ home. ap (is_in c) (set_steady s c (HookBox box_no) tt).bound ∙ was home)
+  change_binds (HookBox box_no) (Visits visit) suits = inl (refl, λ home. ap (is_in c) (set_steady s c (HookBox box_no) tt).bound ∙ was home)
+  change_binds (GrowLimit chunks) Stops suits = inl (refl, λ home. ap (is_in c) (set_steady s c (GrowLimit chunks) tt).bound ∙ was home)
+  change_binds (GrowLimit chunks) (Visits visit) suits = inl (refl, λ home. ap (is_in c) (set_steady s c (GrowLimit chunks) tt).bound ∙ was home)
+  change_binds (MakeLive box_no dirty_ms muzzy_ms now) Stops suits = inl (refl, λ home. ap (is_in c) (set_steady s c (MakeLive box_no dirty_ms muzzy_ms now) tt).bound ∙ was home)
+  change_binds (MakeLive box_no dirty_ms muzzy_ms now) (Visits visit) suits = inl (refl, λ home. ap (is_in c) (set_steady s c (MakeLive box_no dirty_ms muzzy_ms now) tt).bound ∙ was home)
+  change_binds setting (Leaves old) suits = absurd suits
+
+  -- a setting that makes an arena binds nobody
+  make_bound : (setting : Setting) → is_of_arena setting ≡ false → (step_of s c (Set setting)).after.bound ≡ s.bound
+  make_bound (MakeLive box_no dirty_ms muzzy_ms now) e = (set_steady s c (MakeLive box_no dirty_ms muzzy_ms now) tt).bound
+  make_bound setting e = absurd (cc)
+
+  pub binds : (point : TurnPoint) → KnowsTurn (mine c s) point → SuitsTurn desk request arena point → Binds point (step_of s c (op_of point))
+  binds (Filling wish count) knows suits = same_bound (Filling wish count) (λ x y e. cc) (moves_bound s c (op_of (Filling wish count)) tt)
+  binds (Looking wish) knows suits = same_bound (Looking wish) (λ x y e. cc) (op_steady s c (op_of (Looking wish)) tt).bound
+  binds (Landing wish span) knows suits = same_bound (Landing wish span) (λ x y e. cc) (moves_bound s c (op_of (Landing wish span)) tt)
+  binds (Giving addrs) knows suits = same_bound (Giving addrs) (λ x y e. cc) (moves_bound s c (op_of (Giving addrs)) tt)
+  binds (Finding own tries fresh later) knows suits = same_bound (Finding own tries fresh later) (λ x y e. cc) (op_steady s c (op_of (Finding own tries fresh later)) tt).bound
+  binds (Taking visit left) knows suits = same_bound (Taking visit left) (λ x y e. cc) (op_steady s c (op_of (Taking visit left)) tt).bound
+  binds (Offering span later) knows suits = same_bound (Offering span later) (λ x y e. cc) (op_steady s c (op_of (Offering span later)) tt).bound
+  binds (Advancing now) knows suits = same_bound (Advancing now) (λ x y e. cc) (op_steady s c (op_of (Advancing now)) tt).bound
+  binds (Changing setting change) knows suits = change_binds setting change suits.1
+  binds (Making index setting) knows suits = same_bound (Making index setting) (λ x y e. cc) (make_bound setting knows.2)
+  binds (Resetting cached) knows suits = same_bound (Resetting cached) (λ x y e. cc) (moves_bound s c (op_of (Resetting cached)) tt)
+  binds (Destroying cached) knows suits = same_bound (Destroying cached) (λ x y e. cc) (moves_bound s c (op_of (Destroying cached)) tt)
+  binds Dooming knows suits = same_bound Dooming (λ x y e. cc) (op_steady s c (op_of Dooming) tt).bound
+  binds (Publishing addr) knows suits = same_bound (Publishing addr) (λ x y e. cc) (moves_bound s c (op_of (Publishing addr)) tt)
+  binds (Owning addr frees) knows suits = same_bound (Owning addr frees) (λ x y e. cc) (moves_bound s c (op_of (Owning addr frees)) tt)
+
+-- ---- what a client has after its turn
+
+-- the operation of a point enters a journal as it is
+settled_of : (spaces : List Space) (arena : ℕ) (point : TurnPoint) → settled spaces arena (op_of point) ≡ op_of point
+settled_of spaces arena (Filling wish count) = refl
+settled_of spaces arena (Looking wish) = refl
+settled_of spaces arena (Landing wish span) = refl
+settled_of spaces arena (Giving addrs) = refl
+settled_of spaces arena (Finding own tries fresh later) = refl
+settled_of spaces arena (Taking visit left) = refl
+settled_of spaces arena (Offering span later) = refl
+settled_of spaces arena (Advancing now) = refl
+settled_of spaces arena (Changing setting change) = refl
+settled_of spaces arena (Making index setting) = refl
+settled_of spaces arena (Resetting cached) = refl
+settled_of spaces arena (Destroying cached) = refl
+settled_of spaces arena Dooming = refl
+settled_of spaces arena (Publishing addr) = refl
+settled_of spaces arena (Owning addr frees) = refl
+
+-- an answer that is taken in moves no region
+steady_done : (spaces : List Space) (arena : ℕ) (point : AskPoint) (asked : AskFacts) → IsSteady (settled spaces arena (done_of point asked))
+steady_done spaces arena (Skipping wish span b skip) asked = tt
+steady_done spaces arena (Trimming wish span b) asked = tt
+steady_done spaces arena (Growing wish chunks) asked = tt
+steady_done spaces arena (Paring wish span b) asked = tt
+steady_done spaces arena (Needing wish) asked = tt
+steady_done spaces arena (Granting wish span b) asked = tt
+steady_done spaces arena (Committing wish span) asked = tt
+steady_done spaces arena (Merging low high own_low fresh later) asked = tt
+steady_done spaces arena (Easing span later) asked = tt
+steady_done spaces arena (Returning span later) asked = tt
+steady_done spaces arena (Decommitting span later) asked = tt
+steady_done spaces arena (Forcing span later) asked = tt
+
+module _ (records : List Record) (c arena : ℕ) (desk : DeskFacts) (request : Request) (asked : Option AskFacts) (is : IsArenas records) (there : arena < 32) (owns : Owns records c [] desk) where
+  abbrev pub s : Space
+  s = (record_at records arena).space
+
+  -- the arena after an operation, and all arenas
+  abbrev pub new : Op → Record
+  new op = record_after (record_at records arena) c op asked
+
+  abbrev pub all_after : Op → List Record
+  all_after op = slice_set records arena (new op)
+
+  pub count_here : (op : Op) (a k : ℕ) → count_in (all_after op) c arena a k ≡ count_at c a k (step_of s c op).after.regions
+  count_here op a k = ap (λ (r : Record). count_by (is_region a k) (mine c r.space).regions) (there_is records arena (new op) is there)
+
+  pub count_else : (op : Op) (i a k : ℕ) → i ≢ arena → count_in (all_after op) c i a k ≡ count_in records c i a k
+  count_else op i a k differ = ap (λ (r : Record). count_by (is_region a k) (mine c r.space).regions) (elsewhere_is records arena i (new op) differ)
+
+  pub bound_here : (op : Op) → (mine_in (all_after op) c arena).bound ≡ is_in c (step_of s c op).after.bound
+  bound_here op = ap (λ (r : Record). is_in c r.space.bound) (there_is records arena (new op) is there)
+
+  bound_else : (op : Op) (i : ℕ) → i ≢ arena → (mine_in (all_after op) c i).bound ≡ (mine_in records c i).bound
+  bound_else op i differ = ap (λ (r : Record). is_in c r.space.bound) (elsewhere_is records arena i (new op) differ)
+
+  pub was_bound : desk.arena ≡ arena → is_in c s.bound ≡ true
+  was_bound home = subst (λ n. (mine_in records c n).bound ≡ true) home owns.bound
+
+  -- the client is bound to the arena from which it allocates then
+  pub still_bound : (op : Op) (after : DeskFacts) → BindsTo desk after arena c (step_of s c op).after → (after.arena < 32) × ((mine_in (all_after op) c after.arena).bound ≡ true)
+  still_bound op after (inr (home, so)) = (omega (arith, home, there), subst (λ n. (mine_in (all_after op) c n).bound ≡ true) (sym home) (bound_here op ∙ so))
+  still_bound op after (inl (same, so)) = (omega (arith, same, owns.low), subst (λ n. (mine_in (all_after op) c n).bound ≡ true) (sym same) (by (desk.arena == arena) refl))
+    where
+      by : (v : Bool) → (desk.arena == arena) ≡ v → (mine_in (all_after op) c desk.arena).bound ≡ true
+      by true e =
+          let home : desk.arena ≡ arena = grind (arith, nat_tests) in
+          subst (λ n. (mine_in (all_after op) c n).bound ≡ true) (sym home) (bound_here op ∙ so home)
+      by false e =
+          let differ : desk.arena ≢ arena = λ home. grind (arith, nat_tests) in
+          bound_else op desk.arena differ ∙ owns.bound
+
+  pub turn_owns : (point : TurnPoint) → KnowsTurn (mine c s) point → SuitsTurn desk request arena point →
+      Owns (all_after (op_of point)) c (came arena point (step_of s c (op_of point)).reply) (desk_turned desk arena point (step_of s c (op_of point)).reply)
+  turn_owns point knows suits =
+      let op : Op = op_of point in
+      let carried = carries (count_in records c) (count_in (all_after op) c) c arena s desk request (sound_at records arena is there) (single_in records c is) owns.hands owns.shaped
+      (λ a k. refl) (λ i a k differ. count_else op i a k differ) point knows suits (λ a k. count_here op a k) in
+      let bound = still_bound op (desk_turned desk arena point (step_of s c op).reply) (binds s c arena desk request was_bound point knows suits) in record {
+        hands = carried.hands;
+        shaped = carried.shaped;
+        low = bound.0;
+        bound = bound.1;
+      }
+
+  -- where no region moves
+  pub steady_owns : (op : Op) → (step_of s c op).after.regions ≡ s.regions → (step_of s c op).after.bound ≡ s.bound → Owns (all_after op) c [] desk
+  steady_owns op regions bound =
+      let now = still_bound op desk (inl (refl, λ home. ap (is_in c) bound ∙ was_bound home)) in record {
+        hands = λ i a k. same i a k (i == arena) refl ∙ owns.hands i a k;
+        shaped = owns.shaped;
+        low = owns.low;
+        bound = now.1;
+      }
+    where
+      same : (i a k : ℕ) (v : Bool) → (i == arena) ≡ v → count_in (all_after op) c i a k ≡ count_in records c i a k
+      same i a k true e =
+          let home : i ≡ arena = grind (arith, nat_tests) in
+          subst (λ n. count_in (all_after op) c n a k ≡ count_in records c n a k) (sym home) (count_here op a k ∙ ap (count_at c a k) regions)
+      same i a k false e =
+          let differ : i ≢ arena = λ home. grind (arith, nat_tests) in
+          count_else op i a k differ
+
+-- ---- the laws
+
+module _ (records : List Record) (c : ℕ) (desk : DeskFacts) (call : CallFacts) (op : Op) (asked : Option AskFacts) (is : IsArenas records) where
+  abbrev arena : ℕ
+  arena = call.stage.arena
+
+  abbrev done : Op
+  done = settled (spaces_of records) arena op
+
+  abbrev reply : Reply
+  reply = (step_of (record_at records arena).space c done).reply
+
+  abbrev rest : List Record
+  rest = after_turn records arena c op asked
+
+  -- what is so after the turn at a point
+  pub record Turned (point : Point) : Type 0 where
+    pub comes : Comes rest c (moved call.request (desk_fed desk arena (Go point) (Replied reply)) arena (step point (Replied reply)))
+    pub starves : step point (Replied reply) ≡ More → SeatSound rest c (seat_of c (closed call.request (desk_fed desk arena (Go point) (Replied reply)) (stage arena (Ends NoMemory))))
+
+  turned_from : (point : Point) (extra : List Held) → Owns rest c extra (desk_fed desk arena (Go point) (Replied reply)) → CanTurn records c arena op asked → arena < 32 →
+      WaitsNext rest c arena (step point (Replied reply)) → Suited extra (desk_fed desk arena (Go point) (Replied reply)) call.request arena (step point (Replied reply)) → Turned point
+  turned_from point extra owns can there waits suits =
+      let is_then : IsArenas rest = turned_is records arena c op asked is there can.stands in
+      let after : DeskFacts = desk_fed desk arena (Go point) (Replied reply) in record {
+        comes = comes_on rest c arena call.request after extra (step point (Replied reply)) is_then owns waits suits;
+        starves = λ more. ends_rest rest c arena call.request after extra NoMemory is_then owns (subst (WaitsNext rest c arena) more waits) (subst (Suited extra after call.request arena) more suits);
+      }
+
+  turn_at : (point : Point) → Sits records c desk call.request arena point → want point ≡ WantTurn op asked → CanTurn records c arena op asked →
+      WaitsNext rest c arena (step point (Replied reply)) → Turned point
+  turn_at (Turns point) sits wants can waits =
+      let same : op_of point ≡ op = cc in
+      let is_op : done ≡ op_of point = ap (settled (spaces_of records) arena) (sym same) ∙ settled_of (spaces_of records) arena point in
+      let owns = turn_owns records c arena desk call.request asked is sits.waits.there (has_owns records c desk sits.has) point sits.waits.knows sits.suits in
+      turned_from (Turns point) (came arena point reply)
+      (subst (λ (o : Op). Owns (slice_set records arena (record_after (record_at records arena) c o asked)) c (came arena point (step_of (record_at records arena).space c o).reply)
+      (desk_turned desk arena point (step_of (record_at records arena).space c o).reply)) (sym is_op) owns)
+      can sits.waits.there waits (turned_suits desk call.request arena point reply sits.has.arena sits.suits)
+  turn_at (Asks point (Some told_so)) sits wants can waits =
+      let same : done_of point told_so ≡ op = cc in
+      let steady = op_steady (record_at records arena).space c done (subst (λ (o : Op). IsSteady (settled (spaces_of records) arena o)) same (steady_done (spaces_of records) arena point told_so)) in
+      turned_from (Asks point (Some told_so)) [] (steady_owns records c arena desk call.request asked is sits.waits.there (has_owns records c desk sits.has) done steady.regions steady.bound)
+      can sits.waits.there waits (told_suits desk call.request arena point told_so reply sits.suits)
+  turn_at (Asks point None) sits wants can waits = absurd (cc)
+  turn_at (Tells span b) sits wants can waits = absurd (cc)
+
+pub turns-sit : TurnsSit
+turns-sit records c desk call point op asked is few at sits wants =
+    let leads = turns-lead_on records c call.stage.arena point op asked is few sits.waits wants in
+    let turned = turn_at records c desk call op asked is point sits wants leads.0 leads.1 in
+    let item : Item = Replied (reply_in records call.stage.arena c (settled (spaces_of records) call.stage.arena op)) in (
+      leads.0,
+      subst (λ next. Comes (after_turn records call.stage.arena c op asked) c (moved call.request (desk_fed desk call.stage.arena next item) call.stage.arena (step_next next item))) (sym at) turned.comes,
+      λ more. subst (λ next. SeatSound (after_turn records call.stage.arena c op asked) c (seat_of c (closed call.request (desk_fed desk call.stage.arena next item) (stage call.stage.arena (Ends NoMemory))))) (sym at) (turned.starves more),
+    )
+
+-- an answer to an ask leaves what the client has
+ask_suits : (desk : DeskFacts) (request : Request) (arena : ℕ) (point : Point) (asked : AskFacts) → want point ≡ WantAsk asked.ask → Suits desk request arena point → Suited [] desk request arena (step point (Told asked))
+ask_suits desk request arena (Asks point None) asked wants suits = (refl, suits)
+ask_suits desk request arena (Tells span b) asked wants suits = (refl, suits)
+ask_suits desk request arena (Turns point) asked wants suits = absurd (cc)
+ask_suits desk request arena (Asks point (Some told_so)) asked wants suits = absurd (cc)
+
+told_desk : (desk : DeskFacts) (index : ℕ) (point : Point) (asked : AskFacts) → desk_fed desk index (Go point) (Told asked) ≡ desk
+told_desk desk index (Turns point) asked = refl
+told_desk desk index (Asks point heard) asked = refl
+told_desk desk index (Tells span b) asked = refl
+
+pub asks-sit : AsksSit
+asks-sit records c desk call point asked is few at sits wants kind =
+    let leads = asks-lead_on records c call.stage.arena point asked is sits.waits wants kind in
+    subst (λ next. Comes records c (moved call.request (desk_fed desk call.stage.arena next (Told asked)) call.stage.arena (step_next next (Told asked)))) (sym at)
+    (subst (λ d. Comes records c (moved call.request d call.stage.arena (step point (Told asked)))) (sym (told_desk desk call.stage.arena point asked))
+    (comes_on records c call.stage.arena call.request desk [] (step point (Told asked)) is (has_owns records c desk sits.has) leads (ask_suits desk call.request call.stage.arena point asked wants sits.suits)))
+
+-- a turn that takes memory is wanted with nothing in flight
+marked_idle : (records : List Record) (c arena : ℕ) (point : TurnPoint) → KnowsTurn (mine_in records c arena) point → is_marked (op_of point) ≡ true → Idle (mine_in records c arena)
+marked_idle records c arena (Filling wish count) knows marked = knows.1
+marked_idle records c arena (Looking wish) knows marked = knows.1
+marked_idle records c arena (Giving addrs) knows marked = knows.idle
+marked_idle records c arena (Taking visit left) knows marked = knows.0
+marked_idle records c arena (Advancing now) knows marked = knows
+marked_idle records c arena (Changing setting change) knows marked = knows.0
+marked_idle records c arena (Making index setting) knows marked = knows.0
+marked_idle records c arena (Resetting cached) knows marked = knows.0
+marked_idle records c arena (Destroying cached) knows marked = knows.0
+marked_idle records c arena Dooming knows marked = knows.0
+marked_idle records c arena (Publishing addr) knows marked = knows.0
+marked_idle records c arena (Owning addr frees) knows marked = knows
+marked_idle records c arena (Landing wish span) knows marked = absurd (cc)
+marked_idle records c arena (Finding own tries fresh later) knows marked = absurd (cc)
+marked_idle records c arena (Offering span later) knows marked = absurd (cc)
+
+-- an answer that is taken in takes no memory
+done_unmarked : (point : AskPoint) (asked : AskFacts) → is_marked (done_of point asked) ≡ false
+done_unmarked (Skipping wish span b skip) asked = refl
+done_unmarked (Trimming wish span b) asked = refl
+done_unmarked (Growing wish chunks) asked = refl
+done_unmarked (Paring wish span b) asked = refl
+done_unmarked (Needing wish) asked = refl
+done_unmarked (Granting wish span b) asked = refl
+done_unmarked (Committing wish span) asked = refl
+done_unmarked (Merging low high own_low fresh later) asked = refl
+done_unmarked (Easing span later) asked = refl
+done_unmarked (Returning span later) asked = refl
+done_unmarked (Decommitting span later) asked = refl
+done_unmarked (Forcing span later) asked = refl
+
+starve_at : (records : List Record) (c : ℕ) (desk : DeskFacts) (call : CallFacts) (point : Point) (op : Op) (asked : Option AskFacts) → IsArenas records → Sits records c desk call.request call.stage.arena point →
+    want point ≡ WantTurn op asked → is_marked op ≡ true → Comes records c (moved call.request (desk_fed desk call.stage.arena (Go point) Starved) call.stage.arena (step point Starved))
+starve_at records c desk call (Turns point) op asked is sits wants marked =
+    let same : op_of point ≡ op = cc in
+    let takes : is_marked (op_of point) ≡ true = ap is_marked same ∙ marked in
+    let idle = marked_idle records c call.stage.arena point sits.waits.knows takes in
+    subst (λ v. Comes records c (moved call.request desk call.stage.arena (starved v))) (sym takes)
+    (tt, ends_rest records c call.stage.arena call.request desk [] NoMemory is (has_owns records c desk sits.has) (λ i. all_idle idle i (i == call.stage.arena) refl) refl)
+  where
+    all_idle : Idle (mine_in records c call.stage.arena) → (i : ℕ) (v : Bool) → (i == call.stage.arena) ≡ v → Idle (mine_in records c i)
+    all_idle idle i true e = let home : i ≡ call.stage.arena = grind (arith, nat_tests) in subst (λ n. Idle (mine_in records c n)) (sym home) idle
+    all_idle idle i false e = sits.waits.elsewhere i (λ home. grind (arith, nat_tests))
+starve_at records c desk call (Asks point (Some told_so)) op asked is sits wants marked =
+    let same : done_of point told_so ≡ op = cc in
+    let unmarked = done_unmarked point told_so in absurd (cc)
+starve_at records c desk call (Asks point None) op asked is sits wants marked = absurd (cc)
+starve_at records c desk call (Tells span b) op asked is sits wants marked = absurd (cc)
+
+pub starves-sit : StarvesSit
+starves-sit records c desk call point op asked is few at sits wants marked =
+    subst (λ next. Comes records c (moved call.request (desk_fed desk call.stage.arena next Starved) call.stage.arena (step_next next Starved))) (sym at)
+    (starve_at records c desk call point op asked is sits wants marked)
+
+-- ---- other clients
+
+pub others-sit : OthersSit
+others-sit records arena c other op asked seat is there differ may sound = by seat.call sound
+  where
+    mines : (i : ℕ) → mine_in (after_turn records arena c op asked) other i ≡ mine_in records other i
+    mines = others_own records arena c other op asked is there differ may
+
+    stays : ((at : ℕ) (point : Point) → Waits records other at point → Waits (after_turn records arena c op asked) other at point) × (IsIdle records other → IsIdle (after_turn records arena c op asked) other)
+    stays = others-stay records arena c other op asked is there differ may
+
+    has_still : (desk : DeskFacts) → Has records other desk → Has (after_turn records arena c op asked) other desk
+    has_still desk has = record {
+      hands = λ i a k. ap (λ (m : Mine). count_by (is_region a k) m.regions) (mines i) ∙ has.hands i a k;
+      keyed = has.keyed;
+      lists = has.lists;
+      classed = has.classed;
+      arena = has.arena;
+      bound = ap (λ (m : Mine). m.bound) (mines desk.arena) ∙ has.bound;
+    }
+
+    sits_still : (call : CallFacts) (next : Next) → SitsAt records other seat.desk call next → SitsAt (after_turn records arena c op asked) other seat.desk call next
+    sits_still call (Go point) sits = record { has = has_still seat.desk sits.has; waits = stays.0 call.stage.arena point sits.waits; suits = sits.suits }
+    sits_still call next sits = sits
+
+    by : (call : Option CallFacts) → IsSeated records other seat.desk call → IsSeated (after_turn records arena c op asked) other seat.desk call
+    by None rests = record { has = has_still seat.desk rests.has; idle = stays.1 rests.idle; empty = rests.empty }
+    by (Some call) sits = (sits.0, sits_still call call.stage.next sits.1)

@@ -1,0 +1,309 @@
+-- What a client's open call wants, and where a step for it leads.
+use Rattle.std.proofs.Common.{inl, inr, ◌≡◌, ◌⊎◌, ◌≤◌, ◌<◌, ℕ, ◌+◌, true, false, List, Option, None, Some, Result, Ok, IfSome, IsSomeAnd, refl, sym, ap, subst, ◌∙◌, arith}
+use Rattle.space_model.specs.declared.asks.Ask.{Ask}
+use Rattle.space_model.specs.declared.entries.Op.{Op}
+use Rattle.hook_api.specs.Asked.{AskFacts}
+use Rattle.hook_api.specs.Shelf.{Shelf}
+use Rattle.arena_core.specs.Arenas.{opens}
+use Rattle.thread_cache.specs.Desks.{DeskFacts}
+use Rattle.call_table.specs.declared.needs.Answered.{Answered}
+use Rattle.call_table.specs.declared.needs.Answered.TheVariants.{NoMemory}
+use Rattle.call_table.specs.declared.needs.Item.{Item}
+use Rattle.call_table.specs.declared.needs.Item.TheVariants.{Told, Starved}
+use Rattle.call_table.specs.declared.needs.Need.{Need}
+use Rattle.call_table.specs.declared.needs.Need.TheVariants.{Turn as NeedsTurn, Ask as NeedsAsk}
+use Rattle.call_table.specs.declared.needs.Turn.{Turn}
+use Rattle.call_table.specs.declared.points.TurnPoint.{TurnPoint}
+use Rattle.call_table.specs.declared.points.TurnPoint.TheVariants.{Dooming, Owning}
+use Rattle.call_table.specs.declared.points.AskPoint.{AskPoint}
+use Rattle.call_table.specs.declared.points.AskPoint.TheVariants.{Needing}
+use Rattle.call_table.specs.declared.points.Point.{Point}
+use Rattle.call_table.specs.declared.points.Point.TheVariants.{Turns, Asks, Tells}
+use Rattle.call_table.specs.declared.points.Next.{Next}
+use Rattle.call_table.specs.declared.points.Next.TheVariants.{Go, Over, More, Gone, Ends, Nowhere}
+use Rattle.call_table.specs.Calls.{CallFacts, moment_of}
+use Rattle.call_table.specs.Desks.{desk_fed}
+use Rattle.call_table.specs.Needs.{NeedIs, NeedsWant}
+use Rattle.call_table.specs.Reads.{taken_next}
+use Rattle.call_table.specs.Runs.{Moment, after, moved, starved_after, step_next}
+use Rattle.call_table.specs.Table.{Want, WantTurn, WantAsk, done_of, is_marked, op_of, starved, step, want}
+use Rattle.heap_core.specs.Arenas.{room_in}
+use Rattle.heap_core.specs.Feeding.{FedTo, NeedOf}
+use Rattle.heap_core.specs.Heaps.{HeapFacts, IsMade, IsStep, IsSure, SureAt, SureFor, WantedAt}
+use Rattle.heap_core.specs.declared.heaps.Stepped.{Stepped}
+use Rattle.heap_core.specs.Owing.{asks_at, asks_next, owing}
+use Rattle.heap_core.specs.Records.{Record}
+use Rattle.heap_core.specs.Seats.{Seat, answer_of, seat_at, seat_of}
+use Rattle.heap_core.specs.Sitting.{IsSeated, SeatSound, Sits, SitsAt}
+use Rattle.heap_core.specs.Stepping.{IsMarked, Needs, StarvesAt, StarvesNext}
+
+-- ---- the point of an open call
+
+-- A client's open call waits at a point of an arena, where it wants this.
+pub record Wanted (records : List Record) (c : ℕ) (seat : Seat) (wants : Want) (arena : ℕ) : Type 0 where
+  pub call : CallFacts
+  pub point : Point
+  pub is : seat.call ≡ Some call
+  pub client : call.client ≡ c
+  pub goes : call.stage.next ≡ Go point
+  pub sits : Sits records c seat.desk call.request call.stage.arena point
+  pub want_is : want point ≡ wants
+  pub arena_is : arena ≡ call.stage.arena
+
+pub some_call : (call : Option CallFacts) (P : CallFacts → Type 0) → IsSomeAnd call P → (k : CallFacts) × (call ≡ Some k) × P k
+some_call (Some k) P p = (k, refl, p)
+some_call None P p = absurd p
+
+goes_on : (records : List Record) (c : ℕ) (desk : DeskFacts) (call : CallFacts) (next : Next) → SitsAt records c desk call next →
+    (point : Point) × (next ≡ Go point) × Sits records c desk call.request call.stage.arena point
+goes_on records c desk call (Go point) sits = (point, refl, sits)
+goes_on records c desk call (Over index point) sits = absurd sits
+goes_on records c desk call More sits = absurd sits
+goes_on records c desk call Gone sits = absurd sits
+goes_on records c desk call (Ends answer) sits = absurd sits
+goes_on records c desk call Nowhere sits = absurd sits
+
+wanted : (records : List Record) (c : ℕ) (seat : Seat) (wants : Want) (arena : ℕ) (P : CallFacts → Type 0) → SeatSound records c seat → IsSomeAnd seat.call P →
+    ((call : CallFacts) (point : Point) → call.stage.next ≡ Go point → P call → (want point ≡ wants) × (arena ≡ call.stage.arena)) → Wanted records c seat wants arena
+wanted records c seat wants arena P sound some tells =
+    let k = some_call seat.call P some in
+    let s : IsSeated records c seat.desk (Some k.0) = subst (IsSeated records c seat.desk) k.1 sound in
+    let g = goes_on records c seat.desk k.0 k.0.stage.next s.1 in
+    let t = tells k.0 g.0 g.1 k.2 in
+    record { call = k.0; point = g.0; is = k.1; client = s.0; goes = g.1; sits = g.2; want_is = t.0; arena_is = t.1 }
+
+-- what it needs is what it wants
+turn_needed : (client at : ℕ) (w : Want) (turn : Turn) → NeedsWant client at w (NeedsTurn turn) → (w ≡ WantTurn turn.op turn.asked) × (turn.arena ≡ at)
+turn_needed client at (WantTurn op asked) turn is =
+    let same : turn ≡ record { arena = at; client = client; op = op; asked = asked } = cc in
+    (ap (λ (t : Turn). WantTurn t.op t.asked) (sym same), ap (λ (t : Turn). t.arena) same)
+turn_needed client at (WantAsk ask) turn is = absurd (cc)
+
+ask_needed : (client at : ℕ) (w : Want) (arena : ℕ) (ask : Ask) → NeedsWant client at w (NeedsAsk arena ask) → (w ≡ WantAsk ask) × (arena ≡ at)
+ask_needed client at (WantAsk ask') arena ask is = (cc, cc)
+ask_needed client at (WantTurn op asked) arena ask is = absurd (cc)
+
+pub turn_wanted : (records : List Record) (c : ℕ) (seat : Seat) (turn : Turn) → SeatSound records c seat → Needs seat.call (NeedsTurn turn) → Wanted records c seat (WantTurn turn.op turn.asked) turn.arena
+turn_wanted records c seat turn sound needs =
+    wanted records c seat (WantTurn turn.op turn.asked) turn.arena (λ call. NeedIs call.client call.stage.arena call.stage.next (NeedsTurn turn)) sound needs
+    (λ call point goes need. turn_needed call.client call.stage.arena (want point) turn (subst (λ next. NeedIs call.client call.stage.arena next (NeedsTurn turn)) goes need))
+
+pub ask_wanted : (records : List Record) (c : ℕ) (seat : Seat) (arena : ℕ) (ask : Ask) → SeatSound records c seat → Needs seat.call (NeedsAsk arena ask) → Wanted records c seat (WantAsk ask) arena
+ask_wanted records c seat arena ask sound needs =
+    wanted records c seat (WantAsk ask) arena (λ call. NeedIs call.client call.stage.arena call.stage.next (NeedsAsk arena ask)) sound needs
+    (λ call point goes need. ask_needed call.client call.stage.arena (want point) arena ask (subst (λ next. NeedIs call.client call.stage.arena next (NeedsAsk arena ask)) goes need))
+
+-- A client's open call wants a turn that may find no memory.
+pub record Starving (records : List Record) (c : ℕ) (seat : Seat) : Type 0 where
+  pub op : Op
+  pub asked : Option AskFacts
+  pub arena : ℕ
+  pub marked : is_marked op ≡ true
+  pub wants : Wanted records c seat (WantTurn op asked) arena
+
+turn_marked : (w : Want) → IsMarked w → (op : Op) × (asked : Option AskFacts) × (w ≡ WantTurn op asked) × (is_marked op ≡ true)
+turn_marked (WantTurn op asked) is = (op, asked, refl, is)
+turn_marked (WantAsk ask) is = absurd is
+
+pub starving : (records : List Record) (c : ℕ) (seat : Seat) → SeatSound records c seat → StarvesAt seat.call → Starving records c seat
+starving records c seat sound some =
+    let k = some_call seat.call (λ call. StarvesNext call.stage.next) some in
+    let s : IsSeated records c seat.desk (Some k.0) = subst (IsSeated records c seat.desk) k.1 sound in
+    let g = goes_on records c seat.desk k.0 k.0.stage.next s.1 in
+    let m = turn_marked (want g.0) (subst StarvesNext g.1 k.2) in
+    record {
+      op = m.0;
+      asked = m.1;
+      arena = k.0.stage.arena;
+      marked = m.3;
+      wants = record { call = k.0; point = g.0; is = k.1; client = s.0; goes = g.1; sits = g.2; want_is = m.2; arena_is = refl };
+    }
+
+-- ---- what a step is
+
+pub step_made : (h : HeapFacts) (records : List Record) (shelf shelf' : Shelf) (c : ℕ) (wants : Want) (arena : ℕ) (stepped : Stepped) (new : HeapFacts) (w : Wanted records c (seat_at h.seats c) wants arena) →
+    IsMade h shelf c w.call wants stepped new shelf' → IsStep h shelf c (seat_at h.seats c).call stepped new shelf'
+step_made h records shelf shelf' c wants arena stepped new w made =
+    subst (λ call. IsStep h shelf c call stepped new shelf') (sym w.is)
+    (subst (λ next. WantedAt next (λ want. IsMade h shelf c w.call want stepped new shelf')) (sym w.goes)
+    (subst (λ want. IsMade h shelf c w.call want stepped new shelf') (sym w.want_is) made))
+
+-- what an item leaves of the client's call
+pub fed_at : (records : List Record) (c : ℕ) (seat : Seat) (wants : Want) (arena : ℕ) (item : Item) (ended : Option Answered) (new : Seat) (w : Wanted records c seat wants arena) →
+    IfSome seat.call (λ call. FedTo call seat.desk item ended new) →
+    ((new ≡ seat_of c (after (moment_of w.call seat.desk) item)) × (ended ≡ answer_of (after (moment_of w.call seat.desk) item)))
+    ⊎ ((new ≡ seat_of c (starved_after (moment_of w.call seat.desk) item)) × (ended ≡ Some NoMemory) × (step w.point item ≡ More))
+fed_at records c seat wants arena item ended new w fed =
+    by (subst (λ call. IfSome call (λ call. FedTo call seat.desk item ended new)) w.is fed)
+  where
+    seated : (m : Moment) → new ≡ seat_of w.call.client m → new ≡ seat_of c m
+    seated m is = is ∙ ap (λ k. seat_of k m) w.client
+
+    by : FedTo w.call seat.desk item ended new →
+        ((new ≡ seat_of c (after (moment_of w.call seat.desk) item)) × (ended ≡ answer_of (after (moment_of w.call seat.desk) item)))
+        ⊎ ((new ≡ seat_of c (starved_after (moment_of w.call seat.desk) item)) × (ended ≡ Some NoMemory) × (step w.point item ≡ More))
+    by (inl (is, told)) = inl (seated (after (moment_of w.call seat.desk) item) is, told)
+    by (inr (is, told, more)) = inr (seated (starved_after (moment_of w.call seat.desk) item) is, told, subst (λ next. step_next next item ≡ More) w.goes more)
+
+-- ---- a turn that finds no memory
+
+-- an operation of a call is the first of a unit just where it may find no memory
+opens_marked_turn : (point : TurnPoint) → opens (op_of point) ≡ is_marked (op_of point)
+opens_marked_turn Dooming = refl
+opens_marked_turn point = refl
+
+opens_not_ask : (point : AskPoint) (asked : AskFacts) → opens (done_of point asked) ≡ false
+opens_not_ask (Needing wish) asked = refl
+opens_not_ask point asked = refl
+
+marked_not_ask : (point : AskPoint) (asked : AskFacts) → is_marked (done_of point asked) ≡ false
+marked_not_ask (Needing wish) asked = refl
+marked_not_ask point asked = refl
+
+pub opens_marked : (point : Point) (op : Op) (asked : Option AskFacts) → want point ≡ WantTurn op asked → opens op ≡ true → is_marked op ≡ true
+opens_marked (Turns point) op asked wants is =
+    let same : op_of point ≡ op = cc in
+    subst (λ o. is_marked o ≡ true) same (sym (opens_marked_turn point) ∙ subst (λ o. opens o ≡ true) (sym same) is)
+opens_marked (Asks point (Some told)) op asked wants is = let same : done_of point told ≡ op = cc in let none = opens_not_ask point told in absurd (cc)
+opens_marked (Asks point None) op asked wants is = absurd (cc)
+opens_marked (Tells span b) op asked wants is = absurd (cc)
+
+-- a turn without memory comes only where places are promised for all the room
+pub room_asked : (room : ℕ) (point : Point) (op : Op) (asked : Option AskFacts) → want point ≡ WantTurn op asked → opens op ≡ false → room ≤ asks_at room point
+room_asked room (Turns point) op asked wants uses =
+    let same : op_of point ≡ op = cc in
+    let is : opens (op_of point) ≡ false = ap opens same ∙ uses in
+    rw is (omega arith)
+room_asked room (Asks point (Some told)) op asked wants uses = omega arith
+room_asked room (Asks point None) op asked wants uses = absurd (cc)
+room_asked room (Tells span b) op asked wants uses = absurd (cc)
+
+starves_to : (point : Point) (op : Op) (asked : Option AskFacts) → want point ≡ WantTurn op asked → is_marked op ≡ true → step point Starved ≡ Ends NoMemory
+starves_to (Turns point) op asked wants marked =
+    let same : op_of point ≡ op = cc in
+    ap (λ (o : Op). starved (is_marked o)) same ∙ ap starved marked
+starves_to (Asks point (Some told)) op asked wants marked = let same : done_of point told ≡ op = cc in let none = marked_not_ask point told in absurd (cc)
+starves_to (Asks point None) op asked wants marked = absurd (cc)
+starves_to (Tells span b) op asked wants marked = absurd (cc)
+
+-- the call has ended
+pub starved_ends : (records : List Record) (c : ℕ) (seat : Seat) (op : Op) (asked : Option AskFacts) (arena : ℕ) (w : Wanted records c seat (WantTurn op asked) arena) → is_marked op ≡ true →
+    after (moment_of w.call seat.desk) Starved ≡ starved_after (moment_of w.call seat.desk) Starved
+starved_ends records c seat op asked arena w marked =
+    let at : Moment = moment_of w.call seat.desk in
+    ap (λ next. moved at.request (desk_fed at.desk at.stage.arena at.stage.next Starved) at.stage.arena next)
+    (ap (λ next. step_next next Starved) w.goes ∙ starves_to w.point op asked w.want_is marked)
+
+-- what it leaves of its client
+pub starved_at : (records : List Record) (c : ℕ) (seat : Seat) (op : Op) (asked : Option AskFacts) (arena : ℕ) (ended : Option Answered) (new : Seat) (w : Wanted records c seat (WantTurn op asked) arena) →
+    is_marked op ≡ true → IfSome seat.call (λ call. FedTo call seat.desk Starved ended new) → (new ≡ seat_of c (after (moment_of w.call seat.desk) Starved)) × (ended ≡ Some NoMemory)
+starved_at records c seat op asked arena ended new w marked fed = by (fed_at records c seat (WantTurn op asked) arena Starved ended new w fed)
+  where
+    ends : after (moment_of w.call seat.desk) Starved ≡ starved_after (moment_of w.call seat.desk) Starved
+    ends = starved_ends records c seat op asked arena w marked
+
+    by : ((new ≡ seat_of c (after (moment_of w.call seat.desk) Starved)) × (ended ≡ answer_of (after (moment_of w.call seat.desk) Starved)))
+        ⊎ ((new ≡ seat_of c (starved_after (moment_of w.call seat.desk) Starved)) × (ended ≡ Some NoMemory) × (step w.point Starved ≡ More)) →
+        (new ≡ seat_of c (after (moment_of w.call seat.desk) Starved)) × (ended ≡ Some NoMemory)
+    by (inl (is, told)) = (is, told ∙ ap answer_of ends)
+    by (inr (is, told, more)) = (is ∙ ap (seat_of c) (sym ends), told)
+
+-- ---- an ask
+
+-- a place is promised for it
+pub ask_some : (room : ℕ) (point : Point) (ask : Ask) → want point ≡ WantAsk ask → 0 < asks_at room point
+ask_some room (Turns point) ask wants = absurd (cc)
+ask_some room (Asks point None) ask wants = omega arith
+ask_some room (Asks point (Some asked)) ask wants = absurd (cc)
+ask_some room (Tells span b) ask wants = omega arith
+
+-- which it takes
+owed_told : (records : List Record) (c n : ℕ) (at : Moment) (point : Point) (ask : Ask) (asked : AskFacts) → want point ≡ WantAsk ask → asks_at (room_in records at.stage.arena c) point ≤ n + 1 →
+    owing records c (seat_of c (moved at.request (desk_fed at.desk at.stage.arena at.stage.next (Told asked)) at.stage.arena (step point (Told asked)))).call ≤ n
+owed_told records c n at (Turns point) ask asked wants few = absurd (cc)
+owed_told records c n at (Asks point None) ask asked wants few = omega (arith, few)
+owed_told records c n at (Asks point (Some told)) ask asked wants few = absurd (cc)
+owed_told records c n at (Tells span b) ask asked wants few = omega arith
+
+pub owed_asked : (records : List Record) (c n : ℕ) (seat : Seat) (ask : Ask) (asked : AskFacts) (arena : ℕ) (w : Wanted records c seat (WantAsk ask) arena) → owing records c seat.call ≤ n + 1 →
+    owing records c (seat_of c (after (moment_of w.call seat.desk) (Told asked))).call ≤ n
+owed_asked records c n seat ask asked arena w few =
+    let at : Moment = moment_of w.call seat.desk in
+    let here : asks_at (room_in records at.stage.arena c) w.point ≤ n + 1 =
+    subst (λ next. asks_next (room_in records at.stage.arena c) next ≤ n + 1) w.goes (subst (λ call. owing records c call ≤ n + 1) w.is few) in
+    subst (λ next. owing records c (seat_of c (moved at.request (desk_fed at.desk at.stage.arena at.stage.next (Told asked)) at.stage.arena next)).call ≤ n)
+    (sym (ap (λ next. step_next next (Told asked)) w.goes)) (owed_told records c n at w.point ask asked w.want_is here)
+
+-- no more goes back next
+pub told_on : (point : Point) (ask : Ask) (asked : AskFacts) → want point ≡ WantAsk ask → step point (Told asked) ≡ More → ⊥
+told_on (Turns point) ask asked wants more = absurd (cc)
+told_on (Asks point None) ask asked wants more = absurd (cc)
+told_on (Asks point (Some told)) ask asked wants more = absurd (cc)
+told_on (Tells span b) ask asked wants more = absurd (cc)
+
+-- ---- a region that is taken over
+
+pub taken_is : (next : Next) (addr : ℕ) → taken_next next ≡ Some addr → next ≡ Go (Turns (Owning addr true))
+taken_is (Go (Turns (Owning at true))) addr is = ap (λ a. Go (Turns (Owning a true))) (cc)
+taken_is (Go (Turns (Owning at false))) addr is = absurd (cc)
+taken_is (Go (Turns Dooming)) addr is = absurd (cc)
+taken_is next addr is = absurd (cc)
+
+-- ---- whose turn it is
+
+turn_client_of : (client at : ℕ) (w : Want) (turn : Turn) → NeedsWant client at w (NeedsTurn turn) → turn.client ≡ client
+turn_client_of client at (WantTurn op asked) turn is =
+    let same : turn ≡ record { arena = at; client = client; op = op; asked = asked } = cc in
+    ap (λ (t : Turn). t.client) same
+turn_client_of client at (WantAsk ask) turn is = absurd (cc)
+
+pub turn_client : (records : List Record) (c : ℕ) (seat : Seat) (turn : Turn) → SeatSound records c seat → Needs seat.call (NeedsTurn turn) → turn.client ≡ c
+turn_client records c seat turn sound needs =
+    let k = some_call seat.call (λ call. NeedIs call.client call.stage.arena call.stage.next (NeedsTurn turn)) needs in
+    let s : IsSeated records c seat.desk (Some k.0) = subst (IsSeated records c seat.desk) k.1 sound in
+    let g = goes_on records c seat.desk k.0 k.0.stage.next s.1 in
+    turn_client_of k.0.client k.0.stage.arena (want g.0) turn (subst (λ next. NeedIs k.0.client k.0.stage.arena next (NeedsTurn turn)) g.1 k.2) ∙ s.0
+
+-- what a client's call told that it needs
+pub needs_of : {E : Type 0} (call : Option CallFacts) (told : Option (Result Need E)) (need : Need) → IfSome told (NeedOf call) → told ≡ Some (Ok need) → Needs call need
+needs_of {E} call told need known is = by call (subst (λ t. IfSome t (NeedOf call)) is known)
+  where
+    by : (call : Option CallFacts) → NeedOf {E = E} call (Ok need) → Needs call need
+    by (Some k) known = known.0
+    by None known = absurd known
+
+-- What a client's call told, seen of the heap: whose turn it is, and that the call needs it.
+pub record TurnTold (now : HeapFacts) (c : ℕ) (turn : Turn) : Type 0 where
+  pub client : turn.client ≡ c
+  pub needs : Needs (seat_at now.seats turn.client).call (NeedsTurn turn)
+
+pub turn_told : {E : Type 0} (h now : HeapFacts) (c : ℕ) (turn : Turn) (seat : Seat) (told : Option (Result Need E)) (inner : Result Need E) (need : Need) → h ≡ now → SeatSound h.records c (seat_at h.seats c) → seat ≡ seat_at h.seats c →
+    IfSome told (NeedOf seat.call) → told ≡ Some inner → inner ≡ Ok need → need ≡ NeedsTurn turn → TurnTold now c turn
+turn_told h now c turn seat told inner need view sound at known is ok same =
+    let here : Needs (seat_at h.seats c).call (NeedsTurn turn) =
+    subst (λ (s : Seat). Needs s.call (NeedsTurn turn)) at (needs_of seat.call told (NeedsTurn turn) known (is ∙ ap Some (ok ∙ ap Ok same))) in
+    let who : turn.client ≡ c = turn_client h.records c (seat_at h.seats c) turn sound here in
+    record { client = who; needs = subst (λ k. Needs (seat_at now.seats k).call (NeedsTurn turn)) (sym who) (subst (λ (n : HeapFacts). Needs (seat_at n.seats c).call (NeedsTurn turn)) view here) }
+
+-- a step without an ask leaves every shelf as it is
+pub step_of : (now new : HeapFacts) (k c : ℕ) (stepped : Stepped) (shelf : Shelf) → k ≡ c → ((s : Shelf) → IsStep now s k (seat_at now.seats k).call stepped new s) → IsStep now shelf c (seat_at now.seats c).call stepped new shelf
+step_of now new k c stepped shelf same made = subst (λ j. IsStep now shelf j (seat_at now.seats j).call stepped new shelf) same (made shelf)
+
+-- ---- a turn that takes no memory
+
+pub sure_made : (h new : HeapFacts) (c : ℕ) (wants : Want) (arena : ℕ) (w : Wanted h.records c (seat_at h.seats c) wants arena) → SureFor h c w.call wants new → IsSure h c (seat_at h.seats c).call new
+sure_made h new c wants arena w sure =
+    subst (λ call. IsSure h c call new) (sym w.is) (subst (λ next. SureAt h c w.call next new) (sym w.goes) (subst (λ want. SureFor h c w.call want new) (sym w.want_is) sure))
+
+-- one that may find no memory takes some
+pub starving_sure : (h new : HeapFacts) (c : ℕ) → Starving h.records c (seat_at h.seats c) → IsSure h c (seat_at h.seats c).call new
+starving_sure h new c s = sure_made h new c (WantTurn s.op s.asked) s.arena s.wants (λ unmarked. let marked = s.marked in absurd (cc))
+
+-- an operation of a call that takes no memory is not the first of a unit
+pub unmarked_opens : (point : Point) (op : Op) (asked : Option AskFacts) → want point ≡ WantTurn op asked → is_marked op ≡ false → opens op ≡ false
+unmarked_opens (Turns point) op asked wants is =
+    let same : op_of point ≡ op = cc in
+    subst (λ o. opens o ≡ false) same (opens_marked_turn point ∙ subst (λ o. is_marked o ≡ false) (sym same) is)
+unmarked_opens (Asks point (Some told)) op asked wants is = let same : done_of point told ≡ op = cc in subst (λ o. opens o ≡ false) same (opens_not_ask point told)
+unmarked_opens (Asks point None) op asked wants is = absurd (cc)
+unmarked_opens (Tells span b) op asked wants is = absurd (cc)

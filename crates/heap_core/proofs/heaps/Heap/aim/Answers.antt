@@ -1,0 +1,17 @@
+use Rattle.std.proofs.Common.{◌∙◌, ap, sym, subst}
+use Rattle.heap_core.specs.Feeding.{aimed_seat}
+use Rattle.heap_core.specs.Heaps.{HeapFacts}
+use Rattle.heap_core.specs.Seats.{Seat, seat_at}
+use Rattle.heap_core.specs.Stepping.{TakesAt}
+use Rattle.heap_core.proofs.Changes.{seat_is}
+use Rattle.heap_core.proofs.TakenOver.{aim_heap}
+use Rattle.heap_core.proofs.heaps.Heap.aim.Goals as goal
+
+pub invariant_of-self : goal.invariant_of-self
+invariant_of-self c =
+    let client = c.args.client in
+    let inside = c.self.inside in
+    let seats = inside.clients.items in
+    let takes = subst (λ (h : HeapFacts). TakesAt (seat_at h.seats client).call) (sym c.self.view_is) c.requires.takes in
+    let same = seat_is seats client c.index_mut.result.now c.self.invariant.number c.requires.client c.index_mut.ensures.value in
+    aim_heap inside.arenas seats inside.log.owed client c.args.arena c.aim.new.self c.self.invariant c.requires.client c.requires.arena takes (c.aim.ensures ∙ ap (λ (s : Seat). aimed_seat s c.args.arena) same)

@@ -1,0 +1,42 @@
+use Rattle.std.proofs.Common.{◌<◌, subst, sym}
+use Rattle.heap_core.specs.Heaps.{IsSure}
+use Rattle.heap_core.specs.Seats.{seat_at}
+use Rattle.heap_core.proofs.Changes.{seat_is}
+use Rattle.heap_core.proofs.Wanting.{step_of, turn_told}
+use Rattle.heap_core.proofs.heaps.Heap.step_client.Goals as goal
+
+pub turn_for-requires-clause-needs : goal.turn_for-requires-clause-needs
+turn_for-requires-clause-needs g c =
+    let inside = c.self.inside in
+    let seats = inside.clients.items in
+    let at = c.in-Some-Ok-Turn in
+    let told = turn_told (record { records = inside.arenas; seats = seats; heard = inside.log.asks }) c.args.self.now c.args.client at.turn c.index.result.now c.need.result at.field-0 at.field-0-0 c.self.view_is
+    (c.self.invariant.sound c.args.client c.requires) (seat_is seats c.args.client c.index.result.now c.self.invariant.number c.requires c.index.ensures) c.need.ensures.some at.is at.field-0-is at.field-0-0-is in
+    told.needs
+
+pub turn_for-requires-clause-client : goal.turn_for-requires-clause-client
+turn_for-requires-clause-client g c =
+    let inside = c.self.inside in
+    let seats = inside.clients.items in
+    let at = c.in-Some-Ok-Turn in
+    let told = turn_told (record { records = inside.arenas; seats = seats; heard = inside.log.asks }) c.args.self.now c.args.client at.turn c.index.result.now c.need.result at.field-0 at.field-0-0 c.self.view_is
+    (c.self.invariant.sound c.args.client c.requires) (seat_is seats c.args.client c.index.result.now c.self.invariant.number c.requires c.index.ensures) c.need.ensures.some at.is at.field-0-is at.field-0-0-is in
+    subst (λ k. k < 32) (sym told.client) c.requires
+
+pub returns-in-Some-Ok-Turn-clause-step : goal.returns-in-Some-Ok-Turn-clause-step
+returns-in-Some-Ok-Turn-clause-step g c =
+    let inside = c.self.inside in
+    let seats = inside.clients.items in
+    let at = c.in-Some-Ok-Turn in
+    let told = turn_told (record { records = inside.arenas; seats = seats; heard = inside.log.asks }) c.args.self.now c.args.client at.turn c.index.result.now c.need.result at.field-0 at.field-0-0 c.self.view_is
+    (c.self.invariant.sound c.args.client c.requires) (seat_is seats c.args.client c.index.result.now c.self.invariant.number c.requires c.index.ensures) c.need.ensures.some at.is at.field-0-is at.field-0-0-is in
+    step_of c.args.self.now c.turn_for.new.self at.turn.client c.args.client c.turn_for.result _ told.client c.turn_for.ensures.step
+
+pub returns-in-Some-Ok-Turn-clause-sure : goal.returns-in-Some-Ok-Turn-clause-sure
+returns-in-Some-Ok-Turn-clause-sure g c =
+    let inside = c.self.inside in
+    let seats = inside.clients.items in
+    let at = c.in-Some-Ok-Turn in
+    let told = turn_told (record { records = inside.arenas; seats = seats; heard = inside.log.asks }) c.args.self.now c.args.client at.turn c.index.result.now c.need.result at.field-0 at.field-0-0 c.self.view_is
+    (c.self.invariant.sound c.args.client c.requires) (seat_is seats c.args.client c.index.result.now c.self.invariant.number c.requires c.index.ensures) c.need.ensures.some at.is at.field-0-is at.field-0-0-is in
+    subst (λ k. IsSure c.args.self.now k (seat_at c.args.self.now.seats k).call c.turn_for.new.self) told.client c.turn_for.ensures.sure

@@ -1,0 +1,5 @@
+use Rattle.heap_core.proofs.Sitting.{others-sit}
+use Rattle.heap_core.proofs.laws.others_sit.Goals as goal
+
+pub returns : goal.returns
+returns c = others-sit

@@ -1,0 +1,5 @@
+use Rattle.heap_core.proofs.Sitting.{starves-sit}
+use Rattle.heap_core.proofs.laws.starves_sit.Goals as goal
+
+pub returns : goal.returns
+returns c = starves-sit

@@ -1,0 +1,66 @@
+-- The clients of a heap: what each has, its open call, and how both change.
+use Rattle.std.specs.Prelude.{ℕ, false, List, [], Option, None, Some, is_some, replicate, slice_index_or}
+use Rattle.std.specs.List.{position}
+use Rattle.thread_cache.specs.declared.Held.{Held}
+use Rattle.thread_cache.specs.Desks.{DeskFacts, held_at}
+use Rattle.call_table.specs.declared.needs.Answered.{Answered}
+use Rattle.call_table.specs.declared.needs.Request.{Request}
+use Rattle.call_table.specs.declared.needs.Request.TheVariants.{Free, FreeForeign}
+use Rattle.call_table.specs.declared.points.Next.{Next}
+use Rattle.call_table.specs.declared.points.Next.TheVariants.{Go}
+use Rattle.call_table.specs.Calls.{CallFacts}
+use Rattle.call_table.specs.Reads.{ended_by}
+use Rattle.call_table.specs.Runs.{Moment, begin}
+
+-- A client of a heap: what it has, and its call while one is open.
+pub record Seat : Type 0 where
+  pub desk : DeskFacts
+  pub call : Option CallFacts
+
+-- what a client has before its first call: it allocates from arena 0, has its cache off, and has no region
+abbrev pub first_desk : DeskFacts
+first_desk = record { arena = 0; caches = false; cached = replicate 41 []; held = []; hand = None }
+
+-- a client before its first call
+abbrev pub first_seat : Seat
+first_seat = record { desk = first_desk; call = None }
+
+-- the client with an index
+abbrev pub seat_at : List Seat → ℕ → Seat
+seat_at seats c = slice_index_or seats c first_seat
+
+-- the call of a client, while it waits at a point
+abbrev pub open_call : ℕ → Moment → Next → Option CallFacts
+open_call c at (Go point) = Some (record { client = c; request = at.request; stage = at.stage })
+open_call c at next = None
+
+-- a client whose call came to this moment
+abbrev pub seat_of : ℕ → Moment → Seat
+seat_of c at = record { desk = at.desk; call = open_call c at at.stage.next }
+
+-- the answer of a call, if it has ended at this moment
+abbrev pub answer_of : Moment → Option Answered
+answer_of at = ended_by at.stage.next
+
+-- the first client that holds a region at the address, if one does
+abbrev pub holder_of : ℕ → List Seat → Option ℕ
+holder_of addr seats = position (λ seat. is_some (held_at addr seat.desk)) seats
+
+-- the region that some client holds at an address, by the index of its holder
+abbrev pub held_by : ℕ → List Seat → Option ℕ → Option Held
+held_by addr seats None = None
+held_by addr seats (Some holder) = held_at addr (seat_at seats holder).desk
+
+-- a free of a region that the client holds, or else of one that another client holds
+abbrev pub free_of : ℕ → Option Held → Option Held → Request
+free_of addr None (Some region) = FreeForeign addr region.arena
+free_of addr own others = Free addr
+
+-- what a client asks for: a free of a region that another client holds takes it over first
+abbrev pub asked_for : List Seat → ℕ → Request → Request
+asked_for seats c (Free addr) = free_of addr (held_at addr (seat_at seats c).desk) (held_by addr seats (holder_of addr seats))
+asked_for seats c request = request
+
+-- the moment at which the request of a client begins
+abbrev pub begun : List Seat → ℕ → Request → Moment
+begun seats c request = begin (asked_for seats c request) (seat_at seats c).desk

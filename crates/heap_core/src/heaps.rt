@@ -1,0 +1,206 @@
+//! A heap.
+
+ghost use Rattle.std.specs.Prelude.{◌≡◌, ◌<◌, ◌/◌, ◌^◌, ℕ, None, length, map, is_some, IfOk, IfSome, OnOk, OnErr};
+ghost use Rattle.std.specs.List.{list_any, position};
+ghost use Rattle.space_model.specs.Span.{has_page};
+ghost use Rattle.call_table.specs.Laws.{IsInRange};
+ghost use Rattle.thread_cache.specs.Desks.{held_at};
+ghost use Rattle.heap_core.specs.Arenas.{IsArenas, journal_of, record_at};
+ghost use Rattle.heap_core.specs.Heaps.{opening_heap, started};
+ghost use Rattle.heap_core.specs.Seats.{answer_of, asked_for, begun, free_of, held_by, holder_of, seat_at};
+ghost use Rattle.heap_core.specs.Sitting.{SeatSound};
+
+use crate::Arenas;
+use crate::arenas::ARENAS;
+use crate::logs::AskLog;
+use crate::seats::Client;
+use arena_core::Arena;
+use call_table::{Answered, Request};
+use hook_api::{Asked, Askeds, Journals};
+use size_classes::PAGE_BYTES;
+use std::alloc::{AllocError as NoMemory, Global};
+use std::marker::Model;
+use thread_cache::{Desk, Held};
+
+/// How many clients there are.
+const CLIENTS: usize = 32;
+
+/// What a step of a client did.
+#[derive(Clone, Copy)]
+pub enum Did {
+    /// Nothing: the client has no open call.
+    Idle,
+    /// A turn of an arena was made for its call, or found no memory.
+    Turn,
+    /// Its call made an ask.
+    Ask(Asked),
+}
+
+/// What a step of a client told.
+#[derive(Clone, Copy)]
+pub struct Stepped {
+    /// What it did.
+    pub did: Did,
+    /// The answer of its call, where that has ended by it.
+    pub ended: Option<Answered>,
+}
+
+/// The 32 arenas and the 32 clients of a heap, with every ask that was made. Contracts see the arenas with their journals, what
+/// each client has and its open call, and the asks.
+///
+/// Each step of a client carries its call on by one turn or one ask, whatever steps of other clients come between. A call may
+/// end for want of memory at a turn that takes some. An ask and the turn that takes its answer in take none.
+#[derive(Drop)]
+pub struct Heap {
+    pub(crate) arenas: Arenas,
+    pub(crate) clients: Vec<Client>,
+    pub(crate) log: AskLog,
+}
+
+impl Model for Heap {
+    ghost use Rattle.heap_core.specs.Heaps.{HeapFacts};
+    ghost use Rattle.heap_core.specs.Owing.{IsHeap};
+
+    ghost Value = { HeapFacts };
+
+    ghost view = { λ h. record { records = h.arenas; seats = h.clients.items; heard = h.log.asks } };
+
+    ghost invariant = { λ h. IsHeap h.arenas h.clients.items h.log.owed };
+}
+
+/// The place of the first client that holds a region at an address.
+pub(crate) fn holder_of(clients: &[Client], addr: u64) -> Option<usize>
+    ensures holder { result ≡ holder_of addr clients.now }
+    ensures within { IfSome result (λ holder. holder < length clients.now) }
+{
+    clients
+        .iter()
+        .position(|client| client.held_at(addr).is_some())
+}
+
+/// The region that some client holds at an address.
+fn held_by(clients: &[Client], addr: u64) -> Option<Held>
+    ensures { result ≡ held_by addr clients.now (holder_of addr clients.now) }
+{
+    let holder = holder_of(clients, addr)?;
+    clients[holder].held_at(addr)
+}
+
+/// A free of a region that the client holds, or else of one that another client holds.
+fn free_of(addr: u64, own: Option<Held>, other: Option<Held>) -> Request
+    ensures { result ≡ free_of addr own other }
+{
+    match (own, other) {
+        (None, Some(region)) => Request::FreeForeign {
+            addr,
+            arena: region.arena,
+        },
+        _ => Request::Free { addr },
+    }
+}
+
+/// What a client asks for by a request: a free of a region that another client holds takes it over first.
+fn asked_for(clients: &[Client], client: u32, request: Request) -> Request
+    requires { client < length clients.now }
+    ensures { result ≡ asked_for clients.now client request }
+{
+    match request {
+        Request::Free { addr } => {
+            let own = clients[client as usize].held_at(addr);
+            free_of(addr, own, held_by(clients, addr))
+        }
+        request => request,
+    }
+}
+
+impl Heap {
+    /// A new heap: arena 0 is there, and no other, and no client has anything.
+    pub fn new(alloc: Global) -> Result<Heap, NoMemory>
+        ensures { IfOk result (λ heap. heap ≡ opening_heap) }
+    {
+        let mut clients = Vec::new(alloc);
+        while clients.len() < CLIENTS {
+            clients.push(Client::new(alloc)?)?;
+        }
+        Ok(Heap {
+            arenas: Arenas::new(alloc)?,
+            clients,
+            log: AskLog::new(alloc),
+        })
+    }
+
+    /// What is always so: the arenas are as their journals leave them, of which no two own a chunk; each of the 32 clients has
+    /// just the regions that it holds in them, and its open call knows there what it has to.
+    pub fn stands(&self)
+        ensures arenas { IsArenas self.now.records }
+        ensures clients { length self.now.seats ≡ 32 }
+        ensures seats { (c : ℕ) → c < 32 → SeatSound self.now.records c (seat_at self.now.seats c) }
+        ensures entries { (i : ℕ) → i < 32 → length (record_at self.now.records i).kept < 2 ^ 64 }
+        ensures asks { length self.now.heard < 2 ^ 64 }
+    {
+        self.arenas.are_apart();
+        self.log.is_few();
+    }
+
+    /// Whether a client has an open call.
+    pub fn has_call(&self, client: u32) -> bool
+        requires { client < 32 }
+        ensures { result ≡ is_some (seat_at self.now.seats client).call }
+    {
+        self.clients[client as usize].has_call()
+    }
+
+    /// What a client has.
+    pub fn desk(&self, client: u32) -> &Desk
+        requires { client < 32 }
+        ensures { result.now.facts ≡ (seat_at self.now.seats client).desk }
+    {
+        self.clients[client as usize].desk()
+    }
+
+    /// The arena with an index, from which its counts and settings are read.
+    pub fn arena(&self, arena: u32) -> &Arena
+        requires { arena < 32 }
+        ensures { result.now.space ≡ (record_at self.now.records arena).space }
+    {
+        self.arenas.at(arena)
+    }
+
+    /// The index of the arena of which an extent has the page of an address, if there is one.
+    pub fn arena_of(&self, addr: u64) -> Option<u32>
+        ensures { result ≡ position (λ r. list_any (λ p. has_page (addr / 4096) p.span) r.space.parts) self.now.records }
+    {
+        self.arenas.arena_of(addr / PAGE_BYTES)
+    }
+
+    /// Begins a call of a client that has none open. Gives its answer, where it has ended already. A free of a region that
+    /// another client holds takes it over first. Where memory is wanting nothing changes.
+    pub fn start(
+        &mut self,
+        client: u32,
+        request: Request,
+        alloc: Global,
+    ) -> Result<Option<Answered>, NoMemory>
+        requires client { client < 32 }
+        requires rests { (seat_at self.old.seats client).call ≡ None }
+        requires range { IsInRange request }
+        ensures heap { OnOk result (self.new ≡ started self.old client request) }
+        ensures answer { IfOk result (λ ended. ended ≡ answer_of (begun self.old.seats client request)) }
+        ensures err { OnErr result (self.new ≡ self.old) }
+    {
+        let request = asked_for(&self.clients, client, request);
+        self.arenas.are_apart();
+        self.clients[client as usize].start(client, request, alloc)
+    }
+
+    /// The journals of all arenas, which leave the spaces that these have, and every ask, in order. `NoMemory` only where there
+    /// is none for the list of the journals.
+    pub fn finish(self, alloc: Global) -> Result<(Journals, Askeds), NoMemory>
+        ensures journals { IfOk result (λ books. books.0 ≡ map journal_of self.records) }
+        ensures asks { IfOk result (λ books. books.1 ≡ self.heard) }
+    {
+        let Heap { arenas, log, .. } = self;
+        let journals = arenas.into_journals(alloc)?;
+        Ok((journals, Askeds::from_vec(log.into_asks())))
+    }
+}

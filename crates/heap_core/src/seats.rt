@@ -1,0 +1,151 @@
+//! A client of a heap: what it has, and its call while one is open.
+
+ghost use Rattle.std.specs.Prelude.{◌≡◌, IfSome, IfNone, IfOk, IsOk, IsSomeAnd, None, OnOk, OnErr, is_some};
+ghost use Rattle.std.specs.Option.{option_and_then};
+ghost use Rattle.thread_cache.specs.Desks.{DeskFacts, held_at, not_holding};
+ghost use Rattle.call_table.specs.Calls.{moment_of};
+ghost use Rattle.call_table.specs.Needs.{Goes, IsFewAddresses, NeedIs};
+ghost use Rattle.call_table.specs.Reads.{ended_by, taken_next};
+ghost use Rattle.call_table.specs.Runs.{after, begin};
+ghost use Rattle.heap_core.specs.Seats.{answer_of, first_seat, open_call, seat_of};
+ghost use Rattle.heap_core.specs.Feeding.{FedTo, NeedOf, aimed_seat};
+
+use call_table::{Answered, Call, Item, Need, Request};
+use std::alloc::{AllocError as NoMemory, Global};
+use std::marker::Model;
+use std::mem;
+use thread_cache::{Desk, Held};
+
+/// A client: what it has, and its call while one is open. While that is so, its desk has room for a region that it may
+/// come to hold.
+#[derive(Drop)]
+pub struct Client {
+    desk: Desk,
+    call: Option<Call>,
+}
+
+impl Model for Client {
+    ghost use Rattle.heap_core.specs.Seats.{Seat};
+
+    ghost Value = { Seat };
+
+    ghost use Rattle.heap_core.specs.Feeding.{HasDeskRoom, shown};
+
+    ghost view = { shown };
+
+    ghost invariant = { HasDeskRoom };
+}
+
+/// A call while it is open, and nothing once it has ended.
+fn open_call(call: Call) -> Option<Call>
+    ensures { (desk : DeskFacts) → result ≡ open_call call.client (moment_of call desk) call.stage.next }
+{
+    match call.answer() {
+        None => Some(call),
+        Some(_) => None,
+    }
+}
+
+/// Keeps a call in its place while it is open. Gives its answer, once it has ended.
+fn settle(place: &mut Option<Call>, call: Call) -> Option<Answered>
+    ensures open { (desk : DeskFacts) → place.new ≡ open_call call.client (moment_of call desk) call.stage.next }
+    ensures answer { result ≡ ended_by call.stage.next }
+{
+    let ended = call.answer();
+    *place = open_call(call);
+    ended
+}
+
+impl Client {
+    /// A client before its first call.
+    pub fn new(alloc: Global) -> Result<Client, NoMemory>
+        ensures { IfOk result (λ client. client ≡ first_seat) }
+    {
+        Ok(Client {
+            desk: Desk::new(alloc)?,
+            call: None,
+        })
+    }
+
+    /// What it has.
+    pub fn desk(&self) -> &Desk
+        ensures { result.now.facts ≡ self.now.desk }
+    {
+        &self.desk
+    }
+
+    /// Whether it has an open call.
+    pub fn has_call(&self) -> bool
+        ensures { result ≡ is_some self.now.call }
+    {
+        self.call.is_some()
+    }
+
+    /// The region that it holds at an address.
+    pub fn held_at(&self, addr: u64) -> Option<Held>
+        ensures { result ≡ held_at addr self.now.desk }
+    {
+        self.desk.held_at(addr)
+    }
+
+    /// It holds no region at the address any more.
+    pub fn lose(&mut self, addr: u64)
+        ensures { self.new ≡ record self.old { desk = not_holding addr self.old.desk } }
+    {
+        self.desk.lose(addr);
+    }
+
+    /// What its open call needs, if it has one. `NoMemory` only where there is none to name several regions that go back.
+    pub fn need(&self, alloc: Global) -> Option<Result<Need, NoMemory>>
+        ensures none { IfNone result (self.now.call ≡ None) }
+        ensures some { IfSome result (NeedOf self.now.call) }
+    {
+        let call = self.call.as_ref()?;
+        Some(call.need(alloc))
+    }
+
+    /// The address of a region of another client, where its open call takes that over next to free it.
+    pub fn takes(&self) -> Option<u64>
+        ensures { result ≡ option_and_then (λ call. taken_next call.stage.next) self.now.call }
+    {
+        self.call.as_ref()?.takes()
+    }
+
+    /// Its open call takes that region over in the arena with this index.
+    pub fn aim(&mut self, arena: u32)
+        ensures { self.new ≡ aimed_seat self.old arena }
+    {
+        if let Some(call) = &mut self.call {
+            call.aim(arena);
+        }
+    }
+
+    /// Begins a call. Gives its answer, where it has ended already. Where memory is wanting nothing changes.
+    pub fn start(
+        &mut self,
+        client: u32,
+        request: Request,
+        alloc: Global,
+    ) -> Result<Option<Answered>, NoMemory>
+        requires { self.old.call ≡ None }
+        ensures seat { OnOk result (self.new ≡ seat_of client (begin request self.old.desk)) }
+        ensures answer { IfOk result (λ ended. ended ≡ answer_of (begin request self.old.desk)) }
+        ensures err { OnErr result (self.new ≡ self.old) }
+    {
+        let call = Call::start(client, &mut self.desk, request, alloc)?;
+        Ok(settle(&mut self.call, call))
+    }
+
+    /// Feeds an item to its open call. Gives the answer, where the call has ended by it: that is `NoMemory` where there is none
+    /// to name the regions that go back next.
+    pub fn feed(&mut self, item: Item, alloc: Global) -> Option<Answered>
+        requires { IsSomeAnd self.old.call (λ call. Goes (after (moment_of call self.old.desk) item).stage.next) }
+        ensures { IfSome self.old.call (λ call. FedTo call self.old.desk item result self.new) }
+    {
+        let Some(mut call) = mem::replace(&mut self.call, None) else {
+            unreachable!()
+        };
+        let _named = call.next(&mut self.desk, item, alloc);
+        settle(&mut self.call, call)
+    }
+}

@@ -1,0 +1,226 @@
+//! A step of a client of a heap: one turn or one ask for its open call.
+
+ghost use Rattle.std.specs.Prelude.{◌≡◌, ◌≢◌, ◌+◌, ◌<◌, ◌≤◌, ℕ, None, Some, false, true, length, IfOk, IfSome, IsOk, IsSomeAnd, OnOk, OnErr};
+ghost use Rattle.hook_api.specs.Shelf.{Shelf};
+ghost use Rattle.hook_api.specs.ShelfOf.{shelf_of};
+ghost use Rattle.space_model.specs.declared.entries.Op.TheVariants.{Publish};
+ghost use Rattle.arena_core.specs.Arenas.{all_rooms, opens};
+ghost use Rattle.thread_cache.specs.Desks.{held_at};
+ghost use Rattle.call_table.specs.Needs.{NeedIs};
+ghost use Rattle.heap_core.specs.Arenas.{reply_in, room_in, record_at, spaces_of, turned};
+ghost use Rattle.heap_core.specs.Chunks.{settled};
+ghost use Rattle.heap_core.specs.Clients.{CanTurn, after_turn};
+ghost use Rattle.heap_core.specs.Feeding.{aimed_seat};
+ghost use Rattle.heap_core.specs.Heaps.{IsStep, IsSure, parted, seated};
+ghost use Rattle.heap_core.specs.Logs.{owed_to};
+ghost use Rattle.heap_core.specs.Records.{most_room};
+ghost use Rattle.heap_core.specs.Seats.{seat_at};
+ghost use Rattle.heap_core.specs.Stepping.{HolderIs, IsPublished, MadeTurn, Needs, StarvesAt, TakesAt, item_of};
+
+use crate::Arenas;
+use crate::heaps::{Did, Heap, Stepped, holder_of};
+use crate::logs::AskLog;
+use crate::records::places_for;
+use arena_core::Arena;
+use call_table::{Answered, Item, Need, Turn};
+use hook_api::HookShelf;
+use space_model::{Ask, Op, Reply};
+use std::alloc::{AllocError as NoMemory, Global};
+use thread_cache::Held;
+
+/// Promises a client places for the asks that may come between a turn in an arena that takes memory and the next one.
+fn promise(log: &mut AskLog, arena: &Arena, client: u32, op: &Op) -> Result<(), NoMemory>
+    requires { client < 32 }
+    ensures asks { log.new.asks ≡ log.old.asks }
+    ensures others { (other : ℕ) → other ≢ client → owed_to log.new.owed other ≡ owed_to log.old.owed other }
+    ensures kept { owed_to log.old.owed client ≤ owed_to log.new.owed client }
+    ensures ok { OnOk result (opens op.now ≡ true → all_rooms arena.now.rooms + most_room op.now + 1 ≤ owed_to log.new.owed client) }
+    ensures sure { opens op.now ≡ false → IsOk result }
+{
+    if !Arena::opens(op) {
+        return Ok(());
+    }
+    log.promise(client, places_for(arena, op)?)
+}
+
+/// A turn in one of the arenas, with places for the asks that may follow it. Where memory is wanting, nothing changes.
+fn make_turn(arenas: &mut Arenas, log: &mut AskLog, turn: Turn) -> Result<Reply, NoMemory>
+    requires arena { turn.arena < 32 }
+    requires client { turn.client < 32 }
+    requires can { CanTurn arenas.old turn.client turn.arena turn.op turn.asked }
+    ensures turn { MadeTurn arenas.old log.old.owed turn result arenas.new log.new.owed }
+    ensures asks { log.new.asks ≡ log.old.asks }
+{
+    let Turn {
+        arena,
+        client,
+        op,
+        asked,
+    } = turn;
+    promise(log, arenas.at(arena), client, &op)?;
+    arenas.turn(arena, client, op, asked)
+}
+
+/// What a call is fed that wanted a turn.
+fn item_of(made: Result<Reply, NoMemory>) -> Item
+    ensures { result ≡ item_of made }
+{
+    match made {
+        Ok(reply) => Item::Replied(reply),
+        Err(_) => Item::Starved,
+    }
+}
+
+impl Heap {
+    /// The client that holds the region which a client's call takes over next to free it, with that region.
+    fn holder_for(&self, client: u32) -> Option<(usize, Held)>
+        requires { client < 32 }
+        ensures { IfSome (seat_at self.now.seats client).call (λ call. HolderIs self.now call result) }
+    {
+        let addr = self.clients[client as usize].takes()?;
+        let holder = holder_of(&self.clients, addr)?;
+        let Some(region) = self.clients[holder].held_at(addr) else {
+            unreachable!()
+        };
+        Some((holder, region))
+    }
+
+    /// A client publishes a region that it holds, and holds it no more. Where memory is wanting nothing changes.
+    fn publish(&mut self, holder: u32, region: Held) -> Result<(), NoMemory>
+        requires holder { holder < 32 }
+        requires held { held_at region.addr (seat_at self.old.seats holder).desk ≡ Some region }
+        ensures ok { OnOk result (IsPublished self.old holder region self.new) }
+        ensures err { OnErr result (self.new ≡ self.old) }
+    {
+        self.arenas.are_apart();
+        let turn = Turn {
+            arena: region.arena,
+            client: holder,
+            op: Op::Publish { addr: region.addr },
+            asked: None,
+        };
+        make_turn(&mut self.arenas, &mut self.log, turn)?;
+        self.clients[holder as usize].lose(region.addr);
+        Ok(())
+    }
+
+    /// The call of a client that is about to take a region over does so in the arena with this index.
+    fn aim(&mut self, client: u32, arena: u32)
+        requires client { client < 32 }
+        requires arena { arena < 32 }
+        requires takes { TakesAt (seat_at self.old.seats client).call }
+        ensures { self.new ≡ seated self.old client (aimed_seat (seat_at self.old.seats client) arena) }
+    {
+        self.clients[client as usize].aim(arena);
+    }
+
+    /// The call of a client has ended, since the turn that it wants found no memory.
+    fn starve(&mut self, client: u32, alloc: Global) -> Stepped
+        requires client { client < 32 }
+        requires starves { StarvesAt (seat_at self.old.seats client).call }
+        ensures step { (shelf : Shelf) → IsStep self.old shelf client (seat_at self.old.seats client).call result self.new shelf }
+        ensures sure { IsSure self.old client (seat_at self.old.seats client).call self.new }
+    {
+        self.arenas.are_apart();
+        let ended = self.clients[client as usize].feed(Item::Starved, alloc);
+        Stepped {
+            did: Did::Turn,
+            ended,
+        }
+    }
+
+    /// The turn that a client's call wants.
+    fn turn(&mut self, turn: Turn, alloc: Global) -> Stepped
+        requires client { turn.client < 32 }
+        requires needs { Needs (seat_at self.old.seats turn.client).call (Need.Turn turn) }
+        requires free { IfSome (seat_at self.old.seats turn.client).call (λ call. HolderIs self.old call None) }
+        ensures step { (shelf : Shelf) → IsStep self.old shelf turn.client (seat_at self.old.seats turn.client).call result self.new shelf }
+        ensures sure { IsSure self.old turn.client (seat_at self.old.seats turn.client).call self.new }
+    {
+        let client = turn.client as usize;
+        self.arenas.are_apart();
+        let made = make_turn(&mut self.arenas, &mut self.log, turn);
+        let ended = self.clients[client].feed(item_of(made), alloc);
+        Stepped {
+            did: Did::Turn,
+            ended,
+        }
+    }
+
+    /// The turn by which a holder publishes the region that a client's call takes over next.
+    fn take_over(&mut self, client: u32, holder: u32, region: Held, alloc: Global) -> Stepped
+        requires client { client < 32 }
+        requires holder { IsSomeAnd (seat_at self.old.seats client).call (λ call. HolderIs self.old call (Some (holder, region))) }
+        ensures step { (shelf : Shelf) → IsStep self.old shelf client (seat_at self.old.seats client).call result self.new shelf }
+        ensures sure { IsSure self.old client (seat_at self.old.seats client).call self.new }
+    {
+        self.stands();
+        match self.publish(holder, region) {
+            Ok(()) => {
+                self.aim(client, region.arena);
+                Stepped {
+                    did: Did::Turn,
+                    ended: None,
+                }
+            }
+            Err(_) => self.starve(client, alloc),
+        }
+    }
+
+    /// A turn for a client's call: the one by which a holder publishes, if there is one, and else the one that the call wants.
+    fn turn_for(&mut self, turn: Turn, alloc: Global) -> Stepped
+        requires client { turn.client < 32 }
+        requires needs { Needs (seat_at self.old.seats turn.client).call (Need.Turn turn) }
+        ensures step { (shelf : Shelf) → IsStep self.old shelf turn.client (seat_at self.old.seats turn.client).call result self.new shelf }
+        ensures sure { IsSure self.old turn.client (seat_at self.old.seats turn.client).call self.new }
+    {
+        match self.holder_for(turn.client) {
+            Some((holder, region)) => self.take_over(turn.client, holder as u32, region, alloc),
+            None => self.turn(turn, alloc),
+        }
+    }
+
+    /// The ask that a client's call wants, of the box of its arena.
+    fn ask(
+        &mut self,
+        client: u32,
+        arena: u32,
+        ask: Ask,
+        shelf: &mut HookShelf,
+        alloc: Global,
+    ) -> Stepped
+        requires client { client < 32 }
+        requires needs { Needs (seat_at self.old.seats client).call (Need.Ask arena ask) }
+        ensures step { IsStep self.old (shelf_of ExtentHooks-dyn shelf.old) client (seat_at self.old.seats client).call result self.new (shelf_of ExtentHooks-dyn shelf.new) }
+        ensures sure { IsSure self.old client (seat_at self.old.seats client).call self.new }
+    {
+        self.arenas.are_apart();
+        let asked = shelf.ask(self.arenas.at(arena).box_no(), ask);
+        self.log.push(client, asked);
+        let ended = self.clients[client as usize].feed(Item::Told(asked), alloc);
+        Stepped {
+            did: Did::Ask(asked),
+            ended,
+        }
+    }
+
+    /// Carries the open call of a client on, if it has one, by one turn or one ask. Where the call has ended by it, its answer
+    /// is told: `NoMemory` where a turn found none, or where none was left to name the regions that go back next. A turn that
+    /// takes no memory is always made, and so is an ask.
+    pub fn step_client(&mut self, client: u32, shelf: &mut HookShelf, alloc: Global) -> Stepped
+        requires { client < 32 }
+        ensures step { IsStep self.old (shelf_of ExtentHooks-dyn shelf.old) client (seat_at self.old.seats client).call result self.new (shelf_of ExtentHooks-dyn shelf.new) }
+        ensures sure { IsSure self.old client (seat_at self.old.seats client).call self.new }
+    {
+        match self.clients[client as usize].need(alloc) {
+            None => Stepped {
+                did: Did::Idle,
+                ended: None,
+            },
+            Some(Ok(Need::Ask { arena, ask })) => self.ask(client, arena, ask, shelf, alloc),
+            Some(Ok(Need::Turn(turn))) => self.turn_for(turn, alloc),
+            Some(Ok(Need::Done(_))) => unreachable!(),
+            Some(Err(_)) => self.starve(client, alloc),
+        }
+    }
+}
