@@ -1,11 +1,12 @@
 //! The top call: all that the program does, over a source, a sink and a shelf of hooks.
 
-ghost use Rattle.std.specs.Prelude.{◌≡◌, ◌≢◌, true, List, [], map, string_bytes};
-ghost use Rattle.hook_api.specs.Kept.{KeptFacts};
+ghost use Rattle.std.specs.Prelude.{◌≡◌, true, List, [], map, string_bytes};
+ghost use Rattle.hook_api.specs.Asked.{AskFacts};
+ghost use Rattle.hook_api.specs.declared.kept.Journal.{Journal};
 ghost use Rattle.hook_api.specs.ShelfOf.{shelf_of};
 ghost use Rattle.jarena.specs.Words.{TellsUsage, IsReplay, IsInNoList};
 ghost use Rattle.edge_io.specs.Bytes.{Rose};
-ghost use Rattle.replay_run.specs.Replays.{ReplayOf, JournalsOf};
+ghost use Rattle.replay_run.specs.Replays.{HandsOut, ReplayOf};
 ghost use Rattle.replay_run.specs.Stops.{IsReplayStatus};
 
 use crate::words::{is_replay, tell_usage};
@@ -43,8 +44,9 @@ pub fn run<S: Source, K: Sink>(
     ensures unread { IsInNoList (map string_bytes words.now) → source.new ≡ source.old }
     ensures unasked { IsInNoList (map string_bytes words.now) → result.heard ≡ [] }
     ensures no_journals { IsInNoList (map string_bytes words.now) → result.journals ≡ [] }
-    ensures replay { IsReplay (map string_bytes words.now) → (kept : List KeptFacts) × ReplayOf result.status kept result.heard (shelf_of ExtentHooks-dyn shelf)
-        (shelf_of ExtentHooks-dyn result.shelf) (S.ended source.new) (S.left source.old) (S.left source.new) (K.held sink.old) (K.held sink.new) × (result.status ≢ 6 → JournalsOf kept result.journals) }
+    ensures replay { IsReplay (map string_bytes words.now) → (journals : List Journal) × (heard : List AskFacts) × ReplayOf result.status journals heard (shelf_of ExtentHooks-dyn shelf)
+        (shelf_of ExtentHooks-dyn result.shelf) (S.ended source.new) (S.left source.old) (S.left source.new) (K.held sink.old) (K.held sink.new)
+        × HandsOut result.status journals heard result.journals result.heard }
     ensures known { IsReplay (map string_bytes words.now) → IsReplayStatus result.status }
     ensures read_fault { IsReplay (map string_bytes words.now) → result.status ≡ 4 → Rose (S.faults source.old) (S.faults source.new) }
     ensures write_fault { IsReplay (map string_bytes words.now) → result.status ≡ 5 → Rose (K.faults sink.old) (K.faults sink.new) }

@@ -21,7 +21,10 @@ pub(crate) fn is_replay(words: &[String]) -> bool
 pub(crate) fn tell_usage<K: Sink>(sink: &mut K) -> u8
     ensures { TellsUsage result (record { held = K.held sink.old; faults = K.faults sink.old }) (record { held = K.held sink.new; faults = K.faults sink.new }) }
 {
-    match write_all(sink, usage_line().as_bytes()) {
+    let Ok(()) = write_all(sink, usage_line().as_bytes()) else {
+        return SINK_FAILED;
+    };
+    match sink.flush() {
         Ok(()) => BAD_WORDS,
         Err(Failed) => SINK_FAILED,
     }

@@ -1,67 +1,163 @@
--- A call that just started.
-use Rattle.std.proofs.Common.{append-nil, ◌≡◌, List, [], None, refl, sym, ◌∙◌, ap}
-use Rattle.space_model.specs.declared.Space.{Space}
-use Rattle.hook_api.specs.Asked.{AskFacts}
-use Rattle.hook_api.specs.Kept.{KeptFacts}
-use Rattle.hook_api.specs.Shelf.{Shelf}
-use Rattle.arena_core.specs.Arenas.{Standing}
-use Rattle.replay_run.specs.Rooms.{HasRoom}
-use Rattle.call_plan.specs.declared.needs.Fed.TheVariants.{Begin}
-use Rattle.call_plan.specs.declared.needs.Request.{Request}
-use Rattle.call_plan.specs.declared.stages.Stage.{Stage}
-use Rattle.call_plan.specs.declared.stages.Stage.TheVariants.{Get}
-use Rattle.call_plan.specs.Calls.{desk_started, stage_after, desk_after, gained, IsBuilt, first_stage}
-use Rattle.call_plan.specs.Desks.{DeskFacts, holding}
+-- The beginning of a call is an event.
+use Rattle.std.proofs.Common.{◌≡◌, ◌≢◌, ℕ, Bool, true, false, List, [], ◌++◌, Option, None, Some, is_some, Result, Ok, Err, IfErr, OnOk, OnErr, refl, ap}
+use Rattle.std.proofs.KnownBytes.{Appends-trans}
+use Rattle.std.specs.Prelude.{slice_set}
+use Rattle.edge_io.specs.Bytes.{Appends, AppendsPrefix}
+use Rattle.call_table.specs.declared.needs.Answered.{Answered}
+use Rattle.call_table.specs.declared.needs.Answered.TheVariants.{NotHeld}
+use Rattle.call_table.specs.declared.needs.Request.{Request}
+use Rattle.heap_core.specs.Heaps.{HeapFacts, started}
+use Rattle.heap_core.specs.Seats.{answer_of, begun, seat_at}
 use Rattle.trace_text.specs.declared.lines.Verb.{Verb}
-use Rattle.replay_run.specs.World.{Open, fed, call_of}
-use Rattle.replay_run.specs.Sane.{desk_at}
-use Rattle.replay_run.specs.Carried.{Desktop, world_of, Underway, IsReady}
-use Rattle.replay_run.proofs.Ways.{fed_space, fed_kept}
-use Rattle.trace_text.specs.declared.lines.Ptr.TheVariants.{At}
-use Rattle.trace_text.specs.declared.lines.Verb.TheVariants.{Free as FreeVerb}
-use Rattle.replay_run.proofs.Starts.{starts}
+use Rattle.replay_run.specs.declared.input.Stop.{Stop}
+use Rattle.replay_run.specs.Heads.{answer_line}
+use Rattle.replay_run.specs.Plays.{Began, IsSound}
+use Rattle.replay_run.specs.SoFar.{Came, EndsHere, Goes, Here, Now, Outset, is_one_step, world_at}
+use Rattle.replay_run.specs.Stops.{HasStopCause, status_for}
+use Rattle.replay_run.specs.World.{Awaits, Memory, Nothing, OneStep, TheEnd, TheEndBefore, TheStart, awaits_after, awaits_begun, awaits_call, begins, is_open, names_ended, request_of, target_of}
+use Rattle.replay_run.proofs.Came.{Leads, came_next, came_sound}
+use Rattle.replay_run.proofs.Endings.{all_of, behind, sink_fault}
+use Rattle.replay_run.proofs.Stops.{stops_after}
 
--- nothing is gained by it
-gains_nothing : (stage : Stage) → gained stage Begin ≡ None
-gains_nothing (Get wish getting) = refl
-gains_nothing stage = refl
+-- a client without an open call has none
+pub none_open : (h : HeapFacts) (c : ℕ) → is_open h c ≡ false → (seat_at h.seats c).call ≡ None
+none_open h c is =
+    elim (seat_at h.seats c).call as (λ call. is_some call ≡ false → call ≡ None) [ None ↦ λ _. refl | Some call ↦ λ open_call. absurd (cc (open_call)) ] is
 
--- a call that was fed nothing yet is where it was
-begins_there : (stage : Stage) → stage_after stage Begin ≡ stage
-begins_there (Get wish getting) = refl
-begins_there stage = refl
+-- what is waited for behind a call that has ended, or that goes on
+pub awaits_ended : (c : ℕ) (whole : Bool) → awaits_after (awaits_begun c whole) false ≡ Nothing
+awaits_ended c true = refl
+awaits_ended c false = refl
 
--- a call that just started is underway
-pub way_begun : {space : Space} {kept : List KeptFacts} {facts mid desk : DeskFacts} {stage after : Stage} (heard : List AskFacts) (shelf : Shelf) (top : Desktop) (verb : Verb) (request : Request) →
-    IsReady space kept facts → IsBuilt request → top.desk ≡ facts → stage ≡ first_stage facts request → after ≡ stage_after stage Begin → mid ≡ desk_started facts request → desk ≡ desk_after mid stage Begin →
-    Underway (fed (world_of space kept top) (call_of top.desk verb request) []) heard shelf space kept heard shelf top (call_of top.desk verb request) desk after
-way_begun {space} {kept} {facts} {mid} {desk} {stage} {after} heard shelf top verb request ready built own first point started settled =
-    let call : Open = call_of top.desk verb request in
-    let begun = starts space top.desk verb request built (rw own ready.in_hands) ready.rests in
-    let same : after ≡ first_stage top.desk request = point ∙ begins_there stage ∙ first ∙ ap (λ (f : DeskFacts). first_stage f request) (sym own) in
-    let left : desk ≡ desk_at call (first_stage top.desk request) =
-    settled ∙ ap (holding mid) (gains_nothing stage) ∙ started ∙ ap (λ (f : DeskFacts). desk_started f request) (sym own) ∙ begun.settled in
-    rw same (record {
-      played = record {
-        moves = [];
-        play = tt;
-        in_space = fed_space space kept top call;
-        in_journal = fed_kept space kept top call;
-        hears = sym (append-nil heard);
-        chain = refl;
-      };
-      items = [];
-      reads = begun.reads;
-      here = refl;
-      at = begun.at;
-      planned = begun.planned;
-      knows = begun.knows;
-      flown = begun.flown;
-      settled = left;
-    })
+pub awaits_open : (c : ℕ) (whole : Bool) → awaits_after (awaits_begun c whole) true ≡ awaits_begun c whole
+awaits_open c true = refl
+awaits_open c false = refl
 
--- and needs no room yet
-pub room_begun : {space : Space} {kept : List KeptFacts} {facts : DeskFacts} {stage after : Stage} (a : Standing) (request : Request) → IsReady space kept facts → IsBuilt request →
-    stage ≡ first_stage facts request → after ≡ stage_after stage Begin → HasRoom 0 a after
-room_begun {space} {kept} {facts} {stage} a request ready built first point =
-    rw (point ∙ begins_there stage ∙ first) ((starts space facts (FreeVerb (At 0)) request built ready.in_hands ready.rests).room a)
+-- an end that is waited for is so while the call goes on
+pub awaits_going : (awaits : Awaits) → is_one_step awaits ≡ false → awaits_after awaits true ≡ awaits
+awaits_going Nothing shown = refl
+awaits_going (OneStep client) shown = absurd (cc (shown))
+awaits_going (TheEnd client) shown = refl
+awaits_going (TheEndBefore client verb whole) shown = refl
+awaits_going (TheStart client verb whole) shown = refl
+awaits_going Memory shown = refl
+
+-- a call that is to begin waits for the end of the one that is open
+pub awaits_before : (open_call : Bool) (c : ℕ) (verb : Verb) (whole : Bool) → awaits_call open_call c verb whole ≡ awaits_after (TheEndBefore c verb whole) open_call
+awaits_before true c verb whole = refl
+awaits_before false c verb whole = refl
+
+-- nothing is waited for behind a call that is only begun
+pub awaits_begun_only : (c : ℕ) (goes : Bool) → awaits_after (awaits_begun c false) goes ≡ Nothing
+awaits_begun_only c true = refl
+awaits_begun_only c false = refl
+
+-- the moment behind a call that had its answer where it began
+abbrev pub now_answered : Now → Verb → Answered → HeapFacts → Option (List ℕ) → Now
+now_answered now verb answer heap held = record now { heap = heap; names = names_ended now.names verb answer; held = held }
+
+-- a call that asks for nothing: no region is there
+refused_came : {from : Outset} {count : ℕ} {now : Now} (c : ℕ) (verb : Verb) (whole : Bool) (so : Here from count (TheStart c verb whole) [] now) (held : Option (List ℕ)) →
+    request_of now.heap.records now.names now.moment verb ≡ None →
+    Came from count Nothing [] (so.text ++ answer_line c verb (NotHeld (target_of now.names verb))) (now_answered now verb (NotHeld (target_of now.names verb)) now.heap held)
+refused_came {from} {count} {now} c verb whole so held none =
+    let answer : Answered = NotHeld (target_of now.names verb) in
+    let leads : Leads (Began c verb whole) (TheStart c verb whole) [] so.text now Nothing [] (so.text ++ answer_line c verb answer) (now_answered now verb answer now.heap held) = record {
+      next = refl;
+      after = ap (begins (world_at now so.text (TheStart c verb whole)) c verb whole) none;
+      sound = came_sound so.came;
+      lines = refl;
+      chain = refl;
+      pending = refl;
+      left = refl;
+    } in
+    came_next so.came leads
+
+pub refused_goes : {from : Outset} {count : ℕ} {now : Now} (c : ℕ) (verb : Verb) (whole : Bool) (so : Here from count (TheStart c verb whole) [] now) (held : Option (List ℕ)) →
+    request_of now.heap.records now.names now.moment verb ≡ None → Appends now.held held (answer_line c verb (NotHeld (target_of now.names verb))) →
+    Here from count Nothing [] (now_answered now verb (NotHeld (target_of now.names verb)) now.heap held)
+refused_goes {from} {count} {now} c verb whole so held none printed = record {
+  text = so.text ++ answer_line c verb (NotHeld (target_of now.names verb));
+  came = refused_came c verb whole so held none;
+  prints = Appends-trans from.held now.held held so.text _ so.prints printed;
+}
+
+pub refused_stops : {from : Outset} {count : ℕ} {now : Now} (c : ℕ) (verb : Verb) (whole : Bool) (so : Here from count (TheStart c verb whole) [] now) (held : Option (List ℕ)) (stop : Stop) →
+    request_of now.heap.records now.names now.moment verb ≡ None → status_for stop ≢ 4 → AppendsPrefix now.held held (answer_line c verb (NotHeld (target_of now.names verb))) →
+    EndsHere from (status_for stop) (record now { held = held })
+refused_stops {from} {count} {now} c verb whole so held stop none other printed =
+    stops_after (refused_came c verb whole so held none) stop other (behind from.held now.held held so.text _ so.prints printed)
+
+-- a call that has its answer where it begins
+answered_came : {from : Outset} {count : ℕ} {now : Now} (c : ℕ) (verb : Verb) (whole : Bool) (so : Here from count (TheStart c verb whole) [] now) (request : Request) (answer : Answered) (heap : HeapFacts) (held : Option (List ℕ)) →
+    request_of now.heap.records now.names now.moment verb ≡ Some request → heap ≡ started now.heap c request → Some answer ≡ answer_of (begun now.heap.seats c request) → IsSound heap →
+    Came from count Nothing [] (so.text ++ answer_line c verb answer) (now_answered now verb answer heap held)
+answered_came {from} {count} {now} c verb whole so request answer heap held some begins_so ends sound =
+    let leads : Leads (Began c verb whole) (TheStart c verb whole) [] so.text now Nothing [] (so.text ++ answer_line c verb answer) (now_answered now verb answer heap held) = record {
+      next = refl;
+      after = rw (some, begins_so, ← ends) refl;
+      sound = sound;
+      lines = refl;
+      chain = refl;
+      pending = refl;
+      left = refl;
+    } in
+    came_next so.came leads
+
+pub answered_goes : {from : Outset} {count : ℕ} {now : Now} (c : ℕ) (verb : Verb) (whole : Bool) (so : Here from count (TheStart c verb whole) [] now) (request : Request) (answer : Answered) (heap : HeapFacts) (held : Option (List ℕ)) →
+    request_of now.heap.records now.names now.moment verb ≡ Some request → heap ≡ started now.heap c request → Some answer ≡ answer_of (begun now.heap.seats c request) → IsSound heap →
+    Appends now.held held (answer_line c verb answer) → Here from count Nothing [] (now_answered now verb answer heap held)
+answered_goes {from} {count} {now} c verb whole so request answer heap held some begins_so ends sound printed = record {
+  text = so.text ++ answer_line c verb answer;
+  came = answered_came c verb whole so request answer heap held some begins_so ends sound;
+  prints = Appends-trans from.held now.held held so.text (answer_line c verb answer) so.prints printed;
+}
+
+pub answered_stops : {from : Outset} {count : ℕ} {now : Now} (c : ℕ) (verb : Verb) (whole : Bool) (so : Here from count (TheStart c verb whole) [] now) (request : Request) (answer : Answered) (heap : HeapFacts) (held : Option (List ℕ)) (stop : Stop) →
+    request_of now.heap.records now.names now.moment verb ≡ Some request → heap ≡ started now.heap c request → Some answer ≡ answer_of (begun now.heap.seats c request) → IsSound heap → status_for stop ≢ 4 →
+    AppendsPrefix now.held held (answer_line c verb answer) → EndsHere from (status_for stop) (record now { heap = heap; held = held })
+answered_stops {from} {count} {now} c verb whole so request answer heap held stop some begins_so ends sound other printed =
+    stops_after (answered_came c verb whole so request answer heap held some begins_so ends sound) stop other
+    (behind from.held now.held held so.text (answer_line c verb answer) so.prints printed)
+
+-- a call that is open behind its beginning
+pub opened_goes : {from : Outset} {count : ℕ} {now : Now} (c : ℕ) (verb : Verb) (whole : Bool) (so : Here from count (TheStart c verb whole) [] now) (request : Request) (heap : HeapFacts) →
+    request_of now.heap.records now.names now.moment verb ≡ Some request → heap ≡ started now.heap c request → None ≡ answer_of (begun now.heap.seats c request) → IsSound heap →
+    Here from count (awaits_begun c whole) [] (record now { heap = heap; verbs = slice_set now.verbs c (Some verb) })
+opened_goes {from} {count} {now} c verb whole so request heap some begins_so goes_on sound =
+    let now' : Now = record now { heap = heap; verbs = slice_set now.verbs c (Some verb) } in
+    let leads : Leads (Began c verb whole) (TheStart c verb whole) [] so.text now (awaits_begun c whole) [] so.text now' = record {
+      next = refl;
+      after = rw (some, begins_so, ← goes_on) refl;
+      sound = sound;
+      lines = refl;
+      chain = refl;
+      pending = refl;
+      left = refl;
+    } in
+    record { text = so.text; came = came_next so.came leads; prints = so.prints }
+
+-- memory for the beginning was wanting
+pub unbegun_stops : {from : Outset} {count : ℕ} {now : Now} {awaits : Awaits} (so : Here from count awaits [] now) (stop : Stop) → status_for stop ≢ 4 → EndsHere from (status_for stop) now
+unbegun_stops {from} {count} {now} {awaits} so stop other = stops_after so.came stop other (all_of from.held now.held so.text so.prints)
+
+-- ---- by what printing the answer gave
+
+pub refused_result : {from : Outset} {count : ℕ} {now : Now} (c : ℕ) (verb : Verb) (whole : Bool) (so : Here from count (TheStart c verb whole) [] now) (answer : Answered) (names : List (List ℕ × ℕ)) (held : Option (List ℕ)) (k k' : ℕ)
+    (r : Result (Unit {0}) Stop) → request_of now.heap.records now.names now.moment verb ≡ None → answer ≡ NotHeld (target_of now.names verb) → is_open now.heap c ≡ false →
+    OnOk r (names ≡ names_ended now.names verb answer) → OnOk r (Appends now.held held (answer_line c verb answer)) → OnErr r (AppendsPrefix now.held held (answer_line c verb answer)) →
+    IfErr r (λ stop. HasStopCause stop 0 0 k k') → Goes from count (awaits_after (awaits_begun c whole) (is_open now.heap c)) r (record now { names = names; held = held })
+refused_result {from} {count} {now} c verb whole so answer names held k k' (Ok done) none is rests named ok err cause =
+    rw (rests, awaits_ended c whole, named, is) (refused_goes c verb whole so held none (rw is at ok))
+refused_result {from} {count} {now} c verb whole so answer names held k k' (Err stop) none is rests named ok err cause =
+    refused_stops c verb whole so held stop none (sink_fault stop k k' cause) (rw is at err)
+
+pub answered_result : {from : Outset} {count : ℕ} {now : Now} (c : ℕ) (verb : Verb) (whole : Bool) (so : Here from count (TheStart c verb whole) [] now) (request : Request) (answer : Answered) (heap : HeapFacts)
+    (names : List (List ℕ × ℕ)) (held : Option (List ℕ)) (k k' : ℕ) (r : Result (Unit {0}) Stop) → request_of now.heap.records now.names now.moment verb ≡ Some request → heap ≡ started now.heap c request →
+    Some answer ≡ answer_of (begun now.heap.seats c request) → IsSound heap → is_open heap c ≡ false →
+    OnOk r (names ≡ names_ended now.names verb answer) → OnOk r (Appends now.held held (answer_line c verb answer)) → OnErr r (AppendsPrefix now.held held (answer_line c verb answer)) →
+    IfErr r (λ stop. HasStopCause stop 0 0 k k') → Goes from count (awaits_after (awaits_begun c whole) (is_open heap c)) r (record now { heap = heap; names = names; held = held })
+answered_result {from} {count} {now} c verb whole so request answer heap names held k k' (Ok done) some begins_so ends sound rests named ok err cause =
+    rw (rests, awaits_ended c whole, named) (answered_goes c verb whole so request answer heap held some begins_so ends sound ok)
+answered_result {from} {count} {now} c verb whole so request answer heap names held k k' (Err stop) some begins_so ends sound rests named ok err cause =
+    answered_stops c verb whole so request answer heap held stop some begins_so ends sound (sink_fault stop k k' cause) err

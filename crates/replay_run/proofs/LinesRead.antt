@@ -1,22 +1,24 @@
 -- The lines of the bytes that a source had.
-use Rattle.std.proofs.Common.{arith, Bool, eqb, false, get_or, take, drop, length, inl, inr, ◌+◌, ◌≡◌, ◌≢◌, ◌<◌, ◌≤◌, ℕ, List, [], ◌∷◌, ◌++◌, Option, Some, None, refl, sym, ◌∙◌, ap, append_assoc}
+use Rattle.std.proofs.Common.{arith, Bool, cond, eqb, true, false, get_or, take, drop, length, ◌+◌, ◌≡◌, ◌≢◌, ◌<◌, ◌≤◌, ◌||◌, ℕ, suc, zero, List, [], ◌∷◌, ◌++◌, Some, None, Ok, refl, sym, ◌∙◌, ap, append_assoc}
 use Rattle.trace_text.specs.declared.lines.Line.{Line as SaidLine}
+use Rattle.trace_text.specs.Grammar.{line_of}
 use Rattle.trace_text.specs.Lines.{HasNoNewline}
 use Rattle.std.specs.List.{position, position_or_len}
 use Rattle.std.proofs.lemmas.Grind.{common_steps}
 use Rattle.std.proofs.lemmas.Bool.{eqb-true}
 use Rattle.std.proofs.lemmas.List.{drop_more, take-append-drop}
-use Rattle.std.proofs.lemmas.List.Elements.{All-take}
+use Rattle.std.proofs.lemmas.List.Elements.{All-head, All-tail, All-take}
 use Rattle.std.proofs.lemmas.List.Sums.{fails_before_first}
 use Rattle.std.proofs.lemmas.List.Quantifiers.{position-Some}
-use Rattle.replay_run.specs.declared.input.Found.{Found}
-use Rattle.replay_run.specs.declared.input.Found.TheVariants.{Line as FoundLine, TooLong, End}
-use Rattle.replay_run.specs.Input.{InBounds, IsFirst, MetEnd, IsBuilt, IsUnbuilt, ReadsTo, SaysNone}
+use Rattle.replay_run.specs.Causes.{byte_limit, first_line, has_newline}
+use Rattle.replay_run.specs.Input.{ReadsTo}
+
+-- ---- where a newline stands
 
 -- the first newline ends the first line
-pub first_line : (bytes : List ℕ) (n : ℕ) → position (λ (b : ℕ). eqb b 10) bytes ≡ Some n →
+pub newline_first : (bytes : List ℕ) (n : ℕ) → position (λ (b : ℕ). eqb b 10) bytes ≡ Some n →
     (n < length bytes) × HasNoNewline (take n bytes) × (bytes ≡ take n bytes ++ 10 ∷ drop (n + 1) bytes)
-first_line bytes n at =
+newline_first bytes n at =
     let told = position-Some (λ (b : ℕ). eqb b 10) bytes n 0 at in
     let newline : get_or bytes n 0 ≡ 10 = eqb-true (get_or bytes n 0) 10 told.1 in (
       told.0,
@@ -48,30 +50,67 @@ stands_behind bytes n m at far =
 pub none_in_front : (bytes : List ℕ) (m : ℕ) → HasNoNewline bytes → HasNoNewline (take m bytes)
 none_in_front bytes m none = All-take (λ (b : ℕ). eqb b 10 ≡ false) m bytes none
 
+-- ---- the first line
+
+abbrev IsPlain : ℕ → Type 0
+IsPlain b = eqb b 10 ≡ false
+
+-- what stands before the first newline is the first line
+pub first_line-whole : (text behind : List ℕ) → HasNoNewline text → first_line (text ++ 10 ∷ behind) ≡ text
+first_line-whole [] behind plain = refl
+first_line-whole (b ∷ text) behind plain =
+    ap (λ (t : Bool). cond t [] (b ∷ first_line (text ++ 10 ∷ behind))) (All-head IsPlain b text plain)
+    ∙ ap (λ (xs : List ℕ). b ∷ xs) (first_line-whole text behind (All-tail IsPlain b text plain))
+
+-- without a newline all bytes are the first line
+pub first_line-none : (bytes : List ℕ) → HasNoNewline bytes → first_line bytes ≡ bytes
+first_line-none [] plain = refl
+first_line-none (b ∷ bytes) plain =
+    ap (λ (t : Bool). cond t [] (b ∷ first_line bytes)) (All-head IsPlain b bytes plain)
+    ∙ ap (λ (xs : List ℕ). b ∷ xs) (first_line-none bytes (All-tail IsPlain b bytes plain))
+
+-- where so many bytes are no newline, the first line has as many
+pub first_line-long : (bytes : List ℕ) (n : ℕ) → HasNoNewline (take n bytes) → n ≤ length bytes → n ≤ length (first_line bytes)
+first_line-long bytes zero plain few = omega (arith)
+first_line-long [] (suc n) plain few = absurd (omega (arith, few))
+first_line-long (b ∷ bytes) (suc n) plain few =
+    let later : n ≤ length (first_line bytes) = first_line-long bytes n (All-tail IsPlain b (take n bytes) plain) (omega (arith, few)) in
+    let is : first_line (b ∷ bytes) ≡ b ∷ first_line bytes = ap (λ (t : Bool). cond t [] (b ∷ first_line bytes)) (All-head IsPlain b (take n bytes) plain) in
+    rw is (omega (arith, later))
+
+-- whether there is a newline
+pub has_newline-whole : (text behind : List ℕ) → has_newline (text ++ 10 ∷ behind) ≡ true
+has_newline-whole [] behind = refl
+has_newline-whole (b ∷ text) behind =
+    elim (eqb b 10) as (λ t. (t || has_newline (text ++ 10 ∷ behind)) ≡ true) [ true ↦ refl | false ↦ has_newline-whole text behind ]
+
+pub has_newline-none : (bytes : List ℕ) → HasNoNewline bytes → has_newline bytes ≡ false
+has_newline-none [] plain = refl
+has_newline-none (b ∷ bytes) plain =
+    ap (λ (t : Bool). t || has_newline bytes) (All-head IsPlain b bytes plain) ∙ has_newline-none bytes (All-tail IsPlain b bytes plain)
+
 -- a length other than 0 is that of some bytes
 pub not_empty : (bytes : List ℕ) (len : ℕ) → eqb len 0 ≡ false → len ≡ length bytes → bytes ≢ []
 not_empty bytes len is same none = let zero : len ≡ 0 = omega (arith, same, ap length none) in absurd (cc (is, ap (λ (n : ℕ). eqb n 0) zero))
 
--- where no line is found and bytes are, they can't be carried out
-pub unbuilt_of_none : (found : Found) (bytes : List ℕ) (left : Option (List ℕ)) (met : Bool) → ((n : ℕ) → found ≡ FoundLine n → ⊥) → InBounds found bytes →
-    IsFirst found bytes → bytes ≢ [] → MetEnd found left met → IsUnbuilt bytes met
-unbuilt_of_none (FoundLine n) bytes left met no_line bounds first some met_end = absurd (no_line n refl)
-unbuilt_of_none TooLong bytes left met no_line bounds first some met_end = inr (inl (bounds, first))
-unbuilt_of_none End bytes left met no_line bounds first some met_end = inr (inr (some, first, met_end.1))
+-- ---- the lines so far
 
 -- the bytes of lines and one more line
-pub reads_one_more : (lines : List SaidLine) (bytes text behind : List ℕ) (line : SaidLine) → HasNoNewline text → IsBuilt text line →
-    ReadsTo lines bytes (text ++ 10 ∷ behind) → ReadsTo (lines ++ line ∷ []) bytes behind
-reads_one_more [] bytes text behind line plain built reads = (text, behind, plain, built, reads, refl)
-reads_one_more (first ∷ lines) bytes text behind line plain built reads =
-    (reads.0, reads.1, reads.2, reads.3, reads.4, reads_one_more lines reads.1 text behind line plain built reads.5)
+pub reads_one_more : (lines : List SaidLine) (bytes text behind : List ℕ) (line : SaidLine) → HasNoNewline text → length text ≤ byte_limit →
+    line_of text ≡ Ok line → ReadsTo lines bytes (text ++ 10 ∷ behind) → ReadsTo (lines ++ line ∷ []) bytes behind
+reads_one_more [] bytes text behind line plain short says reads = (text, behind, plain, short, says, reads, refl)
+reads_one_more (first ∷ lines) bytes text behind line plain short says reads =
+    (reads.0, reads.1, reads.2, reads.3, reads.4, reads.5, reads_one_more lines reads.1 text behind line plain short says reads.6)
 
 -- more bytes stand behind the lines
 pub reads_further : (lines : List SaidLine) (bytes rest more : List ℕ) → ReadsTo lines bytes rest → ReadsTo lines (bytes ++ more) (rest ++ more)
 reads_further [] bytes rest more reads = ap (λ (xs : List ℕ). xs ++ more) reads
-reads_further (first ∷ lines) bytes rest more reads =
-    (reads.0, reads.1 ++ more, reads.2, reads.3, ap (λ (xs : List ℕ). xs ++ more) reads.4 ∙ append_assoc reads.0 (10 ∷ reads.1) more, reads_further lines reads.1 rest more reads.5)
-
--- a line that says no such call can't be carried out
-pub unbuilt_line : (text behind bytes : List ℕ) (met : Bool) → HasNoNewline text → bytes ≡ text ++ 10 ∷ behind → SaysNone text → IsUnbuilt bytes met
-unbuilt_line text behind bytes met plain are says = inl (text, behind, plain, are, λ line built. says line built.says built.carried)
+reads_further (first ∷ lines) bytes rest more reads = (
+  reads.0,
+  reads.1 ++ more,
+  reads.2,
+  reads.3,
+  reads.4,
+  ap (λ (xs : List ℕ). xs ++ more) reads.5 ∙ append_assoc reads.0 (10 ∷ reads.1) more,
+  reads_further lines reads.1 rest more reads.6,
+)

@@ -1,39 +1,72 @@
--- Why each call of a play has its answer.
-use Rattle.std.specs.Prelude.{◌≡◌, List, [], ◌∷◌, ◌++◌, IfSome, All}
-use Rattle.space_model.specs.Step.{step_of}
-use Rattle.call_plan.specs.declared.needs.Answered.{Answered}
-use Rattle.call_plan.specs.declared.needs.Request.{Request}
-use Rattle.call_plan.specs.Desks.{DeskFacts}
-use Rattle.call_plan.specs.Reading.{Item, Replied, Told, WantTurn, WantAsk, Outcome, Waits, Ends}
-use Rattle.call_plan.specs.Calls.{reading, IsBuilt}
-use Rattle.call_plan.specs.Causes.{AnswerHasCause}
+-- Why a line isn't carried out: the first cause that holds, in one order.
+use Rattle.std.specs.Prelude.{ℕ, ◌==◌, Bool, not, List, [], ◌∷◌, Option, None, Some, Result, Ok, Err, length, nat_lt, if◌then◌else◌}
+use Rattle.std.specs.List.{list_any}
+use Rattle.report_text.specs.declared.causes.Cause.{Cause}
+use Rattle.report_text.specs.declared.causes.Cause.TheVariants.{LimitLines, LimitBytes, Cut, Bytes, Words, Number, LimitThreads, Range, Clock, Phase, Unbuilt}
+use Rattle.trace_text.specs.declared.faults.LineFault.{LineFault}
+use Rattle.trace_text.specs.declared.faults.LineFault.TheVariants as fault
 use Rattle.trace_text.specs.declared.lines.Line.{Line}
-use Rattle.replay_run.specs.World.{Open, World, Move, Turned, Heard_, outcome_of, opening, after_move, IsPlay, IsCarried}
+use Rattle.trace_text.specs.declared.lines.Line.TheVariants as line
+use Rattle.trace_text.specs.declared.lines.Verb.{Verb}
+use Rattle.trace_text.specs.declared.lines.Verb.TheVariants.{CtlPlain, CtlWrite}
+use Rattle.trace_text.specs.Grammar.{line_of}
 
--- what a move feeds to the open call: the reply to the turn, or the ask with its answer
-abbrev pub items_in : World → Open → Outcome → Move → List Item
-items_in w call (Waits (WantTurn arena op asked)) Turned = Replied (step_of w.space call.client op).reply ∷ []
-items_in w call (Waits (WantAsk arena ask)) (Heard_ asked) = Told asked ∷ []
-items_in w call outcome move = []
+-- how many lines a trace has at most
+abbrev pub line_limit : ℕ
+line_limit = 1048576
 
--- where a call ends with these items, its answer has its cause among them
-abbrev pub IsExplained : DeskFacts → Request → List Item → Type 0
-IsExplained desk request items = (answer : Answered) (left : List Item) → reading desk request items ≡ Ends answer left → AnswerHasCause desk request items answer
+-- how many bytes a line has at most, without its newline
+abbrev pub byte_limit : ℕ
+byte_limit = 256
 
--- where a move ends the open call, the answer has its cause in what that very call was fed
-abbrev pub EndsExplained : World → Move → Type 0
-EndsExplained w move = IfSome w.call (λ call. IsExplained call.desk call.request (call.items ++ items_in w call (outcome_of call) move))
+-- the bytes of the first line, without its newline: all bytes, where there is none
+abbrev pub first_line : List ℕ → List ℕ
+first_line [] = []
+first_line (b ∷ bytes) = if b == 10 then [] else b ∷ first_line bytes
 
--- something is true of each move of a play, in the world that needs it
-abbrev pub AllMoves : (World → Move → Type 0) → World → List Move → Type 0
-AllMoves P w [] = Unit {0}
-AllMoves P w (move ∷ moves) = P w move × AllMoves P (after_move w move) moves
+-- whether a newline is among the bytes
+abbrev pub has_newline : List ℕ → Bool
+has_newline bytes = list_any (λ b. b == 10) bytes
 
--- each answer in each play of lines that can be carried out has its cause
-abbrev pub PlaysHaveCauses : Type 0
-PlaysHaveCauses = (lines : List Line) (moves : List Move) → All IsCarried lines → IsPlay (opening lines) moves → AllMoves EndsExplained (opening lines) moves
+-- why a line isn't read; want of memory is no cause of a line
+abbrev pub fault_cause : LineFault → Option Cause
+fault_cause fault.NoMemory = None
+fault_cause fault.Bytes = Some Bytes
+fault_cause fault.Words = Some Words
+fault_cause fault.Number = Some Number
+fault_cause fault.Threads = Some LimitThreads
+fault_cause fault.Range = Some Range
 
--- a call that ends at once, before it is fed anything, has its cause too: a malloc that is too large, or a free of an
--- address that isn't held
-abbrev pub AnswersAtOnceHaveCauses : Type 0
-AnswersAtOnceHaveCauses = (desk : DeskFacts) (request : Request) → IsBuilt request → IsExplained desk request []
+-- why a call isn't carried out: those of `ctl` aren't built yet
+abbrev pub verb_cause : Verb → Option Cause
+verb_cause (CtlPlain name) = Some Unbuilt
+verb_cause (CtlWrite name value) = Some Unbuilt
+verb_cause verb = None
+
+-- why a line that is read isn't carried out at a moment: its own moment is below that, or it is about phases
+abbrev pub line_cause : ℕ → Line → Option Cause
+line_cause now (line.At moment) = if nat_lt moment now then Some Clock else None
+line_cause now (line.Call c verb) = verb_cause verb
+line_cause now (line.Start c verb) = verb_cause verb
+line_cause now line.Phase = Some Phase
+line_cause now line.Join = Some Phase
+line_cause now line = None
+
+abbrev pub said_cause : ℕ → Result Line LineFault → Option Cause
+said_cause now (Ok line) = line_cause now line
+said_cause now (Err fault) = fault_cause fault
+
+-- why a line of these bytes isn't carried out at a moment, by its number and by whether a newline ends it, if there is a cause
+abbrev pub cause_of : ℕ → ℕ → List ℕ → Bool → Option Cause
+cause_of now number text ended =
+    if nat_lt line_limit number then Some LimitLines
+    else if nat_lt byte_limit (length text) then Some LimitBytes
+    else if not ended then Some Cut
+    else said_cause now (line_of text)
+
+-- the status with which a replay ends by a bad line
+abbrev pub status_of : Cause → ℕ
+status_of LimitLines = 7
+status_of LimitBytes = 7
+status_of LimitThreads = 7
+status_of cause = 3

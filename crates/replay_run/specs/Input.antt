@@ -1,20 +1,20 @@
--- What a look for a line found.
-use Rattle.std.specs.Prelude.{◌≡◌, ◌≢◌, ℕ, ◌+◌, ◌<◌, ◌≤◌, ◌⊎◌, Bool, true, List, [], ◌∷◌, ◌++◌, length, take, drop, Option, Ok}
+-- What a look for a line found, and the lines that bytes are.
+use Rattle.std.specs.Prelude.{◌≡◌, ◌≢◌, ℕ, ◌+◌, ◌<◌, ◌≤◌, Bool, true, List, [], ◌∷◌, ◌++◌, length, take, drop, Option, None, Some, Result, Ok, Err}
 use Rattle.std.specs.Io.KnownBytes.{Consumes, IsAtEnd}
+use Rattle.report_text.specs.declared.causes.Cause.{Cause}
 use Rattle.trace_text.specs.declared.lines.Line.{Line as SaidLine}
-use Rattle.trace_text.specs.declared.lines.Line.TheVariants.{Call}
-use Rattle.trace_text.specs.declared.lines.Verb.{Verb}
-use Rattle.trace_text.specs.Grammar.{line_of}
+use Rattle.trace_text.specs.Grammar.{IsWithinLimits, line_of}
 use Rattle.trace_text.specs.Lines.{HasNoNewline}
-use Rattle.replay_run.specs.World.{IsCarried}
+use Rattle.replay_run.specs.Causes.{byte_limit, line_cause, said_cause}
 use Rattle.replay_run.specs.declared.input.Found.{Found}
 use Rattle.replay_run.specs.declared.input.Found.TheVariants.{Line, TooLong, End}
 
--- a line that was found ends before the last of the bytes, and too many are more than a line may have
+-- a line that was found ends before the last of the bytes, too many are more than a line may have, and at the end no more are
+-- left than it may
 abbrev pub InBounds : Found → List ℕ → Type 0
-InBounds (Line n) bytes = (n ≤ 256) × (n < length bytes)
-InBounds TooLong bytes = 256 < length bytes
-InBounds End bytes = Unit {0}
+InBounds (Line n) bytes = (n ≤ byte_limit) × (n < length bytes)
+InBounds TooLong bytes = byte_limit < length bytes
+InBounds End bytes = length bytes ≤ byte_limit
 
 -- No newline is in a line that was found, and one stands behind it. Too many bytes begin with 257 ones that are no newline,
 -- and at the end no newline is left.
@@ -43,39 +43,13 @@ abbrev pub TakesAny : Bool → List ℕ → Option (List ℕ) → Option (List �
 TakesAny more pending before left met = (bytes : List ℕ) × Consumes before left bytes × (more ≡ true → pending ++ bytes ≢ [])
     × (more ≢ true → (pending ++ bytes ≡ []) × IsAtEnd left × (met ≡ true))
 
--- a text says that client 0 makes a call which can be carried out so far
-abbrev pub SaysCall : List ℕ → Verb → Type 0
-SaysCall text verb = (line_of text ≡ Ok (Call 0 verb)) × IsCarried (Call 0 verb)
-
--- a text says no line that can be carried out so far
-abbrev pub SaysNone : List ℕ → Type 0
-SaysNone text = (line : SaidLine) → line_of text ≡ Ok line → IsCarried line → ⊥
-
--- A line that can be carried out so far: at most 256 bytes, which say such a call.
-pub record IsBuilt (text : List ℕ) (line : SaidLine) : Type 0 where
-  pub short : length text ≤ 256
-  pub says : line_of text ≡ Ok line
-  pub carried : IsCarried line
+-- what was read from the bytes of a line is the line that they say, and it has no cause at that moment; or their cause
+abbrev pub IsReading : ℕ → List ℕ → Result SaidLine Cause → Type 0
+IsReading now text (Ok line) = (line_of text ≡ Ok line) × (line_cause now line ≡ None) × IsWithinLimits line
+IsReading now text (Err cause) = said_cause now (line_of text) ≡ Some cause
 
 -- the bytes are those of these lines in their order, each with its newline, and then the rest
 abbrev pub ReadsTo : List SaidLine → List ℕ → List ℕ → Type 0
 ReadsTo [] bytes rest = bytes ≡ rest
-ReadsTo (line ∷ lines) bytes rest = (text : List ℕ) × (behind : List ℕ) × HasNoNewline text × IsBuilt text line
-    × (bytes ≡ text ++ 10 ∷ behind) × ReadsTo lines behind rest
-
--- a whole line that can't be carried out
-abbrev pub IsAnotherLine : List ℕ → Type 0
-IsAnotherLine rest = (text : List ℕ) × (behind : List ℕ) × HasNoNewline text × (rest ≡ text ++ 10 ∷ behind)
-    × ((line : SaidLine) → IsBuilt text line → ⊥)
-
--- more bytes than a line may have, without a newline among the first 257
-abbrev pub IsTooLong : List ℕ → Type 0
-IsTooLong rest = (256 < length rest) × HasNoNewline (take 257 rest)
-
--- bytes without a newline at the end of the input
-abbrev pub IsCut : List ℕ → Bool → Type 0
-IsCut rest met = (rest ≢ []) × HasNoNewline rest × (met ≡ true)
-
--- why the line with which the rest begins can't be carried out
-abbrev pub IsUnbuilt : List ℕ → Bool → Type 0
-IsUnbuilt rest met = IsAnotherLine rest ⊎ IsTooLong rest ⊎ IsCut rest met
+ReadsTo (line ∷ lines) bytes rest = (text : List ℕ) × (behind : List ℕ) × HasNoNewline text × (length text ≤ byte_limit)
+    × (line_of text ≡ Ok line) × (bytes ≡ text ++ 10 ∷ behind) × ReadsTo lines behind rest

@@ -1,11 +1,11 @@
 pub mod Names
-pub mod Hands
+pub mod Heads
 pub mod World
-pub mod Sane
-pub mod Carried
+pub mod Causes
+pub mod Plays
 pub mod Input
 pub mod Replays
-pub mod Causes
 pub mod Stops
 pub mod SoFar
-pub mod Rooms
+pub mod Steps
+pub mod Answers

@@ -1,73 +1,81 @@
--- A replay, as a play from the opening world of the lines that were carried out.
-use Rattle.std.specs.Prelude.{length, ◌+◌, ◌<◌, ◌≤◌, ◌≡◌, ◌≢◌, ℕ, Bool, true, List, [], ◌∷◌, ◌++◌, ◌⊎◌, Option, All}
+-- A replay, as a play from the opening world.
+use Rattle.std.specs.Prelude.{length, map, ◌+◌, ◌≤◌, ◌≡◌, ◌≢◌, ◌⊎◌, ℕ, Bool, true, List, [], ◌++◌, Option, Some}
 use Rattle.edge_io.specs.Bytes.{Appends, AppendsPrefix, Consumes, IsAtEnd}
 use Rattle.hook_api.specs.Asked.{AskFacts}
-use Rattle.hook_api.specs.Chain.{AskChain}
-use Rattle.hook_api.specs.Kept.{KeptFacts}
+use Rattle.hook_api.specs.Chain.{Chain}
 use Rattle.hook_api.specs.Shelf.{Shelf}
 use Rattle.hook_api.specs.declared.kept.Journal.{Journal}
-use Rattle.report_text.specs.Lines.{bad_line, unbuilt, limit_lines}
-use Rattle.trace_text.specs.declared.lines.Line.{Line}
+use Rattle.heap_core.specs.Arenas.{journal_of}
+use Rattle.report_text.specs.declared.causes.Cause.{Cause}
+use Rattle.report_text.specs.declared.causes.Cause.TheVariants.{Cut}
+use Rattle.report_text.specs.Lines.{bad_line}
 use Rattle.trace_text.specs.Lines.{HasNoNewline}
-use Rattle.replay_run.specs.Causes.{AllMoves, EndsExplained}
-use Rattle.replay_run.specs.Input.{ReadsTo, IsUnbuilt}
-use Rattle.replay_run.specs.World.{Move, IsPlay, IsSound, IsCarried, IsComplete, AllWorlds, opening, closing, world_after, asks_in}
+use Rattle.replay_run.specs.Causes.{cause_of, first_line, has_newline, line_limit, status_of}
+use Rattle.replay_run.specs.Input.{ReadsTo}
+use Rattle.replay_run.specs.Plays.{AllWorlds, Event, HasSoundHeap, IsPlay, asks_in, lines_in, shelf_events, world_after}
+use Rattle.replay_run.specs.World.{Nothing, World, closing, opening}
 
--- the line behind so many, which can't be carried out or passes the limit
-abbrev pub refusal_behind : ℕ → List ℕ
-refusal_behind count = bad_line (count + 1) unbuilt
+-- nothing is waited for: the lines so far were carried out
+abbrev pub IsComplete : World → Type 0
+IsComplete w = w.awaits ≡ Nothing
 
-abbrev pub limit_behind : ℕ → List ℕ
-limit_behind count = bad_line (count + 1) limit_lines
+-- Some bytes are left, and what stands first among them is a line that has this cause at the moment, the first that holds; it is
+-- cut only where the source has met its end.
+pub record IsBadLine (now number : ℕ) (rest : List ℕ) (met : Bool) (cause : Cause) : Type 0 where
+  pub some : rest ≢ []
+  pub why : cause_of now number (first_line rest) (has_newline rest) ≡ Some cause
+  pub cut : cause ≡ Cut → met ≡ true
 
--- how many lines a trace has at most
-abbrev pub line_limit : ℕ
-line_limit = 1048576
+-- what stands last in a report: the counts of all live arenas, or the first bad line, or neither
+pub data Ending : Type 0 where
+  Whole : Ending
+  Bad : Cause → Ending
+  Open : Ending
 
--- What was printed where a replay ends with a status: always the beginning of a report, which is the answers of the calls
--- and then the closing lines, or a line that can't be carried out. At status 0, 3 and 7 it is the whole report, and at
--- status 4 the answers; all calls have ended there.
-pub record Prints (status : ℕ) (complete : Type 0) (answers closing : List ℕ) (count : ℕ) (before after : Option (List ℕ)) : Type 0 where
-  pub beginning : AppendsPrefix before after (answers ++ closing) ⊎ AppendsPrefix before after (answers ++ refusal_behind count)
-      ⊎ AppendsPrefix before after (answers ++ limit_behind count)
-  pub whole : status ≡ 0 → complete × Appends before after (answers ++ closing)
-  pub refused : status ≡ 3 → complete × Appends before after (answers ++ refusal_behind count)
-  pub limited : status ≡ 7 → complete × Appends before after (answers ++ limit_behind count)
-  pub cut_off : status ≡ 4 → complete × Appends before after answers
+-- its text, behind so many lines
+abbrev pub ending_text : World → ℕ → Ending → List ℕ
+ending_text w count Whole = closing w.heap
+ending_text w count (Bad cause) = bad_line (count + 1) cause
+ending_text w count Open = []
 
--- What stands behind the lines that were carried out, among the bytes that were taken: at status 0 nothing, and the source
--- has met its end; at status 3 a line that can't be carried out; at status 7 anything, behind as many lines as a trace may
--- have; at status 4 no whole line.
-pub record Leaves (status : ℕ) (count : ℕ) (rest : List ℕ) (left : Option (List ℕ)) (met : Bool) : Type 0 where
-  pub few : count ≤ line_limit
-  pub whole : status ≡ 0 → (rest ≡ []) × IsAtEnd left × (met ≡ true)
-  pub refused : status ≡ 3 → (count < line_limit) × IsUnbuilt rest met
-  pub limited : status ≡ 7 → (count ≡ line_limit) × (rest ≢ [])
-  pub cut_off : status ≡ 4 → HasNoNewline rest
+-- An ending is right where so many lines were carried out and these bytes are left of those that were taken: the counts where
+-- none is left and the source has met its end, and a bad line where the next one is bad.
+abbrev pub IsEnding : World → ℕ → List ℕ → Option (List ℕ) → Bool → Ending → Type 0
+IsEnding w count rest left met Whole = IsComplete w × (rest ≡ []) × IsAtEnd left × (met ≡ true)
+IsEnding w count rest left met (Bad cause) = IsComplete w × IsBadLine w.moment (count + 1) rest met cause
+IsEnding w count rest left met Open = Unit {0}
 
--- What was carried out is a play from the opening world of some lines on, each world of which is sound and each answer of
--- which has its cause: the journal is that of its last world, its asks are all that was heard, and they are a chain of the
--- shelf. The lines are those at the beginning of the bytes that were taken, and what stands behind them and what was
--- printed is as the status says.
-pub record ReplayOf (status : ℕ) (kept : List KeptFacts) (heard : List AskFacts) (shelf_before shelf_after : Shelf)
+-- What was printed where a replay ends with a status is the beginning of a report: the text of the play and its ending. It is
+-- the whole report at status 0, with the counts; at status 3 and 7, with the bad line whose cause has that status; and at
+-- status 4, without an ending, where all lines that were taken whole were carried out.
+pub record Prints (status : ℕ) (w : World) (count : ℕ) (rest : List ℕ) (ending : Ending) (before after : Option (List ℕ)) : Type 0 where
+  pub beginning : AppendsPrefix before after (w.text ++ ending_text w count ending)
+  pub whole : status ≡ 0 → (ending ≡ Whole) × Appends before after (w.text ++ ending_text w count ending)
+  pub refused : status ≡ 3 → (cause : Cause) × (ending ≡ Bad cause) × (status_of cause ≡ 3) × Appends before after (w.text ++ ending_text w count ending)
+  pub limited : status ≡ 7 → (cause : Cause) × (ending ≡ Bad cause) × (status_of cause ≡ 7) × Appends before after (w.text ++ ending_text w count ending)
+  pub cut_off : status ≡ 4 → (ending ≡ Open) × IsComplete w × HasNoNewline rest × Appends before after w.text
+
+-- What was carried out is a play from the opening world, each world of which is sound: the journals are those of its last
+-- world, its asks are all that was heard, and what it did to the shelf leads from the shelf before to that after. Its lines are
+-- those at the beginning of the bytes that were taken, and what stands behind them and what was printed is as the status says.
+pub record ReplayOf (status : ℕ) (journals : List Journal) (heard : List AskFacts) (shelf_before shelf_after : Shelf)
     (met : Bool) (left_before left before after : Option (List ℕ)) : Type 0 where
-  pub lines : List Line
-  pub carried : All IsCarried lines
-  pub moves : List Move
-  pub play : IsPlay (opening lines) moves
-  pub sound : AllWorlds IsSound (opening lines) moves
-  pub causes : AllMoves EndsExplained (opening lines) moves
-  pub in_journal : (world_after (opening lines) moves).kept ≡ kept
-  pub hears : asks_in moves ≡ heard
-  pub chain : AskChain shelf_before heard shelf_after
+  pub events : List Event
+  pub play : IsPlay opening events
+  pub sound : AllWorlds HasSoundHeap opening events
+  pub in_journals : map journal_of (world_after opening events).heap.records ≡ journals
+  pub hears : asks_in events ≡ heard
+  pub chain : Chain shelf_before (shelf_events events) shelf_after
   pub taken : List ℕ
   pub takes : Consumes left_before left taken
   pub rest : List ℕ
-  pub reads : ReadsTo lines taken rest
-  pub leaves : Leaves status (length lines) rest left met
-  pub prints : Prints status (IsComplete (world_after (opening lines) moves)) (world_after (opening lines) moves).text
-      (closing (world_after (opening lines) moves)) (length lines) before after
+  pub reads : ReadsTo (lines_in events) taken rest
+  pub few : length (lines_in events) ≤ line_limit
+  pub ending : Ending
+  pub ends : IsEnding (world_after opening events) (length (lines_in events)) rest left met ending
+  pub prints : Prints status (world_after opening events) (length (lines_in events)) rest ending before after
 
--- the first of the journals is that of arena 0, with these entries
-abbrev pub JournalsOf : List KeptFacts → List Journal → Type 0
-JournalsOf kept journals = (rest : List Journal) × (journals ≡ (record { index = 0; kept = kept }) ∷ rest)
+-- the journals and the asks are handed out; without memory for the list of them, or for a heap, none is
+abbrev pub HandsOut : ℕ → List Journal → List AskFacts → List Journal → List AskFacts → Type 0
+HandsOut status journals heard journals' heard' =
+    ((journals' ≡ journals) × (heard' ≡ heard)) ⊎ ((status ≡ 6) × (journals' ≡ []) × (heard' ≡ []))

@@ -1,235 +1,223 @@
--- Worlds: everything that the rest of a replay can depend on, and how a turn or an ask leads from one to the next.
-use Rattle.std.specs.Prelude.{◌≡◌, ℕ, false, true, List, [], ◌∷◌, ◌++◌, Option, None, Some, map, ◌<◌, fold}
-use Rattle.space_model.specs.declared.Entry.{Entry}
-use Rattle.space_model.specs.declared.Op.{Op}
+-- Worlds: everything that the rest of a replay can depend on, and how a line, a turn or an ask leads from one to the next.
+use Rattle.std.specs.Prelude.{ℕ, ◌/◌, ℤ, pos, Bool, true, false, List, [], ◌++◌, Option, None, Some, is_none, is_some, replicate, slice_index_or, slice_set, if◌then◌else◌}
+use Rattle.std.specs.List.{flat_map, list_any, position, range_with_len}
+use Rattle.space_model.specs.declared.Counts.{Counts}
+use Rattle.space_model.specs.declared.Rest.{Rest}
+use Rattle.space_model.specs.declared.Rest.TheVariants.{Dirty, Muzzy}
 use Rattle.space_model.specs.declared.Space.{Space}
-use Rattle.space_model.specs.Opening.{first_space}
 use Rattle.space_model.specs.Counts.{counts_of}
-use Rattle.space_model.specs.Journal.{replay, all_stand, turns_of, Good}
-use Rattle.space_model.specs.Step.{step_of}
-use Rattle.hook_api.specs.Asked.{AskFacts}
-use Rattle.hook_api.specs.Hooks.{Answers}
-use Rattle.hook_api.specs.Kept.{KeptFacts}
-use Rattle.thread_cache.specs.declared.Held.{Held}
-use Rattle.call_plan.specs.declared.needs.Answered.{Answered}
-use Rattle.call_plan.specs.declared.needs.Answered.TheVariants.{Ok}
-use Rattle.call_plan.specs.declared.needs.Given.TheVariants.{Region, Done}
-use Rattle.call_plan.specs.declared.needs.Request.{Request}
-use Rattle.call_plan.specs.declared.needs.Request.TheVariants.{Malloc, Free}
-use Rattle.call_plan.specs.Desks.{DeskFacts, holding}
-use Rattle.call_plan.specs.Helds.{without}
-use Rattle.call_plan.specs.Reading.{Item, Replied, Told, WantTurn, WantAsk, Outcome, Ends, Waits, Astray}
-use Rattle.call_plan.specs.Calls.{reading}
-use Rattle.call_plan.specs.Left.{flights}
-use Rattle.report_text.specs.Lines.{malloc_line, free_line, counts_line}
-use Rattle.trace_text.specs.declared.lines.Line.{Line}
-use Rattle.trace_text.specs.declared.lines.Line.TheVariants.{Call}
-use Rattle.trace_text.specs.declared.lines.Ptr.{Ptr}
-use Rattle.trace_text.specs.declared.lines.Ptr.TheVariants.{Name, At}
+use Rattle.space_model.specs.Span.{has_page}
+use Rattle.space_model.specs.Step.{is_live}
+use Rattle.call_table.specs.declared.needs.Answered.{Answered}
+use Rattle.call_table.specs.declared.needs.Answered.TheVariants.{Ok, NotHeld}
+use Rattle.call_table.specs.declared.needs.Given.TheVariants.{Region}
+use Rattle.call_table.specs.declared.needs.Request.{Request}
+use Rattle.call_table.specs.declared.needs.Request.TheVariants as request
+use Rattle.heap_core.specs.Arenas.{record_at}
+use Rattle.heap_core.specs.Records.{Record}
+use Rattle.heap_core.specs.Heaps.{HeapFacts, opening_heap, started}
+use Rattle.heap_core.specs.Seats.{answer_of, begun, seat_at}
+use Rattle.report_text.specs.Lines.{counts_line, idle_line, no_arena_line}
 use Rattle.trace_text.specs.declared.lines.Verb.{Verb}
-use Rattle.trace_text.specs.declared.lines.Verb.TheVariants.{Malloc as MallocVerb, Free as FreeVerb}
-use Rattle.replay_run.specs.Names.{address_in, named}
-use Rattle.replay_run.specs.Hands.{IsInHands}
+use Rattle.trace_text.specs.declared.lines.Verb.TheVariants.{Malloc, Memalign, Free, Publish, Take, Purge, Decay, Time, Reset, Destroy, Create, Bind, Cache, Flush}
+use Rattle.trace_text.specs.declared.lines.Line.{Line}
+use Rattle.trace_text.specs.declared.lines.Line.TheVariants.{Call, Start, Step, End, At, Counts as CountsOf}
+use Rattle.replay_run.specs.Names.{address_at, named}
+use Rattle.replay_run.specs.Heads.{answer_line}
 
--- An open call: its client, what its line says, what the client owned before it, the request, and what the call was fed so
--- far.
-pub record Open : Type 0 where
-  pub client : ℕ
-  pub verb : Verb
-  pub desk : DeskFacts
-  pub request : Request
-  pub items : List Item
+-- What a world waits for before the next line is read: nothing; one step of a client's open call; its end; its end, behind
+-- which this call of the client begins, and is carried out to its end or not; or that beginning. Nothing more comes where
+-- memory was wanting.
+pub data Awaits : Type 0 where
+  Nothing : Awaits
+  OneStep : (client : ℕ) → Awaits
+  TheEnd : (client : ℕ) → Awaits
+  TheEndBefore : (client : ℕ) (verb : Verb) (whole : Bool) → Awaits
+  TheStart : (client : ℕ) (verb : Verb) (whole : Bool) → Awaits
+  Memory : Awaits
 
--- A world: the space of arena 0, its journal so far, the text printed so far, the open call, the lines that are still to be
--- carried out, what the client owned before the open call, and the names that are bound, each with its address.
+-- A world: the heap, what each client's open call is, the names that are bound, each with its address, the moment in
+-- nanoseconds, the text printed so far, and what is waited for.
 pub record World : Type 0 where
-  pub space : Space
-  pub kept : List KeptFacts
-  pub text : List ℕ
-  pub call : Option Open
-  pub lines : List Line
-  pub desk : DeskFacts
+  pub heap : HeapFacts
+  pub verbs : List (Option Verb)
   pub names : List (List ℕ × ℕ)
-
--- what the open call needs next, by what it was fed
-abbrev pub outcome_of : Open → Outcome
-outcome_of call = reading call.desk call.request call.items
-
--- the answer where a call has ended, and else what stands there in its place
-abbrev pub on_end : {A : Type 0} → Outcome → (Answered → A) → A → A
-on_end (Ends answer items) ended waiting = ended answer
-on_end (Waits want) ended waiting = waiting
-on_end Astray ended waiting = waiting
-
--- no call is open
-abbrev pub idle : World → World
-idle w = record w { call = None; lines = [] }
-
--- the line that tells the answer of a call
-abbrev pub answer_line : ℕ → Verb → Answered → List ℕ
-answer_line client (MallocVerb name size) answer = malloc_line client name answer
-answer_line client (FreeVerb target) answer = free_line client answer
-
--- what the client owns after a call with its answer: a malloc that gave a region adds it, a free that is done takes it away
-abbrev pub desk_ended : DeskFacts → Request → Answered → DeskFacts
-desk_ended desk (Malloc size) (Ok (Region addr class)) = holding desk (Some (record { addr = addr; class = class; arena = desk.arena }))
-desk_ended desk (Free addr) (Ok Done) = record desk { held = without addr desk.held }
-desk_ended desk request answer = desk
-
--- the names after a call with its answer: a malloc that gave a region binds its name to the address
-abbrev pub names_ended : List (List ℕ × ℕ) → Verb → Answered → List (List ℕ × ℕ)
-names_ended names (MallocVerb name size) (Ok (Region addr class)) = named names name addr
-names_ended names verb answer = names
-
--- the answer of a call is printed
-abbrev pub printed : World → Open → Answered → World
-printed w call answer = record w {
-  text = w.text ++ answer_line call.client call.verb answer;
-  desk = desk_ended call.desk call.request answer;
-  names = names_ended w.names call.verb answer;
-}
-
--- the address that a pointer in a line stands for: a name that was never bound stands for address 0
-abbrev pub address_of_ptr : List (List ℕ × ℕ) → Ptr → ℕ
-address_of_ptr names (Name name) = address_in names name
-address_of_ptr names (At addr) = addr
-
--- what a line asks for
-abbrev pub request_of : List (List ℕ × ℕ) → Verb → Request
-request_of names (MallocVerb name size) = Malloc size
-request_of names (FreeVerb target) = Free (address_of_ptr names target)
-
--- a call of client 0 that was fed nothing yet
-abbrev pub call_of : DeskFacts → Verb → Request → Open
-call_of desk verb request = record { client = 0; verb = verb; desk = desk; request = request; items = [] }
-
--- the call that a line opens
-abbrev pub opened : World → ℕ → Verb → Open
-opened w client verb = record (call_of w.desk verb (request_of w.names verb)) { client = client }
-
--- lines are carried out up to the first call that waits
-abbrev pub begun : List Line → World → World
-begun [] w = idle w
-begun (Call client verb ∷ lines) w =
-    on_end (outcome_of (opened w client verb)) (λ answer. begun lines (printed w (opened w client verb) answer))
-    (record w { call = Some (opened w client verb); lines = lines })
-
--- an open call was fed one more item: it waits, or its answer is printed and the next lines are carried out
-abbrev pub fed : World → Open → List Line → World
-fed w call lines = on_end (outcome_of call) (λ answer. begun lines (printed w call answer)) (record w { call = Some call; lines = lines })
-
--- what happens to a world: the turn that is needed, or the answer to the ask that is needed
-pub data Move : Type 0 where
-  Turned : Move
-  Heard_ : AskFacts → Move
-
--- a turn of the open call
-abbrev pub turned : World → Open → Op → Option AskFacts → World
-turned w call op asked =
-    let entry : Entry = record { client = call.client; op = op } in
-    let step = step_of w.space call.client op in
-    fed (record w { space = step.after; kept = w.kept ++ (record { entry = entry; asked = asked }) ∷ [] })
-    (record call { items = call.items ++ Replied step.reply ∷ [] }) w.lines
-
--- the world after a move that is needed, and the same world after any other
-abbrev pub moved : World → Open → Outcome → Move → World
-moved w call (Waits (WantTurn arena op asked)) Turned = turned w call op asked
-moved w call (Waits (WantAsk arena ask)) (Heard_ asked) = fed w (record call { items = call.items ++ Told asked ∷ [] }) w.lines
-moved w call outcome move = w
-
--- the world after a move, by its open call
-abbrev pub after_in : World → Move → Option Open → World
-after_in w move None = w
-after_in w move (Some call) = moved w call (outcome_of call) move
-
--- the world after a move
-abbrev pub after_move : World → Move → World
-after_move w move = after_in w move w.call
-
--- whether a move is the one that a world needs: an answer is one to that ask, of the arena's box
-abbrev pub Fits : World → Outcome → Move → Type 0
-Fits w (Waits (WantTurn arena op asked)) Turned = Unit {0}
-Fits w (Waits (WantAsk arena ask)) (Heard_ asked) = (asked.ask ≡ ask) × (asked.box_no ≡ w.space.box_no) × Answers ask asked.answer
-Fits w outcome move = ⊥
-
-abbrev pub NextIn : World → Move → Option Open → Type 0
-NextIn w move None = ⊥
-NextIn w move (Some call) = Fits w (outcome_of call) move
-
--- the move is the one that the world needs next
-abbrev pub IsNext : World → Move → Type 0
-IsNext w move = NextIn w move w.call
-
--- the moves are those of a play from the world on: each is the one that is needed where it comes
-abbrev pub IsPlay : World → List Move → Type 0
-IsPlay w [] = Unit {0}
-IsPlay w (move ∷ moves) = IsNext w move × IsPlay (after_move w move) moves
-
--- the world after a play
-abbrev pub world_after : World → List Move → World
-world_after w moves = fold after_move w moves
-
--- the asks among the moves
-abbrev pub asks_in : List Move → List AskFacts
-asks_in [] = []
-asks_in (Turned ∷ moves) = asks_in moves
-asks_in (Heard_ asked ∷ moves) = asked ∷ asks_in moves
-
--- what the client owns before the first line: nothing, and it allocates from arena 0
-abbrev pub first_desk : DeskFacts
-first_desk = record { client = 0; arena = 0; cached = false; held = [] }
+  pub moment : ℕ
+  pub text : List ℕ
+  pub awaits : Awaits
 
 -- the world before the first line
-abbrev pub empty_world : World
-empty_world = record { space = first_space; kept = []; text = []; call = None; lines = []; desk = first_desk; names = [] }
+abbrev pub opening : World
+opening = record { heap = opening_heap; verbs = replicate 32 None; names = []; moment = 0; text = []; awaits = Nothing }
 
--- the opening world of lines
-abbrev pub opening : List Line → World
-opening lines = begun lines empty_world
+-- what a client's open call is
+abbrev pub verb_at : List (Option Verb) → ℕ → Option Verb
+verb_at verbs c = slice_index_or verbs c None
 
--- a play is complete where every line is carried out
-abbrev pub IsComplete : World → Type 0
-IsComplete w = w.call ≡ None
+-- whether a client has an open call
+abbrev pub is_open : HeapFacts → ℕ → Bool
+is_open h c = is_some (seat_at h.seats c).call
 
--- the closing lines: the counts of the live arena
-abbrev pub closing : World → List ℕ
-closing w = counts_line 0 (counts_of w.space)
+-- ---- what a line asks for
 
--- something is true of each world of a play: of the first, and of the one after each move
-abbrev pub AllWorlds : (World → Type 0) → World → List Move → Type 0
-AllWorlds P w [] = P w
-AllWorlds P w (move ∷ moves) = P w × AllWorlds P (after_move w move) moves
+-- the decay times of an arena that comes to be, in milliseconds: of dirty extents and of muzzy ones
+abbrev pub dirty_default : ℤ
+dirty_default = pos 10000
 
--- the entries of a world's journal
-abbrev pub entries_of : List KeptFacts → List Entry
-entries_of kept = map (λ (k : KeptFacts). k.entry) kept
+abbrev pub muzzy_default : ℤ
+muzzy_default = pos 0
 
--- the regions that a client has while its call is open, of those that it owned before: all, but for one that a free has
--- given back
-abbrev pub hands_at : List Held → Request → List Item → List Held
-hands_at held (Malloc size) items = held
-hands_at held (Free addr) [] = held
-hands_at held (Free addr) (item ∷ items) = without addr held
+-- the index of the arena of which an extent has the page of an address, if there is one
+abbrev pub arena_with : List Record → ℕ → Option ℕ
+arena_with records addr = position (λ r. list_any (λ p. has_page (addr / 4096) p.span) r.space.parts) records
 
-abbrev pub hands_in : List Held → Option Open → List Held
-hands_in held None = held
-hands_in held (Some call) = hands_at held call.request call.items
+-- a take of the region at an address, in the arena of which an extent has it
+abbrev pub take_in : ℕ → Option ℕ → Option Request
+take_in addr None = None
+take_in addr (Some arena) = Some (request.Take addr arena)
 
--- the regions that the client of a world holds or has in hand
-abbrev pub hands : World → List Held
-hands w = hands_in w.desk.held w.call
+-- the list of extents of which a line sets the decay time: the dirty one, or else the muzzy one
+abbrev pub decay_list : Rest → Rest
+decay_list Dirty = Dirty
+decay_list rest = Muzzy
 
--- The arena of a world is what its journal replays to, each entry of which could stand where it came, and it is good; and
--- the regions that client 0 holds in it are, each once, those that it has; without an open call it
--- has no extent in flight.
-pub record IsSound (w : World) : Type 0 where
-  pub replayed : w.space ≡ replay first_space (entries_of w.kept)
-  pub stand : all_stand first_space (entries_of w.kept) ≡ true
-  pub good : Good (turns_of first_space (entries_of w.kept)) w.space
-  pub in_hands : IsInHands 0 w.space.regions (hands w)
-  pub rests : w.call ≡ None → flights 0 w.space ≡ 0
+-- what a call asks for that is about regions, if it is one; nothing, where it takes one at an address at which no arena has an
+-- extent
+abbrev pub region_request : List Record → List (List ℕ × ℕ) → Verb → Option Request
+region_request records names (Malloc name size) = Some (request.Malloc size)
+region_request records names (Memalign name align size) = Some (request.Memalign align size)
+region_request records names (Free target) = Some (request.Free (address_at names target))
+region_request records names (Publish target) = Some (request.Publish (address_at names target))
+region_request records names (Take target) = take_in (address_at names target) (arena_with records (address_at names target))
+region_request records names verb = None
 
--- a line that can be carried out so far: a malloc of a large class, or a free, by client 0
-abbrev pub IsCarried : Line → Type 0
-IsCarried (Call client (MallocVerb name size)) = (client ≡ 0) × (14336 < size)
-IsCarried (Call client (FreeVerb target)) = client ≡ 0
+-- what a call asks for at a moment that is about an arena or about what its client keeps, if it is one
+abbrev pub arena_request : ℕ → Verb → Option Request
+arena_request now (Purge index) = Some (request.Purge index)
+arena_request now (Decay index) = Some (request.Decay index now)
+arena_request now (Time index rest ms) = Some (request.Time index (decay_list rest) ms now)
+arena_request now (Reset index) = Some (request.Reset index)
+arena_request now (Destroy index) = Some (request.Destroy index)
+arena_request now (Create box_no) = Some (request.Create box_no dirty_default muzzy_default now)
+arena_request now (Bind index) = Some (request.Bind index)
+arena_request now (Cache on) = Some (request.Cache on)
+arena_request now Flush = Some request.Flush
+arena_request now verb = None
+
+abbrev pub first_request : Option Request → Option Request → Option Request
+first_request (Some request) other = Some request
+first_request None other = other
+
+-- What a call of a line asks for at a moment. A take of what no arena has asks for nothing, nor does a call of `ctl`, which
+-- isn't carried out.
+abbrev pub request_of : List Record → List (List ℕ × ℕ) → ℕ → Verb → Option Request
+request_of records names now verb = first_request (arena_request now verb) (region_request records names verb)
+
+-- the address that a call which asks for nothing looked for
+abbrev pub target_of : List (List ℕ × ℕ) → Verb → ℕ
+target_of names (Take target) = address_at names target
+target_of names verb = 0
+
+-- ---- how calls end and begin
+
+-- the names after a call with its answer: where a malloc or a memalign gave a region, its name is bound to the address
+abbrev pub names_ended : List (List ℕ × ℕ) → Verb → Answered → List (List ℕ × ℕ)
+names_ended names (Malloc name size) (Ok (Region addr class)) = named names name addr
+names_ended names (Memalign name align size) (Ok (Region addr class)) = named names name addr
+names_ended names verb answer = names
+
+-- what is waited for behind the beginning of a call: its end, where it is carried out whole
+abbrev pub awaits_begun : ℕ → Bool → Awaits
+awaits_begun c true = TheEnd c
+awaits_begun c false = Nothing
+
+-- a call that has begun is open, or has its answer at once
+abbrev pub begun_as : World → ℕ → Verb → Bool → Option Answered → World
+begun_as w c verb whole (Some answer) =
+    record w { text = w.text ++ answer_line c verb answer; names = names_ended w.names verb answer; awaits = Nothing }
+begun_as w c verb whole None = record w { verbs = slice_set w.verbs c (Some verb); awaits = awaits_begun c whole }
+
+-- a call of a client begins
+abbrev pub begins : World → ℕ → Verb → Bool → Option Request → World
+begins w c verb whole None = begun_as w c verb whole (Some (NotHeld (target_of w.names verb)))
+begins w c verb whole (Some request) =
+    begun_as (record w { heap = started w.heap c request }) c verb whole (answer_of (begun w.heap.seats c request))
+
+-- what is waited for behind a step of a call that was waited for, which goes on or has ended
+abbrev pub awaits_after : Awaits → Bool → Awaits
+awaits_after (OneStep c) goes = Nothing
+awaits_after (TheEndBefore c verb whole) false = TheStart c verb whole
+awaits_after awaits true = awaits
+awaits_after awaits false = Nothing
+
+-- the line of a call that has ended, if it has
+abbrev pub ended_line : ℕ → Option Verb → Option Answered → List ℕ
+ended_line c (Some verb) (Some answer) = answer_line c verb answer
+ended_line c verb answer = []
+
+-- the names behind a step, and what the open calls are
+abbrev pub names_closed : List (List ℕ × ℕ) → Option Verb → Option Answered → List (List ℕ × ℕ)
+names_closed names (Some verb) (Some answer) = names_ended names verb answer
+names_closed names verb answer = names
+
+abbrev pub verbs_closed : List (Option Verb) → ℕ → Option Answered → List (Option Verb)
+verbs_closed verbs c (Some answer) = slice_set verbs c None
+verbs_closed verbs c None = verbs
+
+-- the line of a step is printed where one step was waited for
+abbrev pub step_text : Awaits → List ℕ → List ℕ
+step_text (OneStep c) line = line
+step_text awaits line = []
+
+-- A step of a client's open call leads to this heap, prints this line, and ends the call with this answer, if it does; that is
+-- printed behind it.
+abbrev pub stepped : World → ℕ → HeapFacts → List ℕ → Option Answered → World
+stepped w c heap line answer = record w {
+  heap = heap;
+  verbs = verbs_closed w.verbs c answer;
+  names = names_closed w.names (verb_at w.verbs c) answer;
+  text = w.text ++ (step_text w.awaits line ++ ended_line c (verb_at w.verbs c) answer);
+  awaits = awaits_after w.awaits (is_none answer);
+}
+
+-- ---- lines
+
+-- a client's call is to begin, behind the end of the one that is open
+abbrev pub awaits_call : Bool → ℕ → Verb → Bool → Awaits
+awaits_call true c verb whole = TheEndBefore c verb whole
+awaits_call false c verb whole = TheStart c verb whole
+
+-- the counts of an arena that is live
+abbrev pub live_counts : Space → Option Counts
+live_counts s = if is_live s.life then Some (counts_of s) else None
+
+-- the counts of an arena, or that it isn't live
+abbrev pub counts_text : ℕ → Option Counts → List ℕ
+counts_text index (Some counts) = counts_line index counts
+counts_text index None = no_arena_line index
+
+-- a step or the end of a client's open call is waited for, or there is none
+abbrev pub awaits_or_idle : World → ℕ → Bool → Awaits → World
+awaits_or_idle w c true awaits = record w { awaits = awaits }
+awaits_or_idle w c false awaits = record w { text = w.text ++ idle_line c }
+
+-- a line is read
+abbrev pub line_read : World → Line → World
+line_read w (Call c verb) = record w { awaits = awaits_call (is_open w.heap c) c verb true }
+line_read w (Start c verb) = record w { awaits = awaits_call (is_open w.heap c) c verb false }
+line_read w (Step c) = awaits_or_idle w c (is_open w.heap c) (OneStep c)
+line_read w (End c) = awaits_or_idle w c (is_open w.heap c) (TheEnd c)
+line_read w (At moment) = record w { moment = moment }
+line_read w (CountsOf index) = record w { text = w.text ++ counts_text index (live_counts (record_at w.heap.records index).space) }
+line_read w line = w
+
+-- ---- the end
+
+-- the closing line of an arena, where it is live
+abbrev pub closing_line : ℕ → Option Counts → List ℕ
+closing_line index (Some counts) = counts_line index counts
+closing_line index None = []
+
+-- the count lines of the live arenas, by index
+abbrev pub closing : HeapFacts → List ℕ
+closing h = flat_map (λ i. closing_line i (live_counts (record_at h.records i).space)) (range_with_len 0 32)

@@ -1,65 +1,245 @@
-//! One call, from its first need to its answer.
+//! Calls of clients: how they begin, their steps, and their ends.
 
-ghost use Rattle.std.specs.Prelude.{◌≡◌, ◌≤◌, [], OnOk};
+ghost use Rattle.std.specs.Prelude.{◌≡◌, ◌≢◌, ◌++◌, ◌<◌, ◌≤◌, ℕ, Bool, true, false, [], Some, IfErr, OnErr, OnOk};
+ghost use Rattle.edge_io.specs.Bytes.{Appends, AppendsPrefix};
+ghost use Rattle.hook_api.specs.Shelf.{Shelf};
 ghost use Rattle.hook_api.specs.ShelfOf.{shelf_of};
-ghost use Rattle.call_plan.specs.Calls.{IsBuilt, places_of};
-ghost use Rattle.call_plan.specs.Desks.{facts_of};
-ghost use Rattle.call_plan.specs.Rest.{rest_of, NeedIs};
+ghost use Rattle.call_table.specs.declared.needs.Answered.{Answered};
+ghost use Rattle.call_table.specs.declared.needs.Answered.TheVariants.{NoMemory as WasStarved};
 ghost use Rattle.trace_text.specs.declared.lines.Verb.{Verb};
-ghost use Rattle.replay_run.specs.World.{fed, call_of};
-ghost use Rattle.replay_run.specs.Carried.{Desktop, world_of, Carried, IsReady, IsUnderway, CarriedOn};
-ghost use Rattle.replay_run.specs.Rooms.{HasRoom};
+ghost use Rattle.trace_text.specs.Grammar.{IsVerbWithinLimits};
+ghost use Rattle.report_text.specs.Lines.{call_line};
+ghost use Rattle.replay_run.specs.Heads.{answer_line};
+ghost use Rattle.replay_run.specs.Plays.{client_awaited};
+ghost use Rattle.replay_run.specs.SoFar.{Goes, Here, Outset, Reading, is_one_step, now_of, shown_line};
+ghost use Rattle.replay_run.specs.Steps.{steps_of};
+ghost use Rattle.replay_run.specs.Stops.{HasStopCause};
+ghost use Rattle.replay_run.specs.World.{Awaits, Nothing, TheStart, awaits_after, awaits_begun, awaits_call, ended_line, is_open, names_ended};
 
+use crate::input::Stop;
+use crate::names::Names;
+use crate::prints::print;
 use crate::state::State;
-use call_plan::{Answered, Call, Fed, Need, Request};
+use call_table::Answered;
+use edge_io::Sink;
+use heap_core::{Did, Stepped};
 use hook_api::HookShelf;
-use std::alloc::AllocError as NoMemory;
+use report_text::{Head, ask_line, call_line, turn_line};
+use space_model::Rest;
+use std::alloc::{AllocError as NoMemory, Global};
+use trace_text::Verb;
 
-/// Carries out what a call needs, one turn or one ask after another, until it has its answer.
-fn go_on(
-    state: &mut State,
-    shelf: &mut HookShelf,
-    mut call: Call,
-    need: Need,
-) -> Result<Answered, NoMemory>
-    requires underway { IsUnderway call.client state.old.arena.space state.old.kept.items state.old.heard.items (shelf_of ExtentHooks-dyn shelf.old) (facts_of state.old.desk) call.stage }
-    requires places { places_of call.stage ≤ state.old.desk.held.spare }
-    requires room { HasRoom call.client state.old.arena call.stage }
-    requires need { NeedIs call.client (rest_of call.stage []) need }
-    ensures carried { CarriedOn call.client state.old.arena.space state.old.kept.items state.old.heard.items (shelf_of ExtentHooks-dyn shelf.old) (facts_of state.old.desk) call.stage
-        state.new.arena.space state.new.kept.items state.new.heard.items (shelf_of ExtentHooks-dyn shelf.new) (facts_of state.new.desk) result }
-    ensures names { state.new.names ≡ state.old.names }
+/// How a report names a call. One of `ctl` isn't carried out, and has no name of its own.
+fn head(verb: &Verb) -> Head<'_>
+    ensures { (c : ℕ) (answer : Answered) → call_line c result answer ≡ answer_line c verb.now answer }
 {
-    match need {
-        Need::Done(answered) => Ok(answered),
-        Need::Turn(turn) => {
-            let reply = state.turn(call.client(), turn.op, turn.asked)?;
-            let need = call.next(&mut state.desk, Fed::Replied(reply));
-            go_on(state, shelf, call, need)
-        }
-        Need::Ask { ask, .. } => {
-            let asked = state.ask(shelf, ask)?;
-            let need = call.next(&mut state.desk, Fed::Answer(asked));
-            go_on(state, shelf, call, need)
+    match verb {
+        Verb::Malloc { name, .. } => Head::Malloc(name.as_bytes()),
+        Verb::Memalign { name, .. } => Head::Memalign(name.as_bytes()),
+        Verb::Free(_) => Head::Free,
+        Verb::Publish(_) => Head::Publish,
+        Verb::Take(_) => Head::Take,
+        Verb::Purge(_) => Head::Purge,
+        Verb::Decay(_) => Head::Decay,
+        Verb::Time {
+            rest: Rest::Dirty,
+            ..
+        } => Head::Dirty,
+        Verb::Time { .. } => Head::Muzzy,
+        Verb::Reset(_) => Head::Reset,
+        Verb::Destroy(_) => Head::Destroy,
+        Verb::Create(_) => Head::Create,
+        Verb::Bind(_) => Head::Arena,
+        Verb::Cache(_) => Head::Cache,
+        Verb::Flush | Verb::CtlPlain(_) | Verb::CtlWrite { .. } => Head::Flush,
+    }
+}
+
+/// Writes the line of what a step did, where it is to be shown.
+fn write_step(out: &mut Vec<u8>, shown: bool, client: u32, did: Did) -> Result<(), NoMemory>
+    ensures { OnOk result (out.new.items ≡ out.old.items ++ shown_line shown client did) }
+{
+    match did {
+        Did::Turn if shown => turn_line(out, client),
+        Did::Ask(asked) if shown => ask_line(out, client, asked.ask(), asked.answer()),
+        _ => Ok(()),
+    }
+}
+
+/// Writes the line of a call that has ended, if it has.
+fn write_end(
+    out: &mut Vec<u8>,
+    client: u32,
+    verb: &Option<Verb>,
+    answer: Option<Answered>,
+) -> Result<(), NoMemory>
+    ensures { OnOk result (out.new.items ≡ out.old.items ++ ended_line client verb.now answer) }
+{
+    match (verb, answer) {
+        (Some(verb), Some(answer)) => call_line(out, client, head(verb), &answer),
+        _ => Ok(()),
+    }
+}
+
+/// Prints what is to be printed of a step: its line, where it is to be shown, and the answer of its call, if that has ended.
+fn print_step<K: Sink>(
+    alloc: Global,
+    sink: &mut K,
+    shown: bool,
+    client: u32,
+    verb: &Option<Verb>,
+    told: &Stepped,
+) -> Result<(), Stop>
+    ensures text { OnOk result (Appends (K.held sink.old) (K.held sink.new) (shown_line shown client told.now.did ++ ended_line client verb.now told.now.ended)) }
+    ensures beginning { OnErr result (AppendsPrefix (K.held sink.old) (K.held sink.new) (shown_line shown client told.now.did ++ ended_line client verb.now told.now.ended)) }
+    ensures cause { IfErr result (λ stop. HasStopCause stop 0 0 (K.faults sink.old) (K.faults sink.new)) }
+    ensures counts { K.faults sink.old ≤ K.faults sink.new }
+{
+    let mut text = Vec::new(alloc);
+    write_step(&mut text, shown, client, told.did)?;
+    write_end(&mut text, client, verb, told.ended)?;
+    print(sink, &text)
+}
+
+/// Whether memory was wanting in a step.
+fn is_starved(told: &Stepped) -> bool
+    ensures { result ≡ false → told.now.ended ≢ Some WasStarved }
+{
+    matches!(told.ended, Some(Answered::NoMemory))
+}
+
+/// Makes one step of a client's open call, and prints its answer where it ends by it. The line of the step itself is printed
+/// where it is to be shown.
+pub fn step_once<K: Sink>(
+    alloc: Global,
+    sink: &mut K,
+    shelf: &mut HookShelf,
+    state: &mut State,
+    client: u32,
+    shown: bool,
+) -> Result<(), Stop>
+    requires client { client < 32 }
+    requires open_call { is_open state.old.heap client ≡ true }
+    ensures goes { (from : Outset) (count : ℕ) (awaits : Awaits) (at : Reading) → client_awaited awaits ≡ Some client → is_one_step awaits ≡ shown
+        → Here from count awaits [] (now_of state.old (shelf_of ExtentHooks-dyn shelf.old) at (K.held sink.old))
+        → Goes from count (awaits_after awaits (is_open state.new.heap client)) result (now_of state.new (shelf_of ExtentHooks-dyn shelf.new) at (K.held sink.new)) }
+    ensures longer { OnOk result (steps_of state.old.heap < steps_of state.new.heap) }
+    ensures cause { IfErr result (λ stop. HasStopCause stop 0 0 (K.faults sink.old) (K.faults sink.new)) }
+    ensures counts { K.faults sink.old ≤ K.faults sink.new }
+{
+    state.heap.stands();
+    let told = state.heap.step_client(client, shelf, alloc);
+    state.heap.stands();
+    if is_starved(&told) {
+        return Err(Stop::NoMemory);
+    }
+    print_step(alloc, sink, shown, client, state.verb(client), &told)?;
+    state.close(client, told.ended)?;
+    Ok(())
+}
+
+/// Prints the answer of a call that has ended where it began, and binds its name.
+fn answer_call<K: Sink>(
+    alloc: Global,
+    sink: &mut K,
+    names: &mut Names,
+    client: u32,
+    verb: Verb,
+    answer: Answered,
+) -> Result<(), Stop>
+    ensures names { OnOk result (names.new ≡ names_ended names.old verb answer) }
+    ensures text { OnOk result (Appends (K.held sink.old) (K.held sink.new) (answer_line client verb answer)) }
+    ensures beginning { OnErr result (AppendsPrefix (K.held sink.old) (K.held sink.new) (answer_line client verb answer)) }
+    ensures cause { IfErr result (λ stop. HasStopCause stop 0 0 (K.faults sink.old) (K.faults sink.new)) }
+    ensures counts { K.faults sink.old ≤ K.faults sink.new }
+{
+    let mut text = Vec::new(alloc);
+    call_line(&mut text, client, head(&verb), &answer)?;
+    print(sink, &text)?;
+    names.bind_answer(verb, answer)?;
+    Ok(())
+}
+
+/// Begins a call of a client that has none open, and prints its answer, where it has ended already.
+fn begin_call<K: Sink>(
+    alloc: Global,
+    sink: &mut K,
+    state: &mut State,
+    client: u32,
+    verb: Verb,
+) -> Result<(), Stop>
+    requires client { client < 32 }
+    requires limits { IsVerbWithinLimits verb }
+    requires rests { is_open state.old.heap client ≡ false }
+    ensures goes { (from : Outset) (count : ℕ) (whole : Bool) (shelf : Shelf) (at : Reading)
+        → Here from count (TheStart client verb whole) [] (now_of state.old shelf at (K.held sink.old))
+        → Goes from count (awaits_after (awaits_begun client whole) (is_open state.new.heap client)) result (now_of state.new shelf at (K.held sink.new)) }
+    ensures cause { IfErr result (λ stop. HasStopCause stop 0 0 (K.faults sink.old) (K.faults sink.new)) }
+    ensures counts { K.faults sink.old ≤ K.faults sink.new }
+{
+    let Some(request) = state.request_of(&verb) else {
+        let answer = Answered::NotHeld(state.target_of(&verb));
+        return answer_call(alloc, sink, &mut state.names, client, verb, answer);
+    };
+    state.heap.stands();
+    let ended = state.heap.start(client, request, alloc)?;
+    state.heap.stands();
+    match ended {
+        Some(answer) => answer_call(alloc, sink, &mut state.names, client, verb, answer),
+        None => {
+            state.open(client, verb);
+            Ok(())
         }
     }
 }
 
-/// Carries out a request of client 0, until it has its answer.
-pub fn carry_call(
-    state: &mut State,
+/// Runs a client's open call to its end, if it has one, and prints its answer.
+pub fn run_to_end<K: Sink>(
+    alloc: Global,
+    sink: &mut K,
     shelf: &mut HookShelf,
-    request: Request,
-) -> Result<Answered, NoMemory>
-    requires built { IsBuilt request }
-    requires ready { IsReady state.old.arena.space state.old.kept.items (facts_of state.old.desk) }
-    ensures carried { (top : Desktop) (verb : Verb) → top.desk ≡ facts_of state.old.desk → Carried (fed (world_of state.old.arena.space state.old.kept.items top) (call_of top.desk verb request) [])
-        state.old.heard.items (shelf_of ExtentHooks-dyn shelf.old) state.new.arena.space state.new.kept.items
-        state.new.heard.items (shelf_of ExtentHooks-dyn shelf.new) top (call_of top.desk verb request) (facts_of state.new.desk) result }
-    ensures ready { OnOk result (IsReady state.new.arena.space state.new.kept.items (facts_of state.new.desk)) }
-    ensures names { state.new.names ≡ state.old.names }
+    state: &mut State,
+    client: u32,
+) -> Result<(), Stop>
+    requires { client < 32 }
+    ensures goes { (from : Outset) (count : ℕ) (awaits : Awaits) (at : Reading) → client_awaited awaits ≡ Some client → is_one_step awaits ≡ false
+        → Here from count (awaits_after awaits (is_open state.old.heap client)) [] (now_of state.old (shelf_of ExtentHooks-dyn shelf.old) at (K.held sink.old))
+        → Goes from count (awaits_after awaits false) result (now_of state.new (shelf_of ExtentHooks-dyn shelf.new) at (K.held sink.new)) }
+    ensures rests { OnOk result (is_open state.new.heap client ≡ false) }
+    ensures cause { IfErr result (λ stop. HasStopCause stop 0 0 (K.faults sink.old) (K.faults sink.new)) }
+    ensures counts { K.faults sink.old ≤ K.faults sink.new }
 {
-    let mut call = Call::start(&mut state.desk, request)?;
-    let need = call.next(&mut state.desk, Fed::Begin);
-    go_on(state, shelf, call, need)
+    'steps: while state.heap.has_call(client) {
+        step_once(alloc, sink, shelf, state, client, false)?;
+        state.heap.stands();
+    }
+    Ok(())
+}
+
+/// Carries out the call of a line, behind the end of the one that its client has open: to its end, where it is to be carried out
+/// whole, or else its beginning alone.
+pub fn carry_call<K: Sink>(
+    alloc: Global,
+    sink: &mut K,
+    shelf: &mut HookShelf,
+    state: &mut State,
+    client: u32,
+    verb: Verb,
+    whole: bool,
+) -> Result<(), Stop>
+    requires client { client < 32 }
+    requires limits { IsVerbWithinLimits verb }
+    ensures goes { (from : Outset) (count : ℕ) (at : Reading)
+        → Here from count (awaits_call (is_open state.old.heap client) client verb whole) [] (now_of state.old (shelf_of ExtentHooks-dyn shelf.old) at (K.held sink.old))
+        → Goes from count Nothing result (now_of state.new (shelf_of ExtentHooks-dyn shelf.new) at (K.held sink.new)) }
+    ensures cause { IfErr result (λ stop. HasStopCause stop 0 0 (K.faults sink.old) (K.faults sink.new)) }
+    ensures counts { K.faults sink.old ≤ K.faults sink.new }
+{
+    run_to_end(alloc, sink, shelf, state, client)?;
+    begin_call(alloc, sink, state, client, verb)?;
+    if whole {
+        run_to_end(alloc, sink, shelf, state, client)
+    } else {
+        Ok(())
+    }
 }

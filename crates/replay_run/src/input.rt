@@ -2,15 +2,17 @@
 
 ghost use Rattle.std.specs.Prelude.{◌≤◌, ◌≡◌, ◌==◌, ◌<◌, ◌++◌, ◌↔◌, IsTrue, ℕ, List, [], drop, Option, None, Bool, length, IfOk, IfErr, IfSome, OnOk, OnErr};
 ghost use Rattle.std.specs.List.{position};
-ghost use Rattle.edge_io.specs.Bytes.{Consumes};
+ghost use Rattle.edge_io.specs.Bytes.{Consumes, Keeps};
 ghost use Rattle.trace_text.specs.Lines.{HasNoNewline};
 ghost use Rattle.replay_run.specs.declared.input.Stop.TheVariants.{ReadFault};
 ghost use Rattle.replay_run.specs.Stops.{HasStopCause};
-ghost use Rattle.replay_run.specs.Input.{InBounds, IsFirst, MetEnd, TakesSome, TakesMore, TakesAny, SaysCall, SaysNone};
-ghost use Rattle.trace_text.specs.declared.lines.Line.TheVariants.{Call};
-ghost use Rattle.replay_run.specs.World.{IsCarried};
+ghost use Rattle.trace_text.specs.declared.faults.LineFault.TheVariants.{NoMemory as FaultNoMemory};
+ghost use Rattle.replay_run.specs.Causes.{fault_cause, line_cause, verb_cause};
+ghost use Rattle.replay_run.specs.Input.{InBounds, IsFirst, IsReading, MetEnd, TakesSome, TakesMore, TakesAny};
 
-use edge_io::Source;
+use crate::prints::flush;
+use edge_io::{Sink, Source};
+use report_text::Cause;
 use std::alloc::{AllocError as NoMemory, Global};
 use std::marker::Model;
 use trace_text::{Line, LineFault, Verb};
@@ -20,9 +22,6 @@ const LINE_BYTES: usize = 256;
 
 /// How many bytes are read at once.
 pub const READ_BYTES: usize = 4096;
-
-/// Sizes above this one are those of large classes.
-const LARGEST_SMALL: u64 = 14336;
 
 /// Why a replay stops in the middle.
 #[derive(Clone, Copy, Debug, PartialEq, Eq)]
@@ -134,20 +133,27 @@ fn line_in(pending: &[u8]) -> Option<Found>
     }
 }
 
-/// Reads until the pending bytes begin with a line, or can't.
-pub fn find_line<S: Source>(source: &mut S, pending: &mut Pending) -> Result<Found, Stop>
+/// Reads until the pending bytes begin with a line, or can't. What waits in the sink is handed on before each read.
+pub fn find_line<S: Source, K: Sink>(
+    source: &mut S,
+    sink: &mut K,
+    pending: &mut Pending,
+) -> Result<Found, Stop>
     ensures bounds { IfOk result (λ found. InBounds found pending.new) }
     ensures first { IfOk result (λ found. IsFirst found pending.new) }
     ensures moved { IfOk result (λ _. TakesMore pending.old pending.new (S.left source.old) (S.left source.new)) }
     ensures stopped { IfErr result (λ stop. TakesSome (stop ≡ ReadFault) pending.old (S.left source.old) (S.left source.new)) }
     ensures end { IfOk result (λ found. MetEnd found (S.left source.new) (S.ended source.new)) }
-    ensures cause { IfErr result (λ stop. HasStopCause stop (S.faults source.old) (S.faults source.new) 0 0) }
+    ensures kept { Keeps (K.held sink.old) (K.held sink.new) }
+    ensures cause { IfErr result (λ stop. HasStopCause stop (S.faults source.old) (S.faults source.new) (K.faults sink.old) (K.faults sink.new)) }
     ensures counts { S.faults source.old ≤ S.faults source.new }
+    ensures sink_counts { K.faults sink.old ≤ K.faults sink.new }
 {
     for _ in 0..LINE_BYTES + 2 {
         if let Some(found) = line_in(pending.as_slice()) {
             return Ok(found);
         }
+        flush(sink)?;
         let mut buf = [0u8; READ_BYTES];
         match source.read(&mut buf) {
             Ok(0) => return Ok(Found::End),
@@ -158,16 +164,23 @@ pub fn find_line<S: Source>(source: &mut S, pending: &mut Pending) -> Result<Fou
     Ok(Found::TooLong)
 }
 
-/// Whether bytes are left, of the pending ones or of the source.
-pub fn has_more<S: Source>(source: &mut S, pending: &Pending) -> Result<bool, Stop>
+/// Whether bytes are left, of the pending ones or of the source. What waits in the sink is handed on before it is read.
+pub fn has_more<S: Source, K: Sink>(
+    source: &mut S,
+    sink: &mut K,
+    pending: &Pending,
+) -> Result<bool, Stop>
     ensures takes { IfOk result (λ more. TakesAny more pending.now (S.left source.old) (S.left source.new) (S.ended source.new)) }
     ensures stopped { OnErr result ((pending.now ≡ []) × Consumes (S.left source.old) (S.left source.new) []) }
-    ensures cause { IfErr result (λ stop. HasStopCause stop (S.faults source.old) (S.faults source.new) 0 0) }
+    ensures kept { Keeps (K.held sink.old) (K.held sink.new) }
+    ensures cause { IfErr result (λ stop. HasStopCause stop (S.faults source.old) (S.faults source.new) (K.faults sink.old) (K.faults sink.new)) }
     ensures counts { S.faults source.old ≤ S.faults source.new }
+    ensures sink_counts { K.faults sink.old ≤ K.faults sink.new }
 {
     if !pending.as_slice().is_empty() {
         return Ok(true);
     }
+    flush(sink)?;
     let mut buf = [0u8; READ_BYTES];
     match source.read(&mut buf) {
         Ok(count) => Ok(count > 0),
@@ -175,24 +188,52 @@ pub fn has_more<S: Source>(source: &mut S, pending: &Pending) -> Result<bool, St
     }
 }
 
-/// Whether a call can be carried out: a malloc of a large class, or any free.
-fn is_built(verb: &Verb) -> bool
-    ensures { IsTrue result ↔ IsCarried (Call 0 verb.now) }
+/// The cause of a line that isn't read, but for want of memory.
+fn cause_of_fault(fault: LineFault) -> Result<Cause, NoMemory>
+    ensures cause { IfOk result (λ cause. fault_cause fault ≡ Some cause) }
+    ensures memory { OnErr result (fault ≡ FaultNoMemory) }
 {
-    match verb {
-        Verb::Malloc { size, .. } => *size > LARGEST_SMALL,
-        Verb::Free(_) => true,
+    match fault {
+        LineFault::NoMemory => Err(NoMemory),
+        LineFault::Bytes => Ok(Cause::Bytes),
+        LineFault::Words => Ok(Cause::Words),
+        LineFault::Number => Ok(Cause::Number),
+        LineFault::Threads => Ok(Cause::LimitThreads),
+        LineFault::Range => Ok(Cause::Range),
     }
 }
 
-/// What a line asks for, or none where it can't be carried out.
-pub fn read_call(alloc: Global, line: &[u8]) -> Result<Option<Verb>, NoMemory>
-    ensures call { IfOk result (λ found. IfSome found (λ verb. SaysCall line.now verb)) }
-    ensures none { IfOk result (λ found. found ≡ None → SaysNone line.now) }
+/// Why a line that was read isn't carried out at a moment, in nanoseconds, if there is a cause.
+fn cause_of_line(now: u64, line: &Line) -> Option<Cause>
+    ensures { result ≡ line_cause now line.now }
 {
-    match trace_text::read(alloc, line) {
-        Ok(Line::Call { client: 0, verb }) if is_built(&verb) => Ok(Some(verb)),
-        Err(LineFault::NoMemory) => Err(NoMemory),
-        _ => Ok(None),
+    match line {
+        Line::At(moment) if *moment < now => Some(Cause::Clock),
+        Line::Call { verb, .. } | Line::Start { verb, .. } => cause_of_verb(verb),
+        Line::Phase | Line::Join => Some(Cause::Phase),
+        _ => None,
+    }
+}
+
+/// Why a call isn't carried out, if there is a cause.
+fn cause_of_verb(verb: &Verb) -> Option<Cause>
+    ensures { result ≡ verb_cause verb.now }
+{
+    match verb {
+        Verb::CtlPlain(_) | Verb::CtlWrite { .. } => Some(Cause::Unbuilt),
+        _ => None,
+    }
+}
+
+/// What the bytes of a line say at a moment, in nanoseconds, or the first cause for which that isn't carried out.
+pub fn read_line(alloc: Global, now: u64, text: &[u8]) -> Result<Result<Line, Cause>, NoMemory>
+    ensures { IfOk result (λ said. IsReading now text.now said) }
+{
+    match trace_text::read(alloc, text) {
+        Ok(line) => Ok(match cause_of_line(now, &line) {
+            Some(cause) => Err(cause),
+            None => Ok(line),
+        }),
+        Err(fault) => Ok(Err(cause_of_fault(fault)?)),
     }
 }

@@ -1,12 +1,14 @@
 //! What the names of a trace are bound to.
 
 ghost use Rattle.std.specs.Prelude.{◌≡◌, [], OnOk, OnErr};
-ghost use Rattle.replay_run.specs.Names.{address_in, named};
+ghost use Rattle.replay_run.specs.Names.{address_at, address_in, named};
+ghost use Rattle.replay_run.specs.World.{names_ended};
 
+use call_table::{Answered, Given};
 use indexmap::IndexMap;
 use std::alloc::{AllocError as NoMemory, Global};
 use std::marker::Model;
-use trace_text::Name;
+use trace_text::{Name, Ptr, Verb};
 
 /// The names that a trace has bound so far, which contracts see as the list of each with its address.
 ///
@@ -45,10 +47,36 @@ impl Names {
         Ok(())
     }
 
+    /// Binds the name of a malloc or a memalign whose answer gives a region to the region's address. Other calls bind none.
+    ///
+    /// An `Err` says that a new name found no memory, and leaves the names as they were.
+    pub fn bind_answer(&mut self, verb: Verb, answer: Answered) -> Result<(), NoMemory>
+        ensures bound { OnOk result (self.new ≡ names_ended self.old verb answer) }
+        ensures err { OnErr result (self.new ≡ self.old) }
+    {
+        match (verb, answer) {
+            (
+                Verb::Malloc { name, .. } | Verb::Memalign { name, .. },
+                Answered::Ok(Given::Region { addr, .. }),
+            ) => self.bind(name, addr),
+            _ => Ok(()),
+        }
+    }
+
     /// The address that the name is bound to, in bytes, or 0 where it is bound to none.
     pub fn address(&self, name: &Name) -> u64
         ensures { result ≡ address_in self.now name.now }
     {
         self.addresses.get(name).copied().unwrap_or(0)
+    }
+
+    /// The address, in bytes, that a pointer in a line stands for.
+    pub fn address_at(&self, target: &Ptr) -> u64
+        ensures { result ≡ address_at self.now target.now }
+    {
+        match target {
+            Ptr::Name(name) => self.address(name),
+            Ptr::At(addr) => *addr,
+        }
     }
 }

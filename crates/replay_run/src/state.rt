@@ -1,103 +1,180 @@
-//! What a replay keeps: the arena, its journal, and the asks so far.
+//! What a replay keeps while it runs.
 
-ghost use Rattle.std.specs.Prelude.{false, true, ◌≡◌, ◌<◌, ◌++◌, ◌∷◌, [], IsTrue, IfOk, OnOk, OnErr};
-ghost use Rattle.space_model.specs.Step.{stands, space_after, reply_to};
-ghost use Rattle.space_model.specs.Opening.{first_space};
-ghost use Rattle.arena_core.specs.Arenas.{opens, room_of, room_after};
-ghost use Rattle.hook_api.specs.Kept.{IsKept};
-ghost use Rattle.call_plan.specs.Desks.{facts_of};
-ghost use Rattle.replay_run.specs.World.{first_desk};
-ghost use Rattle.hook_api.specs.Shelf.{AskStep};
-ghost use Rattle.hook_api.specs.ShelfOf.{shelf_of};
+ghost use Rattle.std.specs.Prelude.{◌≡◌, length, None, replicate, IfOk};
 
 use crate::names::Names;
-use arena_core::Arena;
-use call_plan::Desk;
-use hook_api::{Asked, HookShelf, Kept};
-use space_model::{Ask, Entry, Op, Reply, Space};
+use crate::requests::arena_request;
+use call_table::{Answered, Request};
+use heap_core::{ARENAS, Heap};
+use space_model::Counts;
 use std::alloc::{AllocError as NoMemory, Global};
+use trace_text::{Ptr, Verb};
 
-/// The client whose lines are carried out.
-pub const CLIENT: u32 = 0;
+/// How many clients a heap has.
+const CLIENTS: u32 = 32;
 
 /// What a replay keeps while it runs.
 #[derive(Drop)]
 pub struct State {
-    /// Arena 0.
-    pub arena: Arena,
-    /// Its journal.
-    pub kept: Vec<Kept>,
-    /// The asks of the run, in order.
-    pub heard: Vec<Asked>,
-    /// What client 0 owns.
-    pub desk: Desk,
+    /// The arenas and the clients.
+    pub heap: Heap,
+    /// What each client's open call is, by client.
+    pub verbs: Vec<Option<Verb>>,
     /// The names that are bound.
     pub names: Names,
+    /// The moment in nanoseconds.
+    pub moment: u64,
+    ghost full: { length verbs.items ≡ 32 },
 }
 
 impl State {
+    ghost use Rattle.std.specs.Prelude.{◌<◌, [], None, Some, replicate, slice_set, IfOk, IfSome, OnOk};
+    ghost use Rattle.call_table.specs.Laws.{IsInRange};
+    ghost use Rattle.heap_core.specs.Arenas.{record_at};
+    ghost use Rattle.trace_text.specs.Grammar.{IsVerbWithinLimits};
+    ghost use Rattle.replay_run.specs.Names.{address_at};
+    ghost use Rattle.heap_core.specs.Heaps.{opening_heap};
+    ghost use Rattle.replay_run.specs.World.{arena_with, live_counts, names_closed, region_request, request_of, take_in, target_of, verb_at, verbs_closed};
+
     /// The opening state of a replay.
     pub fn new(alloc: Global) -> Result<State, NoMemory>
-        ensures space { IfOk result (λ state. state.arena.space ≡ first_space) }
-        ensures kept { IfOk result (λ state. state.kept.items ≡ []) }
-        ensures heard { IfOk result (λ state. state.heard.items ≡ []) }
-        ensures desk { IfOk result (λ state. facts_of state.desk ≡ first_desk) }
+        ensures heap { IfOk result (λ state. state.heap ≡ opening_heap) }
+        ensures verbs { IfOk result (λ state. state.verbs.items ≡ replicate 32 None) }
         ensures names { IfOk result (λ state. state.names ≡ []) }
+        ensures moment { IfOk result (λ state. state.moment ≡ 0) }
     {
         Ok(State {
-            arena: Arena::new(alloc, Space::first(alloc))?,
-            kept: Vec::new(alloc),
-            heard: Vec::new(alloc),
-            desk: Desk::new(alloc, CLIENT)?,
+            heap: Heap::new(alloc)?,
+            verbs: no_verbs(alloc)?,
             names: Names::new(alloc),
+            moment: 0,
         })
     }
 
-    /// One turn of a client. The entry joins the journal.
-    pub fn turn(&mut self, client: u32, op: Op, asked: Option<Asked>) -> Result<Reply, NoMemory>
-        requires stands { IsTrue (stands self.old.arena.space (record { client = client; op = op })) }
-        requires room { opens op ≡ false → 0 < room_of client self.old.arena.rooms }
-        requires kept { IsKept (record { client = client; op = op }) asked }
-        ensures space { OnOk result (self.new.arena.space ≡ space_after self.old.arena.space (record { client = client; op = op })) }
-        ensures reply { IfOk result (λ told. told ≡ reply_to self.old.arena.space (record { client = client; op = op })) }
-        ensures kept { OnOk result (self.new.kept.items ≡ self.old.kept.items ++ (record { entry = record { client = client; op = op }; asked = asked }) ∷ []) }
-        ensures heard { self.new.heard.items ≡ self.old.heard.items }
-        ensures room { OnOk result (room_of client self.new.arena.rooms ≡ room_after self.old.arena.space (room_of client self.old.arena.rooms) client op) }
-        ensures same { OnErr result (self.new.arena ≡ self.old.arena) }
-        ensures same_kept { OnErr result (self.new.kept.items ≡ self.old.kept.items) }
-        ensures desk { self.new.desk ≡ self.old.desk }
-        ensures names { self.new.names ≡ self.old.names }
+    /// The arenas and the clients, once the replay is over.
+    pub fn into_heap(self) -> Heap
+        ensures { result ≡ self.heap }
     {
-        self.kept.reserve(1)?;
-        let reply = self.arena.step(client, &op)?;
-        self.kept.push(Kept::new(Entry { client, op }, asked))?;
-        Ok(reply)
+        let State { heap, .. } = self;
+        heap
     }
 
-    /// One ask of the arena's box.
-    pub fn ask(&mut self, shelf: &mut HookShelf, ask: Ask) -> Result<Asked, NoMemory>
-        ensures ask { IfOk result (λ asked. asked.ask ≡ ask) }
-        ensures of_box { IfOk result (λ asked. asked.box_no ≡ self.old.arena.space.box_no) }
-        ensures heard { IfOk result (λ asked. self.new.heard.items ≡ self.old.heard.items ++ asked ∷ []) }
-        ensures step { IfOk result (λ asked. AskStep (shelf_of ExtentHooks-dyn shelf.old) asked (shelf_of ExtentHooks-dyn shelf.new)) }
-        ensures arena { self.new.arena ≡ self.old.arena }
-        ensures kept { self.new.kept.items ≡ self.old.kept.items }
-        ensures desk { self.new.desk ≡ self.old.desk }
-        ensures names { self.new.names ≡ self.old.names }
-        ensures same { OnErr result (self.new.heard.items ≡ self.old.heard.items) }
-        ensures same_shelf { OnErr result (shelf_of ExtentHooks-dyn shelf.new ≡ shelf_of ExtentHooks-dyn shelf.old) }
+    /// What a client's open call is.
+    pub fn verb(&self, client: u32) -> &Option<Verb>
+        requires { client < 32 }
+        ensures { result.now ≡ verb_at self.now.verbs.items client }
     {
-        self.heard.reserve(1)?;
-        let asked = shelf.ask(self.arena.box_no(), ask);
-        self.heard.push(asked)?;
-        Ok(asked)
+        &self.verbs[client as usize]
     }
 
-    /// The journal and the asks, once the run is over.
-    pub fn into_books(self) -> (Vec<Kept>, Vec<Asked>)
-        ensures kept { result.0.items ≡ self.kept.items }
-        ensures heard { result.1.items ≡ self.heard.items }
+    /// Keeps what a client's call is, which is open from now on.
+    pub fn open(&mut self, client: u32, verb: Verb)
+        requires { client < 32 }
+        ensures heap { self.new.heap ≡ self.old.heap }
+        ensures verbs { self.new.verbs.items ≡ slice_set self.old.verbs.items client (Some verb) }
+        ensures names { self.new.names ≡ self.old.names }
+        ensures moment { self.new.moment ≡ self.old.moment }
     {
-        (self.kept, self.heard)
+        self.verbs[client as usize] = Some(verb);
     }
+
+    /// What a call of a line asks for; nothing, where it takes a region at an address at which no arena has an extent, and where
+    /// it is one of `ctl`, which isn't carried out.
+    pub fn request_of(&self, verb: &Verb) -> Option<Request>
+        requires { IsVerbWithinLimits verb.now }
+        ensures request { result ≡ request_of self.now.heap.records self.now.names self.now.moment verb.now }
+        ensures range { IfSome result IsInRange }
+    {
+        match arena_request(verb, self.moment) {
+            Some(request) => Some(request),
+            None => self.region_request(verb),
+        }
+    }
+
+    /// What a call asks for that is about regions, if it is one.
+    fn region_request(&self, verb: &Verb) -> Option<Request>
+        ensures request { result ≡ region_request self.now.heap.records self.now.names verb.now }
+        ensures range { IfSome result IsInRange }
+    {
+        match verb {
+            Verb::Malloc { size, .. } => Some(Request::Malloc { size: *size }),
+            Verb::Memalign { align, size, .. } => Some(Request::Memalign {
+                align: *align,
+                size: *size,
+            }),
+            Verb::Free(target) => Some(Request::Free {
+                addr: self.names.address_at(target),
+            }),
+            Verb::Publish(target) => Some(Request::Publish {
+                addr: self.names.address_at(target),
+            }),
+            Verb::Take(target) => self.take_of(target),
+            _ => None,
+        }
+    }
+
+    /// A take of the region that a pointer stands for, where an arena has an extent there.
+    fn take_of(&self, target: &Ptr) -> Option<Request>
+        ensures request { result ≡ take_in (address_at self.now.names target.now) (arena_with self.now.heap.records (address_at self.now.names target.now)) }
+        ensures range { IfSome result IsInRange }
+    {
+        let addr = self.names.address_at(target);
+        let arena = self.heap.arena_of(addr)?;
+        Some(Request::Take { addr, arena })
+    }
+
+    /// The address that a call which asks for nothing looked for.
+    pub fn target_of(&self, verb: &Verb) -> u64
+        ensures { result ≡ target_of self.now.names verb.now }
+    {
+        match verb {
+            Verb::Take(target) => self.names.address_at(target),
+            _ => 0,
+        }
+    }
+
+    /// The counts of an arena, where it is live.
+    pub fn counts(&self, index: u32) -> Option<Counts>
+        ensures { result ≡ live_counts (record_at self.now.heap.records index).space }
+    {
+        if index >= ARENAS {
+            self.heap.stands();
+            return None;
+        }
+        let arena = self.heap.arena(index);
+        if arena.life().is_live() {
+            Some(arena.counts())
+        } else {
+            None
+        }
+    }
+
+    /// Where a client's open call has its answer, it is open no more, and its name is bound. `NoMemory` where a new name finds
+    /// none.
+    pub fn close(&mut self, client: u32, answer: Option<Answered>) -> Result<(), NoMemory>
+        requires { client < 32 }
+        ensures heap { self.new.heap ≡ self.old.heap }
+        ensures moment { self.new.moment ≡ self.old.moment }
+        ensures verbs { OnOk result (self.new.verbs.items ≡ verbs_closed self.old.verbs.items client answer) }
+        ensures names { OnOk result (self.new.names ≡ names_closed self.old.names (verb_at self.old.verbs.items client) answer) }
+    {
+        let Some(answer) = answer else {
+            return Ok(());
+        };
+        match self.verbs[client as usize].take() {
+            Some(verb) => self.names.bind_answer(verb, answer),
+            None => Ok(()),
+        }
+    }
+}
+
+/// No client has an open call.
+fn no_verbs(alloc: Global) -> Result<Vec<Option<Verb>>, NoMemory>
+    ensures { IfOk result (λ verbs. verbs.items ≡ replicate 32 None) }
+{
+    let mut verbs = Vec::new(alloc);
+    for _client in 0..CLIENTS {
+        verbs.push(None)?;
+    }
+    Ok(verbs)
 }

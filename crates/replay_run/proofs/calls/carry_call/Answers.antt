@@ -1,50 +1,32 @@
-use Rattle.std.proofs.Common.{[], sym, ◌∙◌, refl}
-use Rattle.call_plan.specs.Desks.{facts_of}
-use Rattle.trace_text.specs.declared.lines.Ptr.TheVariants.{At}
-use Rattle.trace_text.specs.declared.lines.Verb.{Verb}
-use Rattle.trace_text.specs.declared.lines.Verb.TheVariants.{Free as FreeVerb}
-use Rattle.replay_run.specs.Carried.{Desktop, world_of}
-use Rattle.replay_run.specs.World.{fed, call_of}
-use Rattle.replay_run.proofs.Begins.{way_begun, room_begun}
-use Rattle.replay_run.proofs.Runs.{start_sane, carried_ready}
+use Rattle.std.proofs.Common.{refl}
+use Rattle.replay_run.specs.World.{TheEnd, TheEndBefore, is_open}
+use Rattle.replay_run.proofs.Begins.{awaits_before, awaits_begun_only}
+use Rattle.replay_run.proofs.Stops.{goes_stop}
 use Rattle.replay_run.proofs.calls.carry_call.Goals as goal
 
-pub go_on-requires-clause-underway : goal.go_on-requires-clause-underway
-go_on-requires-clause-underway g c =
-    let start = c.in_ok-call.ensures in
-    let next = c.next-need.ensures in
-    let verb : Verb = FreeVerb (At 0) in
-    let top : Desktop = record { text = []; desk = facts_of c.args.state.now.desk; names = [] } in record {
-      start = fed (world_of c.args.state.now.arena.space c.args.state.now.kept.items top) (call_of top.desk verb c.args.request) [];
-      heard_before = c.args.state.now.heard.items;
-      shelf_before = _;
-      top = top;
-      call = call_of top.desk verb c.args.request;
-      sane = start_sane c.args.state.now.arena.space c.args.state.now.kept.items top verb c.args.request c.requires.ready c.requires.built;
-      way = way_begun c.args.state.now.heard.items _ top verb c.args.request c.requires.ready c.requires.built refl start.point next.point start.desk next.desk;
-      own = sym (next.client ∙ start.client ∙ c.requires.ready.client);
-    }
+pub returns-in_err-run_to_end-clause-goes : goal.returns-in_err-run_to_end-clause-goes
+returns-in_err-run_to_end-clause-goes g c = λ from count at so.
+    let waits = rw (awaits_before (is_open c.args.state.now.heap c.args.client) c.args.client c.args.verb c.args.whole) at so in
+    goes_stop from count _ c.from_residual.result c.in_err-run_to_end.field-0.0 _ c.from_residual.ensures.1
+    (c.in_err-run_to_end.ensures.goes from count (TheEndBefore c.args.client c.args.verb c.args.whole) at refl refl waits)
 
-pub go_on-requires-clause-room : goal.go_on-requires-clause-room
-go_on-requires-clause-room g c =
-    let start = c.in_ok-call.ensures in
-    let next = c.next-need.ensures in
-    rw (next.client ∙ start.client ∙ c.requires.ready.client) (room_begun c.args.state.now.arena c.args.request c.requires.ready c.requires.built start.point next.point)
+pub returns-in_err-begin_call-clause-goes : goal.returns-in_err-begin_call-clause-goes
+returns-in_err-begin_call-clause-goes g c = λ from count at so.
+    let waits = rw (awaits_before (is_open c.args.state.now.heap c.args.client) c.args.client c.args.verb c.args.whole) at so in
+    let ended = c.in_ok-run_to_end.ensures.goes from count (TheEndBefore c.args.client c.args.verb c.args.whole) at refl refl waits in
+    goes_stop from count _ c.from_residual-in_err-begin_call.result c.in_err-begin_call.field-0.0 _ c.from_residual-in_err-begin_call.ensures.1
+    (c.in_err-begin_call.ensures.goes from count c.args.whole _ at ended)
 
-pub returns-clause-carried : goal.returns-clause-carried
-returns-clause-carried g c = λ top verb own.
-    let start = c.in_ok-call.ensures in
-    let next = c.next-need.ensures in
-    c.go_on.ensures.carried _ c.args.state.now.heard.items _ top (call_of top.desk verb c.args.request) (sym (next.client ∙ start.client ∙ c.requires.ready.client))
-    (way_begun c.args.state.now.heard.items _ top verb c.args.request c.requires.ready c.requires.built own start.point next.point start.desk next.desk)
+pub returns-then-whole-clause-goes : goal.returns-then-whole-clause-goes
+returns-then-whole-clause-goes g c = λ from count at so.
+    let waits = rw (awaits_before (is_open c.args.state.now.heap c.args.client) c.args.client c.args.verb c.args.whole) at so in
+    let ended = c.in_ok-run_to_end.ensures.goes from count (TheEndBefore c.args.client c.args.verb c.args.whole) at refl refl waits in
+    let begun = c.in_ok-begin_call.ensures.goes from count c.args.whole _ at ended in
+    c.run_to_end-then-whole.ensures.goes from count (TheEnd c.args.client) at refl refl (rw c.if-whole.true at begun)
 
-pub returns-clause-ready : goal.returns-clause-ready
-returns-clause-ready g c =
-    let start = c.in_ok-call.ensures in
-    let next = c.next-need.ensures in
-    let verb : Verb = FreeVerb (At 0) in
-    let top : Desktop = record { text = []; desk = facts_of c.args.state.now.desk; names = [] } in
-    carried_ready c.go_on.result
-    (c.go_on.ensures.carried _ c.args.state.now.heard.items _ top (call_of top.desk verb c.args.request) (sym (next.client ∙ start.client ∙ c.requires.ready.client))
-    (way_begun c.args.state.now.heard.items _ top verb c.args.request c.requires.ready c.requires.built refl start.point next.point start.desk next.desk))
-    (start_sane c.args.state.now.arena.space c.args.state.now.kept.items top verb c.args.request c.requires.ready c.requires.built) c.requires.ready.client
+pub returns-else-whole-clause-goes : goal.returns-else-whole-clause-goes
+returns-else-whole-clause-goes g c = λ from count at so.
+    let waits = rw (awaits_before (is_open c.args.state.now.heap c.args.client) c.args.client c.args.verb c.args.whole) at so in
+    let ended = c.in_ok-run_to_end.ensures.goes from count (TheEndBefore c.args.client c.args.verb c.args.whole) at refl refl waits in
+    let begun = c.in_ok-begin_call.ensures.goes from count c.args.whole _ at ended in
+    rw (c.if-whole.false, awaits_begun_only c.args.client (is_open c.begin_call.new.state.heap c.args.client)) at begun

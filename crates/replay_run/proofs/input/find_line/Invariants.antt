@@ -1,4 +1,5 @@
 use Rattle.std.proofs.Common.{◌≤◌, length}
+use Rattle.edge_io.specs.Bytes.{Keeps}
 use Rattle.replay_run.specs.Input.{TakesMore}
 use Rattle.replay_run.proofs.input.find_line.Given as goal
 
@@ -8,5 +9,7 @@ invariant-loop g l = record {
   taken : TakesMore l.initial.pending l.pending (g.S.Source.left l.initial.source) (g.S.Source.left l.source);
   faults : g.S.Source.faults l.initial.source ≤ g.S.Source.faults l.source;
   grew : l.counter ≤ length l.pending;
+  kept : Keeps (g.K.Sink.held l.initial.sink) (g.K.Sink.held l.sink);
+  sink_faults : g.K.Sink.faults l.initial.sink ≤ g.K.Sink.faults l.sink;
   few : l.counter ≤ 257;
 }

@@ -1,60 +1,41 @@
-use Rattle.std.proofs.Common.{inl, inr, ◌≡◌, ℕ, List, Ok, refl, ◌∙◌, ap}
-use Rattle.std.proofs.KnownBytes.{Appends-nil}
-use Rattle.replay_run.specs.declared.input.Stop.TheVariants.{NoMemory}
-use Rattle.call_plan.specs.Desks.{facts_of}
-use Rattle.replay_run.specs.Carried.{Desktop}
-use Rattle.replay_run.specs.World.{answer_line, names_ended}
-use Rattle.replay_run.proofs.Replays.{without_cause, carried_line, answered_anyway}
-use Rattle.replay_run.proofs.Endings.{all_of, tells_part}
+use Rattle.std.proofs.Common.{refl}
+use Rattle.replay_run.proofs.ReadLines.{line_result, line_silent, reads_at, reads_blank, reads_call, reads_counts, reads_refuse, reads_start}
 use Rattle.replay_run.proofs.lines.carry_line.Goals as goal
 
-pub returns-in_err-answered-clause-carried : goal.returns-in_err-answered-clause-carried
-returns-in_err-answered-clause-carried g c text =
-    let top : Desktop = record { text = text; desk = facts_of c.args.state.now.desk; names = c.args.state.now.names } in
-    carried_line c.args.state.now.arena.space c.args.state.now.kept.items c.carry_call.result c.request_of-request.ensures.request
-    (c.carry_call.ensures.carried top c.args.verb refl) c.from_residual.result c.args.state.now.names _ (g.K.Sink.held c.args.sink.now) (g.K.Sink.held c.args.sink.now)
-    (tells_part c.args.verb (without_cause c.carry_call.result) c.from_residual.result NoMemory 0 0 c.args.state.now.names _ (g.K.Sink.held c.args.sink.now) (g.K.Sink.held c.args.sink.now)
-    c.from_residual.ensures.1 tt (inl (Appends-nil (g.K.Sink.held c.args.sink.now))))
+pub returns-in-Call-clause-goes : goal.returns-in-Call-clause-goes
+returns-in-Call-clause-goes g c = λ from count at so.
+    let free = rw c.in-Call.is at c.requires.cause in
+    c.carry_call.ensures.goes from count at (line_silent (rw c.in-Call.is at so) (reads_call _ c.in-Call.client c.in-Call.verb free) refl)
 
-pub returns-in_err-line-clause-carried : goal.returns-in_err-line-clause-carried
-returns-in_err-line-clause-carried g c text =
-    let top : Desktop = record { text = text; desk = facts_of c.args.state.now.desk; names = c.args.state.now.names } in
-    carried_line c.args.state.now.arena.space c.args.state.now.kept.items c.carry_call.result c.request_of-request.ensures.request
-    (c.carry_call.ensures.carried top c.args.verb refl) c.from_residual-in_err-line.result c.args.state.now.names _ (g.K.Sink.held c.args.sink.now) (g.K.Sink.held c.args.sink.now)
-    (tells_part c.args.verb (without_cause c.carry_call.result) c.from_residual-in_err-line.result NoMemory 0 0 c.args.state.now.names _ (g.K.Sink.held c.args.sink.now) (g.K.Sink.held c.args.sink.now)
-    c.from_residual-in_err-line.ensures.1 tt (inl (Appends-nil (g.K.Sink.held c.args.sink.now))))
+pub returns-in-Start-clause-goes : goal.returns-in-Start-clause-goes
+returns-in-Start-clause-goes g c = λ from count at so.
+    let free = rw c.in-Start.is at c.requires.cause in
+    c.carry_call-in-Start.ensures.goes from count at (line_silent (rw c.in-Start.is at so) (reads_start _ c.in-Start.client c.in-Start.verb free) refl)
 
-pub returns-in_err-print-clause-carried : goal.returns-in_err-print-clause-carried
-returns-in_err-print-clause-carried g c text =
-    let top : Desktop = record { text = text; desk = facts_of c.args.state.now.desk; names = c.args.state.now.names } in
-    let told : c.deref.result.now ≡ answer_line 0 c.args.verb c.in_ok-answered.answered = cc (c.deref.ensures.value, c.in_ok-line.ensures) in
-    let ok = answered_anyway c.carry_call.result c.in_ok-answered.answered c.in_ok-answered.was in
-    carried_line c.args.state.now.arena.space c.args.state.now.kept.items c.carry_call.result c.request_of-request.ensures.request
-    (c.carry_call.ensures.carried top c.args.verb refl) c.from_residual-in_err-print.result c.args.state.now.names _ (g.K.Sink.held c.args.sink.now) (g.K.Sink.held c.print.new.sink)
-    (tells_part c.args.verb (without_cause c.carry_call.result) c.from_residual-in_err-print.result _ _ _ c.args.state.now.names _ (g.K.Sink.held c.args.sink.now) (g.K.Sink.held c.print.new.sink)
-    c.from_residual-in_err-print.ensures.1 c.in_err-print.ensures.cause
-    (inr (c.in_ok-answered.answered, ok, rw told at c.in_err-print.ensures.beginning)))
+pub returns-in-Step-clause-goes : goal.returns-in-Step-clause-goes
+returns-in-Step-clause-goes g c = λ from count at so. c.step_line.ensures.goes from count at (rw c.in-Step.is at so)
 
-pub returns-in_err-bind-clause-carried : goal.returns-in_err-bind-clause-carried
-returns-in_err-bind-clause-carried g c text =
-    let top : Desktop = record { text = text; desk = facts_of c.args.state.now.desk; names = c.args.state.now.names } in
-    let told : c.deref.result.now ≡ answer_line 0 c.args.verb c.in_ok-answered.answered = cc (c.deref.ensures.value, c.in_ok-line.ensures) in
-    let ok = answered_anyway c.carry_call.result c.in_ok-answered.answered c.in_ok-answered.was in
-    carried_line c.args.state.now.arena.space c.args.state.now.kept.items c.carry_call.result c.request_of-request.ensures.request
-    (c.carry_call.ensures.carried top c.args.verb refl) c.from_residual-in_err-bind.result c.args.state.now.names _ (g.K.Sink.held c.args.sink.now) (g.K.Sink.held c.print.new.sink)
-    (tells_part c.args.verb (without_cause c.carry_call.result) c.from_residual-in_err-bind.result NoMemory 0 0 c.args.state.now.names _ (g.K.Sink.held c.args.sink.now) (g.K.Sink.held c.print.new.sink)
-    c.from_residual-in_err-bind.ensures.1 tt
-    (inr (c.in_ok-answered.answered, ok, all_of _ _ _ (rw told at c.in_ok-print.ensures.text))))
+pub returns-in-End-clause-goes : goal.returns-in-End-clause-goes
+returns-in-End-clause-goes g c = λ from count at so. c.end_line.ensures.goes from count at (rw c.in-End.is at so)
 
-pub returns-clause-carried : goal.returns-clause-carried
-returns-clause-carried g c text =
-    let top : Desktop = record { text = text; desk = facts_of c.args.state.now.desk; names = c.args.state.now.names } in
-    let told : c.deref.result.now ≡ answer_line 0 c.args.verb c.in_ok-answered.answered = cc (c.deref.ensures.value, c.in_ok-line.ensures) in
-    let ok = answered_anyway c.carry_call.result c.in_ok-answered.answered c.in_ok-answered.was in
-    carried_line c.args.state.now.arena.space c.args.state.now.kept.items c.carry_call.result c.request_of-request.ensures.request
-    (c.carry_call.ensures.carried top c.args.verb refl) (Ok tt) c.args.state.now.names _ (g.K.Sink.held c.args.sink.now) (g.K.Sink.held c.print.new.sink) (
-      c.in_ok-answered.answered,
-      ok,
-      rw told at c.in_ok-print.ensures.text,
-      c.in_ok-bind.ensures ∙ ap (λ (names : List (List ℕ × ℕ)). names_ended names c.args.verb c.in_ok-answered.answered) c.carry_call.ensures.names,
-    )
+pub returns-in-Counts-clause-goes : goal.returns-in-Counts-clause-goes
+returns-in-Counts-clause-goes g c = λ from count at so.
+    let told = c.print_counts.ensures in
+    line_result (rw c.in-Counts.is at so) (g.K.Sink.held c.print_counts.new.sink) (g.K.Sink.faults c.args.sink.now) (g.K.Sink.faults c.print_counts.new.sink) c.print_counts.result
+    (reads_counts _ c.in-Counts.index c.counts.result (g.K.Sink.held c.print_counts.new.sink) c.counts.ensures) told.text told.beginning told.cause
+
+pub returns-in-At-clause-goes : goal.returns-in-At-clause-goes
+returns-in-At-clause-goes g c = λ from count at so.
+    let free = rw c.in-At.is at c.requires.cause in line_silent (rw c.in-At.is at so) (reads_at _ c.in-At.moment free) refl
+
+pub returns-in-Refuse-clause-goes : goal.returns-in-Refuse-clause-goes
+returns-in-Refuse-clause-goes g c = λ from count at so. line_silent (rw c.in-Refuse.is at so) (reads_refuse _ c.in-Refuse.box_no c.in-Refuse.kind c.in-Refuse.nth _ c.plan.ensures) refl
+
+pub returns-in-Blank-clause-goes : goal.returns-in-Blank-clause-goes
+returns-in-Blank-clause-goes g c = λ from count at so. line_silent (rw c.in-Blank.is at so) (reads_blank _) refl
+
+pub returns-in-Phase-clause-goes : goal.returns-in-Phase-clause-goes
+returns-in-Phase-clause-goes g c = λ from count at so. let none = rw c.in-Phase.is at c.requires.cause in absurd (cc (none))
+
+pub returns-in-Join-clause-goes : goal.returns-in-Join-clause-goes
+returns-in-Join-clause-goes g c = λ from count at so. let none = rw c.in-Join.is at c.requires.cause in absurd (cc (none))

@@ -1,0 +1,179 @@
+-- The region that a memalign is given is aligned: each step of the call keeps what is so of its place.
+use Rattle.std.proofs.Common.{◌≡◌, ℕ, ◌%◌, ◌<◌, ◌==◌, Bool, true, false, All, inl, inr, List, [], ◌∷◌, ◌++◌, Option, None, Some, IfSome, length, get_or, refl, sym, ◌∙◌, ap, subst, arith, nat_lt}
+use Rattle.std.specs.List.{Contains, count_by}
+use Rattle.std.proofs.lemmas.Bool.{eqb-true, ltb-true}
+use Rattle.std.proofs.lemmas.Bool.Decides.{nat_tests}
+use Rattle.std.proofs.lemmas.List.{get_or_default}
+use Rattle.std.proofs.lemmas.List.Elements.{All-filter, All-head, All-tail}
+use Rattle.std.proofs.lemmas.List.Sums.{sum_by-cons}
+use Rattle.space_model.proofs.Lists.{ones}
+use Rattle.size_classes.specs.Classes.{align_at}
+use Rattle.space_model.specs.declared.Region.{Region as SpaceRegion}
+use Rattle.space_model.specs.declared.Space.{Space}
+use Rattle.space_model.specs.Region.{is_held_by}
+use Rattle.space_model.specs.Sound.{Sound}
+use Rattle.space_model.proofs.Pieces.{both_true}
+use Rattle.thread_cache.specs.declared.Held.{Held}
+use Rattle.thread_cache.specs.Caches.{cached_in}
+use Rattle.thread_cache.specs.Desks.{DeskFacts}
+use Rattle.thread_cache.proofs.Going.{cached_is_flat}
+use Rattle.call_table.specs.declared.needs.Answered.{Answered}
+use Rattle.call_table.specs.declared.needs.Answered.TheVariants.{Ok}
+use Rattle.call_table.specs.declared.needs.Given.TheVariants.{Region}
+use Rattle.call_table.specs.declared.needs.Item.{Item}
+use Rattle.call_table.specs.declared.needs.Request.{Request}
+use Rattle.call_table.specs.declared.needs.Request.TheVariants.{Memalign}
+use Rattle.call_table.specs.declared.points.Point.{Point}
+use Rattle.call_table.specs.declared.points.Next.{Next}
+use Rattle.call_table.specs.declared.points.Next.TheVariants.{Go, Over, More, Gone, Ends, Nowhere}
+use Rattle.call_table.specs.Aligned.{IsCacheAligned}
+use Rattle.call_table.specs.Calls.{CallFacts}
+use Rattle.call_table.specs.Causes.{AllCame, Came}
+use Rattle.call_table.specs.Desks.{desk_fed}
+use Rattle.call_table.specs.Runs.{Moment, after, begin, begin_memalign, begin_stage, run, settle, step_next}
+use Rattle.call_table.specs.Table.{step}
+use Rattle.call_table.proofs.Memaligns.{memaligns-are_aligned}
+use Rattle.heap_core.specs.Arenas.{IsArenas, opening_records, record_at}
+use Rattle.heap_core.specs.Heaps.{HeapFacts}
+use Rattle.heap_core.specs.Records.{Record}
+use Rattle.heap_core.specs.Seats.{Seat, asked_for, first_desk, first_seat, seat_at}
+use Rattle.heap_core.specs.Sitting.{Has, IsSeated, SitsAt, is_region}
+use Rattle.heap_core.proofs.Clients.{sound_at}
+use Rattle.heap_core.proofs.Hands.{had_counts}
+use Rattle.heap_core.proofs.Settling.{Owns, count_in, counts_low, has_owns}
+use Rattle.heap_core.proofs.Sitting.{opening-sits}
+use Rattle.heap_core.proofs.Turned.{opening_is, past}
+use Rattle.replay_run.specs.Answers.{IsAligned, IsAlignedFor, MemalignsAreAligned, Tale, answer_in, tale_fed, tale_in}
+use Rattle.replay_run.specs.Plays.{Event, IsSound}
+use Rattle.replay_run.specs.World.{World}
+use Rattle.replay_run.proofs.Getting.{Gets, begin_gets, step_gets}
+use Rattle.replay_run.proofs.Tales.{EndsWith, IsEnded, Kept, each_event}
+
+-- a region stands at a multiple of the alignment of its class
+abbrev IsRegionAligned : SpaceRegion → Type 0
+IsRegionAligned r = r.addr % align_at r.class ≡ 0
+
+counted_aligned : (a k : ℕ) (rs : List SpaceRegion) → All IsRegionAligned rs → 0 < count_by (is_region a k) rs → a % align_at k ≡ 0
+counted_aligned a k [] all some = absurd (omega (arith, some))
+counted_aligned a k (r ∷ rs) all some =
+    elim (is_region a k r) as (λ v. is_region a k r ≡ v → a % align_at k ≡ 0) [
+      | true ↦ λ e.
+          let same = region_is a k r e in
+          subst (λ n. n % align_at k ≡ 0) same.0 (subst (λ n. r.addr % align_at n ≡ 0) same.1 (All-head IsRegionAligned r rs all))
+      | false ↦ λ e.
+          let one : ones (is_region a k r) ≡ 0 = ap ones e in
+          counted_aligned a k rs (All-tail IsRegionAligned r rs all) (omega (arith, some, one, sum_by-cons (λ (q : SpaceRegion). ones (is_region a k q)) r rs))
+    ] refl
+  where
+    region_is : (a k : ℕ) (r : SpaceRegion) → is_region a k r ≡ true → (r.addr ≡ a) × (r.class ≡ k)
+    region_is a k r e = let both = both_true (r.addr == a) (r.class == k) e in (eqb-true r.addr a both.0, eqb-true r.class k both.1)
+
+-- a client that is as it has to be has what it has among the arenas
+sound_has : (records : List Record) (c : ℕ) (desk : DeskFacts) (call : Option CallFacts) → IsSeated records c desk call → Has records c desk
+sound_has records c desk None rests = rests.has
+sound_has records c desk (Some call) seated = by call.stage.next seated.1
+  where
+    by : (next : Next) → SitsAt records c desk call next → Has records c desk
+    by (Go point) sits = sits.has
+    by next sits = absurd sits
+
+-- each region that it has cached is aligned
+has_aligned : (records : List Record) (c : ℕ) (desk : DeskFacts) → IsArenas records → Has records c desk → IsCacheAligned desk
+has_aligned records c desk is has class small i d within =
+    let owns : Owns records c [] desk = has_owns records c desk has in
+    let list : List Held = cached_in desk.cached class in
+    let r : Held = get_or list i d in
+    let there : Contains list r = (i, within, get_or_default list i r d within) in
+    let counts : 0 < count_in records c r.arena r.addr r.class = had_counts (count_in records c) desk r owns.hands (inr (inl (cached_is_flat desk.cached class r there))) owns.shaped in
+    let s : Space = (record_at records r.arena).space in
+    let sound : Sound s = sound_at records r.arena is (counts_low records c r.arena r.addr r.class is counts) in
+    let aligned : r.addr % align_at r.class ≡ 0 = counted_aligned r.addr r.class _ (All-filter (is_held_by c) IsRegionAligned s.regions sound.aligned) counts in
+    subst (λ k. r.addr % align_at k ≡ 0) (has.classed class i d within) aligned
+
+cache_aligned : (h : HeapFacts) (c : ℕ) → IsSound h → length h.seats ≡ 32 → IsCacheAligned (seat_at h.seats c).desk
+cache_aligned h c sound all = by (nat_lt c 32) refl
+  where
+    by : (v : Bool) → nat_lt c 32 ≡ v → IsCacheAligned (seat_at h.seats c).desk
+    by true e = has_aligned h.records c (seat_at h.seats c).desk sound.arenas (sound_has h.records c (seat_at h.seats c).desk (seat_at h.seats c).call (sound.seats c (ltb-true c 32 e)))
+    by false e = subst (λ (x : Seat). IsCacheAligned x.desk) (sym (past h.seats c first_seat (grind (arith, nat_tests)))) (has_aligned opening_records 0 first_desk opening_is (opening-sits 0 (omega arith)).has)
+
+-- the run of a call goes on by an item that came of what was wanted
+run_push : (at : Moment) (items : List Item) (item : Item) → run at (items ++ item ∷ []) ≡ after (run at items) item
+run_push at [] item = refl
+run_push at (first ∷ items) item = run_push (after at first) items item
+
+came_push : (c : ℕ) (at : Moment) (items : List Item) (item : Item) → AllCame c at items → Came c (run at items).stage.next item → AllCame c at (items ++ item ∷ [])
+came_push c at [] item all came = (came, tt)
+came_push c at (first ∷ items) item all came = (all.0, came_push c (after at first) items item all.1 came)
+
+-- a call that waits at a point, or was given a region, is where the run of what it was fed is
+abbrev Follows : ℕ → Moment → List Item → Next → Type 0
+Follows c start items (Go point) = AllCame c start items × ((run start items).stage.next ≡ Go point)
+Follows c start items (Ends (Ok (Region addr class))) = AllCame c start items × ((run start items).stage.next ≡ Ends (Ok (Region addr class)))
+Follows c start items next = Unit {0}
+
+settled_follows : (c : ℕ) (start : Moment) (items : List Item) (request : Request) (desk : DeskFacts) (arena : ℕ) (next : Next) → AllCame c start items →
+    (run start items).stage.next ≡ (settle request desk arena next).next → Follows c start items next
+settled_follows c start items request desk arena (Go point) all is = (all, is)
+settled_follows c start items request desk arena (Ends (Ok (Region addr class))) all is = (all, is)
+settled_follows c start items request desk arena next all is = tt
+
+begun_follows : (c : ℕ) (start : Moment) (next : Next) → start.stage.next ≡ next → Follows c start [] next
+begun_follows c start (Go point) is = (tt, is)
+begun_follows c start (Ends (Ok (Region addr class))) is = (tt, is)
+begun_follows c start next is = tt
+
+-- a memalign began with an aligned cache, gets a region, and is where the run of what it was fed is
+abbrev AlignsAt : ℕ → Request → Tale → Next → Type 0
+AlignsAt c (Memalign align size) tale next = IsCacheAligned tale.began × Gets next × Follows c (begin (Memalign align size) tale.began) tale.items next
+AlignsAt c request tale next = Unit {0}
+
+abbrev Aligns : ℕ → Tale → Next → Type 0
+Aligns c tale next = AlignsAt c tale.request tale next
+
+begins_aligned : (c : ℕ) (request : Request) (desk : DeskFacts) → IsCacheAligned desk → AlignsAt c request (record { began = desk; request = request; items = [] }) (begin_stage request desk).next
+begins_aligned c (Memalign align size) desk cached = (cached, begin_gets align size desk, begun_follows c (begin (Memalign align size) desk) (begin_memalign align size desk).next refl)
+begins_aligned c request desk cached = tt
+
+steps_aligned : (c : ℕ) (request : Request) (tale : Tale) (point : Point) (item : Item) → AlignsAt c request tale (Go point) → Came c (Go point) item → AlignsAt c request (tale_fed item tale) (step point item)
+steps_aligned c (Memalign align size) tale point item (cached, gets, (all, is)) came =
+    let start : Moment = begin (Memalign align size) tale.began in
+    let at : Moment = run start tale.items in
+    let desk : DeskFacts = desk_fed at.desk at.stage.arena at.stage.next item in
+    let more : AllCame c start (tale.items ++ item ∷ []) = came_push c start tale.items item all (subst (λ (n : Next). Came c n item) (sym is) came) in
+    let goes : (run start (tale.items ++ item ∷ [])).stage.next ≡ (settle at.request desk at.stage.arena (step point item)).next =
+    ap (λ (m : Moment). m.stage.next) (run_push start tale.items item) ∙ ap (λ (n : Next). (settle at.request desk at.stage.arena (step_next n item)).next) is in
+    (cached, step_gets point item gets, settled_follows c start (tale.items ++ item ∷ []) at.request desk at.stage.arena (step point item) more goes)
+steps_aligned c request tale point item so came = tt
+
+settles_aligned : (c : ℕ) (request : Request) (tale : Tale) (now : DeskFacts) (arena : ℕ) (next : Next) → AlignsAt c request tale next → AlignsAt c request tale (settle request now arena next).next
+settles_aligned c (Memalign align size) tale now arena (Go point) so = so
+settles_aligned c (Memalign align size) tale now arena (Over index point) so = absurd so.1
+settles_aligned c (Memalign align size) tale now arena More so = absurd so.1
+settles_aligned c (Memalign align size) tale now arena Gone so = (so.0, tt, tt)
+settles_aligned c (Memalign align size) tale now arena (Ends answer) so = so
+settles_aligned c (Memalign align size) tale now arena Nowhere so = so
+settles_aligned c request tale now arena next so = tt
+
+aligns_kept : Kept Aligns
+aligns_kept = record {
+  begins = λ h c request sound clients. begins_aligned c (asked_for h.seats c request) (seat_at h.seats c).desk (cache_aligned h c sound clients);
+  steps = λ c tale point item so came. steps_aligned c tale.request tale point item so came;
+  settles = λ c tale now arena next so. settles_aligned c tale.request tale now arena next so;
+}
+
+answer_aligned : (c : ℕ) (request : Request) (tale : Tale) (answer : Answered) → AlignsAt c request tale (Ends answer) → IsAlignedFor request answer
+answer_aligned c (Memalign align size) tale (Ok (Region addr class)) (cached, gets, (all, is)) = memaligns-are_aligned c align size tale.began tale.items addr class cached all is
+answer_aligned c request tale answer so = tt
+
+given_aligned : (w : World) (event : Event) (answer : Option Answered) (tale : Option Tale) → IfSome answer (EndsWith Aligns w event tale) →
+    IfSome answer (λ given. IfSome tale (λ told. IsAlignedFor told.request given))
+given_aligned w event None tale ends = tt
+given_aligned w event (Some answer) None ends = tt
+given_aligned w event (Some answer) (Some tale) ends = answer_aligned ends.0 tale.request tale answer ends.1
+
+event_aligned : (w : World) (tales : List (Option Tale)) (event : Event) → IsEnded Aligns w tales event → IsAligned w tales event
+event_aligned w tales event ends = given_aligned w event (answer_in w event) (tale_in w tales event) ends
+
+pub plays-are_aligned : MemalignsAreAligned
+plays-are_aligned events play sound = each_event Aligns IsAligned event_aligned aligns_kept events play sound

@@ -1,0 +1,63 @@
+-- The asks of a play are those that its heap has heard.
+use Rattle.std.proofs.Common.{◌≡◌, ℕ, Bool, true, false, List, [], ◌∷◌, ◌++◌, Option, None, Some, refl, sym, ◌∙◌, ap, append-nil, append_assoc}
+use Rattle.space_model.specs.declared.Op.{Op}
+use Rattle.thread_cache.specs.declared.Held.{Held}
+use Rattle.hook_api.specs.Asked.{AskFacts}
+use Rattle.call_table.specs.declared.needs.Answered.{Answered}
+use Rattle.call_table.specs.declared.needs.Request.{Request}
+use Rattle.call_table.specs.Calls.{CallFacts}
+use Rattle.heap_core.specs.Heaps.{HeapFacts, holder_for, published_for, region_for, started, turned_for}
+use Rattle.heap_core.specs.Seats.{answer_of, begun}
+use Rattle.trace_text.specs.declared.lines.Line.{Line}
+use Rattle.trace_text.specs.declared.lines.Line.TheVariants.{Step, End}
+use Rattle.trace_text.specs.declared.lines.Verb.{Verb}
+use Rattle.replay_run.specs.Plays.{Event, Read, Began, Turned, Told, Starved, Unnamed, after_event, ask_in, asks_in, world_after}
+use Rattle.replay_run.specs.SoFar.{Came, Now, Outset}
+use Rattle.replay_run.specs.World.{Awaits, World, awaits_or_idle, begins, begun_as, is_open, line_read, opening, request_of}
+
+-- no line asks anything
+idle_hears : (w : World) (c : ℕ) (open_call : Bool) (awaits : Awaits) → (awaits_or_idle w c open_call awaits).heap.heard ≡ w.heap.heard
+idle_hears w c true awaits = refl
+idle_hears w c false awaits = refl
+
+line_hears : (w : World) (line : Line) → (line_read w line).heap.heard ≡ w.heap.heard
+line_hears w (Step c) = idle_hears w c (is_open w.heap c) _
+line_hears w (End c) = idle_hears w c (is_open w.heap c) _
+line_hears w line = refl
+
+-- no call asks anything where it begins
+begun_hears : (w : World) (c : ℕ) (verb : Verb) (whole : Bool) (answer : Option Answered) → (begun_as w c verb whole answer).heap.heard ≡ w.heap.heard
+begun_hears w c verb whole None = refl
+begun_hears w c verb whole (Some answer) = refl
+
+begins_hears : (w : World) (c : ℕ) (verb : Verb) (whole : Bool) (request : Option Request) → (begins w c verb whole request).heap.heard ≡ w.heap.heard
+begins_hears w c verb whole None = refl
+begins_hears w c verb whole (Some request) = begun_hears (record w { heap = started w.heap c request }) c verb whole (answer_of (begun w.heap.seats c request))
+
+-- nor does a turn
+published_hears : (h : HeapFacts) (c : ℕ) (call : CallFacts) (holder : ℕ) (region : Option Held) → (published_for h c call holder region).heard ≡ h.heard
+published_hears h c call holder None = refl
+published_hears h c call holder (Some region) = refl
+
+turned_hears : (h : HeapFacts) (c : ℕ) (call : CallFacts) (op : Op) (asked : Option AskFacts) (holder : Option ℕ) → (turned_for h c call op asked holder).heard ≡ h.heard
+turned_hears h c call op asked None = refl
+turned_hears h c call op asked (Some holder) = published_hears h c call holder (region_for h call holder)
+
+-- the ask of an event is heard after it
+event_hears : (w : World) (event : Event) → (after_event w event).heap.heard ≡ w.heap.heard ++ ask_in event
+event_hears w (Read line) = line_hears w line ∙ sym (append-nil w.heap.heard)
+event_hears w (Began c verb whole) = begins_hears w c verb whole (request_of w.heap.records w.names w.moment verb) ∙ sym (append-nil w.heap.heard)
+event_hears w (Turned c call op asked) = turned_hears w.heap c call op asked (holder_for w.heap call) ∙ sym (append-nil w.heap.heard)
+event_hears w (Told c call asked) = refl
+event_hears w (Starved c call) = sym (append-nil w.heap.heard)
+event_hears w (Unnamed c call op asked) = sym (append-nil w.heap.heard)
+
+-- the asks of a play are heard after it
+play_hears : (w : World) (events : List Event) → (world_after w events).heap.heard ≡ w.heap.heard ++ asks_in events
+play_hears w [] = sym (append-nil w.heap.heard)
+play_hears w (event ∷ events) =
+    play_hears (after_event w event) events ∙ ap (λ (xs : List AskFacts). xs ++ asks_in events) (event_hears w event) ∙ append_assoc w.heap.heard (ask_in event) (asks_in events)
+
+-- those of a play from the opening world are all that was heard
+pub came_asks : {from : Outset} {count : ℕ} {awaits : Awaits} {ahead : List Line} {text : List ℕ} {now : Now} → (came : Came from count awaits ahead text now) → asks_in came.events ≡ now.heap.heard
+came_asks {from} {count} {awaits} {ahead} {text} {now} came = sym (play_hears opening came.events) ∙ ap (λ (w : World). w.heap.heard) came.here

@@ -1,0 +1,193 @@
+-- Replays at their beginning and at their end.
+use Rattle.std.proofs.Common.{arith, length, map, true, IfErr, IfOk, replicate, ◌≡◌, ◌≤◌, ◌⊎◌, inl, inr, ℕ, Bool, List, [], ◌++◌, eqb, false, Option, None, Result, Ok, Err, refl, sym, ◌∙◌, subst}
+use Rattle.std.specs.Result.{IsErrAnd}
+use Rattle.std.proofs.KnownBytes.{Appends-nil, Consumes-nil}
+use Rattle.std.proofs.lemmas.List.Elements.{All-nil}
+use Rattle.edge_io.specs.Bytes.{Consumes, Keeps, Rose}
+use Rattle.hook_api.specs.Asked.{AskFacts}
+use Rattle.hook_api.specs.Shelf.{Shelf}
+use Rattle.hook_api.specs.declared.kept.Journal.{Journal}
+use Rattle.heap_core.specs.Arenas.{journal_of}
+use Rattle.heap_core.specs.Heaps.{opening_heap}
+use Rattle.replay_run.specs.declared.input.Stop.{Stop}
+use Rattle.replay_run.specs.declared.input.Stop.TheVariants.{NoMemory, ReadFault, WriteFault}
+use Rattle.report_text.specs.declared.causes.Cause.{Cause}
+use Rattle.replay_run.specs.Causes.{status_of}
+use Rattle.replay_run.specs.Input.{TakesSome}
+use Rattle.replay_run.specs.Plays.{IsSound, lines_in, world_after}
+use Rattle.replay_run.specs.Replays.{Ending, IsEnding, Open, Prints, ReplayOf, ending_text}
+use Rattle.replay_run.specs.SoFar.{Here, Now, Outset}
+use Rattle.replay_run.specs.Stops.{HasStopCause, status_for, status_in}
+use Rattle.replay_run.specs.World.{Nothing, World, opening}
+use Rattle.replay_run.proofs.Endings.{kept_after, kept_begun, sink_fault}
+use Rattle.replay_run.proofs.Stops.{status_cause}
+
+-- ---- the beginning
+
+-- before the first line nothing was carried out
+pub here_none : (from : Outset) (now : Now) → now.heap ≡ opening_heap → now.verbs ≡ replicate 32 None → now.names ≡ [] → now.moment ≡ 0 → now.pending ≡ [] →
+    now.shelf ≡ from.shelf → now.left ≡ from.left → now.held ≡ from.held → IsSound now.heap → Here from 0 Nothing [] now
+here_none from now heap verbs names moment none shelf left held sound = record {
+  text = [];
+  came = record {
+    events = [];
+    play = tt;
+    here = rw (heap, verbs, names, moment) refl;
+    sound = subst IsSound heap sound;
+    chain = shelf;
+    taken = [];
+    takes = rw left (Consumes-nil from.left);
+    reads = sym none;
+    number = refl;
+    few = omega arith;
+  };
+  prints = rw held (Appends-nil from.held);
+}
+
+-- ---- the end
+
+-- a stop that was passed on
+pub replay_passed : {journals : List Journal} {heard : List AskFacts} {shelf_before shelf_after : Shelf} {met : Bool} {left_before left before after : Option (List ℕ)} (r : Result ℕ Stop) (stop : Stop) →
+    IsErrAnd r (λ passed. passed ≡ stop) → ReplayOf (status_for stop) journals heard shelf_before shelf_after met left_before left before after →
+    ReplayOf (status_in r) journals heard shelf_before shelf_after met left_before left before after
+replay_passed (Ok status) stop is replay = absurd is
+replay_passed (Err passed) stop is replay = rw is replay
+
+-- no bytes were taken where the end was looked for
+pub takes_none : (failed : Type 0) (pending : List ℕ) (before left : Option (List ℕ)) → pending ≡ [] → Consumes before left [] → TakesSome failed pending before left
+takes_none failed pending before left none takes = ([], takes, λ fault. rw none (All-nil (λ (b : ℕ). eqb b 10 ≡ false)))
+
+-- a status without a whole text
+abbrev pub IsPartial : ℕ → Type 0
+IsPartial status = (status ≡ 5) ⊎ (status ≡ 6)
+
+-- what was printed, where the sink keeps what it holds
+prints_kept : {status : ℕ} {w : World} {count : ℕ} {rest : List ℕ} {ending : Ending} {before held after : Option (List ℕ)} → Prints status w count rest ending before held → Keeps held after →
+    Prints status w count rest ending before after
+prints_kept {status} {w} {count} {rest} {ending} {before} {held} {after} prints kept =
+    let text : List ℕ = w.text ++ ending_text w count ending in record {
+      beginning = kept_begun before held after text prints.beginning kept;
+      whole = λ is. let p = prints.whole is in (p.0, kept_after before held after text p.1 kept);
+      refused = λ is. let p = prints.refused is in (p.0, p.1, p.2, kept_after before held after text p.3 kept);
+      limited = λ is. let p = prints.limited is in (p.0, p.1, p.2, kept_after before held after text p.3 kept);
+      cut_off = λ is. let p = prints.cut_off is in (p.0, p.1, p.2, kept_after before held after w.text p.3 kept);
+    }
+
+prints_partly : {status : ℕ} {w : World} {count : ℕ} {rest : List ℕ} {ending : Ending} {before held after : Option (List ℕ)} (other : ℕ) → IsPartial other → Prints status w count rest ending before held → Keeps held after →
+    Prints other w count rest ending before after
+prints_partly {status} {w} {count} {rest} {ending} {before} {held} {after} other part prints kept = record {
+  beginning = kept_begun before held after (w.text ++ ending_text w count ending) prints.beginning kept;
+  whole = λ is. absurd (omega (arith, part, is));
+  refused = λ is. absurd (omega (arith, part, is));
+  limited = λ is. absurd (omega (arith, part, is));
+  cut_off = λ is. absurd (omega (arith, part, is));
+}
+
+prints_or : {status : ℕ} {w : World} {count : ℕ} {rest : List ℕ} {ending : Ending} {before held after : Option (List ℕ)} (other : ℕ) → (other ≡ status) ⊎ IsPartial other → Prints status w count rest ending before held → Keeps held after →
+    Prints other w count rest ending before after
+prints_or other (inl same) prints kept = rw same (prints_kept prints kept)
+prints_or other (inr part) prints kept = prints_partly other part prints kept
+
+-- a replay ends with another status, which says less, and its sink keeps what it holds
+pub replay_or : {status : ℕ} {journals : List Journal} {heard : List AskFacts} {shelf_before shelf_after : Shelf} {met : Bool} {left_before left before held after : Option (List ℕ)} (other : ℕ) →
+    (other ≡ status) ⊎ IsPartial other → Keeps held after → ReplayOf status journals heard shelf_before shelf_after met left_before left before held →
+    ReplayOf other journals heard shelf_before shelf_after met left_before left before after
+replay_or other which kept replay = record {
+  events = replay.events;
+  play = replay.play;
+  sound = replay.sound;
+  in_journals = replay.in_journals;
+  hears = replay.hears;
+  chain = replay.chain;
+  taken = replay.taken;
+  takes = replay.takes;
+  rest = replay.rest;
+  reads = replay.reads;
+  few = replay.few;
+  ending = replay.ending;
+  ends = replay.ends;
+  prints = prints_or other which replay.prints kept;
+}
+
+-- the status after the last flush, and where memory for the lists was wanting
+pub last_status : (ended flushed : Result ℕ Stop) (status : ℕ) {T : Type 0} → (flushed ≡ ended) ⊎ ((flushed ≡ Err WriteFault) × T) → (status ≡ status_in flushed) ⊎ (status ≡ 6) → (status ≡ status_in ended) ⊎ IsPartial status
+last_status ended flushed status {T} which (inr memory) = inr (inr memory)
+last_status ended flushed status {T} (inl same) (inl is) = inl (rw same at is)
+last_status ended flushed status {T} (inr fault) (inl is) = inr (inl (rw fault.0 at is))
+
+-- without memory for a heap nothing happens
+pub replay_none : (shelf : Shelf) (met : Bool) (left held : Option (List ℕ)) → IsSound opening_heap → ReplayOf 6 (map journal_of opening_heap.records) [] shelf shelf met left left held held
+replay_none shelf met left held sound = record {
+  events = [];
+  play = tt;
+  sound = sound;
+  in_journals = refl;
+  hears = refl;
+  chain = refl;
+  taken = [];
+  takes = Consumes-nil left;
+  rest = [];
+  reads = refl;
+  few = omega arith;
+  ending = Open;
+  ends = tt;
+  prints = record {
+    beginning = (0, omega arith, Appends-nil held);
+    whole = λ is. absurd (omega (arith, is));
+    refused = λ is. absurd (omega (arith, is));
+    limited = λ is. absurd (omega (arith, is));
+    cut_off = λ is. absurd (omega (arith, is));
+  };
+}
+
+-- ---- statuses and causes
+
+-- the statuses with which a replay went on to its end
+abbrev pub IsWholeStatus : ℕ → Type 0
+IsWholeStatus status = (status ≡ 0) ⊎ (status ≡ 3) ⊎ (status ≡ 7)
+
+pub status_closed : (r : Result ℕ Stop) → IfOk r (λ told. told ≡ 0) → IfOk r IsWholeStatus
+status_closed (Ok status) is = inl is
+status_closed (Err stop) is = tt
+
+pub status_bad : (r : Result ℕ Stop) (cause : Cause) → IfOk r (λ told. told ≡ status_of cause) → IfOk r IsWholeStatus
+status_bad (Ok status) cause is = inr (rw is (status_cause cause))
+status_bad (Err stop) cause is = tt
+
+pub status_flushed : (ended flushed : Result ℕ Stop) {T : Type 0} → (flushed ≡ ended) ⊎ ((flushed ≡ Err WriteFault) × T) → IfOk ended IsWholeStatus → IfOk flushed IsWholeStatus
+status_flushed ended flushed {T} (inl same) is = rw same is
+status_flushed ended flushed {T} (inr fault) is = rw fault.0 tt
+
+-- a count that rose from a later one rose from an earlier one, and to a later one
+rose_wider : (low old new high : ℕ) → low ≤ old → new ≤ high → Rose old new → Rose low high
+rose_wider low old new high below above (inl rose) = inl (omega (arith, below, above, rose))
+rose_wider low old new high below above (inr greatest) = inr (omega (arith, above, greatest))
+
+stop_wider : (stop : Stop) (s s' low old new : ℕ) → low ≤ old → HasStopCause stop 0 0 old new → HasStopCause stop s s' low new
+stop_wider ReadFault s s' low old new below rose = absurd (sink_fault ReadFault old new rose refl)
+stop_wider WriteFault s s' low old new below rose = rose_wider low old new new below (omega arith) rose
+stop_wider NoMemory s s' low old new below rose = tt
+
+-- the cause of a stop that used only the sink
+pub cause_wider : {T : Type 0} (r : Result T Stop) (s s' low old new : ℕ) → low ≤ old → IfErr r (λ stop. HasStopCause stop 0 0 old new) → IfErr r (λ stop. HasStopCause stop s s' low new)
+cause_wider (Ok done) s s' low old new below cause = tt
+cause_wider (Err stop) s s' low old new below cause = stop_wider stop s s' low old new below cause
+
+-- where a read failed, the count of the source rose
+pub read_rose : (ended flushed : Result ℕ Stop) (s s' k k' : ℕ) {T : Type 0} → (flushed ≡ ended) ⊎ ((flushed ≡ Err WriteFault) × T) → flushed ≡ Err ReadFault →
+    IfErr ended (λ stop. HasStopCause stop s s' k k') → Rose s s'
+read_rose ended flushed s s' k k' {T} (inl same) fault cause = rw (sym same ∙ fault) at cause
+read_rose ended flushed s s' k k' {T} (inr other) fault cause = absurd (cc (other.0, fault))
+
+-- where a write failed, that of the sink did
+pub write_rose : (ended flushed : Result ℕ Stop) (s s' k k' k'' : ℕ) → (flushed ≡ ended) ⊎ ((flushed ≡ Err WriteFault) × Rose k' k'') → flushed ≡ Err WriteFault → k ≤ k' → k' ≤ k'' →
+    IfErr ended (λ stop. HasStopCause stop s s' k k') → Rose k k''
+write_rose ended flushed s s' k k' k'' (inl same) fault below above cause = rose_wider k k k' k'' (omega arith) above (rw (sym same ∙ fault) at cause)
+write_rose ended flushed s s' k k' k'' (inr other) fault below above cause = rose_wider k k' k'' k'' below (omega arith) other.1
+
+-- at status 0 the source has met its end
+pub replay_ended : {status : ℕ} {journals : List Journal} {heard : List AskFacts} {shelf_before shelf_after : Shelf} {met : Bool} {left_before left before after : Option (List ℕ)} →
+    ReplayOf status journals heard shelf_before shelf_after met left_before left before after → status ≡ 0 → met ≡ true
+replay_ended {status} {journals} {heard} {shelf_before} {shelf_after} {met} {left_before} {left} {before} {after} replay zero =
+    let whole = replay.prints.whole zero in
+    (subst (IsEnding (world_after opening replay.events) (length (lines_in replay.events)) replay.rest left met) whole.0 replay.ends).3

@@ -1,0 +1,138 @@
+-- A line that is read is an event.
+use Rattle.std.proofs.Common.{◌≡◌, ◌≢◌, ℕ, Bool, true, false, List, [], ◌∷◌, ◌++◌, Option, None, Result, Ok, Err, IfErr, OnOk, OnErr, refl, sym, ◌∙◌, ap, subst, append-nil}
+use Rattle.std.proofs.KnownBytes.{Appends-nil, Appends-trans}
+use Rattle.edge_io.specs.Bytes.{Appends, AppendsPrefix}
+use Rattle.hook_api.specs.Chain.{Chain}
+use Rattle.hook_api.specs.Shelf.{PlanStep, Shelf}
+use Rattle.hook_api.specs.declared.plans.Kind.{Kind}
+use Rattle.space_model.specs.declared.Counts.{Counts}
+use Rattle.heap_core.specs.Arenas.{record_at}
+use Rattle.report_text.specs.Lines.{idle_line}
+use Rattle.trace_text.specs.declared.lines.Line.{Line}
+use Rattle.trace_text.specs.declared.lines.Line.TheVariants.{Blank, Call, Start, Step, End, At, Refuse, Counts as CountsOf}
+use Rattle.trace_text.specs.declared.lines.Verb.{Verb}
+use Rattle.replay_run.specs.declared.input.Stop.{Stop}
+use Rattle.replay_run.specs.Causes.{line_cause}
+use Rattle.replay_run.specs.Plays.{IsSound, Read, plan_in}
+use Rattle.replay_run.specs.SoFar.{Came, EndsHere, Goes, Here, Now, Outset, world_at}
+use Rattle.replay_run.specs.Stops.{HasStopCause, status_for}
+use Rattle.replay_run.specs.World.{Awaits, Nothing, OneStep, TheEnd, awaits_call, awaits_or_idle, counts_text, is_open, line_read, live_counts}
+use Rattle.replay_run.proofs.Came.{Leads, came_next, came_sound}
+use Rattle.replay_run.proofs.Endings.{behind, sink_fault}
+use Rattle.replay_run.proofs.Stops.{stops_after}
+
+-- What reading a line does: it has no cause, and leads to this moment, at which this is waited for and so much more is printed.
+pub record Reads (line : Line) (now : Now) (awaits : Awaits) (more : List ℕ) (now' : Now) : Type 0 where
+  pub free : line_cause now.moment line ≡ None
+  pub after : (text : List ℕ) → line_read (world_at now text Nothing) line ≡ world_at now' (text ++ more) awaits
+  pub heap : now'.heap ≡ now.heap
+  pub chain : Chain now.shelf (plan_in line) now'.shelf
+  pub pending : now'.pending ≡ now.pending
+  pub left : now'.left ≡ now.left
+
+-- a play goes on by a line
+pub line_came : {from : Outset} {count : ℕ} {line : Line} {now : Now} {awaits : Awaits} {more : List ℕ} {now' : Now} (so : Here from count Nothing (line ∷ []) now) →
+    Reads line now awaits more now' → Came from count awaits [] (so.text ++ more) now'
+line_came {from} {count} {line} {now} {awaits} {more} {now'} so reads =
+    let leads : Leads (Read line) Nothing (line ∷ []) so.text now awaits [] (so.text ++ more) now' = record {
+      next = (refl, reads.free);
+      after = reads.after so.text;
+      sound = subst IsSound (sym reads.heap) (came_sound so.came);
+      lines = refl;
+      chain = reads.chain;
+      pending = reads.pending;
+      left = reads.left;
+    } in
+    came_next so.came leads
+
+-- and all of it was printed
+pub line_goes : {from : Outset} {count : ℕ} {line : Line} {now : Now} {awaits : Awaits} {more : List ℕ} {now' : Now} (so : Here from count Nothing (line ∷ []) now) →
+    Reads line now awaits more now' → Appends now.held now'.held more → Here from count awaits [] now'
+line_goes {from} {count} {line} {now} {awaits} {more} {now'} so reads printed = record {
+  text = so.text ++ more;
+  came = line_came so reads;
+  prints = Appends-trans from.held now.held now'.held so.text more so.prints printed;
+}
+
+-- nothing is printed
+pub line_silent : {from : Outset} {count : ℕ} {line : Line} {now : Now} {awaits : Awaits} {now' : Now} (so : Here from count Nothing (line ∷ []) now) →
+    Reads line now awaits [] now' → now'.held ≡ now.held → Here from count awaits [] now'
+line_silent {from} {count} {line} {now} {awaits} {now'} so reads same = line_goes so reads (subst (λ (held : Option (List ℕ)). Appends now.held held []) (sym same) (Appends-nil now.held))
+
+-- or a beginning of it was
+pub line_stops : {from : Outset} {count : ℕ} {line : Line} {now : Now} {awaits : Awaits} {more : List ℕ} {now' : Now} (so : Here from count Nothing (line ∷ []) now) (stop : Stop) →
+    Reads line now awaits more now' → status_for stop ≢ 4 → AppendsPrefix now.held now'.held more → EndsHere from (status_for stop) now'
+line_stops {from} {count} {line} {now} {awaits} {more} {now'} so stop reads other printed =
+    stops_after (line_came so reads) stop other (behind from.held now.held now'.held so.text more so.prints printed)
+
+-- ---- what each line does
+
+-- nothing more is printed
+silent : (now : Now) (text : List ℕ) (awaits : Awaits) → world_at now text awaits ≡ world_at now (text ++ []) awaits
+silent now text awaits = ap (λ (t : List ℕ). world_at now t awaits) (sym (append-nil text))
+
+pub reads_call : (now : Now) (c : ℕ) (verb : Verb) → line_cause now.moment (Call c verb) ≡ None → Reads (Call c verb) now (awaits_call (is_open now.heap c) c verb true) [] now
+reads_call now c verb free = record { free = free; after = λ text. silent now text (awaits_call (is_open now.heap c) c verb true); heap = refl; chain = refl; pending = refl; left = refl }
+
+pub reads_start : (now : Now) (c : ℕ) (verb : Verb) → line_cause now.moment (Start c verb) ≡ None → Reads (Start c verb) now (awaits_call (is_open now.heap c) c verb false) [] now
+reads_start now c verb free = record { free = free; after = λ text. silent now text (awaits_call (is_open now.heap c) c verb false); heap = refl; chain = refl; pending = refl; left = refl }
+
+pub reads_step : (now : Now) (c : ℕ) → is_open now.heap c ≡ true → Reads (Step c) now (OneStep c) [] now
+reads_step now c is = record {
+  free = refl;
+  after = λ text. ap (λ (b : Bool). awaits_or_idle (world_at now text Nothing) c b (OneStep c)) is ∙ silent now text (OneStep c);
+  heap = refl;
+  chain = refl;
+  pending = refl;
+  left = refl;
+}
+
+pub reads_end : (now : Now) (c : ℕ) → is_open now.heap c ≡ true → Reads (End c) now (TheEnd c) [] now
+reads_end now c is = record {
+  free = refl;
+  after = λ text. ap (λ (b : Bool). awaits_or_idle (world_at now text Nothing) c b (TheEnd c)) is ∙ silent now text (TheEnd c);
+  heap = refl;
+  chain = refl;
+  pending = refl;
+  left = refl;
+}
+
+pub reads_step_idle : (now : Now) (c : ℕ) (held : Option (List ℕ)) → is_open now.heap c ≡ false → Reads (Step c) now Nothing (idle_line c) (record now { held = held })
+reads_step_idle now c held is = record {
+  free = refl;
+  after = λ text. ap (λ (b : Bool). awaits_or_idle (world_at now text Nothing) c b (OneStep c)) is;
+  heap = refl;
+  chain = refl;
+  pending = refl;
+  left = refl;
+}
+
+pub reads_end_idle : (now : Now) (c : ℕ) (held : Option (List ℕ)) → is_open now.heap c ≡ false → Reads (End c) now Nothing (idle_line c) (record now { held = held })
+reads_end_idle now c held is = record {
+  free = refl;
+  after = λ text. ap (λ (b : Bool). awaits_or_idle (world_at now text Nothing) c b (TheEnd c)) is;
+  heap = refl;
+  chain = refl;
+  pending = refl;
+  left = refl;
+}
+
+pub reads_at : (now : Now) (moment : ℕ) → line_cause now.moment (At moment) ≡ None → Reads (At moment) now Nothing [] (record now { moment = moment })
+reads_at now moment free = record { free = free; after = λ text. silent (record now { moment = moment }) text Nothing; heap = refl; chain = refl; pending = refl; left = refl }
+
+pub reads_refuse : (now : Now) (box_no : ℕ) (kind : Kind) (nth : ℕ) (shelf : Shelf) → PlanStep now.shelf box_no kind nth shelf → Reads (Refuse box_no kind nth) now Nothing [] (record now { shelf = shelf })
+reads_refuse now box_no kind nth shelf step = record { free = refl; after = λ text. silent (record now { shelf = shelf }) text Nothing; heap = refl; chain = (shelf, step, refl); pending = refl; left = refl }
+
+pub reads_counts : (now : Now) (index : ℕ) (counts : Option Counts) (held : Option (List ℕ)) → counts ≡ live_counts (record_at now.heap.records index).space →
+    Reads (CountsOf index) now Nothing (counts_text index counts) (record now { held = held })
+reads_counts now index counts held is = record { free = refl; after = λ text. rw is refl; heap = refl; chain = refl; pending = refl; left = refl }
+
+pub reads_blank : (now : Now) → Reads Blank now Nothing [] now
+reads_blank now = record { free = refl; after = λ text. silent now text Nothing; heap = refl; chain = refl; pending = refl; left = refl }
+
+-- by what printing gave
+pub line_result : {from : Outset} {count : ℕ} {line : Line} {now : Now} {more : List ℕ} (so : Here from count Nothing (line ∷ []) now) (held : Option (List ℕ)) (k k' : ℕ) (r : Result (Unit {0}) Stop) →
+    Reads line now Nothing more (record now { held = held }) → OnOk r (Appends now.held held more) → OnErr r (AppendsPrefix now.held held more) →
+    IfErr r (λ stop. HasStopCause stop 0 0 k k') → Goes from count Nothing r (record now { held = held })
+line_result {from} {count} {line} {now} {more} so held k k' (Ok done) reads ok err cause = line_goes so reads ok
+line_result {from} {count} {line} {now} {more} so held k k' (Err stop) reads ok err cause = line_stops so stop reads (sink_fault stop k k' cause) err

@@ -1,0 +1,33 @@
+-- Every answer of a play has its cause: the reasons of a call are kept by each step.
+use Rattle.std.proofs.Common.{ℕ, List, Option, None, Some, IfSome}
+use Rattle.call_table.specs.declared.needs.Answered.{Answered}
+use Rattle.call_table.specs.declared.points.Next.{Next}
+use Rattle.heap_core.specs.Seats.{asked_for, seat_at}
+use Rattle.call_table.proofs.Reasons.{NextWhy, begin_why, settle_why, step_why}
+use Rattle.replay_run.specs.Answers.{AnswerCause, AnswersHaveCauses, IsCaused, Tale, answer_in, tale_in}
+use Rattle.replay_run.specs.Plays.{Event}
+use Rattle.replay_run.specs.World.{World}
+use Rattle.replay_run.proofs.Tales.{EndsWith, IsEnded, Kept, each_event}
+
+-- the reasons of a place of a call, by its tale
+abbrev Why : ℕ → Tale → Next → Type 0
+Why c tale next = NextWhy tale.began tale.request tale.items next
+
+why_kept : Kept Why
+why_kept = record {
+  begins = λ h c request sound clients. begin_why (seat_at h.seats c).desk (asked_for h.seats c request);
+  steps = λ c tale point item why came. step_why tale.began tale.request tale.items c point item why came;
+  settles = λ c tale now arena next why. settle_why tale.began tale.request tale.items now arena next why;
+}
+
+-- those of its end are the cause of its answer
+answer_caused : (w : World) (event : Event) (answer : Option Answered) (tale : Option Tale) → IfSome answer (EndsWith Why w event tale) → IfSome answer (AnswerCause w event tale)
+answer_caused w event None tale ends = tt
+answer_caused w event (Some answer) None ends = ends
+answer_caused w event (Some answer) (Some tale) ends = ends.1
+
+event_caused : (w : World) (tales : List (Option Tale)) (event : Event) → IsEnded Why w tales event → IsCaused w tales event
+event_caused w tales event ends = answer_caused w event (answer_in w event) (tale_in w tales event) ends
+
+pub answers-have_causes : AnswersHaveCauses
+answers-have_causes events play sound = each_event Why IsCaused event_caused why_kept events play sound

@@ -1,0 +1,184 @@
+-- A step of a client's open call is an event.
+use Rattle.std.proofs.Common.{◌≡◌, ◌≢◌, inl, inr, ℕ, Bool, true, List, [], ◌++◌, Option, None, Some, is_none, is_some, refl, sym, ◌∙◌, ap, append-nil}
+use Rattle.std.proofs.KnownBytes.{Appends-trans}
+use Rattle.edge_io.specs.Bytes.{Appends, AppendsPrefix}
+use Rattle.hook_api.specs.Chain.{Chain}
+use Rattle.hook_api.specs.Shelf.{Shelf}
+use Rattle.call_table.specs.declared.needs.Answered.TheVariants.{NoMemory}
+use Rattle.call_table.specs.declared.points.Next.{Next}
+use Rattle.call_table.specs.declared.points.Next.TheVariants.{Go}
+use Rattle.call_table.specs.declared.points.Point.{Point}
+use Rattle.call_table.specs.Calls.{CallFacts}
+use Rattle.call_table.specs.Table.{Want, WantAsk, WantTurn, want}
+use Rattle.heap_core.specs.declared.heaps.Did.{Did}
+use Rattle.heap_core.specs.declared.heaps.Stepped.{Stepped}
+use Rattle.call_table.specs.declared.needs.Item.TheVariants.{Told as ToldItem}
+use Rattle.heap_core.specs.Heaps.{HeapFacts, IsMade, IsStep, WantedAt, answered_by, holder_for, moment_after}
+use Rattle.heap_core.specs.Seats.{answer_of, seat_at}
+use Rattle.report_text.specs.Lines.{ask_line, turn_line}
+use Rattle.trace_text.specs.declared.lines.Line.{Line}
+use Rattle.trace_text.specs.declared.lines.Verb.{Verb}
+use Rattle.replay_run.specs.Plays.{Event, IsNext, Starved, Told, Turned, Unnamed, after_event, client_awaited, line_in, shelf_event}
+use Rattle.replay_run.specs.declared.input.Stop.{Stop}
+use Rattle.replay_run.specs.Plays.{IsSound}
+use Rattle.replay_run.specs.SoFar.{Came, EndsHere, Here, Now, Outset, did_line, is_one_step, shown_line, world_at}
+use Rattle.replay_run.specs.Stops.{status_for}
+use Rattle.replay_run.specs.World.{Awaits, OneStep, World, awaits_after, ended_line, is_open, names_closed, step_text, stepped, verb_at, verbs_closed}
+use Rattle.replay_run.proofs.Came.{Leads, came_next}
+use Rattle.replay_run.proofs.Endings.{all_of, behind, longer}
+use Rattle.replay_run.proofs.Stops.{stops_after}
+
+-- What a step of a client is: an event that can come next, after which the heap is this one, and which does this to the shelf.
+-- Unless memory was wanting, the world after it is the one behind what the step told.
+pub record StepEvent (w : World) (c : ℕ) (shelf : Shelf) (told : Stepped) (heap : HeapFacts) (shelf' : Shelf) : Type 0 where
+  pub event : Event
+  pub next : IsNext w event
+  pub lines : line_in event ≡ []
+  pub chain : Chain shelf (shelf_event event) shelf'
+  pub leads : (after_event w event).heap ≡ heap
+  pub more : List ℕ
+  pub text : (after_event w event).text ≡ w.text ++ more
+  pub after : told.ended ≢ Some NoMemory → after_event w event ≡ stepped w c heap (did_line c told.did) told.ended
+
+-- a step by what its call wants
+step_wanted : (w : World) (c : ℕ) (shelf : Shelf) (call : CallFacts) (told : Stepped) (heap : HeapFacts) (shelf' : Shelf) (point : Point) (wanted : Want) →
+    client_awaited w.awaits ≡ Some c → (seat_at w.heap.seats c).call ≡ Some call → call.stage.next ≡ Go point → want point ≡ wanted →
+    IsMade w.heap shelf c call wanted told heap shelf' → StepEvent w c shelf told heap shelf'
+step_wanted w c shelf call told heap shelf' point (WantTurn op asked) awaited open_call at wants (did, same, inl made) = record {
+  event = Turned c call op asked;
+  next = record { awaited = awaited; open_call = open_call; point = point; at = at; wants = wants };
+  lines = refl;
+  chain = same;
+  leads = sym made.0;
+  more = step_text w.awaits (turn_line c) ++ ended_line c (verb_at w.verbs c) (answered_by w.heap c call op (holder_for w.heap call));
+  text = refl;
+  after = λ memory. rw (did, made.0, made.1) refl;
+}
+step_wanted w c shelf call told heap shelf' point (WantTurn op asked) awaited open_call at wants (did, same, inr (inl starved, ended)) = record {
+  event = Starved c call;
+  next = (op, asked, record { awaited = awaited; open_call = open_call; point = point; at = at; wants = wants });
+  lines = refl;
+  chain = same;
+  leads = sym starved;
+  more = [];
+  text = sym (append-nil w.text);
+  after = λ memory. absurd (memory ended);
+}
+step_wanted w c shelf call told heap shelf' point (WantTurn op asked) awaited open_call at wants (did, same, inr (inr unnamed, ended)) = record {
+  event = Unnamed c call op asked;
+  next = (record { awaited = awaited; open_call = open_call; point = point; at = at; wants = wants }, unnamed.0);
+  lines = refl;
+  chain = same;
+  leads = sym unnamed.1;
+  more = [];
+  text = sym (append-nil w.text);
+  after = λ memory. absurd (memory ended);
+}
+step_wanted w c shelf call told heap shelf' point (WantAsk ask) awaited open_call at wants made = record {
+  event = Told c call made.0;
+  next = (record { awaited = awaited; open_call = open_call; point = point; at = at; wants = wants ∙ ap WantAsk (sym made.2) }, record { box_no = made.3; answers = made.4.box.answers });
+  lines = refl;
+  chain = (shelf', made.4, refl);
+  leads = sym made.5;
+  more = step_text w.awaits (ask_line c made.0.ask made.0.answer) ++ ended_line c (verb_at w.verbs c) (answer_of (moment_after w.heap c call (ToldItem made.0)));
+  text = refl;
+  after = λ memory. rw (made.1, made.5, made.6) refl;
+}
+
+-- a step by where its call stands
+step_placed : (w : World) (c : ℕ) (shelf : Shelf) (call : CallFacts) (told : Stepped) (heap : HeapFacts) (shelf' : Shelf) (next : Next) →
+    client_awaited w.awaits ≡ Some c → (seat_at w.heap.seats c).call ≡ Some call → call.stage.next ≡ next →
+    WantedAt next (λ wanted. IsMade w.heap shelf c call wanted told heap shelf') → StepEvent w c shelf told heap shelf'
+step_placed w c shelf call told heap shelf' (Go point) awaited open_call at made =
+    step_wanted w c shelf call told heap shelf' point (want point) awaited open_call at refl made
+step_placed w c shelf call told heap shelf' next awaited open_call at made = absurd made
+
+-- a step of the client that is waited for
+step_of_call : (w : World) (c : ℕ) (shelf : Shelf) (call : Option CallFacts) (told : Stepped) (heap : HeapFacts) (shelf' : Shelf) →
+    client_awaited w.awaits ≡ Some c → (seat_at w.heap.seats c).call ≡ call → call ≢ None → IsStep w.heap shelf c call told heap shelf' → StepEvent w c shelf told heap shelf'
+step_of_call w c shelf None told heap shelf' awaited open_call some step = absurd (some refl)
+step_of_call w c shelf (Some call) told heap shelf' awaited open_call some step = step_placed w c shelf call told heap shelf' call.stage.next awaited open_call refl step
+
+pub step_event : (w : World) (c : ℕ) (shelf : Shelf) (told : Stepped) (heap : HeapFacts) (shelf' : Shelf) → client_awaited w.awaits ≡ Some c →
+    (seat_at w.heap.seats c).call ≢ None → IsStep w.heap shelf c (seat_at w.heap.seats c).call told heap shelf' → StepEvent w c shelf told heap shelf'
+step_event w c shelf told heap shelf' awaited some step = step_of_call w c shelf (seat_at w.heap.seats c).call told heap shelf' awaited refl some step
+
+-- ---- a replay that makes a step
+
+-- an open call is there
+open_there : (h : HeapFacts) (c : ℕ) → is_open h c ≡ true → (seat_at h.seats c).call ≢ None
+open_there h c is none = absurd (cc (is, ap is_some none))
+
+-- the line of a step is shown where one step is waited for
+shown_where : (awaits : Awaits) (c : ℕ) (did : Did) → step_text awaits (did_line c did) ≡ shown_line (is_one_step awaits) c did
+shown_where (OneStep client) c did = refl
+shown_where awaits c did = refl
+
+-- what is printed of a step
+abbrev pub step_line : Bool → ℕ → List (Option Verb) → Stepped → List ℕ
+step_line shown c verbs told = shown_line shown c told.did ++ ended_line c (verb_at verbs c) told.ended
+
+-- the moment behind a step, where so much was printed
+abbrev pub now_stepped : Now → ℕ → Stepped → HeapFacts → Shelf → Option (List ℕ) → Now
+now_stepped now c told heap shelf held = record now {
+  heap = heap;
+  verbs = verbs_closed now.verbs c told.ended;
+  names = names_closed now.names (verb_at now.verbs c) told.ended;
+  shelf = shelf;
+  held = held;
+}
+
+-- the replay came behind the step
+step_came : {from : Outset} {count : ℕ} {awaits : Awaits} {now : Now} (so : Here from count awaits [] now) (c : ℕ) (told : Stepped) (heap : HeapFacts) (shelf : Shelf) (held : Option (List ℕ)) →
+    client_awaited awaits ≡ Some c → is_open now.heap c ≡ true → IsStep now.heap now.shelf c (seat_at now.heap.seats c).call told heap shelf → IsSound heap → told.ended ≢ Some NoMemory →
+    Came from count (awaits_after awaits (is_none told.ended)) [] (so.text ++ step_line (is_one_step awaits) c now.verbs told) (now_stepped now c told heap shelf held)
+step_came {from} {count} {awaits} {now} so c told heap shelf held awaited is step sound memory =
+    let event = step_event (world_at now so.text awaits) c now.shelf told heap shelf awaited (open_there now.heap c is) step in
+    let leads : Leads event.event awaits [] so.text now (awaits_after awaits (is_none told.ended)) [] (so.text ++ step_line (is_one_step awaits) c now.verbs told) (now_stepped now c told heap shelf held) = record {
+      next = event.next;
+      after = event.after memory
+          ∙ ap (λ (line : List ℕ). record (world_at (now_stepped now c told heap shelf held) [] (awaits_after awaits (is_none told.ended))) { text = so.text ++ (line ++ ended_line c (verb_at now.verbs c) told.ended) }) (shown_where awaits c told.did);
+      sound = sound;
+      lines = ap (λ (ls : List Line). ls ++ []) (sym event.lines);
+      chain = event.chain;
+      pending = refl;
+      left = refl;
+    } in
+    came_next so.came leads
+
+-- the replay stops behind the step, of which nothing was printed
+pub step_stops : {from : Outset} {count : ℕ} {awaits : Awaits} {now : Now} (so : Here from count awaits [] now) (c : ℕ) (told : Stepped) (heap : HeapFacts) (shelf : Shelf) (stop : Stop) →
+    client_awaited awaits ≡ Some c → is_open now.heap c ≡ true → IsStep now.heap now.shelf c (seat_at now.heap.seats c).call told heap shelf → IsSound heap → status_for stop ≢ 4 →
+    EndsHere from (status_for stop) (record now { heap = heap; shelf = shelf })
+step_stops {from} {count} {awaits} {now} so c told heap shelf stop awaited is step sound other =
+    let w : World = world_at now so.text awaits in
+    let event = step_event w c now.shelf told heap shelf awaited (open_there now.heap c is) step in
+    let last : World = after_event w event.event in
+    let now' : Now = record now { heap = heap; shelf = shelf; verbs = last.verbs; names = last.names; moment = last.moment } in
+    let leads : Leads event.event awaits [] so.text now last.awaits [] last.text now' = record {
+      next = event.next;
+      after = ap (λ (h : HeapFacts). record last { heap = h }) event.leads;
+      sound = sound;
+      lines = ap (λ (ls : List Line). ls ++ []) (sym event.lines);
+      chain = event.chain;
+      pending = refl;
+      left = refl;
+    } in
+    stops_after (came_next so.came leads) stop other (rw event.text (longer from.held now.held so.text event.more (all_of from.held now.held so.text so.prints)))
+
+-- the replay stops behind the step, of which a beginning was printed
+pub step_stops_printed : {from : Outset} {count : ℕ} {awaits : Awaits} {now : Now} (so : Here from count awaits [] now) (c : ℕ) (told : Stepped) (heap : HeapFacts) (shelf : Shelf) (held : Option (List ℕ)) (stop : Stop) →
+    client_awaited awaits ≡ Some c → is_open now.heap c ≡ true → IsStep now.heap now.shelf c (seat_at now.heap.seats c).call told heap shelf → IsSound heap → told.ended ≢ Some NoMemory →
+    status_for stop ≢ 4 → AppendsPrefix now.held held (step_line (is_one_step awaits) c now.verbs told) → EndsHere from (status_for stop) (record now { heap = heap; shelf = shelf; held = held })
+step_stops_printed {from} {count} {awaits} {now} so c told heap shelf held stop awaited is step sound memory other printed =
+    stops_after (step_came so c told heap shelf held awaited is step sound memory) stop other (behind from.held now.held held so.text _ so.prints printed)
+
+-- the replay goes on behind the step, of which all was printed
+pub step_goes : {from : Outset} {count : ℕ} {awaits : Awaits} {now : Now} (so : Here from count awaits [] now) (c : ℕ) (told : Stepped) (heap : HeapFacts) (shelf : Shelf) (held : Option (List ℕ)) →
+    client_awaited awaits ≡ Some c → is_open now.heap c ≡ true → IsStep now.heap now.shelf c (seat_at now.heap.seats c).call told heap shelf → IsSound heap → told.ended ≢ Some NoMemory →
+    Appends now.held held (step_line (is_one_step awaits) c now.verbs told) → Here from count (awaits_after awaits (is_none told.ended)) [] (now_stepped now c told heap shelf held)
+step_goes {from} {count} {awaits} {now} so c told heap shelf held awaited is step sound memory printed = record {
+  text = so.text ++ step_line (is_one_step awaits) c now.verbs told;
+  came = step_came so c told heap shelf held awaited is step sound memory;
+  prints = Appends-trans from.held now.held held so.text (step_line (is_one_step awaits) c now.verbs told) so.prints printed;
+}

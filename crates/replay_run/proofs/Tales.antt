@@ -1,0 +1,403 @@
+-- What is kept by each step of a call is so of each open call of a play by its tale, and of each answer.
+use Rattle.std.proofs.Common.{◌≡◌, ◌≢◌, ℕ, ◌<◌, ◌≤◌, ◌==◌, Bool, true, false, List, [], ◌∷◌, Option, None, Some, IfSome, is_none, length, slice_set, refl, sym, ◌∙◌, ap, subst, arith, nat_lt}
+use Rattle.std.specs.Option.{option_map}
+use Rattle.std.proofs.lemmas.Bool.{ltb-true}
+use Rattle.std.proofs.lemmas.Bool.Decides.{nat_tests}
+use Rattle.std.proofs.lemmas.List.{get_or-replicate, get_or-set_other, get_or-set_same, length-replicate, set-get_or}
+use Rattle.std.proofs.Math.ListN.{length-set}
+use Rattle.space_model.specs.declared.Op.{Op}
+use Rattle.space_model.specs.declared.Op.TheVariants.{GrowDone, OfferDone}
+use Rattle.space_model.specs.declared.Space.{Space}
+use Rattle.space_model.specs.Sound.{Sound}
+use Rattle.space_model.specs.Step.{step_of}
+use Rattle.hook_api.specs.Asked.{AskFacts}
+use Rattle.thread_cache.specs.declared.Held.{Held}
+use Rattle.thread_cache.specs.Desks.{DeskFacts, not_holding}
+use Rattle.call_table.specs.declared.needs.Answered.{Answered}
+use Rattle.call_table.specs.declared.needs.Answered.TheVariants.{NotHeld}
+use Rattle.call_table.specs.declared.needs.Item.{Item}
+use Rattle.call_table.specs.declared.needs.Item.TheVariants.{Replied, Told as ToldItem}
+use Rattle.call_table.specs.declared.needs.Request.{Request}
+use Rattle.call_table.specs.declared.points.Point.{Point}
+use Rattle.call_table.specs.declared.points.Next.{Next}
+use Rattle.call_table.specs.declared.points.Next.TheVariants.{Go, Over, More, Gone, Ends, Nowhere}
+use Rattle.call_table.specs.Calls.{CallFacts, moment_of}
+use Rattle.call_table.specs.Causes.{Came}
+use Rattle.call_table.specs.Desks.{desk_fed}
+use Rattle.call_table.specs.Laws.{Moves, with_found}
+use Rattle.call_table.specs.Reads.{aimed, ended_by}
+use Rattle.call_table.specs.Runs.{Moment, after, begin_stage, settle, step_next}
+use Rattle.call_table.specs.Table.{Want, WantAsk, WantTurn, step}
+use Rattle.heap_core.specs.Arenas.{record_at, spaces_of}
+use Rattle.heap_core.specs.Chunks.{settled}
+use Rattle.heap_core.specs.Heaps.{HeapFacts, answered_by, holder_for, moment_after, parted, published_for, region_for, replied, started, told_to, turned_for}
+use Rattle.heap_core.specs.Seats.{Seat, answer_of, asked_for, begun, first_seat, open_call, seat_at, seat_of}
+use Rattle.heap_core.specs.Sitting.{IsSeated, SitsAt}
+use Rattle.heap_core.proofs.Clients.{found_for, sound_at}
+use Rattle.heap_core.proofs.Turned.{past}
+use Rattle.report_text.specs.Lines.{ask_line, turn_line}
+use Rattle.trace_text.specs.declared.lines.Line.{Line}
+use Rattle.trace_text.specs.declared.lines.Line.TheVariants.{Call, Start, Step, End}
+use Rattle.trace_text.specs.declared.lines.Verb.{Verb}
+use Rattle.trace_text.specs.declared.lines.Verb.TheVariants.{Take, CtlPlain, CtlWrite}
+use Rattle.replay_run.specs.Answers.{AllEvents, NowhereCause, Tale, answer_begun, answer_in, no_tales, tale_at, tale_begun, tale_fed, tale_in, tale_turned, tale_until, tales_after, tales_begun}
+use Rattle.replay_run.specs.Causes.{line_cause, verb_cause}
+use Rattle.replay_run.specs.Names.{address_at}
+use Rattle.replay_run.specs.Plays.{AllWorlds, Event, HasSoundHeap, IsAskOf, IsPlay, IsSound, IsWanted, client_awaited, Read, Began, Turned, Told, Starved, Unnamed, after_event}
+use Rattle.replay_run.specs.World.{Awaits, Memory, Nothing, OneStep, TheEnd, TheEndBefore, TheStart, World, arena_with, awaits_after, awaits_call, awaits_or_idle, begins, begun_as, is_open, line_read, opening, request_of, stepped, take_in, target_of}
+
+-- the call that is to begin is one that is carried out
+abbrev pub IsBuilt : Awaits → Type 0
+IsBuilt (TheEndBefore c verb whole) = verb_cause verb ≡ None
+IsBuilt (TheStart c verb whole) = verb_cause verb ≡ None
+IsBuilt awaits = Unit {0}
+
+after_built : (awaits : Awaits) (goes : Bool) → IsBuilt awaits → IsBuilt (awaits_after awaits goes)
+after_built Nothing true built = tt
+after_built Nothing false built = tt
+after_built (OneStep c) goes built = tt
+after_built (TheEnd c) true built = tt
+after_built (TheEnd c) false built = tt
+after_built (TheEndBefore c verb whole) true built = built
+after_built (TheEndBefore c verb whole) false built = built
+after_built (TheStart c verb whole) true built = built
+after_built (TheStart c verb whole) false built = tt
+after_built Memory true built = tt
+after_built Memory false built = tt
+
+call_built : (waits : Bool) (c : ℕ) (verb : Verb) (whole : Bool) → verb_cause verb ≡ None → IsBuilt (awaits_call waits c verb whole)
+call_built true c verb whole built = built
+call_built false c verb whole built = built
+
+begun_built : (w : World) (c : ℕ) (verb : Verb) (whole : Bool) (answer : Option Answered) → IsBuilt (begun_as w c verb whole answer).awaits
+begun_built w c verb true None = tt
+begun_built w c verb false None = tt
+begun_built w c verb whole (Some answer) = tt
+
+begins_built : (w : World) (c : ℕ) (verb : Verb) (whole : Bool) (request : Option Request) → IsBuilt (begins w c verb whole request).awaits
+begins_built w c verb whole None = tt
+begins_built w c verb whole (Some request) = begun_built (record w { heap = started w.heap c request }) c verb whole (answer_of (begun w.heap.seats c request))
+
+-- a line leaves the heap as it is
+record Reads (w w' : World) : Type 0 where
+  heap : w'.heap ≡ w.heap
+  built : IsBuilt w'.awaits
+
+idle_reads : (w : World) (c : ℕ) (waits : Bool) (awaits : Awaits) → IsBuilt w.awaits → IsBuilt awaits → Reads w (awaits_or_idle w c waits awaits)
+idle_reads w c true awaits was built = record { heap = refl; built = built }
+idle_reads w c false awaits was built = record { heap = refl; built = was }
+
+line_reads : (w : World) (line : Line) → IsBuilt w.awaits → line_cause w.moment line ≡ None → Reads w (line_read w line)
+line_reads w (Call c verb) was cause = record { heap = refl; built = call_built (is_open w.heap c) c verb true cause }
+line_reads w (Start c verb) was cause = record { heap = refl; built = call_built (is_open w.heap c) c verb false cause }
+line_reads w (Step c) was cause = idle_reads w c (is_open w.heap c) (OneStep c) was tt
+line_reads w (End c) was cause = idle_reads w c (is_open w.heap c) (TheEnd c) was tt
+line_reads w line was cause = record { heap = refl; built = was }
+
+-- a call that is carried out and asks for nothing was to take a region over
+nowhere : (w : World) (c : ℕ) (verb : Verb) (whole : Bool) → verb_cause verb ≡ None → request_of w.heap.records w.names w.moment verb ≡ None →
+    NowhereCause w (Began c verb whole) (NotHeld (target_of w.names verb))
+nowhere w c (Take target) whole built none = (refl, by (arena_with w.heap.records (address_at w.names target)) none)
+  where
+    by : (found : Option ℕ) → take_in (address_at w.names target) found ≡ None → found ≡ None
+    by None e = refl
+    by (Some arena) e = absurd (cc)
+nowhere w c (CtlPlain name) whole built none = absurd (cc)
+nowhere w c (CtlWrite name value) whole built none = absurd (cc)
+nowhere w c verb whole built none = absurd (cc)
+
+settled_found : (spaces : List Space) (arena : ℕ) (op : Op) → settled spaces arena op ≡ with_found (found_for spaces arena op) op
+settled_found spaces arena (GrowDone heard found) = refl
+settled_found spaces arena (OfferDone heard found) = refl
+settled_found spaces arena op = refl
+
+-- a client with an open call is one of those that there are
+seat_there : (seats : List Seat) (c : ℕ) (call : CallFacts) → length seats ≡ 32 → (seat_at seats c).call ≡ Some call → c < 32
+seat_there seats c call all opened = by (nat_lt c 32) refl
+  where
+    by : (v : Bool) → nat_lt c 32 ≡ v → c < 32
+    by true e = ltb-true c 32 e
+    by false e =
+        let none : (seat_at seats c).call ≡ None = ap (λ (s : Seat). s.call) (past seats c first_seat (grind (arith, nat_tests))) in
+        absurd (cc)
+
+-- its call stands in an arena that there is
+arena_there : (w : World) (c : ℕ) (call : CallFacts) (wanted : Want) → IsSound w.heap → c < 32 → IsWanted w c call wanted → call.stage.arena < 32
+arena_there w c call wanted sound there wants =
+    let seated : IsSeated w.heap.records c (seat_at w.heap.seats c).desk (Some call) = subst (IsSeated w.heap.records c (seat_at w.heap.seats c).desk) wants.open_call (sound.seats c there) in
+    let sits : SitsAt w.heap.records c (seat_at w.heap.seats c).desk call (Go wants.point) = subst (SitsAt w.heap.records c (seat_at w.heap.seats c).desk call) wants.at seated.1 in
+    sits.waits.there
+
+-- the reply to a turn came of what was wanted
+reply_came : (w : World) (c : ℕ) (call : CallFacts) (op : Op) (asked : Option AskFacts) → IsSound w.heap → c < 32 → (wants : IsWanted w c call (WantTurn op asked)) →
+    Came c (Go wants.point) (replied w.heap c call op)
+reply_came w c call op asked sound there wants =
+    let arena : ℕ = call.stage.arena in
+    let s : Space = (record_at w.heap.records arena).space in
+    let found = settled_found (spaces_of w.heap.records) arena op in
+    let done : Op = settled (spaces_of w.heap.records) arena op in
+    let sound_space : Sound s = sound_at w.heap.records arena sound.arenas (arena_there w c call (WantTurn op asked) sound there wants) in (
+      s,
+      (step_of s c done).after,
+      sound_space,
+      subst (λ x. Moves c s x (Replied (step_of s c done).reply) (step_of s c done).after) (sym wants.wants)
+          (found_for (spaces_of w.heap.records) arena op, ap (λ o. (step_of s c o).after) found, ap (λ o. (step_of s c o).reply) found),
+    )
+
+-- and so did the answer to an ask
+answer_came : (w : World) (c : ℕ) (call : CallFacts) (asked : AskFacts) → IsSound w.heap → c < 32 → (wants : IsWanted w c call (WantAsk asked.ask)) → IsAskOf w call asked →
+    Came c (Go wants.point) (ToldItem asked)
+answer_came w c call asked sound there wants asks =
+    let s : Space = (record_at w.heap.records call.stage.arena).space in
+    let sound_space : Sound s = sound_at w.heap.records call.stage.arena sound.arenas (arena_there w c call (WantAsk asked.ask) sound there wants) in
+    (s, s, sound_space, subst (λ x. Moves c s x (ToldItem asked) s) (sym wants.wants) (refl, asks.answers, refl))
+
+-- where memory was wanting, no call is waited for
+unwaited : {X : Type 0} (w : World) (c : ℕ) → w.awaits ≡ Memory → client_awaited w.awaits ≡ Some c → X
+unwaited w c ends awaited = let none : client_awaited w.awaits ≡ None = ap client_awaited ends in absurd (cc)
+
+-- what each step of a call keeps
+module _ (P : ℕ → Tale → Next → Type 0) where
+  -- It is so where a request begins, it goes on with whatever came of what was wanted, and it stays where the call goes on then.
+  pub record Kept : Type 0 where
+    pub begins : (h : HeapFacts) (c : ℕ) (request : Request) → IsSound h → length h.seats ≡ 32 → P c (tale_begun h.seats c request) (begin_stage (asked_for h.seats c request) (seat_at h.seats c).desk).next
+    pub steps : (c : ℕ) (tale : Tale) (point : Point) (item : Item) → P c tale (Go point) → Came c (Go point) item → P c (tale_fed item tale) (step point item)
+    pub settles : (c : ℕ) (tale : Tale) (now : DeskFacts) (arena : ℕ) (next : Next) → P c tale next → P c tale (settle tale.request now arena next).next
+
+  -- it is so of an open call with its tale
+  abbrev pub OfCall : ℕ → Option CallFacts → Option Tale → Type 0
+  OfCall c None tale = Unit {0}
+  OfCall c (Some call) None = ⊥
+  OfCall c (Some call) (Some tale) = (call.request ≡ tale.request) × P c tale call.stage.next
+
+  -- an answer ends a call of which it is so, or nothing was asked for
+  abbrev pub EndsWith : World → Event → Option Tale → Answered → Type 0
+  EndsWith w event (Some tale) answer = (c : ℕ) × P c tale (Ends answer)
+  EndsWith w event None answer = NowhereCause w event answer
+
+  abbrev pub IsEnded : World → List (Option Tale) → Event → Type 0
+  IsEnded w tales event = IfSome (answer_in w event) (EndsWith w event (tale_in w tales event))
+
+  -- It is so of all open calls of a world, and the call that is to begin is carried out.
+  pub record AllOpen (w : World) (tales : List (Option Tale)) : Type 0 where
+    pub clients : length w.heap.seats ≡ 32
+    pub number : length tales ≡ 32
+    pub built : IsBuilt w.awaits
+    pub calls : (c : ℕ) → OfCall c (seat_at w.heap.seats c).call (tale_at tales c)
+
+  -- the call is open with its tale, or has ended
+  opens_with : (c : ℕ) (at : Moment) (tale : Tale) (next : Next) → at.request ≡ tale.request → P c tale at.stage.next → OfCall c (open_call c at next) (tale_until (ended_by next) (Some tale))
+  opens_with c at tale (Go point) same why = (same, why)
+  opens_with c at tale (Over index point) same why = tt
+  opens_with c at tale More same why = tt
+  opens_with c at tale Gone same why = tt
+  opens_with c at tale (Ends answer) same why = tt
+  opens_with c at tale Nowhere same why = tt
+
+  ends_with : (w : World) (event : Event) (c : ℕ) (tale : Tale) (next : Next) → P c tale next → IfSome (ended_by next) (EndsWith w event (Some tale))
+  ends_with w event c tale (Go point) why = tt
+  ends_with w event c tale (Over index point) why = tt
+  ends_with w event c tale More why = tt
+  ends_with w event c tale Gone why = tt
+  ends_with w event c tale (Ends answer) why = (c, why)
+  ends_with w event c tale Nowhere why = tt
+
+  -- What a step leaves of a call and its tale: the call is open, or the answer ends it.
+  record Left (w : World) (event : Event) (c : ℕ) (call : Option CallFacts) (answer : Option Answered) (tale : Option Tale) : Type 0 where
+    goes : OfCall c call (tale_until answer tale)
+    ends : IfSome answer (EndsWith w event tale)
+
+  left_at : (w : World) (event : Event) (c : ℕ) (at : Moment) (tale : Tale) → at.request ≡ tale.request → P c tale at.stage.next → Left w event c (seat_of c at).call (answer_of at) (Some tale)
+  left_at w event c at tale same why = record { goes = opens_with c at tale at.stage.next same why; ends = ends_with w event c tale at.stage.next why }
+
+  -- an item that came of what was wanted
+  fed : Kept → (w : World) (event : Event) (c : ℕ) (call : CallFacts) (desk : DeskFacts) (point : Point) (item : Item) (tale : Option Tale) → call.stage.next ≡ Go point → OfCall c (Some call) tale → Came c (Go point) item →
+      Left w event c (seat_of c (after (moment_of call desk) item)).call (answer_of (after (moment_of call desk) item)) (option_map (tale_fed item) tale)
+  fed keeps w event c call desk point item None at so came = absurd so
+  fed keeps w event c call desk point item (Some tale) at (same, why) came =
+      let now : DeskFacts = desk_fed desk call.stage.arena call.stage.next item in
+      let next : Next = step_next call.stage.next item in
+      let stepped : P c (tale_fed item tale) (step point item) = keeps.steps c tale point item (subst (P c tale) at why) came in
+      let gone : P c (tale_fed item tale) next = subst (λ (n : Next). P c (tale_fed item tale) (step_next n item)) (sym at) stepped in
+      left_at w event c (after (moment_of call desk) item) (tale_fed item tale) same
+      (subst (λ (r : Request). P c (tale_fed item tale) (settle r now call.stage.arena next).next) (sym same) (keeps.settles c (tale_fed item tale) now call.stage.arena next gone))
+
+  -- a call that is aimed goes on where it is
+  aimed_still : (c : ℕ) (call : CallFacts) (arena : ℕ) (tale : Option Tale) → OfCall c (Some call) tale → OfCall c (Some (aimed call arena)) tale
+  aimed_still c call arena None so = so
+  aimed_still c call arena (Some tale) so = so
+
+  -- where one client is another and has another tale
+  calls_set : (seats : List Seat) (tales : List (Option Tale)) (c : ℕ) (seat : Seat) (tale : Option Tale) → length seats ≡ 32 → length tales ≡ 32 →
+      ((k : ℕ) → OfCall k (seat_at seats k).call (tale_at tales k)) → (c < 32 → OfCall c seat.call tale) → (k : ℕ) → OfCall k (seat_at (slice_set seats c seat) k).call (tale_at (slice_set tales c tale) k)
+  calls_set seats tales c seat tale all number so own k = by (k == c) refl
+    where
+      here : (v : Bool) → nat_lt c 32 ≡ v → OfCall c (seat_at (slice_set seats c seat) c).call (tale_at (slice_set tales c tale) c)
+      here true e =
+          let there : c < 32 = ltb-true c 32 e in
+          subst (λ (x : Seat). OfCall c x.call (tale_at (slice_set tales c tale) c)) (sym (get_or-set_same seats c seat first_seat (omega (arith, there, all))))
+          (subst (OfCall c seat.call) (sym (get_or-set_same tales c tale None (omega (arith, there, number)))) (own there))
+      here false e =
+          let far : 32 ≤ c = grind (arith, nat_tests) in
+          subst (λ (x : Seat). OfCall c x.call (tale_at (slice_set tales c tale) c)) (sym (past (slice_set seats c seat) c first_seat (omega (arith, far, all, length-set seats c seat)))) tt
+
+      by : (v : Bool) → (k == c) ≡ v → OfCall k (seat_at (slice_set seats c seat) k).call (tale_at (slice_set tales c tale) k)
+      by true e =
+          let same : c ≡ k = grind (arith, nat_tests) in
+          subst (λ n. OfCall n (seat_at (slice_set seats c seat) n).call (tale_at (slice_set tales c tale) n)) same (here (nat_lt c 32) refl)
+      by false e =
+          let other : k ≢ c = λ same. grind (arith, nat_tests) in
+          subst (λ (x : Seat). OfCall k x.call (tale_at (slice_set tales c tale) k)) (sym (get_or-set_other seats c k seat first_seat other))
+          (subst (OfCall k (seat_at seats k).call) (sym (get_or-set_other tales c k tale None other)) (so k))
+
+  -- where a client is another with the same call
+  calls_kept : (seats : List Seat) (tales : List (Option Tale)) (c : ℕ) (seat : Seat) → length seats ≡ 32 → length tales ≡ 32 →
+      ((k : ℕ) → OfCall k (seat_at seats k).call (tale_at tales k)) → OfCall c seat.call (tale_at tales c) → (k : ℕ) → OfCall k (seat_at (slice_set seats c seat) k).call (tale_at tales k)
+  calls_kept seats tales c seat all number so own =
+      subst (λ (ts : List (Option Tale)). (k : ℕ) → OfCall k (seat_at (slice_set seats c seat) k).call (tale_at ts k)) (set-get_or tales c None)
+      (calls_set seats tales c seat (tale_at tales c) all number so (λ there. own))
+
+  -- a call that was published for goes on
+  published_calls : (h : HeapFacts) (tales : List (Option Tale)) (c : ℕ) (call : CallFacts) (holder : ℕ) (region : Option Held) → length h.seats ≡ 32 → length tales ≡ 32 → (seat_at h.seats c).call ≡ Some call →
+      ((k : ℕ) → OfCall k (seat_at h.seats k).call (tale_at tales k)) → (length (published_for h c call holder region).seats ≡ 32) × ((k : ℕ) → OfCall k (seat_at (published_for h c call holder region).seats k).call (tale_at tales k))
+  published_calls h tales c call holder None all number opened so = (all, so)
+  published_calls h tales c call holder (Some region) all number opened so =
+      let gone : HeapFacts = parted h holder region in
+      let still : length gone.seats ≡ 32 = length-set h.seats holder _ ∙ all in
+      let own : OfCall c (Some call) (tale_at tales c) = subst (λ (o : Option CallFacts). OfCall c o (tale_at tales c)) opened (so c) in
+      let last : Seat = record (seat_at gone.seats c) { call = Some (aimed call region.arena) } in
+      let others = calls_kept h.seats tales holder (record (seat_at h.seats holder) { desk = not_holding region.addr (seat_at h.seats holder).desk }) all number so (so holder) in
+      (length-set gone.seats c last ∙ still, calls_kept gone.seats tales c last still number others (aimed_still c call region.arena (tale_at tales c) own))
+
+  -- What an event leaves: its answer ends its call, and it is so of all open calls then.
+  record Goes (w : World) (tales : List (Option Tale)) (event : Event) : Type 0 where
+    answer : IsEnded w tales event
+    opens : AllOpen (after_event w event) (tales_after w event tales)
+
+  -- a step of a call leads to a heap with these clients
+  stepped_open : (w : World) (tales : List (Option Tale)) (c : ℕ) (heap : HeapFacts) (line : List ℕ) (answer : Option Answered) → IsBuilt w.awaits → length heap.seats ≡ 32 → length tales ≡ 32 →
+      ((k : ℕ) → OfCall k (seat_at heap.seats k).call (tale_at tales k)) → AllOpen (stepped w c heap line answer) tales
+  stepped_open w tales c heap line answer built clients number calls =
+      record { clients = clients; number = number; built = after_built w.awaits (is_none answer) built; calls = calls }
+
+  begun_open : (w : World) (tales : List (Option Tale)) (c : ℕ) (verb : Verb) (whole : Bool) (answer : Option Answered) → length w.heap.seats ≡ 32 → length tales ≡ 32 →
+      ((k : ℕ) → OfCall k (seat_at w.heap.seats k).call (tale_at tales k)) → AllOpen (begun_as w c verb whole answer) tales
+  begun_open w tales c verb whole None clients number calls = record { clients = clients; number = number; built = begun_built w c verb whole None; calls = calls }
+  begun_open w tales c verb whole (Some answer) clients number calls = record { clients = clients; number = number; built = tt; calls = calls }
+
+  began : Kept → (w : World) (tales : List (Option Tale)) (c : ℕ) (verb : Verb) (whole : Bool) (request : Option Request) → IsSound w.heap → AllOpen w tales → verb_cause verb ≡ None →
+      request_of w.heap.records w.names w.moment verb ≡ request →
+      IfSome (answer_begun w c verb request) (EndsWith w (Began c verb whole) (option_map (tale_begun w.heap.seats c) request)) × AllOpen (begins w c verb whole request) (tales_begun w c request tales)
+  began keeps w tales c verb whole None sound so built e =
+      (nowhere w c verb whole built e, record { clients = so.clients; number = so.number; built = tt; calls = so.calls })
+  began keeps w tales c verb whole (Some request) sound so built e =
+      let at : Moment = begun w.heap.seats c request in
+      let tale : Tale = tale_begun w.heap.seats c request in
+      let left : Left w (Began c verb whole) c (seat_of c at).call (answer_of at) (Some tale) = left_at w (Began c verb whole) c at tale refl (keeps.begins w.heap c request sound so.clients) in (
+        left.ends,
+        begun_open (record w { heap = started w.heap c request }) (slice_set tales c (tale_until (answer_of at) (Some tale))) c verb whole (answer_of at)
+            (length-set w.heap.seats c (seat_of c at) ∙ so.clients) (length-set tales c (tale_until (answer_of at) (Some tale)) ∙ so.number)
+            (calls_set w.heap.seats tales c (seat_of c at) (tale_until (answer_of at) (Some tale)) so.clients so.number so.calls (λ there. left.goes)),
+      )
+
+  -- the tale of a call that is waited for
+  own_call : (w : World) (tales : List (Option Tale)) (c : ℕ) (call : CallFacts) → AllOpen w tales → (seat_at w.heap.seats c).call ≡ Some call → OfCall c (Some call) (tale_at tales c)
+  own_call w tales c call so opened = subst (λ (o : Option CallFacts). OfCall c o (tale_at tales c)) opened (so.calls c)
+
+  turned : Kept → (w : World) (tales : List (Option Tale)) (c : ℕ) (call : CallFacts) (op : Op) (asked : Option AskFacts) (holder : Option ℕ) → IsSound w.heap → AllOpen w tales → IsWanted w c call (WantTurn op asked) →
+      IfSome (answered_by w.heap c call op holder) (EndsWith w (Turned c call op asked) (tale_turned w.heap c call op holder (tale_at tales c)))
+      × AllOpen (stepped w c (turned_for w.heap c call op asked holder) (turn_line c) (answered_by w.heap c call op holder))
+      (slice_set tales c (tale_until (answered_by w.heap c call op holder) (tale_turned w.heap c call op holder (tale_at tales c))))
+  turned keeps w tales c call op asked None sound so wants =
+      let event : Event = Turned c call op asked in
+      let item : Item = replied w.heap c call op in
+      let at : Moment = moment_after w.heap c call item in
+      let tale : Option Tale = option_map (tale_fed item) (tale_at tales c) in
+      let came = reply_came w c call op asked sound (seat_there w.heap.seats c call so.clients wants.open_call) wants in
+      let left : Left w event c (seat_of c at).call (answer_of at) tale =
+      fed keeps w event c call (seat_at w.heap.seats c).desk wants.point item (tale_at tales c) wants.at (own_call w tales c call so wants.open_call) came in (
+        left.ends,
+        stepped_open w (slice_set tales c (tale_until (answer_of at) tale)) c (turned_for w.heap c call op asked None) (turn_line c) (answer_of at) so.built
+            (length-set w.heap.seats c (seat_of c at) ∙ so.clients) (length-set tales c (tale_until (answer_of at) tale) ∙ so.number)
+            (calls_set w.heap.seats tales c (seat_of c at) (tale_until (answer_of at) tale) so.clients so.number so.calls (λ there. left.goes)),
+      )
+  turned keeps w tales c call op asked (Some holder) sound so wants =
+      let heap : HeapFacts = published_for w.heap c call holder (region_for w.heap call holder) in
+      let goes = published_calls w.heap tales c call holder (region_for w.heap call holder) so.clients so.number wants.open_call so.calls in
+      (tt, subst (AllOpen (stepped w c heap (turn_line c) None)) (sym (set-get_or tales c None)) (stepped_open w tales c heap (turn_line c) None so.built goes.0 so.number goes.1))
+
+  told : Kept → (w : World) (tales : List (Option Tale)) (c : ℕ) (call : CallFacts) (asked : AskFacts) → IsSound w.heap → AllOpen w tales → IsWanted w c call (WantAsk asked.ask) → IsAskOf w call asked → Goes w tales (Told c call asked)
+  told keeps w tales c call asked sound so wants asks =
+      let event : Event = Told c call asked in
+      let item : Item = ToldItem asked in
+      let at : Moment = moment_after w.heap c call item in
+      let tale : Option Tale = option_map (tale_fed item) (tale_at tales c) in
+      let came = answer_came w c call asked sound (seat_there w.heap.seats c call so.clients wants.open_call) wants asks in
+      let left : Left w event c (seat_of c at).call (answer_of at) tale =
+      fed keeps w event c call (seat_at w.heap.seats c).desk wants.point item (tale_at tales c) wants.at (own_call w tales c call so wants.open_call) came in record {
+        answer = left.ends;
+        opens = stepped_open w (slice_set tales c (tale_until (answer_of at) tale)) c (told_to w.heap c call asked) (ask_line c asked.ask asked.answer) (answer_of at) so.built
+            (length-set w.heap.seats c (seat_of c at) ∙ so.clients) (length-set tales c (tale_until (answer_of at) tale) ∙ so.number)
+            (calls_set w.heap.seats tales c (seat_of c at) (tale_until (answer_of at) tale) so.clients so.number so.calls (λ there. left.goes));
+      }
+
+  -- nothing comes where memory was wanting
+  over : (w : World) (tales : List (Option Tale)) (events : List Event) → w.awaits ≡ Memory → IsPlay w events → AllEvents IsEnded w tales events
+  over w tales [] ends play = tt
+  over w tales (Read line ∷ events) ends play = absurd (let next = play.0.0 in cc)
+  over w tales (Began c verb whole ∷ events) ends play = absurd (let next = play.0 in cc)
+  over w tales (Turned c call op asked ∷ events) ends play = unwaited w c ends play.0.awaited
+  over w tales (Told c call asked ∷ events) ends play = unwaited w c ends play.0.0.awaited
+  over w tales (Starved c call ∷ events) ends play = unwaited w c ends play.0.2.awaited
+  over w tales (Unnamed c call op asked ∷ events) ends play = unwaited w c ends play.0.0.awaited
+
+  plays : Kept → (w : World) (tales : List (Option Tale)) (events : List Event) → AllOpen w tales → IsPlay w events → AllWorlds HasSoundHeap w events → AllEvents IsEnded w tales events
+  plays keeps w tales [] so play sound = tt
+  plays keeps w tales (Read line ∷ events) so (next, more) (here, sound) =
+      let reads : Reads w (line_read w line) = line_reads w line so.built next.1 in
+      let still : AllOpen (line_read w line) tales = line_open w (line_read w line) tales so reads in
+      (tt, plays keeps (line_read w line) tales events still more sound)
+    where
+      line_open : (w w' : World) (tales : List (Option Tale)) → AllOpen w tales → Reads w w' → AllOpen w' tales
+      line_open w w' tales so reads = record {
+        clients = ap (λ (h : HeapFacts). length h.seats) reads.heap ∙ so.clients;
+        number = so.number;
+        built = reads.built;
+        calls = λ c. subst (λ (h : HeapFacts). OfCall c (seat_at h.seats c).call (tale_at tales c)) (sym reads.heap) (so.calls c);
+      }
+  plays keeps w tales (Began c verb whole ∷ events) so (next, more) (here, sound) =
+      let built : verb_cause verb ≡ None = subst IsBuilt next so.built in
+      let goes = began keeps w tales c verb whole (request_of w.heap.records w.names w.moment verb) here so built refl in
+      (goes.0, plays keeps _ _ events goes.1 more sound)
+  plays keeps w tales (Turned c call op asked ∷ events) so (next, more) (here, sound) =
+      let goes = turned keeps w tales c call op asked (holder_for w.heap call) here so next in
+      (goes.0, plays keeps _ _ events goes.1 more sound)
+  plays keeps w tales (Told c call asked ∷ events) so (next, more) (here, sound) =
+      let goes = told keeps w tales c call asked here so next.0 next.1 in
+      (goes.answer, plays keeps _ _ events goes.opens more sound)
+  plays keeps w tales (Starved c call ∷ events) so (next, more) (here, sound) = (tt, over (after_event w (Starved c call)) tales events refl more)
+  plays keeps w tales (Unnamed c call op asked ∷ events) so (next, more) (here, sound) = (tt, over (after_event w (Unnamed c call op asked)) tales events refl more)
+
+  -- no call is open in the opening world
+  none_open : AllOpen opening no_tales
+  none_open = record {
+    clients = length-replicate 32 first_seat;
+    number = length-replicate 32 (let none : Option Tale = None in none);
+    built = tt;
+    calls = λ c. subst (λ (x : Seat). OfCall c x.call (tale_at no_tales c)) (sym (rests c (nat_lt c 32) refl)) tt;
+  }
+    where
+      rests : (c : ℕ) (v : Bool) → nat_lt c 32 ≡ v → seat_at opening.heap.seats c ≡ first_seat
+      rests c true e = get_or-replicate 32 c first_seat first_seat (ltb-true c 32 e)
+      rests c false e = let far : 32 ≤ c = grind (arith, nat_tests) in past opening.heap.seats c first_seat (omega (arith, far, length-replicate 32 first_seat))
+
+  -- what each answer shows is so of all events of a play
+  shown : (Q : World → List (Option Tale) → Event → Type 0) → ((w : World) (tales : List (Option Tale)) (event : Event) → IsEnded w tales event → Q w tales event) →
+      (w : World) (tales : List (Option Tale)) (events : List Event) → AllEvents IsEnded w tales events → AllEvents Q w tales events
+  shown Q show w tales [] all = tt
+  shown Q show w tales (event ∷ events) all = (show w tales event all.0, shown Q show (after_event w event) (tales_after w event tales) events all.1)
+
+  -- and so it is in each play from the opening world on
+  pub each_event : (Q : World → List (Option Tale) → Event → Type 0) → ((w : World) (tales : List (Option Tale)) (event : Event) → IsEnded w tales event → Q w tales event) →
+      Kept → (events : List Event) → IsPlay opening events → AllWorlds HasSoundHeap opening events → AllEvents Q opening no_tales events
+  each_event Q show keeps events play sound = shown Q show opening no_tales events (plays keeps opening no_tales events none_open play sound)

@@ -1,0 +1,11 @@
+use Rattle.std.proofs.Common.{refl}
+use Rattle.report_text.specs.Lines.{call_line}
+use Rattle.replay_run.proofs.calls.head.Goals as goal
+
+pub returns-in-Malloc : goal.returns-in-Malloc
+unfolding call_line
+returns-in-Malloc c = λ client answer. rw (c.in-Malloc.is, c.as_bytes.ensures.bytes) refl
+
+pub returns-in-Memalign : goal.returns-in-Memalign
+unfolding call_line
+returns-in-Memalign c = λ client answer. rw (c.in-Memalign.is, c.as_bytes-in-Memalign.ensures.bytes) refl

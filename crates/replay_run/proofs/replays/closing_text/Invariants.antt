@@ -1,0 +1,9 @@
+use Rattle.std.proofs.Common.{◌≡◌}
+use Rattle.std.specs.List.{flat_map, range_with_len}
+use Rattle.heap_core.specs.Arenas.{record_at}
+use Rattle.replay_run.specs.World.{closing_line, live_counts}
+use Rattle.replay_run.proofs.replays.closing_text.Given as goal
+
+-- the closing lines of the arenas so far
+abbrev pub invariant-loop-index : goal.invariant-loop-index
+invariant-loop-index l = l.text.items ≡ flat_map (λ i. closing_line i (live_counts (record_at l.state.heap.records i).space)) (range_with_len 0 l.index)

@@ -1,0 +1,52 @@
+use Rattle.std.proofs.Common.{◌+◌, subst}
+use Rattle.replay_run.specs.declared.input.Found.{Found}
+use Rattle.replay_run.specs.declared.input.Stop.TheVariants.{NoMemory}
+use Rattle.replay_run.specs.Input.{InBounds, IsFirst}
+use Rattle.replay_run.specs.SoFar.{reading}
+use Rattle.replay_run.proofs.NextLines.{ahead_goes, bad_goes, here_found, here_kept, next_stop, unread_goes}
+use Rattle.replay_run.proofs.Stops.{stops_between, stops_reading}
+use Rattle.replay_run.proofs.replays.next_line.Goals as goal
+
+pub returns-in_err-found-clause-goes : goal.returns-in_err-found-clause-goes
+returns-in_err-found-clause-goes g c = λ from count below so.
+    next_stop from count c.from_residual.result c.in_err-found.field-0.0 _ c.from_residual.ensures.1
+    (stops_reading (here_kept so (g.K.Sink.held c.find_line.new.sink) c.find_line.ensures.kept) c.in_err-found.field-0.0 (g.S.Source.left c.find_line.new.source) (g.S.Source.ended c.find_line.new.source) c.in_err-found.ensures.stopped)
+
+pub returns-in_default : goal.returns-in_default
+returns-in_default g c = record {
+  goes = λ from count below so.
+      unread_goes (here_found so c.find_line.new.pending (g.S.Source.left c.find_line.new.source) (g.S.Source.ended c.find_line.new.source) (g.K.Sink.held c.find_line.new.sink) c.in_ok-found.ensures.moved c.find_line.ensures.kept)
+      c.in_ok-found.found c.unread.result below c.in_default.not-Line c.in_ok-found.ensures.bounds c.in_ok-found.ensures.first c.in_ok-found.ensures.end c.unread.ensures;
+  cause = tt;
+  source_counts = c.find_line.ensures.counts;
+  sink_counts = c.find_line.ensures.sink_counts;
+}
+
+pub returns-in_err-cause-clause-goes : goal.returns-in_err-cause-clause-goes
+returns-in_err-cause-clause-goes g c = λ from count below so.
+    next_stop from count c.from_residual-in_err-cause.result NoMemory _ c.from_residual-in_err-cause.ensures.1
+    (stops_between (here_found so c.find_line.new.pending (g.S.Source.left c.find_line.new.source) (g.S.Source.ended c.find_line.new.source) (g.K.Sink.held c.find_line.new.sink) c.in_ok-found.ensures.moved c.find_line.ensures.kept)
+    NoMemory (λ four. absurd (cc (four))))
+
+pub returns-in-Err-clause-goes : goal.returns-in-Err-clause-goes
+returns-in-Err-clause-goes g c = λ from count below so.
+    bad_goes (here_found so c.find_line.new.pending (g.S.Source.left c.find_line.new.source) (g.S.Source.ended c.find_line.new.source) (g.K.Sink.held c.find_line.new.sink) c.in_ok-found.ensures.moved c.find_line.ensures.kept)
+    c.in-Line.end c.in-Err.cause below (subst (λ (f : Found). InBounds f c.find_line.new.pending) c.in-Line.is c.in_ok-found.ensures.bounds)
+    (subst (λ (f : Found). IsFirst f c.find_line.new.pending) c.in-Line.is c.in_ok-found.ensures.first) (rw (c.in-Err.is, c.as_slice.ensures) at c.in_ok-cause.ensures)
+
+pub returns-in_err-carry_line-in-Ok-clause-goes : goal.returns-in_err-carry_line-in-Ok-clause-goes
+returns-in_err-carry_line-in-Ok-clause-goes g c = λ from count below so.
+    let read = rw (c.in-Ok.is, c.as_slice.ensures) at c.in_ok-cause.ensures in
+    let ahead = ahead_goes (here_found so c.find_line.new.pending (g.S.Source.left c.find_line.new.source) (g.S.Source.ended c.find_line.new.source) (g.K.Sink.held c.find_line.new.sink) c.in_ok-found.ensures.moved c.find_line.ensures.kept)
+    c.in-Line.end c.in-Ok.line below (subst (λ (f : Found). InBounds f c.find_line.new.pending) c.in-Line.is c.in_ok-found.ensures.bounds)
+    (subst (λ (f : Found). IsFirst f c.find_line.new.pending) c.in-Line.is c.in_ok-found.ensures.first) read.0 in
+    next_stop from count c.from_residual-in_err-carry_line-in-Ok.result c.in_err-carry_line-in-Ok.field-0.0 _ c.from_residual-in_err-carry_line-in-Ok.ensures.1
+    (c.in_err-carry_line-in-Ok.ensures.goes from (count + 1) (reading c.skip.new.self (g.S.Source.left c.find_line.new.source) (g.S.Source.ended c.find_line.new.source)) (rw c.skip.ensures ahead))
+
+pub returns-in_ok-carry_line-in-Ok-clause-goes : goal.returns-in_ok-carry_line-in-Ok-clause-goes
+returns-in_ok-carry_line-in-Ok-clause-goes g c = λ from count below so.
+    let read = rw (c.in-Ok.is, c.as_slice.ensures) at c.in_ok-cause.ensures in
+    let ahead = ahead_goes (here_found so c.find_line.new.pending (g.S.Source.left c.find_line.new.source) (g.S.Source.ended c.find_line.new.source) (g.K.Sink.held c.find_line.new.sink) c.in_ok-found.ensures.moved c.find_line.ensures.kept)
+    c.in-Line.end c.in-Ok.line below (subst (λ (f : Found). InBounds f c.find_line.new.pending) c.in-Line.is c.in_ok-found.ensures.bounds)
+    (subst (λ (f : Found). IsFirst f c.find_line.new.pending) c.in-Line.is c.in_ok-found.ensures.first) read.0 in
+    c.in_ok-carry_line-in-Ok.ensures.goes from (count + 1) (reading c.skip.new.self (g.S.Source.left c.find_line.new.source) (g.S.Source.ended c.find_line.new.source)) (rw c.skip.ensures ahead)
