@@ -44,21 +44,20 @@ fn bad(first: u64, why: Why) -> Answered {
     Answered::BadAnswer { span, why }
 }
 
+/// The answer of a region.
+fn region() -> Answered {
+    Answered::Ok(Given::Region {
+        addr: 0x20_0000,
+        class: 37,
+    })
+}
+
 #[test]
 fn prints_regions(rt: HostRuntime) -> Result<(), Fail> {
     let alloc = rt.alloc();
-    let region = Answered::Ok(Given::Region {
-        addr: 0x20_0000,
-        class: 37,
-    });
-    prints(
-        &rt,
-        alloc,
-        Head::Malloc(b"a_1"),
-        region,
-        "t7 malloc a_1 @200000 20480\n",
-    )?;
-    prints(&rt, alloc, Head::Take, region, "t7 take ok\n")
+    let want = "t7 malloc a_1 @200000 20480\n";
+    prints(&rt, alloc, Head::Malloc(b"a_1"), region(), want)?;
+    prints(&rt, alloc, Head::Take, region(), "t7 take ok\n")
 }
 
 #[test]
