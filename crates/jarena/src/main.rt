@@ -2,24 +2,21 @@
 //! its extent hooks, and writes a report to standard output.
 #![tactic(auto)]
 
-ghost use Rattle.std.specs.Prelude.{◌≡◌, IfOk, vec_len};
-
 mod runs;
 mod status;
 #[cfg(test)]
 mod tests;
 mod words;
 
-use addr_space::{AddrSpace, SharedSpace};
+use addr_space::AddrSpace;
 use edge_io::{ReadEdge, WriteEdge};
 use hook_api::{Boxes, HookShelf};
 use runs::run;
 use status::NO_MEMORY;
-use std::alloc::{AllocError as NoMemory, Global};
+use std::alloc::AllocError as NoMemory;
 use std::env;
 use std::io::{BufWriter, ErrorKind};
 use std::process::ExitCode;
-use std::sync::Wait;
 
 /// How many boxes of hooks a shelf has.
 const BOXES: usize = 32;
@@ -33,30 +30,16 @@ fn given_words(rt: &HostRuntime) -> Result<Vec<String>, NoMemory> {
     }
 }
 
-/// Boxes that share one space of addresses.
-fn shared_boxes<R: Wait + Clone + Send + Drop + 'static>(
-    rt: &R,
-    alloc: Global,
-) -> Result<Boxes, NoMemory>
-    ensures { IfOk result (λ boxes. vec_len boxes ≡ 32) }
-{
-    let first = SharedSpace::new(rt.clone()?, alloc, AddrSpace::new(alloc)?)?;
-    let mut boxes: Boxes = Vec::new(alloc);
-    while boxes.len() < BOXES - 1 {
-        boxes.push(Box::new(alloc, first.again()?)?)?;
-    }
-    boxes.push(Box::new(alloc, first)?)?;
-    Ok(boxes)
-}
-
 /// Runs the program on standard input and standard output, and gives its status.
 ///
-/// What is written waits in a buffer until the run flushes it.
-fn run_on_streams(rt: &HostRuntime, boxes: Boxes) -> Result<u8, NoMemory>
-    requires { vec_len boxes ≡ 32 }
-{
+/// What is written waits in a buffer until the run flushes it. Each box has a space of addresses of its own.
+fn run_on_streams(rt: &HostRuntime) -> Result<u8, NoMemory> {
     let alloc = rt.alloc();
     let words = given_words(rt)?;
+    let mut boxes: Boxes = Vec::new(alloc);
+    while boxes.len() < BOXES {
+        boxes.push(Box::new(alloc, AddrSpace::new(alloc)?)?)?;
+    }
     let mut source = ReadEdge::new(rt.stdin());
     let Ok(output) = BufWriter::new(alloc, rt.stdout()) else {
         return Err(NoMemory);
@@ -67,9 +50,5 @@ fn run_on_streams(rt: &HostRuntime, boxes: Boxes) -> Result<u8, NoMemory>
 }
 
 fn main(rt: HostRuntime) -> ExitCode {
-    let status = match shared_boxes(&rt, rt.alloc()) {
-        Ok(boxes) => run_on_streams(&rt, boxes),
-        Err(error) => Err(error),
-    };
-    ExitCode::from(status.unwrap_or(NO_MEMORY))
+    ExitCode::from(run_on_streams(&rt).unwrap_or(NO_MEMORY))
 }
