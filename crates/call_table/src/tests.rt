@@ -4,7 +4,7 @@ ghost use Rattle.std.specs.Prelude.{◌≡◌, IfOk};
 ghost use Rattle.call_table.specs.Points.{IsSizedNext};
 
 use crate::{Answered, Given, Item, Need, Next, Request, Stage};
-use hook_api::{Boxes, HookShelf, Kind, RisingHooks};
+use hook_api::{HookShelf, Kind, RisingHooks};
 use size_classes::Addrs;
 use space_model::{Addresses, Ask, Op, Reply, Span};
 use std::alloc::{AllocError as NoMemory, Global};
@@ -107,9 +107,9 @@ fn replay(request: Request, desk: Desk, replies: Vec<Reply>) -> Result<Played, N
 
 /// The answer of box 0 to an ask, which it refuses where that is planned.
 fn answer(alloc: Global, ask: Ask, planned: Option<Kind>) -> Result<Item, NoMemory> {
-    let mut boxes: Boxes = Vec::new(alloc);
+    let mut boxes = Vec::new(alloc);
     while boxes.len() < 32 {
-        boxes.push(Box::new(alloc, RisingHooks::new())?)?;
+        boxes.push(RisingHooks::new())?;
     }
     let mut shelf = HookShelf::new(boxes);
     if let Some(kind) = planned {

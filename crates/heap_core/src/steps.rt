@@ -2,7 +2,6 @@
 
 ghost use Rattle.std.specs.Prelude.{◌≡◌, ◌≢◌, ◌+◌, ◌<◌, ◌≤◌, ℕ, None, Some, false, true, length, IfOk, IfSome, IsOk, IsSomeAnd, OnOk, OnErr};
 ghost use Rattle.hook_api.specs.Shelf.{Shelf};
-ghost use Rattle.hook_api.specs.ShelfOf.{shelf_of};
 ghost use Rattle.space_model.specs.declared.entries.Op.TheVariants.{Publish};
 ghost use Rattle.arena_core.specs.Arenas.{all_rooms, opens};
 ghost use Rattle.thread_cache.specs.Desks.{held_at};
@@ -23,7 +22,7 @@ use crate::logs::AskLog;
 use crate::records::places_for;
 use arena_core::Arena;
 use call_table::{Answered, Item, Need, Turn};
-use hook_api::HookShelf;
+use hook_api::{ExtentHooks, HookShelf};
 use space_model::{Ask, Op, Reply};
 use std::alloc::{AllocError as NoMemory, Global};
 use thread_cache::Held;
@@ -181,17 +180,17 @@ impl Heap {
     }
 
     /// The ask that a client's call wants, of the box of its arena.
-    fn ask(
+    fn ask<H: ExtentHooks>(
         &mut self,
         client: u32,
         arena: u32,
         ask: Ask,
-        shelf: &mut HookShelf,
+        shelf: &mut HookShelf<H>,
         alloc: Global,
     ) -> Stepped
         requires client { client < 32 }
         requires needs { Needs (seat_at self.old.seats client).call (Need.Ask arena ask) }
-        ensures step { IsStep self.old (shelf_of ExtentHooks-dyn shelf.old) client (seat_at self.old.seats client).call result self.new (shelf_of ExtentHooks-dyn shelf.new) }
+        ensures step { IsStep self.old shelf.old client (seat_at self.old.seats client).call result self.new shelf.new }
         ensures sure { IsSure self.old client (seat_at self.old.seats client).call self.new }
     {
         self.arenas.are_apart();
@@ -207,9 +206,14 @@ impl Heap {
     /// Carries the open call of a client on, if it has one, by one turn or one ask. Where the call has ended by it, its answer
     /// is told: `NoMemory` where a turn found none, or where none was left to name the regions that go back next. A turn that
     /// takes no memory is always made, and so is an ask.
-    pub fn step_client(&mut self, client: u32, shelf: &mut HookShelf, alloc: Global) -> Stepped
+    pub fn step_client<H: ExtentHooks>(
+        &mut self,
+        client: u32,
+        shelf: &mut HookShelf<H>,
+        alloc: Global,
+    ) -> Stepped
         requires { client < 32 }
-        ensures step { IsStep self.old (shelf_of ExtentHooks-dyn shelf.old) client (seat_at self.old.seats client).call result self.new (shelf_of ExtentHooks-dyn shelf.new) }
+        ensures step { IsStep self.old shelf.old client (seat_at self.old.seats client).call result self.new shelf.new }
         ensures sure { IsSure self.old client (seat_at self.old.seats client).call self.new }
     {
         match self.clients[client as usize].need(alloc) {

@@ -5,7 +5,7 @@ ghost use Rattle.call_table.specs.Laws.{IsInRange};
 
 use crate::{Arenas, Heap};
 use call_table::{Answered, Given, Request};
-use hook_api::{Boxes, HookShelf, Kind, RisingHooks};
+use hook_api::{HookShelf, Kind, RisingHooks};
 use space_model::{Life, Op, Reply, Setting};
 use std::alloc::{AllocError as NoMemory, Global};
 use std::process::Abort;
@@ -68,10 +68,10 @@ fn journals_have_the_entries_of_their_arena(rt: HostRuntime) -> Result<(), Fail>
 }
 
 /// A shelf of 32 boxes, each of which places ever higher ranges.
-fn rising(alloc: Global) -> Result<HookShelf, NoMemory> {
-    let mut boxes: Boxes = Vec::new(alloc);
+fn rising(alloc: Global) -> Result<HookShelf<RisingHooks>, NoMemory> {
+    let mut boxes = Vec::new(alloc);
     while boxes.len() < 32 {
-        boxes.push(Box::new(alloc, RisingHooks::new())?)?;
+        boxes.push(RisingHooks::new())?;
     }
     Ok(HookShelf::new(boxes))
 }
@@ -95,7 +95,7 @@ fn start(
 /// Carries a call of a client out, to its answer.
 fn carry_out(
     heap: &mut Heap,
-    shelf: &mut HookShelf,
+    shelf: &mut HookShelf<RisingHooks>,
     client: u32,
     request: Request,
     alloc: Global,
@@ -142,7 +142,7 @@ fn a_region_is_freed_by_another_client(rt: HostRuntime) -> Result<(), Fail> {
 }
 
 /// Steps two clients in turn, each to the end of its call. Gives the addresses of the regions that they got.
-fn by_turns(heap: &mut Heap, shelf: &mut HookShelf, alloc: Global) -> (Option<u64>, Option<u64>) {
+fn by_turns(heap: &mut Heap, shelf: &mut HookShelf<RisingHooks>, alloc: Global) -> (Option<u64>, Option<u64>) {
     let mut got = (None, None);
     for _ in 0..1000 {
         if let Some(addr) = region(heap.step_client(0, shelf, alloc).ended) {

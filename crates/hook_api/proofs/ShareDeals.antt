@@ -12,8 +12,7 @@ use Rattle.atomic_table.specs.Table.{State}
 use Rattle.hook_api.specs.declared.seat.AskSeat.{AskSeat}
 use Rattle.hook_api.specs.declared.sights.Sight.{Sight}
 use Rattle.hook_api.specs.Counts.{greatest}
-use Rattle.hook_api.specs.Hooks.{Account}
-use Rattle.hook_api.specs.Shelf.{BoxState, new_book, no_account, no_box}
+use Rattle.hook_api.specs.Shelf.{BoxState, no_account, no_box}
 use Rattle.hook_api.specs.Seats.{refused_at, tallies_of}
 use Rattle.hook_api.specs.Shared.{HasCounted}
 use Rattle.hook_api.specs.Sharing.{Covers, Rule, blank, clients_of, refused_by, refused_in}
@@ -71,11 +70,6 @@ pub account_at : (xs : List BoxState) (n : ℕ) → get_or (map (λ (d : BoxStat
 account_at [] n = refl
 account_at (x ∷ xs) zero = refl
 account_at (x ∷ xs) (suc n) = account_at xs n
-
--- boxes with new books have the boxes' accounts
-pub with_books : {B : Type 0} (account : B → Account) (bs : List B) → map (λ (d : BoxState). d.account) (map (λ b. record { account = account b; book = new_book }) bs) ≡ map account bs
-with_books account [] = refl
-with_books account (b ∷ bs) = ap (λ (l : List Account). account b ∷ l) (with_books account bs)
 
 -- one box more is taken out
 pub take_more : {A B : Type 0} (f : A → B) (xs : List A) (i : ℕ) (x : A) → get_elem? xs i ≡ some x → take (suc i) (map f xs) ≡ take i (map f xs) ++ f x ∷ []

@@ -12,4 +12,3 @@ pub mod Seats
 pub mod ShareSteps
 pub mod Shared
 pub mod Sharing
-pub mod ShelfOf

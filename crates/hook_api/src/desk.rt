@@ -43,15 +43,22 @@ impl<H: ExtentHooks> Desk<H> {
         }
     }
 
-    /// The box and its book.
-    pub(crate) fn into_parts(self) -> (H, Book)
-        ensures { self ≡ record { account = H.account result.0; book = result.1 } }
+    /// The box.
+    pub(crate) fn into_box(self) -> H
+        ensures { H.account result ≡ self.account }
     {
-        let Desk {
-            hooks,
-            book,
-            taken_over: _,
-        } = self;
+        let Desk { hooks, .. } = self;
+        hooks
+    }
+
+    /// The box and its book, which has taken over the plans that were set outside its lock.
+    pub(crate) fn close(mut self, orders: &Orders) -> (H, Book)
+        ensures { H.account result.0 ≡ self.account }
+    {
+        for kind in Kind::ALL {
+            self.take_over(kind, orders.get(kind));
+        }
+        let Desk { hooks, book, .. } = self;
         (hooks, book)
     }
 

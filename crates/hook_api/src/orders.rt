@@ -2,7 +2,9 @@
 
 ghost use Rattle.std.specs.Prelude.{◌≡◌, true};
 ghost use Rattle.hook_api.specs.Orders.{had_at, no_orders, with_order};
+ghost use Rattle.hook_api.specs.Plans.{is_set, plan_at};
 
+use crate::books::Book;
 use crate::plans::Kind;
 
 /// The plan that was set last for one kind. A box takes it over at the next ask of the kind.
@@ -35,6 +37,17 @@ impl Orders {
                 nth: 0,
             }; Kind::COUNT],
         }
+    }
+
+    /// The kinds that have a plan in a book. None was set since.
+    pub(crate) fn of(book: &Book) -> Orders
+        ensures { (kind : Kind) → had_at result kind ≡ is_set (plan_at book.now.plans kind) }
+    {
+        let mut orders = Orders::none();
+        for i in 0..Kind::COUNT {
+            orders.kinds[i].ever = book.plans[i].is_set();
+        }
+        orders
     }
 
     /// What was set last for a kind.

@@ -1,37 +1,56 @@
 //! How boxes come to be shared.
 
-ghost use Rattle.std.specs.Prelude.{◌≡◌, ℕ, ◌+◌, ◌<◌, ◌≤◌, [], ◌∷◌, length, map, replicate, slice_index, slice_index_or, vec_capacity, vec_len, IfOk, IfErr};
+ghost use Rattle.std.specs.Prelude.{◌≡◌, ℕ, ◌+◌, ◌<◌, ◌≤◌, [], ◌∷◌, length, map, replicate, slice_index, slice_index_or, vec_capacity, vec_len, Some, IfOk, IfErr};
 ghost use Rattle.std.specs.List.{All};
-ghost use Rattle.hook_api.specs.Orders.{no_orders};
+ghost use Rattle.hook_api.specs.Orders.{had_at, no_orders};
+ghost use Rattle.hook_api.specs.Plans.{is_set, plan_at};
 ghost use Rattle.hook_api.specs.Seats.{seats};
-ghost use Rattle.hook_api.specs.Shared.{IsNewSeat, IsSeatOf, client_count, orders_of, own_at_share};
+ghost use Rattle.hook_api.specs.Shared.{IsNewSeat, IsSeatOf, client_count, own_at_share};
 ghost use Rattle.hook_api.specs.Sharing.{blank};
 ghost use Rattle.hook_api.specs.ShareSteps.{idle};
-ghost use Rattle.hook_api.specs.Shelf.{new_book, no_account, no_box};
+ghost use Rattle.hook_api.specs.Shelf.{new_book, no_box};
 
 use crate::books::Book;
 use crate::desk::Desk;
 use crate::hooks::ExtentHooks;
 use crate::locks::Locks;
 use crate::orders::Orders;
+use crate::plans::Kind;
 use crate::seat::AskSeat;
 use crate::seats::AskSeats;
 use crate::share_rule::{Board, Parts, Place};
 use crate::shared::SharedShelf;
-use crate::shelf::BOXES;
+use crate::shelf::{BOXES, HookShelf};
 use crate::sights::Began;
 use atomic_table::Table;
 use std::alloc::{AllocError as NoMemory, Global};
 
-/// The boxes, each with a book of no ask.
-fn desks_of<H: ExtentHooks>(boxes: Vec<H>, mut desks: Vec<Desk<H>>) -> Vec<Desk<H>>
-    requires room { (desks.items ≡ []) × (vec_len boxes ≤ vec_capacity desks) }
-    ensures { result.items ≡ map (λ b. record { account = H.account b; book = new_book }) boxes.items }
+/// The boxes, each with its book.
+fn desks_of<H: ExtentHooks>(
+    boxes: Vec<H>,
+    books: &[Book; BOXES],
+    mut desks: Vec<Desk<H>>,
+) -> Vec<Desk<H>>
+    requires full { vec_len boxes ≡ 32 }
+    requires room { (desks.items ≡ []) × (32 ≤ vec_capacity desks) }
+    ensures { map (λ d. d.account) result.items ≡ map H.account boxes.items }
 {
     for hooks in boxes {
-        desks.push_reserved(Desk::new(hooks, Book::new()));
+        let book = books[desks.len()];
+        desks.push_reserved(Desk::new(hooks, book));
     }
     desks
+}
+
+/// The kinds that have a plan, by box number.
+fn orders_in(books: &[Book; BOXES]) -> [Orders; BOXES]
+    ensures { (n : ℕ) → n < 32 → (kind : Kind) → had_at (slice_index_or result n no_orders) kind ≡ is_set (plan_at (slice_index_or books.now n new_book).plans kind) }
+{
+    let mut orders = [Orders::none(); BOXES];
+    for i in 0..BOXES {
+        orders[i] = Orders::of(&books[i]);
+    }
+    orders
 }
 
 /// The boxes without their books.
@@ -40,7 +59,7 @@ fn boxes_of<H: ExtentHooks>(desks: Vec<Desk<H>>, mut boxes: Vec<H>) -> Vec<H>
     ensures { map H.account result.items ≡ map (λ d. d.account) desks.items }
 {
     for desk in desks {
-        boxes.push_reserved(desk.into_parts().0);
+        boxes.push_reserved(desk.into_box());
     }
     boxes
 }
@@ -97,33 +116,36 @@ impl<H: ExtentHooks> Locks<H> {
     }
 }
 
-impl<H: ExtentHooks> SharedShelf<H> {
-    /// Puts 32 boxes under locks of their own, and makes a seat for each client. Where there is no memory the boxes come
-    /// back.
+impl<H: ExtentHooks> HookShelf<H> {
+    ghost use Rattle.hook_api.specs.Shelf.{box_at};
+    ghost use Rattle.hook_api.specs.Shared.{had};
+
+    /// Puts the boxes under locks of their own, with the plans that are in force, and makes a seat for each client. Where
+    /// there is no memory the shelf comes back.
     pub fn share(
+        self,
         alloc: Global,
-        boxes: Vec<H>,
         clients: u32,
-    ) -> Result<(SharedShelf<H>, AskSeats), (Vec<H>, NoMemory)>
-        requires boxes { length boxes.items ≡ 32 }
+    ) -> Result<(SharedShelf<H>, AskSeats), (HookShelf<H>, NoMemory)>
         requires clients { (0 < clients) × (clients ≤ 32) }
         ensures clients { IfOk result (λ r. client_count r.0 ≡ clients) }
-        ensures own { IfOk result (λ r. (n : ℕ) → n < 32 → slice_index (own_at_share r.0) n ≡ (slice_index_or (map H.account boxes.items) n no_account).refusals) }
-        ensures plans { IfOk result (λ r. orders_of r.0 ≡ replicate 32 no_orders) }
+        ensures own { IfOk result (λ r. (n : ℕ) → n < 32 → slice_index (own_at_share r.0) n ≡ (box_at self n).account.refusals) }
+        ensures plans { IfOk result (λ r. (n : ℕ) → n < 32 → (kind : Kind) → had r.0 n (Some kind) ≡ is_set (plan_at (box_at self n).book.plans kind)) }
         ensures count { IfOk result (λ r. length (seats r.1) ≡ clients) }
         ensures seats { IfOk result (λ r. All (λ seat. IsSeatOf r.0 seat × IsNewSeat seat) (seats r.1)) }
-        ensures back { IfErr result (λ r. map H.account r.0.items ≡ map H.account boxes.items) }
+        ensures back { IfErr result (λ r. r.0 ≡ self) }
     {
+        let HookShelf { boxes, books } = self;
         let Ok(room) = room_for(alloc, BOXES) else {
-            return Err((boxes, NoMemory));
+            return Err((HookShelf { boxes, books }, NoMemory));
         };
         let Ok(mut items) = room_for(alloc, clients as usize) else {
-            return Err((boxes, NoMemory));
+            return Err((HookShelf { boxes, books }, NoMemory));
         };
         let Ok(desks) = room_for(alloc, BOXES) else {
-            return Err((boxes, NoMemory));
+            return Err((HookShelf { boxes, books }, NoMemory));
         };
-        let desks = desks_of(boxes, desks);
+        let desks = desks_of(boxes, &books, desks);
         let began = Began {
             own: own_counts(&desks),
             clients,
@@ -135,13 +157,16 @@ impl<H: ExtentHooks> SharedShelf<H> {
             &began,
         ) {
             Ok(made) => made,
-            Err(refused) => return Err((boxes_of(refused.slots, room), NoMemory)),
+            Err(refused) => {
+                let boxes = boxes_of(refused.slots, room);
+                return Err((HookShelf { boxes, books }, NoMemory));
+            }
         };
         let locks = Locks { table };
         locks.deal(clients, place, &mut items);
         let shelf = SharedShelf {
             locks,
-            orders: [Orders::none(); BOXES],
+            orders: orders_in(&books),
             boxes: room,
         };
         Ok((shelf, AskSeats { items }))

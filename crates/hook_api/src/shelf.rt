@@ -6,19 +6,33 @@ ghost use Rattle.hook_api.specs.Shelf.{count_of, BoxStep};
 
 use crate::asked::Asked;
 use crate::books::Book;
-use crate::hooks::{Boxes, ExtentHooks, Placed, Said};
+use crate::hooks::{ExtentHooks, Placed, Said};
 use crate::plans::Kind;
 use space_model::{Answer, Ask};
+use std::marker::Model;
 
 /// How many boxes a shelf has.
 pub(crate) const BOXES: usize = 32;
 
-/// 32 boxes of hooks by number, and the plans that refuse asks before a box hears of them.
+/// 32 boxes of hooks by number, and the plans that refuse asks before a box hears of them. Contracts see the accounts
+/// of the boxes and the books that the shelf keeps.
+///
+/// Where the boxes are of several kinds, `H` is an enum of these, or `Box<dyn ExtentHooks + Send>`.
 #[derive(Drop)]
-pub struct HookShelf {
-    boxes: Boxes,
-    books: [Book; BOXES],
-    ghost full: { length boxes.items ≡ 32 },
+pub struct HookShelf<H: ExtentHooks> {
+    pub(crate) boxes: Vec<H>,
+    pub(crate) books: [Book; BOXES],
+}
+
+impl<H: ExtentHooks> Model for HookShelf<H> {
+    ghost use Rattle.std.specs.Prelude.{◌≡◌, length, map};
+    ghost use Rattle.hook_api.specs.Shelf.{Shelf};
+
+    ghost Value = { Shelf };
+
+    ghost view = { λ s. record { accounts = map H.account s.boxes.items; books = s.books } };
+
+    ghost invariant = { λ s. length s.boxes.items ≡ 32 };
 }
 
 /// What `alloc` gave, as an answer.
@@ -115,14 +129,13 @@ pub(crate) fn ask_box<H: ExtentHooks>(
     }
 }
 
-impl HookShelf {
+impl<H: ExtentHooks> HookShelf<H> {
     ghost use Rattle.hook_api.specs.Shelf.{box_at, new_shelf, AskStep, PlanStep};
-    ghost use Rattle.hook_api.specs.ShelfOf.{shelf_of};
 
     /// A shelf of these 32 boxes, with no ask so far and no plan.
-    pub fn new(boxes: Boxes) -> HookShelf
+    pub fn new(boxes: Vec<H>) -> HookShelf<H>
         requires { vec_len boxes ≡ 32 }
-        ensures { shelf_of ExtentHooks-dyn result ≡ new_shelf (map (λ b. account b) boxes.items) }
+        ensures { result ≡ new_shelf (map H.account boxes.items) }
     {
         HookShelf {
             boxes,
@@ -133,7 +146,7 @@ impl HookShelf {
     /// Passes the ask to the box and gives its answer, except where a plan refuses it. Takes no memory.
     pub fn ask(&mut self, box_no: u32, ask: Ask) -> Asked
         requires { box_no < 32 }
-        ensures step { AskStep (shelf_of ExtentHooks-dyn self.old) result (shelf_of ExtentHooks-dyn self.new) }
+        ensures step { AskStep self.old result self.new }
         ensures of_box { result.box_no ≡ box_no }
         ensures of_ask { result.ask ≡ ask }
     {
@@ -145,7 +158,7 @@ impl HookShelf {
     /// where `nth` is 0. A refused `nth` ends its plan. Takes no memory.
     pub fn plan(&mut self, box_no: u32, kind: Kind, nth: u64)
         requires { box_no < 32 }
-        ensures { PlanStep (shelf_of ExtentHooks-dyn self.old) box_no kind nth (shelf_of ExtentHooks-dyn self.new) }
+        ensures { PlanStep self.old box_no kind nth self.new }
     {
         self.books[box_no as usize].set_plan(kind, nth);
     }
@@ -154,7 +167,7 @@ impl HookShelf {
     #[tactic(auto, using(crate::proofs::Boxes::box_at_mapped))]
     pub fn refusals(&self, box_no: u32) -> u64
         requires { box_no < 32 }
-        ensures { result ≡ count_of (box_at (shelf_of ExtentHooks-dyn self.now) box_no) }
+        ensures { result ≡ count_of (box_at self.now box_no) }
     {
         let i = box_no as usize;
         count(&self.boxes[i], &self.books[i])

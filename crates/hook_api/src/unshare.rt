@@ -7,30 +7,39 @@ ghost use Rattle.hook_api.specs.Seats.{refused_at, seats, tallies_of};
 ghost use Rattle.hook_api.specs.Shared.{HasCounted, IsSeatOf, client_count, own_at_share};
 ghost use Rattle.hook_api.specs.Sharing.{Covers};
 ghost use Rattle.hook_api.specs.ShareSteps.{idle};
-ghost use Rattle.hook_api.specs.Shelf.{no_account, no_box};
+ghost use Rattle.hook_api.specs.Shelf.{box_at, no_box};
 
+use crate::books::Book;
 use crate::desk::Desk;
 use crate::hooks::ExtentHooks;
 use crate::locks::Locks;
+use crate::orders::Orders;
 use crate::seat::AskSeat;
 use crate::seats::AskSeats;
 use crate::share_rule::{Gathers, Place};
 use crate::shared::SharedShelf;
-use crate::shelf::BOXES;
+use crate::shelf::{BOXES, HookShelf};
 use atomic_table::Closed;
 use std::alloc::Global;
 
-/// Takes the boxes out of their slots.
-fn empty<H: ExtentHooks>(mut closed: Closed<Desk<H>, Global>, mut boxes: Vec<H>) -> Vec<H>
+/// Takes the boxes and their books out of their slots.
+fn empty<H: ExtentHooks>(
+    mut closed: Closed<Desk<H>, Global>,
+    orders: &[Orders; BOXES],
+    mut boxes: Vec<H>,
+) -> HookShelf<H>
     requires slots { (slots_len closed.slots ≡ 32) × IsFull closed.slots }
     requires room { (boxes.items ≡ []) × (32 ≤ vec_capacity boxes) }
-    ensures { map H.account result.items ≡ map (λ d. d.account) (slots_items closed.slots) }
+    ensures { result.accounts ≡ map (λ d. d.account) (slots_items closed.slots) }
 {
+    let mut books = [Book::new(); BOXES];
     for i in 0..BOXES {
-        boxes.push_reserved(closed.take(i).into_parts().0);
+        let (hooks, book) = closed.take(i).close(&orders[i]);
+        boxes.push_reserved(hooks);
+        books[i] = book;
     }
     closed.free();
-    boxes
+    HookShelf { boxes, books }
 }
 
 impl<H: ExtentHooks> Locks<H> {
@@ -65,19 +74,18 @@ impl<H: ExtentHooks> Locks<H> {
 }
 
 impl<H: ExtentHooks> SharedShelf<H> {
-    /// Takes the boxes out. Where the seats of all clients are given, the refusals that they counted for each box add up
+    /// Takes the boxes out, with the plans that are in force. Where the seats of all clients are given, the refusals that they counted for each box add up
     /// to at most what the box's own count gained, or that count stands at the greatest `u64`. Takes no memory.
-    pub fn unshare(self, given: AskSeats) -> Vec<H>
+    pub fn unshare(self, given: AskSeats) -> HookShelf<H>
         requires seats { All (IsSeatOf self) (seats given) }
-        ensures count { length result.items ≡ 32 }
-        ensures counted { length (seats given) ≡ client_count self → (n : ℕ) → n < 32 → HasCounted (slice_index (own_at_share self) n) (slice_index_or (map H.account result.items) n no_account).refusals (sum_by (λ seat. refused_at seat n) (seats given)) }
+        ensures counted { length (seats given) ≡ client_count self → (n : ℕ) → n < 32 → HasCounted (slice_index (own_at_share self) n) (box_at result n).account.refusals (sum_by (λ seat. refused_at seat n) (seats given)) }
     {
         let SharedShelf {
             locks,
-            orders: _,
+            orders,
             boxes,
         } = self;
         let AskSeats { items } = given;
-        empty(locks.close(items), boxes)
+        empty(locks.close(items), &orders, boxes)
     }
 }

@@ -8,15 +8,16 @@ mod status;
 mod tests;
 mod words;
 
-use addr_space::AddrSpace;
+use addr_space::{AddrSpace, SharedSpace};
 use edge_io::{ReadEdge, WriteEdge};
-use hook_api::{Boxes, HookShelf};
+use hook_api::{ExtentHooks, HookShelf};
 use runs::run;
 use status::NO_MEMORY;
-use std::alloc::AllocError as NoMemory;
+use std::alloc::{AllocError as NoMemory, Global};
 use std::env;
 use std::io::{BufWriter, ErrorKind};
 use std::process::ExitCode;
+use std::sync::Wait;
 
 /// How many boxes of hooks a shelf has.
 const BOXES: usize = 32;
@@ -30,25 +31,42 @@ fn given_words(rt: &HostRuntime) -> Result<Vec<String>, NoMemory> {
     }
 }
 
+/// A shelf of boxes that share one space of addresses.
+fn sharing_shelf<R: Wait + Clone + Send + Drop>(
+    rt: R,
+    alloc: Global,
+) -> Result<HookShelf<SharedSpace<R>>, NoMemory> {
+    let first = SharedSpace::new(rt, alloc, AddrSpace::new(alloc)?)?;
+    let mut boxes = Vec::new(alloc);
+    while boxes.len() < BOXES {
+        boxes.push(first.again()?)?;
+    }
+    Ok(HookShelf::new(boxes))
+}
+
 /// Runs the program on standard input and standard output, and gives its status.
 ///
-/// What is written waits in a buffer until the run flushes it. Each box has a space of addresses of its own.
-fn run_on_streams(rt: &HostRuntime) -> Result<u8, NoMemory> {
+/// What is written waits in a buffer until the run flushes it.
+fn run_on_streams<H: ExtentHooks>(rt: &HostRuntime, shelf: HookShelf<H>) -> Result<u8, NoMemory> {
     let alloc = rt.alloc();
     let words = given_words(rt)?;
-    let mut boxes: Boxes = Vec::new(alloc);
-    while boxes.len() < BOXES {
-        boxes.push(Box::new(alloc, AddrSpace::new(alloc)?)?)?;
-    }
     let mut source = ReadEdge::new(rt.stdin());
     let Ok(output) = BufWriter::new(alloc, rt.stdout()) else {
         return Err(NoMemory);
     };
     let mut sink = WriteEdge::new(output);
-    let shelf = HookShelf::new(boxes);
     Ok(run(alloc, &words, &mut source, &mut sink, shelf).status)
 }
 
+/// Runs the program over boxes that share one space.
+fn run_sharing<R: Wait + Clone + Send + Drop>(
+    rt: &HostRuntime,
+    waiting: &R,
+) -> Result<u8, NoMemory> {
+    let shelf = sharing_shelf(waiting.clone()?, rt.alloc())?;
+    run_on_streams(rt, shelf)
+}
+
 fn main(rt: HostRuntime) -> ExitCode {
-    ExitCode::from(run_on_streams(&rt).unwrap_or(NO_MEMORY))
+    ExitCode::from(run_sharing(&rt, &rt).unwrap_or(NO_MEMORY))
 }

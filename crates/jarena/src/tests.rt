@@ -2,7 +2,7 @@
 
 use crate::runs::run;
 use edge_io::{MemSink, MemSource};
-use hook_api::{Boxes, HookShelf, RisingHooks};
+use hook_api::{HookShelf, RisingHooks};
 use std::alloc::{AllocError as NoMemory, Global};
 use std::test::Fail;
 
@@ -32,9 +32,9 @@ fn outcome(alloc: Global, given: Given<'_>) -> Result<(u8, String), NoMemory> {
     for word in given.words {
         words.push(String::from_str(alloc, word)?)?;
     }
-    let mut boxes: Boxes = Vec::new(alloc);
+    let mut boxes = Vec::new(alloc);
     while boxes.len() < 32 {
-        boxes.push(Box::new(alloc, RisingHooks::new())?)?;
+        boxes.push(RisingHooks::new())?;
     }
     let shelf = HookShelf::new(boxes);
     let input = given.input.as_bytes().to_vec(alloc)?;

@@ -3,7 +3,6 @@
 ghost use Rattle.std.specs.Prelude.{◌≡◌, ◌≢◌, ◌++◌, ◌<◌, ◌≤◌, ℕ, Bool, true, false, [], Some, IfErr, OnErr, OnOk};
 ghost use Rattle.edge_io.specs.Bytes.{Appends, AppendsPrefix};
 ghost use Rattle.hook_api.specs.Shelf.{Shelf};
-ghost use Rattle.hook_api.specs.ShelfOf.{shelf_of};
 ghost use Rattle.call_table.specs.declared.needs.Answered.{Answered};
 ghost use Rattle.call_table.specs.declared.needs.Answered.TheVariants.{NoMemory as WasStarved};
 ghost use Rattle.trace_text.specs.declared.lines.Verb.{Verb};
@@ -23,7 +22,7 @@ use crate::state::State;
 use call_table::Answered;
 use edge_io::Sink;
 use heap_core::{Did, Stepped};
-use hook_api::HookShelf;
+use hook_api::{ExtentHooks, HookShelf};
 use report_text::{Head, ask_line, call_line, turn_line};
 use space_model::Rest;
 use std::alloc::{AllocError as NoMemory, Global};
@@ -110,10 +109,10 @@ fn is_starved(told: &Stepped) -> bool
 
 /// Makes one step of a client's open call, and prints its answer where it ends by it. The line of the step itself is printed
 /// where it is to be shown.
-pub fn step_once<K: Sink>(
+pub fn step_once<K: Sink, H: ExtentHooks>(
     alloc: Global,
     sink: &mut K,
-    shelf: &mut HookShelf,
+    shelf: &mut HookShelf<H>,
     state: &mut State,
     client: u32,
     shown: bool,
@@ -121,8 +120,8 @@ pub fn step_once<K: Sink>(
     requires client { client < 32 }
     requires open_call { is_open state.old.heap client ≡ true }
     ensures goes { (from : Outset) (count : ℕ) (awaits : Awaits) (at : Reading) → client_awaited awaits ≡ Some client → is_one_step awaits ≡ shown
-        → Here from count awaits [] (now_of state.old (shelf_of ExtentHooks-dyn shelf.old) at (K.held sink.old))
-        → Goes from count (awaits_after awaits (is_open state.new.heap client)) result (now_of state.new (shelf_of ExtentHooks-dyn shelf.new) at (K.held sink.new)) }
+        → Here from count awaits [] (now_of state.old shelf.old at (K.held sink.old))
+        → Goes from count (awaits_after awaits (is_open state.new.heap client)) result (now_of state.new shelf.new at (K.held sink.new)) }
     ensures longer { OnOk result (steps_of state.old.heap < steps_of state.new.heap) }
     ensures cause { IfErr result (λ stop. HasStopCause stop 0 0 (K.faults sink.old) (K.faults sink.new)) }
     ensures counts { K.faults sink.old ≤ K.faults sink.new }
@@ -194,17 +193,17 @@ fn begin_call<K: Sink>(
 }
 
 /// Runs a client's open call to its end, if it has one, and prints its answer.
-pub fn run_to_end<K: Sink>(
+pub fn run_to_end<K: Sink, H: ExtentHooks>(
     alloc: Global,
     sink: &mut K,
-    shelf: &mut HookShelf,
+    shelf: &mut HookShelf<H>,
     state: &mut State,
     client: u32,
 ) -> Result<(), Stop>
     requires { client < 32 }
     ensures goes { (from : Outset) (count : ℕ) (awaits : Awaits) (at : Reading) → client_awaited awaits ≡ Some client → is_one_step awaits ≡ false
-        → Here from count (awaits_after awaits (is_open state.old.heap client)) [] (now_of state.old (shelf_of ExtentHooks-dyn shelf.old) at (K.held sink.old))
-        → Goes from count (awaits_after awaits false) result (now_of state.new (shelf_of ExtentHooks-dyn shelf.new) at (K.held sink.new)) }
+        → Here from count (awaits_after awaits (is_open state.old.heap client)) [] (now_of state.old shelf.old at (K.held sink.old))
+        → Goes from count (awaits_after awaits false) result (now_of state.new shelf.new at (K.held sink.new)) }
     ensures rests { OnOk result (is_open state.new.heap client ≡ false) }
     ensures cause { IfErr result (λ stop. HasStopCause stop 0 0 (K.faults sink.old) (K.faults sink.new)) }
     ensures counts { K.faults sink.old ≤ K.faults sink.new }
@@ -218,10 +217,10 @@ pub fn run_to_end<K: Sink>(
 
 /// Carries out the call of a line, behind the end of the one that its client has open: to its end, where it is to be carried out
 /// whole, or else its beginning alone.
-pub fn carry_call<K: Sink>(
+pub fn carry_call<K: Sink, H: ExtentHooks>(
     alloc: Global,
     sink: &mut K,
-    shelf: &mut HookShelf,
+    shelf: &mut HookShelf<H>,
     state: &mut State,
     client: u32,
     verb: Verb,
@@ -230,8 +229,8 @@ pub fn carry_call<K: Sink>(
     requires client { client < 32 }
     requires limits { IsVerbWithinLimits verb }
     ensures goes { (from : Outset) (count : ℕ) (at : Reading)
-        → Here from count (awaits_call (is_open state.old.heap client) client verb whole) [] (now_of state.old (shelf_of ExtentHooks-dyn shelf.old) at (K.held sink.old))
-        → Goes from count Nothing result (now_of state.new (shelf_of ExtentHooks-dyn shelf.new) at (K.held sink.new)) }
+        → Here from count (awaits_call (is_open state.old.heap client) client verb whole) [] (now_of state.old shelf.old at (K.held sink.old))
+        → Goes from count Nothing result (now_of state.new shelf.new at (K.held sink.new)) }
     ensures cause { IfErr result (λ stop. HasStopCause stop 0 0 (K.faults sink.old) (K.faults sink.new)) }
     ensures counts { K.faults sink.old ≤ K.faults sink.new }
 {

@@ -2,7 +2,6 @@
 
 ghost use Rattle.std.specs.Prelude.{◌≡◌, ◌<◌, ◌≤◌, ◌++◌, ℕ, true, false, [], ◌∷◌, None, IfErr, OnErr, OnOk};
 ghost use Rattle.edge_io.specs.Bytes.{Appends, AppendsPrefix};
-ghost use Rattle.hook_api.specs.ShelfOf.{shelf_of};
 ghost use Rattle.report_text.specs.Lines.{idle_line};
 ghost use Rattle.trace_text.specs.declared.lines.Line.TheVariants.{End, Step};
 ghost use Rattle.trace_text.specs.Grammar.{IsWithinLimits};
@@ -16,7 +15,7 @@ use crate::input::Stop;
 use crate::prints::print;
 use crate::state::State;
 use edge_io::Sink;
-use hook_api::HookShelf;
+use hook_api::{ExtentHooks, HookShelf};
 use report_text::{counts_line, idle_line, no_arena_line};
 use space_model::Counts;
 use std::alloc::{AllocError as NoMemory, Global};
@@ -62,17 +61,17 @@ fn print_counts<K: Sink>(
 }
 
 /// Makes one step of a client's open call, and prints it, or that there is none.
-fn step_line<K: Sink>(
+fn step_line<K: Sink, H: ExtentHooks>(
     alloc: Global,
     sink: &mut K,
-    shelf: &mut HookShelf,
+    shelf: &mut HookShelf<H>,
     state: &mut State,
     client: u32,
 ) -> Result<(), Stop>
     requires { client < 32 }
     ensures goes { (from : Outset) (count : ℕ) (at : Reading)
-        → Here from count Nothing (Step client ∷ []) (now_of state.old (shelf_of ExtentHooks-dyn shelf.old) at (K.held sink.old))
-        → Goes from count Nothing result (now_of state.new (shelf_of ExtentHooks-dyn shelf.new) at (K.held sink.new)) }
+        → Here from count Nothing (Step client ∷ []) (now_of state.old shelf.old at (K.held sink.old))
+        → Goes from count Nothing result (now_of state.new shelf.new at (K.held sink.new)) }
     ensures cause { IfErr result (λ stop. HasStopCause stop 0 0 (K.faults sink.old) (K.faults sink.new)) }
     ensures counts { K.faults sink.old ≤ K.faults sink.new }
 {
@@ -84,17 +83,17 @@ fn step_line<K: Sink>(
 }
 
 /// Runs a client's open call to its end, or prints that there is none.
-fn end_line<K: Sink>(
+fn end_line<K: Sink, H: ExtentHooks>(
     alloc: Global,
     sink: &mut K,
-    shelf: &mut HookShelf,
+    shelf: &mut HookShelf<H>,
     state: &mut State,
     client: u32,
 ) -> Result<(), Stop>
     requires { client < 32 }
     ensures goes { (from : Outset) (count : ℕ) (at : Reading)
-        → Here from count Nothing (End client ∷ []) (now_of state.old (shelf_of ExtentHooks-dyn shelf.old) at (K.held sink.old))
-        → Goes from count Nothing result (now_of state.new (shelf_of ExtentHooks-dyn shelf.new) at (K.held sink.new)) }
+        → Here from count Nothing (End client ∷ []) (now_of state.old shelf.old at (K.held sink.old))
+        → Goes from count Nothing result (now_of state.new shelf.new at (K.held sink.new)) }
     ensures cause { IfErr result (λ stop. HasStopCause stop 0 0 (K.faults sink.old) (K.faults sink.new)) }
     ensures counts { K.faults sink.old ≤ K.faults sink.new }
 {
@@ -106,18 +105,18 @@ fn end_line<K: Sink>(
 }
 
 /// Carries out a line that has no cause against it.
-pub fn carry_line<K: Sink>(
+pub fn carry_line<K: Sink, H: ExtentHooks>(
     alloc: Global,
     sink: &mut K,
-    shelf: &mut HookShelf,
+    shelf: &mut HookShelf<H>,
     state: &mut State,
     line: Line,
 ) -> Result<(), Stop>
     requires cause { line_cause state.old.moment line ≡ None }
     requires limits { IsWithinLimits line }
     ensures goes { (from : Outset) (count : ℕ) (at : Reading)
-        → Here from count Nothing (line ∷ []) (now_of state.old (shelf_of ExtentHooks-dyn shelf.old) at (K.held sink.old))
-        → Goes from count Nothing result (now_of state.new (shelf_of ExtentHooks-dyn shelf.new) at (K.held sink.new)) }
+        → Here from count Nothing (line ∷ []) (now_of state.old shelf.old at (K.held sink.old))
+        → Goes from count Nothing result (now_of state.new shelf.new at (K.held sink.new)) }
     ensures cause { IfErr result (λ stop. HasStopCause stop 0 0 (K.faults sink.old) (K.faults sink.new)) }
     ensures counts { K.faults sink.old ≤ K.faults sink.new }
 {

@@ -1,9 +1,8 @@
 //! The replay of a trace: its lines are carried out, and what they answer is printed.
 
-ghost use Rattle.std.specs.Prelude.{⊤, ◌≡◌, ◌≢◌, ◌+◌, ◌<◌, ◌≤◌, ◌⊎◌, ◌++◌, ℕ, true, List, [], Result, Err, map, replicate, None, IfErr, IfOk, OnErr, OnOk};
+ghost use Rattle.std.specs.Prelude.{◌≡◌, ◌≢◌, ◌+◌, ◌<◌, ◌≤◌, ◌⊎◌, ◌++◌, ℕ, true, List, [], Result, Err, map, replicate, None, IfErr, IfOk, OnErr, OnOk};
 ghost use Rattle.edge_io.specs.Bytes.{Appends, AppendsPrefix, Keeps, Rose};
 ghost use Rattle.hook_api.specs.Asked.{AskFacts};
-ghost use Rattle.hook_api.specs.ShelfOf.{shelf_of};
 ghost use Rattle.hook_api.specs.declared.kept.Journal.{Journal};
 ghost use Rattle.heap_core.specs.Arenas.{journal_of};
 ghost use Rattle.heap_core.specs.Heaps.{opening_heap};
@@ -21,7 +20,7 @@ use crate::prints::{flush, print};
 use crate::state::State;
 use edge_io::{Sink, Source};
 use heap_core::{ARENAS, Heap};
-use hook_api::{Askeds, HookShelf, Journals};
+use hook_api::{Askeds, ExtentHooks, HookShelf, Journals};
 use report_text::{Cause, bad_line, counts_line};
 use space_model::Counts;
 use std::alloc::{AllocError as NoMemory, Global};
@@ -49,12 +48,12 @@ const LINES: u64 = 1 << 20;
 
 /// What a replay leaves.
 #[derive(Drop)]
-pub struct Replayed {
+pub struct Replayed<H: ExtentHooks> {
     /// The status: 0, or 3 where a line can't be carried out, 4 where a read failed, 5 where a write failed, 6 where memory was
     /// wanting, and 7 where a limit was passed.
     pub status: u8,
     /// The shelf that was handed in, after the asks of the run and the plans of its lines.
-    pub shelf: HookShelf,
+    pub shelf: HookShelf<H>,
     /// The journals of the 32 arenas, or none where memory for the arenas or for the list was wanting.
     pub journals: Journals,
     /// Every ask of the run, in order, or none in those two cases.
@@ -84,17 +83,17 @@ fn unread(found: Found, pending: &Pending) -> Next
 }
 
 /// Looks for the next line, and carries it out.
-fn next_line<S: Source, K: Sink>(
+fn next_line<S: Source, K: Sink, H: ExtentHooks>(
     alloc: Global,
     source: &mut S,
     sink: &mut K,
-    shelf: &mut HookShelf,
+    shelf: &mut HookShelf<H>,
     state: &mut State,
     pending: &mut Pending,
 ) -> Result<Next, Stop>
     ensures goes { (from : Outset) (count : ℕ) → count < line_limit
-        → Here from count Nothing [] (now_of state.old (shelf_of ExtentHooks-dyn shelf.old) (reading pending.old (S.left source.old) (S.ended source.old)) (K.held sink.old))
-        → GoesNext from count result (now_of state.new (shelf_of ExtentHooks-dyn shelf.new) (reading pending.new (S.left source.new) (S.ended source.new)) (K.held sink.new)) }
+        → Here from count Nothing [] (now_of state.old shelf.old (reading pending.old (S.left source.old) (S.ended source.old)) (K.held sink.old))
+        → GoesNext from count result (now_of state.new shelf.new (reading pending.new (S.left source.new) (S.ended source.new)) (K.held sink.new)) }
     ensures cause { IfErr result (λ stop. HasStopCause stop (S.faults source.old) (S.faults source.new) (K.faults sink.old) (K.faults sink.new)) }
     ensures source_counts { S.faults source.old ≤ S.faults source.new }
     ensures sink_counts { K.faults sink.old ≤ K.faults sink.new }
@@ -183,19 +182,19 @@ fn close<K: Sink>(alloc: Global, sink: &mut K, state: &State) -> Result<u8, Stop
 }
 
 /// Carries out the lines of the source, and gives the status: 0, or that of the first bad line.
-fn run_lines<S: Source, K: Sink>(
+fn run_lines<S: Source, K: Sink, H: ExtentHooks>(
     alloc: Global,
     source: &mut S,
     sink: &mut K,
-    shelf: &mut HookShelf,
+    shelf: &mut HookShelf<H>,
     state: &mut State,
 ) -> Result<u8, Stop>
     requires heap { state.old.heap ≡ opening_heap }
     requires verbs { state.old.verbs.items ≡ replicate 32 None }
     requires names { state.old.names ≡ [] }
     requires moment { state.old.moment ≡ 0 }
-    ensures replay { ReplayOf (status_in result) (map journal_of state.new.heap.records) state.new.heap.heard (shelf_of ExtentHooks-dyn shelf.old)
-        (shelf_of ExtentHooks-dyn shelf.new) (S.ended source.new) (S.left source.old) (S.left source.new) (K.held sink.old) (K.held sink.new) }
+    ensures replay { ReplayOf (status_in result) (map journal_of state.new.heap.records) state.new.heap.heard shelf.old
+        shelf.new (S.ended source.new) (S.left source.old) (S.left source.new) (K.held sink.old) (K.held sink.new) }
     ensures status { IfOk result (λ status. (status ≡ 0) ⊎ (status ≡ 3) ⊎ (status ≡ 7)) }
     ensures cause { IfErr result (λ stop. HasStopCause stop (S.faults source.old) (S.faults source.new) (K.faults sink.old) (K.faults sink.new)) }
     ensures source_counts { S.faults source.old ≤ S.faults source.new }
@@ -280,17 +279,14 @@ fn books_of(alloc: Global, heap: Heap, ended: Result<u8, Stop>) -> Books
 /// The first bad line is answered by its number and its cause, and ends the replay: with status 7 where it is behind the
 /// 1,048,576 lines that a trace may have, has more than 256 bytes or names a client above 31, and else with status 3. After a
 /// read that failed the status is 4, after a write that failed 5, and 6 where memory was wanting; the journals and the asks stay.
-pub fn replay<S: Source, K: Sink>(
+pub fn replay<S: Source, K: Sink, H: ExtentHooks>(
     alloc: Global,
     source: &mut S,
     sink: &mut K,
-    shelf: HookShelf,
-) -> Replayed
-    // This clause asks nothing. By it callers in other crates know that no hooks are made in here: those that come back
-    // are those that were handed in.
-    requires { ⊤ }
-    ensures replay { (journals : List Journal) × (heard : List AskFacts) × ReplayOf result.status journals heard (shelf_of ExtentHooks-dyn shelf)
-        (shelf_of ExtentHooks-dyn result.shelf) (S.ended source.new) (S.left source.old) (S.left source.new) (K.held sink.old) (K.held sink.new)
+    shelf: HookShelf<H>,
+) -> Replayed<H>
+    ensures replay { (journals : List Journal) × (heard : List AskFacts) × ReplayOf result.status journals heard shelf
+        result.shelf (S.ended source.new) (S.left source.old) (S.left source.new) (K.held sink.old) (K.held sink.new)
         × HandsOut result.status journals heard result.journals result.heard }
     ensures ended { result.status ≡ 0 → S.ended source.new ≡ true }
     ensures read_fault { result.status ≡ 4 → Rose (S.faults source.old) (S.faults source.new) }

@@ -18,8 +18,8 @@ loop-i-preserved g c =
       emptied = λ k under. ap (λ (l : List Bool). get_or l k false) others.1 ∙ dite (ℕ_discrete k i)
           (λ is. subst (λ n. get_or (Rattle.std.proofs.Common.set old i false) n false ≡ false) (sym is) (set_false old i))
           (λ ne. get_or-set_other old i k false false ne ∙ before.emptied k (omega arith));
-      boxes = ap (map account) c.push_reserved.ensures.items ∙ (map-append account c.loop-i.boxes.items (c.into_parts.result.0 ∷ [])
-          ∙ ((λ k. before.boxes k ++ (ap (λ (d : BoxState). d.account) (sym c.into_parts.ensures)) k ∷ []) ∙ sym (ap (λ n. take n (map (λ (d : BoxState). d.account) (slots_items c.args.closed.slots))) next
+      boxes = ap (map account) c.push_reserved.ensures.items ∙ (map-append account c.loop-i.boxes.items (c.close-hooks.result.0 ∷ [])
+          ∙ ((λ k. before.boxes k ++ c.close-hooks.ensures k ∷ []) ∙ sym (ap (λ n. take n (map (λ (d : BoxState). d.account) (slots_items c.args.closed.slots))) next
           ∙ take_more (λ (d : BoxState). d.account) (slots_items c.args.closed.slots) i c.take.result there)));
       room = search rules;
     }

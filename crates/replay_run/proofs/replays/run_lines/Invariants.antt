@@ -1,15 +1,13 @@
 use Rattle.std.proofs.Common.{◌≤◌, []}
-use Rattle.hook_api.specs.ShelfOf.{shelf_of}
 use Rattle.replay_run.specs.SoFar.{Here, now_of, reading}
 use Rattle.replay_run.specs.World.{Nothing}
-use Rattle.replay_run.specs.contracts.replays.run_lines.dyn-1.{members}
 use Rattle.replay_run.proofs.replays.run_lines.Given as goal
 
 -- as many lines as turns were carried out so far
 abbrev pub invariant-loop-count : goal.invariant-loop-count
 invariant-loop-count g l = record {
-  here : Here (record { shelf = shelf_of (members g.row.S g.row.K g.dyn-1) l.initial.shelf; left = g.S.Source.left l.initial.source; held = g.K.Sink.held l.initial.sink }) l.count Nothing []
-      (now_of l.state (shelf_of (members g.row.S g.row.K g.dyn-1) l.shelf) (reading l.pending (g.S.Source.left l.source) (g.S.Source.ended l.source)) (g.K.Sink.held l.sink));
+  here : Here (record { shelf = l.initial.shelf; left = g.S.Source.left l.initial.source; held = g.K.Sink.held l.initial.sink }) l.count Nothing []
+      (now_of l.state l.shelf (reading l.pending (g.S.Source.left l.source) (g.S.Source.ended l.source)) (g.K.Sink.held l.sink));
   source_faults : g.S.Source.faults l.initial.source ≤ g.S.Source.faults l.source;
   sink_faults : g.K.Sink.faults l.initial.sink ≤ g.K.Sink.faults l.sink;
 }
