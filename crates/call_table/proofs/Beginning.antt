@@ -209,9 +209,9 @@ pub begins-know : BeginsKnow
 begins-know m (Malloc size) desk range ready = malloc_knows m size desk ready
 begins-know m (Memalign align size) desk range ready = memalign_knows m align size desk ready
 begins-know m (Free addr) desk range ready = free_knows m addr (held_at addr desk) desk refl ready
-begins-know m (FreeForeign addr index) desk range ready = first_knows m index (Owning addr true) ready.idle ready.idle
+begins-know m (FreeForeign addr index) desk range ready = first_knows m index (Owning addr true false) ready.idle ready.idle
 begins-know m (Publish addr) desk range ready = publish_knows m addr (held_at addr desk) desk refl ready
-begins-know m (Take addr index) desk range ready = first_knows m index (Owning addr false) ready.idle ready.idle
+begins-know m (Take addr index) desk range ready = first_knows m index (Owning addr false false) ready.idle ready.idle
 begins-know m Flush desk range ready = flush_knows m desk ready
 begins-know m (Cache true) desk range ready = ready.idle
 begins-know m (Cache false) desk range ready = flush_knows m desk ready

@@ -189,9 +189,9 @@ turned_most Dooming (Doomed span b) few = (omega arith, tt)
 turned_most Dooming reply few = tt
 turned_most (Publishing addr) Noted few = tt
 turned_most (Publishing addr) reply few = tt
-turned_most (Owning addr true) (Owned class) few = tt
-turned_most (Owning addr false) (Owned class) few = tt
-turned_most (Owning addr frees) reply few = tt
+turned_most (Owning addr true past) (Owned class) few = tt
+turned_most (Owning addr false past) (Owned class) few = tt
+turned_most (Owning addr frees past) reply few = tt
 
 told_most : (point : AskPoint) (asked : AskFacts) (reply : Reply) → IsSized point → Most (credit_ask point + brings (Replied reply)) (told point asked reply)
 told_most (Skipping wish span b skip) asked (Cut high) few = trim_most _ wish high b (omega arith) few
@@ -348,9 +348,9 @@ begin_begun (Memalign align size) desk =
     chosen_stage (Begun 5) (not (is_alignment align)) _ _ tt (sized_begun size (aligned_for size align) desk _
     (λ most. got_begun (aligned_for size align) (page_align align) (small_hit (aligned_for size align) desk) desk (aligned_below size align most)))
 begin_begun (Free addr) desk = free_begun addr (held_at addr desk) desk
-begin_begun (FreeForeign addr index) desk = first_begun index (Owning addr true) (omega arith) tt
+begin_begun (FreeForeign addr index) desk = first_begun index (Owning addr true false) (omega arith) tt
 begin_begun (Publish addr) desk = publish_begun addr (held_at addr desk)
-begin_begun (Take addr index) desk = first_begun index (Owning addr false) (omega arith) tt
+begin_begun (Take addr index) desk = first_begun index (Owning addr false false) (omega arith) tt
 begin_begun Flush desk = batch_begun desk.arena (batch_of (going true desk))
 begin_begun (Cache true) desk = tt
 begin_begun (Cache false) desk = batch_begun desk.arena (batch_of (going true desk))

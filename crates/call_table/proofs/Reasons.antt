@@ -83,7 +83,7 @@ module _ (desk : DeskFacts) where
   TurnWhy request items (Taking visit left) = LaterWhy request items visit.later
   TurnWhy request items (Offering span later) = ThenWhy request items later
   TurnWhy request items (Changing setting change) = ChangeWhy request items change
-  TurnWhy request items (Owning addr frees) = OwnWhy request addr frees
+  TurnWhy request items (Owning addr frees past) = OwnWhy request addr frees
   TurnWhy request items point = Unit {0}
 
   -- the extent of a malloc is as the point says
@@ -267,10 +267,10 @@ module _ (desk : DeskFacts) where
   turned_why request items Dooming reply why = tt
   turned_why request items (Publishing addr) Noted why = tt
   turned_why request items (Publishing addr) reply why = tt
-  turned_why request items (Owning addr frees) (Owned class) why = owned_why request _ addr class frees why (last_in items (Replied (Owned class)))
-  turned_why request items (Owning addr frees) Nothing why = unowned_why request _ addr frees why (last_in items (Replied Nothing))
-  turned_why request items (Owning addr frees) NoArena why = last_in items (Replied NoArena)
-  turned_why request items (Owning addr frees) reply why = tt
+  turned_why request items (Owning addr frees past) (Owned class) why = owned_why request _ addr class frees why (last_in items (Replied (Owned class)))
+  turned_why request items (Owning addr frees past) Nothing why = unowned_why request _ addr frees why (last_in items (Replied Nothing))
+  turned_why request items (Owning addr frees past) NoArena why = last_in items (Replied NoArena)
+  turned_why request items (Owning addr frees past) reply why = tt
 
   -- ---- after an answer was taken in
 
@@ -503,9 +503,9 @@ module _ (desk : DeskFacts) where
   begin_why (Malloc size) = malloc_why size
   begin_why (Memalign align size) = memalign_why align size
   begin_why (Free addr) = free_why addr (held_at addr desk) refl
-  begin_why (FreeForeign addr index) = first_why (FreeForeign addr index) index (Owning addr true) refl
+  begin_why (FreeForeign addr index) = first_why (FreeForeign addr index) index (Owning addr true false) refl
   begin_why (Publish addr) = publish_why addr (held_at addr desk) refl
-  begin_why (Take addr index) = first_why (Take addr index) index (Owning addr false) refl
+  begin_why (Take addr index) = first_why (Take addr index) index (Owning addr false false) refl
   begin_why Flush = batch_why Flush [] desk.arena (batch_of (going true desk))
   begin_why (Cache true) = tt
   begin_why (Cache false) = batch_why (Cache false) [] desk.arena (batch_of (going true desk))

@@ -118,10 +118,10 @@ marked_most g Dooming (Doomed span b) may = omega arith
 marked_most g Dooming reply may = omega arith
 marked_most g (Publishing addr) Noted may = omega arith
 marked_most g (Publishing addr) reply may = omega arith
-marked_most g (Owning addr true) (Owned class) may = omega arith
-marked_most g (Owning addr false) (Owned class) may = omega arith
-marked_most g (Owning addr frees) Nothing may = omega arith
-marked_most g (Owning addr frees) reply may = omega arith
+marked_most g (Owning addr true past) (Owned class) may = omega arith
+marked_most g (Owning addr false past) (Owned class) may = omega arith
+marked_most g (Owning addr frees past) Nothing may = omega arith
+marked_most g (Owning addr frees past) reply may = omega arith
 marked_most g (Landing wish span) reply may = absurd (cc)
 marked_most g (Finding own tries fresh later) reply may = absurd (cc)
 marked_most g (Offering span later) reply may = absurd (cc)
@@ -252,7 +252,7 @@ won_few c s (Resetting cached) reply may = omega arith
 won_few c s (Destroying cached) reply may = omega arith
 won_few c s Dooming reply may = omega arith
 won_few c s (Publishing addr) reply may = omega arith
-won_few c s (Owning addr frees) reply may = omega arith
+won_few c s (Owning addr frees past) reply may = omega arith
 
 -- an operation of a turn that takes in no answer carries no chunk that was found
 found_not : (found : Option ℕ) (point : TurnPoint) → with_found found (op_of point) ≡ op_of point
@@ -270,7 +270,7 @@ found_not found (Resetting cached) = refl
 found_not found (Destroying cached) = refl
 found_not found Dooming = refl
 found_not found (Publishing addr) = refl
-found_not found (Owning addr frees) = refl
+found_not found (Owning addr frees past) = refl
 
 -- ---- the law
 

@@ -102,7 +102,7 @@ turn_stands c s Dooming found sound (idle, dying) = dying
 turn_stands c s (Publishing addr) found sound (idle, held) =
     let all : list_all (is_held (mine c s)) (addr ∷ []) ≡ true = rw held refl in
     rw (live_held c s (addr ∷ []) sound (omega arith) all, region_found c s.regions addr, held) refl
-turn_stands c s (Owning addr frees) found sound idle = refl
+turn_stands c s (Owning addr frees past) found sound idle = refl
 
 cut_stands_at : (c : ℕ) (s : Space) (keep_low : Bool) (asked : AskFacts) (span : Span) (left : ℕ) (b : Bool) (found : Option ℕ) → Sound s → Alone (mine c s) span b →
     0 < left → left < span.pages → asked.ask ≡ Split span left → AnswersTo (Split span left) asked.answer →

@@ -151,10 +151,10 @@ doom_keeps c s (p ∷ ps) e idle dying =
     let count : length t.parts ≡ length (filter (λ q. not (begins_at p.span.first q)) s.parts) = ap length (append-nil (filter (λ q. not (begins_at p.span.first q)) s.parts)) in
     ((still, dying), inr (refl, omega (arith, fewer, count)))
 
-own_keeps : (c : ℕ) (s : Space) (addr : ℕ) (frees : Bool) (o : Option Region) → Idle (mine c s) → Onto c (turned (Owning addr frees)) 0 0 (take_over_at s c addr o)
-own_keeps c s addr frees None idle = idle
-own_keeps c s addr true (Some r) idle = record { flights = idle.flights; offers = idle.offers }
-own_keeps c s addr false (Some r) idle = record { flights = idle.flights; offers = idle.offers }
+own_keeps : (c : ℕ) (s : Space) (addr : ℕ) (frees past : Bool) (o : Option Region) → Idle (mine c s) → Onto c (turned (Owning addr frees past)) 0 0 (take_over_at s c addr o)
+own_keeps c s addr frees past None idle = idle
+own_keeps c s addr true past (Some r) idle = record { flights = idle.flights; offers = idle.offers }
+own_keeps c s addr false past (Some r) idle = record { flights = idle.flights; offers = idle.offers }
 
 -- the answer to a split behind the run, or of a grant of more chunks than are needed
 trim_keeps : (c : ℕ) (s : Space) (wish : Wish) (span : Span) (b : Bool) (asked : AskFacts) → Gets (mine c s) wish → Alone (mine c s) span b →
@@ -185,7 +185,7 @@ turn_keeps c s (Resetting cached) found sound (idle, fewer) = reset_keeps c s ca
 turn_keeps c s (Destroying cached) found sound (idle, fewer) = destroy_keeps c s cached idle
 turn_keeps c s Dooming found sound (idle, dying) = doom_keeps c s s.parts refl idle dying
 turn_keeps c s (Publishing addr) found sound (idle, held) = record { flights = idle.flights; offers = idle.offers }
-turn_keeps c s (Owning addr frees) found sound idle = live_keeps c s (turned (Owning addr frees)) 0 0 _ refl idle (own_keeps c s addr frees (find (is_published_at addr) s.regions) idle)
+turn_keeps c s (Owning addr frees past) found sound idle = live_keeps c s (turned (Owning addr frees past)) 0 0 _ refl idle (own_keeps c s addr frees past (find (is_published_at addr) s.regions) idle)
 
 ask_keeps : (c : ℕ) (s : Space) (point : AskPoint) (asked : AskFacts) (found : Option ℕ) → Sound s → KnowsAsk (mine c s) point → Heard point (Some asked) →
     Onto c (told point asked) (stages_ask point) (left_ask (flights_of c s) point) (step_of s c (with_found found (done_of point asked)))
@@ -246,7 +246,7 @@ starved_keeps c s (Resetting cached) stage bound (idle, fewer) may = idle
 starved_keeps c s (Destroying cached) stage bound (idle, fewer) may = idle
 starved_keeps c s Dooming stage bound (idle, dying) may = idle
 starved_keeps c s (Publishing addr) stage bound (idle, held) may = idle
-starved_keeps c s (Owning addr frees) stage bound idle may = idle
+starved_keeps c s (Owning addr frees past) stage bound idle may = idle
 starved_keeps c s (Landing wish span) stage bound knows may = absurd (cc)
 starved_keeps c s (Finding own tries fresh later) stage bound knows may = absurd (cc)
 starved_keeps c s (Offering span later) stage bound knows may = absurd (cc)

@@ -48,7 +48,7 @@ desk_turned desk arena (Resetting cached) Noted = discarding arena desk
 desk_turned desk arena (Resetting cached) (Purge lazy) = discarding arena desk
 desk_turned desk arena (Destroying cached) Noted = discarding arena desk
 desk_turned desk arena (Publishing addr) Noted = empty_handed desk
-desk_turned desk arena (Owning addr true) (Owned class) = freeing (region_at arena class addr) desk
+desk_turned desk arena (Owning addr true past) (Owned class) = freeing (region_at arena class addr) desk
 desk_turned desk arena point reply = desk
 
 -- what the client has after an item

@@ -161,7 +161,7 @@ KnowsTurn m (Resetting cached) = Idle m × (cached ≤ length m.regions)
 KnowsTurn m (Destroying cached) = Idle m × (cached ≤ length m.regions)
 KnowsTurn m Dooming = Idle m × (m.dying ≡ true)
 KnowsTurn m (Publishing addr) = Idle m × (is_held m addr ≡ true)
-KnowsTurn m (Owning addr frees) = Idle m
+KnowsTurn m (Owning addr frees past) = Idle m
 
 -- what a call knows at a point at which it waits for an ask
 abbrev pub KnowsAsk : Mine → AskPoint → Type 0

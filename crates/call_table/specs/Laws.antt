@@ -95,7 +95,7 @@ stages_turn (Resetting cached) = 2
 stages_turn (Destroying cached) = 1
 stages_turn Dooming = 0
 stages_turn (Publishing addr) = 0
-stages_turn (Owning addr frees) = 0
+stages_turn (Owning addr frees past) = 0
 
 abbrev pub stages_ask : AskPoint → ℕ
 stages_ask (Merging low high own_low fresh later) = stages_then later

@@ -139,9 +139,9 @@ abbrev pub begin_stage : Request → DeskFacts → Stage
 begin_stage (Malloc size) desk = begin_malloc size desk
 begin_stage (Memalign align size) desk = begin_memalign align size desk
 begin_stage (Free addr) desk = begin_free addr (held_at addr desk) desk
-begin_stage (FreeForeign addr index) desk = first_turn index (Owning addr true)
+begin_stage (FreeForeign addr index) desk = first_turn index (Owning addr true false)
 begin_stage (Publish addr) desk = begin_publish addr (held_at addr desk)
-begin_stage (Take addr index) desk = first_turn index (Owning addr false)
+begin_stage (Take addr index) desk = first_turn index (Owning addr false false)
 begin_stage Flush desk = begin_flush desk
 begin_stage (Cache on) desk = begin_cache on desk
 begin_stage (PurgeAll index) desk = first_turn index (Taking purge_visit None)

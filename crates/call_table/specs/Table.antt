@@ -71,7 +71,7 @@ op_of (Resetting cached) = Reset cached
 op_of (Destroying cached) = Destroy cached
 op_of Dooming = DestroyTake
 op_of (Publishing addr) = Publish addr
-op_of (Owning addr frees) = TakeOver addr
+op_of (Owning addr frees past) = TakeOver addr
 
 -- the ask at a point
 abbrev pub ask_of : AskPoint → Ask
@@ -258,9 +258,9 @@ turned (Destroying cached) NoArena = Gone
 turned Dooming (Doomed span is_committed) = Go (Tells span is_committed)
 turned Dooming Nothing = Ends (Ok Finished)
 turned (Publishing addr) Noted = Ends (Ok Finished)
-turned (Owning addr frees) (Owned class) = took_over addr class frees
-turned (Owning addr frees) Nothing = Ends (NotHeld addr)
-turned (Owning addr frees) NoArena = Gone
+turned (Owning addr frees past) (Owned class) = took_over addr class frees
+turned (Owning addr frees past) Nothing = Ends (NotHeld addr)
+turned (Owning addr frees past) NoArena = Gone
 turned point reply = Nowhere
 
 -- after the split of what stands before the run

@@ -1,6 +1,6 @@
 //! Where a request begins.
 
-ghost use Rattle.std.specs.Prelude.{◌≡◌, ◌<◌, ◌≤◌, min, IfOk, OnOk, OnErr};
+ghost use Rattle.std.specs.Prelude.{◌≡◌, ◌<◌, ◌≤◌, min, false, IfOk, OnOk, OnErr};
 ghost use Rattle.std.specs.Option.{option_map};
 ghost use Rattle.space_model.specs.Slabs.{most_regions};
 ghost use Rattle.thread_cache.specs.Desks.{batch_facts, held_at};
@@ -290,14 +290,28 @@ fn set(index: u32, setting: Setting) -> Stage
     Stage::first(index, TurnPoint::Changing(setting, Change::Stops))
 }
 
+/// A region is taken over, and then goes back, if that is told.
+fn owning(index: u32, addr: u64, frees: bool) -> Stage
+    ensures { result ≡ first_turn index (TurnPoint.Owning addr frees false) }
+{
+    Stage::first(
+        index,
+        TurnPoint::Owning {
+            addr,
+            frees,
+            published: false,
+        },
+    )
+}
+
 /// Where a request begins that leaves what the client has as it is, and takes no memory.
 fn begun(request: Request, desk: &Desk) -> Stage
     requires { LeavesDesk request }
     ensures { result ≡ begin_stage request desk.now.facts }
 {
     match request {
-        Request::FreeForeign { addr, arena } => Stage::first(arena, TurnPoint::Owning(addr, true)),
-        Request::Take { addr, arena } => Stage::first(arena, TurnPoint::Owning(addr, false)),
+        Request::FreeForeign { addr, arena } => owning(arena, addr, true),
+        Request::Take { addr, arena } => owning(arena, addr, false),
         Request::Purge { arena } => Stage::first(arena, TurnPoint::Taking(Visit::purge(), None)),
         Request::Decay { arena, now } => Stage::first(arena, TurnPoint::Advancing(now)),
         Request::Time {

@@ -79,7 +79,7 @@ impl TurnPoint {
             TurnPoint::Destroying(cached) => Op::Destroy { cached: *cached },
             TurnPoint::Dooming => Op::DestroyTake,
             TurnPoint::Publishing(addr) => Op::Publish { addr: *addr },
-            TurnPoint::Owning(addr, _) => Op::TakeOver { addr: *addr },
+            TurnPoint::Owning { addr, .. } => Op::TakeOver { addr: *addr },
         })
     }
 }
@@ -302,21 +302,38 @@ impl Call {
         }
     }
 
-    /// The address of a region of another client, where the call takes that over next to free it.
+    /// The address of a region of another client, where the call takes that over next to free it, and it wasn't published for
+    /// the call yet.
     pub fn takes(&self) -> Option<u64>
         ensures { result ≡ taken_next self.now.stage.next }
     {
         match &self.stage.next {
-            Next::Go(Point::Turns(TurnPoint::Owning(addr, true))) => Some(*addr),
+            Next::Go(
+                Point::Turns(
+                    TurnPoint::Owning {
+                        addr,
+                        frees: true,
+                        published: false,
+                    },
+                ),
+            ) => Some(*addr),
             _ => None,
         }
     }
 
-    /// Takes that region over in the arena with this index.
+    /// Takes that region over in the arena with this index, in which it is published.
     pub fn aim(&mut self, arena: u32)
         ensures { self.new ≡ aimed self.old arena }
     {
         self.stage.arena = arena;
+        if let Some(addr) = self.takes() {
+            let point = TurnPoint::Owning {
+                addr,
+                frees: true,
+                published: true,
+            };
+            self.stage.next = Next::Go(Point::Turns(point));
+        }
     }
 
     /// Takes in what came of its need, with its client's desk, which is as the call left it but for held regions that others

@@ -97,8 +97,15 @@ pub enum TurnPoint {
     Dooming,
     /// The region at the address is published.
     Publishing(u64),
-    /// The region at the address is taken over, and then goes back, if that is told.
-    Owning(u64, bool),
+    /// A region is taken over.
+    Owning {
+        /// Its address.
+        addr: u64,
+        /// Whether it then goes back.
+        frees: bool,
+        /// Whether the client that held it has published it for this call.
+        published: bool,
+    },
 }
 
 /// A point at which a call waits for an answer of a hook, and then for the reply to the turn that takes it in.

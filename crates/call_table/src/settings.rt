@@ -1,6 +1,6 @@
 //! How a call goes on that asks for one thing of an arena as a whole.
 
-ghost use Rattle.std.specs.Prelude.{◌≡◌, ◌<◌};
+ghost use Rattle.std.specs.Prelude.{◌≡◌, ◌<◌, Bool};
 ghost use Rattle.call_table.specs.Table.{changed, limited, make_next, turned};
 
 use crate::{Answered, Change, Given, Later, Next, Point, TurnPoint, Visit};
@@ -158,7 +158,7 @@ pub(crate) fn published(addr: u64, reply: Reply) -> Next
 
 /// After a region was to be taken over.
 pub(crate) fn owned(addr: u64, frees: bool, reply: Reply) -> Next
-    ensures { result ≡ turned (TurnPoint.Owning addr frees) reply }
+    ensures { (published : Bool) → result ≡ turned (TurnPoint.Owning addr frees published) reply }
 {
     match reply {
         Reply::Owned { .. } if frees => Next::More,

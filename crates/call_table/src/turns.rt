@@ -42,7 +42,7 @@ impl TurnPoint {
             TurnPoint::Destroying(cached) => ended(cached, reply),
             TurnPoint::Dooming => doomed(reply),
             TurnPoint::Publishing(addr) => published(addr, reply),
-            TurnPoint::Owning(addr, frees) => owned(addr, frees, reply),
+            TurnPoint::Owning { addr, frees, .. } => owned(addr, frees, reply),
         }
     }
 
