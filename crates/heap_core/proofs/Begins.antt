@@ -223,9 +223,9 @@ module _ (records : List Record) (c : ℕ) (is : IsArenas records) (idle : IsIdl
     begins (Malloc size) knows = malloc_comes size knows
     begins (Memalign align size) knows = memalign_comes align size knows
     begins (Free addr) knows = free_comes addr (held_at addr desk) refl knows
-    begins (FreeForeign addr index) knows = first_comes (FreeForeign addr index) index (Owning addr true) knows empty refl
+    begins (FreeForeign addr index) knows = first_comes (FreeForeign addr index) index (Owning addr true false) knows empty refl
     begins (Publish addr) knows = publish_comes addr (held_at addr desk) refl knows
-    begins (Take addr index) knows = first_comes (Take addr index) index (Owning addr false) knows empty refl
+    begins (Take addr index) knows = first_comes (Take addr index) index (Owning addr false false) knows empty refl
     begins Flush knows = comes_more records c desk.arena Flush desk is owns idle
     begins (Cache true) knows = begins_at (Cache true) desk [] desk.arena (Ends (Ok Finished)) owns knows (refl, can_keep desk empty)
     begins (Cache false) knows = comes_more records c desk.arena (Cache false) desk is owns idle

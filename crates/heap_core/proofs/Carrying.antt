@@ -228,10 +228,10 @@ module _ (n m : Count) (c arena : ℕ) (s : Space) (desk : DeskFacts) (request :
 
   -- ---- a region that is taken over
 
-  taking : (addr : ℕ) (frees : Bool) (o : Option Region) → find (is_published_at addr) s.regions ≡ o → desk.hand ≡ None → Carries (Owning addr frees) (take_over_at s c addr o)
-  taking addr true None e empty now = stay s refl now
-  taking addr false None e empty now = stay s refl now
-  taking addr true (Some r) e empty now =
+  taking : (addr : ℕ) (frees past : Bool) (o : Option Region) → find (is_published_at addr) s.regions ≡ o → desk.hand ≡ None → Carries (Owning addr frees past) (take_over_at s c addr o)
+  taking addr true past None e empty now = stay s refl now
+  taking addr false past None e empty now = stay s refl now
+  taking addr true past (Some r) e empty now =
       let own : Held = region_at arena r.class addr in
       let gains = free_gains own desk shaped empty in record {
         hands = hands_come n m arena (own ∷ []) [] desk (freeing own desk) hands (λ f. omega (arith, gains.more f, sum_by-cons f own []))
@@ -239,7 +239,7 @@ module _ (n m : Count) (c arena : ℕ) (s : Space) (desk : DeskFacts) (request :
             (λ i a k differ. (others i a k differ, none_elsewhere i arena a k r.class (addr ∷ []) differ));
         shaped = gains.shaped;
       }
-  taking addr false (Some r) e empty now =
+  taking addr false past (Some r) e empty now =
       let own : Held = region_at arena r.class addr in record {
         hands = hands_come n m arena (own ∷ []) (own ∷ []) desk desk hands (λ f. omega arith)
             (λ a k. omega (arith, now a k, counted a k, taken_counts c arena addr a k s r sound e, sum_by-cons (one_in arena a k) own []))
@@ -247,14 +247,14 @@ module _ (n m : Count) (c arena : ℕ) (s : Space) (desk : DeskFacts) (request :
         shaped = shaped;
       }
 
-  owning : (addr : ℕ) (frees : Bool) → desk.hand ≡ None → Carries (Owning addr frees) (step_of s c (op_of (Owning addr frees)))
-  owning addr frees empty =
-      elim (is_live s.life) as (λ v. Carries (Owning addr frees) (cond v (take_over_at s c addr (find (is_published_at addr) s.regions)) (stays s NoArena))) [
-        | true ↦ taking addr frees (find (is_published_at addr) s.regions) refl empty
+  owning : (addr : ℕ) (frees past : Bool) → desk.hand ≡ None → Carries (Owning addr frees past) (step_of s c (op_of (Owning addr frees past)))
+  owning addr frees past empty =
+      elim (is_live s.life) as (λ v. Carries (Owning addr frees past) (cond v (take_over_at s c addr (find (is_published_at addr) s.regions)) (stays s NoArena))) [
+        | true ↦ taking addr frees past (find (is_published_at addr) s.regions) refl empty
         | false ↦ λ now. none frees now
       ]
     where
-      none : (frees : Bool) → Carries (Owning addr frees) (stays s NoArena)
+      none : (frees : Bool) → Carries (Owning addr frees past) (stays s NoArena)
       none true now = stay s refl now
       none false now = stay s refl now
 
@@ -278,4 +278,4 @@ module _ (n m : Count) (c arena : ℕ) (s : Space) (desk : DeskFacts) (request :
   carries (Destroying cached) knows suits now = destroying cached suits now
   carries Dooming knows suits now = stay (left Dooming) (op_steady s c (op_of Dooming) tt).regions now
   carries (Publishing addr) knows suits now = publishing addr suits now
-  carries (Owning addr frees) knows suits now = owning addr frees suits now
+  carries (Owning addr frees past) knows suits now = owning addr frees past suits now

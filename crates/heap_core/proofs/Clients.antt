@@ -122,7 +122,7 @@ carries_none (Resetting cached) = refl
 carries_none (Destroying cached) = refl
 carries_none Dooming = refl
 carries_none (Publishing addr) = refl
-carries_none (Owning addr frees) = refl
+carries_none (Owning addr frees past) = refl
 
 carries_one : (point : AskPoint) (asked : AskFacts) → heard_of (done_of point asked) ≡ Some (heard_in asked)
 carries_one (Skipping wish span b skip) asked = refl

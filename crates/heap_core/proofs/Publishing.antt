@@ -110,7 +110,7 @@ turn_held held desk request arena (Resetting cached) suits = suits
 turn_held held desk request arena (Destroying cached) suits = suits
 turn_held held desk request arena Dooming suits = suits
 turn_held held desk request arena (Publishing addr) suits = suits
-turn_held held desk request arena (Owning addr frees) suits = suits
+turn_held held desk request arena (Owning addr frees past) suits = suits
 
 suits_held : (held : List (ℕ × Held)) (desk : DeskFacts) (request : Request) (arena : ℕ) (point : Point) → Suits desk request arena point → Suits (held_as held desk) request arena point
 suits_held held desk request arena (Turns point) suits = turn_held held desk request arena point suits
@@ -199,7 +199,7 @@ module _ (records : List Record) (c arena : ℕ) (desk : DeskFacts) (request : R
       (idle_again m m' alike knows.0, (let few = (ready knows.0 (Go (Turns (Destroying cached)))).cached in omega (arith, few, suits.1)))
   turn_again Dooming suits knows = (idle_again m m' alike knows.0, alike.dying ∙ knows.1)
   turn_again (Publishing addr) suits knows = (idle_again m m' alike knows.0, hand_again addr desk.hand refl suits knows.0)
-  turn_again (Owning addr frees) suits knows = idle_again m m' alike knows
+  turn_again (Owning addr frees past) suits knows = idle_again m m' alike knows
 
   ask_again : (point : AskPoint) → SuitsAsk desk arena point → KnowsAsk m point → KnowsAsk m' point
   ask_again (Skipping wish span b skip) suits knows = (gets_again wish wish.count suits knows.0, alone_again span b knows.1, knows.2, knows.3)

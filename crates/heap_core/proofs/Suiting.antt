@@ -39,7 +39,7 @@ use Rattle.heap_core.proofs.Having.{CanKeep, cache_hand}
 abbrev pub came : ℕ → TurnPoint → Reply → List Held
 came arena (Filling wish count) (Regions (addr ∷ others)) = region_at arena wish.class addr ∷ []
 came arena (Landing wish span) (Landed first count) = region_at arena wish.class first ∷ []
-came arena (Owning addr false) (Owned class) = region_at arena class addr ∷ []
+came arena (Owning addr false past) (Owned class) = region_at arena class addr ∷ []
 came arena point reply = []
 
 -- an answer gives just the region that came, and what is in hand at the end can be cached
@@ -242,11 +242,11 @@ turned_suits desk request arena Dooming Nothing low suits = (refl, can_keep desk
 turned_suits desk request arena Dooming reply low suits = refl
 turned_suits desk request arena (Publishing addr) Noted low suits = (refl, tt)
 turned_suits desk request arena (Publishing addr) reply low suits = refl
-turned_suits desk request arena (Owning addr true) (Owned class) low suits = refl
-turned_suits desk request arena (Owning addr false) (Owned class) low suits = (refl, suits)
-turned_suits desk request arena (Owning addr true) Nothing low suits = refl
-turned_suits desk request arena (Owning addr false) Nothing low suits = refl
-turned_suits desk request arena (Owning addr true) NoArena low suits = refl
-turned_suits desk request arena (Owning addr false) NoArena low suits = refl
-turned_suits desk request arena (Owning addr true) reply low suits = refl
-turned_suits desk request arena (Owning addr false) reply low suits = refl
+turned_suits desk request arena (Owning addr true past) (Owned class) low suits = refl
+turned_suits desk request arena (Owning addr false past) (Owned class) low suits = (refl, suits)
+turned_suits desk request arena (Owning addr true past) Nothing low suits = refl
+turned_suits desk request arena (Owning addr false past) Nothing low suits = refl
+turned_suits desk request arena (Owning addr true past) NoArena low suits = refl
+turned_suits desk request arena (Owning addr false past) NoArena low suits = refl
+turned_suits desk request arena (Owning addr true past) reply low suits = refl
+turned_suits desk request arena (Owning addr false past) reply low suits = refl

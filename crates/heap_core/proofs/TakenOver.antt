@@ -16,7 +16,7 @@ use Rattle.call_table.specs.declared.points.Point.TheVariants.{Turns}
 use Rattle.call_table.specs.declared.points.Next.{Next}
 use Rattle.call_table.specs.declared.points.Next.TheVariants.{Go, Over, More, Gone, Ends, Nowhere}
 use Rattle.call_table.specs.Calls.{CallFacts}
-use Rattle.call_table.specs.Reads.{aimed, taken_next}
+use Rattle.call_table.specs.Reads.{aimed, published_next, taken_next}
 use Rattle.heap_core.specs.Arenas.{IsArenas, room_in, turned}
 use Rattle.heap_core.specs.Clients.{CanTurn, after_turn}
 use Rattle.heap_core.specs.Feeding.{aimed_seat}
@@ -126,8 +126,8 @@ record Taking (records : List Record) (c : ℕ) (seat : Seat) : Type 0 where
   pub addr : ℕ
   pub is : seat.call ≡ Some call
   pub client : call.client ≡ c
-  pub goes : call.stage.next ≡ Go (Turns (Owning addr true))
-  pub sits : Sits records c seat.desk call.request call.stage.arena (Turns (Owning addr true))
+  pub goes : call.stage.next ≡ Go (Turns (Owning addr true false))
+  pub sits : Sits records c seat.desk call.request call.stage.arena (Turns (Owning addr true false))
 
 some_addr : (o : Option ℕ) → IsSomeAnd o (λ addr. Unit {0}) → (addr : ℕ) × (o ≡ Some addr)
 some_addr (Some addr) is = (addr, refl)
@@ -151,9 +151,9 @@ aim_heap records seats owed c arena seat heap few there takes is =
     let t = taking records c old (heap.sound c few) takes in
     let new : Seat = record old { call = Some (aimed t.call arena) } in
     let same : seat ≡ new = is ∙ aimed_is old t.call arena t.is in
-    let sits : SitsAt records c old.desk (aimed t.call arena) t.call.stage.next =
-    subst (SitsAt records c old.desk (aimed t.call arena)) (sym t.goes) (aims-sit records c t.addr t.call.stage.arena arena old.desk t.call.request there t.sits) in
-    let owes : asks_next (room_in records arena c) t.call.stage.next ≤ owed_to owed c = subst (λ next. asks_next (room_in records arena c) next ≤ owed_to owed c) (sym t.goes) (omega arith) in
+    let sits : SitsAt records c old.desk (aimed t.call arena) (published_next t.call.stage.next) =
+    subst (λ next. SitsAt records c old.desk (aimed t.call arena) (published_next next)) (sym t.goes) (aims-sit records c t.addr t.call.stage.arena arena old.desk t.call.request there t.sits) in
+    let owes : asks_next (room_in records arena c) (published_next t.call.stage.next) ≤ owed_to owed c = subst (λ next. asks_next (room_in records arena c) (published_next next) ≤ owed_to owed c) (sym t.goes) (omega arith) in
     heap_seated records seats owed owed c seat heap few (λ o differ. refl) (subst (SeatSound records c) (sym same) (t.client, sits)) (subst (λ (s : Seat). owing records c s.call ≤ owed_to owed c) (sym same) owes)
 
 -- ---- the whole step
@@ -163,7 +163,7 @@ pub record Found (h : HeapFacts) (c holder : ℕ) (region : Held) : Type 0 where
   pub call : CallFacts
   pub addr : ℕ
   pub is : (seat_at h.seats c).call ≡ Some call
-  pub goes : call.stage.next ≡ Go (Turns (Owning addr true))
+  pub goes : call.stage.next ≡ Go (Turns (Owning addr true false))
   pub few : holder < 32
   pub holds : held_at region.addr (seat_at h.seats holder).desk ≡ Some region
   pub there : region.arena < 32

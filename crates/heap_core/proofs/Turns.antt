@@ -93,8 +93,8 @@ turned_arena desk arena (Resetting cached) Noted else = refl
 turned_arena desk arena (Resetting cached) (Purge lazy) else = refl
 turned_arena desk arena (Destroying cached) Noted else = refl
 turned_arena desk arena (Publishing addr) Noted else = refl
-turned_arena desk arena (Owning addr true) (Owned class) else = free_arena (region_at arena class addr) desk
-turned_arena desk arena (Owning addr false) reply else = refl
+turned_arena desk arena (Owning addr true past) (Owned class) else = free_arena (region_at arena class addr) desk
+turned_arena desk arena (Owning addr false past) reply else = refl
 turned_arena desk arena point reply else = refl
 
 -- The client is bound to the arena from which it allocates then: to the one that it had, or to that of the turn.
@@ -150,7 +150,7 @@ module _ (s : Space) (c arena : ℕ) (desk : DeskFacts) (request : Request) (was
   binds (Destroying cached) knows suits = same_bound (Destroying cached) (λ x y e. cc) (moves_bound s c (op_of (Destroying cached)) tt)
   binds Dooming knows suits = same_bound Dooming (λ x y e. cc) (op_steady s c (op_of Dooming) tt).bound
   binds (Publishing addr) knows suits = same_bound (Publishing addr) (λ x y e. cc) (moves_bound s c (op_of (Publishing addr)) tt)
-  binds (Owning addr frees) knows suits = same_bound (Owning addr frees) (λ x y e. cc) (moves_bound s c (op_of (Owning addr frees)) tt)
+  binds (Owning addr frees past) knows suits = same_bound (Owning addr frees past) (λ x y e. cc) (moves_bound s c (op_of (Owning addr frees past)) tt)
 
 -- ---- what a client has after its turn
 
@@ -170,7 +170,7 @@ settled_of spaces arena (Resetting cached) = refl
 settled_of spaces arena (Destroying cached) = refl
 settled_of spaces arena Dooming = refl
 settled_of spaces arena (Publishing addr) = refl
-settled_of spaces arena (Owning addr frees) = refl
+settled_of spaces arena (Owning addr frees past) = refl
 
 -- an answer that is taken in moves no region
 steady_done : (spaces : List Space) (arena : ℕ) (point : AskPoint) (asked : AskFacts) → IsSteady (settled spaces arena (done_of point asked))
@@ -346,7 +346,7 @@ marked_idle records c arena (Resetting cached) knows marked = knows.0
 marked_idle records c arena (Destroying cached) knows marked = knows.0
 marked_idle records c arena Dooming knows marked = knows.0
 marked_idle records c arena (Publishing addr) knows marked = knows.0
-marked_idle records c arena (Owning addr frees) knows marked = knows
+marked_idle records c arena (Owning addr frees past) knows marked = knows
 marked_idle records c arena (Landing wish span) knows marked = absurd (cc)
 marked_idle records c arena (Finding own tries fresh later) knows marked = absurd (cc)
 marked_idle records c arena (Offering span later) knows marked = absurd (cc)

@@ -243,9 +243,10 @@ told_on (Tells span b) ask asked wants more = absurd (cc)
 
 -- ---- a region that is taken over
 
-pub taken_is : (next : Next) (addr : ℕ) → taken_next next ≡ Some addr → next ≡ Go (Turns (Owning addr true))
-taken_is (Go (Turns (Owning at true))) addr is = ap (λ a. Go (Turns (Owning a true))) (cc)
-taken_is (Go (Turns (Owning at false))) addr is = absurd (cc)
+pub taken_is : (next : Next) (addr : ℕ) → taken_next next ≡ Some addr → next ≡ Go (Turns (Owning addr true false))
+taken_is (Go (Turns (Owning at true false))) addr is = ap (λ a. Go (Turns (Owning a true false))) (cc)
+taken_is (Go (Turns (Owning at true true))) addr is = absurd (cc)
+taken_is (Go (Turns (Owning at false past))) addr is = absurd (cc)
 taken_is (Go (Turns Dooming)) addr is = absurd (cc)
 taken_is next addr is = absurd (cc)
 

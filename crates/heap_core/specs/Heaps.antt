@@ -75,7 +75,7 @@ abbrev pub holder_at : List Seat → Option ℕ → Option ℕ
 holder_at seats None = None
 holder_at seats (Some addr) = holder_of addr seats
 
--- the client that holds the region which a call takes over next to free it, if one does: it publishes that first
+-- the client that holds the region which a call takes over next to free it, if one does: it publishes that first, and for once
 abbrev pub holder_for : HeapFacts → CallFacts → Option ℕ
 holder_for h call = holder_at h.seats (taken_next call.stage.next)
 

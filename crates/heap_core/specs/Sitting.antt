@@ -1,6 +1,6 @@
 -- What is so of a client among the arenas of a heap: the regions that it has are those that it holds there, each once, and its
 -- open call knows what it has to.
-use Rattle.std.specs.Prelude.{◌≡◌, ◌≢◌, ℕ, ◌+◌, ◌<◌, ◌≤◌, ◌==◌, ◌&&◌, ◌++◌, ◌∷◌, [], Bool, true, IsTrue, List, Option, None, Some, count_by, length, map, All}
+use Rattle.std.specs.Prelude.{◌≡◌, ◌≢◌, ℕ, ◌+◌, ◌<◌, ◌≤◌, ◌==◌, ◌&&◌, ◌++◌, ◌∷◌, [], Bool, true, false, IsTrue, List, Option, None, Some, count_by, length, map, All}
 use Rattle.std.specs.List.{flat_map}
 use Rattle.size_classes.specs.Classes.{slots_at}
 use Rattle.space_model.specs.declared.entries.Op.{Op}
@@ -231,10 +231,10 @@ HoldersPublish = (records : List Record) (c addr : ℕ) (seat : Seat) (region : 
     → (region.addr ≡ addr) × (region.arena < 32) × CanTurn records c region.arena (Publish region.addr) None
     × SeatSound (after_turn records region.arena c (Publish region.addr) None) c (record seat { desk = not_holding region.addr seat.desk })
 
--- a call that is about to take a region over may do so in any arena
+-- a call that is about to take a region over may do so in any arena, once it is published there
 abbrev pub AimsSit : Type 0
 AimsSit = (records : List Record) (c addr arena arena' : ℕ) (desk : DeskFacts) (request : Request) → arena' < 32
-    → Sits records c desk request arena (Turns (Owning addr true)) → Sits records c desk request arena' (Turns (Owning addr true))
+    → Sits records c desk request arena (Turns (Owning addr true false)) → Sits records c desk request arena' (Turns (Owning addr true true))
 
 -- each client of a new heap rests
 abbrev pub OpeningSits : Type 0

@@ -56,7 +56,7 @@ pub fn holders_publish()
     ensures { HoldersPublish }
 {}
 
-/// A call that is about to take a region over to free it may do so in any arena.
+/// A call that is about to take a region over to free it may do so in any arena, once it is published there.
 pub fn aims_sit()
     ensures { AimsSit }
 {}
