@@ -88,4 +88,15 @@ impl ChunkTable {
         seat.badge = place.into_badge();
         found
     }
+
+    /// Whether the seat's arena owns a chunk.
+    pub fn owns(&self, seat: &mut ChunkSeat, chunk: u64) -> bool
+        requires table { IsSeatOf self.now seat.old }
+        requires chunk { IsChunk chunk }
+        ensures table { IsSeatOf self.now seat.new }
+        ensures same { (number seat.new ≡ number seat.old) × (share_of seat.new ≡ share_of seat.old) }
+        ensures own { result ≡ owns chunk (share_of seat.old) }
+    {
+        self.owner(seat, chunk) == u64::from(seat.number) + 1
+    }
 }

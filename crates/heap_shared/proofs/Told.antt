@@ -6,13 +6,16 @@ use Rattle.space_model.specs.declared.entries.Op.{Op}
 use Rattle.space_model.specs.declared.entries.Reply.{Reply}
 use Rattle.space_model.specs.Own.{mine}
 use Rattle.space_model.specs.Step.{space_after, reply_to}
-use Rattle.arena_core.specs.Arenas.{entry_of}
+use Rattle.arena_core.specs.Arenas.{entry_of, room_after}
 use Rattle.turn_lock.specs.declared.machine.Machine.{Ghosts}
 use Rattle.turn_lock.specs.declared.lock.TurnLock.{TurnLock}
 use Rattle.turn_lock.specs.declared.lock.Pass.{Pass}
-use Rattle.turn_lock.specs.Locks.{number, seen, Turned as LockTurned}
+use Rattle.turn_lock.specs.History.{replay}
+use Rattle.turn_lock.specs.Locks.{first, number, seen, Turned as LockTurned}
+use Rattle.heap_shared.specs.Claims.{with_found}
 use Rattle.heap_shared.specs.Shared.{Facts, Logs, Owned, after_entry, owned_by}
 use Rattle.heap_shared.specs.Turns.{Turned, space_at}
+use Rattle.heap_shared.proofs.Rooms.{own_room}
 
 -- what follows of each answer follows of the one that came
 if_ok : {A E : Type 0} {P Q : A → Type 0} (r : Result A E) → ((a : A) → P a → Q a) → IfOk r P → IfOk r Q
@@ -24,10 +27,13 @@ module _ {M : Type 0} {g : Ghosts M Facts Op (Snapshot Entry) Reply Owned} (lock
   told : (r : Reply) → number new ≡ number old → LockTurned Logs after_entry owned_by {g = g} lock old new op r → Turned lock old new op r
   told r same t = record {
     before = t.before;
+    chunk = t.logged.0.0;
     found = ap (λ (w : Owned). w.has) t.met;
-    reply = t.reply ∙ ap (reply_to (space_at lock t.before)) t.logged.0;
-    left = subst (λ n. mine n (space_at lock (seen new)) ≡ mine (number old) (space_after (space_at lock t.before) (entry_of (number old) op))) same
-        (ap (λ (w : Owned). w.has) t.left ∙ ap (λ (e : Entry). mine (number old) (space_after (space_at lock t.before) e)) t.logged.0);
+    reply = t.reply ∙ ap (reply_to (space_at lock t.before)) t.logged.0.1;
+    left = subst (λ n. mine n (space_at lock (seen new)) ≡ mine (number old) (space_after (space_at lock t.before) (entry_of (number old) (with_found op t.logged.0.0)))) same
+        (ap (λ (w : Owned). w.has) t.left ∙ ap (λ (e : Entry). mine (number old) (space_after (space_at lock t.before) e)) t.logged.0.1);
+    room = λ few. ap (λ (w : Owned). w.room) t.left ∙ own_room (replay after_entry (first lock) t.before) (number old) t.entry few (with_found op t.logged.0.0) t.logged.0.1
+        ∙ ap (λ (w : Owned). room_after (space_at lock t.before) w.room (number old) (with_found op t.logged.0.0)) t.met;
   }
 
   -- whatever came of it

@@ -1,5 +1,5 @@
 -- An arena under a turn lock, and what belongs to one client of it.
-use Rattle.std.specs.Prelude.{◌≡◌, ◌≢◌, ℕ, ◌==◌, ◌<◌, ◌++◌, List, [], ◌∷◌, map, IsTrue, false, if◌then◌else◌}
+use Rattle.std.specs.Prelude.{◌≡◌, ◌≢◌, ℕ, ◌==◌, ◌<◌, ◌++◌, List, [], ◌∷◌, Option, map, IsTrue, false, if◌then◌else◌}
 use Rattle.std.specs.List.{range_with_len}
 use Rattle.std.specs.declared.snapshot.Snapshot.{Snapshot}
 use Rattle.space_model.specs.declared.entries.Entry.{Entry}
@@ -11,12 +11,16 @@ use Rattle.space_model.specs.Own.{Mine, mine}
 use Rattle.space_model.specs.Sound.{Sound}
 use Rattle.space_model.specs.Step.{space_after, reply_to, stands}
 use Rattle.arena_core.specs.Arenas.{Standing, entry_of, opens, room_after, room_of}
+use Rattle.chunk_table.specs.declared.table.ChunkTable.{ChunkTable}
+use Rattle.heap_shared.specs.Claims.{with_found}
 
--- what contracts see under the lock: the space, the room of each of the 32 clients, and the entries so far
+-- what contracts see under the lock: the space, the room of each of the 32 clients, the entries so far, and the table that
+-- all arenas share
 pub record Facts : Type 0 where
   pub space : Space
   pub rooms : List ℕ
   pub entries : List Entry
+  pub table : ChunkTable
 
 -- what belongs to a client: what it owns of the space, and how many operations it may make that take no memory
 pub record Owned : Type 0 where
@@ -28,9 +32,9 @@ pub record Owned : Type 0 where
 abbrev pub each_client : (ℕ → ℕ) → List ℕ
 each_client f = map f (range_with_len 0 32)
 
--- what contracts see of an arena and its entries
-abbrev pub facts_of : Standing → List Entry → Facts
-facts_of arena entries = record { space = arena.space; rooms = each_client (λ c. room_of c arena.rooms); entries = entries }
+-- what contracts see of an arena, its entries and the table
+abbrev pub facts_of : Standing → List Entry → ChunkTable → Facts
+facts_of arena entries table = record { space = arena.space; rooms = each_client (λ c. room_of c arena.rooms); entries = entries; table = table }
 
 -- what belongs to a client
 abbrev pub owned_by : Facts → ℕ → Owned
@@ -47,6 +51,7 @@ after_entry s e = (
     space = space_after s.space e.value;
     rooms = each_client (λ c. if c == e.value.client then room_after s.space (room_of c s.rooms) c e.value.op else room_of c s.rooms);
     entries = s.entries ++ e.value ∷ [];
+    table = s.table;
   },
   reply_to s.space e.value,
 )
@@ -57,14 +62,15 @@ MayStand w op =
     (opens op ≡ false → 0 < w.room)
     × ((s : Space) → Sound s → mine w.client s ≡ w.has → IsTrue (stands s (entry_of w.client op)))
 
--- an operation leaves its entry, and what belongs to every other client as it was
+-- an operation leaves its entry, in which a chunk may be found, and what belongs to every other client as it was
 abbrev pub Logs : Facts → ℕ → Op → Snapshot Entry → Type 0
-Logs s c op e = (e.value ≡ entry_of c op) × ((k : ℕ) → k ≢ c → owned_by (after_entry s e).0 k ≡ owned_by s k)
+Logs s c op e =
+    ((chunk : Option ℕ) × (e.value ≡ entry_of c (with_found op chunk))) × ((k : ℕ) → k ≢ c → owned_by (after_entry s e).0 k ≡ owned_by s k)
 
 -- no arena, of which nobody owns anything
 abbrev pub nothing_owned : Owned
 nothing_owned = record { client = 0; has = record { flights = []; offers = []; regions = []; bound = false; trims = false; dying = false }; room = 0 }
 
--- no arena
-abbrev pub no_facts : Facts
-no_facts = record { space = absent_space; rooms = []; entries = [] }
+-- no arena at a table
+abbrev pub no_facts : ChunkTable → Facts
+no_facts table = record { space = absent_space; rooms = []; entries = []; table = table }

@@ -1,6 +1,7 @@
 //! An arena that threads share: its steps are turns of a ticket lock.
 #![tactic(auto)]
 
+mod claims;
 mod machine;
 #[cfg(test)]
 mod tests;

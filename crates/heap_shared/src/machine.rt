@@ -1,42 +1,56 @@
 //! The machine of an arena: an operation of a client is a step.
 ghost use Rattle.std.specs.Prelude.{◌≡◌, ◌⊎◌, [], length, replicate, OnErr, IfOk};
+ghost use Rattle.std.specs.Arc.{arc_value};
+ghost use Rattle.chunk_table.specs.Tables.{IsSeatOf};
 ghost use Rattle.heap_shared.specs.Shared.{Logs, MayStand, after_entry, facts_of, owned_by};
 ghost use Rattle.space_model.specs.Opening.{absent_space, first_space};
 
+use crate::claims::Claims;
 use arena_core::Arena;
+use chunk_table::{ChunkSeat, ChunkTable};
 use space_model::{Entry, Op, Reply, Space};
 use std::alloc::{AllocError as NoMemory, Global};
 use std::marker::Model;
 use std::snapshot::Snapshot;
+use std::sync::Arc;
 use turn_lock::Machine;
 
-/// An arena and its journal.
+/// An arena, its journal, and its seat of the table that all arenas share.
 #[derive(Drop)]
 pub struct SharedArena {
     arena: Arena,
     journal: Vec<Entry>,
+    claims: Claims,
 }
 
 impl Model for SharedArena {
+    ghost use Rattle.std.specs.Arc.{arc_value};
     ghost use Rattle.heap_shared.specs.Shared.{Facts, facts_of};
     ghost use Rattle.space_model.specs.Sound.{Sound};
 
     ghost Value = { Facts };
 
-    ghost view = { λ s. facts_of s.arena s.journal.items };
+    ghost view = { λ s. facts_of s.arena s.journal.items (arc_value s.claims.table) };
 
     ghost invariant = { λ s. Sound s.arena.space };
 }
 
 impl SharedArena {
-    /// An arena without a journal: arena 0 as it is at the start, or an index without an arena.
-    pub fn new(alloc: Global, space: Space) -> Result<SharedArena, NoMemory>
-        requires { (space ≡ absent_space) ⊎ (space ≡ first_space) }
-        ensures { IfOk result (λ s. s ≡ facts_of (record { space = space; rooms = replicate 32 0 }) []) }
+    /// An arena without a journal: arena 0 as it is at the start, or an index without an arena. It claims no chunk yet.
+    pub fn new(
+        alloc: Global,
+        space: Space,
+        table: Arc<ChunkTable, Global>,
+        seat: ChunkSeat,
+    ) -> Result<SharedArena, NoMemory>
+        requires space { (space ≡ absent_space) ⊎ (space ≡ first_space) }
+        requires seat { IsSeatOf (arc_value table) seat }
+        ensures { IfOk result (λ s. s ≡ facts_of (record { space = space; rooms = replicate 32 0 }) [] (arc_value table)) }
     {
         Ok(SharedArena {
             arena: Arena::new(alloc, space)?,
             journal: Vec::new(alloc),
+            claims: Claims { table, seat },
         })
     }
 
@@ -47,7 +61,16 @@ impl SharedArena {
         self.journal.len()
     }
 
-    /// The step of an operation that may stand by what belongs to its client.
+    /// The seat, once no turn is to come.
+    pub fn into_seat(self) -> ChunkSeat
+        ensures { IsSeatOf self.table result }
+    {
+        let claims = self.claims;
+        claims.seat
+    }
+
+    /// The step of an operation that may stand by what belongs to its client. The chunks that it takes are claimed in it,
+    /// and those that no extent meets after it are released.
     fn take(&mut self, client: u32, op: Op) -> Result<(Snapshot<Entry>, Reply), NoMemory>
         requires may { MayStand (owned_by self.old client) op }
         ensures entry { IfOk result (λ r. Logs self.old client op r.0) }
@@ -55,8 +78,10 @@ impl SharedArena {
         ensures unchanged { OnErr result (self.new ≡ self.old) }
     {
         self.journal.reserve(1)?;
+        let op = self.claims.settle(&self.arena, op);
         let entry = Entry { client, op };
         let reply = self.arena.step(client, &entry.op)?;
+        self.claims.release(&self.arena, &entry.op, &reply);
         let made = Snapshot::of(&entry);
         self.journal.push_reserved(entry);
         Ok((made, reply))
@@ -106,7 +131,7 @@ impl Machine for ArenaTurns {
 
     ghost kept = { λ s. map snap s.entries };
 
-    ghost start = { λ s. no_facts };
+    ghost start = { λ s. no_facts s.table };
 
     ghost keeps = { λ s n op e l. map-append snap s.entries (e.value ∷ []) };
 
