@@ -59,11 +59,11 @@ at_only P a here zero u e = subst P (some-injective a u e) here
 at_only P a here (suc j) u e = absurd (some-ne-none u (sym e))
 
 -- what a list has without a number, and with one more
-any_without : (x c : ℕ) (l : List ℕ) → list_any (λ d. eqb d x) (filter (λ d. not (eqb d c)) l) ≡ cond (eqb c x) false (list_any (λ d. eqb d x) l)
+pub any_without : (x c : ℕ) (l : List ℕ) → list_any (λ d. eqb d x) (filter (λ d. not (eqb d c)) l) ≡ cond (eqb c x) false (list_any (λ d. eqb d x) l)
 any_without x c [] = grind (arith, nat_tests)
 any_without x c (y ∷ ys) = let r = any_without x c ys in grind (arith, nat_tests)
 
-any_with : (x c : ℕ) (l : List ℕ) → list_any (λ d. eqb d x) (l ++ c ∷ []) ≡ (list_any (λ d. eqb d x) l || eqb c x)
+pub any_with : (x c : ℕ) (l : List ℕ) → list_any (λ d. eqb d x) (l ++ c ∷ []) ≡ (list_any (λ d. eqb d x) l || eqb c x)
 any_with x c [] = grind (arith, nat_tests)
 any_with x c (y ∷ ys) = let r = any_with x c ys in grind (arith, nat_tests)
 

@@ -1,3 +1,3 @@
 mod Dealing
 mod Gathering
-mod Keeps
+pub mod Keeps

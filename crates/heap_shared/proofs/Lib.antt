@@ -1,2 +1,4 @@
+mod Chunks
 mod Rooms
+mod Sweeps
 mod Told

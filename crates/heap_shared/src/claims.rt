@@ -1,8 +1,8 @@
 //! The chunks that an arena claims and releases.
-ghost use Rattle.std.specs.Prelude.{◌≡◌, ℕ, Option};
+ghost use Rattle.std.specs.Prelude.{◌≡◌, ℕ, Option, Some};
 ghost use Rattle.std.specs.Arc.{arc_value};
-ghost use Rattle.chunk_table.specs.Tables.{IsSeatOf};
-ghost use Rattle.heap_shared.specs.Claims.{granted_span, high_chunk, low_chunk, refused_span, touched, wanted, with_found};
+ghost use Rattle.chunk_table.specs.Tables.{share_of, IsSeatOf};
+ghost use Rattle.heap_shared.specs.Claims.{Claimed, OwnsMet, Released, found_in, granted_span, high_chunk, low_chunk, refused_span, touched, wanted, with_found};
 
 use arena_core::Arena;
 use chunk_table::{ChunkSeat, ChunkTable, Claim};
@@ -90,12 +90,13 @@ impl Claims {
     /// Claims the chunks of a span that no extent of the arena meets, in rising order, up to the first one that another
     /// arena has, which is told.
     fn claim_span(&mut self, arena: &Arena, span: Span) -> Option<u64>
+        requires owned { OwnsMet self.old.seat arena.now.space }
         ensures table { arc_value self.new.table ≡ arc_value self.old.table }
+        ensures claimed { Claimed (Some span) result (share_of self.old.seat) (share_of self.new.seat) }
     {
         let (low, high) = chunks_of(span);
         for chunk in low..high {
             if !arena.owns_chunk(chunk)
-                && !self.table.owns(&mut self.seat, chunk)
                 && self.table.claim(&mut self.seat, chunk) != Claim::Claimed
             {
                 return Some(chunk);
@@ -107,6 +108,7 @@ impl Claims {
     /// Releases the chunks of a span that no extent of the arena meets.
     fn release_span(&mut self, arena: &Arena, span: Span)
         ensures table { arc_value self.new.table ≡ arc_value self.old.table }
+        ensures released { Released (Some span) arena.now.space (share_of self.old.seat) (share_of self.new.seat) }
     {
         let (low, high) = chunks_of(span);
         for chunk in low..high {
@@ -118,8 +120,10 @@ impl Claims {
 
     /// Claims the chunks of an operation, which then has the first one that another arena has.
     pub fn settle(&mut self, arena: &Arena, op: Op) -> Op
+        requires owned { OwnsMet self.old.seat arena.now.space }
         ensures table { arc_value self.new.table ≡ arc_value self.old.table }
         ensures op { (chunk : Option ℕ) × (result ≡ with_found op chunk) }
+        ensures claimed { Claimed (wanted result) (found_in result) (share_of self.old.seat) (share_of self.new.seat) }
     {
         let found = match wanted(&op) {
             Some(span) => self.claim_span(arena, span),
@@ -131,6 +135,7 @@ impl Claims {
     /// Releases the chunks of an operation that no extent of the arena meets after its step.
     pub fn release(&mut self, arena: &Arena, op: &Op, reply: &Reply)
         ensures table { arc_value self.new.table ≡ arc_value self.old.table }
+        ensures released { Released (touched op.now reply.now) arena.now.space (share_of self.old.seat) (share_of self.new.seat) }
     {
         if let Some(span) = touched(op, reply) {
             self.release_span(arena, span);

@@ -1,7 +1,8 @@
 //! The machine of an arena: an operation of a client is a step.
 ghost use Rattle.std.specs.Prelude.{◌≡◌, ◌⊎◌, [], length, replicate, OnErr, IfOk};
 ghost use Rattle.std.specs.Arc.{arc_value};
-ghost use Rattle.chunk_table.specs.Tables.{IsSeatOf};
+ghost use Rattle.chunk_table.specs.Tables.{owned, IsSeatOf};
+ghost use Rattle.heap_shared.specs.Claims.{OwnsMet};
 ghost use Rattle.heap_shared.specs.Shared.{Logs, MayStand, after_entry, facts_of, owned_by};
 ghost use Rattle.space_model.specs.Opening.{absent_space, first_space};
 
@@ -27,12 +28,13 @@ impl Model for SharedArena {
     ghost use Rattle.std.specs.Arc.{arc_value};
     ghost use Rattle.heap_shared.specs.Shared.{Facts, facts_of};
     ghost use Rattle.space_model.specs.Sound.{Sound};
+    ghost use Rattle.heap_shared.specs.Claims.{OwnsMet};
 
     ghost Value = { Facts };
 
     ghost view = { λ s. facts_of s.arena s.journal.items (arc_value s.claims.table) };
 
-    ghost invariant = { λ s. Sound s.arena.space };
+    ghost invariant = { λ s. Sound s.arena.space × OwnsMet s.claims.seat s.arena.space };
 }
 
 impl SharedArena {
@@ -44,7 +46,7 @@ impl SharedArena {
         seat: ChunkSeat,
     ) -> Result<SharedArena, NoMemory>
         requires space { (space ≡ absent_space) ⊎ (space ≡ first_space) }
-        requires seat { IsSeatOf (arc_value table) seat }
+        requires seat { IsSeatOf (arc_value table) seat × (owned seat ≡ []) }
         ensures { IfOk result (λ s. s ≡ facts_of (record { space = space; rooms = replicate 32 0 }) [] (arc_value table)) }
     {
         Ok(SharedArena {
@@ -61,9 +63,10 @@ impl SharedArena {
         self.journal.len()
     }
 
-    /// The seat, once no turn is to come.
+    /// The seat, once no turn is to come. It owns just the chunks that extents of the arena meet.
     pub fn into_seat(self) -> ChunkSeat
-        ensures { IsSeatOf self.table result }
+        ensures table { IsSeatOf self.table result }
+        ensures owned { OwnsMet result self.space }
     {
         let claims = self.claims;
         claims.seat

@@ -1,24 +1,29 @@
 use Rattle.std.proofs.Common.{◌≡◌, ◌<◌, ◌∙◌, ◌++◌, ◌∷◌, [], IsTrue, sym, ap, subst}
 use Rattle.std.specs.Arc.{arc_value}
 use Rattle.arena_core.specs.Arenas.{entry_of, opens}
-use Rattle.heap_shared.specs.Claims.{with_found}
+use Rattle.chunk_table.specs.Rule.{owns}
+use Rattle.chunk_table.specs.Tables.{share_of}
+use Rattle.heap_shared.specs.Claims.{Released, is_met, touched, with_found}
 use Rattle.heap_shared.specs.Shared.{Facts, Logs, MayStand, after_entry, facts_of, owned_by}
 use Rattle.space_model.specs.declared.entries.Op.{Op}
 use Rattle.space_model.specs.declared.entries.Reply.{Reply}
 use Rattle.space_model.specs.Own.{mine}
-use Rattle.space_model.specs.Step.{stands}
+use Rattle.space_model.specs.declared.spaces.Space.{Space}
+use Rattle.space_model.specs.Step.{space_after, stands}
+use Rattle.space_model.proofs.Pieces.{both_true}
+use Rattle.heap_shared.proofs.Chunks.{owns_after}
 use Rattle.heap_shared.proofs.Rooms.{after_is, found_may, logs_entry}
 use Rattle.heap_shared.proofs.machine.SharedArena.take.Goals as goal
 
 pub step-requires-clause-stands : goal.step-requires-clause-stands
 step-requires-clause-stands c =
     let may = subst (λ (s : Facts). MayStand (owned_by s c.args.client) c.args.op) (sym c.self.view_is) c.requires.may in
-    (found_may c.self.inside.arena c.self.inside.journal.items (arc_value c.self.inside.claims.table) c.args.client c.args.op c.settle-op.ensures.op.0 _ c.settle-op.ensures.op.1 c.self.invariant may).0
+    (found_may c.self.inside.arena c.self.inside.journal.items (arc_value c.self.inside.claims.table) c.args.client c.args.op c.settle-op.ensures.op.0 _ c.settle-op.ensures.op.1 c.self.invariant.0 may).0
 
 pub step-requires-clause-room : goal.step-requires-clause-room
 step-requires-clause-room c =
     let may = subst (λ (s : Facts). MayStand (owned_by s c.args.client) c.args.op) (sym c.self.view_is) c.requires.may in
-    (found_may c.self.inside.arena c.self.inside.journal.items (arc_value c.self.inside.claims.table) c.args.client c.args.op c.settle-op.ensures.op.0 _ c.settle-op.ensures.op.1 c.self.invariant may).1
+    (found_may c.self.inside.arena c.self.inside.journal.items (arc_value c.self.inside.claims.table) c.args.client c.args.op c.settle-op.ensures.op.0 _ c.settle-op.ensures.op.1 c.self.invariant.0 may).1
 
 pub returns-clause-entry : goal.returns-clause-entry
 returns-clause-entry c =
@@ -32,3 +37,20 @@ returns-clause-after c =
     (after_is c.self.inside.arena c.step.new.self c.self.inside.journal.items c.push_reserved.new.self.items (arc_value c.self.inside.claims.table) _ (c.release.ensures.table ∙ c.settle-op.ensures.table) c.args.client c.settle-op.result c.of-made.result c.in_ok-reply.reply
     c.of-made.ensures c.in_ok-reply.ensures.after c.in_ok-reply.ensures.reply (c.push_reserved.ensures.items ∙ ap (λ l. l ++ entry_of c.args.client c.settle-op.result ∷ []) c.reserve.ensures.items)
     c.in_ok-reply.ensures.room c.step.ensures.other_rooms)
+
+pub invariant_of-self-2 : goal.invariant_of-self-2
+invariant_of-self-2 c =
+    let s = c.self.inside.arena.space in
+    let made = c.settle-op.result in
+    let may = subst (λ (s : Facts). MayStand (owned_by s c.args.client) c.args.op) (sym c.self.view_is) c.requires.may in
+    let stand = (found_may c.self.inside.arena c.self.inside.journal.items (arc_value c.self.inside.claims.table) c.args.client c.args.op c.settle-op.ensures.op.0 _ c.settle-op.ensures.op.1 c.self.invariant.0 may).0 in
+    let old = share_of c.self.inside.claims.seat in
+    let mid = share_of c.settle-op.new.self.seat in
+    let new = share_of c.release.new.self.seat in
+    let released = subst (λ t. Released (touched made c.in_ok-reply.reply) t mid new) c.in_ok-reply.ensures.after c.release.ensures.released in
+    (
+      c.step.ensures.sound,
+      λ chunk. subst (λ (t : Space). owns chunk new ≡ is_met chunk t) (sym c.in_ok-reply.ensures.after)
+          (owns_after c.args.client s made c.self.invariant.0 (both_true _ _ stand).1 chunk old mid new c.self.invariant.1 c.settle-op.ensures.claimed
+          (subst (λ r. Released (touched made r) (space_after s (entry_of c.args.client made)) mid new) c.in_ok-reply.ensures.reply released)),
+    )
