@@ -1,0 +1,112 @@
+//! An arena beside its space, which is moved by scans: each operation is carried out in both, and has one reply.
+
+ghost use Rattle.std.specs.Prelude.{◌≡◌, ◌<◌, false, IsTrue};
+ghost use Rattle.space_model.specs.Step.{stands};
+ghost use Rattle.space_model.specs.Sound.{Sound};
+ghost use Rattle.arena_core.specs.Arenas.{opens, room_after, room_of};
+
+use crate::Arena;
+use space_model::{Entry, Op, Reply, Space, Span, may_stand, plain_counts, plain_step};
+use std::alloc::Global;
+use std::marker::Model;
+use std::process::Abort;
+
+/// An arena and its space, which agree.
+#[derive(Drop)]
+pub struct Trial {
+    arena: Arena,
+    space: Space,
+}
+
+impl Model for Trial {
+    ghost use Rattle.std.specs.Prelude.{◌≡◌};
+    ghost use Rattle.space_model.specs.declared.spaces.Space.{Space};
+    ghost use Rattle.space_model.specs.Sound.{Sound};
+
+    ghost Value = { Space };
+
+    ghost view = { λ trial. trial.space };
+
+    ghost invariant = { λ trial. (trial.arena.space ≡ trial.space) × Sound trial.space };
+}
+
+/// An operation that may stand is carried out in the arena and in the space, with one reply.
+fn carry_out(rt: &impl Abort, arena: &mut Arena, space: &mut Space, entry: &Entry) -> Reply
+    requires same { arena.old.space ≡ space.old }
+    requires sound { Sound space.old }
+    requires stands { IsTrue (stands space.old entry.now) }
+    requires room { opens entry.now.op ≡ false → 0 < room_of entry.now.client arena.old.rooms }
+    ensures same { arena.new.space ≡ space.new }
+    ensures sound { Sound space.new }
+    ensures room { room_of entry.now.client arena.new.rooms ≡ room_after arena.old.space (room_of entry.now.client arena.old.rooms) entry.now.client entry.now.op }
+{
+    let reply = arena
+        .step(entry.client, &entry.op)
+        .expect(rt, "memory for the arena");
+    let told = plain_step(space, entry).expect(rt, "memory for the space");
+    assert_eq!(rt; reply, told);
+    reply
+}
+
+impl Trial {
+    /// Arena 0 at the start.
+    pub fn of_first(rt: &impl Abort, alloc: Global) -> Self {
+        Trial {
+            arena: Arena::new(alloc, Space::first(alloc)).expect(rt, "memory for an arena"),
+            space: Space::first(alloc),
+        }
+    }
+
+    /// An index without an arena.
+    pub fn of_absent(rt: &impl Abort, alloc: Global) -> Self {
+        Trial {
+            arena: Arena::new(alloc, Space::absent(alloc)).expect(rt, "memory for an arena"),
+            space: Space::absent(alloc),
+        }
+    }
+
+    /// The arena.
+    pub fn arena(&self) -> &Arena {
+        &self.arena
+    }
+
+    /// The space.
+    pub fn space(&self) -> &Space {
+        &self.space
+    }
+
+    /// The reply to an operation of a client, if it may stand. A look that nothing can serve makes room for it.
+    pub fn attempt(&mut self, rt: &impl Abort, client: u32, op: Op) -> Option<Reply> {
+        let look = Entry {
+            client,
+            op: Op::Look {
+                pages: 1 << 40,
+                align: 1,
+            },
+        };
+        assert!(rt; may_stand(&self.space, &look));
+        carry_out(rt, &mut self.arena, &mut self.space, &look);
+        let entry = Entry { client, op };
+        if !may_stand(&self.space, &entry) {
+            return None;
+        }
+        let reply = carry_out(rt, &mut self.arena, &mut self.space, &entry);
+        Some(reply)
+    }
+
+    /// The counts are those of a scan.
+    pub fn counts_agree(&self, rt: &impl Abort) {
+        assert_eq!(rt; self.arena.counts(), plain_counts(&self.space));
+    }
+
+    /// An operation of a client has a reply, and the counts are those of a scan.
+    pub fn tell(&mut self, rt: &impl Abort, client: u32, op: Op, reply: Reply) {
+        assert_eq!(rt; self.attempt(rt, client, op), Some(reply));
+        self.counts_agree(rt);
+    }
+
+    /// The span of the first extent that the client has in flight, or the first chunk.
+    pub fn flight(&self, client: u32) -> Span {
+        self.arena.next_flight(client).unwrap_or(super::ops::CHUNK)
+    }
+}
