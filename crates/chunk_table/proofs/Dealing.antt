@@ -1,15 +1,15 @@
 -- The shares of all arenas, parted one after the other.
-use Rattle.std.proofs.Common.{◌≡◌, ℕ, ◌+◌, ◌-◌, ◌<◌, suc, List, [], ◌∷◌, ◌++◌, map, sym, ap, ◌∙◌, arith}
+use Rattle.std.proofs.Common.{◌≡◌, ℕ, ◌+◌, ◌-◌, ◌<◌, suc, List, [], ◌∷◌, ◌++◌, map, drop, sym, ap, ◌∙◌, arith}
 use Rattle.std.specs.List.{All, range_with_len}
 use Rattle.std.proofs.lemmas.List.{map-append}
-use Rattle.std.proofs.lemmas.List.Elements.{All-push, All-same}
+use Rattle.std.proofs.lemmas.List.Elements.{All-cons, All-nil, All-push, All-same}
 use Rattle.std.proofs.lemmas.List.FromFn.{map-range_with_len_more}
 use Rattle.chunk_table.specs.declared.table.ChunkSeat.{ChunkSeat}
 use Rattle.chunk_table.specs.declared.table.ChunkTable.{ChunkTable}
 use Rattle.chunk_table.specs.declared.view.View.{View}
 use Rattle.chunk_table.specs.Rule.{blank}
-use Rattle.chunk_table.specs.Steps.{alone, first_part, later_part}
-use Rattle.chunk_table.specs.Tables.{share_of, IsSeatOf}
+use Rattle.chunk_table.specs.Steps.{alone, first_of, first_part, later_part}
+use Rattle.chunk_table.specs.Tables.{owned, share_of, IsSeatOf}
 
 -- the shares of the arenas from a number on
 abbrev pub from : ℕ → ℕ → View
@@ -40,3 +40,9 @@ dealt_more before after seat arenas i is shares own =
 -- seats of one table, once one more is dealt
 pub ours_more : (table : ChunkTable) (before after : List ChunkSeat) (seat : ChunkSeat) → after ≡ before ++ seat ∷ [] → All (IsSeatOf table) before → IsSeatOf table seat → All (IsSeatOf table) after
 ours_more table before after seat is all one = All-same (IsSeatOf table) after (before ++ seat ∷ []) is (All-push (IsSeatOf table) before seat all one)
+
+-- seats whose shares are blank own nothing
+pub none_owned : (seats : List ChunkSeat) (arenas : ℕ) (numbers : List ℕ) → map share_of seats ≡ map (blank arenas) numbers → All (λ seat. owned seat ≡ []) seats
+none_owned [] arenas numbers e = All-nil (λ seat. owned seat ≡ [])
+none_owned (s ∷ ss) arenas [] e = absurd (cc)
+none_owned (s ∷ ss) arenas (n ∷ ns) e = All-cons (λ seat. owned seat ≡ []) s ss (ap (λ l. (first_of l).owned) e) (none_owned ss arenas ns (ap (drop 1) e))

@@ -2,7 +2,7 @@
 ghost use Rattle.std.specs.Prelude.{◌≡◌, ℕ, ◌<◌, ◌≤◌, [], length, map, slice_index, vec_capacity, IfOk};
 ghost use Rattle.std.specs.List.{All};
 ghost use Rattle.chunk_table.specs.Rule.{blanks};
-ghost use Rattle.chunk_table.specs.Tables.{arena_count, seats, share_of, IsSeatOf};
+ghost use Rattle.chunk_table.specs.Tables.{arena_count, owned, seats, share_of, IsSeatOf};
 
 use crate::rule::{Board, Parts, Place};
 use crate::table::{CHUNKS, ChunkSeat, ChunkSeats, ChunkTable};
@@ -46,6 +46,7 @@ impl ChunkTable {
         ensures arenas { IfOk result (λ r. arena_count r.0 ≡ arenas) }
         ensures table { IfOk result (λ r. All (IsSeatOf r.0) (seats r.1)) }
         ensures free { IfOk result (λ r. map share_of (seats r.1) ≡ blanks arenas) }
+        ensures none { IfOk result (λ r. All (λ seat. owned seat ≡ []) (seats r.1)) }
     {
         let words = zeros(alloc, CHUNKS as usize + 1)?;
         let mut items = Vec::new(alloc);

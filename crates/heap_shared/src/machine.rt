@@ -46,7 +46,8 @@ impl SharedArena {
         seat: ChunkSeat,
     ) -> Result<SharedArena, NoMemory>
         requires space { (space ≡ absent_space) ⊎ (space ≡ first_space) }
-        requires seat { IsSeatOf (arc_value table) seat × (owned seat ≡ []) }
+        requires seat { IsSeatOf (arc_value table) seat }
+        requires none { owned seat ≡ [] }
         ensures { IfOk result (λ s. s ≡ facts_of (record { space = space; rooms = replicate 32 0 }) [] (arc_value table)) }
     {
         Ok(SharedArena {

@@ -1,32 +1,48 @@
 //! Clients take turns in arenas over one table of chunks, from one thread.
-ghost use Rattle.std.specs.Prelude.{◌≡◌, ◌<◌, true, IfOk};
+ghost use Rattle.std.specs.Prelude.{◌≡◌, ◌<◌, [], true, IfOk};
 ghost use Rattle.std.specs.Arc.{arc_value};
-ghost use Rattle.chunk_table.specs.Tables.{IsSeatOf};
+ghost use Rattle.chunk_table.specs.Tables.{arena_count, owned, IsSeatOf};
 ghost use Rattle.turn_lock.specs.Locks.{first, held, number, own_known, seat_count, spare, IsPassOf};
 ghost use Rattle.heap_shared.specs.Shared.{after_entry, owned_by};
 
 use crate::{ArenaTurns, SharedArena, turn};
-use chunk_table::{ChunkSeat, ChunkTable};
+use chunk_table::{ChunkSeat, ChunkSeats, ChunkTable};
 use space_model::{Answer, Ask, Heard, Op, Reply, Space, Span, Why};
 use std::alloc::{AllocError as NoMemory, Global};
+use std::process::Abort;
 use std::sync::{Arc, Wait};
 use std::test::Fail;
 use turn_lock::{Pass, Passes, TurnLock};
 
-/// The first chunk.
-const CHUNK: Span = Span {
-    first: 512,
-    pages: 512,
-};
+type Lock = TurnLock<ArenaTurns>;
+
+type Client = Pass<ArenaTurns>;
+
+type Table = Arc<ChunkTable, Global>;
+
+/// The table of two arenas, and their seats.
+fn two_seats<R: Abort>(rt: &R, alloc: Global) -> Result<(Table, ChunkSeat, ChunkSeat), NoMemory>
+    ensures arenas { IfOk result (λ r. arena_count (arc_value r.0) ≡ 2) }
+    ensures first { IfOk result (λ r. IsSeatOf (arc_value r.0) r.1 × (owned r.1 ≡ [])) }
+    ensures second { IfOk result (λ r. IsSeatOf (arc_value r.0) r.2 × (owned r.2 ≡ [])) }
+{
+    let (table, mut seats) = ChunkTable::new(alloc, 2)?;
+    let table = Arc::new(alloc, table)?;
+    let (Some(second), Some(first)) = (seats.pop(), seats.pop()) else {
+        panic!(rt; "there are two seats")
+    };
+    Ok((table, first, second))
+}
 
 /// A lock for so many clients round arena 0 as it is at the start, and the pass of the first one.
 fn locked(
     alloc: Global,
-    table: &Arc<ChunkTable, Global>,
+    table: &Table,
     seat: ChunkSeat,
     clients: u32,
-) -> Result<(TurnLock<ArenaTurns>, Pass<ArenaTurns>), NoMemory>
+) -> Result<(Lock, Client), NoMemory>
     requires seat { IsSeatOf (arc_value table.now) seat }
+    requires none { owned seat ≡ [] }
     requires clients { 0 < clients }
     ensures table { IfOk result (λ r. (first r.0).table ≡ arc_value table.now) }
     ensures pass { IfOk result (λ r. IsPassOf r.0 r.1 × (number r.1 ≡ 0)) }
@@ -34,15 +50,20 @@ fn locked(
     ensures bound { IfOk result (λ r. (own_known after_entry owned_by r.0 r.1).has.bound ≡ true) }
 {
     let arena = SharedArena::new(alloc, Space::first(alloc), Arc::try_clone(table)?, seat)?;
-    TurnLock::<ArenaTurns>::new(alloc, arena, clients)
+    Lock::new(alloc, arena, clients)
+}
+
+/// The seat of the arena under a lock with one client.
+fn seat_of(alloc: Global, lock: Lock, pass: Client) -> ChunkSeat
+    requires lock { IsPassOf lock pass }
+    requires alone { held pass ≡ seat_count lock }
+    ensures { IsSeatOf (first lock).table result }
+{
+    lock.close(pass, Passes::new(alloc)).into_seat()
 }
 
 /// Looks a hundred times for an extent of five pages, of which there is none.
-fn look_often<R: Wait>(
-    rt: &R,
-    lock: &TurnLock<ArenaTurns>,
-    mut pass: Pass<ArenaTurns>,
-) -> Result<Pass<ArenaTurns>, NoMemory>
+fn look_often<R: Wait>(rt: &R, lock: &Lock, mut pass: Client) -> Result<Client, NoMemory>
     requires lock { IsPassOf lock.now pass }
     requires client { number pass < 32 }
     ensures { IfOk result (λ p. IsPassOf lock.now p × (number p ≡ number pass) × (spare p ≡ spare pass)) }
@@ -53,12 +74,9 @@ fn look_often<R: Wait>(
     Ok(pass)
 }
 
-/// A bound client asks for the counts, which gives it room, and then has its arena grow by the first chunk.
-fn grow<R: Wait>(
-    rt: &R,
-    lock: &TurnLock<ArenaTurns>,
-    pass: &mut Pass<ArenaTurns>,
-) -> Result<Reply, NoMemory>
+/// A client asks for the counts, which gives it room, and has its arena grow by chunk 1. What speaks against that, if
+/// something does.
+fn grow<R: Wait>(rt: &R, lock: &Lock, pass: &mut Client) -> Result<Option<Why>, NoMemory>
     requires lock { IsPassOf lock.now pass.old }
     requires client { number pass.old < 32 }
     requires bound { (own_known after_entry owned_by lock.now pass.old).has.bound ≡ true }
@@ -68,27 +86,26 @@ fn grow<R: Wait>(
     turn(rt, lock, pass, Op::Counts)?;
     let ask = Ask::Alloc {
         at: None,
-        pages: CHUNK.pages,
+        pages: 512,
         align: 512,
         commit: true,
     };
     let answer = Answer::Placed {
-        first: CHUNK.first,
+        first: 512,
         committed: true,
         zeroed: true,
     };
     let heard = Heard { ask, answer };
-    turn(rt, lock, pass, Op::GrowDone { heard, found: None })
+    match turn(rt, lock, pass, Op::GrowDone { heard, found: None })? {
+        Reply::Bad(why) => Ok(Some(why)),
+        _ => Ok(None),
+    }
 }
 
 #[test]
 fn two_clients_take_turns(rt: HostRuntime) -> Result<(), Fail> {
     let alloc = rt.alloc();
-    let (table, mut seats) = ChunkTable::new(alloc, 1)?;
-    let table = Arc::new(alloc, table)?;
-    let Some(seat) = seats.pop() else {
-        panic!(rt; "there is a seat")
-    };
+    let (table, seat, _) = two_seats(&rt, alloc)?;
     let (lock, pass) = locked(alloc, &table, seat, 2)?;
     let (first, second) = lock.split_pass(pass);
     let first = look_often(&rt, &lock, first)?;
@@ -105,21 +122,20 @@ fn two_clients_take_turns(rt: HostRuntime) -> Result<(), Fail> {
 #[test]
 fn a_chunk_of_another_arena_is_found(rt: HostRuntime) -> Result<(), Fail> {
     let alloc = rt.alloc();
-    let (table, mut seats) = ChunkTable::new(alloc, 2)?;
-    let table = Arc::new(alloc, table)?;
-    let (Some(second), Some(first)) = (seats.pop(), seats.pop()) else {
-        panic!(rt; "there are two seats")
-    };
+    let (table, first, second) = two_seats(&rt, alloc)?;
     let (first_lock, mut first) = locked(alloc, &table, first, 1)?;
     let (second_lock, mut second) = locked(alloc, &table, second, 1)?;
-    let span = CHUNK;
-    let committed = true;
-    assert_eq!(rt; grow(&rt, &first_lock, &mut first)?, Reply::Grown { span, committed });
-    assert_eq!(rt; grow(&rt, &second_lock, &mut second)?, Reply::Bad(Why::Meets(CHUNK)));
-    let first = first_lock.close(first, Passes::new(alloc)).into_seat();
-    let mut second = second_lock.close(second, Passes::new(alloc)).into_seat();
-    assert_eq!(rt; table.owner(&mut second, 1), 1);
-    assert!(rt; !table.owns(&mut second, 1));
+    assert_eq!(rt; grow(&rt, &first_lock, &mut first)?, None);
+    let met = Why::Meets(Span {
+        first: 512,
+        pages: 512,
+    });
+    assert_eq!(rt; grow(&rt, &second_lock, &mut second)?, Some(met));
+    let mut first = seat_of(alloc, first_lock, first);
+    let mut second = seat_of(alloc, second_lock, second);
+    assert!(rt; table.owns(&mut first, 1) && !table.owns(&mut second, 1));
+    let mut seats = ChunkSeats::new(alloc);
+    seats.reserve(2)?;
     seats.push(first);
     seats.push(second);
     table.gather(seats);

@@ -47,8 +47,7 @@ invariant_of-self-2 c =
     let old = share_of c.self.inside.claims.seat in
     let mid = share_of c.settle-op.new.self.seat in
     let new = share_of c.release.new.self.seat in
-    let released = subst (λ t. Released (touched made c.in_ok-reply.reply) t mid new) c.in_ok-reply.ensures.after c.release.ensures.released in
-    (
+    let released = subst (λ t. Released (touched made c.in_ok-reply.reply) t mid new) c.in_ok-reply.ensures.after c.release.ensures.released in (
       c.step.ensures.sound,
       λ chunk. subst (λ (t : Space). owns chunk new ≡ is_met chunk t) (sym c.in_ok-reply.ensures.after)
           (owns_after c.args.client s made c.self.invariant.0 (both_true _ _ stand).1 chunk old mid new c.self.invariant.1 c.settle-op.ensures.claimed

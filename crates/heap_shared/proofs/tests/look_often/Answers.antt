@@ -1,0 +1,14 @@
+use Rattle.std.proofs.Common.{◌≡◌, ◌<◌, ◌&&◌, Bool, IsTrue, true, nat_lt, arith, refl, sym, subst}
+use Rattle.std.proofs.lemmas.Bool.Decides.{nat_tests}
+use Rattle.turn_lock.specs.Locks.{number}
+use Rattle.heap_shared.proofs.tests.look_often.Goals as goal
+
+pub turn-requires-clause-may : goal.turn-requires-clause-may
+unfolding lib.Count.ones
+turn-requires-clause-may g c = (
+  (λ no. cc),
+  λ s sound same.
+      let client : number c.loop.pass < 32 = (let a = c.requires.client in let b = c.loop.invariant.2 in omega arith) in
+      let below : nat_lt (number c.loop.pass) 32 ≡ true = grind (arith, nat_tests) in
+      subst (λ (b : Bool). IsTrue (b && true)) (sym below) refl,
+)

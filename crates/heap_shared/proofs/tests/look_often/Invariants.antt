@@ -1,0 +1,6 @@
+use Rattle.std.proofs.Common.{◌≡◌}
+use Rattle.turn_lock.specs.Locks.{number, spare, IsPassOf}
+use Rattle.heap_shared.proofs.tests.look_often.Given as goal
+
+abbrev pub invariant-loop : goal.invariant-loop
+invariant-loop g l = IsPassOf l.lock l.pass × (number l.pass ≡ number l.initial.pass) × (spare l.pass ≡ spare l.initial.pass)
