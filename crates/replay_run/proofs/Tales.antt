@@ -25,7 +25,7 @@ use Rattle.call_table.specs.Calls.{CallFacts, moment_of}
 use Rattle.call_table.specs.Causes.{Came}
 use Rattle.call_table.specs.Desks.{desk_fed}
 use Rattle.call_table.specs.Laws.{Moves, with_found}
-use Rattle.call_table.specs.Reads.{aimed, ended_by}
+use Rattle.call_table.specs.Reads.{aimed, ended_by, published_next}
 use Rattle.call_table.specs.Runs.{Moment, after, begin_stage, settle, step_next}
 use Rattle.call_table.specs.Table.{Want, WantAsk, WantTurn, step}
 use Rattle.heap_core.specs.Arenas.{record_at, spaces_of}
@@ -158,11 +158,13 @@ unwaited w c ends awaited = let none : client_awaited w.awaits ≡ None = ap cli
 
 -- what each step of a call keeps
 module _ (P : ℕ → Tale → Next → Type 0) where
-  -- It is so where a request begins, it goes on with whatever came of what was wanted, and it stays where the call goes on then.
+  -- It is so where a request begins, it goes on with whatever came of what was wanted, and it stays where the call goes on then
+  -- and where a region is published for the call.
   pub record Kept : Type 0 where
     pub begins : (h : HeapFacts) (c : ℕ) (request : Request) → IsSound h → length h.seats ≡ 32 → P c (tale_begun h.seats c request) (begin_stage (asked_for h.seats c request) (seat_at h.seats c).desk).next
     pub steps : (c : ℕ) (tale : Tale) (point : Point) (item : Item) → P c tale (Go point) → Came c (Go point) item → P c (tale_fed item tale) (step point item)
     pub settles : (c : ℕ) (tale : Tale) (now : DeskFacts) (arena : ℕ) (next : Next) → P c tale next → P c tale (settle tale.request now arena next).next
+    pub publishes : (c : ℕ) (tale : Tale) (next : Next) → P c tale next → P c tale (published_next next)
 
   -- it is so of an open call with its tale
   abbrev pub OfCall : ℕ → Option CallFacts → Option Tale → Type 0
@@ -223,9 +225,9 @@ module _ (P : ℕ → Tale → Next → Type 0) where
       (subst (λ (r : Request). P c (tale_fed item tale) (settle r now call.stage.arena next).next) (sym same) (keeps.settles c (tale_fed item tale) now call.stage.arena next gone))
 
   -- a call that is aimed goes on where it is
-  aimed_still : (c : ℕ) (call : CallFacts) (arena : ℕ) (tale : Option Tale) → OfCall c (Some call) tale → OfCall c (Some (aimed call arena)) tale
-  aimed_still c call arena None so = so
-  aimed_still c call arena (Some tale) so = so
+  aimed_still : Kept → (c : ℕ) (call : CallFacts) (arena : ℕ) (tale : Option Tale) → OfCall c (Some call) tale → OfCall c (Some (aimed call arena)) tale
+  aimed_still keeps c call arena None so = so
+  aimed_still keeps c call arena (Some tale) (same, why) = (same, keeps.publishes c tale call.stage.next why)
 
   -- where one client is another and has another tale
   calls_set : (seats : List Seat) (tales : List (Option Tale)) (c : ℕ) (seat : Seat) (tale : Option Tale) → length seats ≡ 32 → length tales ≡ 32 →
@@ -258,16 +260,16 @@ module _ (P : ℕ → Tale → Next → Type 0) where
       (calls_set seats tales c seat (tale_at tales c) all number so (λ there. own))
 
   -- a call that was published for goes on
-  published_calls : (h : HeapFacts) (tales : List (Option Tale)) (c : ℕ) (call : CallFacts) (holder : ℕ) (region : Option Held) → length h.seats ≡ 32 → length tales ≡ 32 → (seat_at h.seats c).call ≡ Some call →
+  published_calls : Kept → (h : HeapFacts) (tales : List (Option Tale)) (c : ℕ) (call : CallFacts) (holder : ℕ) (region : Option Held) → length h.seats ≡ 32 → length tales ≡ 32 → (seat_at h.seats c).call ≡ Some call →
       ((k : ℕ) → OfCall k (seat_at h.seats k).call (tale_at tales k)) → (length (published_for h c call holder region).seats ≡ 32) × ((k : ℕ) → OfCall k (seat_at (published_for h c call holder region).seats k).call (tale_at tales k))
-  published_calls h tales c call holder None all number opened so = (all, so)
-  published_calls h tales c call holder (Some region) all number opened so =
+  published_calls keeps h tales c call holder None all number opened so = (all, so)
+  published_calls keeps h tales c call holder (Some region) all number opened so =
       let gone : HeapFacts = parted h holder region in
       let still : length gone.seats ≡ 32 = length-set h.seats holder _ ∙ all in
       let own : OfCall c (Some call) (tale_at tales c) = subst (λ (o : Option CallFacts). OfCall c o (tale_at tales c)) opened (so c) in
       let last : Seat = record (seat_at gone.seats c) { call = Some (aimed call region.arena) } in
       let others = calls_kept h.seats tales holder (record (seat_at h.seats holder) { desk = not_holding region.addr (seat_at h.seats holder).desk }) all number so (so holder) in
-      (length-set gone.seats c last ∙ still, calls_kept gone.seats tales c last still number others (aimed_still c call region.arena (tale_at tales c) own))
+      (length-set gone.seats c last ∙ still, calls_kept gone.seats tales c last still number others (aimed_still keeps c call region.arena (tale_at tales c) own))
 
   -- What an event leaves: its answer ends its call, and it is so of all open calls then.
   record Goes (w : World) (tales : List (Option Tale)) (event : Event) : Type 0 where
@@ -323,7 +325,7 @@ module _ (P : ℕ → Tale → Next → Type 0) where
       )
   turned keeps w tales c call op asked (Some holder) sound so wants =
       let heap : HeapFacts = published_for w.heap c call holder (region_for w.heap call holder) in
-      let goes = published_calls w.heap tales c call holder (region_for w.heap call holder) so.clients so.number wants.open_call so.calls in
+      let goes = published_calls keeps w.heap tales c call holder (region_for w.heap call holder) so.clients so.number wants.open_call so.calls in
       (tt, subst (AllOpen (stepped w c heap (turn_line c) None)) (sym (set-get_or tales c None)) (stepped_open w tales c heap (turn_line c) None so.built goes.0 so.number goes.1))
 
   told : Kept → (w : World) (tales : List (Option Tale)) (c : ℕ) (call : CallFacts) (asked : AskFacts) → IsSound w.heap → AllOpen w tales → IsWanted w c call (WantAsk asked.ask) → IsAskOf w call asked → Goes w tales (Told c call asked)
