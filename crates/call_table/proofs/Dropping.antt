@@ -26,6 +26,7 @@ use Rattle.space_model.specs.Sound.{Sound}
 use Rattle.space_model.specs.Own.{mine}
 use Rattle.hook_api.specs.Hooks.{Answers as AnswersTo}
 use Rattle.space_model.proofs.Exchange.{find_passes, find_has}
+use Rattle.space_model.proofs.Outcomes.{belongs}
 use Rattle.space_model.proofs.Pieces.{both_true}
 use Rattle.call_table.specs.declared.points.Then.{Then}
 use Rattle.call_table.specs.declared.points.Then.TheVariants.{Visiting}
@@ -36,7 +37,7 @@ use Rattle.call_table.specs.Knows.{Idle, Flies, Droppable, HasOffered, IsThen, I
 use Rattle.call_table.specs.Laws.{Keeps, stages_then, stages_later, left, left_then, left_visit, stages_visit, left_turn, left_ask, flights_of}
 use Rattle.call_table.proofs.Lists.{find-none, filter-fewer, find-gone, any-none, filter-removed}
 use Rattle.call_table.proofs.Own.{flights_exchanged, filter-swap}
-use Rattle.call_table.proofs.Putting.{Room, fewer_room, found_at, begins_as, gone_flights, next_goes, drop_goes, visited_goes, belongs, listed_dirty}
+use Rattle.call_table.proofs.Putting.{Room, fewer_room, found_at, begins_as, gone_flights, next_goes, drop_goes, visited_goes, listed_dirty}
 use Rattle.call_table.proofs.Getting.{Onto, span_itself, begins_itself, client_itself, passes_alone, replaced_idle}
 
 -- ---- an extent in flight that changes

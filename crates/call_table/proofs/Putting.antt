@@ -25,6 +25,9 @@ use Rattle.space_model.specs.Sound.{Sound}
 use Rattle.space_model.specs.Own.{mine}
 use Rattle.hook_api.specs.Hooks.{Answers as AnswersTo}
 use Rattle.space_model.proofs.Exchange.{find_passes, find_has, filter-begins_at}
+use Rattle.space_model.proofs.Found.{span_is}
+use Rattle.space_model.proofs.Lists.{if_found}
+use Rattle.space_model.proofs.Outcomes.{belongs, beq_itself}
 use Rattle.space_model.proofs.Settled.{some_pages}
 use Rattle.space_model.proofs.Pieces.{both_true}
 use Rattle.call_table.specs.declared.points.Then.{Then}
@@ -106,15 +109,6 @@ pub record At (c : ℕ) (s : Space) (span : Span) (p : Part) : Type 0 where
   pub spans : p.span ≡ span
   pub some : 0 < p.span.pages
 
--- spans with the same first page and pages are the same
-span_is : (s t : Span) → same_span s t ≡ true → s ≡ t
-span_is s t h =
-    let both = both_true (s.first == t.first) (s.pages == t.pages) h in
-    let first : s.first ≡ t.first = eqb-true _ _ both.0 in
-    let pages : s.pages ≡ t.pages = eqb-true _ _ both.1 in
-    let of : ℕ → ℕ → Span = λ a b. record { first = a; pages = b } in
-    ap (λ a. of a s.pages) first ∙ ap (λ b. of t.first b) pages
-
 pub found_at : (c : ℕ) (s : Space) (span : Span) (p : Part) → Sound s → in_flight span (mine c s).flights ≡ Some p → At c s span p
 found_at c s span p sound e =
     let found = flight_found c span s.parts ∙ e in
@@ -139,12 +133,6 @@ begins_not span first differ q h = elsewhere q.span.first (eqb-true _ _ (both_tr
 
 -- ---- the neighbour
 
-pub belongs : (r : Rest) (state : State) → is_listed r state ≡ true → rest_of state ≡ r
-belongs ToDirty Dirty h = refl
-belongs ToMuzzy Muzzy h = refl
-belongs ToRetained Retained h = refl
-belongs r state h = absurd (cc)
-
 not_flying : (c : ℕ) (r : Rest) (state : State) → is_listed r state ≡ true → is_flight c state ≡ false
 not_flying c ToDirty Dirty h = refl
 not_flying c ToMuzzy Muzzy h = refl
@@ -162,10 +150,6 @@ same_committed false false h = refl
 same_committed true false h = absurd (cc)
 same_committed false true h = absurd (cc)
 
-beq_itself : (a : Bool) → beq a a ≡ true
-beq_itself true = refl
-beq_itself false = refl
-
 -- two extents that belong to the same list, and are committed alike, may be merged
 merge_may : (p q : Part) → rest_of p.state ≡ rest_of q.state → p.committed ≡ q.committed → may_merge p q ≡ true
 merge_may p q rest committed = rw (rest, committed, listed_itself (rest_of q.state), beq_itself q.committed) refl
@@ -181,10 +165,6 @@ record Near (tries : ℕ) (p other : Part) (parts : List Part) : Type 0 where
 or_right : (a b : Bool) → b ≡ true → (a || b) ≡ true
 or_right true b h = refl
 or_right false b h = h
-
-if_found : {X : Type 0} (b : Bool) (o : Option X) (x : X) → cond b o None ≡ Some x → (b ≡ true) × (o ≡ Some x)
-if_found true o x e = (refl, e)
-if_found false o x e = absurd (cc)
 
 early_first : (tries : ℕ) → (tries == 0) ≡ true → tries < 2
 early_first tries h = grind (arith, nat_tests)

@@ -62,14 +62,7 @@ impl TurnPoint {
             (TurnPoint::Resetting(_), Reply::Noted | Reply::Purge { .. })
             | (TurnPoint::Destroying(_), Reply::Noted) => desk.discard(arena),
             (TurnPoint::Publishing(_), Reply::Noted) => desk.let_go(),
-            (
-                TurnPoint::Owning {
-                    addr,
-                    frees: true,
-                    ..
-                },
-                Reply::Owned { class },
-            ) => {
+            (TurnPoint::Owning { addr, frees, .. }, Reply::Owned { class }) if *frees => {
                 let (addr, class) = (*addr, *class);
                 desk.free(Held { addr, class, arena });
             }

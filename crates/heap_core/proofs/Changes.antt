@@ -16,6 +16,7 @@ use Rattle.heap_core.specs.Owing.{IsHeap, asks_next, owing}
 use Rattle.heap_core.specs.Records.{Record}
 use Rattle.heap_core.specs.Seats.{Seat, first_seat, seat_at}
 use Rattle.heap_core.specs.Sitting.{SeatSound}
+use Rattle.heap_core.proofs.Clients.{opens_settled}
 use Rattle.heap_core.proofs.Sitting.{others-sit}
 
 -- ---- rooms
@@ -36,11 +37,6 @@ room_elsewhere records arena c i other op asked is there differ = by (arena == i
     by false e =
         let far : i ≢ arena = λ same. grind (arith, nat_tests) in
         ap (λ (r : Record). room_of other r.rooms) (get_or-set_other records arena i new no_record far)
-
-opens_settled : (spaces : List Space) (arena : ℕ) (op : Op) → opens (settled spaces arena op) ≡ opens op
-opens_settled spaces arena (GrowDone heard found) = refl
-opens_settled spaces arena (OfferDone heard found) = refl
-opens_settled spaces arena op = refl
 
 -- a turn without memory takes one of its client's room
 pub room_used : (records : List Record) (arena c : ℕ) (op : Op) (asked : Option AskFacts) → IsArenas records → arena < 32 → c < 32 → opens op ≡ false →

@@ -101,7 +101,7 @@ found_for spaces arena (GrowDone heard found) = met_by_alloc spaces heard.ask he
 found_for spaces arena (OfferDone heard found) = met_by_dalloc (others_of arena spaces) heard.ask heard.answer
 found_for spaces arena op = None
 
-settled_is : (spaces : List Space) (arena : ℕ) (op : Op) → settled spaces arena op ≡ with_found (found_for spaces arena op) op
+pub settled_is : (spaces : List Space) (arena : ℕ) (op : Op) → settled spaces arena op ≡ with_found (found_for spaces arena op) op
 settled_is spaces arena (GrowDone heard found) = refl
 settled_is spaces arena (OfferDone heard found) = refl
 settled_is spaces arena op = refl
@@ -179,7 +179,7 @@ room_enough s c room spaces arena (OfferDone heard found) = omega arith
 room_enough s c room spaces arena op = omega arith
 
 -- an operation opens a unit with the chunk that was found or without
-opens_settled : (spaces : List Space) (arena : ℕ) (op : Op) → opens (settled spaces arena op) ≡ opens op
+pub opens_settled : (spaces : List Space) (arena : ℕ) (op : Op) → opens (settled spaces arena op) ≡ opens op
 opens_settled spaces arena (GrowDone heard found) = refl
 opens_settled spaces arena (OfferDone heard found) = refl
 opens_settled spaces arena op = refl

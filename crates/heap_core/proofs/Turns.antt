@@ -44,6 +44,7 @@ use Rattle.heap_core.specs.Clients.{CanTurn, IsIdle, Waits, WaitsNext, after_tur
 use Rattle.heap_core.specs.Records.{IsReplayed, Record}
 use Rattle.heap_core.specs.Seats.{seat_of}
 use Rattle.heap_core.specs.Sitting.{AsksSit, Comes, Has, IsSeated, OthersSit, SeatSound, Sits, SitsAt, StarvesSit, Suits, SuitsChange, SuitsTurn, TurnsSit, is_region}
+use Rattle.call_table.proofs.Steps.{never_starves}
 use Rattle.heap_core.proofs.Carrying.{carries}
 use Rattle.heap_core.proofs.Clients.{asks-lead_on, elsewhere_is, others-stay, others_own, sound_at, there_is, turns-lead_on}
 use Rattle.heap_core.proofs.Having.{cache_arena}
@@ -351,21 +352,6 @@ marked_idle records c arena (Landing wish span) knows marked = absurd (cc)
 marked_idle records c arena (Finding own tries fresh later) knows marked = absurd (cc)
 marked_idle records c arena (Offering span later) knows marked = absurd (cc)
 
--- an answer that is taken in takes no memory
-done_unmarked : (point : AskPoint) (asked : AskFacts) → is_marked (done_of point asked) ≡ false
-done_unmarked (Skipping wish span b skip) asked = refl
-done_unmarked (Trimming wish span b) asked = refl
-done_unmarked (Growing wish chunks) asked = refl
-done_unmarked (Paring wish span b) asked = refl
-done_unmarked (Needing wish) asked = refl
-done_unmarked (Granting wish span b) asked = refl
-done_unmarked (Committing wish span) asked = refl
-done_unmarked (Merging low high own_low fresh later) asked = refl
-done_unmarked (Easing span later) asked = refl
-done_unmarked (Returning span later) asked = refl
-done_unmarked (Decommitting span later) asked = refl
-done_unmarked (Forcing span later) asked = refl
-
 starve_at : (records : List Record) (c : ℕ) (desk : DeskFacts) (call : CallFacts) (point : Point) (op : Op) (asked : Option AskFacts) → IsArenas records → Sits records c desk call.request call.stage.arena point →
     want point ≡ WantTurn op asked → is_marked op ≡ true → Comes records c (moved call.request (desk_fed desk call.stage.arena (Go point) Starved) call.stage.arena (step point Starved))
 starve_at records c desk call (Turns point) op asked is sits wants marked =
@@ -380,7 +366,7 @@ starve_at records c desk call (Turns point) op asked is sits wants marked =
     all_idle idle i false e = sits.waits.elsewhere i (λ home. grind (arith, nat_tests))
 starve_at records c desk call (Asks point (Some told_so)) op asked is sits wants marked =
     let same : done_of point told_so ≡ op = cc in
-    let unmarked = done_unmarked point told_so in absurd (cc)
+    let unmarked = never_starves point told_so in absurd (cc)
 starve_at records c desk call (Asks point None) op asked is sits wants marked = absurd (cc)
 starve_at records c desk call (Tells span b) op asked is sits wants marked = absurd (cc)
 
