@@ -32,7 +32,6 @@ use Rattle.call_table.specs.Aligned.{IsCacheAligned}
 use Rattle.call_table.specs.Calls.{CallFacts}
 use Rattle.call_table.specs.Causes.{AllCame, Came}
 use Rattle.call_table.specs.Desks.{desk_fed}
-use Rattle.call_table.specs.Reads.{published_next}
 use Rattle.call_table.specs.Runs.{Moment, after, begin, begin_memalign, begin_stage, run, settle, step_next}
 use Rattle.call_table.specs.Table.{step}
 use Rattle.call_table.proofs.Memaligns.{memaligns-are_aligned}
@@ -158,17 +157,16 @@ settles_aligned c (Memalign align size) tale now arena (Ends answer) so = so
 settles_aligned c (Memalign align size) tale now arena Nowhere so = so
 settles_aligned c request tale now arena next so = tt
 
-published_aligned : (c : ℕ) (request : Request) (tale : Tale) (next : Next) → AlignsAt c request tale next → AlignsAt c request tale (published_next next)
-published_aligned c (Memalign align size) tale (Go (Turns (Owning addr true false))) so = absurd so.1
-published_aligned c (Memalign align size) tale next so = so
-published_aligned c request tale next so = tt
+published_aligned : (c : ℕ) (request : Request) (tale : Tale) (addr : ℕ) → AlignsAt c request tale (Go (Turns (Owning addr true false))) → AlignsAt c request tale (Go (Turns (Owning addr true true)))
+published_aligned c (Memalign align size) tale addr so = absurd so.1
+published_aligned c request tale addr so = tt
 
 aligns_kept : Kept Aligns
 aligns_kept = record {
   begins = λ h c request sound clients. begins_aligned c (asked_for h.seats c request) (seat_at h.seats c).desk (cache_aligned h c sound clients);
   steps = λ c tale point item so came. steps_aligned c tale.request tale point item so came;
   settles = λ c tale now arena next so. settles_aligned c tale.request tale now arena next so;
-  publishes = λ c tale next so. published_aligned c tale.request tale next so;
+  publishes = λ c tale addr so. published_aligned c tale.request tale addr so;
 }
 
 answer_aligned : (c : ℕ) (request : Request) (tale : Tale) (answer : Answered) → AlignsAt c request tale (Ends answer) → IsAlignedFor request answer

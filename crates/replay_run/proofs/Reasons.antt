@@ -1,11 +1,7 @@
 -- Every answer of a play has its cause: the reasons of a call are kept by each step.
-use Rattle.std.proofs.Common.{ℕ, true, false, List, Option, None, Some, IfSome}
+use Rattle.std.proofs.Common.{ℕ, List, Option, None, Some, IfSome}
 use Rattle.call_table.specs.declared.needs.Answered.{Answered}
-use Rattle.call_table.specs.declared.points.TurnPoint.TheVariants.{Owning}
-use Rattle.call_table.specs.declared.points.Point.TheVariants.{Turns}
 use Rattle.call_table.specs.declared.points.Next.{Next}
-use Rattle.call_table.specs.declared.points.Next.TheVariants.{Go}
-use Rattle.call_table.specs.Reads.{published_next}
 use Rattle.heap_core.specs.Seats.{asked_for, seat_at}
 use Rattle.call_table.proofs.Reasons.{NextWhy, begin_why, settle_why, step_why}
 use Rattle.replay_run.specs.Answers.{AnswerCause, AnswersHaveCauses, IsCaused, Tale, answer_in, tale_in}
@@ -17,16 +13,12 @@ use Rattle.replay_run.proofs.Tales.{EndsWith, IsEnded, Kept, each_event}
 abbrev Why : ℕ → Tale → Next → Type 0
 Why c tale next = NextWhy tale.began tale.request tale.items next
 
-published_why : (c : ℕ) (tale : Tale) (next : Next) → Why c tale next → Why c tale (published_next next)
-published_why c tale (Go (Turns (Owning addr true false))) why = why
-published_why c tale next why = why
-
 why_kept : Kept Why
 why_kept = record {
   begins = λ h c request sound clients. begin_why (seat_at h.seats c).desk (asked_for h.seats c request);
   steps = λ c tale point item why came. step_why tale.began tale.request tale.items c point item why came;
   settles = λ c tale now arena next why. settle_why tale.began tale.request tale.items now arena next why;
-  publishes = published_why;
+  publishes = λ c tale addr why. why;
 }
 
 -- those of its end are the cause of its answer

@@ -6,7 +6,6 @@ use Rattle.std.proofs.lemmas.Bool.Decides.{nat_tests}
 use Rattle.std.proofs.lemmas.List.{get_or-replicate, get_or-set_other, get_or-set_same, length-replicate, set-get_or}
 use Rattle.std.proofs.Math.ListN.{length-set}
 use Rattle.space_model.specs.declared.Op.{Op}
-use Rattle.space_model.specs.declared.Op.TheVariants.{GrowDone, OfferDone}
 use Rattle.space_model.specs.declared.Space.{Space}
 use Rattle.space_model.specs.Sound.{Sound}
 use Rattle.space_model.specs.Step.{step_of}
@@ -18,13 +17,15 @@ use Rattle.call_table.specs.declared.needs.Answered.TheVariants.{NotHeld}
 use Rattle.call_table.specs.declared.needs.Item.{Item}
 use Rattle.call_table.specs.declared.needs.Item.TheVariants.{Replied, Told as ToldItem}
 use Rattle.call_table.specs.declared.needs.Request.{Request}
+use Rattle.call_table.specs.declared.points.TurnPoint.TheVariants.{Owning}
 use Rattle.call_table.specs.declared.points.Point.{Point}
+use Rattle.call_table.specs.declared.points.Point.TheVariants.{Turns}
 use Rattle.call_table.specs.declared.points.Next.{Next}
 use Rattle.call_table.specs.declared.points.Next.TheVariants.{Go, Over, More, Gone, Ends, Nowhere}
 use Rattle.call_table.specs.Calls.{CallFacts, moment_of}
 use Rattle.call_table.specs.Causes.{Came}
 use Rattle.call_table.specs.Desks.{desk_fed}
-use Rattle.call_table.specs.Laws.{Moves, with_found}
+use Rattle.call_table.specs.Laws.{Moves}
 use Rattle.call_table.specs.Reads.{aimed, ended_by, published_next}
 use Rattle.call_table.specs.Runs.{Moment, after, begin_stage, settle, step_next}
 use Rattle.call_table.specs.Table.{Want, WantAsk, WantTurn, step}
@@ -33,7 +34,7 @@ use Rattle.heap_core.specs.Chunks.{settled}
 use Rattle.heap_core.specs.Heaps.{HeapFacts, answered_by, holder_for, moment_after, parted, published_for, region_for, replied, started, told_to, turned_for}
 use Rattle.heap_core.specs.Seats.{Seat, answer_of, asked_for, begun, first_seat, open_call, seat_at, seat_of}
 use Rattle.heap_core.specs.Sitting.{IsSeated, SitsAt}
-use Rattle.heap_core.proofs.Clients.{found_for, sound_at}
+use Rattle.heap_core.proofs.Clients.{found_for, settled_is, sound_at}
 use Rattle.heap_core.proofs.Turned.{past}
 use Rattle.report_text.specs.Lines.{ask_line, turn_line}
 use Rattle.trace_text.specs.declared.lines.Line.{Line}
@@ -106,11 +107,6 @@ nowhere w c (CtlPlain name) whole built none = absurd (cc)
 nowhere w c (CtlWrite name value) whole built none = absurd (cc)
 nowhere w c verb whole built none = absurd (cc)
 
-settled_found : (spaces : List Space) (arena : ℕ) (op : Op) → settled spaces arena op ≡ with_found (found_for spaces arena op) op
-settled_found spaces arena (GrowDone heard found) = refl
-settled_found spaces arena (OfferDone heard found) = refl
-settled_found spaces arena op = refl
-
 -- a client with an open call is one of those that there are
 seat_there : (seats : List Seat) (c : ℕ) (call : CallFacts) → length seats ≡ 32 → (seat_at seats c).call ≡ Some call → c < 32
 seat_there seats c call all opened = by (nat_lt c 32) refl
@@ -134,7 +130,7 @@ reply_came : (w : World) (c : ℕ) (call : CallFacts) (op : Op) (asked : Option 
 reply_came w c call op asked sound there wants =
     let arena : ℕ = call.stage.arena in
     let s : Space = (record_at w.heap.records arena).space in
-    let found = settled_found (spaces_of w.heap.records) arena op in
+    let found = settled_is (spaces_of w.heap.records) arena op in
     let done : Op = settled (spaces_of w.heap.records) arena op in
     let sound_space : Sound s = sound_at w.heap.records arena sound.arenas (arena_there w c call (WantTurn op asked) sound there wants) in (
       s,
@@ -164,7 +160,7 @@ module _ (P : ℕ → Tale → Next → Type 0) where
     pub begins : (h : HeapFacts) (c : ℕ) (request : Request) → IsSound h → length h.seats ≡ 32 → P c (tale_begun h.seats c request) (begin_stage (asked_for h.seats c request) (seat_at h.seats c).desk).next
     pub steps : (c : ℕ) (tale : Tale) (point : Point) (item : Item) → P c tale (Go point) → Came c (Go point) item → P c (tale_fed item tale) (step point item)
     pub settles : (c : ℕ) (tale : Tale) (now : DeskFacts) (arena : ℕ) (next : Next) → P c tale next → P c tale (settle tale.request now arena next).next
-    pub publishes : (c : ℕ) (tale : Tale) (next : Next) → P c tale next → P c tale (published_next next)
+    pub publishes : (c : ℕ) (tale : Tale) (addr : ℕ) → P c tale (Go (Turns (Owning addr true false))) → P c tale (Go (Turns (Owning addr true true)))
 
   -- it is so of an open call with its tale
   abbrev pub OfCall : ℕ → Option CallFacts → Option Tale → Type 0
@@ -224,10 +220,14 @@ module _ (P : ℕ → Tale → Next → Type 0) where
       left_at w event c (after (moment_of call desk) item) (tale_fed item tale) same
       (subst (λ (r : Request). P c (tale_fed item tale) (settle r now call.stage.arena next).next) (sym same) (keeps.settles c (tale_fed item tale) now call.stage.arena next gone))
 
+  published_still : Kept → (c : ℕ) (tale : Tale) (next : Next) → P c tale next → P c tale (published_next next)
+  published_still keeps c tale (Go (Turns (Owning addr true false))) why = keeps.publishes c tale addr why
+  published_still keeps c tale next why = why
+
   -- a call that is aimed goes on where it is
   aimed_still : Kept → (c : ℕ) (call : CallFacts) (arena : ℕ) (tale : Option Tale) → OfCall c (Some call) tale → OfCall c (Some (aimed call arena)) tale
   aimed_still keeps c call arena None so = so
-  aimed_still keeps c call arena (Some tale) (same, why) = (same, keeps.publishes c tale call.stage.next why)
+  aimed_still keeps c call arena (Some tale) (same, why) = (same, published_still keeps c tale call.stage.next why)
 
   -- where one client is another and has another tale
   calls_set : (seats : List Seat) (tales : List (Option Tale)) (c : ℕ) (seat : Seat) (tale : Option Tale) → length seats ≡ 32 → length tales ≡ 32 →
