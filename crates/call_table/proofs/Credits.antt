@@ -1,6 +1,6 @@
 -- Every call makes few asks: each step of it leaves fewer, but for those that its reply brings. And what it asks for fits into a
 -- number.
-use Rattle.std.proofs.Common.{ap, ◌≡◌, ◌≤◌, ◌<◌, ℕ, ◌+◌, ◌-◌, ◌^◌, ◌==◌, ◌&&◌, Bool, true, false, cond, not, min, List, [], ◌∷◌, Option, None, Some, refl, arith, nat_lt}
+use Rattle.std.proofs.Common.{ap, ◌≡◌, ◌≤◌, ◌<◌, ℕ, ◌+◌, ◌-◌, ◌^◌, ◌==◌, ◌&&◌, Bool, true, false, cond, not, min, List, [], ◌∷◌, Option, None, Some, Result, Ok, Err, OnOk, OnErr, refl, arith, nat_lt, subst, sym}
 use Rattle.std.proofs.lemmas.Bool.{ltb-true, eqb-true}
 use Rattle.space_model.proofs.Pieces.{both_true}
 use Rattle.size_classes.specs.Classes.{aligned_for, class_for}
@@ -398,6 +398,11 @@ settle_few request desk arena More few = (begun_call 0 (batch_goes arena (batch_
 settle_few request desk arena Gone few = tt
 settle_few request desk arena (Ends answer) few = tt
 settle_few request desk arena Nowhere few = tt
+
+-- what is so of where a stage was led, and of every end, is so of where it stands
+pub led_or_ended : {A E : Type 0} (P : Next → Type 0) (result : Result A E) (led : Stage) (arena : ℕ) (answer : Answered) (at : Stage) → OnOk result (at ≡ led) → OnErr result (at ≡ stage arena (Ends answer)) → P led.next → P (Ends answer) → P at.next
+led_or_ended P (Ok done) led arena answer at is ends so end = subst (λ (s : Stage). P s.next) (sym is) so
+led_or_ended P (Err e) led arena answer at is ends so end = subst (λ (s : Stage). P s.next) (sym ends) end
 
 -- a step that goes leads to a point or to the end
 pub settle_place : (request : Request) (desk : DeskFacts) (arena : ℕ) (next : Next) → Goes (settle request desk arena next).next → IsPlace (settle request desk arena next).next

@@ -6,7 +6,7 @@ ghost use Rattle.call_table.specs.Desks.{flushes};
 ghost use Rattle.call_table.specs.Points.{IsSizedNext, IsSizedPoint};
 ghost use Rattle.call_table.specs.Needs.{Goes, HasFewAddresses, IsFewAddresses, IsPlace, NeedIs, NeedsWant};
 ghost use Rattle.call_table.specs.Reads.{aimed, ended_by, taken_next};
-ghost use Rattle.call_table.specs.Runs.{after, begin, run, settle, starved_after, step_next};
+ghost use Rattle.call_table.specs.Runs.{after, begin, run, settle, stage, starved_after, step_next};
 ghost use Rattle.call_table.specs.Table.{op_of, step, want};
 ghost use Rattle.call_table.specs.declared.points.Next.TheVariants.{More};
 
@@ -15,7 +15,6 @@ use size_classes::Addrs;
 use space_model::{Addresses, Ask, Op};
 use std::alloc::{AllocError as NoMemory, Global};
 use std::marker::Model;
-use std::mem;
 use thread_cache::Desk;
 
 /// Where a call stands: the arena whose turn or ask it waits for, and the point, or its answer.
@@ -86,9 +85,9 @@ impl TurnPoint {
 
 impl Point {
     /// Where an item leads.
-    fn step(self, item: Item) -> Next
-        requires { IsSizedPoint self }
-        ensures { result ≡ step self item }
+    fn step(&self, item: Item) -> Next
+        requires { IsSizedPoint self.now }
+        ensures { result ≡ step self.now item }
     {
         match self {
             Point::Turns(point) => match item {
@@ -97,11 +96,11 @@ impl Point {
                 Item::Told(_) => Next::Nowhere,
             },
             Point::Asks(point, None) => match item {
-                Item::Told(asked) => Next::Go(Point::Asks(point, Some(asked))),
+                Item::Told(asked) => Next::Go(Point::Asks(*point, Some(asked))),
                 _ => Next::Nowhere,
             },
             Point::Asks(point, Some(asked)) => match item {
-                Item::Replied(reply) => point.told(asked, reply),
+                Item::Replied(reply) => point.told(*asked, reply),
                 _ => Next::Nowhere,
             },
             Point::Tells(..) => match item {
@@ -150,9 +149,9 @@ fn turn(arena: u32, client: u32, op: Op, asked: Option<hook_api::Asked>) -> Need
 
 impl Next {
     /// Where an item leads, if it leads on from a point.
-    fn step(self, item: Item) -> Next
-        requires { IsSizedNext self }
-        ensures { result ≡ step_next self item }
+    fn step(&self, item: Item) -> Next
+        requires { IsSizedNext self.now }
+        ensures { result ≡ step_next self.now item }
     {
         match self {
             Next::Go(point) => point.step(item),
@@ -175,54 +174,53 @@ impl Request {
 }
 
 impl Stage {
-    /// Where a step leads from a point of the arena, by what the client has then. `NoMemory` only where there is none to name
-    /// several regions that go back.
+    /// It stands where a step leads, by what the client has then. `NoMemory` only where there is none to name several regions
+    /// that go back: the call has ended with that answer.
     fn settle(
+        &mut self,
         request: Request,
         desk: &Desk,
-        arena: u32,
         next: Next,
         alloc: Global,
-    ) -> Result<Stage, NoMemory>
-        ensures stage { IfOk result (λ at. at ≡ settle request desk.now.facts arena next) }
+    ) -> Result<(), NoMemory>
+        ensures stage { OnOk result (self.new ≡ settle request desk.now.facts self.old.arena next) }
         ensures more { OnErr result (next ≡ More) }
+        ensures err { OnErr result (self.new ≡ stage self.old.arena (Next.Ends Answered.NoMemory)) }
     {
-        Ok(match next {
-            Next::Go(point) => {
-                let next = Next::Go(point);
-                Stage { arena, next }
-            }
+        match next {
             Next::Over(arena, point) => {
-                let next = Next::Go(point);
-                Stage { arena, next }
+                self.arena = arena;
+                self.next = Next::Go(point);
             }
-            Next::More => {
-                let batch = desk.batch(desk.hand(), request.flushes(), alloc)?;
-                Stage::batch(arena, batch)
-            }
-            Next::Gone => Stage::ended(arena, Answered::NoArena(arena)),
-            Next::Ends(answer) => Stage::ended(arena, answer),
-            Next::Nowhere => {
-                let next = Next::Nowhere;
-                Stage { arena, next }
-            }
-        })
+            Next::More => match desk.batch(desk.hand(), request.flushes(), alloc) {
+                Ok(batch) => *self = Stage::batch(self.arena, batch),
+                Err(error) => {
+                    *self = Stage::ended(self.arena, Answered::NoMemory);
+                    return Err(error);
+                }
+            },
+            Next::Gone => self.next = Next::Ends(Answered::NoArena(self.arena)),
+            next => self.next = next,
+        }
+        Ok(())
     }
 
-    /// The stage after an item, by what the client has after it.
-    pub(crate) fn after(
-        self,
+    /// It takes in an item, by what the client has after it.
+    pub(crate) fn feed(
+        &mut self,
         request: Request,
         desk: &Desk,
         item: Item,
         alloc: Global,
-    ) -> Result<Stage, NoMemory>
-        requires { IsSizedNext self.next }
-        ensures stage { IfOk result (λ at. at ≡ settle request desk.now.facts self.arena (step_next self.next item)) }
-        ensures sized { IfOk result (λ at. IsSizedNext at.next) }
-        ensures more { OnErr result (step_next self.next item ≡ More) }
+    ) -> Result<(), NoMemory>
+        requires { IsSizedNext self.old.next }
+        ensures stage { OnOk result (self.new ≡ settle request desk.now.facts self.old.arena (step_next self.old.next item)) }
+        ensures sized { IsSizedNext self.new.next }
+        ensures more { OnErr result (step_next self.old.next item ≡ More) }
+        ensures err { OnErr result (self.new ≡ stage self.old.arena (Next.Ends Answered.NoMemory)) }
     {
-        Stage::settle(request, desk, self.arena, self.next.step(item), alloc)
+        let next = self.next.step(item);
+        self.settle(request, desk, next, alloc)
     }
 }
 
@@ -351,25 +349,9 @@ impl Call {
         ensures more { OnErr result (step_next self.old.stage.next item ≡ More) }
         ensures room { HasRoom desk.new.room self.new.stage.next }
     {
-        let arena = self.stage.arena;
-        let here = Stage {
-            arena,
-            next: Next::Nowhere,
-        };
-        let stage = mem::replace(&mut self.stage, here);
-        stage.next.tell(desk, arena, &item);
-        match stage.after(self.request, desk, item, alloc) {
-            Ok(stage) => {
-                stage.close(self.request, desk);
-                self.stage = stage;
-                Ok(())
-            }
-            Err(error) => {
-                let stage = Stage::ended(arena, Answered::NoMemory);
-                stage.close(self.request, desk);
-                self.stage = stage;
-                Err(error)
-            }
-        }
+        self.stage.next.tell(desk, self.stage.arena, &item);
+        let fed = self.stage.feed(self.request, desk, item, alloc);
+        self.stage.close(self.request, desk);
+        fed
     }
 }

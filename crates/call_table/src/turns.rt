@@ -8,8 +8,8 @@ use crate::{Answered, Next, Then, TurnPoint};
 use space_model::{Addresses, Reply};
 
 /// After regions went back.
-fn gave(addrs: Addresses, reply: Reply) -> Next
-    ensures { result ≡ turned (TurnPoint.Giving addrs) reply }
+fn gave(addrs: &Addresses, reply: Reply) -> Next
+    ensures { result ≡ turned (TurnPoint.Giving addrs.now) reply }
 {
     match reply {
         Reply::Next(next) => Then::Batches.put_next(next),
@@ -19,36 +19,36 @@ fn gave(addrs: Addresses, reply: Reply) -> Next
 
 impl TurnPoint {
     /// Where the reply to the turn leads.
-    pub(crate) fn turned(self, reply: Reply) -> Next
-        ensures { result ≡ turned self reply }
+    pub(crate) fn turned(&self, reply: Reply) -> Next
+        ensures { result ≡ turned self.now reply }
     {
         match self {
-            TurnPoint::Filling(wish, count) => wish.filled(count, reply),
+            TurnPoint::Filling(wish, count) => wish.filled(*count, reply),
             TurnPoint::Looking(wish) => wish.looked(reply),
-            TurnPoint::Landing(wish, span) => wish.landed(span, reply),
+            TurnPoint::Landing(wish, span) => wish.landed(*span, reply),
             TurnPoint::Giving(addrs) => gave(addrs, reply),
             TurnPoint::Finding {
                 own,
                 tries,
                 fresh,
                 then,
-            } => then.found(own, tries, fresh, reply),
-            TurnPoint::Taking(visit, left) => visit.took(left, reply),
-            TurnPoint::Offering(span, then) => then.offered(span, reply),
-            TurnPoint::Advancing(now) => advanced(now, reply),
-            TurnPoint::Changing(setting, change) => change.was_set(setting, reply),
-            TurnPoint::Making(index, setting) => made(index, setting, reply),
-            TurnPoint::Resetting(cached) => was_reset(cached, reply),
-            TurnPoint::Destroying(cached) => ended(cached, reply),
+            } => then.found(*own, *tries, *fresh, reply),
+            TurnPoint::Taking(visit, left) => visit.took(*left, reply),
+            TurnPoint::Offering(span, then) => then.offered(*span, reply),
+            TurnPoint::Advancing(now) => advanced(*now, reply),
+            TurnPoint::Changing(setting, change) => change.was_set(*setting, reply),
+            TurnPoint::Making(index, setting) => made(*index, *setting, reply),
+            TurnPoint::Resetting(cached) => was_reset(*cached, reply),
+            TurnPoint::Destroying(cached) => ended(*cached, reply),
             TurnPoint::Dooming => doomed(reply),
-            TurnPoint::Publishing(addr) => published(addr, reply),
-            TurnPoint::Owning { addr, frees, .. } => owned(addr, frees, reply),
+            TurnPoint::Publishing(addr) => published(*addr, reply),
+            TurnPoint::Owning { addr, frees, .. } => owned(*addr, *frees, reply),
         }
     }
 
     /// Where the turn leads that found no memory: only the first one of what belongs together may find none.
-    pub(crate) fn starved(self) -> Next
-        ensures { result ≡ starved (is_marked (op_of self)) }
+    pub(crate) fn starved(&self) -> Next
+        ensures { result ≡ starved (is_marked (op_of self.now)) }
     {
         match self {
             TurnPoint::Landing(..) | TurnPoint::Finding { .. } | TurnPoint::Offering(..) => {

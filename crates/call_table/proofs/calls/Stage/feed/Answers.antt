@@ -1,0 +1,13 @@
+use Rattle.std.proofs.Common.{subst, sym}
+use Rattle.call_table.specs.Points.{IsSizedNext}
+use Rattle.call_table.specs.Runs.{settle, step_next}
+use Rattle.call_table.proofs.Credits.{led_or_ended, next_few, settle_few}
+use Rattle.call_table.proofs.calls.Stage.feed.Goals as goal
+
+pub returns-clause-sized : goal.returns-clause-sized
+returns-clause-sized c =
+    let was = c.args.self.now in
+    let desk = c.args.desk.now.facts in
+    let few = subst (λ n. IsSizedNext (settle c.args.request desk was.arena n).next) (sym c.step-next.ensures)
+    (settle_few c.args.request desk was.arena (step_next was.next c.args.item) (next_few was.next c.args.item c.requires)) in
+    led_or_ended IsSizedNext c.settle.result _ _ _ c.settle.new.self c.settle.ensures.stage c.settle.ensures.err few tt
