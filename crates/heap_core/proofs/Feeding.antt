@@ -1,12 +1,11 @@
 -- What is kept of a call that was fed.
-use Rattle.std.proofs.Common.{inl, inr, ◌≡◌, ◌≤◌, ℕ, Option, None, Some, Result, Ok, Err, OnOk, OnErr, IfSome, refl, sym, subst, ◌∙◌, ap}
+use Rattle.std.proofs.Common.{inl, inr, ◌≡◌, ◌≤◌, ℕ, Option, Some, Result, Ok, Err, OnOk, OnErr, IfSome, sym, subst, ◌∙◌, ap}
 use Rattle.thread_cache.specs.Desks.{DeskFacts}
 use Rattle.call_table.specs.declared.needs.Answered.{Answered}
 use Rattle.call_table.specs.declared.needs.Item.{Item}
 use Rattle.call_table.specs.declared.points.Next.{Next}
 use Rattle.call_table.specs.declared.points.Next.TheVariants.{Go, Over, More, Gone, Ends, Nowhere}
 use Rattle.call_table.specs.Calls.{CallFacts, HasRoom, moment_of}
-use Rattle.call_table.specs.Needs.{IsPlace}
 use Rattle.call_table.specs.Reads.{ended_by}
 use Rattle.call_table.specs.Runs.{Moment, after, starved_after, step_next}
 use Rattle.heap_core.specs.Feeding.{FedTo}
@@ -23,18 +22,6 @@ room_at c room at Nowhere has = tt
 
 pub room_kept : (c room : ℕ) (at : Moment) (next : Next) (kept : Option CallFacts) → kept ≡ open_call c at next → HasRoom room next → IfSome kept (λ call. 1 ≤ room)
 room_kept c room at next kept is has = subst (λ k. IfSome k (λ call. 1 ≤ room)) (sym is) (room_at c room at next has)
-
--- a call without an answer is open
-open_at : (c : ℕ) (at : Moment) (next : Next) → IsPlace next → ended_by next ≡ None → open_call c at next ≡ Some (record { client = c; request = at.request; stage = at.stage })
-open_at c at (Go point) place none = refl
-open_at c at (Over index point) place none = absurd place
-open_at c at More place none = absurd place
-open_at c at Gone place none = absurd place
-open_at c at (Ends answer) place none = absurd (cc)
-open_at c at Nowhere place none = absurd place
-
-pub still_open : (call : CallFacts) (desk : DeskFacts) → IsPlace call.stage.next → ended_by call.stage.next ≡ None → Some call ≡ open_call call.client (moment_of call desk) call.stage.next
-still_open call desk place none = sym (open_at call.client (moment_of call desk) call.stage.next place none)
 
 -- What the call and its client's desk are after an item is what the client is then.
 pub fed_to : {A E : Type 0} (seat : Seat) (desk desk' : DeskFacts) (call call' : CallFacts) (item : Item) (named : Result A E) (place : Option CallFacts) (ended : Option Answered) →

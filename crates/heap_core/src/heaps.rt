@@ -87,15 +87,15 @@ fn held_by(clients: &[Client], addr: u64) -> Option<Held>
 }
 
 /// A free of a region that the client holds, or else of one that another client holds.
-fn free_of(addr: u64, own: Option<Held>, other: Option<Held>) -> Request
-    ensures { result ≡ free_of addr own other }
+fn free_of(addr: u64, other: Option<Held>) -> Request
+    ensures { result ≡ free_of addr None other }
 {
-    match (own, other) {
-        (None, Some(region)) => Request::FreeForeign {
+    match other {
+        Some(region) => Request::FreeForeign {
             addr,
             arena: region.arena,
         },
-        _ => Request::Free { addr },
+        None => Request::Free { addr },
     }
 }
 
@@ -106,8 +106,10 @@ fn asked_for(clients: &[Client], client: u32, request: Request) -> Request
 {
     match request {
         Request::Free { addr } => {
-            let own = clients[client as usize].held_at(addr);
-            free_of(addr, own, held_by(clients, addr))
+            if clients[client as usize].held_at(addr).is_some() {
+                return request;
+            }
+            free_of(addr, held_by(clients, addr))
         }
         request => request,
     }

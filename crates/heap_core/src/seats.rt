@@ -13,7 +13,6 @@ ghost use Rattle.heap_core.specs.Feeding.{FedTo, NeedOf, aimed_seat};
 use call_table::{Answered, Call, Item, Need, Request};
 use std::alloc::{AllocError as NoMemory, Global};
 use std::marker::Model;
-use std::mem;
 use thread_cache::{Desk, Held};
 
 /// A client: what it has, and its call while one is open. While that is so, its desk has room for a region that it may
@@ -36,23 +35,15 @@ impl Model for Client {
     ghost invariant = { HasDeskRoom };
 }
 
-/// A call while it is open, and nothing once it has ended.
-fn open_call(call: Call) -> Option<Call>
-    ensures { (desk : DeskFacts) → result ≡ open_call call.client (moment_of call desk) call.stage.next }
+/// Keeps a call only while it is open. Gives its answer, once it has ended.
+fn settle(place: &mut Option<Call>) -> Option<Answered>
+    ensures open { IfSome place.old (λ call. (desk : DeskFacts) → place.new ≡ open_call call.client (moment_of call desk) call.stage.next) }
+    ensures answer { IfSome place.old (λ call. result ≡ ended_by call.stage.next) }
 {
-    match call.answer() {
-        None => Some(call),
-        Some(_) => None,
+    let ended = place.as_ref()?.answer();
+    if ended.is_some() {
+        *place = None;
     }
-}
-
-/// Keeps a call in its place while it is open. Gives its answer, once it has ended.
-fn settle(place: &mut Option<Call>, call: Call) -> Option<Answered>
-    ensures open { (desk : DeskFacts) → place.new ≡ open_call call.client (moment_of call desk) call.stage.next }
-    ensures answer { result ≡ ended_by call.stage.next }
-{
-    let ended = call.answer();
-    *place = open_call(call);
     ended
 }
 
@@ -133,7 +124,8 @@ impl Client {
         ensures err { OnErr result (self.new ≡ self.old) }
     {
         let call = Call::start(client, &mut self.desk, request, alloc)?;
-        Ok(settle(&mut self.call, call))
+        self.call = Some(call);
+        Ok(settle(&mut self.call))
     }
 
     /// Feeds an item to its open call. Gives the answer, where the call has ended by it: that is `NoMemory` where there is none
@@ -142,10 +134,10 @@ impl Client {
         requires { IsSomeAnd self.old.call (λ call. Goes (after (moment_of call self.old.desk) item).stage.next) }
         ensures { IfSome self.old.call (λ call. FedTo call self.old.desk item result self.new) }
     {
-        let Some(mut call) = mem::replace(&mut self.call, None) else {
+        let Some(call) = &mut self.call else {
             unreachable!()
         };
         let _named = call.next(&mut self.desk, item, alloc);
-        settle(&mut self.call, call)
+        settle(&mut self.call)
     }
 }
