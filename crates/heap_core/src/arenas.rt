@@ -123,21 +123,15 @@ fn met_by_dalloc(records: &[Recorded], arena: u32, heard: Heard) -> Option<u64>
     }
 }
 
-/// The operation of an arena as it enters its journal, with the chunk that speaks against the answer it carries.
-fn settled(records: &[Recorded], arena: u32, op: Op) -> Op
+/// Puts the chunk that speaks against the answer which an operation of an arena carries into it, as it enters the journal.
+fn settle(records: &[Recorded], arena: u32, op: &mut Op)
     requires { arena < length records.now }
-    ensures { result ≡ settled (spaces_of records.now) arena op }
+    ensures { op.new ≡ settled (spaces_of records.now) arena op.old }
 {
     match op {
-        Op::GrowDone { heard, .. } => {
-            let found = met_by_alloc(records, heard);
-            Op::GrowDone { heard, found }
-        }
-        Op::OfferDone { heard, .. } => {
-            let found = met_by_dalloc(records, arena, heard);
-            Op::OfferDone { heard, found }
-        }
-        op => op,
+        Op::GrowDone { heard, found } => *found = met_by_alloc(records, *heard),
+        Op::OfferDone { heard, found } => *found = met_by_dalloc(records, arena, *heard),
+        _ => (),
     }
 }
 
@@ -160,7 +154,7 @@ impl Arenas {
         &mut self,
         arena: u32,
         client: u32,
-        op: Op,
+        mut op: Op,
         asked: Option<Asked>,
     ) -> Result<Reply, NoMemory>
         requires arena { arena < 32 }
@@ -174,7 +168,7 @@ impl Arenas {
         ensures sure { opens op ≡ false → IsOk result }
         ensures others { (other : ℕ) → other ≢ client → (i : ℕ) → mine other (record_at self.new i).space ≡ mine other (record_at self.old i).space }
     {
-        let op = settled(&self.records, arena, op);
+        settle(&self.records, arena, &mut op);
         self.records[arena as usize].turn(client, op, asked)
     }
 
