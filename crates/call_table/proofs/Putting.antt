@@ -189,16 +189,6 @@ settled_like : (fresh : Bool) (p q : Part) → rest_of q.state ≡ rest_of p.sta
 settled_like true p q rest is = tt
 settled_like false p q rest is = rw rest is
 
--- of two extents that may be merged each belongs where the other does
-alike_rest : (p q : Part) → may_merge p q ≡ true → rest_of q.state ≡ rest_of p.state
-alike_rest p q h = same (rest_of p.state) (rest_of q.state) (both_true (is_listed (rest_of p.state) (listed (rest_of q.state))) _ h).0
-  where
-    same : (r u : Rest) → is_listed r (listed u) ≡ true → u ≡ r
-    same ToDirty ToDirty h = refl
-    same ToMuzzy ToMuzzy h = refl
-    same ToRetained ToRetained h = refl
-    same r u h = absurd (cc)
-
 -- ---- the look for a neighbour
 
 -- the look itself is left, and before the last one a merge and a look

@@ -1,12 +1,11 @@
 -- What a clause says of a table of chunks, of its seats, and of the book that they leave.
-use Rattle.std.specs.Prelude.{ℕ, ◌≡◌, ◌≢◌, ◌+◌, ◌-◌, ◌<◌, ◌≤◌, List, vec_capacity, vec_len}
+use Rattle.std.specs.Prelude.{ℕ, ◌≡◌, ◌≢◌, ◌+◌, ◌-◌, ◌<◌, ◌≤◌, List}
 use Rattle.chunk_table.specs.declared.view.Taken.{Taken}
 use Rattle.chunk_table.specs.declared.view.Share.{Share}
 use Rattle.chunk_table.specs.declared.table.ChunkTable.{ChunkTable}
 use Rattle.chunk_table.specs.declared.claims.Claim.{Claim}
 use Rattle.chunk_table.specs.declared.claims.Claim.TheVariants.{Claimed, Taken as IsTaken}
 use Rattle.chunk_table.specs.declared.table.ChunkSeat.{ChunkSeat}
-use Rattle.chunk_table.specs.declared.table.ChunkSeats.{ChunkSeats}
 use Rattle.chunk_table.specs.declared.table.ChunkBook.{ChunkBook}
 use Rattle.chunk_table.specs.Views.{shares_of, only_share}
 use Rattle.chunk_table.specs.Steps.{with_owned, with_taken}
@@ -38,14 +37,6 @@ taken seat = (share_of seat).taken
 -- it is a seat of this table
 abbrev pub IsSeatOf : ChunkTable → ChunkSeat → Type 0
 IsSeatOf table seat = (seat.badge.table_id ≡ table.table.shared.table_id) × ((share_of seat).arenas ≡ arena_count table)
-
--- the seats in a list of seats
-abbrev pub seats : ChunkSeats → List ChunkSeat
-seats list = list.items.items
-
--- how many seats can be added to it
-abbrev pub places : ChunkSeats → ℕ
-places list = vec_capacity list.items - vec_len list.items
 
 -- what a claim tells: the chunk is the arena's from now on, or the word that was read names another arena, and is noted
 abbrev pub ClaimTells : ℕ → ChunkSeat → ChunkSeat → ℕ → Claim → Type 0

@@ -4,7 +4,6 @@
 mod claims;
 mod gathers;
 mod laws;
-mod lists;
 mod makes;
 mod rule;
 mod table;

@@ -2,7 +2,7 @@
 ghost use Rattle.std.specs.Prelude.{◌≡◌, ℕ, ◌<◌, ◌≤◌, [], length, map, slice_index, vec_capacity, IfOk};
 ghost use Rattle.std.specs.List.{All};
 ghost use Rattle.chunk_table.specs.Rule.{blanks};
-ghost use Rattle.chunk_table.specs.Tables.{arena_count, owned, seats, share_of, IsSeatOf};
+ghost use Rattle.chunk_table.specs.Tables.{arena_count, owned, share_of, IsSeatOf};
 
 use crate::rule::{Board, Parts, Place};
 use crate::table::{CHUNKS, ChunkSeat, ChunkSeats, ChunkTable};
@@ -44,9 +44,9 @@ impl ChunkTable {
     pub fn new(alloc: Global, arenas: u32) -> Result<(ChunkTable, ChunkSeats), NoMemory>
         requires some { 0 < arenas }
         ensures arenas { IfOk result (λ r. arena_count r.0 ≡ arenas) }
-        ensures table { IfOk result (λ r. All (IsSeatOf r.0) (seats r.1)) }
-        ensures free { IfOk result (λ r. map share_of (seats r.1) ≡ blanks arenas) }
-        ensures none { IfOk result (λ r. All (λ seat. owned seat ≡ []) (seats r.1)) }
+        ensures table { IfOk result (λ r. All (IsSeatOf r.0) r.1.items) }
+        ensures free { IfOk result (λ r. map share_of r.1.items ≡ blanks arenas) }
+        ensures none { IfOk result (λ r. All (λ seat. owned seat ≡ []) r.1.items) }
     {
         let words = zeros(alloc, CHUNKS as usize + 1)?;
         let mut items = Vec::new(alloc);
@@ -54,6 +54,6 @@ impl ChunkTable {
         let (table, place): (Board, Place) = Table::of_words(alloc, &words, &arenas)?;
         let table = ChunkTable { table };
         table.deal(arenas, place, &mut items);
-        Ok((table, ChunkSeats { items }))
+        Ok((table, items))
     }
 }

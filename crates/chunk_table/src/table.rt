@@ -28,11 +28,8 @@ pub struct ChunkSeat {
     ghost mine: { (only_share badge.views).number ≡ number },
 }
 
-/// A list of seats.
-#[derive(Drop)]
-pub struct ChunkSeats {
-    pub(crate) items: Vec<ChunkSeat>,
-}
+/// The seats of several arenas.
+pub type ChunkSeats = Vec<ChunkSeat>;
 
 /// What each arena owned, and its failed claims. It has no bytes: only contracts read it.
 #[derive(Drop)]

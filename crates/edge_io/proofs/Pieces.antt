@@ -21,39 +21,6 @@ Consumes-trans (Some a) None new xs ys first second = absurd first
 Consumes-trans (Some a) (Some b) None xs ys first second = absurd second
 Consumes-trans (Some a) (Some b) (Some c) xs ys first second = first ∙ rw (second, append_assoc)
 
--- a failed write after others
-pub Appends-keeps : (old mid new : Option (List ℕ)) (xs : List ℕ) → Appends old mid xs → Keeps mid new → Appends old new xs
-Appends-keeps None mid new xs first kept = tt
-Appends-keeps (Some a) None new xs first kept = absurd first
-Appends-keeps (Some a) (Some b) None xs first kept = absurd kept
-Appends-keeps (Some a) (Some b) (Some c) xs first kept = kept ∙ first
-
--- a failed read after others
-pub Consumes-keeps : (old mid new : Option (List ℕ)) (xs : List ℕ) → Consumes old mid xs → Keeps mid new →
-    Consumes old new xs
-Consumes-keeps None mid new xs first kept = tt
-Consumes-keeps (Some a) None new xs first kept = absurd first
-Consumes-keeps (Some a) (Some b) None xs first kept = absurd kept
-Consumes-keeps (Some a) (Some b) (Some c) xs first kept = first ∙ rw kept
-
--- the bytes of a read, told from what was left before and after
-pub Consumes-taken : (before after bs : List ℕ) → Consumes (Some before) (Some after) bs → taken before after ≡ bs
-Consumes-taken before after bs is =
-    let count : length before - length after ≡ length bs = omega (arith, ap length is, length-append bs after) in
-    rw (count, is) (take-append_seam bs after)
-
--- the bytes of a write, told from what was held before and after
-pub Appends-written : (before after bs : List ℕ) → Appends (Some before) (Some after) bs → written before after ≡ bs
-Appends-written before after bs is = rw is (drop-append_seam before bs)
-
--- a count that rose stands risen over calls before and after
-pub Rose-within : (a b c d : ℕ) → a ≤ b → Rose b c → c ≤ d → Rose a d
-Rose-within a b c d low rose high =
-    elim rose [
-      | inl below ↦ inl (omega arith)
-      | inr greatest ↦ inr (omega arith)
-    ]
-
 -- the slice from a place on
 pub rest_of : (xs : List ℕ) (at : ℕ) → take (length xs - at) (drop at xs) ≡ drop at xs
 rest_of xs at = grind (arith, common_steps)

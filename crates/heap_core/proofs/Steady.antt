@@ -195,11 +195,6 @@ added_in c clients = elim (is_in c clients) as (λ v. is_in c clients ≡ v → 
     last [] = elim (c == c) as (λ v. (c == c) ≡ v → (v || false) ≡ true) [ true ↦ λ h. refl | false ↦ λ h. absurd (let no : c ≡ c = refl in grind (arith, nat_tests)) ] refl
     last (x ∷ xs) = elim (x == c) as (λ v. (v || is_in c (xs ++ c ∷ [])) ≡ true) [ true ↦ refl | false ↦ last xs ]
 
-pub bind_bound : (s : Space) (c : ℕ) → (after_set s c Bind).reply ≡ Noted → is_in c (after_set s c Bind).after.bound ≡ true
-bind_bound s c noted =
-    elim (is_live s.life) as (λ v. (cond v (stays (with_setting s c Bind) Noted) (stays s NoArena)).reply ≡ Noted → is_in c (cond v (stays (with_setting s c Bind) Noted) (stays s NoArena)).after.bound ≡ true)
-    [ true ↦ λ e. added_in c s.bound | false ↦ λ e. absurd (cc) ] noted
-
 pub bind_keeps : (s : Space) (c : ℕ) → is_in c s.bound ≡ true → is_in c (after_set s c Bind).after.bound ≡ true
 bind_keeps s c is =
     elim (is_live s.life) as (λ v. is_in c (cond v (stays (with_setting s c Bind) Noted) (stays s NoArena)).after.bound ≡ true)

@@ -175,12 +175,6 @@ wanted_touched chunk (GrowDone heard found) reply away = away
 wanted_touched chunk (OfferDone heard found) reply away = away
 wanted_touched chunk op reply away = refl
 
--- an operation that opens a unit claims nothing
-pub opens_none : (op : Op) → opens op ≡ true → wanted op ≡ None
-opens_none (GrowDone heard found) first = absurd (cc)
-opens_none (OfferDone heard found) first = absurd (cc)
-opens_none op first = refl
-
 module _ (c : ℕ) (s : Space) (op : Op) (sound : Sound s) (stands : op_stands s c op ≡ true) (chunk : ℕ) where
   abbrev pub t : Space
   t = (step_of s c op).after

@@ -21,18 +21,6 @@ pub record ClaimedTo (low k : ℕ) (old new : Share) : Type 0 where
   pub others : (chunk : ℕ) → (low ≤ chunk → k ≤ chunk) → owns chunk new ≡ owns chunk old
   pub same : new.taken ≡ old.taken
 
-pub claimed_none : (low : ℕ) (s : Share) → ClaimedTo low low s s
-claimed_none low s = record { kept = λ chunk had. had; all = λ chunk le lt. absurd (omega arith); others = λ chunk out. refl; same = refl }
-
--- a chunk that the arena owns is passed over
-pub claimed_over : (low k : ℕ) (old new : Share) → owns k old ≡ true → ClaimedTo low k old new → ClaimedTo low (k + 1) old new
-claimed_over low k old new had to = record {
-  kept = to.kept;
-  all = λ chunk le lt. dite (ℕ_discrete chunk k) (λ here. subst (λ n. owns n new ≡ true) (sym here) (to.kept k had)) (λ ne. to.all chunk le (omega (arith, ne)));
-  others = λ chunk out. to.others chunk (λ le. let past = out le in omega arith);
-  same = to.same;
-}
-
 -- and any other is claimed
 pub claimed_more : (low k : ℕ) (old mid new : Share) → low ≤ k → new ≡ with_owned k mid → ClaimedTo low k old mid → ClaimedTo low (k + 1) old new
 claimed_more low k old mid new above is to = record {
@@ -56,35 +44,9 @@ claimed_more low k old mid new above is to = record {
     none true = refl
     none false = refl
 
--- all of a span is claimed
-pub claimed_all : (span : Span) (k : ℕ) (old new : Share) → high_chunk span ≤ k → k ≤ max (low_chunk span) (high_chunk span) → ClaimedTo (low_chunk span) k old new → Claimed (Some span) None old new
-claimed_all span k old new past end to = record {
-  kept = to.kept;
-  all = λ chunk within before. to.all chunk (grind (arith, nat_tests)) (grind (arith, nat_tests));
-  others = λ chunk out. to.others chunk (λ le. grind (arith, nat_tests));
-  within = λ k e. absurd (cc);
-  fails = to.same;
-}
-
--- or all before a chunk that another arena has
-pub claimed_before : (span : Span) (k owner : ℕ) (old mid new : Share) → low_chunk span ≤ k → k < high_chunk span → new ≡ with_taken k owner mid → ClaimedTo (low_chunk span) k old mid → Claimed (Some span) (Some k) old new
-claimed_before span k owner old mid new above below is to = record {
-  kept = λ chunk had. same chunk ∙ to.kept chunk had;
-  all = λ chunk within before. same chunk ∙ to.all chunk (grind (arith, nat_tests)) before;
-  others = λ chunk out. same chunk ∙ to.others chunk (λ le. grind (arith, nat_tests));
-  within = λ j e. let at : k ≡ j = cc in subst (λ n. is_in n (Some span) ≡ true) at (grind (arith, nat_tests));
-  fails = (owner, ap (λ (s : Share). s.taken) is ∙ ap (λ l. l ++ record { chunk = k; owner = owner } ∷ []) to.same);
-}
-  where
-    same : (chunk : ℕ) → owns chunk new ≡ owns chunk mid
-    same chunk = ap (owns chunk) is
-
 -- the chunks from one number up to another were released, but for those that the space meets
 abbrev pub ReleasedTo : ℕ → ℕ → Space → Share → Share → Type 0
 ReleasedTo low k s old new = (chunk : ℕ) → owns chunk new ≡ (owns chunk old && (is_met chunk s || not (nat_le low chunk && nat_lt chunk k)))
-
-pub released_none : (low : ℕ) (s : Space) (share : Share) → ReleasedTo low low s share share
-released_none low s share chunk = grind (arith, nat_tests)
 
 -- a chunk that is met or isn't owned stays
 pub released_over : (low k : ℕ) (s : Space) (old new : Share) → (is_met k s ≡ false → owns k new ≡ false) → low ≤ k → ReleasedTo low k s old new → ReleasedTo low (k + 1) s old new
@@ -103,10 +65,6 @@ released_more low k s old mid new unmet above is to chunk =
   where
     at : owns k new ≡ cond (k == k) false (owns k mid) → owns k new ≡ (owns k old && (is_met k s || not (nat_le low k && nat_lt k (k + 1))))
     at e = grind (arith, nat_tests)
-
--- all of a span is released
-pub released_all : (span : Span) (k : ℕ) (s : Space) (old new : Share) → high_chunk span ≤ k → k ≤ max (low_chunk span) (high_chunk span) → ReleasedTo (low_chunk span) k s old new → Released (Some span) s old new
-released_all span k s old new past end to chunk = let e = to chunk in grind (arith, nat_tests)
 
 -- what is claimed for an operation is claimed for the one that is entered
 pub settled : (op made : Op) (found : Option ℕ) (old new : Share) → made ≡ with_found op found → (wanted op ≡ None → found ≡ None) → Claimed (wanted op) found old new → Claimed (wanted made) (found_in made) old new

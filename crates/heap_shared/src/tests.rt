@@ -6,7 +6,7 @@ ghost use Rattle.turn_lock.specs.Locks.{first, held, number, own_known, seat_cou
 ghost use Rattle.heap_shared.specs.Shared.{after_entry, owned_by};
 
 use crate::{ArenaTurns, SharedArena, turn};
-use chunk_table::{ChunkSeat, ChunkSeats, ChunkTable};
+use chunk_table::{ChunkSeat, ChunkTable};
 use space_model::{Answer, Ask, Heard, Op, Reply, Space, Span, Why};
 use std::alloc::{AllocError as NoMemory, Global};
 use std::process::Abort;
@@ -134,10 +134,7 @@ fn a_chunk_of_another_arena_is_found(rt: HostRuntime) -> Result<(), Fail> {
     let mut first = seat_of(alloc, first_lock, first);
     let mut second = seat_of(alloc, second_lock, second);
     assert!(rt; table.owns(&mut first, 1) && !table.owns(&mut second, 1));
-    let mut seats = ChunkSeats::new(alloc);
-    seats.reserve(2)?;
-    seats.push(first);
-    seats.push(second);
+    let seats = vec![in alloc; first, second]?;
     table.gather(seats);
     Ok(())
 }

@@ -77,10 +77,6 @@ take_more f [] i x e = absurd (some-ne-none x (sym e))
 take_more f (y ∷ ys) zero x e = ap (λ z. f z ∷ []) (some-injective y x e)
 take_more f (y ∷ ys) (suc i) x e = ap (λ l. f y ∷ l) (take_more f ys i x e)
 
--- a box that covers so many has counted them
-pub has_counted : (own first refused : ℕ) → Covers own first refused → HasCounted first own refused
-has_counted own first refused covers = dite (dec_le greatest own) (λ most. inr most) (λ less. inl (omega arith))
-
 -- what is read where false was set is false
 pub set_false : (l : List Bool) (i : ℕ) → get_or (set l i false) i false ≡ false
 set_false [] i = refl

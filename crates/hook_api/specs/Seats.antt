@@ -1,7 +1,6 @@
 -- What a clause says of the seats at a shared shelf.
-use Rattle.std.specs.Prelude.{ℕ, ◌-◌, List, map, slice_index, vec_capacity, vec_len}
+use Rattle.std.specs.Prelude.{ℕ, List, map, slice_index}
 use Rattle.hook_api.specs.declared.seat.AskSeat.{AskSeat}
-use Rattle.hook_api.specs.declared.seats.AskSeats.{AskSeats}
 use Rattle.hook_api.specs.declared.sights.Tally.{Tally}
 
 -- the place of a seat's next ask of a box number
@@ -11,14 +10,6 @@ place_at seat n = slice_index seat.places n
 -- how many of its asks the box refused, planned refusals aside
 abbrev pub refused_at : AskSeat → ℕ → ℕ
 refused_at seat n = slice_index seat.refused n
-
--- the seats in a list of seats
-abbrev pub seats : AskSeats → List AskSeat
-seats list = list.items.items
-
--- how many seats can be added to it
-abbrev pub room : AskSeats → ℕ
-room list = vec_capacity list.items - vec_len list.items
 
 -- what seats have counted, each in a tally
 abbrev pub tallies_of : List AskSeat → List Tally

@@ -18,7 +18,6 @@ mod orders;
 mod plans;
 mod rising;
 mod seat;
-mod seats;
 mod share;
 mod share_rule;
 mod shared;
@@ -34,8 +33,7 @@ pub use laws::{
 };
 pub use plans::Kind;
 pub use rising::RisingHooks;
-pub use seat::AskSeat;
-pub use seats::AskSeats;
+pub use seat::{AskSeat, AskSeats};
 pub use shared::SharedShelf;
 pub use shelf::HookShelf;
 

@@ -34,3 +34,6 @@ impl AskSeat {
         self.refused[box_no as usize]
     }
 }
+
+/// The seats of several clients.
+pub type AskSeats = Vec<AskSeat>;

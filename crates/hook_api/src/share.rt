@@ -4,7 +4,6 @@ ghost use Rattle.std.specs.Prelude.{◌≡◌, ℕ, ◌+◌, ◌<◌, ◌≤◌,
 ghost use Rattle.std.specs.List.{All};
 ghost use Rattle.hook_api.specs.Orders.{had_at, no_orders};
 ghost use Rattle.hook_api.specs.Plans.{is_set, plan_at};
-ghost use Rattle.hook_api.specs.Seats.{seats};
 ghost use Rattle.hook_api.specs.Shared.{IsNewSeat, IsSeatOf, client_count, own_at_share};
 ghost use Rattle.hook_api.specs.Sharing.{blank};
 ghost use Rattle.hook_api.specs.ShareSteps.{idle};
@@ -16,8 +15,7 @@ use crate::hooks::ExtentHooks;
 use crate::locks::Locks;
 use crate::orders::Orders;
 use crate::plans::Kind;
-use crate::seat::AskSeat;
-use crate::seats::AskSeats;
+use crate::seat::{AskSeat, AskSeats};
 use crate::share_rule::{Board, Parts, Place};
 use crate::shared::SharedShelf;
 use crate::shelf::{BOXES, HookShelf};
@@ -131,8 +129,8 @@ impl<H: ExtentHooks> HookShelf<H> {
         ensures clients { IfOk result (λ r. client_count r.0 ≡ clients) }
         ensures own { IfOk result (λ r. (n : ℕ) → n < 32 → slice_index (own_at_share r.0) n ≡ (box_at self n).account.refusals) }
         ensures plans { IfOk result (λ r. (n : ℕ) → n < 32 → (kind : Kind) → had r.0 n (Some kind) ≡ is_set (plan_at (box_at self n).book.plans kind)) }
-        ensures count { IfOk result (λ r. length (seats r.1) ≡ clients) }
-        ensures seats { IfOk result (λ r. All (λ seat. IsSeatOf r.0 seat × IsNewSeat seat) (seats r.1)) }
+        ensures count { IfOk result (λ r. length r.1.items ≡ clients) }
+        ensures seats { IfOk result (λ r. All (λ seat. IsSeatOf r.0 seat × IsNewSeat seat) r.1.items) }
         ensures back { IfErr result (λ r. r.0 ≡ self) }
     {
         let HookShelf { boxes, books } = self;
@@ -169,6 +167,6 @@ impl<H: ExtentHooks> HookShelf<H> {
             orders: orders_in(&books),
             boxes: room,
         };
-        Ok((shelf, AskSeats { items }))
+        Ok((shelf, items))
     }
 }

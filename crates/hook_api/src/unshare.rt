@@ -3,7 +3,7 @@
 ghost use Rattle.std.specs.Prelude.{◌≡◌, ℕ, ◌<◌, ◌≤◌, [], length, map, slice_index, slice_index_or, vec_capacity, vec_len, IfSome, IfNone};
 ghost use Rattle.std.specs.List.{All, sum_by};
 ghost use Rattle.std.specs.Mem.Slots.{slots_items, slots_len, IsFull};
-ghost use Rattle.hook_api.specs.Seats.{refused_at, seats, tallies_of};
+ghost use Rattle.hook_api.specs.Seats.{refused_at, tallies_of};
 ghost use Rattle.hook_api.specs.Shared.{HasCounted, IsSeatOf, client_count, own_at_share};
 ghost use Rattle.hook_api.specs.Sharing.{Covers};
 ghost use Rattle.hook_api.specs.ShareSteps.{idle};
@@ -14,8 +14,7 @@ use crate::desk::Desk;
 use crate::hooks::ExtentHooks;
 use crate::locks::Locks;
 use crate::orders::Orders;
-use crate::seat::AskSeat;
-use crate::seats::AskSeats;
+use crate::seat::{AskSeat, AskSeats};
 use crate::share_rule::{Gathers, Place};
 use crate::shared::SharedShelf;
 use crate::shelf::{BOXES, HookShelf};
@@ -77,15 +76,14 @@ impl<H: ExtentHooks> SharedShelf<H> {
     /// Takes the boxes out, with the plans that are in force. Where the seats of all clients are given, the refusals that they counted for each box add up
     /// to at most what the box's own count gained, or that count stands at the greatest `u64`. Takes no memory.
     pub fn unshare(self, given: AskSeats) -> HookShelf<H>
-        requires seats { All (IsSeatOf self) (seats given) }
-        ensures counted { length (seats given) ≡ client_count self → (n : ℕ) → n < 32 → HasCounted (slice_index (own_at_share self) n) (box_at result n).account.refusals (sum_by (λ seat. refused_at seat n) (seats given)) }
+        requires seats { All (IsSeatOf self) given.items }
+        ensures counted { length given.items ≡ client_count self → (n : ℕ) → n < 32 → HasCounted (slice_index (own_at_share self) n) (box_at result n).account.refusals (sum_by (λ seat. refused_at seat n) given.items) }
     {
         let SharedShelf {
             locks,
             orders,
             boxes,
         } = self;
-        let AskSeats { items } = given;
-        empty(locks.close(items), &orders, boxes)
+        empty(locks.close(given), &orders, boxes)
     }
 }

@@ -97,13 +97,3 @@ here_ahead {from} {count} {awaits} {now} so text behind line below plain short s
       };
       prints = so.prints;
     }
-
--- what was printed at a moment is the text of a play that goes on
-pub here_next : {from : Outset} {count : ℕ} {awaits : Awaits} {ahead : List Line} {now : Now} {event : Event} {awaits' : Awaits} {ahead' : List Line} {now' : Now} →
-    (so : Here from count awaits ahead now) (more : List ℕ) → Leads event awaits ahead so.text now awaits' ahead' (so.text ++ more) now' → Appends now.held now'.held more →
-    Here from count awaits' ahead' now'
-here_next {from} {count} {awaits} {ahead} {now} {event} {awaits'} {ahead'} {now'} so more leads prints = record {
-  text = so.text ++ more;
-  came = came_next so.came leads;
-  prints = Appends-trans from.held now.held now'.held so.text more so.prints prints;
-}

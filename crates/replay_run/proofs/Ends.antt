@@ -150,10 +150,6 @@ pub status_closed : (r : Result ℕ Stop) → IfOk r (λ told. told ≡ 0) → I
 status_closed (Ok status) is = inl is
 status_closed (Err stop) is = tt
 
-pub status_bad : (r : Result ℕ Stop) (cause : Cause) → IfOk r (λ told. told ≡ status_of cause) → IfOk r IsWholeStatus
-status_bad (Ok status) cause is = inr (rw is (status_cause cause))
-status_bad (Err stop) cause is = tt
-
 pub status_flushed : (ended flushed : Result ℕ Stop) {T : Type 0} → (flushed ≡ ended) ⊎ ((flushed ≡ Err WriteFault) × T) → IfOk ended IsWholeStatus → IfOk flushed IsWholeStatus
 status_flushed ended flushed {T} (inl same) is = rw same is
 status_flushed ended flushed {T} (inr fault) is = rw fault.0 tt
@@ -172,18 +168,6 @@ stop_wider NoMemory s s' low old new below rose = tt
 pub cause_wider : {T : Type 0} (r : Result T Stop) (s s' low old new : ℕ) → low ≤ old → IfErr r (λ stop. HasStopCause stop 0 0 old new) → IfErr r (λ stop. HasStopCause stop s s' low new)
 cause_wider (Ok done) s s' low old new below cause = tt
 cause_wider (Err stop) s s' low old new below cause = stop_wider stop s s' low old new below cause
-
--- where a read failed, the count of the source rose
-pub read_rose : (ended flushed : Result ℕ Stop) (s s' k k' : ℕ) {T : Type 0} → (flushed ≡ ended) ⊎ ((flushed ≡ Err WriteFault) × T) → flushed ≡ Err ReadFault →
-    IfErr ended (λ stop. HasStopCause stop s s' k k') → Rose s s'
-read_rose ended flushed s s' k k' {T} (inl same) fault cause = rw (sym same ∙ fault) at cause
-read_rose ended flushed s s' k k' {T} (inr other) fault cause = absurd (cc (other.0, fault))
-
--- where a write failed, that of the sink did
-pub write_rose : (ended flushed : Result ℕ Stop) (s s' k k' k'' : ℕ) → (flushed ≡ ended) ⊎ ((flushed ≡ Err WriteFault) × Rose k' k'') → flushed ≡ Err WriteFault → k ≤ k' → k' ≤ k'' →
-    IfErr ended (λ stop. HasStopCause stop s s' k k') → Rose k k''
-write_rose ended flushed s s' k k' k'' (inl same) fault below above cause = rose_wider k k k' k'' (omega arith) above (rw (sym same ∙ fault) at cause)
-write_rose ended flushed s s' k k' k'' (inr other) fault below above cause = rose_wider k k' k'' k'' below (omega arith) other.1
 
 -- at status 0 the source has met its end
 pub replay_ended : {status : ℕ} {journals : List Journal} {heard : List AskFacts} {shelf_before shelf_after : Shelf} {met : Bool} {left_before left before after : Option (List ℕ)} →

@@ -89,10 +89,6 @@ has_newline-none [] plain = refl
 has_newline-none (b ∷ bytes) plain =
     ap (λ (t : Bool). t || has_newline bytes) (All-head IsPlain b bytes plain) ∙ has_newline-none bytes (All-tail IsPlain b bytes plain)
 
--- a length other than 0 is that of some bytes
-pub not_empty : (bytes : List ℕ) (len : ℕ) → eqb len 0 ≡ false → len ≡ length bytes → bytes ≢ []
-not_empty bytes len is same none = let zero : len ≡ 0 = omega (arith, same, ap length none) in absurd (cc (is, ap (λ (n : ℕ). eqb n 0) zero))
-
 -- ---- the lines so far
 
 -- the bytes of lines and one more line

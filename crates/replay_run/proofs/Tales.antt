@@ -75,10 +75,6 @@ begun_built w c verb true None = tt
 begun_built w c verb false None = tt
 begun_built w c verb whole (Some answer) = tt
 
-begins_built : (w : World) (c : ℕ) (verb : Verb) (whole : Bool) (request : Option Request) → IsBuilt (begins w c verb whole request).awaits
-begins_built w c verb whole None = tt
-begins_built w c verb whole (Some request) = begun_built (record w { heap = started w.heap c request }) c verb whole (answer_of (begun w.heap.seats c request))
-
 -- a line leaves the heap as it is
 record Reads (w w' : World) : Type 0 where
   heap : w'.heap ≡ w.heap

@@ -1,5 +1,4 @@
 pub mod Digits
 pub mod Causes
 pub mod Shapes
-pub mod LineLemmas
 pub mod Limits
