@@ -3,8 +3,6 @@ use Rattle.std.proofs.Common.{◌≡◌, ◌≢◌, ◌≤◌, ◌<◌, ℕ, ◌
 use Rattle.std.proofs.lemmas.Bool.Decides.{nat_tests}
 use Rattle.std.proofs.lemmas.List.{get_or_default, get_or-set_other, get_or-set_same, length-set}
 use Rattle.space_model.specs.declared.entries.Op.{Op}
-use Rattle.space_model.specs.declared.entries.Op.TheVariants.{GrowDone, OfferDone}
-use Rattle.space_model.specs.declared.spaces.Space.{Space}
 use Rattle.hook_api.specs.Asked.{AskFacts}
 use Rattle.arena_core.specs.Arenas.{opens, room_after, room_of}
 use Rattle.call_table.specs.Calls.{CallFacts}
