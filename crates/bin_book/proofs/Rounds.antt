@@ -24,6 +24,13 @@ more_left xs rest next i a le e f =
     let some = ap length f in
     omega arith
 
+-- where there is no rest, all are taken
+pub taken_all : (xs : List ℕ) (i n : ℕ) → i ≤ length xs → i ≤ n → take i xs ++ [] ≡ xs → take i xs ≡ take n xs
+taken_all xs i n le more e =
+    let all = sym (append-nil (take i xs)) ∙ e in
+    let len = sym (length-take-le i xs le) ∙ ap length all in
+    all ∙ sym (take_all n xs (omega arith))
+
 -- slabs without no address, and without one more
 pub without_none : (slabs : List Slab) → slabs ≡ map (without []) slabs
 without_none [] = refl

@@ -63,7 +63,7 @@ pub any_without : (x c : ℕ) (l : List ℕ) → list_any (λ d. eqb d x) (filte
 any_without x c [] = grind (arith, nat_tests)
 any_without x c (y ∷ ys) = let r = any_without x c ys in grind (arith, nat_tests)
 
-pub any_with : (x c : ℕ) (l : List ℕ) → list_any (λ d. eqb d x) (l ++ c ∷ []) ≡ (list_any (λ d. eqb d x) l || eqb c x)
+any_with : (x c : ℕ) (l : List ℕ) → list_any (λ d. eqb d x) (l ++ c ∷ []) ≡ (list_any (λ d. eqb d x) l || eqb c x)
 any_with x c [] = grind (arith, nat_tests)
 any_with x c (y ∷ ys) = let r = any_with x c ys in grind (arith, nat_tests)
 

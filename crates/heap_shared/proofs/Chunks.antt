@@ -1,5 +1,5 @@
 -- After a step an arena owns just the chunks that its extents meet.
-use Rattle.std.proofs.Common.{◌≡◌, ◌⊎◌, inl, inr, ℕ, ◌+◌, ◌*◌, ◌-◌, ◌/◌, ◌%◌, ◌<◌, ◌≤◌, ◌==◌, ◌&&◌, ◌||◌, Bool, true, false, not, cond, List, [], ◌∷◌, Option, None, Some, find, max, length, refl, sym, ◌∙◌, ap, subst, arith, nat_lt, nat_le, All, suc, zero}
+use Rattle.std.proofs.Common.{◌≡◌, ◌⊎◌, inl, inr, ℕ, ◌+◌, ◌*◌, ◌-◌, ◌/◌, ◌%◌, ◌<◌, ◌≤◌, ◌==◌, ◌&&◌, ◌||◌, Bool, true, false, not, cond, List, Option, None, Some, find, max, refl, sym, ◌∙◌, ap, subst, arith, nat_lt, All, suc, zero}
 use Rattle.std.specs.Option.{option_map}
 use Rattle.std.specs.List.{list_any, range_with_len}
 use Rattle.std.proofs.lemmas.Bool.{ltb-true}
@@ -28,7 +28,7 @@ use Rattle.space_model.specs.Journal.{granted_by, is_in_dalloc}
 use Rattle.space_model.proofs.Lists.{any_counts, counted_any, ones}
 use Rattle.space_model.proofs.Steps.{op_keeps}
 use Rattle.arena_core.specs.Arenas.{opens}
-use Rattle.heap_shared.specs.Claims.{Claimed, IsBefore, Released, found_in, granted_span, high_chunk, is_in, is_met, low_chunk, refused_span, touched, wanted}
+use Rattle.heap_shared.specs.Claims.{Claimed, IsBefore, Released, found_in, granted_span, is_in, is_met, refused_span, touched, wanted}
 
 -- ---- chunks and their pages
 
@@ -87,19 +87,6 @@ none_found f low (suc n) k none least most =
 
 -- ---- how a page comes to an arena
 
--- The page comes to an arena by an operation with its reply: a hook granted it, or refused to take it back.
-abbrev Comes : ℕ → Op → Reply → Type 0
-Comes page (GrowDone heard found) (Grown span committed) = has_page page span ≡ true
-Comes page (OfferDone heard found) Kept = is_in_dalloc page heard.ask ≡ true
-Comes page op reply = ⊥
-
-came : (page : ℕ) (op : Op) (reply : Reply) → granted_by page false op reply ≡ true → Comes page op reply
-came page (GrowDone heard found) (Grown span committed) h = h
-came page (OfferDone heard found) Kept h = h
-came page (Offer span) reply h = absurd (cc)
-came page DestroyTake (Doomed span committed) h = absurd (cc)
-came page op reply h = absurd (cc)
-
 -- the page is in the span that is claimed, of which no chunk was found in another arena
 abbrev Clear : ℕ → Option Span → Option ℕ → Type 0
 Clear page span found = (s : Span) × (span ≡ Some s) × (has_page page s ≡ true) × ((k : ℕ) → found ≡ Some k → is_in k (Some s) ≡ true → ⊥)
@@ -146,10 +133,13 @@ kept_clear s c found (Dalloc span committed) Refuses page told in_span =
     ] told
 kept_clear s c found ask answer page told in_span = absurd (cc)
 
-comes_clear : (c : ℕ) (s : Space) (op : Op) (page : ℕ) (reply : Reply) → (step_of s c op).reply ≡ reply → Comes page op reply → Clear page (wanted op) (found_in op)
-comes_clear c s (GrowDone heard found) page (Grown span b) told comes = grown_clear s c found heard.ask heard.answer span b page told comes
-comes_clear c s (OfferDone heard found) page Kept told comes = kept_clear s c found heard.ask heard.answer page told comes
-comes_clear c s op page reply told comes = absurd comes
+-- a page that no extent had, and that was granted by an operation, was claimed
+came_clear : (c : ℕ) (s : Space) (op : Op) (page : ℕ) (reply : Reply) → (step_of s c op).reply ≡ reply → granted_by page false op reply ≡ true → Clear page (wanted op) (found_in op)
+came_clear c s (GrowDone heard found) page (Grown span b) told came = grown_clear s c found heard.ask heard.answer span b page told came
+came_clear c s (OfferDone heard found) page Kept told came = kept_clear s c found heard.ask heard.answer page told came
+came_clear c s (Offer span) page reply told came = absurd (cc)
+came_clear c s DestroyTake page (Doomed span committed) told came = absurd (cc)
+came_clear c s op page reply told came = absurd (cc)
 
 -- ---- what a step leaves
 
@@ -175,12 +165,22 @@ wanted_touched chunk (GrowDone heard found) reply away = away
 wanted_touched chunk (OfferDone heard found) reply away = away
 wanted_touched chunk op reply away = refl
 
+-- an operation that opens a unit claims nothing
+pub opens_none : (op : Op) → opens op ≡ true → wanted op ≡ None
+opens_none (GrowDone heard found) first = absurd (cc)
+opens_none (OfferDone heard found) first = absurd (cc)
+opens_none op first = refl
+
 module _ (c : ℕ) (s : Space) (op : Op) (sound : Sound s) (stands : op_stands s c op ≡ true) (chunk : ℕ) where
   abbrev pub t : Space
   t = (step_of s c op).after
 
   abbrev pub reply : Reply
   reply = (step_of s c op).reply
+
+  -- the chunk was claimed, and none was found
+  abbrev pub IsGained : Type 0
+  IsGained = (is_in chunk (wanted op) ≡ true) × ((k : ℕ) → found_in op ≡ Some k → is_in k (wanted op) ≡ true → ⊥)
 
   -- how often a page is in an extent after the step, where it was in one before or in none
   pages : (page : ℕ) (before : Bool) → nat_lt 0 (holders page s.parts) ≡ before → holders page t.parts ≡ ones (granted_by page before op reply)
@@ -193,15 +193,14 @@ module _ (c : ℕ) (s : Space) (op : Op) (sound : Sound s) (stands : op_stands s
       let some : nat_lt 0 (holders p.page s.parts) ≡ true = (let held = p.held in grind (arith, nat_tests)) in
       page_met chunk p.page t.parts p.in_chunk (omega (arith, pages p.page true some, ap ones (stays_granted p.page chunk op reply p.low p.high p.in_chunk away)))
 
-  -- a chunk that is met after it was met before, or was claimed, and none was found
-  met_after : is_met chunk t ≡ true → (is_met chunk s ≡ true) ⊎ ((is_in chunk (wanted op) ≡ true) × ((k : ℕ) → found_in op ≡ Some k → is_in k (wanted op) ≡ true → ⊥))
+  -- a chunk that is met after it was met before or is gained
+  met_after : is_met chunk t ≡ true → (is_met chunk s ≡ true) ⊎ IsGained
   met_after met =
       let p = met_page chunk t.parts (op_keeps c s op sound stands).sound.placed met in
-      elim (nat_lt 0 (holders p.page s.parts)) as (λ v. nat_lt 0 (holders p.page s.parts) ≡ v → (is_met chunk s ≡ true) ⊎ ((is_in chunk (wanted op) ≡ true) × ((k : ℕ) → found_in op ≡ Some k → is_in k (wanted op) ≡ true → ⊥))) [
+      elim (nat_lt 0 (holders p.page s.parts)) as (λ v. nat_lt 0 (holders p.page s.parts) ≡ v → (is_met chunk s ≡ true) ⊎ IsGained) [
         | true ↦ λ was. inl (page_met chunk p.page s.parts p.in_chunk (ltb-true _ _ was))
         | false ↦ λ new.
-            let comes = came p.page op reply (granted_some _ (omega (arith, p.held, pages p.page false new))) in
-            let clear = comes_clear c s op p.page reply refl comes in
+            let clear = came_clear c s op p.page reply refl (granted_some _ (omega (arith, p.held, pages p.page false new))) in
             inr (ap (is_in chunk) clear.1 ∙ page_in p.page chunk clear.0 p.low p.high clear.2 p.in_chunk, λ k is within. clear.3 k is (sym (ap (is_in k) clear.1) ∙ within))
       ] refl
 
@@ -224,7 +223,7 @@ module _ (c : ℕ) (s : Space) (op : Op) (sound : Sound s) (stands : op_stands s
       both true = refl
       both false = refl
 
-      was_claimed : (is_met chunk s ≡ true) ⊎ ((is_in chunk (wanted op) ≡ true) × ((k : ℕ) → found_in op ≡ Some k → is_in k (wanted op) ≡ true → ⊥)) → owns chunk mid ≡ true
+      was_claimed : (is_met chunk s ≡ true) ⊎ IsGained → owns chunk mid ≡ true
       was_claimed (inl was) = claimed.kept chunk (owned chunk ∙ was)
       was_claimed (inr new) = claimed.all chunk new.0 (elim (found_in op) as (λ o. found_in op ≡ o → IsBefore chunk o) [ None ↦ λ e. tt | Some k ↦ λ e. absurd (new.1 k e (claimed.within k e)) ] refl)
 
@@ -236,7 +235,7 @@ module _ (c : ℕ) (s : Space) (op : Op) (sound : Sound s) (stands : op_stands s
             | false ↦ λ none. elim (is_met chunk t) as (λ v. is_met chunk t ≡ v → false ≡ v) [ true ↦ λ met. sym none ∙ by met | false ↦ λ gone. refl ] refl
           ] refl
         where
-          before : is_in chunk (wanted op) ≡ false → (is_met chunk s ≡ true) ⊎ ((is_in chunk (wanted op) ≡ true) × ((k : ℕ) → found_in op ≡ Some k → is_in k (wanted op) ≡ true → ⊥)) → is_met chunk s ≡ true
+          before : is_in chunk (wanted op) ≡ false → (is_met chunk s ≡ true) ⊎ IsGained → is_met chunk s ≡ true
           before off (inl was) = was
           before off (inr new) = absurd (cc)
 

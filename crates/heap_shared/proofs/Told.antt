@@ -1,5 +1,5 @@
 -- What a turn of the lock tells of the arena.
-use Rattle.std.proofs.Common.{◌≡◌, Result, Ok, Err, IfOk, ap, ◌∙◌, subst}
+use Rattle.std.proofs.Common.{◌≡◌, Result, Ok, Err, IfOk, ◌<◌, sym, ap, ◌∙◌, subst}
 use Rattle.std.specs.declared.snapshot.Snapshot.{Snapshot}
 use Rattle.space_model.specs.declared.entries.Entry.{Entry}
 use Rattle.space_model.specs.declared.entries.Op.{Op}
@@ -15,7 +15,7 @@ use Rattle.turn_lock.specs.Locks.{first, number, seen, Turned as LockTurned}
 use Rattle.heap_shared.specs.Claims.{with_found}
 use Rattle.heap_shared.specs.Shared.{Facts, Logs, Owned, after_entry, owned_by}
 use Rattle.heap_shared.specs.Turns.{Turned, space_at}
-use Rattle.heap_shared.proofs.Rooms.{own_room}
+use Rattle.heap_shared.proofs.Rooms.{own_room, rooms_stay}
 
 -- what follows of each answer follows of the one that came
 if_ok : {A E : Type 0} {P Q : A → Type 0} (r : Result A E) → ((a : A) → P a → Q a) → IfOk r P → IfOk r Q
@@ -32,7 +32,7 @@ module _ {M : Type 0} {g : Ghosts M Facts Op (Snapshot Entry) Reply Owned} (lock
     reply = t.reply ∙ ap (reply_to (space_at lock t.before)) t.logged.0.1;
     left = subst (λ n. mine n (space_at lock (seen new)) ≡ mine (number old) (space_after (space_at lock t.before) (entry_of (number old) (with_found op t.logged.0.0)))) same
         (ap (λ (w : Owned). w.has) t.left ∙ ap (λ (e : Entry). mine (number old) (space_after (space_at lock t.before) e)) t.logged.0.1);
-    room = λ few. ap (λ (w : Owned). w.room) t.left ∙ own_room (replay after_entry (first lock) t.before) (number old) t.entry few (with_found op t.logged.0.0) t.logged.0.1
+    room = λ few. ap (λ (w : Owned). w.room) t.left ∙ own_room (replay after_entry (first lock) t.before) (number old) t.entry (subst (λ n. number old < n) (sym (rooms_stay (first lock) t.before)) few) (with_found op t.logged.0.0) t.logged.0.1
         ∙ ap (λ (w : Owned). room_after (space_at lock t.before) w.room (number old) (with_found op t.logged.0.0)) t.met;
   }
 

@@ -1,6 +1,5 @@
 -- An arena under a turn lock, and what belongs to one client of it.
-use Rattle.std.specs.Prelude.{◌≡◌, ◌≢◌, ℕ, ◌==◌, ◌<◌, ◌++◌, List, [], ◌∷◌, Option, map, IsTrue, false, if◌then◌else◌}
-use Rattle.std.specs.List.{range_with_len}
+use Rattle.std.specs.Prelude.{◌≡◌, ◌≢◌, ℕ, ◌<◌, ◌++◌, List, [], ◌∷◌, Option, IsTrue, false}
 use Rattle.std.specs.declared.snapshot.Snapshot.{Snapshot}
 use Rattle.space_model.specs.declared.entries.Entry.{Entry}
 use Rattle.space_model.specs.declared.entries.Op.{Op}
@@ -10,7 +9,7 @@ use Rattle.space_model.specs.Opening.{absent_space}
 use Rattle.space_model.specs.Own.{Mine, mine}
 use Rattle.space_model.specs.Sound.{Sound}
 use Rattle.space_model.specs.Step.{space_after, reply_to, stands}
-use Rattle.arena_core.specs.Arenas.{Standing, entry_of, opens, room_after, room_of}
+use Rattle.arena_core.specs.Arenas.{Standing, entry_of, opens, room_of, rooms_after}
 use Rattle.chunk_table.specs.declared.table.ChunkTable.{ChunkTable}
 use Rattle.heap_shared.specs.Claims.{with_found}
 
@@ -28,13 +27,9 @@ pub record Owned : Type 0 where
   pub has : Mine
   pub room : ℕ
 
--- a number for each of the 32 clients
-abbrev pub each_client : (ℕ → ℕ) → List ℕ
-each_client f = map f (range_with_len 0 32)
-
 -- what contracts see of an arena, its entries and the table
 abbrev pub facts_of : Standing → List Entry → ChunkTable → Facts
-facts_of arena entries table = record { space = arena.space; rooms = each_client (λ c. room_of c arena.rooms); entries = entries; table = table }
+facts_of arena entries table = record { space = arena.space; rooms = arena.rooms; entries = entries; table = table }
 
 -- what belongs to a client
 abbrev pub owned_by : Facts → ℕ → Owned
@@ -49,7 +44,7 @@ abbrev pub after_entry : Facts → Snapshot Entry → Facts × Reply
 after_entry s e = (
   record {
     space = space_after s.space e.value;
-    rooms = each_client (λ c. if c == e.value.client then room_after s.space (room_of c s.rooms) c e.value.op else room_of c s.rooms);
+    rooms = rooms_after (record { space = s.space; rooms = s.rooms }) e.value.client e.value.op;
     entries = s.entries ++ e.value ∷ [];
     table = s.table;
   },

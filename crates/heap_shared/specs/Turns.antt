@@ -1,5 +1,5 @@
 -- What a turn of a client finds, and what it leaves.
-use Rattle.std.specs.Prelude.{◌≡◌, ℕ, ◌<◌, List, Option}
+use Rattle.std.specs.Prelude.{◌≡◌, ℕ, ◌<◌, List, Option, length}
 use Rattle.std.specs.declared.snapshot.Snapshot.{Snapshot}
 use Rattle.space_model.specs.declared.entries.Entry.{Entry}
 use Rattle.space_model.specs.declared.entries.Op.{Op}
@@ -38,4 +38,4 @@ module _ {M : Type 0} where
     pub reply : r ≡ reply_to (space_at lock before) (entry_of (number old) (with_found op chunk))
     pub left : mine (number old) (space_at lock (seen new)) ≡ mine (number old) (space_after (space_at lock before) (entry_of (number old) (with_found op chunk)))
     -- and it knows how many operations that take no memory the client may make then
-    pub room : number old < 32 → (own_known after_entry owned_by lock new).room ≡ room_after (space_at lock before) (own_known after_entry owned_by lock old).room (number old) (with_found op chunk)
+    pub room : number old < length (first lock).rooms → (own_known after_entry owned_by lock new).room ≡ room_after (space_at lock before) (own_known after_entry owned_by lock old).room (number old) (with_found op chunk)

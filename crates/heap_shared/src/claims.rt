@@ -106,7 +106,7 @@ impl Claims {
     }
 
     /// Releases the chunks of a span that no extent of the arena meets.
-    #[tactic(auto, using(crate::proofs::Sweeps::released_over, crate::proofs::Sweeps::released_more))]
+    #[tactic(auto, using(crate::proofs::Sweeps::released_more))]
     fn release_span(&mut self, arena: &Arena, span: Span)
         ensures table { arc_value self.new.table ≡ arc_value self.old.table }
         ensures released { Released (Some span) arena.now.space (share_of self.old.seat) (share_of self.new.seat) }

@@ -1,5 +1,5 @@
 //! Clients take turns in arenas over one table of chunks, from one thread.
-ghost use Rattle.std.specs.Prelude.{◌≡◌, ◌<◌, [], true, IfOk};
+ghost use Rattle.std.specs.Prelude.{◌≡◌, ◌<◌, [], length, true, IfOk};
 ghost use Rattle.std.specs.Arc.{arc_value};
 ghost use Rattle.chunk_table.specs.Tables.{arena_count, owned, IsSeatOf};
 ghost use Rattle.turn_lock.specs.Locks.{first, held, number, own_known, seat_count, spare, IsPassOf};
@@ -48,6 +48,7 @@ fn locked(
     ensures pass { IfOk result (λ r. IsPassOf r.0 r.1 × (number r.1 ≡ 0)) }
     ensures clients { IfOk result (λ r. (seat_count r.0 ≡ clients) × (held r.1 ≡ clients)) }
     ensures bound { IfOk result (λ r. (own_known after_entry owned_by r.0 r.1).has.bound ≡ true) }
+    ensures rooms { IfOk result (λ r. length (first r.0).rooms ≡ 32) }
 {
     let arena = SharedArena::new(alloc, Space::first(alloc), Arc::try_clone(table)?, seat)?;
     Lock::new(alloc, arena, clients)
@@ -80,6 +81,7 @@ fn grow<R: Wait>(rt: &R, lock: &Lock, pass: &mut Client) -> Result<Option<Why>, 
     requires lock { IsPassOf lock.now pass.old }
     requires client { number pass.old < 32 }
     requires bound { (own_known after_entry owned_by lock.now pass.old).has.bound ≡ true }
+    requires rooms { length (first lock.now).rooms ≡ 32 }
     ensures lock { IsPassOf lock.now pass.new }
     ensures numbers { (number pass.new ≡ number pass.old) × (spare pass.new ≡ spare pass.old) }
 {

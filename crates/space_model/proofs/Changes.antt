@@ -136,6 +136,11 @@ pub lawful_sums : {c : ℕ} {s t : Space} {ch : Change} → IsLawful c s t ch �
     sum_by f t.parts + sum_by f ch.old ≡ sum_by f s.parts + sum_by f ch.new
 lawful_sums l f = omega (arith, mix_sum f l.went, mix_sum f l.came)
 
+-- and so is one over the regions
+pub lawful_region_sums : {c : ℕ} {s t : Space} {ch : Change} → IsLawful c s t ch → (f : Region → ℕ) →
+    sum_by f t.regions + sum_by f ch.left ≡ sum_by f s.regions + sum_by f ch.come
+lawful_region_sums l f = omega (arith, mix_sum f l.gone, mix_sum f l.landed)
+
 -- ---- the frame
 
 -- what is in range in a sound space

@@ -28,6 +28,11 @@ use Rattle.space_model.proofs.Landing.{eqb_itself}
 
 -- ---- the extents that are taken out
 
+-- a sum over the extents as they are taken out
+pub taken_sum : (c : ℕ) (f : Part → ℕ) (before ps : List Part) →
+    sum_by f (fold (λ taken p. placed (taken_out c p) taken) before ps) ≡ sum_by f before + sum_by (λ p. f (taken_out c p)) ps
+taken_sum c f before ps = turned_sum (taken_out c) f before ps
+
 -- ---- the extents that are emptied
 
 -- an emptied extent is active and serves none of the regions

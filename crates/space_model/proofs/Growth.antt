@@ -56,6 +56,10 @@ why_not-free found align parts s e =
       ]
     ] refl e
 
+-- the chunk of a page of the span is among the span's chunks
+chunk_place : (page low high n : ℕ) → low / 512 ≤ page / 512 → page < high → n ≡ (high + 511) / 512 - low / 512 → page / 512 - low / 512 < n
+chunk_place page low high n above below is = omega arith
+
 -- an extent with a free span joins: no page has two extents
 pub free-holders : (found : Option ℕ) (parts : List Part) (new : Part) → Free found parts new.span → (page : ℕ) →
     holders page parts ≤ 1 → holders page parts + share page new ≤ 1

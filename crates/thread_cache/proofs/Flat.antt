@@ -8,6 +8,23 @@ use Rattle.std.proofs.lemmas.List.Sums.{fold-append, sum_by-append}
 use Rattle.thread_cache.specs.declared.Held.{Held}
 use Rattle.thread_cache.specs.Caches.{cached_in}
 
+-- the regions of one more class
+flat_more : (lists : List (List Held)) (i : ℕ) → i < length lists → flat_map (λ list. list) (take (i + 1) lists) ≡ flat_map (λ list. list) (take i lists) ++ cached_in lists i
+flat_more lists i inside =
+    ap (flat_map (λ list. list)) (take_more lists i [] inside)
+    ∙ flat_map-append (λ list. list) (take i lists) (cached_in lists i ∷ [])
+    ∙ ap (λ xs. flat_map (λ list. list) (take i lists) ++ xs) (append-nil (cached_in lists i))
+
+-- what is folded over them
+pub fold_flat_more : {Y : Type 0} (f : Y → Held → Y) (z : Y) (lists : List (List Held)) (i : ℕ) → i < length lists →
+    fold f z (flat_map (λ list. list) (take (i + 1) lists)) ≡ fold f (fold f z (flat_map (λ list. list) (take i lists))) (cached_in lists i)
+fold_flat_more f z lists i inside = ap (fold f z) (flat_more lists i inside) ∙ fold-append f z (flat_map (λ list. list) (take i lists)) (cached_in lists i)
+
+-- what is counted among them
+pub count_flat_more : (p : Held → Bool) (lists : List (List Held)) (i : ℕ) → i < length lists →
+    count_by p (flat_map (λ list. list) (take (i + 1) lists)) ≡ count_by p (flat_map (λ list. list) (take i lists)) + count_by p (cached_in lists i)
+count_flat_more p lists i inside = ap (count_by p) (flat_more lists i inside) ∙ sum_by-append (λ h. cond (p h) 1 0) (flat_map (λ list. list) (take i lists)) (cached_in lists i)
+
 -- one more list is changed
 pub one_mapped : {X : Type 0} (f : X → X) (xs : List X) (i : ℕ) (d : X) → i < length xs →
     set (map f (take i xs) ++ drop i xs) i (f (get_or xs i d)) ≡ map f (take (i + 1) xs) ++ drop (i + 1) xs

@@ -1,9 +1,8 @@
-use Rattle.std.proofs.Common.{◌≡◌, ◌<◌, ◌∙◌, ℕ, Bool, IsTrue, true, false, List, [], None, nat_lt, arith, refl, sym, ap, subst, cond, max}
+use Rattle.std.proofs.Common.{◌≡◌, ◌<◌, ◌∙◌, ℕ, IsTrue, true, false, [], None, nat_lt, arith, refl, sym, ap, subst, cond}
 use Rattle.std.proofs.lemmas.Bool.Decides.{nat_tests}
 use Rattle.arena_core.specs.Arenas.{entry_of}
 use Rattle.space_model.specs.declared.asks.Ask.TheVariants.{Alloc}
 use Rattle.space_model.specs.declared.asks.Answer.TheVariants.{Placed}
-use Rattle.space_model.specs.declared.entries.Op.{Op}
 use Rattle.space_model.specs.declared.entries.Op.TheVariants.{Counts, GrowDone}
 use Rattle.space_model.specs.declared.entries.Reply.TheVariants.{Counted, NoArena}
 use Rattle.space_model.specs.declared.spaces.Life.{Life}
@@ -47,9 +46,8 @@ turn-requires-2-clause-may g c =
     let n = number c.args.pass.now in
     let same = c.turn.ensures.numbers.0 in
     let few : number c.turn.new.pass < 32 = (let a = c.requires.client in omega arith) in
-    let left = ap (λ (m : Mine). m.bound) t.left ∙ counts_bound (space_at c.args.lock.now t.before) n ∙ ap (λ (m : Mine). m.bound) t.found ∙ c.requires.bound in
-    (
-      λ no. (let room = t.room c.requires.client in omega (arith, room)),
+    let left = ap (λ (m : Mine). m.bound) t.left ∙ counts_bound (space_at c.args.lock.now t.before) n ∙ ap (λ (m : Mine). m.bound) t.found ∙ c.requires.bound in (
+      λ no. (let rooms = c.requires.rooms in let few = c.requires.client in let room = t.room (omega (arith, few, rooms)) in omega (arith, room)),
       λ s sound owns. grow_stands s (number c.turn.new.pass) sound few
           (ap (λ (m : Mine). m.bound) owns ∙ subst (λ k. is_in k (space_at c.args.lock.now (seen c.turn.new.pass)).bound ≡ true) (sym same) left),
     )

@@ -1,15 +1,14 @@
-use Rattle.std.proofs.Common.{◌≡◌, ◌<◌, ◌∙◌, ◌++◌, ◌∷◌, [], IsTrue, sym, ap, subst}
+use Rattle.std.proofs.Common.{◌≡◌, ◌∙◌, ◌++◌, ◌∷◌, [], sym, ap, subst}
 use Rattle.std.specs.Arc.{arc_value}
-use Rattle.arena_core.specs.Arenas.{entry_of, opens}
+use Rattle.arena_core.specs.Arenas.{entry_of}
 use Rattle.chunk_table.specs.Rule.{owns}
 use Rattle.chunk_table.specs.Tables.{share_of}
-use Rattle.heap_shared.specs.Claims.{Released, is_met, touched, with_found}
+use Rattle.heap_shared.specs.Claims.{Released, is_met, touched}
 use Rattle.heap_shared.specs.Shared.{Facts, Logs, MayStand, after_entry, facts_of, owned_by}
-use Rattle.space_model.specs.declared.entries.Op.{Op}
 use Rattle.space_model.specs.declared.entries.Reply.{Reply}
 use Rattle.space_model.specs.Own.{mine}
 use Rattle.space_model.specs.declared.spaces.Space.{Space}
-use Rattle.space_model.specs.Step.{space_after, stands}
+use Rattle.space_model.specs.Step.{space_after}
 use Rattle.space_model.proofs.Pieces.{both_true}
 use Rattle.heap_shared.proofs.Chunks.{owns_after}
 use Rattle.heap_shared.proofs.Rooms.{after_is, found_may, logs_entry}
@@ -36,7 +35,7 @@ returns-clause-after c =
     subst (λ (s : Facts). ◌≡◌ {A = Facts × Reply} (facts_of c.step.new.self c.push_reserved.new.self.items (arc_value c.release.new.self.table), c.in_ok-reply.reply) (after_entry s c.of-made.result)) c.self.view_is
     (after_is c.self.inside.arena c.step.new.self c.self.inside.journal.items c.push_reserved.new.self.items (arc_value c.self.inside.claims.table) _ (c.release.ensures.table ∙ c.settle-op.ensures.table) c.args.client c.settle-op.result c.of-made.result c.in_ok-reply.reply
     c.of-made.ensures c.in_ok-reply.ensures.after c.in_ok-reply.ensures.reply (c.push_reserved.ensures.items ∙ ap (λ l. l ++ entry_of c.args.client c.settle-op.result ∷ []) c.reserve.ensures.items)
-    c.in_ok-reply.ensures.room c.step.ensures.other_rooms)
+    c.in_ok-reply.ensures.rooms)
 
 pub invariant_of-self-2 : goal.invariant_of-self-2
 invariant_of-self-2 c =
