@@ -142,7 +142,11 @@ fn a_region_is_freed_by_another_client(rt: HostRuntime) -> Result<(), Fail> {
 }
 
 /// Steps two clients in turn, each to the end of its call. Gives the addresses of the regions that they got.
-fn by_turns(heap: &mut Heap, shelf: &mut HookShelf<RisingHooks>, alloc: Global) -> (Option<u64>, Option<u64>) {
+fn by_turns(
+    heap: &mut Heap,
+    shelf: &mut HookShelf<RisingHooks>,
+    alloc: Global,
+) -> (Option<u64>, Option<u64>) {
     let mut got = (None, None);
     for _ in 0..1000 {
         if let Some(addr) = region(heap.step_client(0, shelf, alloc).ended) {
