@@ -45,11 +45,11 @@ impl Played {
             turns,
             asks,
             mut desk,
-            stage,
+            mut stage,
         } = self;
         desk.reserve()?;
         stage.next.tell(&mut desk, stage.arena, &item);
-        let stage = stage.after(request, &desk, item, alloc)?;
+        stage.feed(request, &desk, item, alloc)?;
         stage.close(request, &mut desk);
         Ok(Played {
             turns,
