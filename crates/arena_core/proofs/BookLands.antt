@@ -27,10 +27,11 @@ use Rattle.space_model.proofs.Pieces.{both_true}
 use Rattle.space_model.proofs.Settled.{some_pages}
 use Rattle.bin_book.specs.Bins.{Slab, meets_slab, of_class, slab_with_out, with_slab}
 use Rattle.bin_book.proofs.Lists.{any_from, any_has, any_none, count_some, filter_map_is, filter_same, map_from, map_has, map_same, range_from, range_has}
+use Rattle.part_book.proofs.Lists.{filter_swap}
 use Rattle.arena_core.specs.Booked.{slab_of}
 use Rattle.arena_core.specs.Slabs.{CanLand, IsBooked, slabs_landed}
 use Rattle.arena_core.proofs.Booked.{any_landing, idle_no_slab, serves_none}
-use Rattle.arena_core.proofs.Books.{class_stays, filter_swap, from_slabs, only, stands_at}
+use Rattle.arena_core.proofs.Books.{class_stays, from_slabs, only, stands_at}
 use Rattle.arena_core.proofs.Emptying.{ones}
 use Rattle.arena_core.proofs.FirstPlaces.{lands_first}
 use Rattle.arena_core.proofs.Homes.{none_begins}
@@ -193,8 +194,8 @@ module _ (c : ℕ) (s : Space) (test : Part → Bool) (p : Part) (class count : 
       let under = λ (x : Slab). ltb x.first p.span.first in
       let over = λ (x : Slab). ltb p.span.first x.first in
       let of = λ (x : Slab). eqb x.class d in
-      let first = filter_swap under of slabs ∙ ap (filter under) (book.booked d low) ∙ filter_map_is (slab_of s.regions d) under (slabs_of d s) in
-      let second = filter_swap over of slabs ∙ ap (filter over) (book.booked d low) ∙ filter_map_is (slab_of s.regions d) over (slabs_of d s) in
+      let first = filter_swap of under slabs ∙ ap (filter under) (book.booked d low) ∙ filter_map_is (slab_of s.regions d) under (slabs_of d s) in
+      let second = filter_swap of over slabs ∙ ap (filter over) (book.booked d low) ∙ filter_map_is (slab_of s.regions d) over (slabs_of d s) in
       filter-append of (filter under slabs) (new ∷ filter over slabs) ∙ (λ k. first k ++ (in_front (eqb class d) (filter of (filter over slabs)) ∙ ap (λ xs. cond (eqb class d) (new ∷ []) [] ++ xs) second) k)
     where
       in_front : (b : Bool) (xs : List Slab) → cond b (new ∷ xs) xs ≡ cond b (new ∷ []) [] ++ xs

@@ -25,6 +25,7 @@ use Rattle.space_model.proofs.Pieces.{both_true}
 use Rattle.space_model.proofs.Turned.{All-turned, turned_sum}
 use Rattle.bin_book.specs.Bins.{Slab, is_out, is_unused, of_class, with_free}
 use Rattle.bin_book.proofs.Lists.{any_from, any_has, any_map, filter_all_of, filter_both, filter_map_is, filter_none_of, filter_same, head, map_both, map_from, map_same}
+use Rattle.part_book.proofs.Lists.{filter_swap}
 use Rattle.arena_core.specs.Booked.{slab_of}
 use Rattle.arena_core.specs.Slabs.{IsBooked, NothingIsBooked, is_last, slabs_returned}
 use Rattle.arena_core.proofs.Booked.{among_kept, both_ways, freed, idle_no_slab, serves_none, stay_still}
@@ -130,16 +131,6 @@ nothing_booked s none = record {
 -- what a list of one has
 pub only : {X : Type 0} (y x : X) → Contains (y ∷ []) x → y ≡ x
 only y x m = elim (contains_cases y [] x m) [ inl e ↦ e | inr d ↦ absurd (omega (arith, d.1)) ]
-
--- two filters in either order
-pub filter_swap : {X : Type 0} (p q : X → Bool) (xs : List X) → filter q (filter p xs) ≡ filter p (filter q xs)
-filter_swap p q xs = filter_both p q xs ∙ filter_same (λ x. p x && q x) (λ x. q x && p x) xs (λ x m. swap (p x) (q x)) ∙ sym (filter_both q p xs)
-  where
-    swap : (a b : Bool) → (a && b) ≡ (b && a)
-    swap true true = refl
-    swap true false = refl
-    swap false true = refl
-    swap false false = refl
 
 -- what changes no member leaves the list
 pub map_itself : {X : Type 0} (h : X → X) (xs : List X) → ((x : X) → Contains xs x → h x ≡ x) → map h xs ≡ xs
@@ -273,7 +264,7 @@ module _ (c addr : ℕ) (s : Space) (p : Part) (slabs : List Slab) (sound : Soun
         let slab = is_slab class s.regions in
         let left = λ (q : Part). keep (slab_of rest class q) in
         let here = filter_both slab left s.parts ∙ filter_same (λ q. slab q && left q) (is_slab class rest) s.parts (λ q m. sym (one_slab class q low m)) ∙ sym (parts_stay class (is_left rest p) refl) in
-        filter_swap keep (λ x. eqb x.class class) (map (with_free addr) slabs)
+        filter_swap (λ x. eqb x.class class) keep (map (with_free addr) slabs)
         ∙ ap (filter keep) (filter_map_is (with_free addr) (λ x. eqb x.class class) slabs ∙ ap (map (with_free addr)) (book.booked class low)
         ∙ sym (map_both (slab_of s.regions class) (with_free addr) (slab_of rest class) (slabs_of class s) (λ q m. freed_is class q)))
         ∙ filter_map_is (slab_of rest class) keep (slabs_of class s)

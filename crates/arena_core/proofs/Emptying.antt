@@ -66,14 +66,10 @@ one_passes t xs some most = by (filter t xs) refl
     by (x ∷ []) e = (x, e)
     by (x ∷ y ∷ zs) e = let n : length (filter t xs) ≡ length (x ∷ y ∷ zs) = ap length e in absurd (omega (arith, length-filter t xs, n, most))
 
--- tests that agree on each element keep the same and find the same
+-- tests that agree on each element keep the same
 pub filter_alike : {X : Type 0} (f g : X → Bool) (xs : List X) → All (λ x. f x ≡ g x) xs → filter f xs ≡ filter g xs
 filter_alike f g [] same = refl
 filter_alike {X} f g (x ∷ xs) same = let P : X → Type 0 = λ y. f y ≡ g y in cc (All-head P x xs same, filter_alike f g xs (All-tail P x xs same))
-
-pub any_alike : {X : Type 0} (f g : X → Bool) (xs : List X) → All (λ x. f x ≡ g x) xs → list_any f xs ≡ list_any g xs
-any_alike f g [] same = refl
-any_alike {X} f g (x ∷ xs) same = let P : X → Type 0 = λ y. f y ≡ g y in cc (All-head P x xs same, any_alike f g xs (All-tail P x xs same))
 
 -- what is true of those that pass and of the others is true of all
 pub All-split : {X : Type 0} (P : X → Type 0) (t : X → Bool) (xs : List X) → All P (filter t xs) → All P (filter (λ x. not (t x)) xs) → All P xs

@@ -22,16 +22,17 @@ use Rattle.space_model.proofs.Changes.{lawful_sound}
 use Rattle.space_model.proofs.Giving.{back_does}
 use Rattle.space_model.proofs.Settled.{serves}
 use Rattle.space_model.proofs.Pieces.{both_true}
+use Rattle.bin_book.proofs.Lists.{filter_both}
 use Rattle.arena_core.proofs.Emptying.{Empties, any_counts, counts_any, empties, filter_alike, given_parts, is_left, none_kept, ones, some_found}
 use Rattle.arena_core.proofs.Swaps.{keeps_all}
-use Rattle.arena_core.proofs.Turns.{filter_twice, turns_first}
+use Rattle.arena_core.proofs.Turns.{turns_first}
 
 -- ---- the regions
 
 -- what stays after one address and then after the others is what stays after all
 pub staying_twice : (c addr : ℕ) (addrs : List ℕ) (regions : List Region) → staying c addrs (staying c (addr ∷ []) regions) ≡ staying c (addr ∷ addrs) regions
 staying_twice c addr addrs regions =
-    filter_twice (λ r. not (is_given_back c addrs r)) (λ r. not (is_given_back c (addr ∷ []) r)) regions
+    filter_both (λ r. not (is_given_back c (addr ∷ []) r)) (λ r. not (is_given_back c addrs r)) regions
     ∙ filter_alike (λ r. not (is_given_back c (addr ∷ []) r) && not (is_given_back c addrs r)) (λ r. not (is_given_back c (addr ∷ addrs) r)) regions
     (λ k d h. let r : Region = get_or regions k d in either (is_held_by c r) (eqb addr r.addr) (list_any (λ a. eqb a r.addr) addrs))
   where

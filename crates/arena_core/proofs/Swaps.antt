@@ -1,6 +1,5 @@
 -- Extents that are apart stay apart, with sums that are known, where one or two of them are exchanged.
-use Rattle.std.proofs.Common.{◌≡◌, ◌≢◌, ℕ, ◌+◌, ◌-◌, ◌^◌, ◌<◌, ◌≤◌, Bool, true, false, not, cond, List, [], ◌∷◌, ◌++◌, find, filter, Option, Some, IfSome, refl, sym, ◌∙◌, ap, subst, arith, All, append_assoc, inl, inr}
-use Rattle.std.specs.Option.{IsSome}
+use Rattle.std.proofs.Common.{◌≡◌, ◌≢◌, ℕ, ◌+◌, ◌-◌, ◌<◌, ◌≤◌, Bool, true, false, not, cond, List, [], ◌∷◌, ◌++◌, find, filter, Option, Some, IfSome, refl, sym, ◌∙◌, ap, subst, arith, All, append_assoc, inl, inr}
 use Rattle.std.specs.List.{count_by, list_any, sum_by}
 use Rattle.std.proofs.lemmas.Bool.{cases_Bool, cases_lt}
 use Rattle.std.proofs.lemmas.Bool.Decides.{nat_tests}
@@ -10,11 +9,10 @@ use Rattle.space_model.specs.declared.parts.Part.{Part}
 use Rattle.space_model.specs.declared.parts.Span.{Span}
 use Rattle.space_model.specs.declared.parts.State.{State}
 use Rattle.space_model.specs.Span.{IsPlaced, end_of, has_page, meets, pages_end}
-use Rattle.space_model.specs.Part.{begins_at, exchanged, holders, is_active, listed, put_down, rest_of}
+use Rattle.space_model.specs.Part.{begins_at, exchanged, holders, is_active, put_down}
 use Rattle.space_model.specs.Step.{begins_either, high_piece, joined, low_piece}
 use Rattle.space_model.proofs.Exchange.{All-exchanged, filter-begins_at, filter_nothing, find-le-sum_by, find_has, share, sum_by-either, sum_by-exchanged, sum_by-replaced}
 use Rattle.space_model.proofs.Settled.{some_pages}
-use Rattle.space_model.proofs.Pieces.{put_down-idle}
 use Rattle.space_model.proofs.Intervals.{lengths-le}
 use Rattle.part_book.specs.Books.{AreBeside, Book}
 use Rattle.arena_core.specs.Extents.{IsApart, IsThere, active_pages, all_pages}
@@ -272,46 +270,28 @@ there_within parts p apart there = (
 pub joined_active : (p q : Part) → active_pages (joined p q ∷ []) ≡ serving p + active_pages (record q { state = p.state } ∷ [])
 joined_active p q = grind (arith, sum_by-cons serving (joined p q) [], sum_by-cons serving (record q { state = p.state }) [])
 
--- the pieces of a cut, of which the one that keeps the state comes last
-abbrev pub pieces_of : Bool → ℕ → Part → List Part
-pieces_of keep_low left p = cond keep_low (put_down (high_piece left p) ∷ low_piece left p ∷ []) (put_down (low_piece left p) ∷ high_piece left p ∷ [])
-
--- they have just its pages, and none of them serves regions where it doesn't
-pub pieces_fill : (p : Part) (left : ℕ) (keep_low : Bool) → IsPlaced p.span → 0 < left → left < p.span.pages → Fill p (pieces_of keep_low left p)
-pieces_fill p left true placed some fewer = (two_fill p (low_piece left p) (put_down (high_piece left p)) left placed some fewer refl refl).1
-pieces_fill p left false placed some fewer = (two_fill p (put_down (low_piece left p)) (high_piece left p) left placed some fewer refl refl).0
-
-pub pieces_idle : (p : Part) (left : ℕ) (keep_low : Bool) → is_active p.state ≡ false → active_pages (pieces_of keep_low left p) ≡ 0
-pieces_idle p left keep_low idle =
-    let down = put_down-idle (rest_of p.state) in
-    elim keep_low as (λ b. active_pages (pieces_of b left p) ≡ 0) [ true ↦ rw (down, idle) refl | false ↦ rw (down, idle) refl ]
-
-pub split_swaps : (parts : List Part) (p : Part) (left : ℕ) (keep_low : Bool) → IsApart parts → IsThere parts p → is_active p.state ≡ false → 0 < left → left < p.span.pages →
-    Swapped parts (exchanged (begins_at p.span.first) parts (pieces_of keep_low left p)) 0 0
-split_swaps parts p left keep_low apart there idle some fewer =
-    let swap = swapped parts (pieces_of keep_low left p) p apart there (pieces_fill p left keep_low (there_placed parts p apart there) some fewer) in
-    let served : serving p ≡ 0 = ap (λ b. cond b p.span.pages 0) idle in record {
-      apart = swap.apart;
-      pages = swap.pages;
-      active = omega (arith, swap.active, served, pieces_idle p left keep_low idle);
-    }
-
 -- the two pieces in order of address, once an extent is cut
 abbrev pub halves : List Part → Part → ℕ → List Part
 halves parts p left = exchanged (begins_at p.span.first) parts (low_piece left p ∷ high_piece left p ∷ [])
 
--- the piece that is put down, and the other one
-abbrev pub put_piece : Bool → ℕ → Part → Part
-put_piece keep_low left p = cond keep_low (high_piece left p) (low_piece left p)
-
-abbrev pub kept_piece : Bool → ℕ → Part → Part
-kept_piece keep_low left p = cond keep_low (low_piece left p) (high_piece left p)
+pub halved : (parts : List Part) (p : Part) (left : ℕ) → IsApart parts → IsThere parts p → 0 < left → left < p.span.pages → Swapped parts (halves parts p left) 0 0
+halved parts p left apart there some fewer =
+    let low : Part = low_piece left p in
+    let high : Part = high_piece left p in
+    let swap = swapped parts (low ∷ high ∷ []) p apart there (two_fill p low high left (there_placed parts p apart there) some fewer refl refl).0 in record {
+      apart = swap.apart;
+      pages = swap.pages;
+      active = omega (arith, swap.active, cut_serving (is_active p.state) p.span.pages fewer, sum_by-cons serving low (high ∷ []), sum_by-cons serving high []);
+    }
+  where
+    cut_serving : (b : Bool) (n : ℕ) → left < n → cond b n 0 ≡ cond b left 0 + cond b (n - left) 0
+    cut_serving b n less = grind arith
 
 -- What the calls that put one piece down and the other one behind it find and leave.
-record Settles (one final : List Part) (a b : Part) : Type 0 where
-  first_there : find (begins_at a.span.first) one ≡ Some a
-  second_there : find (begins_at b.span.first) (exchanged (begins_at a.span.first) one (put_down a ∷ [])) ≡ Some b
-  left : exchanged (begins_at b.span.first) (exchanged (begins_at a.span.first) one (put_down a ∷ [])) (b ∷ []) ≡ final
+pub record Settles (one final : List Part) (a b : Part) : Type 0 where
+  pub first_there : find (begins_at a.span.first) one ≡ Some a
+  pub second_there : find (begins_at b.span.first) (exchanged (begins_at a.span.first) one (put_down a ∷ [])) ≡ Some b
+  pub left : exchanged (begins_at b.span.first) (exchanged (begins_at a.span.first) one (put_down a ∷ [])) (b ∷ []) ≡ final
 
 settle : (others one : List Part) (a b : Part) → find (begins_at a.span.first) one ≡ Some a → exchanged (begins_at a.span.first) one (put_down a ∷ []) ≡ others ++ b ∷ put_down a ∷ [] →
     IsApart (others ++ b ∷ put_down a ∷ []) → b.span.first ≢ a.span.first → Settles one (others ++ put_down a ∷ b ∷ []) a b
@@ -322,109 +302,25 @@ settle others one a b there is apart differ =
       left = ap (λ xs. exchanged (begins_at b.span.first) xs (b ∷ [])) is ∙ two.first;
     }
 
-settles : (parts : List Part) (p : Part) (left : ℕ) (keep_low : Bool) → IsApart parts → IsThere parts p → 0 < left → left < p.span.pages →
-    Settles (halves parts p left) (exchanged (begins_at p.span.first) parts (pieces_of keep_low left p)) (put_piece keep_low left p) (kept_piece keep_low left p)
-settles parts p left keep_low apart there some fewer =
+-- either of the two pieces may be the one that is put down
+pub settles : (parts : List Part) (p : Part) (left : ℕ) → IsApart parts → IsThere parts p → 0 < left → left < p.span.pages →
+    Settles (halves parts p left) (exchanged (begins_at p.span.first) parts (put_down (high_piece left p) ∷ low_piece left p ∷ [])) (high_piece left p) (low_piece left p)
+    × Settles (halves parts p left) (exchanged (begins_at p.span.first) parts (put_down (low_piece left p) ∷ high_piece left p ∷ [])) (low_piece left p) (high_piece left p)
+settles parts p left apart there some fewer =
     let low : Part = low_piece left p in
     let high : Part = high_piece left p in
     let others : List Part = filter (λ q. not (begins_at p.span.first q)) parts in
-    let fill = λ (a b : Part) (l : a.span ≡ low.span) (h : b.span ≡ high.span). two_fill p a b left (there_placed parts p apart there) some fewer l h in
-    let cut = (swapped parts (low ∷ high ∷ []) p apart there (fill low high refl refl).0).apart in
-    elim keep_low as (λ b. Settles (halves parts p left) (exchanged (begins_at p.span.first) parts (pieces_of b left p)) (put_piece b left p) (kept_piece b left p)) [
-      | true ↦
-          let one = behind others low high (put_down high) cut (omega arith) in
-          let down = swapped parts (low ∷ put_down high ∷ []) p apart there (fill low (put_down high) refl refl).0 in
-          settle others (halves parts p left) high low one.second_there one.second down.apart (omega arith)
-      | false ↦
-          let one = behind others low high (put_down low) cut (omega arith) in
-          let down = swapped parts (high ∷ put_down low ∷ []) p apart there (fill (put_down low) high refl refl).1 in
-          settle others (halves parts p left) low high one.first_there one.first down.apart (omega arith)
-    ]
-
--- what a call says that gives an extent another state: it was found, and comes last
-abbrev pub Restated : List Part → List Part → ℕ → State → Bool → Type 0
-Restated xs ys page state committed = IfSome (find (begins_at page) xs) (λ q. ys ≡ exchanged (begins_at page) xs (record q { state = state; committed = committed } ∷ []))
-
--- What the two calls after a cut find and leave, where one piece begins at `at.0` and the other one at `at.1`.
-pub record Splits (one last : List Part) (down : State) (at : ℕ × ℕ) (state : State) (committed : Bool) : Type 0 where
-  pub first : IsSome (find (begins_at at.0) one)
-  pub second : (two : List Part) → Restated one two at.0 down committed → IsSome (find (begins_at at.1) two)
-  pub left : (two three : List Part) → Restated one two at.0 down committed → Restated two three at.1 state committed → three ≡ last
-
-pub splits : {one : List Part} {down : State} (parts : List Part) (p : Part) (left : ℕ) (keep_low : Bool) (at : ℕ × ℕ) → IsApart parts → IsThere parts p → 0 < left → left < p.span.pages →
-    IfSome (find (begins_at p.span.first) parts) (λ q. one ≡ exchanged (begins_at p.span.first) parts (low_piece left q ∷ high_piece left q ∷ [])) →
-    down ≡ listed (rest_of p.state) → at ≡ cond keep_low (p.span.first + left, p.span.first) (p.span.first, p.span.first + left) →
-    Splits one (exchanged (begins_at p.span.first) parts (pieces_of keep_low left p)) down at p.state p.committed
-splits {one} {down} parts p left keep_low at apart there some fewer cut down_is at_is =
-    let last : List Part = exchanged (begins_at p.span.first) parts (pieces_of keep_low left p) in
-    let s = settles parts p left keep_low apart there some fewer in
-    let one_is = at_some (λ q. one ≡ exchanged (begins_at p.span.first) parts (low_piece left q ∷ high_piece left q ∷ [])) _ p there cut in
-    by keep_low (subst (λ xs. Settles xs last (put_piece keep_low left p) (kept_piece keep_low left p)) (sym one_is) s) at_is
-  where
-    halves_split : (last : List Part) (a b : Part) → Settles one last a b → a.committed ≡ b.committed → down ≡ listed (rest_of a.state) → at ≡ (a.span.first, b.span.first) →
-        Splits one last down at b.state b.committed
-    halves_split last a b s same down_is at_is =
-        let restate = λ (xs ys : List Part) (state : State) (q x : Part). ys ≡ exchanged (begins_at q.span.first) xs (record x { state = state; committed = b.committed } ∷ []) in
-        let two_is = λ (two : List Part) (h : Restated one two a.span.first (listed (rest_of a.state)) b.committed).
-        at_some (restate one two (listed (rest_of a.state)) a) _ a s.first_there h
-        ∙ ap (λ c. exchanged (begins_at a.span.first) one (record a { state = listed (rest_of a.state); committed = c } ∷ [])) (sym same) in
-        let second = λ (two : List Part) (h : Restated one two a.span.first (listed (rest_of a.state)) b.committed). ap (find (begins_at b.span.first)) (two_is two h) ∙ s.second_there in
-        subst (λ d. Splits one last d at b.state b.committed) (sym down_is) (subst (λ x. Splits one last (listed (rest_of a.state)) x b.state b.committed) (sym at_is) (record {
-          first = rw s.first_there refl;
-          second = λ two h. rw (second two h) refl;
-          left = λ two three h k. at_some (restate two three b.state b) _ b (second two h) k ∙ ap (λ xs. exchanged (begins_at b.span.first) xs (b ∷ [])) (two_is two h) ∙ s.left;
-        }))
-
-    by : (k : Bool) → Settles one (exchanged (begins_at p.span.first) parts (pieces_of k left p)) (put_piece k left p) (kept_piece k left p) →
-        at ≡ cond k (p.span.first + left, p.span.first) (p.span.first, p.span.first + left) →
-        Splits one (exchanged (begins_at p.span.first) parts (pieces_of k left p)) down at p.state p.committed
-    by true s at_is = halves_split _ (high_piece left p) (low_piece left p) s refl down_is at_is
-    by false s at_is = halves_split _ (low_piece left p) (high_piece left p) s refl down_is at_is
-
--- ---- pages are cut off
-
--- the pages cut off are an extent of another state behind the others
-pub cut_off : (parts : List Part) (p : Part) (left : ℕ) (state : State) → IsApart parts → IsThere parts p → 0 < left → left < p.span.pages →
-    Swapped parts (exchanged (begins_at p.span.first) parts (low_piece left p ∷ record (high_piece left p) { state = state } ∷ [])) (serving (high_piece left p)) (active_pages (record (high_piece left p) { state = state } ∷ []))
-cut_off parts p left state apart there some fewer =
-    let low : Part = low_piece left p in
-    let high : Part = record (high_piece left p) { state = state } in
-    let swap = swapped parts (low ∷ high ∷ []) p apart there (two_fill p low high left (there_placed parts p apart there) some fewer refl refl).0 in
-    let halves : serving p ≡ serving low + serving (high_piece left p) = cut_serving (is_active p.state) p.span.pages fewer in record {
-      apart = swap.apart;
-      pages = swap.pages;
-      active = omega (arith, swap.active, halves, sum_by-cons serving low (high ∷ []), sum_by-cons serving high []);
-    }
-  where
-    cut_serving : (b : Bool) (n : ℕ) → left < n → cond b n 0 ≡ cond b left 0 + cond b (n - left) 0
-    cut_serving b n less = grind arith
-
--- they are within the sums
-pub cut_within : (parts : List Part) (p : Part) (left : ℕ) → IsApart parts → IsThere parts p → (active_pages (high_piece left p ∷ []) ≤ active_pages parts) × (active_pages parts + (high_piece left p).span.pages < 2 ^ 64)
-cut_within parts p left apart there =
-    let h = there_within parts p apart there in (
-      omega (arith, h.0, fewer_serve (is_active p.state) p.span.pages, sum_by-cons serving p [], sum_by-cons serving (high_piece left p) []),
-      omega (arith, h.1, h.2, h.3),
+    let placed = there_placed parts p apart there in
+    let one = λ (x : Part). behind others low high x (halved parts p left apart there some fewer).apart (omega arith) in
+    let high_down = swapped parts (low ∷ put_down high ∷ []) p apart there (two_fill p low (put_down high) left placed some fewer refl refl).0 in
+    let low_down = swapped parts (high ∷ put_down low ∷ []) p apart there (two_fill p (put_down low) high left placed some fewer refl refl).1 in (
+      settle others (halves parts p left) high low (one (put_down high)).second_there (one (put_down high)).second high_down.apart (omega arith),
+      settle others (halves parts p left) low high (one (put_down low)).first_there (one (put_down low)).first low_down.apart (omega arith),
     )
-  where
-    fewer_serve : (b : Bool) (n : ℕ) → cond b (n - left) 0 ≤ cond b n 0
-    fewer_serve b n = grind arith
 
--- what the two calls find and leave, of which the first one cuts and the second one gives the high piece its state
-pub cut_twice : (one parts : List Part) (p : Part) (left : ℕ) (state : State) → IsApart parts → IsThere parts p → 0 < left → left < p.span.pages →
-    IfSome (find (begins_at p.span.first) parts) (λ q. one ≡ exchanged (begins_at p.span.first) parts (low_piece left q ∷ high_piece left q ∷ [])) →
-    IsSome (find (begins_at (p.span.first + left)) one)
-    × ((two : List Part) → Restated one two (p.span.first + left) state p.committed → two ≡ exchanged (begins_at p.span.first) parts (low_piece left p ∷ record (high_piece left p) { state = state } ∷ []))
-cut_twice one parts p left state apart there some fewer cut =
-    let low : Part = low_piece left p in
-    let high : Part = high_piece left p in
-    let others : List Part = filter (λ q. not (begins_at p.span.first q)) parts in
-    let one_is = at_some (λ q. one ≡ exchanged (begins_at p.span.first) parts (low_piece left q ∷ high_piece left q ∷ [])) _ p there cut in
-    let halved = (swapped parts (low ∷ high ∷ []) p apart there (two_fill p low high left (there_placed parts p apart there) some fewer refl refl).0).apart in
-    let at = behind others low high (record high { state = state }) halved (omega arith) in
-    let found = ap (find (begins_at high.span.first)) one_is ∙ at.second_there in (
-      rw found refl,
-      λ two h. at_some (λ (q : Part). two ≡ exchanged (begins_at high.span.first) one (record q { state = state; committed = p.committed } ∷ [])) _ high found h
-          ∙ ap (λ xs. exchanged (begins_at high.span.first) xs (record high { state = state } ∷ [])) one_is
-          ∙ at.second,
-    )
+-- where the higher piece takes another state, it comes last
+pub cut_behind : (parts : List Part) (p : Part) (left : ℕ) (state : State) → IsApart parts → IsThere parts p → 0 < left → left < p.span.pages →
+    let low = low_piece left p in
+    let high = high_piece left p in
+    Behind (filter (λ q. not (begins_at p.span.first q)) parts) low high (record high { state = state })
+cut_behind parts p left state apart there some fewer = behind _ _ _ _ (halved parts p left apart there some fewer).apart (omega arith)

@@ -1,5 +1,5 @@
 -- Extents that change one after the other, from the lowest on, leave what they leave when they change at once.
-use Rattle.std.proofs.Common.{◌≡◌, ℕ, ◌+◌, ◌<◌, ◌≤◌, Bool, true, false, cond, not, List, [], ◌∷◌, ◌++◌, append_assoc, append-nil, length, get_or, filter, fold, refl, sym, ◌∙◌, ap, subst, arith, All, ◌&&◌, ltb as nat_lt, inl, inr}
+use Rattle.std.proofs.Common.{◌≡◌, ℕ, ◌+◌, ◌<◌, ◌≤◌, Bool, true, false, cond, not, List, [], ◌∷◌, ◌++◌, append_assoc, append-nil, length, get_or, filter, fold, refl, sym, ◌∙◌, ap, subst, arith, All, ltb as nat_lt, inl, inr}
 use Rattle.std.specs.List.{position_or_len, sum_by}
 use Rattle.std.proofs.lemmas.Bool.{cases_Bool}
 use Rattle.std.proofs.lemmas.Bool.Decides.{nat_tests}
@@ -13,19 +13,11 @@ use Rattle.space_model.specs.declared.parts.Span.{Span}
 use Rattle.space_model.proofs.Exchange.{filter-begins_at, filter-without, share}
 use Rattle.space_model.proofs.Landing.{All-insert}
 use Rattle.space_model.proofs.Settled.{some_pages}
+use Rattle.part_book.proofs.Lists.{filter_swap}
 use Rattle.arena_core.specs.Extents.{IsApart, IsThere}
-use Rattle.arena_core.proofs.Emptying.{All-split, filter_alike, none_kept}
+use Rattle.arena_core.proofs.Emptying.{All-split, none_kept}
 use Rattle.arena_core.proofs.RegionKeys.{insert_later}
 use Rattle.arena_core.proofs.Swaps.{changed, keeps_all, there_placed}
-
--- ---- two filters
-
-pub filter_twice : {X : Type 0} (f g : X → Bool) (xs : List X) → filter f (filter g xs) ≡ filter (λ x. g x && f x) xs
-filter_twice f g [] = refl
-filter_twice f g (x ∷ xs) = grind (arith, filter_twice f g xs)
-
-pub filters_swap : {X : Type 0} (f g : X → Bool) (xs : List X) → filter f (filter g xs) ≡ filter g (filter f xs)
-filters_swap f g xs = filter_twice f g xs ∙ filter_alike (λ x. g x && f x) (λ x. f x && g x) xs (λ k d h. grind arith) ∙ sym (filter_twice g f xs)
 
 -- ---- a change that leaves each extent where it begins
 
@@ -94,8 +86,8 @@ turns_first turn parts p gone keeps goes stays alone above one is =
     let gone_one : filter gone one ≡ filter gone others = grind (arith, is, stays, filter-append gone others (turn p ∷ []), append-nil (filter gone others)) in
     let kept_one : filter stay one ≡ filter stay others ++ turn p ∷ [] = grind (arith, is, stays, filter-append stay others (turn p ∷ [])) in
     let kept = filter-without stay t parts (grind (arith, ap (filter stay) alone, goes)) in
-    let first : filter t (filter gone parts) ≡ p ∷ [] = grind (arith, filters_swap t gone parts, ap (filter gone) alone, goes) in
-    let rest = filters_swap (λ q. not (t q)) gone parts in
+    let first : filter t (filter gone parts) ≡ p ∷ [] = grind (arith, filter_swap t gone parts, ap (filter gone) alone, goes) in
+    let rest = filter_swap (λ q. not (t q)) gone parts in
     let done = turned_first turn p [] (filter gone parts) keeps (All-nil (λ q. p.span.first < q.span.first)) first (subst (All (λ q. p.span.first < q.span.first)) (sym rest) above) in
     record {
       all = cc (gone_one, kept_one, append_assoc (filter stay others) (turn p ∷ []) (turned_in_order turn (filter gone others)), kept, rest, done);

@@ -230,12 +230,38 @@ impl Extents {
         self.book.drop_part(part.span.first);
     }
 
-    /// Makes two of an extent that serves no region. The piece that keeps its state comes last,
-    /// behind the other one, which is put down. It takes a place.
+    /// Cuts an extent in two, of which the higher one comes last, behind the lower one. It takes a place.
+    fn halve(&mut self, part: &Part, left: u64)
+        requires there { IsThere self.old.parts part.now }
+        requires room { 0 < self.old.spare }
+        requires some { 0 < left }
+        requires fewer { left < part.now.span.pages }
+        ensures parts { self.new.parts ≡ exchanged (begins_at part.now.span.first) self.old.parts
+            (low_piece left part.now ∷ high_piece left part.now ∷ []) }
+        ensures spare { self.new.spare + 1 ≡ self.old.spare }
+        ensures placed { IsPlaced part.now.span }
+        ensures apart { IsApart self.old.parts }
+    {
+        self.book.cut(part.span.first, left);
+    }
+
+    /// Puts one extent down, and the other one behind it.
+    fn put_behind(&mut self, down: &Part, kept: &Part)
+        requires down { IsThere self.old.parts down.now }
+        requires kept { IsThere (exchanged (begins_at down.now.span.first) self.old.parts (put_down down.now ∷ [])) kept.now }
+        ensures parts { self.new.parts ≡ exchanged (begins_at kept.now.span.first)
+            (exchanged (begins_at down.now.span.first) self.old.parts (put_down down.now ∷ [])) (kept.now ∷ []) }
+        ensures spare { self.new.spare ≡ self.old.spare }
+    {
+        self.change(down, down.state.rest().state(), down.committed);
+        self.change(kept, kept.state, kept.committed);
+    }
+
+    /// Makes two of an extent. The piece that keeps its state comes last, behind the other one, which is put down. It takes
+    /// a place.
     pub fn split(&mut self, part: &Part, left: u64, keep_low: bool)
         requires there { IsThere self.old.parts part.now }
         requires room { 0 < self.old.spare }
-        requires idle { is_active part.now.state ≡ false }
         requires some { 0 < left }
         requires fewer { left < part.now.span.pages }
         ensures parts { self.new.parts ≡ exchanged (begins_at part.now.span.first) self.old.parts
@@ -243,7 +269,14 @@ impl Extents {
             (put_down (low_piece left part.now) ∷ high_piece left part.now ∷ [])) }
         ensures spare { self.new.spare + 1 ≡ self.old.spare }
     {
-        split_in(&mut self.book, part, left, keep_low);
+        self.halve(part, left);
+        let low = part.low_piece(left);
+        let high = part.high_piece(left);
+        if keep_low {
+            self.put_behind(&high, &low);
+        } else {
+            self.put_behind(&low, &high);
+        }
     }
 
     /// Cuts the pages behind the first `left` off an extent, as one of another state. It comes last, behind the first pages.
@@ -257,10 +290,9 @@ impl Extents {
             (low_piece left part.now ∷ record (high_piece left part.now) { state = state } ∷ []) }
         ensures spare { self.new.spare + 1 ≡ self.old.spare }
     {
-        self.book.cut(part.span.first, left);
+        self.halve(part, left);
         let high = part.high_piece(left);
-        self.active = active_after(self.active, &high, state);
-        self.book.set_state(high.span.first, state, high.committed);
+        self.change(&high, state, high.committed);
     }
 
     /// Makes one of two extents side by side, with the first one's state and commit state. It comes last.
@@ -337,25 +369,4 @@ fn like(part: &Part, found: Option<Part>) -> Option<Part>
     } else {
         None
     }
-}
-
-/// Makes two of an extent of a book. The piece that keeps its state comes last, behind the other
-/// one, which is put down.
-fn split_in(book: &mut PartBook, part: &Part, left: u64, keep_low: bool)
-    requires there { IsThere book.old.parts part.now }
-    requires apart { IsApart book.old.parts }
-    requires room { 0 < book.old.spare }
-    requires some { 0 < left }
-    requires fewer { left < part.now.span.pages }
-    ensures parts { book.new.parts ≡ exchanged (begins_at part.now.span.first) book.old.parts
-        (cond keep_low (put_down (high_piece left part.now) ∷ low_piece left part.now ∷ [])
-        (put_down (low_piece left part.now) ∷ high_piece left part.now ∷ [])) }
-    ensures spare { book.new.spare + 1 ≡ book.old.spare }
-{
-    let low = part.span.first;
-    let high = low + left;
-    let (down, kept) = if keep_low { (high, low) } else { (low, high) };
-    book.cut(low, left);
-    book.set_state(down, part.state.rest().state(), part.committed);
-    book.set_state(kept, part.state, part.committed);
 }

@@ -4,7 +4,7 @@ ghost use Rattle.std.specs.Prelude.{◌≡◌, ℕ, ◌+◌, ◌*◌, ◌≤◌,
 ghost use Rattle.size_classes.specs.Classes.{size_at};
 ghost use Rattle.space_model.specs.Region.{landing, regions_from};
 ghost use Rattle.space_model.specs.Span.{IsPlaced, pages_end, end_of, run_start, chunks_of};
-ghost use Rattle.space_model.specs.Part.{is_active, is_flight_at};
+ghost use Rattle.space_model.specs.Part.{is_flight_at};
 ghost use Rattle.space_model.specs.Step.{cut_stands, grow_stands, land_stands, land_at, after_look, after_cut, after_grow, after_commit, cut_at, whole_at, is_found, is_owned, is_in_space, is_live, why_not, grow_after};
 ghost use Rattle.space_model.specs.Sound.{Sound};
 ghost use Rattle.arena_core.specs.Extents.{IsThere};
@@ -65,7 +65,6 @@ pub fn put_whole(indexes: &mut Indexes, found: Option<Part>) -> Reply
 fn cut(indexes: &mut Indexes, part: &Part, left: u64, keep_low: bool) -> Reply
     requires there { IsThere (space_of indexes.old).parts part.now }
     requires room { HasPlaces indexes.old 1 }
-    requires idle { is_active part.now.state ≡ false }
     requires placed { IsPlaced part.now.span }
     requires some { 0 < left }
     requires fewer { left < part.now.span.pages }

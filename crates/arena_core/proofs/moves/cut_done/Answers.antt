@@ -6,10 +6,6 @@ use Rattle.arena_core.proofs.Homes.{in_flight}
 use Rattle.arena_core.proofs.RoomSums.{places_kept}
 use Rattle.arena_core.proofs.moves.cut_done.Goals as goal
 
-pub cut-requires-clause-idle : goal.cut-requires-clause-idle
-cut-requires-clause-idle c =
-    (in_flight c.args.client (space_of c.args.indexes.now) c.in-Split.span c.in-Done-Some.part c.requires.sound c.in-Done-Some.ensures.flight).idle
-
 pub cut-requires-clause-placed : goal.cut-requires-clause-placed
 cut-requires-clause-placed c =
     (in_flight c.args.client (space_of c.args.indexes.now) c.in-Split.span c.in-Done-Some.part c.requires.sound c.in-Done-Some.ensures.flight).placed

@@ -1,15 +1,33 @@
-use Rattle.std.proofs.Common.{arith, ap, subst, sym}
-use Rattle.arena_core.specs.Extents.{IsApart, active_pages, all_pages}
-use Rattle.arena_core.proofs.Swaps.{split_swaps, there_inside}
+use Rattle.std.proofs.Common.{◌∙◌}
+use Rattle.arena_core.proofs.Swaps.{settles}
 use Rattle.arena_core.proofs.extents.Extents.split.Goals as goal
 
-pub invariant_of-self : goal.invariant_of-self
-invariant_of-self c =
-    let there = there_inside c.args.part.now c.self.view_is c.requires.there in
-    let swap = split_swaps c.self.inside.book.parts c.args.part.now c.args.left c.args.keep_low c.self.invariant.apart there c.requires.idle c.requires.some c.requires.fewer in
-    let active = ap active_pages c.split_in.ensures.parts in
-    let total = ap all_pages c.split_in.ensures.parts in record {
-      apart = subst IsApart (sym c.split_in.ensures.parts) swap.apart;
-      active = omega (arith, active, swap.active, c.self.invariant.active);
-      total = omega (arith, total, swap.pages, c.self.invariant.total);
-    }
+pub put_behind-requires-clause-down : goal.put_behind-requires-clause-down
+put_behind-requires-clause-down c =
+    let s = (settles c.args.self.now.parts c.args.part.now c.args.left c.halve.ensures.apart c.requires.there c.requires.some c.requires.fewer).0 in
+    rw (c.halve.ensures.parts, c.high_piece-high.ensures) s.first_there
+
+pub put_behind-requires-clause-kept : goal.put_behind-requires-clause-kept
+put_behind-requires-clause-kept c =
+    let s = (settles c.args.self.now.parts c.args.part.now c.args.left c.halve.ensures.apart c.requires.there c.requires.some c.requires.fewer).0 in
+    rw (c.halve.ensures.parts, c.high_piece-high.ensures, c.low_piece-low.ensures) s.second_there
+
+pub put_behind-requires-else-keep_low-clause-down : goal.put_behind-requires-else-keep_low-clause-down
+put_behind-requires-else-keep_low-clause-down c =
+    let s = (settles c.args.self.now.parts c.args.part.now c.args.left c.halve.ensures.apart c.requires.there c.requires.some c.requires.fewer).1 in
+    rw (c.halve.ensures.parts, c.low_piece-low.ensures) s.first_there
+
+pub put_behind-requires-else-keep_low-clause-kept : goal.put_behind-requires-else-keep_low-clause-kept
+put_behind-requires-else-keep_low-clause-kept c =
+    let s = (settles c.args.self.now.parts c.args.part.now c.args.left c.halve.ensures.apart c.requires.there c.requires.some c.requires.fewer).1 in
+    rw (c.halve.ensures.parts, c.high_piece-high.ensures, c.low_piece-low.ensures) s.second_there
+
+pub returns-then-keep_low-clause-parts : goal.returns-then-keep_low-clause-parts
+returns-then-keep_low-clause-parts c =
+    let s = (settles c.args.self.now.parts c.args.part.now c.args.left c.halve.ensures.apart c.requires.there c.requires.some c.requires.fewer).0 in
+    rw (c.if-keep_low.true) (rw (c.halve.ensures.parts, c.high_piece-high.ensures, c.low_piece-low.ensures) at c.put_behind.ensures.parts ∙ s.left)
+
+pub returns-else-keep_low-clause-parts : goal.returns-else-keep_low-clause-parts
+returns-else-keep_low-clause-parts c =
+    let s = (settles c.args.self.now.parts c.args.part.now c.args.left c.halve.ensures.apart c.requires.there c.requires.some c.requires.fewer).1 in
+    rw (c.if-keep_low.false) (rw (c.halve.ensures.parts, c.high_piece-high.ensures, c.low_piece-low.ensures) at c.put_behind-else-keep_low.ensures.parts ∙ s.left)
