@@ -1,7 +1,7 @@
 //! Random operations, which a seed chooses.
 
 use super::ops::{
-    CHUNK, FIVE_CLASS, FOUR_CLASS, SLAB_CLASS, addresses_of, cut, grown, merged, pages_at,
+    CHUNK, FIVE_CLASS, FOUR_CLASS, SLAB_CLASS, addresses_of, committed, cut, grown, merged,
 };
 use super::trials::Trial;
 use space_model::{Answer, Ask, Heard, Op, Reply, Rest, Setting, Space, Span};
@@ -67,12 +67,7 @@ fn some_op(alloc: Global, number: u64, flight: Span, addr: u64) -> Op {
         },
         2 => grown(512 * (1 + number / 64 % 8), number % 2 == 0),
         3 => cut(flight, 5, number % 3 != 0, answer),
-        4 => Op::CommitDone {
-            heard: Heard {
-                ask: Ask::Commit(flight),
-                answer,
-            },
-        },
+        4 => committed(flight, answer),
         5 => some_land(number, flight),
         6 if number % 9 == 0 => Op::Publish { addr },
         6 if number % 9 == 1 => Op::TakeOver { addr },
@@ -114,6 +109,7 @@ fn likely_op(alloc: Global, number: u64, flight: Span, addr: u64) -> Op {
             class: FIVE_CLASS,
             count: 1,
         },
+        2 if flight.pages == 5 => committed(flight, Answer::Done),
         _ => some_op(alloc, number / 4, flight, addr),
     }
 }
@@ -234,9 +230,8 @@ fn take_turn(rt: &impl Abort, alloc: Global, trial: &mut Trial, client: u32, num
     stood
 }
 
-/// So many random operations of three clients in a new arena, which a seed chooses. The answer is how many stood.
-fn take_turns(rt: &impl Abort, alloc: Global, seed: u64, turns: u64) -> u64 {
-    let mut trial = Trial::of_first(rt, alloc);
+/// So many random operations of three clients, which a seed chooses. The answer is how many stood.
+fn take_turns(rt: &impl Abort, alloc: Global, trial: &mut Trial, seed: u64, turns: u64) -> u64 {
     let mut state = seed;
     let mut stood: u64 = 0;
     for turn in 0..turns {
@@ -245,7 +240,7 @@ fn take_turns(rt: &impl Abort, alloc: Global, seed: u64, turns: u64) -> u64 {
             .wrapping_mul(6364136223846793005)
             .wrapping_add(1442695040888963407);
         let client = (state >> 60) as u32 % 3;
-        let told = take_turn(rt, alloc, &mut trial, client, state >> 30);
+        let told = take_turn(rt, alloc, trial, client, state >> 30);
         stood = stood.saturating_add(u64::from(told));
         if turn % 64 == 0 {
             trial.counts_agree(rt);
@@ -254,11 +249,8 @@ fn take_turns(rt: &impl Abort, alloc: Global, seed: u64, turns: u64) -> u64 {
     stood
 }
 
-#[test]
-fn random_operations_are_carried_out_as_by_scans(rt: HostRuntime) {
-    let mut stood: u64 = 0;
-    for seed in 1..6 {
-        stood = stood.saturating_add(take_turns(&rt, rt.alloc(), seed, 70000));
-    }
-    assert!(rt; stood >= 100000, "{stood} stood");
+/// 70000 random operations in a new arena, which a seed chooses. The answer is how many stood.
+pub fn turns_of(rt: &impl Abort, alloc: Global, seed: u64) -> u64 {
+    let mut trial = Trial::of_first(rt, alloc);
+    take_turns(rt, alloc, &mut trial, seed, 70000)
 }

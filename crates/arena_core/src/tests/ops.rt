@@ -59,6 +59,14 @@ pub fn cut(span: Span, left: u64, keep_low: bool, answer: Answer) -> Op {
     }
 }
 
+/// A commit, and its answer.
+pub fn committed(span: Span, answer: Answer) -> Op {
+    let ask = Ask::Commit(span);
+    Op::CommitDone {
+        heard: Heard { ask, answer },
+    }
+}
+
 /// The merge of two extents beside each other, of which the first one looked.
 pub fn merged(own: Span, other: Span) -> Op {
     let own_low = own.first < other.first;

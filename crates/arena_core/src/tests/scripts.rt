@@ -2,7 +2,9 @@
 
 use super::ops::{CHUNK, FIVE_CLASS, FOUR_CLASS, SLAB_CLASS, addresses_of, cut, grown, pages_at};
 use super::trials::Trial;
+use crate::Arena;
 use space_model::{Answer, Ask, Heard, Life, Op, Reply, Setting, Span};
+use std::alloc::Global;
 use std::process::Abort;
 
 /// The address of the first chunk.
@@ -65,15 +67,7 @@ fn land(rt: &impl Abort, trial: &mut Trial, class: u8, count: u32) {
 }
 
 /// What is read of an arena that has just the first chunk, in flight.
-#[test]
-fn a_chunk_that_was_granted_is_in_flight(rt: HostRuntime) {
-    let mut trial = Trial::of_first(&rt, rt.alloc());
-    let new = Reply::Grown {
-        span: CHUNK,
-        committed: false,
-    };
-    trial.tell(&rt, 3, grown(512, false), new);
-    let arena = trial.arena();
+fn read_first(rt: &impl Abort, arena: &Arena) {
     let counts = arena.counts();
     assert_eq!(rt;
         (counts.dirty, counts.retained, counts.flight),
@@ -85,9 +79,25 @@ fn a_chunk_that_was_granted_is_in_flight(rt: HostRuntime) {
     assert_eq!(rt; (arena.box_no(), arena.times()), (0, (10000, 0)));
 }
 
-#[test]
-fn an_index_without_an_arena_serves_nobody_and_gets_one(rt: HostRuntime) {
-    let mut trial = Trial::of_absent(&rt, rt.alloc());
+/// A chunk that was granted is in flight.
+pub fn grant(rt: &impl Abort, trial: &mut Trial) {
+    let new = Reply::Grown {
+        span: CHUNK,
+        committed: false,
+    };
+    trial.tell(rt, 3, grown(512, false), new);
+    read_first(rt, trial.arena());
+}
+
+/// What is read of an arena that has just come to be, with the box 7 and these decay times.
+fn read_made(rt: &impl Abort, arena: &Arena) {
+    assert_eq!(rt; arena.life(), Life::Live);
+    assert_eq!(rt; (arena.box_no(), arena.grow_limit()), (7, 16384));
+    assert_eq!(rt; arena.times(), (-1, 5000));
+}
+
+/// An index without an arena serves nobody, and gets one.
+pub fn make(rt: &impl Abort, trial: &mut Trial) {
     let live = Setting::Live {
         box_no: 7,
         dirty_ms: -1,
@@ -95,14 +105,11 @@ fn an_index_without_an_arena_serves_nobody_and_gets_one(rt: HostRuntime) {
         now: 9,
     };
     let look = Op::Look { pages: 5, align: 1 };
-    trial.tell(&rt, 3, look, Reply::NoArena);
-    trial.tell(&rt, 3, Op::Counts, Reply::NoArena);
-    trial.tell(&rt, 3, Op::Set(live), Reply::Noted);
-    trial.tell(&rt, 3, Op::Set(live), Reply::Nothing);
-    let arena = trial.arena();
-    assert_eq!(rt; arena.life(), Life::Live);
-    assert_eq!(rt; (arena.box_no(), arena.grow_limit()), (7, 16384));
-    assert_eq!(rt; arena.times(), (-1, 5000));
+    trial.tell(rt, 3, look, Reply::NoArena);
+    trial.tell(rt, 3, Op::Counts, Reply::NoArena);
+    trial.tell(rt, 3, Op::Set(live), Reply::Noted);
+    trial.tell(rt, 3, Op::Set(live), Reply::Nothing);
+    read_made(rt, trial.arena());
 }
 
 /// The region gets a sixth page.
@@ -140,23 +147,20 @@ fn trim(rt: &impl Abort, trial: &mut Trial) {
     trial.tell(rt, 3, op, Reply::Cut(pages_at(4, 2)));
 }
 
-#[test]
-fn a_large_region_grows_and_shrinks_in_place(rt: HostRuntime) {
-    let mut trial = Trial::of_first(&rt, rt.alloc());
-    land(&rt, &mut trial, FIVE_CLASS, 1);
-    widen(&rt, &mut trial);
-    trim(&rt, &mut trial);
+/// A large region grows and shrinks in place.
+pub fn resize(rt: &impl Abort, trial: &mut Trial) {
+    land(rt, trial, FIVE_CLASS, 1);
+    widen(rt, trial);
+    trim(rt, trial);
 }
 
 /// Of the 16 regions of a slab 14 are out: the last two are taken, and then there is none.
-#[test]
-fn free_regions_of_a_slab_are_taken(rt: HostRuntime) {
-    let mut trial = Trial::of_first(&rt, rt.alloc());
+pub fn fill(rt: &impl Abort, alloc: Global, trial: &mut Trial) {
     let (class, count) = (SLAB_CLASS, 5);
-    land(&rt, &mut trial, class, 14);
-    let rest = addresses_of(rt.alloc(), FIRST + 14 * 1280, FIRST + 15 * 1280);
-    trial.tell(&rt, 3, Op::Fill { class, count }, Reply::Regions(rest));
-    trial.tell(&rt, 3, Op::Fill { class, count }, Reply::Nothing);
+    land(rt, trial, class, 14);
+    let rest = addresses_of(alloc, FIRST + 14 * 1280, FIRST + 15 * 1280);
+    trial.tell(rt, 3, Op::Fill { class, count }, Reply::Regions(rest));
+    trial.tell(rt, 3, Op::Fill { class, count }, Reply::Nothing);
 }
 
 /// An arena comes to be in which client 3 alone may have memory, and has a region.
@@ -203,11 +207,10 @@ fn take_all(rt: &impl Abort, trial: &mut Trial) {
     assert_eq!(rt; trial.arena().life(), Life::Absent);
 }
 
-#[test]
-fn an_arena_is_emptied_and_ended(rt: HostRuntime) {
-    let mut trial = Trial::of_absent(&rt, rt.alloc());
-    settle_in(&rt, &mut trial);
-    find_busy(&rt, &mut trial);
-    empty_and_end(&rt, &mut trial);
-    take_all(&rt, &mut trial);
+/// An arena is emptied and ended.
+pub fn end(rt: &impl Abort, trial: &mut Trial) {
+    settle_in(rt, trial);
+    find_busy(rt, trial);
+    empty_and_end(rt, trial);
+    take_all(rt, trial);
 }

@@ -1,6 +1,7 @@
 //! An arena beside its space, which is moved by scans: each operation is carried out in both, and has one reply.
 
-ghost use Rattle.std.specs.Prelude.{◌≡◌, ◌<◌, false, IsTrue};
+ghost use Rattle.std.specs.Prelude.{◌≡◌, ◌⊎◌, ◌<◌, false, IsTrue};
+ghost use Rattle.space_model.specs.Opening.{absent_space, first_space};
 ghost use Rattle.space_model.specs.Step.{stands};
 ghost use Rattle.space_model.specs.Sound.{Sound};
 ghost use Rattle.arena_core.specs.Arenas.{opens, room_after, room_of};
@@ -49,20 +50,24 @@ fn carry_out(rt: &impl Abort, arena: &mut Arena, space: &mut Space, entry: &Entr
 }
 
 impl Trial {
+    /// The arena of a space beside that space.
+    fn beside(rt: &impl Abort, alloc: Global, own: Space, space: Space) -> Self
+        requires begins { (own ≡ absent_space) ⊎ (own ≡ first_space) }
+        requires same { own ≡ space }
+        requires sound { Sound space }
+    {
+        let arena = Arena::new(alloc, own).expect(rt, "memory for an arena");
+        Trial { arena, space }
+    }
+
     /// Arena 0 at the start.
     pub fn of_first(rt: &impl Abort, alloc: Global) -> Self {
-        Trial {
-            arena: Arena::new(alloc, Space::first(alloc)).expect(rt, "memory for an arena"),
-            space: Space::first(alloc),
-        }
+        Trial::beside(rt, alloc, Space::first(alloc), Space::first(alloc))
     }
 
     /// An index without an arena.
     pub fn of_absent(rt: &impl Abort, alloc: Global) -> Self {
-        Trial {
-            arena: Arena::new(alloc, Space::absent(alloc)).expect(rt, "memory for an arena"),
-            space: Space::absent(alloc),
-        }
+        Trial::beside(rt, alloc, Space::absent(alloc), Space::absent(alloc))
     }
 
     /// The arena.
