@@ -1,8 +1,8 @@
 use Rattle.std.proofs.Common.{◌-◌, ◌≤◌, vec_len}
-use Rattle.jarena.proofs.run_on_streams.Given as goal
+use Rattle.jarena.proofs.sharing_shelf.Given as goal
 
 abbrev pub invariant-loop-boxes : goal.invariant-loop-boxes
-invariant-loop-boxes l = vec_len l.boxes ≤ 32
+invariant-loop-boxes g l = vec_len l.boxes ≤ 32
 
 abbrev pub decreases-loop-boxes : goal.decreases-loop-boxes
-decreases-loop-boxes l = 32 - vec_len l.boxes
+decreases-loop-boxes g l = 32 - vec_len l.boxes
