@@ -250,7 +250,7 @@ fn take_turns(rt: &impl Abort, alloc: Global, trial: &mut Trial, seed: u64, turn
 }
 
 /// 70000 random operations in a new arena, which a seed chooses. The answer is how many stood.
-pub fn turns_of(rt: &impl Abort, alloc: Global, seed: u64) -> u64 {
+pub(crate) fn turns_of(rt: &impl Abort, alloc: Global, seed: u64) -> u64 {
     let mut trial = Trial::of_first(rt, alloc);
     take_turns(rt, alloc, &mut trial, seed, 70000)
 }

@@ -22,7 +22,7 @@ pub const CHUNK: Span = Span {
 };
 
 /// So many pages of the first chunk, from one of its pages on.
-pub fn pages_at(page: u64, pages: u64) -> Span
+pub(crate) fn pages_at(page: u64, pages: u64) -> Span
     requires { page < 512 }
 {
     Span {
@@ -32,7 +32,7 @@ pub fn pages_at(page: u64, pages: u64) -> Span
 }
 
 /// The range of 512 pages that came from a page on.
-pub fn grown(first: u64, committed: bool) -> Op {
+pub(crate) fn grown(first: u64, committed: bool) -> Op {
     let ask = Ask::Alloc {
         at: None,
         pages: 512,
@@ -51,7 +51,7 @@ pub fn grown(first: u64, committed: bool) -> Op {
 }
 
 /// A split at so many pages, and whether the lower piece stays in flight.
-pub fn cut(span: Span, left: u64, keep_low: bool, answer: Answer) -> Op {
+pub(crate) fn cut(span: Span, left: u64, keep_low: bool, answer: Answer) -> Op {
     let ask = Ask::Split { span, left };
     Op::CutDone {
         heard: Heard { ask, answer },
@@ -60,7 +60,7 @@ pub fn cut(span: Span, left: u64, keep_low: bool, answer: Answer) -> Op {
 }
 
 /// A commit, and its answer.
-pub fn committed(span: Span, answer: Answer) -> Op {
+pub(crate) fn committed(span: Span, answer: Answer) -> Op {
     let ask = Ask::Commit(span);
     Op::CommitDone {
         heard: Heard { ask, answer },
@@ -68,7 +68,7 @@ pub fn committed(span: Span, answer: Answer) -> Op {
 }
 
 /// The merge of two extents beside each other, of which the first one looked.
-pub fn merged(own: Span, other: Span) -> Op {
+pub(crate) fn merged(own: Span, other: Span) -> Op {
     let own_low = own.first < other.first;
     let (low, high) = if own_low { (own, other) } else { (other, own) };
     let heard = Heard {
@@ -79,7 +79,7 @@ pub fn merged(own: Span, other: Span) -> Op {
 }
 
 /// The list of one address, or of two.
-pub fn addresses_of(alloc: Global, first: u64, second: u64) -> Addresses {
+pub(crate) fn addresses_of(alloc: Global, first: u64, second: u64) -> Addresses {
     let mut addrs = Addrs::new(alloc);
     addrs.push(first);
     if second != first {

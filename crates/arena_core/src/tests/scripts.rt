@@ -80,7 +80,7 @@ fn read_first(rt: &impl Abort, arena: &Arena) {
 }
 
 /// A chunk that was granted is in flight.
-pub fn grant(rt: &impl Abort, trial: &mut Trial) {
+pub(crate) fn grant(rt: &impl Abort, trial: &mut Trial) {
     let new = Reply::Grown {
         span: CHUNK,
         committed: false,
@@ -97,7 +97,7 @@ fn read_made(rt: &impl Abort, arena: &Arena) {
 }
 
 /// An index without an arena serves nobody, and gets one.
-pub fn make(rt: &impl Abort, trial: &mut Trial) {
+pub(crate) fn make(rt: &impl Abort, trial: &mut Trial) {
     let live = Setting::Live {
         box_no: 7,
         dirty_ms: -1,
@@ -148,14 +148,14 @@ fn trim(rt: &impl Abort, trial: &mut Trial) {
 }
 
 /// A large region grows and shrinks in place.
-pub fn resize(rt: &impl Abort, trial: &mut Trial) {
+pub(crate) fn resize(rt: &impl Abort, trial: &mut Trial) {
     land(rt, trial, FIVE_CLASS, 1);
     widen(rt, trial);
     trim(rt, trial);
 }
 
 /// Of the 16 regions of a slab 14 are out: the last two are taken, and then there is none.
-pub fn fill(rt: &impl Abort, alloc: Global, trial: &mut Trial) {
+pub(crate) fn fill(rt: &impl Abort, alloc: Global, trial: &mut Trial) {
     let (class, count) = (SLAB_CLASS, 5);
     land(rt, trial, class, 14);
     let rest = addresses_of(alloc, FIRST + 14 * 1280, FIRST + 15 * 1280);
@@ -208,7 +208,7 @@ fn take_all(rt: &impl Abort, trial: &mut Trial) {
 }
 
 /// An arena is emptied and ended.
-pub fn end(rt: &impl Abort, trial: &mut Trial) {
+pub(crate) fn end(rt: &impl Abort, trial: &mut Trial) {
     settle_in(rt, trial);
     find_busy(rt, trial);
     empty_and_end(rt, trial);

@@ -61,27 +61,27 @@ impl Trial {
     }
 
     /// Arena 0 at the start.
-    pub fn of_first(rt: &impl Abort, alloc: Global) -> Self {
+    pub(crate) fn of_first(rt: &impl Abort, alloc: Global) -> Self {
         Trial::beside(rt, alloc, Space::first(alloc), Space::first(alloc))
     }
 
     /// An index without an arena.
-    pub fn of_absent(rt: &impl Abort, alloc: Global) -> Self {
+    pub(crate) fn of_absent(rt: &impl Abort, alloc: Global) -> Self {
         Trial::beside(rt, alloc, Space::absent(alloc), Space::absent(alloc))
     }
 
     /// The arena.
-    pub fn arena(&self) -> &Arena {
+    pub(crate) fn arena(&self) -> &Arena {
         &self.arena
     }
 
     /// The space.
-    pub fn space(&self) -> &Space {
+    pub(crate) fn space(&self) -> &Space {
         &self.space
     }
 
     /// The reply to an operation of a client, if it may stand. A look that nothing can serve makes room for it.
-    pub fn attempt(&mut self, rt: &impl Abort, client: u32, op: Op) -> Option<Reply> {
+    pub(crate) fn attempt(&mut self, rt: &impl Abort, client: u32, op: Op) -> Option<Reply> {
         let look = Entry {
             client,
             op: Op::Look {
@@ -100,18 +100,18 @@ impl Trial {
     }
 
     /// The counts are those of a scan.
-    pub fn counts_agree(&self, rt: &impl Abort) {
+    pub(crate) fn counts_agree(&self, rt: &impl Abort) {
         assert_eq!(rt; self.arena.counts(), plain_counts(&self.space));
     }
 
     /// An operation of a client has a reply, and the counts are those of a scan.
-    pub fn tell(&mut self, rt: &impl Abort, client: u32, op: Op, reply: Reply) {
+    pub(crate) fn tell(&mut self, rt: &impl Abort, client: u32, op: Op, reply: Reply) {
         assert_eq!(rt; self.attempt(rt, client, op), Some(reply));
         self.counts_agree(rt);
     }
 
     /// The span of the first extent that the client has in flight, or the first chunk.
-    pub fn flight(&self, client: u32) -> Span {
+    pub(crate) fn flight(&self, client: u32) -> Span {
         self.arena.next_flight(client).unwrap_or(super::ops::CHUNK)
     }
 }
