@@ -17,7 +17,7 @@ pub(crate) const BOXES: usize = 32;
 /// 32 boxes of hooks by number, and the plans that refuse asks before a box hears of them. Contracts see the accounts
 /// of the boxes and the books that the shelf keeps.
 ///
-/// Where the boxes are of several kinds, `H` is an enum of these, or `Box<dyn ExtentHooks + Send>`.
+/// Where the boxes are of several kinds, `H` is an enum of these.
 #[derive(Drop)]
 pub struct HookShelf<H: ExtentHooks> {
     pub(crate) boxes: Vec<H>,
