@@ -29,6 +29,7 @@ use Rattle.call_table.specs.declared.points.Point.TheVariants.{Turns}
 use Rattle.call_table.specs.declared.points.Next.{Next}
 use Rattle.call_table.specs.declared.points.Next.TheVariants.{Go, Over, More, Gone, Ends, Nowhere}
 use Rattle.call_table.specs.Aligned.{IsCacheAligned}
+use Rattle.call_table.specs.Calls.{CallFacts}
 use Rattle.call_table.specs.Causes.{AllCame, Came}
 use Rattle.call_table.specs.Desks.{desk_fed}
 use Rattle.call_table.specs.Runs.{Moment, after, begin, begin_memalign, begin_stage, run, settle, step_next}
