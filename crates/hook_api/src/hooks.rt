@@ -25,7 +25,7 @@ pub struct Placed {
     pub zeroed: bool,
 }
 
-/// Hooks, used as `Box<dyn ExtentHooks + Send>`. Spans, sizes and alignments are in pages.
+/// The hooks of one box. Spans, sizes and alignments are in pages.
 ///
 /// Contracts see the account of a box: what it has told, if it tells, and its count of refusals. Each hook may refuse
 /// only where the count rises in this call, or stands at the greatest `u64`. Nothing else is promised of a box.
