@@ -66,11 +66,3 @@ small_size n small =
       | inl less ↦ omega (arith, last_small_size, size_rises (class_for n) 35 less (omega arith))
       | inr last ↦ let e : class_for n ≡ 35 = omega arith in omega (arith, last_small_size, rw e at fits)
     ]
-
--- a larger size has a large class
-pub large_class : (n : ℕ) → 14336 < n → 36 ≤ class_for n
-large_class n above =
-    elim (cases_lt (class_for n) 36) [
-      | inl small ↦ absurd (omega (arith, small_size n small))
-      | inr done ↦ done
-    ]

@@ -1,43 +1,8 @@
 -- What the operations of purges, holders, slabs, settings, resizes and of an arena's end come to, and so what each operation does.
-use Rattle.std.proofs.Common.{◌*◌, All, true, false, ◌≡◌, ℕ, ◌+◌, ◌-◌, Bool, not, cond, IsTrue, List, [], ◌∷◌, ◌++◌, length, get_or, map, Option, Some, None, refl, sym, ◌∙◌, ap, subst, arith, find, filter, ◌&&◌, ◌||◌, ◌==◌, leb as nat_le, ltb as nat_lt, append_assoc}
-use Rattle.std.specs.List.{sum_by, list_any, position_or_len, range_with_len}
-use Rattle.std.specs.Option.{option_map}
-use Rattle.std.proofs.lemmas.List.Folds.{list_any-append}
-use Rattle.std.proofs.lemmas.List.Sums.{sum_by-cons, sum_by-insert, get_or-le-sum_by}
-use Rattle.size_classes.specs.Classes.{size_at, pages_at}
-use Rattle.space_model.specs.declared.asks.Ask.{Ask}
-use Rattle.space_model.specs.declared.asks.Ask.TheVariants.{Split, Merge, Dalloc, Decommit, PurgeLazy, PurgeForced}
-use Rattle.space_model.specs.declared.asks.Answer.{Answer}
-use Rattle.space_model.specs.declared.asks.Answer.TheVariants.{Done, Refused as Refuses}
-use Rattle.space_model.specs.declared.asks.Heard.{Heard}
-use Rattle.space_model.specs.declared.entries.Op.{Op}
-use Rattle.space_model.specs.declared.entries.Op.TheVariants.{Look, CutDone, GrowDone, CommitDone, Land, Back, PutLook, MergeDone, Fill, Advance, PurgeTake, LazyDone, Offer, OfferDone, DecommitDone, ForcedDone, Publish, TakeOver, Reset, Destroy, DestroyTake, Counts, Set, Widen, JoinDone, Trim, TrimDone}
-use Rattle.space_model.specs.declared.entries.Reply.TheVariants.{Noted, Nothing, Purge, Busy, Abandoned, Kept}
-use Rattle.space_model.specs.declared.entries.Setting.{Setting}
-use Rattle.space_model.specs.declared.entries.Setting.TheVariants.{DirtyMs, MuzzyMs, HookBox, Bind, Unbind, GrowLimit, Live as MakeLive}
-use Rattle.space_model.specs.declared.parts.Part.{Part}
-use Rattle.space_model.specs.declared.parts.Region.{Region}
-use Rattle.space_model.specs.declared.parts.Rest.{Rest}
-use Rattle.space_model.specs.declared.parts.Rest.TheVariants.{Dirty as ToDirty, Muzzy as ToMuzzy, Retained as ToRetained}
-use Rattle.space_model.specs.declared.parts.Span.{Span}
-use Rattle.space_model.specs.declared.parts.State.TheVariants.{Flight as InFlight}
-use Rattle.space_model.specs.declared.spaces.Space.{Space}
-use Rattle.space_model.specs.Span.{end_of, same_span}
-use Rattle.space_model.specs.Part.{begins_at, is_flight, is_flight_at, is_listed, is_backed, listed, rest_of, taken_out, next_flight, pages_listed}
-use Rattle.space_model.specs.Region.{address_of, inserted, landing, region_of, is_held_by, held_anew, starts_at}
-use Rattle.space_model.specs.Clients.{is_in, with_client, without_client}
-use Rattle.space_model.specs.Stepped.{Stepped, stays, is_live, is_dirty_time_over, is_lazy, low_piece, high_piece, found_passes, is_yes_or_no}
-use Rattle.space_model.specs.Slabs.{lowest_free, land_at, fill_at, most_regions}
-use Rattle.space_model.specs.Purging.{is_purgeable, purge_at, after_purge_take, lazy_at, after_lazy, lazy_stands, offer_of, offer_at, is_offer, without_offer, is_regranted, after_offer, offer_stands, decommit_at, after_decommit, decommit_stands, forced_stands}
-use Rattle.space_model.specs.Holding.{is_published_at, take_over_at}
-use Rattle.space_model.specs.Ending.{held_count, flight_count, if_free, emptied, after_reset, ended, after_destroy, doom_at}
-use Rattle.space_model.specs.Settings.{is_absent, made_live, after_set}
-use Rattle.space_model.specs.Resizing.{is_large_class, large_home, has_large, is_spare, is_open, widen_by, widen_at, widened_at, after_join, join_stands, trimmed_at, after_trim_done, trim_done_stands}
-use Rattle.space_model.specs.Step.{holds_at, step_of, op_stands}
-use Rattle.space_model.specs.Sound.{Sound}
-use Rattle.space_model.specs.Outcome.{Outcome, Flying, LandLanded, BackNext, FillRegions, FillNothing, FillNoArena, AdvanceLimits, AdvanceNoArena, PurgeTaken, PurgeNothing, PurgeNoArena, LazyDid, OfferNoted, OfferNext, OfferAbandoned, OfferKept, DecommitDid, ForcedNoted, PublishNoted, TakeOwned, TakeNothing, TakeNoArena, ResetNoted, ResetPurge, ResetBusy, ResetNoArena, DestroyNoted, DestroyBusy, DestroyNoArena, DoomDoomed, DoomNothing, CountsCounted, CountsNoArena, SetNoted, SetNothing, SetNoArena, WidenTook, WidenNoted, WidenNothing, JoinLanded, JoinWhole, TrimNoted, TrimCut, TrimWhole}
+use Rattle.std.proofs.Common.{◌*◌, All, true, false, ◌≡◌, ℕ, ◌+◌, ◌-◌, Bool, not, cond, IsTrue, List, [], ◌∷◌, ◌++◌, length, get_or, map, Option, Some, None, refl, sym, ◌∙◌, ap, subst, arith, find, filter, ◌&&◌, ◌==◌, leb as nat_le, ltb as nat_lt, append_assoc}
+use Rattle.space_model.proofs.Words.{sum_by, list_any, position_or_len, range_with_len, option_map, list_any-append, sum_by-cons, sum_by-insert, get_or-le-sum_by, size_at, pages_at, Ask, Split, Merge, Dalloc, Decommit, PurgeLazy, PurgeForced, Answer, Done, Refuses, Heard, Op, Look, CutDone, GrowDone, CommitDone, Land, Back, PutLook, MergeDone, Fill, Advance, PurgeTake, LazyDone, Offer, OfferDone, DecommitDone, ForcedDone, Publish, TakeOver, Reset, Destroy, DestroyTake, Counts, Set, Widen, JoinDone, Trim, TrimDone, Noted, Nothing, Purge, Busy, Abandoned, Kept, Setting, MakeLive, Part, Region, Rest, ToDirty, ToMuzzy, ToRetained, Span, Flight as InFlight, Space, end_of, same_span, begins_at, is_flight, is_flight_at, is_listed, is_backed, listed, rest_of, taken_out, next_flight, pages_listed, address_of, inserted, landing, region_of, is_held_by, held_anew, starts_at, is_in, with_client, without_client, Stepped, stays, is_live, is_dirty_time_over, is_lazy, low_piece, high_piece, found_passes, is_yes_or_no, lowest_free, land_at, fill_at, most_regions, is_purgeable, purge_at, after_purge_take, lazy_at, after_lazy, lazy_stands, offer_of, offer_at, is_offer, without_offer, is_regranted, after_offer, offer_stands, decommit_at, after_decommit, decommit_stands, forced_stands, is_published_at, take_over_at, held_count, flight_count, if_free, emptied, after_reset, ended, after_destroy, doom_at, is_absent, made_live, after_set, is_large_class, large_home, has_large, is_spare, is_open, widen_by, widen_at, widened_at, after_join, join_stands, trimmed_at, after_trim_done, trim_done_stands, holds_at, step_of, op_stands, Sound, Outcome, Flying, LandLanded, BackNext, FillRegions, FillNothing, FillNoArena, AdvanceLimits, AdvanceNoArena, PurgeTaken, PurgeNothing, PurgeNoArena, LazyDid, OfferNoted, OfferNext, OfferAbandoned, OfferKept, DecommitDid, ForcedNoted, PublishNoted, TakeOwned, TakeNothing, TakeNoArena, ResetNoted, ResetPurge, ResetBusy, ResetNoArena, DestroyNoted, DestroyBusy, DestroyNoArena, DoomDoomed, DoomNothing, CountsCounted, CountsNoArena, SetNoted, SetNothing, SetNoArena, WidenTook, WidenNoted, WidenNothing, JoinLanded, JoinWhole, TrimNoted, TrimCut, TrimWhole}
 use Rattle.space_model.proofs.Lists.{counted_any, find_passes, map_terms, ones}
-use Rattle.space_model.proofs.Pieces.{both_true, found_fits}
+use Rattle.space_model.proofs.Pieces.{both_true, found_fits, live_and}
 use Rattle.space_model.proofs.Moves.{itself}
 use Rattle.space_model.proofs.Purges.{dirty_backed}
 use Rattle.space_model.proofs.Resizes.{home_found, housed}
@@ -45,6 +10,7 @@ use Rattle.space_model.proofs.Landing.{eqb_itself}
 use Rattle.space_model.proofs.Found.{found_span, last_flies}
 use Rattle.space_model.proofs.Outcomes.{Comes, live_comes, put_flies, found_flies, next_flies, whole_comes, any_found, belongs, beq_itself, look_comes, cut_comes, grow_comes, commit_comes, put_comes, merge_comes}
 use Rattle.space_model.proofs.Steps.{op_keeps}
+use Rattle.std.proofs.Math.Bool.{or-true}
 
 -- ---- what is in a list
 
@@ -159,12 +125,7 @@ offer_comes c s span None e h after = absurd (cc)
 offer_comes c s span (Some p) e h after =
     let same = (both_true (is_flight c p.state) _ (find_passes (is_flight_at c span) s.parts p e)).1 in
     let is : is_offer c span p.committed (offer_of c p) ≡ true = rw (itself c, same, beq_itself p.committed) refl in
-    OfferNoted p.committed (list_any-append (is_offer c span p.committed) s.offers (offer_of c p ∷ []) ∙ or_last (list_any (is_offer c span p.committed) s.offers) (is_offer c span p.committed (offer_of c p)) is)
-  where
-    or_last : (a b : Bool) → b ≡ true → (a || (b || false)) ≡ true
-    or_last true b k = refl
-    or_last false true k = refl
-    or_last false false k = absurd (cc)
+    OfferNoted p.committed (list_any-append (is_offer c span p.committed) s.offers (offer_of c p ∷ []) ∙ rw is (or-true _))
 
 offer_done_comes : (c : ℕ) (s : Space) (heard : Heard) (found : Option ℕ) (ask : Ask) (answer : Answer) → heard.ask ≡ ask → offer_stands s c ask answer ≡ true →
     Comes c s (OfferDone heard found) (after_offer s c found ask answer)
@@ -191,12 +152,8 @@ take_over_at_comes c s addr (Some r) e after = TakeOwned r.class (taken s.region
         elim (is_published_at addr q) as (λ b. is_published_at addr q ≡ b → cond b (Some q) (find (is_published_at addr) qs) ≡ Some r →
         list_any (λ x. is_held_by c x && x.addr == addr) (cond b (record q { holder = Some c }) q ∷ held_anew (is_published_at addr) (Some c) qs) ≡ true) [
           | true ↦ λ h m. rw (itself c, (both_true _ (starts_at addr q) h).1) refl
-          | false ↦ λ h m. or_there (is_held_by c q && q.addr == addr) _ (taken qs m)
+          | false ↦ λ h m. rw (taken qs m) (or-true _)
         ] refl k
-      where
-        or_there : (a b : Bool) → b ≡ true → (a || b) ≡ true
-        or_there true b u = refl
-        or_there false b u = u
 
 -- ---- ends
 
@@ -223,15 +180,10 @@ doom_comes c s (p ∷ ps) after = DoomDoomed p.span p.committed refl
 -- ---- Set
 
 set_comes : (c : ℕ) (s : Space) (setting : Setting) → Comes c s (Set setting) (after_set s c setting)
-set_comes c s (DirtyMs ms now) = live_comes c s (Set (DirtyMs ms now)) _ (λ h. SetNoArena h refl) (λ live after. SetNoted)
-set_comes c s (MuzzyMs ms now) = live_comes c s (Set (MuzzyMs ms now)) _ (λ h. SetNoArena h refl) (λ live after. SetNoted)
-set_comes c s (HookBox box_no) = live_comes c s (Set (HookBox box_no)) _ (λ h. SetNoArena h refl) (λ live after. SetNoted)
-set_comes c s Bind = live_comes c s (Set Bind) _ (λ h. SetNoArena h refl) (λ live after. SetNoted)
-set_comes c s Unbind = live_comes c s (Set Unbind) _ (λ h. SetNoArena h refl) (λ live after. SetNoted)
-set_comes c s (GrowLimit chunks) = live_comes c s (Set (GrowLimit chunks)) _ (λ h. SetNoArena h refl) (λ live after. SetNoted)
 set_comes c s (MakeLive box_no dirty_ms muzzy_ms now) =
     elim (is_absent s.life) as (λ b. Comes c s (Set (MakeLive box_no dirty_ms muzzy_ms now)) (cond b (stays (made_live s box_no dirty_ms muzzy_ms now) Noted) (stays s Nothing)))
     [ true ↦ λ after. SetNoted | false ↦ λ after. SetNothing refl ]
+set_comes c s setting = live_comes c s (Set setting) _ (λ h. SetNoArena h refl) (λ live after. SetNoted)
 
 -- ---- resizes
 
@@ -301,29 +253,26 @@ trim_done_comes c s heard class ask answer sound h = λ after. absurd (cc)
 
 -- ---- any operation
 
-live_and : (s : Space) (b : Bool) → (is_live s.life && b) ≡ true → b ≡ true
-live_and s b h = (both_true (is_live s.life) b h).1
-
 comes : (c : ℕ) (s : Space) (op : Op) → Sound s → op_stands s c op ≡ true → Comes c s op (step_of s c op)
 comes c s (Look pages align) sound h = look_comes c s pages align h
-comes c s (CutDone heard keep_low) sound h = cut_comes c s heard keep_low heard.ask heard.answer refl (live_and s _ h)
-comes c s (GrowDone heard found) sound h = grow_comes c s heard found heard.ask heard.answer refl (live_and s _ h)
-comes c s (CommitDone heard) sound h = commit_comes c s heard heard.ask heard.answer refl (live_and s _ h)
+comes c s (CutDone heard keep_low) sound h = cut_comes c s heard keep_low heard.ask heard.answer refl (live_and s _ h).1
+comes c s (GrowDone heard found) sound h = grow_comes c s heard found heard.ask heard.answer refl (live_and s _ h).1
+comes c s (CommitDone heard) sound h = commit_comes c s heard heard.ask heard.answer refl (live_and s _ h).1
 comes c s (Land span class count) sound h =
     land_comes c s span class count (find (is_flight_at c span) s.parts) refl
-    (both_true (nat_lt class 121 && nat_lt 0 count && nat_le count (most_regions class) && span.pages == pages_at class) _ (live_and s _ h)).1
+    (both_true (nat_lt class 121 && nat_lt 0 count && nat_le count (most_regions class) && span.pages == pages_at class) _ (live_and s _ h).1).1
 comes c s (Back addrs) sound h = λ after. BackNext (next_flight c (step_of s c (Back addrs)).after.parts) (next_flies c (step_of s c (Back addrs)).after)
 comes c s (PutLook span tries) sound h =
     put_comes c s span tries (find (is_flight_at c span) s.parts) sound refl (both_true (is_live s.life && nat_lt tries 3) _ h).1
-comes c s (MergeDone heard own_low) sound h = merge_comes c s heard own_low heard.ask heard.answer sound (live_and s _ h)
+comes c s (MergeDone heard own_low) sound h = merge_comes c s heard own_low heard.ask heard.answer sound (live_and s _ h).1
 comes c s (Fill class count) sound h = live_comes c s (Fill class count) _ (λ h. FillNoArena h refl) (λ live. fill_at_comes c s class count (lowest_free class count s))
 comes c s (Advance now) sound h = live_comes c s (Advance now) _ (λ h. AdvanceNoArena h refl) (λ live after. AdvanceLimits _ _)
 comes c s (PurgeTake rest keep) sound h = purge_take_comes c s rest keep sound h
-comes c s (LazyDone heard) sound h = lazy_comes c s heard heard.ask heard.answer refl sound (live_and s _ h)
-comes c s (Offer span) sound h = offer_comes c s span (find (is_flight_at c span) s.parts) refl (live_and s _ h)
-comes c s (OfferDone heard found) sound h = offer_done_comes c s heard found heard.ask heard.answer refl (live_and s _ h)
-comes c s (DecommitDone heard) sound h = decommit_comes c s heard heard.ask heard.answer refl (live_and s _ h)
-comes c s (ForcedDone heard) sound h = forced_comes c s heard heard.ask heard.answer refl (live_and s _ h)
+comes c s (LazyDone heard) sound h = lazy_comes c s heard heard.ask heard.answer refl sound (live_and s _ h).1
+comes c s (Offer span) sound h = offer_comes c s span (find (is_flight_at c span) s.parts) refl (live_and s _ h).1
+comes c s (OfferDone heard found) sound h = offer_done_comes c s heard found heard.ask heard.answer refl (live_and s _ h).1
+comes c s (DecommitDone heard) sound h = decommit_comes c s heard heard.ask heard.answer refl (live_and s _ h).1
+comes c s (ForcedDone heard) sound h = forced_comes c s heard heard.ask heard.answer refl (live_and s _ h).1
 comes c s (Publish addr) sound h = λ after. PublishNoted
 comes c s (TakeOver addr) sound h = live_comes c s (TakeOver addr) _ (λ h. TakeNoArena h refl) (λ live. take_over_at_comes c s addr (find (is_published_at addr) s.regions) refl)
 comes c s (Reset cached) sound h = reset_comes c s cached
@@ -332,9 +281,9 @@ comes c s DestroyTake sound h = doom_comes c s s.parts
 comes c s Counts sound h = live_comes c s Counts _ (λ h. CountsNoArena h refl) (λ live after. CountsCounted refl)
 comes c s (Set setting) sound h = set_comes c s setting
 comes c s (Widen addr pages) sound h = widen_at_comes c s addr pages (large_home s c addr)
-comes c s (JoinDone heard class) sound h = join_done_comes c s heard class heard.ask heard.answer refl (live_and s _ h)
+comes c s (JoinDone heard class) sound h = join_done_comes c s heard class heard.ask heard.answer refl (live_and s _ h).1
 comes c s (Trim addr class) sound h = λ after. TrimNoted (with_client-there c s.trims)
-comes c s (TrimDone heard class) sound h = trim_done_comes c s heard class heard.ask heard.answer sound (live_and s _ h)
+comes c s (TrimDone heard class) sound h = trim_done_comes c s heard class heard.ask heard.answer sound (live_and s _ h).1
 
 -- Each operation that may stand goes in one of the ways in which it may.
 pub op_comes : (c : ℕ) (s : Space) (op : Op) → Sound s → op_stands s c op ≡ true → Outcome c s (step_of s c op).after op (step_of s c op).reply

@@ -1,24 +1,9 @@
 -- What the slow machine's arithmetic needs: that what it adds and multiplies fits.
 use Rattle.std.proofs.Common.{◌≡◌, ℕ, ◌+◌, ◌*◌, ◌^◌, ◌<◌, ◌≤◌, Bool, true, false, cond, ◌&&◌, ◌==◌, not, IsTrue, List, [], ◌∷◌, length, Some, None, refl, sym, ◌∙◌, ap, subst, arith, All, ltb as nat_lt, leb as nat_le, ltb-true, leb-true, ltb-false, ◌++◌, suc, drop, append-nil, take_all, drop_of_length-le, Result, Ok, Err, IfOk}
-use Rattle.std.specs.List.{count_by, find, position, position_or_len, remove}
-use Rattle.std.specs.Option.{option_and_then, option_map}
-use Rattle.std.proofs.Math.Nat.{mul-le-mul}
-use Rattle.std.proofs.lemmas.List.Sums.{sum_by-cons}
-use Rattle.size_classes.specs.Classes.{size_at, pages_at, regions_at}
-use Rattle.size_classes.proofs.Table.{size_bounds, slab_filled}
-use Rattle.space_model.specs.declared.parts.Part.{Part}
-use Rattle.space_model.specs.declared.parts.Region.{Region}
-use Rattle.space_model.specs.declared.parts.Span.{Span}
-use Rattle.space_model.specs.declared.spaces.Space.{Space}
-use Rattle.space_model.specs.Span.{IsPlaced}
-use Rattle.space_model.specs.Part.{is_flight_at}
-use Rattle.space_model.specs.Region.{houses, is_held_by, is_held_by_other}
-use Rattle.space_model.specs.Ending.{reset_stands}
-use Rattle.space_model.specs.Slabs.{most_regions, land_stands}
-use Rattle.space_model.specs.Resizing.{is_large_at, with_home, large_home}
-use Rattle.space_model.specs.Sound.{Sound}
-use Rattle.space_model.proofs.Lists.{find_has}
-use Rattle.space_model.proofs.Pieces.{both_true}
+use Rattle.space_model.proofs.Words.{count_by, find, position, position_or_len, remove, mul-le-mul, sum_by-cons, size_at, pages_at, regions_at, size_bounds, slab_filled, Part, Region, Span, Space, IsPlaced, is_flight_at, houses, is_held_by, is_held_by_other, reset_stands, most_regions, land_stands, large_home, Sound}
+use Rattle.space_model.proofs.Pieces.{both_true, found_fits}
+use Rattle.space_model.proofs.Resizes.{home_found}
+use Rattle.std.proofs.lemmas.Option.{cond_some}
 
 -- ---- Land
 
@@ -44,7 +29,7 @@ land_fits c s span class count p sound h found =
     let one = both_true within some two.0 in
     let class_fits : class < 121 = ltb-true _ _ one.0 in
     let most : count ≤ 512 = omega (arith, leb-true _ _ two.1, few_regions class) in
-    let placed : IsPlaced p.span = find_has (λ q. IsPlaced q.span) (is_flight_at c span) s.parts p sound.placed found in
+    let placed = (found_fits s (is_flight_at c span) p sound found).placed in
     let bytes : count * size_at class ≤ 512 * 2 ^ 35 = mul-le-mul most (size_bounds class class_fits).1 in
     (class_fits, omega (arith, placed.2), omega (arith, placed.2, bytes))
 
@@ -86,11 +71,7 @@ cached_least s c cached h = leb-true _ _ (both_true _ (nat_le cached (count_by (
 
 -- the place that was found is the first
 pub first_place : {X : Type 0} (test : X → Bool) (xs : List X) (i : ℕ) → position test xs ≡ Some i → i ≡ position_or_len test xs
-first_place test xs i h =
-    elim (nat_lt (position_or_len test xs) (length xs)) as (λ b. cond b (Some (position_or_len test xs)) None ≡ Some i → i ≡ position_or_len test xs) [
-      | true ↦ λ e. cc
-      | false ↦ λ e. cc
-    ] h
+first_place test xs i h = sym (cond_some (nat_lt (position_or_len test xs) (length xs)) (position_or_len test xs) i h).1
 
 -- nothing goes where no place was found
 pub no_place : {X : Type 0} (test : X → Bool) (xs : List X) → position test xs ≡ None → remove xs (position_or_len test xs) ≡ xs
@@ -107,17 +88,4 @@ no_place test xs h =
 
 -- the extent of a large region lies in the space
 pub home_placed : (s : Space) (c addr : ℕ) (home : Region × Part) → Sound s → large_home s c addr ≡ Some home → IsPlaced home.1.span
-home_placed s c addr home sound found =
-    elim (find (is_large_at c addr) s.regions) as (λ o. option_and_then (with_home s.parts) o ≡ Some home → IsPlaced home.1.span) [
-      | None ↦ λ e. cc
-      | Some r ↦ λ e. elim (find (λ p. houses p r) s.parts) as (λ o. find (λ p. houses p r) s.parts ≡ o → option_map (λ p. (r, p)) o ≡ Some home → IsPlaced home.1.span) [
-        | None ↦ λ at e. cc
-        | Some p ↦ λ at e.
-            let same : (r, p) ≡ home = cc in
-            subst (λ (h : Region × Part). IsPlaced h.1.span) same (find_has (λ q. IsPlaced q.span) (λ p. houses p r) s.parts p sound.placed at)
-      ] refl e
-    ] found
-
--- so does each extent in flight
-pub flight_placed : (s : Space) (c : ℕ) (span : Span) (p : Part) → Sound s → find (is_flight_at c span) s.parts ≡ Some p → IsPlaced p.span
-flight_placed s c span p sound found = find_has (λ q. IsPlaced q.span) (is_flight_at c span) s.parts p sound.placed found
+home_placed s c addr home sound found = (found_fits s (λ p. houses p home.0) home.1 sound (home_found c s addr home found).house).placed

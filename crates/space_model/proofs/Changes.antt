@@ -1,27 +1,8 @@
 -- What an operation changes, as one value, and what follows of each change that is lawful.
-use Rattle.std.proofs.Common.{true, false, ◌≡◌, ℕ, ◌+◌, ◌<◌, ◌≤◌, ◌≢◌, ◌==◌, Bool, false, not, IsTrue, List, [], ◌∷◌, get_or, refl, sym, ◌∙◌, ap, subst, arith, All, filter, find, Some, ◌||◌, ◌&&◌}
-use Rattle.std.specs.List.{sum_by, count_by, list_any}
-use Rattle.std.proofs.lemmas.List.Sums.{sum_by-cons}
-use Rattle.std.proofs.lemmas.List.Elements.{All-weaker, All-cons, All-nil}
-use Rattle.space_model.specs.declared.entries.Op.{Op}
-use Rattle.space_model.specs.declared.parts.Offered.{Offered}
-use Rattle.space_model.specs.declared.parts.Part.{Part}
-use Rattle.space_model.specs.declared.parts.Region.{Region}
-use Rattle.space_model.specs.declared.entries.Reply.{Reply}
-use Rattle.space_model.specs.declared.spaces.Life.{Life}
-use Rattle.space_model.specs.declared.spaces.Life.TheVariants.{Live}
-use Rattle.space_model.specs.declared.spaces.Pace.{Pace}
-use Rattle.space_model.specs.declared.spaces.Space.{Space}
-use Rattle.space_model.specs.Span.{IsPlaced, has_page, max_series}
-use Rattle.space_model.specs.Part.{holders, exchanged, begins_at, is_active, is_flight, is_backed, rest_of}
-use Rattle.space_model.specs.Region.{homes, is_held_by}
-use Rattle.space_model.specs.Sound.{Sound, IsQuiet, IsPaced}
-use Rattle.space_model.specs.Own.{Mine, mine, is_dying}
-use Rattle.space_model.specs.Stepped.{Stepped, stays, replaced}
+use Rattle.std.proofs.Common.{true, false, ◌≡◌, ℕ, ◌+◌, ◌<◌, ◌≤◌, ◌≢◌, ◌==◌, Bool, false, not, IsTrue, List, [], ◌∷◌, get_or, refl, sym, ◌∙◌, ap, subst, arith, All, filter, find, Some, ◌||◌, ◌&&◌, ◌++◌}
+use Rattle.space_model.proofs.Words.{sum_by, count_by, list_any, sum_by-cons, All-weaker, All-cons, All-nil, Op, Offered, Part, Region, Reply, Life, Live, Pace, Space, IsPlaced, has_page, max_series, holders, exchanged, begins_at, is_active, is_flight, is_backed, rest_of, homes, is_held_by, Sound, IsQuiet, IsPaced, Mine, mine, is_dying, Stepped, stays, replaced, granted_by, flight, lost, won}
 use Rattle.space_model.proofs.Lists.{nothing_sum, ones}
 use Rattle.space_model.proofs.Exchange.{share, filter-begins_at}
-use Rattle.space_model.specs.Journal.{granted_by}
-use Rattle.space_model.specs.Flights.{flight, lost, won}
 use Rattle.space_model.proofs.Ordered.{Ordered}
 use Rattle.space_model.proofs.Mixes.{Mix, mix_sum, mix_all, mix_first, mix_filter, mixed_first, mixed_second, mixed_filter, mixed_append}
 use Rattle.space_model.proofs.Settled.{Settled, Used, serves, idle-serves, sound_settled, some_pages, idle_settled, rest_settled, both_settled}
@@ -136,11 +117,6 @@ pub lawful_sums : {c : ℕ} {s t : Space} {ch : Change} → IsLawful c s t ch �
     sum_by f t.parts + sum_by f ch.old ≡ sum_by f s.parts + sum_by f ch.new
 lawful_sums l f = omega (arith, mix_sum f l.went, mix_sum f l.came)
 
--- and so is one over the regions
-pub lawful_region_sums : {c : ℕ} {s t : Space} {ch : Change} → IsLawful c s t ch → (f : Region → ℕ) →
-    sum_by f t.regions + sum_by f ch.left ≡ sum_by f s.regions + sum_by f ch.come
-lawful_region_sums l f = omega (arith, mix_sum f l.gone, mix_sum f l.landed)
-
 -- ---- the frame
 
 -- what is in range in a sound space
@@ -239,24 +215,29 @@ pub record Does (c : ℕ) (s : Space) (op : Op) (step : Stepped) : Type 0 where
 abbrev pub Plain : Op → Reply → Type 0
 Plain op reply = (page : ℕ) (before : Bool) → granted_by page before op reply ≡ before
 
--- a space that stays as it was
-pub stays_does : (c : ℕ) (s : Space) (op : Op) (reply : Reply) → Sound s → Plain op reply → lost op reply ≡ won c s op reply → Does c s op (stays s reply)
-stays_does c s op reply sound plain same = record {
+-- only the frame changes
+pub frame_does : (c : ℕ) (s t : Space) (op : Op) (reply : Reply) → Sound s → t.parts ≡ s.parts → t.regions ≡ s.regions → Frame c s t → IsQuiet t.life t →
+    Plain op reply → lost op reply ≡ won c s op reply → Does c s op (record { after = t; reply = reply })
+frame_does c s t op reply sound parts regions frame quiet plain same = record {
   change = trade s s.parts [] [];
   lawful = lawful_trade {old = []} sound (record {
     went = mixed_first s.parts;
-    came = mixed_first s.parts;
-    regions = refl;
+    came = subst (λ (ps : List Part). Mix Part s.parts [] ps) (sym parts) (mixed_first s.parts);
+    regions = regions;
     left = λ f. refl;
     own = All-nil (Piece c);
     fits = All-nil (Piece c);
-    owners = sound.owners;
-    frame = kept_frame c s s.parts s.regions sound;
-    quiet = sound.quiet;
+    owners = λ page. let e : holders page t.parts ≡ holders page s.parts = ap (holders page) parts in omega (arith, e, sound.owners page);
+    frame = frame;
+    quiet = quiet;
   });
-  pages = λ page before h. h ∙ ap ones (sym (plain page before));
-  flew = omega (arith, same);
+  pages = λ page before h. ap (holders page) parts ∙ h ∙ ap ones (sym (plain page before));
+  flew = let e : sum_by (flight c) t.parts ≡ sum_by (flight c) s.parts = ap (sum_by (flight c)) parts in omega (arith, e, same);
 }
+
+-- a space that stays as it was
+pub stays_does : (c : ℕ) (s : Space) (op : Op) (reply : Reply) → Sound s → Plain op reply → lost op reply ≡ won c s op reply → Does c s op (stays s reply)
+stays_does c s op reply sound plain same = frame_does c s s op reply sound refl refl (kept_frame c s s.parts s.regions sound) sound.quiet plain same
 
 -- a trade in which only extents change
 pub trade_does : (c : ℕ) (s : Space) (op : Op) (reply : Reply) (gone : Part → Bool) (old new : List Part) → Sound s → s.life ≡ Live →
@@ -311,38 +292,74 @@ put_does c s op reply test p q sound live found piece fits same plain flew =
     (λ page. let e : share page q ≡ share page p = ap (λ span. ones (has_page page span)) same in omega (arith, e, sum_by-cons (share page) q [])) plain
     (omega (arith, flew, sum_by-cons (flight c) q []))
 
--- only the frame changes
-pub frame_does : (c : ℕ) (s t : Space) (op : Op) (reply : Reply) → Sound s → t.parts ≡ s.parts → t.regions ≡ s.regions → Frame c s t → IsQuiet t.life t →
-    Plain op reply → lost op reply ≡ won c s op reply → Does c s op (record { after = t; reply = reply })
-frame_does c s t op reply sound parts regions frame quiet plain same = record {
-  change = trade s s.parts [] [];
-  lawful = lawful_trade {old = []} sound (record {
-    went = mixed_first s.parts;
-    came = subst (λ (ps : List Part). Mix Part s.parts [] ps) (sym parts) (mixed_first s.parts);
-    regions = regions;
-    left = λ f. refl;
-    own = All-nil (Piece c);
-    fits = All-nil (Piece c);
-    owners = λ page. let e : holders page t.parts ≡ holders page s.parts = ap (holders page) parts in omega (arith, e, sound.owners page);
-    frame = frame;
-    quiet = quiet;
-  });
-  pages = λ page before h. ap (holders page) parts ∙ h ∙ ap ones (sym (plain page before));
-  flew = let e : sum_by (flight c) t.parts ≡ sum_by (flight c) s.parts = ap (sum_by (flight c)) parts in omega (arith, e, same);
-}
-
 -- ---- pages that come and go
 
 -- a page that is granted has one extent, and another one as many as before
-pub pages_more : (page n m : ℕ) (before : Bool) (p : Part) → m ≡ n + share page p → n + share page p ≤ 1 → n ≡ ones before → m ≡ ones (before || has_page page p.span)
+pages_more : (page n m : ℕ) (before : Bool) (p : Part) → m ≡ n + share page p → n + share page p ≤ 1 → n ≡ ones before → m ≡ ones (before || has_page page p.span)
 pages_more page n m true p new most h = omega (arith, h, most, new)
 pages_more page n m false p new most h = omega (arith, h, new)
 
 -- and one that is given up has none
-pub pages_fewer : (page n m : ℕ) (before : Bool) (p : Part) → m + share page p ≡ n → n ≡ ones before → m ≡ ones (before && not (has_page page p.span))
+pages_fewer : (page n m : ℕ) (before : Bool) (p : Part) → m + share page p ≡ n → n ≡ ones before → m ≡ ones (before && not (has_page page p.span))
 pages_fewer page n m true p new h =
     elim (has_page page p.span) as (λ b. m + ones b ≡ 1 → m ≡ ones (not b)) [ true ↦ λ e. omega arith | false ↦ λ e. omega arith ] (omega (arith, new, h))
 pages_fewer page n m false p new h = omega (arith, new, h)
+
+-- an extent comes, whose pages none had, and they are granted from then on
+pub come_does : (c : ℕ) (s t : Space) (op : Op) (reply : Reply) (p : Part) → Sound s → t.parts ≡ s.parts ++ p ∷ [] → t.regions ≡ s.regions → Piece c p →
+    ((page : ℕ) → holders page s.parts + share page p ≤ 1) → Frame c s t → IsQuiet t.life t →
+    ((page : ℕ) (before : Bool) → granted_by page before op reply ≡ (before || has_page page p.span)) → flight c p + lost op reply ≡ won c s op reply →
+    Does c s op (record { after = t; reply = reply })
+come_does c s t op reply p sound parts regions piece most frame quiet granted flew =
+    let came : Mix Part s.parts (p ∷ []) t.parts = subst (λ (ps : List Part). Mix Part s.parts (p ∷ []) ps) (sym parts) (mixed_append s.parts (p ∷ [])) in
+    let more : (f : Part → ℕ) → sum_by f t.parts ≡ sum_by f s.parts + f p = λ f. omega (arith, mix_sum f came, sum_by-cons f p []) in
+    record {
+      change = trade s s.parts [] (p ∷ []);
+      lawful = lawful_trade {old = []} sound (record {
+        went = mixed_first s.parts;
+        came = came;
+        regions = regions;
+        left = λ f. refl;
+        own = All-nil (Piece c);
+        fits = All-cons (Piece c) p [] piece (All-nil (Piece c));
+        owners = λ page. omega (arith, more (share page), most page);
+        frame = frame;
+        quiet = quiet;
+      });
+      pages = λ page before h.
+          pages_more page (holders page s.parts) (holders page t.parts) before p (more (share page)) (most page) h ∙ ap ones (sym (granted page before));
+      flew = omega (arith, more (flight c), flew);
+    }
+
+-- an extent that was found goes, and its pages are given up
+pub go_does : (c : ℕ) (s t : Space) (op : Op) (reply : Reply) (test : Part → Bool) (p : Part) → Sound s → find test s.parts ≡ Some p → Piece c p →
+    t.parts ≡ exchanged (begins_at p.span.first) s.parts [] → t.regions ≡ s.regions → Frame c s t → IsQuiet t.life t →
+    ((page : ℕ) (before : Bool) → granted_by page before op reply ≡ (before && not (has_page page p.span))) → lost op reply ≡ flight c p + won c s op reply →
+    Does c s op (record { after = t; reply = reply })
+go_does c s t op reply test p sound found piece parts regions frame quiet given_up flew =
+    let gone = begins_at p.span.first in
+    let stay : List Part = filter (λ q. not (gone q)) s.parts in
+    let went : Mix Part stay (filter gone s.parts) s.parts = mixed_filter gone s.parts in
+    let came : Mix Part stay [] t.parts = subst (λ (ps : List Part). Mix Part stay [] ps) (sym parts) (mixed_append stay []) in
+    let left = one_left s test p sound found in
+    let fewer : (f : Part → ℕ) → sum_by f t.parts + f p ≡ sum_by f s.parts = λ f. omega (arith, mix_sum f went, mix_sum f came, left f, sum_by-cons f p []) in
+    record {
+      change = trade s stay (filter gone s.parts) [];
+      lawful = lawful_trade {old = p ∷ []} sound (record {
+        went = went;
+        came = came;
+        regions = regions;
+        left = left;
+        own = All-cons (Piece c) p [] piece (All-nil (Piece c));
+        fits = All-nil (Piece c);
+        owners = λ page. omega (arith, fewer (share page), sound.owners page);
+        frame = frame;
+        quiet = quiet;
+      });
+      pages = λ page before h.
+          pages_fewer page (holders page s.parts) (holders page t.parts) before p (fewer (share page)) h ∙ ap ones (sym (given_up page before));
+      flew = omega (arith, fewer (flight c), flew);
+    }
 
 -- ---- regions alone
 

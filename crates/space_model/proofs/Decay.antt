@@ -1,15 +1,7 @@
 -- How large the numbers of a decay are.
 use Rattle.std.proofs.Common.{◌≡◌, ℕ, suc, ◌+◌, ◌-◌, ◌*◌, ◌/◌, ◌^◌, ◌<◌, ◌≤◌, max, Bool, true, false, cond, ◌&&◌, List, [], ◌∷◌, refl, inl, inr, arith, All, AllPairs, ltb as nat_lt, leb}
-use Rattle.std.specs.List.{sum_by}
-use Rattle.std.proofs.Math.Nat.{mul-le-mul, mul-le-mul_left, div-le_self}
-use Rattle.std.proofs.lemmas.Bool.{and_parts, leb-true, cases_lt}
-use Rattle.std.proofs.lemmas.Bool.Decides.{nat_tests}
-use Rattle.std.proofs.lemmas.List.Sums.{sum_by-cons}
-use Rattle.std.proofs.lemmas.List.Elements.{All-head, All-tail}
-use Rattle.size_classes.proofs.Table.{passes_below, at}
-use Rattle.space_model.specs.declared.spaces.Added.{Added}
-use Rattle.space_model.specs.Span.{pages_end}
-use Rattle.space_model.specs.Pace.{weight, weighed, limit_at}
+use Rattle.space_model.proofs.Words.{sum_by, mul-le-mul, mul-le-mul_left, div-le_self, and_parts, leb-true, cases_lt, nat_tests, sum_by-cons, All-head, All-tail, passes_below, at, Added, pages_end, weighed, limit_at}
+use Rattle.space_model.specs.Pace.{weight}
 
 -- The powers of a number of epochs, and what that weighs, are in their bounds.
 pub record Fitting (k : ℕ) : Type 0 where

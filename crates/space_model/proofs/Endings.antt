@@ -1,36 +1,11 @@
 -- What a reset, a destroy and the takes after it do.
-use Rattle.std.proofs.Common.{true, false, ◌≡◌, ◌≢◌, ℕ, ◌+◌, Bool, not, cond, IsTrue, List, [], ◌∷◌, length, Option, Some, None, refl, sym, ◌∙◌, ap, subst, arith, All, filter, find, ◌&&◌, ◌==◌}
-use Rattle.std.specs.List.{sum_by, count_by, list_any}
-use Rattle.std.proofs.lemmas.Bool.{eqb-true}
-use Rattle.std.proofs.lemmas.List.{nil_from_length}
-use Rattle.std.proofs.lemmas.List.Sums.{sum_by-cons}
-use Rattle.std.proofs.lemmas.List.Elements.{All-weaker, All-append, All-filter, All-cons, All-nil, All-head, filter_passes}
-use Rattle.space_model.specs.declared.entries.Op.{Op}
-use Rattle.space_model.specs.declared.entries.Op.TheVariants.{Reset, Destroy, DestroyTake}
-use Rattle.space_model.specs.declared.entries.Reply.{Reply}
-use Rattle.space_model.specs.declared.entries.Reply.TheVariants.{Noted, Nothing, Purge, Busy}
-use Rattle.space_model.specs.declared.parts.Offered.{Offered}
-use Rattle.space_model.specs.declared.parts.Part.{Part}
-use Rattle.space_model.specs.declared.parts.Region.{Region}
-use Rattle.space_model.specs.declared.parts.Rest.TheVariants.{Dirty as ToDirty, Retained as ToRetained}
-use Rattle.space_model.specs.declared.parts.State.{State}
-use Rattle.space_model.specs.declared.parts.State.TheVariants.{Active, Dirty, Muzzy, Retained, Flight}
-use Rattle.space_model.specs.declared.spaces.Life.{Life}
-use Rattle.space_model.specs.declared.spaces.Life.TheVariants.{Live, Absent, Dying}
-use Rattle.space_model.specs.declared.spaces.Space.{Space}
-use Rattle.space_model.specs.Part.{holders, begins_at, is_active, is_flight, is_in_flight, is_listed, is_backed, rest_of, moved_to, turned, turned_in_order}
-use Rattle.space_model.specs.Region.{homes, residents, is_held_by, is_held_by_other}
-use Rattle.space_model.specs.Own.{is_dying}
-use Rattle.space_model.specs.Stepped.{Stepped, stays, is_live, is_dirty_time_over, is_lazy}
-use Rattle.space_model.specs.Ending.{held_count, flight_count, if_free, emptied, after_reset, reset_stands, ended, after_destroy, doom_at, after_destroy_take}
-use Rattle.space_model.specs.Flights.{flight}
-use Rattle.space_model.specs.Sound.{Sound, IsQuiet}
-use Rattle.space_model.proofs.Lists.{false_true, not_true, none_counted, nothing_left, nothing_sum, ones, sum_nothing}
-use Rattle.space_model.proofs.Exchange.{share}
-use Rattle.space_model.proofs.Mixes.{Mix, mix_sum, mixed_second, mixed_filter, mixed_append}
+use Rattle.std.proofs.Common.{true, false, ◌≡◌, ◌≢◌, ℕ, Bool, not, cond, IsTrue, List, [], ◌∷◌, length, Option, Some, None, refl, sym, ◌∙◌, ap, subst, arith, All, filter, find, ◌&&◌, ◌==◌}
+use Rattle.space_model.proofs.Words.{sum_by, count_by, list_any, eqb-true, not-false, not-true, nil_from_length, All-weaker, All-append, All-filter, All-nil, All-head, filter_passes, Op, Reset, Destroy, DestroyTake, Reply, Noted, Nothing, Purge, Busy, Offered, Part, Region, ToDirty, ToRetained, State, Active, Retained, Flight, Life, Live, Absent, Dying, Space, begins_at, is_active, is_flight, is_in_flight, is_listed, is_backed, rest_of, moved_to, turned, turned_in_order, homes, residents, is_held_by, is_held_by_other, is_dying, Stepped, stays, is_live, is_dirty_time_over, is_lazy, held_count, flight_count, if_free, emptied, after_reset, reset_stands, ended, after_destroy, doom_at, after_destroy_take, flight, Sound, IsQuiet}
+use Rattle.space_model.proofs.Lists.{false_true, not_true, none_counted, nothing_left, nothing_sum, ones, sum_nothing, apart_count}
+use Rattle.space_model.proofs.Mixes.{mix_sum, mixed_second, mixed_filter}
 use Rattle.space_model.proofs.Settled.{Used}
-use Rattle.space_model.proofs.Changes.{Does, Fits, Piece, trade, lawful_trade, all_fit, frame_does, one_left, kept_frame, live_quiet, sound_ranges, pages_fewer}
-use Rattle.space_model.proofs.Pieces.{both_true, different, not_both}
+use Rattle.space_model.proofs.Changes.{Does, Fits, all_fit, frame_does, kept_frame, live_quiet, sound_ranges, go_does}
+use Rattle.space_model.proofs.Pieces.{both_true, different, not_both, active_own}
 use Rattle.space_model.proofs.Turned.{turned_does, All-turned}
 use Rattle.space_model.proofs.Moves.{live_is, Same, still, live_does}
 
@@ -69,20 +44,14 @@ others_hold_none c d cached s other none =
 
 -- ---- Reset
 
--- an active extent is one that has to be committed, and nobody's flight
+-- an active extent is one that has to be committed
 active_backed : (state : State) → is_active state ≡ true → IsTrue (is_backed (rest_of state))
 active_backed Active h = refl
 active_backed state h = absurd (cc)
 
-pub active_own : (d : ℕ) (state : State) → is_active state ≡ true → is_flight d state ≡ false
-active_own d Active h = refl
-active_own d state h = absurd (cc)
-
+-- and none is in flight
 none_active_flies : (d : ℕ) (parts : List Part) → count_by (λ p. is_flight d p.state) (filter (λ p. is_active p.state) parts) ≡ 0
-none_active_flies d parts =
-    nothing_sum (λ p. ones (is_flight d p.state)) (filter (λ p. is_active p.state) parts)
-    (All-weaker (λ p. is_active p.state ≡ true) (λ p. ones (is_flight d p.state) ≡ 0) (λ p h. ap ones (active_own d p.state h)) (filter (λ p. is_active p.state) parts)
-    (filter_passes (λ p. is_active p.state) parts))
+none_active_flies d parts = apart_count (λ p. is_active p.state) (λ p. is_flight d p.state) parts (λ p h. active_own d p.state h)
 
 -- an extent that fails a test which each active one passes serves nothing
 unused : (test : Part → Bool) → ((p : Part) → IsTrue (is_active p.state) → test p ≡ true) → (parts : List Part) → All (Used []) (filter (λ p. not (test p)) parts)
@@ -130,10 +99,7 @@ reset_does c s cached sound =
 flight_other : (c d : ℕ) (state : State) → d ≢ c → ones (is_in_flight state && not (is_flight c state)) ≡ 0 → ones (is_flight d state) ≡ 0
 flight_other c d (Flight e rest) other h = elim (e == c) as (λ b. (e == c) ≡ b → ones (not b) ≡ 0 → ones (e == d) ≡ 0)
     [ true ↦ λ k z. ap ones (different e c d k other) | false ↦ λ k z. absurd (omega arith) ] refl h
-flight_other c d Active other h = refl
-flight_other c d Dirty other h = refl
-flight_other c d Muzzy other h = refl
-flight_other c d Retained other h = refl
+flight_other c d state other h = refl
 
 others_fly_none : (c d : ℕ) (s : Space) → d ≢ c → flight_count s c ≡ 0 → count_by (λ p. is_flight d p.state) s.parts ≡ 0
 others_fly_none c d s other none =
@@ -156,21 +122,11 @@ still_retained test parts kept =
   where
     retained_still : (state : State) → is_listed ToRetained state ≡ true → is_in_flight state ≡ false
     retained_still (Flight e rest) h = absurd (cc)
-    retained_still Active h = refl
-    retained_still Dirty h = refl
-    retained_still Muzzy h = refl
-    retained_still Retained h = refl
-
-double_not : (b : Bool) → not (not b) ≡ true → b ≡ true
-double_not true h = refl
-double_not false h = absurd (cc)
+    retained_still state h = refl
 
 active_unlisted : (state : State) → IsTrue (is_active state) → not (is_listed ToRetained state) ≡ true
-active_unlisted Active h = refl
-active_unlisted Dirty h = refl
-active_unlisted Muzzy h = refl
 active_unlisted Retained h = absurd (false_true h)
-active_unlisted (Flight e rest) h = refl
+active_unlisted state h = refl
 
 ended_does : (c cached : ℕ) (s : Space) → Sound s → is_live s.life ≡ true → reset_stands s c cached ≡ true → Free (held_count s c cached) (flight_count s c) (length s.bound) →
     Does c s (Destroy cached) (ended s c)
@@ -202,7 +158,7 @@ ended_does c cached s sound live stands free =
         trims = λ d other. refl;
         dying = λ d other. not_both d c other ∙ sym (ap (is_dying d) (live_is s.life live));
       };
-      quiet = (refl, offers, bound, still_retained test s.parts (λ p h. double_not _ h));
+      quiet = (refl, offers, bound, still_retained test s.parts (λ p h. not-false _ (not-true _ h)));
     }) sound (Destroy cached) Noted (λ page before. refl)
     (omega (arith, zero_fly c (moved_to ToRetained) (filter test s.parts) (λ p. refl), some_count (flight c) test s.parts grounded))
 
@@ -228,10 +184,7 @@ idle_there regions p none used =
 
 grounded_own : (d : ℕ) (state : State) → is_in_flight state ≡ false → is_flight d state ≡ false
 grounded_own d (Flight e rest) h = absurd (cc)
-grounded_own d Active h = refl
-grounded_own d Dirty h = refl
-grounded_own d Muzzy h = refl
-grounded_own d Retained h = refl
+grounded_own d state h = refl
 
 -- what is true of a dying arena
 quiet_dying : (s : Space) (c : ℕ) → Sound s → s.life ≡ Dying c → IsQuiet (Dying c) s
@@ -253,31 +206,15 @@ doom_does c s (p ∷ ps) e sound is =
     let gone = begins_at p.span.first in
     let stay : List Part = filter (λ q. not (gone q)) s.parts in
     let t : Space = (doom_at s (p ∷ ps)).after in
-    let went : Mix Part stay (filter gone s.parts) s.parts = mixed_filter gone s.parts in
-    let came : Mix Part stay [] t.parts = mixed_append stay [] in
-    let left = one_left s (λ q. true) p sound (ap (find (λ q. true)) e) in
-    let fewer : (f : Part → ℕ) → sum_by f t.parts + f p ≡ sum_by f s.parts = λ f. omega (arith, mix_sum f went, mix_sum f came, left f, sum_by-cons f p []) in
     let fits : Fits p = All-head Fits p ps (subst (All Fits) e (all_fit s sound)) in
     let grounded : is_in_flight p.state ≡ false = All-head (λ q. is_in_flight q.state ≡ false) p ps (subst (All (λ (q : Part). is_in_flight q.state ≡ false)) e still.3) in
     let idle : is_active p.state ≡ false = idle_there s.regions p still.0 (All-head (Used s.regions) p ps (subst (All (Used s.regions)) e sound.used)) in
     let lands : flight c p ≡ 0 = ap ones (grounded_own c p.state grounded) in
-    record {
-      change = trade s stay (filter gone s.parts) [];
-      lawful = lawful_trade {old = p ∷ []} sound (record {
-        went = went;
-        came = came;
-        regions = refl;
-        left = left;
-        own = All-cons (Piece c) p [] (record { idle = idle; fits = fits; own = λ d other. grounded_own d p.state grounded }) (All-nil (Piece c));
-        fits = All-nil (Piece c);
-        owners = λ page. omega (arith, fewer (share page), sound.owners page);
-        frame = kept_frame c s t.parts s.regions sound;
-        quiet = subst (λ (l : Life). IsQuiet l t) (sym is)
-            (still.0, still.1, still.2, All-append (λ q. is_in_flight q.state ≡ false) stay [] (All-filter (λ q. not (gone q)) (λ q. is_in_flight q.state ≡ false) s.parts still.3) (All-nil (λ q. is_in_flight q.state ≡ false)));
-      });
-      pages = λ page before h. pages_fewer page (holders page s.parts) (holders page t.parts) before p (fewer (share page)) h;
-      flew = omega (arith, fewer (flight c), lands);
-    }
+    go_does c s t DestroyTake _ (λ q. true) p sound (ap (find (λ q. true)) e)
+    (record { idle = idle; fits = fits; own = λ d other. grounded_own d p.state grounded }) refl refl (kept_frame c s t.parts s.regions sound)
+    (subst (λ (l : Life). IsQuiet l t) (sym is)
+    (still.0, still.1, still.2, All-append (λ q. is_in_flight q.state ≡ false) stay [] (All-filter (λ q. not (gone q)) (λ q. is_in_flight q.state ≡ false) s.parts still.3) (All-nil (λ q. is_in_flight q.state ≡ false))))
+    (λ page before. refl) (omega (arith, lands))
 
 pub destroy_take_does : (c : ℕ) (s : Space) → Sound s → is_dying c s.life ≡ true → Does c s DestroyTake (after_destroy_take s)
 destroy_take_does c s sound h = doom_does c s s.parts refl sound (dying_is c s.life h)

@@ -1,13 +1,6 @@
 -- What an exchange of extents does to sums, facts and filters, and that one extent alone begins at a page.
 use Rattle.std.proofs.Common.{◌≡◌, ℕ, ◌+◌, ◌<◌, ◌≤◌, Bool, true, false, not, cond, List, [], ◌∷◌, Some, refl, ap, arith, All, filter, find}
-use Rattle.std.specs.List.{sum_by}
-use Rattle.std.proofs.lemmas.List.Sums.{sum_by-append, sum_by-cons}
-use Rattle.std.proofs.lemmas.List.Filters.{sum_by-filter_both}
-use Rattle.std.proofs.lemmas.List.Elements.{All-append, All-filter, All-weaker}
-use Rattle.std.proofs.lemmas.Bool.Decides.{nat_tests}
-use Rattle.space_model.specs.declared.parts.Part.{Part}
-use Rattle.space_model.specs.Span.{has_page}
-use Rattle.space_model.specs.Part.{exchanged, begins_at, holders}
+use Rattle.space_model.proofs.Words.{sum_by, sum_by-append, sum_by-cons, sum_by-filter_both, All-append, All-filter, All-weaker, nat_tests, Part, has_page, exchanged, begins_at, holders}
 pub use Rattle.space_model.proofs.Lists.{find_passes, find_has, find-le-sum_by, filter_nothing, filter-without, sum_by-either}
 use Rattle.space_model.proofs.Lists.{all_sum_le, only_one}
 

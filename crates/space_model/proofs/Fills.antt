@@ -1,28 +1,6 @@
 -- Regions that land in slabs: several in a new extent, and the free ones of all slabs of a class.
 use Rattle.std.proofs.Common.{true, false, ◌≡◌, ◌≢◌, ℕ, zero, suc, inl, inr, ◌+◌, ◌*◌, ◌/◌, ◌%◌, ◌<◌, ◌≤◌, Bool, not, cond, IsTrue, List, [], ◌∷◌, ◌++◌, get_or, take, map, Option, Some, None, refl, sym, ◌∙◌, ap, subst, arith, All, find, filter, ◌&&◌, ◌==◌, lt-ltb, leb as nat_le, ltb as nat_lt}
-use Rattle.std.specs.List.{sum_by, list_any, flat_map, position_or_len, range_with_len}
-use Rattle.std.proofs.lemmas.Bool.{cases_lt, eqb-true, leb-true, ltb-true}
-use Rattle.std.proofs.lemmas.Bool.Decides.{nat_tests}
-use Rattle.std.proofs.lemmas.List.FromFn.{get_or-range_with_len, length-range_with_len}
-use Rattle.std.proofs.lemmas.List.Folds.{Any-from_list_any}
-use Rattle.std.proofs.lemmas.List.Sums.{sum_by-cons, sum_by-insert, sum_by-append, get_or-le-sum_by}
-use Rattle.std.proofs.lemmas.List.Elements.{All-weaker, All-append, All-cons, All-nil, All-head, All-tail, All-filter, All-map, All-take, filter_passes}
-use Rattle.std.proofs.lemmas.Nat.{row_fits}
-use Rattle.size_classes.specs.Classes.{size_at, pages_at, regions_at, align_at}
-use Rattle.size_classes.proofs.Table.{size_bounds, slab_filled}
-use Rattle.space_model.specs.declared.entries.Op.TheVariants.{Land, Fill}
-use Rattle.space_model.specs.declared.entries.Reply.TheVariants.{Nothing, Landed}
-use Rattle.space_model.specs.declared.parts.Part.{Part}
-use Rattle.space_model.specs.declared.parts.Region.{Region}
-use Rattle.space_model.specs.declared.parts.Span.{Span}
-use Rattle.space_model.specs.declared.parts.State.TheVariants.{Active}
-use Rattle.space_model.specs.declared.spaces.Space.{Space}
-use Rattle.space_model.specs.Span.{has_page}
-use Rattle.space_model.specs.Part.{holders, is_active, is_flight_at, begins_at}
-use Rattle.space_model.specs.Region.{address_of, covers, sharers, lies_in, houses, homes, inserted, landing, region_of, is_slab, is_held_by, starts_at}
-use Rattle.space_model.specs.Slabs.{places, free_places, slabs_of, lowest_free, fill_at, after_fill, fill_stands, land_at, land_stands, most_regions}
-use Rattle.space_model.specs.Stepped.{is_live, found_passes}
-use Rattle.space_model.specs.Sound.{Sound, IsInSlab}
+use Rattle.space_model.proofs.Words.{sum_by, list_any, flat_map, position_or_len, range_with_len, cases_lt, eqb-true, leb-true, ltb-true, nat_tests, get_or-range_with_len, length-range_with_len, Any-from_list_any, sum_by-cons, sum_by-insert, sum_by-append, get_or-le-sum_by, All-weaker, All-append, All-cons, All-nil, All-head, All-tail, All-filter, All-map, All-take, filter_passes, row_fits, size_at, pages_at, regions_at, align_at, size_bounds, slab_filled, Land, Fill, Nothing, Landed, Part, Region, Span, Active, Space, has_page, holders, is_active, is_flight_at, begins_at, address_of, covers, sharers, lies_in, houses, homes, inserted, landing, region_of, is_slab, is_held_by, starts_at, places, free_places, slabs_of, lowest_free, fill_at, after_fill, fill_stands, land_at, land_stands, most_regions, is_live, found_passes, Sound, IsInSlab}
 use Rattle.space_model.proofs.Lists.{All-flat_map, All-insert, all_sum_le, none_passes, not_true, nothing_sum, ones, sole, sum_add, sum_nothing}
 use Rattle.space_model.proofs.Exchange.{share}
 use Rattle.space_model.proofs.Mixes.{mix_sum, mix_filter, mixed_filter, mixed_insert}

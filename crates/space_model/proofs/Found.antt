@@ -1,23 +1,11 @@
 -- The extent that a client has in flight is found where the client left it: last.
 use Rattle.std.proofs.Common.{◌≡◌, ℕ, ◌+◌, ◌<◌, ◌≤◌, Bool, true, false, not, cond, List, [], ◌∷◌, ◌++◌, Some, None, refl, ◌∙◌, ap, subst, arith, All, filter, find, ◌==◌}
-use Rattle.std.specs.Option.{option_or}
-use Rattle.std.proofs.lemmas.List.Folds.{find-append}
-use Rattle.std.proofs.lemmas.List.Sums.{sum_by-append, sum_by-cons}
-use Rattle.std.proofs.lemmas.List.Elements.{All-head}
-use Rattle.std.proofs.lemmas.Bool.Decides.{nat_tests}
-use Rattle.std.proofs.lemmas.Bool.{eqb-true}
-use Rattle.space_model.specs.declared.parts.Part.{Part}
-use Rattle.space_model.specs.declared.spaces.Space.{Space}
-use Rattle.space_model.specs.declared.parts.Span.{Span}
-use Rattle.space_model.specs.Span.{same_span}
-use Rattle.space_model.specs.Part.{exchanged, holders, is_flight, is_flight_at}
-use Rattle.space_model.specs.Sound.{Sound}
+use Rattle.space_model.proofs.Words.{option_or, find-append, sum_by-append, sum_by-cons, All-head, nat_tests, eqb-true, Part, Space, Span, same_span, exchanged, holders, is_flight, is_flight_at, Sound, Flying}
 use Rattle.space_model.proofs.Mixes.{mix_first, mix_second, mixed_append}
 use Rattle.space_model.proofs.Lists.{find-le-sum_by, find_has, find_passes}
 use Rattle.space_model.proofs.Exchange.{share}
 use Rattle.space_model.proofs.Pieces.{both_true}
 use Rattle.space_model.proofs.Settled.{some_pages}
-use Rattle.space_model.specs.Outcome.{Flying}
 
 -- a span is itself
 same_span_itself : (s : Span) → same_span s s ≡ true

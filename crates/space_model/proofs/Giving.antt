@@ -1,37 +1,14 @@
 -- Regions that are given back, and the extents that they leave empty.
-use Rattle.std.proofs.Common.{◌≡◌, ℕ, ◌+◌, ◌<◌, ◌≢◌, true, false, not, IsTrue, List, [], ◌∷◌, length, get_or, Option, Some, None, refl, ap, arith, filter, fold, ◌&&◌}
-use Rattle.std.specs.List.{sum_by, count_by, list_any}
-use Rattle.std.proofs.lemmas.List.Sums.{sum_by-cons}
-use Rattle.std.proofs.lemmas.List.Elements.{All-weaker, filter_passes}
-use Rattle.space_model.specs.declared.entries.Op.TheVariants.{Back}
-use Rattle.space_model.specs.declared.parts.Part.{Part}
-use Rattle.space_model.specs.declared.parts.Region.{Region}
-use Rattle.space_model.specs.declared.parts.State.{State}
-use Rattle.space_model.specs.declared.parts.State.TheVariants.{Active, Dirty, Muzzy, Retained, Flight}
-use Rattle.space_model.specs.declared.spaces.Space.{Space}
-use Rattle.space_model.specs.declared.spaces.Life.TheVariants.{Live}
-use Rattle.space_model.specs.Part.{is_active, is_flight, taken_out}
-use Rattle.space_model.specs.Region.{houses, homes, is_held_by}
-use Rattle.space_model.specs.Step.{is_given_back, staying, is_emptied, placed, after_back}
-use Rattle.space_model.specs.Flights.{flight}
-use Rattle.space_model.specs.Sound.{Sound}
-use Rattle.space_model.proofs.Lists.{any_counts, none_passes, not_true, nothing_sum, ones}
+use Rattle.std.proofs.Common.{◌≡◌, ℕ, ◌<◌, ◌≢◌, true, false, not, IsTrue, List, [], ◌∷◌, length, get_or, refl, ap, arith, filter, ◌&&◌}
+use Rattle.space_model.proofs.Words.{sum_by, count_by, list_any, sum_by-cons, All-weaker, filter_passes, Back, Part, Region, Space, Live, is_active, is_flight, taken_out, houses, homes, is_held_by, is_given_back, staying, is_emptied, after_back, flight, Sound}
+use Rattle.space_model.proofs.Lists.{any_counts, none_passes, not_true, ones, apart_count}
 use Rattle.space_model.proofs.Mixes.{mixed_filter}
 use Rattle.space_model.proofs.Ordered.{ordered-filter}
-use Rattle.space_model.proofs.Turned.{turned_sum, turned_does}
-use Rattle.space_model.proofs.Settled.{Used, serves}
+use Rattle.space_model.proofs.Turned.{turned_does}
+use Rattle.space_model.proofs.Settled.{Used}
 use Rattle.space_model.proofs.Changes.{Does, kept_frame, live_quiet}
-use Rattle.space_model.proofs.Pieces.{both_true, different, Piece-taken}
+use Rattle.space_model.proofs.Pieces.{both_true, Piece-taken, active_own, held_by_one}
 use Rattle.space_model.proofs.Landing.{eqb_itself}
-
--- ---- lists
-
--- ---- the extents that are taken out
-
--- a sum over the extents as they are taken out
-pub taken_sum : (c : ℕ) (f : Part → ℕ) (before ps : List Part) →
-    sum_by f (fold (λ taken p. placed (taken_out c p) taken) before ps) ≡ sum_by f before + sum_by (λ p. f (taken_out c p)) ps
-taken_sum c f before ps = turned_sum (taken_out c) f before ps
 
 -- ---- the extents that are emptied
 
@@ -47,47 +24,22 @@ kept_serves regions p h act =
     elim (list_any (houses p) regions) as (λ b. not (is_active p.state && not b) ≡ true → b ≡ true)
     [ true ↦ λ e. refl | false ↦ λ e. absurd (cc (act, e)) ] h
 
--- an active extent is nobody's flight
-active-nobody : (d : ℕ) (state : State) → is_active state ≡ true → is_flight d state ≡ false
-active-nobody d Active h = refl
-active-nobody d Dirty h = absurd (cc)
-active-nobody d Muzzy h = absurd (cc)
-active-nobody d Retained h = absurd (cc)
-active-nobody d (Flight c r) h = absurd (cc)
-
--- a region that one client holds isn't another one's
-held_other : (c d addr class : ℕ) (holder : Option ℕ) → d ≢ c → is_held_by c (record { addr = addr; class = class; holder = holder }) ≡ true →
-    is_held_by d (record { addr = addr; class = class; holder = holder }) ≡ false
-held_other c d addr class None other h = refl
-held_other c d addr class (Some e) other h = different e c d h other
-
 -- ---- Back
 
 -- the extents that are emptied serve none of the regions that stay
 nowhere : (regions : List Region) (parts : List Part) (k : ℕ) (d : Region) → k < length regions →
     homes (get_or regions k d) (filter (is_emptied regions) parts) ≡ 0
 nowhere regions parts k d h =
-    let r : Region = get_or regions k d in
-    nothing_sum (serves r) (filter (is_emptied regions) parts)
-    (All-weaker (λ p. is_emptied regions p ≡ true) (λ p. serves r p ≡ 0)
-    (λ p gone. ap ones (none_passes (houses p) regions k d (emptied_is regions p gone).1 h)) (filter (is_emptied regions) parts)
-    (filter_passes (is_emptied regions) parts))
+    apart_count (is_emptied regions) (λ p. houses p (get_or regions k d)) parts (λ p gone. none_passes (houses p) regions k d (emptied_is regions p gone).1 h)
 
 -- nor are they in flight
 pub none_flying : (d : ℕ) (regions : List Region) (parts : List Part) → count_by (λ p. is_flight d p.state) (filter (is_emptied regions) parts) ≡ 0
-none_flying d regions parts =
-    nothing_sum (λ p. ones (is_flight d p.state)) (filter (is_emptied regions) parts)
-    (All-weaker (λ p. is_emptied regions p ≡ true) (λ p. ones (is_flight d p.state) ≡ 0)
-    (λ p gone. ap ones (active-nobody d p.state (emptied_is regions p gone).0)) (filter (is_emptied regions) parts)
-    (filter_passes (is_emptied regions) parts))
+none_flying d regions parts = apart_count (is_emptied regions) (λ p. is_flight d p.state) parts (λ p gone. active_own d p.state (emptied_is regions p gone).0)
 
 -- no region that a client gives back is another one's
 none_held : (c d : ℕ) (addrs : List ℕ) (regions : List Region) → d ≢ c → count_by (is_held_by d) (filter (is_given_back c addrs) regions) ≡ 0
 none_held c d addrs regions other =
-    nothing_sum (λ r. ones (is_held_by d r)) (filter (is_given_back c addrs) regions)
-    (All-weaker (λ r. is_given_back c addrs r ≡ true) (λ r. ones (is_held_by d r) ≡ 0)
-    (λ r given. ap ones (held_other c d r.addr r.class r.holder other (both_true (is_held_by c r) _ given).0))
-    (filter (is_given_back c addrs) regions) (filter_passes (is_given_back c addrs) regions))
+    apart_count (is_given_back c addrs) (is_held_by d) regions (λ r given. held_by_one c d r other (both_true (is_held_by c r) _ given).0)
 
 -- extents that a client takes out are all its own
 pub taken_fly : (c : ℕ) (ps : List Part) → sum_by (λ p. flight c (taken_out c p)) ps ≡ length ps

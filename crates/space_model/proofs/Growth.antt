@@ -1,17 +1,7 @@
 -- An answered span against which nothing speaks shares no page with the extents.
 use Rattle.std.proofs.Common.{◌≡◌, ℕ, ◌+◌, ◌-◌, ◌/◌, ◌%◌, ◌<◌, ◌≤◌, true, false, not, cond, ◌==◌, List, [], ◌∷◌, get_or, Option, Some, None, refl, ◌∙◌, subst, arith, find, ◌||◌}
-use Rattle.std.specs.List.{list_any}
-use Rattle.std.specs.Option.{option_map}
-use Rattle.std.proofs.lemmas.List.Sums.{sum_by-cons}
-use Rattle.std.proofs.lemmas.List.FromFn.{get_or-range_with_len, length-range_with_len}
-use Rattle.std.proofs.lemmas.Bool.Decides.{nat_tests}
-use Rattle.space_model.specs.declared.entries.Why.TheVariants.{OffSpace, Unaligned, Meets}
-use Rattle.space_model.specs.declared.parts.Part.{Part}
-use Rattle.space_model.specs.declared.parts.Span.{Span}
-use Rattle.space_model.specs.Span.{has_page, meets, chunk_span, chunks_of, end_of}
-use Rattle.space_model.specs.Part.{holders}
-use Rattle.space_model.specs.Step.{is_owned, is_found, is_in_space, why_not}
-use Rattle.space_model.proofs.Lists.{find_nothing}
+use Rattle.space_model.proofs.Words.{list_any, option_map, sum_by-cons, get_or-range_with_len, length-range_with_len, nat_tests, OffSpace, Unaligned, Meets, Part, Span, has_page, meets, chunk_span, chunks_of, end_of, holders, is_owned, is_found, is_in_space, why_not}
+use Rattle.space_model.proofs.Lists.{find_nothing, or_false}
 use Rattle.space_model.proofs.Exchange.{share}
 
 -- an extent that doesn't meet a span has no page of it
@@ -33,9 +23,7 @@ in_its_chunk page = grind (arith, nat_tests)
 
 -- a chunk without an owner meets no extent
 unowned : (found : Option ℕ) (parts : List Part) (chunk : ℕ) → is_owned found parts chunk ≡ false → list_any (λ p. meets p.span (chunk_span chunk)) parts ≡ false
-unowned found parts chunk h =
-    elim (is_found found chunk) as (λ b. (b || list_any (λ p. meets p.span (chunk_span chunk)) parts) ≡ false → list_any (λ p. meets p.span (chunk_span chunk)) parts ≡ false)
-    [ true ↦ λ e. absurd (cc) | false ↦ λ e. e ] h
+unowned found parts chunk h = or_false (is_found found chunk) _ h
 
 -- what speaks for an answered span
 pub record Free (found : Option ℕ) (parts : List Part) (s : Span) : Type 0 where
@@ -55,10 +43,6 @@ why_not-free found align parts s e =
         | true ↦ λ i. record { inside = h; nobody = nothing_mapped (λ chunk. Meets (chunk_span chunk)) _ i }
       ]
     ] refl e
-
--- the chunk of a page of the span is among the span's chunks
-chunk_place : (page low high n : ℕ) → low / 512 ≤ page / 512 → page < high → n ≡ (high + 511) / 512 - low / 512 → page / 512 - low / 512 < n
-chunk_place page low high n above below is = omega arith
 
 -- an extent with a free span joins: no page has two extents
 pub free-holders : (found : Option ℕ) (parts : List Part) (new : Part) → Free found parts new.span → (page : ℕ) →

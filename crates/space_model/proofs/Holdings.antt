@@ -1,23 +1,10 @@
 -- Regions that change their holder alone.
-use Rattle.std.proofs.Common.{true, false, ◌≡◌, ◌≢◌, ℕ, ◌%◌, ◌<◌, Bool, cond, IsTrue, List, [], ◌∷◌, Option, Some, None, refl, ◌∙◌, ap, arith, All, filter, find, get_or}
-use Rattle.std.specs.List.{sum_by}
-use Rattle.std.specs.Option.{is_none}
-use Rattle.std.proofs.lemmas.List.Sums.{sum_by-cons}
-use Rattle.std.proofs.lemmas.List.Elements.{All-weaker, All-map}
-use Rattle.size_classes.specs.Classes.{align_at}
-use Rattle.space_model.specs.declared.entries.Op.TheVariants.{Publish, TakeOver}
-use Rattle.space_model.specs.declared.entries.Reply.TheVariants.{Noted, Nothing}
-use Rattle.space_model.specs.declared.parts.Part.{Part}
-use Rattle.space_model.specs.declared.parts.Region.{Region}
-use Rattle.space_model.specs.declared.spaces.Space.{Space}
-use Rattle.space_model.specs.Region.{homes, houses, residents, held_anew, is_held_by, is_published}
-use Rattle.space_model.specs.Stepped.{is_live}
-use Rattle.space_model.specs.Holding.{is_held_at, is_published_at, after_publish, take_over_at, after_take_over}
-use Rattle.space_model.specs.Sound.{Sound, IsInSlab}
+use Rattle.std.proofs.Common.{true, false, ◌≡◌, ℕ, ◌%◌, ◌<◌, Bool, cond, IsTrue, List, [], ◌∷◌, Option, Some, None, refl, ◌∙◌, ap, arith, All, filter, find, get_or}
+use Rattle.space_model.proofs.Words.{sum_by, is_none, sum_by-cons, All-weaker, All-map, align_at, Publish, TakeOver, Noted, Nothing, Part, Region, Space, homes, houses, residents, held_anew, is_held_by, is_published, is_live, is_held_at, is_published_at, after_publish, take_over_at, after_take_over, Sound, IsInSlab}
 use Rattle.space_model.proofs.Ordered.{ordered-held_anew}
 use Rattle.space_model.proofs.Settled.{Settled, Used, LargeAt, SmallAt, covered, serves_by, sound_settled}
 use Rattle.space_model.proofs.Changes.{Does, regions_does}
-use Rattle.space_model.proofs.Pieces.{both_true, different, not_both}
+use Rattle.space_model.proofs.Pieces.{both_true, not_both, held_by_one}
 use Rattle.space_model.proofs.Moves.{live_is, still, live_does}
 
 -- the region with another holder, if it passes the test
@@ -80,15 +67,7 @@ anew_held d test holder (r ∷ rs) before after =
           [ true ↦ ap (λ xs. r ∷ xs) rest | false ↦ rest ]
     ] refl
 
--- a region that one client holds isn't another one's
-pub held_apart : (c d : ℕ) (r : Region) → d ≢ c → is_held_by c r ≡ true → is_held_by d r ≡ false
-held_apart c d r other h = apart r.holder h
-  where
-    apart : (holder : Option ℕ) → is_held_by c (record r { holder = holder }) ≡ true → is_held_by d (record r { holder = holder }) ≡ false
-    apart None h = refl
-    apart (Some e) h = different e c d h other
-
--- nor is a published one
+-- a published region is nobody's
 published_apart : (d : ℕ) (r : Region) → is_published r ≡ true → is_held_by d r ≡ false
 published_apart d r h = apart r.holder h
   where
@@ -101,7 +80,7 @@ publish_does c s addr sound live =
     let test = is_held_at c addr in
     regions_does c s (Publish addr) Noted (held_anew test None s.regions) sound (live_is s.life live)
     (anew_settled test None s.parts s.regions (sound_settled s sound))
-    (λ d other. anew_held d test None s.regions (λ r h. held_apart c d r other (both_true (is_held_by c r) _ h).0) (λ r. refl))
+    (λ d other. anew_held d test None s.regions (λ r h. held_by_one c d r other (both_true (is_held_by c r) _ h).0) (λ r. refl))
     (ordered-held_anew test None s.regions sound.ordered) (λ page before. refl) refl
 
 take_over_at_does : (c : ℕ) (s : Space) (addr : ℕ) (o : Option Region) → Sound s → is_live s.life ≡ true → Does c s (TakeOver addr) (take_over_at s c addr o)

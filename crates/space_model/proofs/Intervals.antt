@@ -1,9 +1,6 @@
 -- Intervals below a bound that have no point in common are together no longer than the bound.
 use Rattle.std.proofs.Common.{◌≡◌, ℕ, zero, suc, ◌+◌, ◌-◌, ◌≤◌, min, Bool, cond, List, [], ◌∷◌, refl, sym, arith, All, ltb as nat_lt, leb as nat_le, ◌&&◌}
-use Rattle.std.specs.List.{sum_by, count_by}
-use Rattle.std.proofs.lemmas.List.Sums.{sum_by-cons}
-use Rattle.std.proofs.lemmas.List.Elements.{All-head, All-tail}
-use Rattle.std.proofs.lemmas.Bool.Decides.{nat_tests}
+use Rattle.space_model.proofs.Words.{sum_by, count_by, sum_by-cons, All-head, All-tail, nat_tests}
 
 -- whether the point is among so many from the lowest on
 abbrev pub has_point : ℕ → ℕ → ℕ → Bool

@@ -1,26 +1,6 @@
 -- A region that lands in a committed extent in flight.
 use Rattle.std.proofs.Common.{subst, inl, inr, ◌/◌, ◌≡◌, ℕ, ◌+◌, ◌*◌, ◌%◌, ◌<◌, ◌≤◌, ◌≢◌, Bool, true, false, not, IsTrue, List, [], ◌∷◌, ◌++◌, get_or, Some, refl, sym, ◌∙◌, ap, arith, All, filter, find, eqb, ltb as nat_lt}
-use Rattle.std.specs.List.{sum_by, position_or_len}
-use Rattle.std.proofs.lemmas.List.Sums.{sum_by-cons}
-use Rattle.std.proofs.lemmas.List.Elements.{All-cons, All-nil}
-use Rattle.std.proofs.lemmas.Bool.Decides.{nat_tests}
-use Rattle.std.proofs.lemmas.Bool.{cases_lt}
-use Rattle.std.proofs.lemmas.Nat.{mul-mod_first, row_fits}
-use Rattle.std.proofs.Math.Nat.{div-add-mod, mul-add-mod_self_left}
-use Rattle.size_classes.specs.Classes.{size_at, pages_at, regions_at, align_at}
-use Rattle.size_classes.proofs.Table.{large_size, slab_filled, align_divides}
-use Rattle.space_model.specs.declared.entries.Op.{Op}
-use Rattle.space_model.specs.declared.entries.Reply.{Reply}
-use Rattle.space_model.specs.declared.parts.Part.{Part}
-use Rattle.space_model.specs.declared.parts.Region.{Region}
-use Rattle.space_model.specs.declared.parts.Span.{Span}
-use Rattle.space_model.specs.declared.parts.State.TheVariants.{Active}
-use Rattle.space_model.specs.declared.spaces.Space.{Space}
-use Rattle.space_model.specs.declared.spaces.Life.TheVariants.{Live}
-use Rattle.space_model.specs.Part.{exchanged, begins_at, holders, is_active, is_flight}
-use Rattle.space_model.specs.Region.{address_of, covers, houses, homes, residents, fills, lies_in, inserted, is_held_by}
-use Rattle.space_model.specs.Flights.{flight, lost, won}
-use Rattle.space_model.specs.Sound.{Sound}
+use Rattle.space_model.proofs.Words.{sum_by, position_or_len, sum_by-cons, All-cons, All-nil, nat_tests, cases_lt, mul-mod_first, row_fits, div-add-mod, mul-add-mod_self_left, size_at, pages_at, regions_at, align_at, large_size, slab_filled, align_divides, Op, Reply, Part, Region, Span, Active, Space, Live, exchanged, begins_at, holders, is_active, is_flight, address_of, covers, houses, homes, residents, fills, lies_in, inserted, is_held_by, flight, lost, won, Sound}
 pub use Rattle.space_model.proofs.Lists.{All-insert}
 use Rattle.space_model.proofs.Lists.{ones}
 use Rattle.space_model.proofs.Exchange.{share}

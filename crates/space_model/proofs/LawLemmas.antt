@@ -1,29 +1,12 @@
 -- The laws of arenas and journals.
-use Rattle.std.proofs.Common.{◌≡◌, ◌≢◌, ◌&&◌, ℕ, suc, rules, inl, inr, ◌+◌, ◌/◌, ◌<◌, ◌≤◌, Bool, true, false, cond, IsTrue, List, [], ◌∷◌, ◌++◌, length, get_or, take, refl, sym, ◌∙◌, ap, subst, arith, Any, append-nil, append_assoc}
-use Rattle.std.specs.List.{count_by}
-use Rattle.std.proofs.lemmas.Bool.{cases_lt}
-use Rattle.std.proofs.lemmas.List.{get_or-take, length-take}
-use Rattle.std.proofs.lemmas.List.Sums.{sum_by-cons, sum_by_more_le, get_or-le-sum_by, sum_by-le-sum_by}
-use Rattle.std.proofs.lemmas.List.Elements.{All-weaker, All-head, All-tail}
-use Rattle.std.proofs.lemmas.Bool.Decides.{nat_tests}
-use Rattle.space_model.specs.declared.entries.Entry.{Entry}
-use Rattle.space_model.specs.declared.entries.Reply.{Reply}
-use Rattle.size_classes.specs.Classes.{size_at}
-use Rattle.size_classes.proofs.Table.{size_bounds}
-use Rattle.space_model.specs.declared.parts.Part.{Part}
-use Rattle.space_model.specs.declared.parts.Region.{Region}
-use Rattle.space_model.specs.Span.{has_page}
-use Rattle.space_model.specs.Part.{holders, is_active}
-use Rattle.space_model.specs.Region.{covers, lies_in, houses, homes}
-use Rattle.space_model.specs.Step.{space_after, reply_to, stands}
-use Rattle.space_model.specs.Journal.{Good, replay, all_stand, turns_of, granted}
-use Rattle.space_model.specs.Opening.{first_space, absent_space}
-use Rattle.space_model.specs.Laws.{FirstReplaysAreGood, AbsentReplaysAreGood, ReplaysKeepGood, ReplaysKeepOthers, PartsAreApart, RegionsAreApart, RegionsRise, RegionsHaveHomes, RegionsAreGranted}
+use Rattle.std.proofs.Common.{◌≡◌, ◌≢◌, ◌&&◌, ℕ, rules, inl, inr, ◌+◌, ◌/◌, ◌<◌, ◌≤◌, Bool, true, false, cond, IsTrue, List, [], ◌∷◌, ◌++◌, length, get_or, take, refl, sym, ◌∙◌, ap, subst, arith, Any, append-nil, append_assoc}
+use Rattle.space_model.proofs.Words.{count_by, cases_lt, get_or-take, length-take, sum_by_more_le, get_or-le-sum_by, sum_by-le-sum_by, All-weaker, All-head, All-tail, nat_tests, Entry, Reply, Part, Region, size_at, size_bounds, has_page, holders, is_active, covers, lies_in, houses, homes, space_after, reply_to, stands, Good, replay, all_stand, turns_of, granted, first_space, absent_space, FirstReplaysAreGood, AbsentReplaysAreGood, ReplaysKeepGood, ReplaysKeepOthers, PartsAreApart, RegionsAreApart, RegionsRise, RegionsHaveHomes, RegionsAreGranted, Any-from_list_any}
 use Rattle.space_model.proofs.Exchange.{share}
 use Rattle.space_model.proofs.Settled.{serves}
 use Rattle.space_model.proofs.Pieces.{both_true}
 use Rattle.space_model.proofs.Settled.{serves-le-share}
 use Rattle.space_model.proofs.Steps.{entry_keeps, Good-step}
+use Rattle.space_model.proofs.Lists.{counted_any}
 
 -- ---- journals
 
@@ -97,20 +80,11 @@ regions_rise s sound i j d lt within =
 
 -- ---- regions
 
--- what passes a test that is counted once is there
-counted_once : {X : Type 0} (test : X → Bool) (xs : List X) → count_by test xs ≡ 1 → Any (λ x. IsTrue (test x)) xs
-counted_once test [] one = absurd (omega arith)
-counted_once test (x ∷ xs) one =
-    elim (test x) as (λ b. test x ≡ b → cond b 1 0 + count_by test xs ≡ 1 → Any (λ y. IsTrue (test y)) (x ∷ xs)) [
-      | true ↦ λ h k. (0, x, omega arith, refl, h)
-      | false ↦ λ h k. let later = counted_once test xs (omega arith) in (suc later.0, later.1, omega arith, later.3, later.4)
-    ] refl (sym (sum_by-cons (λ y. cond (test y) 1 0) x xs) ∙ one)
-
 pub regions_have_homes : RegionsHaveHomes
 regions_have_homes s sound =
     All-weaker (λ r. homes r s.parts ≡ 1) (λ r. Any (λ p. IsTrue (is_active p.state) × IsTrue p.committed × IsTrue (lies_in p.span r)) s.parts)
     (λ r home.
-    let there = counted_once (λ (p : Part). houses p r) s.parts home in
+    let there = Any-from_list_any (λ (p : Part). houses p r) s.parts (counted_any (λ p. houses p r) s.parts (omega (arith, home))) in
     let p : Part = there.1 in
     let last = both_true (is_active p.state && p.committed) (lies_in p.span r) there.4 in
     let first = both_true (is_active p.state) p.committed last.0 in

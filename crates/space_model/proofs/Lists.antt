@@ -1,15 +1,16 @@
 -- Sums, counts, filters and searches over any list.
 use Rattle.std.proofs.Common.{◌≡◌, ℕ, zero, suc, ◌+◌, ◌<◌, ◌≤◌, Bool, true, false, not, cond, IsTrue, List, [], ◌∷◌, length, get_or, take, drop, map, Option, Some, None, refl, sym, ◌∙◌, ap, subst, arith, All, find, filter, insert, remove, ◌&&◌, ◌||◌}
-use Rattle.std.specs.List.{sum_by, count_by, list_any, flat_map, position_or_len}
-use Rattle.std.proofs.lemmas.List.{nil_from_length}
-use Rattle.std.proofs.lemmas.List.Folds.{list_any_at}
-use Rattle.std.proofs.lemmas.List.Sums.{sum_by-cons, sum_by-le-sum_by, get_or-le-sum_by, length-filter}
-use Rattle.std.proofs.lemmas.List.Elements.{All-append, All-cons, All-nil, All-head, All-tail, All-take, All-drop}
+use Rattle.space_model.proofs.Words.{sum_by, count_by, list_any, flat_map, position_or_len, nil_from_length, list_any_at, sum_by-cons, sum_by-le-sum_by, get_or-le-sum_by, length-filter, All-append, All-cons, All-nil, All-head, All-tail, All-take, All-drop, filter_passes, option_or}
 use Rattle.space_model.proofs.Mixes.{mix_filter, mixed_filter}
 
 -- 1 for true, 0 for false
 abbrev pub ones : Bool → ℕ
 ones b = cond b 1 0
+
+-- what is said of either that isn't so isn't so of the second
+pub or_false : (a b : Bool) → (a || b) ≡ false → b ≡ false
+or_false true b h = absurd (cc)
+or_false false b h = h
 
 -- what isn't, is not
 pub not_true : (b : Bool) → not b ≡ true → b ≡ false
@@ -25,6 +26,11 @@ pub if_found : {X : Type 0} (b : Bool) (o : Option X) (x : X) → cond b o None 
 if_found true o x e = (refl, e)
 if_found false o x e = absurd (cc)
 
+-- what one of two searches found, the first or the second found
+pub either_found : {X : Type 0} (P : Type 0) (a b : Option X) (x : X) → (a ≡ Some x → P) → (b ≡ Some x → P) → option_or a b ≡ Some x → P
+either_found P None b x first second e = second e
+either_found P (Some y) b x first second e = first e
+
 -- where a sum is nothing, each term is
 pub sum_nothing : {X : Type 0} (f : X → ℕ) (xs : List X) → sum_by f xs ≡ 0 → All (λ x. f x ≡ 0) xs
 sum_nothing f xs none = λ k d h. omega (arith, get_or-le-sum_by f xs k d h)
@@ -33,6 +39,10 @@ sum_nothing f xs none = λ k d h. omega (arith, get_or-le-sum_by f xs k d h)
 pub nothing_sum : {X : Type 0} (f : X → ℕ) (xs : List X) → All (λ x. f x ≡ 0) xs → sum_by f xs ≡ 0
 nothing_sum f [] none = refl
 nothing_sum f (x ∷ xs) none = omega (arith, sum_by-cons f x xs, none 0 x (omega arith), nothing_sum f xs (λ k d h. none (suc k) d (omega arith)))
+
+-- where none that passes a test passes another one, none of those is counted
+pub apart_count : {X : Type 0} (test other : X → Bool) (xs : List X) → ((x : X) → test x ≡ true → other x ≡ false) → count_by other (filter test xs) ≡ 0
+apart_count test other xs apart = nothing_sum (λ x. ones (other x)) (filter test xs) (λ k d h. ap ones (apart _ (filter_passes test xs k d h)))
 
 -- a sum of two terms
 pub sum_add : {X : Type 0} (f g : X → ℕ) (xs : List X) → sum_by (λ x. f x + g x) xs ≡ sum_by f xs + sum_by g xs

@@ -1,9 +1,6 @@
 -- Two lists mixed into one, each in its own order: what a list keeps beside what it loses, or what it kept beside what came.
 use Rattle.std.proofs.Common.{◌≡◌, ℕ, ◌+◌, Bool, true, false, not, cond, List, [], ◌∷◌, ◌++◌, take, drop, refl, ap, subst, arith, All, filter, insert}
-use Rattle.std.specs.List.{sum_by, count_by}
-use Rattle.std.proofs.lemmas.List.{take-append-drop}
-use Rattle.std.proofs.lemmas.List.Sums.{sum_by-cons}
-use Rattle.std.proofs.lemmas.List.Elements.{All-nil, All-cons, All-head, All-tail}
+use Rattle.space_model.proofs.Words.{sum_by, count_by, take-append-drop, sum_by-cons, All-nil, All-cons, All-head, All-tail}
 
 -- The third list has the elements of the first two, and those of each in their order.
 pub data Mix (X : Type 0) : List X → List X → List X → Type 0 where

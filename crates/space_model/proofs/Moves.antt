@@ -1,20 +1,6 @@
 -- What several operations do: an extent that is found is taken out or put down, or nothing changes.
 use Rattle.std.proofs.Common.{◌≡◌, ℕ, true, false, cond, [], ◌∷◌, Option, Some, None, refl, sym, ◌∙◌, ap, arith, find, ◌==◌}
-use Rattle.std.proofs.lemmas.Bool.{eqb-true}
-use Rattle.std.proofs.lemmas.Bool.Decides.{nat_tests}
-use Rattle.space_model.specs.declared.entries.Op.{Op}
-use Rattle.space_model.specs.declared.entries.Reply.{Reply}
-use Rattle.space_model.specs.declared.entries.Reply.TheVariants.{NoArena, Noted, Whole}
-use Rattle.space_model.specs.declared.parts.Part.{Part}
-use Rattle.space_model.specs.declared.parts.Span.{Span}
-use Rattle.space_model.specs.declared.spaces.Life.{Life}
-use Rattle.space_model.specs.declared.spaces.Life.TheVariants.{Live, Absent, Dying}
-use Rattle.space_model.specs.declared.spaces.Space.{Space}
-use Rattle.space_model.specs.Span.{same_span}
-use Rattle.space_model.specs.Part.{is_flight, is_flight_at, rest_of, taken_out, put_down}
-use Rattle.space_model.specs.Stepped.{Stepped, stays, replaced, whole_at, is_live, if_live}
-use Rattle.space_model.specs.Flights.{flight, lost, won}
-use Rattle.space_model.specs.Sound.{Sound}
+use Rattle.space_model.proofs.Words.{eqb-true, nat_tests, Op, Reply, NoArena, Noted, Whole, Part, Span, Life, Live, Absent, Dying, Space, same_span, is_flight, is_flight_at, rest_of, taken_out, put_down, Stepped, stays, replaced, whole_at, is_live, if_live, flight, lost, won, Sound}
 use Rattle.space_model.proofs.Lists.{find_passes, ones}
 use Rattle.space_model.proofs.Changes.{Does, Plain, Piece, stays_does, put_does}
 use Rattle.space_model.proofs.Pieces.{both_true, put_down-nobody, listed-nobody, Listed, found_fits, Piece-flight, Piece-listed, Piece-down, Piece-taken}

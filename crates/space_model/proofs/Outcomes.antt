@@ -1,38 +1,9 @@
 -- What each operation came to, by its reply.
-use Rattle.std.proofs.Common.{true, false, ◌≡◌, ◌≢◌, ℕ, ◌+◌, ◌-◌, ◌<◌, ◌≤◌, Bool, not, cond, IsTrue, List, [], ◌∷◌, ◌++◌, Option, Some, None, refl, sym, ◌∙◌, ap, subst, arith, find, filter, ◌&&◌, ◌==◌, ltb as nat_lt, append_assoc}
-use Rattle.std.specs.Bool.{beq}
-use Rattle.std.specs.Int.{is_power_of_two}
+use Rattle.std.proofs.Common.{true, false, ◌≡◌, ◌≢◌, ℕ, ◌+◌, ◌-◌, ◌<◌, ◌≤◌, Bool, not, cond, IsTrue, List, [], ◌∷◌, ◌++◌, Option, Some, None, refl, sym, ◌∙◌, ap, subst, arith, find, filter, ◌&&◌, ◌==◌, ltb as nat_lt, append_assoc, inl, inr}
+use Rattle.space_model.proofs.Words.{beq, is_power_of_two, ones_le_self, count_by, option_map, eqb-true, leb-true, sum_by-cons, Ask, Alloc, Commit, Split, Merge, Answer, Done, Refuses, Placed, Heard, Op, Look, CutDone, GrowDone, CommitDone, PutLook, MergeDone, NoArena, Whole, Purge, Why, Part, Rest, ToDirty, ToMuzzy, ToRetained, Span, State, Dirty, Muzzy, Retained, Space, end_of, run_start, holds_run, exchanged, begins_at, is_flight, is_flight_at, is_listed, is_backed, listed, rest_of, put_down, taken_out, next_flight, fit, Stepped, stays, whole_at, is_live, if_live, is_dirty_time_over, is_lazy, joined, begins_either, found_passes, is_yes_or_no, look_at, after_look, kept_piece, other_piece, cut_at, after_cut, cut_stands, new_part, why_not, grow_unless, after_grow, grow_stands, commit_at, after_commit, commit_stands, is_like, is_right_of, is_left_of, neighbour, is_purged, put_at_rest, put_beside, put_at, join_at, apart_at, after_merge, merge_stands, both_merge, may_merge, op_stands, Sound, Outcome, PutDown, Flying, NextFlies, kept_span, LookTook, LookNone, LookNoArena, CutKept, CutWhole, GrowRefused, GrowBad, GrowGrown, CommitNoted, CommitWhole, PutRight, PutLeft, PutPurge, PutNext, MergeJoined}
 use Rattle.std.proofs.Common.{◌≡◌, ℕ, ◌+◌, ◌-◌, ◌<◌, ◌≤◌, Bool, true, false, not, cond, List, [], ◌∷◌, ◌++◌, Option, Some, None, refl, sym, ◌∙◌, ap, subst, arith, filter, find, ◌==◌, append_assoc, count_ones}
-use Rattle.std.proofs.lemmas.Nat.{ones_le_self}
-use Rattle.std.specs.List.{count_by}
-use Rattle.std.specs.Option.{option_map, option_or}
-use Rattle.std.proofs.lemmas.Bool.{eqb-true, leb-true, ltb-true}
-use Rattle.std.proofs.lemmas.List.Sums.{sum_by-cons}
-use Rattle.space_model.specs.declared.asks.Ask.{Ask}
-use Rattle.space_model.specs.declared.asks.Ask.TheVariants.{Alloc, Commit, Split, Merge}
-use Rattle.space_model.specs.declared.asks.Answer.{Answer}
-use Rattle.space_model.specs.declared.asks.Answer.TheVariants.{Done, Refused as Refuses, Placed}
-use Rattle.space_model.specs.declared.asks.Heard.{Heard}
-use Rattle.space_model.specs.declared.entries.Op.{Op}
-use Rattle.space_model.specs.declared.entries.Op.TheVariants.{Look, CutDone, GrowDone, CommitDone, PutLook, MergeDone}
-use Rattle.space_model.specs.declared.entries.Reply.TheVariants.{NoArena, Whole, Purge}
-use Rattle.space_model.specs.declared.entries.Why.{Why}
-use Rattle.space_model.specs.declared.parts.Part.{Part}
-use Rattle.space_model.specs.declared.parts.Rest.{Rest}
-use Rattle.space_model.specs.declared.parts.Rest.TheVariants.{Dirty as ToDirty, Muzzy as ToMuzzy, Retained as ToRetained}
-use Rattle.space_model.specs.declared.parts.Span.{Span}
-use Rattle.space_model.specs.declared.parts.State.{State}
-use Rattle.space_model.specs.declared.parts.State.TheVariants.{Dirty, Muzzy, Retained}
-use Rattle.space_model.specs.declared.spaces.Space.{Space}
-use Rattle.space_model.specs.Span.{end_of, run_start, holds_run, same_span}
-use Rattle.space_model.specs.Part.{exchanged, begins_at, is_flight, is_flight_at, is_listed, is_backed, listed, rest_of, put_down, taken_out, next_flight}
-use Rattle.space_model.specs.Fit.{fit, fit_of, is_best, is_candidate}
-use Rattle.space_model.specs.Stepped.{Stepped, stays, whole_at, is_live, if_live, is_dirty_time_over, is_lazy, joined, begins_either, found_passes, is_yes_or_no}
-use Rattle.space_model.specs.Step.{look_at, after_look, kept_piece, other_piece, cut_at, after_cut, cut_stands, new_part, why_not, grow_unless, after_grow, grow_stands, commit_at, after_commit, commit_stands, is_like, is_right_of, is_left_of, neighbour, is_purged, put_at_rest, put_beside, put_at, join_at, apart_at, after_merge, merge_stands, both_merge, may_merge, op_stands}
-use Rattle.space_model.specs.Sound.{Sound}
-use Rattle.space_model.specs.Outcome.{Outcome, PutDown, Flying, NextFlies, kept_span, LookTook, LookNone, LookNoArena, CutKept, CutWhole, GrowRefused, GrowBad, GrowGrown, CommitNoted, CommitWhole, PutRight, PutLeft, PutPurge, PutNext, MergeJoined}
-use Rattle.space_model.proofs.Lists.{find_passes, if_found, ones}
-use Rattle.space_model.proofs.Pieces.{both_true, found_fits}
+use Rattle.space_model.proofs.Lists.{find_passes, ones}
+use Rattle.space_model.proofs.Pieces.{both_true, found_fits, fit_best, neighbour_side}
 use Rattle.space_model.proofs.Moves.{itself}
 use Rattle.space_model.proofs.Found.{found_span, last_found, last_flies, find_kept, first_found}
 
@@ -75,24 +46,6 @@ next_flies c t =
 
 -- ---- Look
 
--- an extent that fits holds the run
-fit_of-holds : (rest : Rest) (pages align : ℕ) (parts : List Part) (p : Part) → fit_of rest pages align parts ≡ Some p → holds_run pages align p.span ≡ true
-fit_of-holds rest pages align parts p e =
-    let best = find_passes (is_best rest pages align parts) parts p e in
-    let candidate = (both_true (is_candidate rest pages align p) _ best).0 in (both_true _ (holds_run pages align p.span) candidate).1
-
-fit-holds : (pages align : ℕ) (parts : List Part) (p : Part) → fit pages align parts ≡ Some p → holds_run pages align p.span ≡ true
-fit-holds pages align parts p e =
-    elim (fit_of ToDirty pages align parts) as (λ o. (o ≡ Some p → holds_run pages align p.span ≡ true) → option_or o (option_or (fit_of ToMuzzy pages align parts) (fit_of ToRetained pages align parts)) ≡ Some p → holds_run pages align p.span ≡ true) [
-      | Some x ↦ λ dirty h. dirty h
-      | None ↦ λ dirty. elim (fit_of ToMuzzy pages align parts) as (λ o. (o ≡ Some p → holds_run pages align p.span ≡ true) → option_or o (fit_of ToRetained pages align parts) ≡ Some p → holds_run pages align p.span ≡ true) [
-        | Some x ↦ λ muzzy h. muzzy h
-        | None ↦ λ muzzy h. fit_of-holds ToRetained pages align parts p h
-      ]
-          (fit_of-holds ToMuzzy pages align parts p)
-    ]
-    (fit_of-holds ToDirty pages align parts p) e
-
 -- the run begins within the span or above its start
 run_above : (align : ℕ) (s : Span) → 1 ≤ align → s.first ≤ run_start align s
 run_above align s some = grind arith
@@ -105,7 +58,7 @@ align_some align h =
 look_at_comes : (c : ℕ) (s : Space) (pages align : ℕ) (o : Option Part) → fit pages align s.parts ≡ o → 1 ≤ align → Comes c s (Look pages align) (look_at s c align o)
 look_at_comes c s pages align None e some sound = LookNone refl
 look_at_comes c s pages align (Some p) e some sound =
-    let within : run_start align p.span + pages ≤ end_of p.span = leb-true _ _ (fit-holds pages align s.parts p e) in
+    let within : run_start align p.span + pages ≤ end_of p.span = leb-true _ _ (both_true _ (holds_run pages align p.span) (fit_best pages align s.parts p e).2).1 in
     LookTook p.span p.committed (run_start align p.span - p.span.first) (put_flies c s p (taken_out c p) sound (itself c)) (omega (arith, run_above align p.span some, within))
 
 pub look_comes : (c : ℕ) (s : Space) (pages align : ℕ) → op_stands s c (Look pages align) ≡ true → Comes c s (Look pages align) (after_look s c pages align)
@@ -204,8 +157,7 @@ listed_itself ToRetained = refl
 same_committed : (a b : Bool) → beq a b ≡ true → a ≡ b
 same_committed true true h = refl
 same_committed false false h = refl
-same_committed true false h = absurd (cc)
-same_committed false true h = absurd (cc)
+same_committed a b h = absurd (cc)
 
 pub beq_itself : (a : Bool) → beq a a ≡ true
 beq_itself true = refl
@@ -219,6 +171,12 @@ like_merges c p other h =
     let committed : other.committed ≡ p.committed = same_committed _ _ like.1 in
     (rw (rest, committed, listed_itself (rest_of p.state), beq_itself p.committed) refl, rw (rest, committed, listed_itself (rest_of p.state), beq_itself p.committed) refl)
 
+-- the client's extent with a span doesn't begin elsewhere
+begins_else : (c : ℕ) (own : Span) (first : ℕ) → own.first ≢ first → (p : Part) → is_flight_at c own p ≡ true → begins_at first p ≡ false
+begins_else c own first differ p h =
+    let at : p.span.first ≡ own.first = eqb-true _ _ (both_true (p.span.first == own.first) _ (both_true (is_flight c p.state) _ h).1).0 in
+    elim (begins_at first p) as (λ b. begins_at first p ≡ b → b ≡ false) [ false ↦ λ e. refl | true ↦ λ e. absurd (differ (sym at ∙ eqb-true _ _ e)) ] refl
+
 -- A neighbour that is taken out leaves the extent where it was.
 record Neighboured (c : ℕ) (s : Space) (p other : Part) (own : Span) : Type 0 where
   stays : find (is_flight_at c own) (exchanged (begins_at other.span.first) s.parts (taken_out c other ∷ [])) ≡ Some p
@@ -231,17 +189,10 @@ beside_it c s p other own found like differ after =
     let at = found_span c own s.parts p found in
     let gone : Part → Bool = begins_at other.span.first in record {
       stays = find_kept (is_flight_at c own) gone s.parts (taken_out c other ∷ []) p
-          (λ q h. elsewhere q (both_true (is_flight c q.state) _ h).1 at.0) found;
+          (begins_else c own other.span.first (λ e. differ (ap (λ (k : Span). k.first) at.0 ∙ e))) found;
       taken = last_found c (record s { parts = exchanged gone s.parts (taken_out c other ∷ []) }) (filter (λ q. not (gone q)) s.parts) (taken_out c other) after refl (itself c);
       merges = like_merges c p other like;
     }
-  where
-    elsewhere : (q : Part) → same_span q.span own ≡ true → p.span ≡ own → begins_at other.span.first q ≡ false
-    elsewhere q same is =
-        let first : q.span.first ≡ own.first = eqb-true _ _ (both_true (q.span.first == own.first) _ same).0 in
-        let from : p.span.first ≡ own.first = ap (λ (k : Span). k.first) is in
-        elim (begins_at other.span.first q) as (λ b. begins_at other.span.first q ≡ b → b ≡ false)
-        [ false ↦ λ h. refl | true ↦ λ h. absurd (differ (from ∙ sym first ∙ eqb-true _ _ h)) ] refl
 
 -- the neighbour on the right is in flight too
 right_comes : (c : ℕ) (s : Space) (own : Span) (tries : ℕ) (p other : Part) → find (is_flight_at c own) s.parts ≡ Some p → 0 < p.span.pages → tries ≡ 0 →
@@ -279,18 +230,10 @@ left_comes c s own tries p other found some few h sound =
 neighbour_comes : (c : ℕ) (s : Space) (own : Span) (tries : ℕ) (p other : Part) → Sound s → find (is_flight_at c own) s.parts ≡ Some p → neighbour tries p s.parts ≡ Some other →
     Comes c s (PutLook own tries) (put_beside s c p (Some other))
 neighbour_comes c s own tries p other sound found near =
-    let P : Type 0 = Comes c s (PutLook own tries) (put_beside s c p (Some other)) in
-    let some = (found_fits s (is_flight_at c own) p sound found).placed.0 in
-    elim (cond (tries == 0) (find (is_right_of p) s.parts) None) as (λ o. cond (tries == 0) (find (is_right_of p) s.parts) None ≡ o →
-    option_or o (cond (nat_lt tries 2) (find (is_left_of p) s.parts) None) ≡ Some other → P) [
-      | Some x ↦ λ first e.
-          let same : x ≡ other = cc in
-          let at = if_found (tries == 0) (find (is_right_of p) s.parts) other (first ∙ ap Some same) in
-          right_comes c s own tries p other found some (eqb-true _ _ at.0) (find_passes (is_right_of p) s.parts other at.1)
-      | None ↦ λ first e.
-          let at = if_found (nat_lt tries 2) (find (is_left_of p) s.parts) other e in
-          left_comes c s own tries p other found (found_fits s (is_left_of p) other sound at.1).placed.0 (ltb-true _ _ at.0) (find_passes (is_left_of p) s.parts other at.1)
-    ] refl near
+    elim (neighbour_side tries p s.parts other near) [
+      | inl right ↦ right_comes c s own tries p other found (found_fits s (is_flight_at c own) p sound found).placed.0 right.0 (find_passes (is_right_of p) s.parts other right.1)
+      | inr left ↦ left_comes c s own tries p other found (found_fits s (is_left_of p) other sound left.1).placed.0 left.0 (find_passes (is_left_of p) s.parts other left.1)
+    ]
 
 -- where no neighbour is, the extent is to be purged or was put down
 none_comes : (c : ℕ) (s : Space) (own : Span) (tries : ℕ) (p : Part) → Sound s → find (is_flight_at c own) s.parts ≡ Some p → Comes c s (PutLook own tries) (put_beside s c p None)
@@ -317,12 +260,6 @@ put_comes c s own tries (Some p) sound found h =
     [ Some other ↦ λ e. neighbour_comes c s own tries p other sound found e | None ↦ λ e. none_comes c s own tries p sound found ] refl
 
 -- ---- MergeDone
-
--- the client's extent with a span doesn't begin elsewhere
-begins_else : (c : ℕ) (own : Span) (first : ℕ) → own.first ≢ first → (p : Part) → is_flight_at c own p ≡ true → begins_at first p ≡ false
-begins_else c own first differ p h =
-    let at : p.span.first ≡ own.first = eqb-true _ _ (both_true (p.span.first == own.first) _ (both_true (is_flight c p.state) _ h).1).0 in
-    elim (begins_at first p) as (λ b. begins_at first p ≡ b → b ≡ false) [ false ↦ λ e. refl | true ↦ λ e. absurd (differ (sym at ∙ eqb-true _ _ e)) ] refl
 
 join_comes : (c : ℕ) (s : Space) (heard : Heard) (own_low : Bool) (low high : Span) (o u : Option Part) → find (is_flight_at c low) s.parts ≡ o → both_merge o u ≡ true →
     Comes c s (MergeDone heard own_low) (join_at s o u)

@@ -1,21 +1,7 @@
 -- What the states of extents say, and the pieces that operations put in their place.
-use Rattle.std.proofs.Common.{◌≡◌, ℕ, ◌+◌, ◌<◌, ◌≢◌, Bool, true, false, IsTrue, List, [], ◌∷◌, Some, None, refl, subst, arith, find, filter, ◌&&◌, eqb}
-use Rattle.std.specs.List.{sum_by}
-use Rattle.std.specs.Option.{option_or}
-use Rattle.std.proofs.lemmas.List.Sums.{sum_by-cons}
-use Rattle.std.proofs.lemmas.Bool.Decides.{nat_tests}
-use Rattle.space_model.specs.declared.parts.Part.{Part}
-use Rattle.space_model.specs.declared.parts.Rest.{Rest}
-use Rattle.space_model.specs.declared.parts.Rest.TheVariants.{Dirty as ToDirty, Muzzy as ToMuzzy, Retained as ToRetained}
-use Rattle.space_model.specs.declared.parts.State.{State}
-use Rattle.space_model.specs.declared.parts.State.TheVariants.{Active, Dirty, Muzzy, Retained, Flight}
-use Rattle.space_model.specs.declared.spaces.Space.{Space}
-use Rattle.space_model.specs.Span.{IsPlaced, end_of}
-use Rattle.space_model.specs.Part.{is_active, is_listed, is_flight, is_backed, rest_of, listed, taken_out, put_down, begins_at}
-use Rattle.space_model.specs.Fit.{fit, fit_of, is_best, is_candidate}
-use Rattle.space_model.specs.Step.{low_piece, high_piece, joined, begins_either}
-use Rattle.space_model.specs.Sound.{Sound}
-use Rattle.space_model.proofs.Lists.{find_has, find_passes, sum_by-either}
+use Rattle.std.proofs.Common.{◌≡◌, ℕ, ◌+◌, ◌<◌, ◌≢◌, Bool, true, false, IsTrue, List, [], ◌∷◌, Some, None, refl, subst, arith, find, filter, ◌&&◌, eqb, Option, ◌⊎◌, cond, ◌==◌, nat_lt, inl, inr, eqb-true, ltb-true}
+use Rattle.space_model.proofs.Words.{sum_by, sum_by-cons, nat_tests, Part, Rest, ToDirty, ToMuzzy, ToRetained, State, Active, Flight, Space, Region, IsPlaced, end_of, is_active, is_listed, is_flight, is_backed, rest_of, listed, taken_out, put_down, begins_at, fit, fit_of, is_best, is_candidate, low_piece, high_piece, joined, begins_either, neighbour, is_right_of, is_left_of, Sound, is_held_by, is_live}
+use Rattle.space_model.proofs.Lists.{find_has, find_passes, sum_by-either, either_found, if_found}
 use Rattle.space_model.proofs.Exchange.{share}
 use Rattle.space_model.proofs.Changes.{Fits, Piece, one_left}
 
@@ -24,45 +10,37 @@ pub both_true : (a b : Bool) → (a && b) ≡ true → (a ≡ true) × (b ≡ tr
 both_true true b h = (refl, h)
 both_true false b h = absurd (cc)
 
+-- and those of what only a live arena may do
+pub live_and : (s : Space) (b : Bool) → (is_live s.life && b) ≡ true → (is_live s.life ≡ true) × (b ≡ true)
+live_and s b h = both_true (is_live s.life) b h
+
 -- a listed extent isn't active
 pub listed-idle : (rest : Rest) (state : State) → is_listed rest state ≡ true → is_active state ≡ false
 listed-idle rest Active h = elim rest as (λ r. is_listed r Active ≡ true → is_active Active ≡ false) [ ToDirty ↦ λ e. absurd (cc) | ToMuzzy ↦ λ e. absurd (cc) | ToRetained ↦ λ e. absurd (cc) ] h
-listed-idle rest Dirty h = refl
-listed-idle rest Muzzy h = refl
-listed-idle rest Retained h = refl
-listed-idle rest (Flight c r) h = refl
+listed-idle rest state h = refl
 
 -- an extent in flight isn't active
 pub flight-idle : (c : ℕ) (state : State) → is_flight c state ≡ true → is_active state ≡ false
 flight-idle c Active h = absurd (cc)
-flight-idle c Dirty h = refl
-flight-idle c Muzzy h = refl
-flight-idle c Retained h = refl
-flight-idle c (Flight d r) h = refl
+flight-idle c state h = refl
 
 -- an extent that is put down belongs where it belonged, and isn't active
 pub put_down-rest : (rest : Rest) → rest_of (listed rest) ≡ rest
 put_down-rest ToDirty = refl
-put_down-rest ToMuzzy = refl
-put_down-rest ToRetained = refl
+put_down-rest rest = refl
 
 pub put_down-idle : (rest : Rest) → is_active (listed rest) ≡ false
 put_down-idle ToDirty = refl
-put_down-idle ToMuzzy = refl
-put_down-idle ToRetained = refl
+put_down-idle rest = refl
 
 pub put_down-nobody : (d : ℕ) (rest : Rest) → is_flight d (listed rest) ≡ false
 put_down-nobody d ToDirty = refl
-put_down-nobody d ToMuzzy = refl
-put_down-nobody d ToRetained = refl
+put_down-nobody d rest = refl
 
 -- a listed extent is nobody's flight
 pub listed-nobody : (d : ℕ) (rest : Rest) (state : State) → is_listed rest state ≡ true → is_flight d state ≡ false
-listed-nobody d rest Active h = refl
-listed-nobody d rest Dirty h = refl
-listed-nobody d rest Muzzy h = refl
-listed-nobody d rest Retained h = refl
 listed-nobody d rest (Flight c r) h = elim rest as (λ x. is_listed x (Flight c r) ≡ true → is_flight d (Flight c r) ≡ false) [ ToDirty ↦ λ e. absurd (cc) | ToMuzzy ↦ λ e. absurd (cc) | ToRetained ↦ λ e. absurd (cc) ] h
+listed-nobody d rest state h = refl
 
 -- two numbers that differ aren't both the same as a third
 pub different : (e c d : ℕ) → eqb e c ≡ true → d ≢ c → eqb e d ≡ false
@@ -74,11 +52,21 @@ not_both d c other = grind (arith, nat_tests)
 
 -- two clients that differ have no flight in common
 pub others-flight : (c d : ℕ) (state : State) → d ≢ c → is_flight c state ≡ true → is_flight d state ≡ false
-others-flight c d Active other h = absurd (cc)
-others-flight c d Dirty other h = absurd (cc)
-others-flight c d Muzzy other h = absurd (cc)
-others-flight c d Retained other h = absurd (cc)
 others-flight c d (Flight e r) other h = different e c d h other
+others-flight c d state other h = absurd (cc)
+
+-- an active extent is nobody's flight
+pub active_own : (d : ℕ) (state : State) → is_active state ≡ true → is_flight d state ≡ false
+active_own d Active h = refl
+active_own d state h = absurd (cc)
+
+-- a region that one client holds isn't another one's
+pub held_by_one : (c d : ℕ) (r : Region) → d ≢ c → is_held_by c r ≡ true → is_held_by d r ≡ false
+held_by_one c d r other h = apart r.holder h
+  where
+    apart : (holder : Option ℕ) → is_held_by c (record r { holder = holder }) ≡ true → is_held_by d (record r { holder = holder }) ≡ false
+    apart None h = refl
+    apart (Some e) h = different e c d h other
 
 -- what a fit found: a listed extent, by some test
 pub record Listed (parts : List Part) (p : Part) : Type 0 where
@@ -87,23 +75,28 @@ pub record Listed (parts : List Part) (p : Part) : Type 0 where
   pub rest : Rest
   pub is_in : is_listed rest p.state ≡ true
 
-fit_of-listed : (rest : Rest) (pages align : ℕ) (parts : List Part) (p : Part) → fit_of rest pages align parts ≡ Some p → Listed parts p
-fit_of-listed rest pages align parts p e =
-    let best = find_passes (is_best rest pages align parts) parts p e in
-    let candidate = (both_true (is_candidate rest pages align p) _ best).0 in
-    record { test = is_best rest pages align parts; found = e; rest = rest; is_in = (both_true (is_listed rest p.state) _ candidate).0 }
+-- a fit is the best extent of one of the lists
+pub fit_best : (pages align : ℕ) (parts : List Part) (p : Part) → fit pages align parts ≡ Some p →
+    (rest : Rest) × (fit_of rest pages align parts ≡ Some p) × (is_candidate rest pages align p ≡ true)
+fit_best pages align parts p e =
+    let P : Type 0 = (rest : Rest) × (fit_of rest pages align parts ≡ Some p) × (is_candidate rest pages align p ≡ true) in
+    let best : (rest : Rest) → fit_of rest pages align parts ≡ Some p → P =
+    λ rest k. (rest, k, (both_true (is_candidate rest pages align p) _ (find_passes (is_best rest pages align parts) parts p k)).0) in
+    either_found P (fit_of ToDirty pages align parts) _ p (best ToDirty)
+    (either_found P (fit_of ToMuzzy pages align parts) (fit_of ToRetained pages align parts) p (best ToMuzzy) (best ToRetained)) e
 
 pub fit-listed : (pages align : ℕ) (parts : List Part) (p : Part) → fit pages align parts ≡ Some p → Listed parts p
 fit-listed pages align parts p e =
-    elim (fit_of ToDirty pages align parts) as (λ o. (o ≡ Some p → Listed parts p) → option_or o (option_or (fit_of ToMuzzy pages align parts) (fit_of ToRetained pages align parts)) ≡ Some p → Listed parts p) [
-      | Some x ↦ λ dirty h. dirty h
-      | None ↦ λ dirty. elim (fit_of ToMuzzy pages align parts) as (λ o. (o ≡ Some p → Listed parts p) → option_or o (fit_of ToRetained pages align parts) ≡ Some p → Listed parts p) [
-        | Some x ↦ λ muzzy h. muzzy h
-        | None ↦ λ muzzy h. fit_of-listed ToRetained pages align parts p h
-      ]
-          (fit_of-listed ToMuzzy pages align parts p)
-    ]
-    (fit_of-listed ToDirty pages align parts p) e
+    let best = fit_best pages align parts p e in
+    record { test = is_best best.0 pages align parts; found = best.1; rest = best.0; is_in = (both_true (is_listed best.0 p.state) _ best.2).0 }
+
+-- a neighbour stands on the right at the first try, or on the left at one of the first two
+pub neighbour_side : (tries : ℕ) (p : Part) (parts : List Part) (other : Part) → neighbour tries p parts ≡ Some other →
+    ((tries ≡ 0) × (find (is_right_of p) parts ≡ Some other)) ⊎ ((tries < 2) × (find (is_left_of p) parts ≡ Some other))
+neighbour_side tries p parts other e =
+    either_found _ (cond (tries == 0) (find (is_right_of p) parts) None) (cond (nat_lt tries 2) (find (is_left_of p) parts) None) other
+    (λ k. let found = if_found (tries == 0) (find (is_right_of p) parts) other k in inl (eqb-true _ _ found.0, found.1))
+    (λ k. let found = if_found (nat_lt tries 2) (find (is_left_of p) parts) other k in inr (ltb-true _ _ found.0, found.1)) e
 
 -- a page of an extent is below a cut or above it
 pub cut_shares : (page left : ℕ) (p : Part) → 0 < left → left < p.span.pages →

@@ -1,38 +1,10 @@
 -- What the operations of a purge do: an extent is taken out by age, changes its list or its commit state, is offered, or comes back.
 use Rattle.std.proofs.Common.{true, false, ◌≡◌, ◌≢◌, ℕ, ◌+◌, ◌≤◌, Bool, not, cond, IsTrue, List, [], ◌∷◌, ◌++◌, Option, Some, None, refl, sym, ◌∙◌, ap, subst, arith, All, filter, find, suc, take, drop, ◌&&◌, ◌||◌, ◌==◌, ltb as nat_lt, append-nil}
-use Rattle.std.specs.List.{sum_by, list_any, position_or_len}
-use Rattle.std.specs.Option.{is_some}
-use Rattle.std.proofs.lemmas.Bool.{eqb-true}
-use Rattle.std.proofs.lemmas.List.Sums.{sum_by-cons, sum_by-append}
-use Rattle.std.proofs.lemmas.List.Elements.{All-cons, All-nil, All-append, All-head, All-tail, All-take, All-drop, filter-append}
-use Rattle.space_model.specs.declared.asks.Ask.{Ask}
-use Rattle.space_model.specs.declared.asks.Ask.TheVariants.{Dalloc, Decommit, PurgeLazy}
-use Rattle.space_model.specs.declared.asks.Answer.{Answer}
-use Rattle.space_model.specs.declared.asks.Answer.TheVariants.{Done, Refused as Refuses}
-use Rattle.space_model.specs.declared.asks.Heard.{Heard}
-use Rattle.space_model.specs.declared.entries.Op.{Op}
-use Rattle.space_model.specs.declared.entries.Op.TheVariants.{PurgeTake, LazyDone, Offer, OfferDone, DecommitDone}
-use Rattle.space_model.specs.declared.entries.Reply.{Reply}
-use Rattle.space_model.specs.declared.entries.Reply.TheVariants.{Noted, Nothing, Kept, Abandoned}
-use Rattle.space_model.specs.declared.parts.Offered.{Offered}
-use Rattle.space_model.specs.declared.parts.Part.{Part}
-use Rattle.space_model.specs.declared.parts.Rest.{Rest}
-use Rattle.space_model.specs.declared.parts.Rest.TheVariants.{Dirty as ToDirty, Muzzy as ToMuzzy, Retained as ToRetained}
-use Rattle.space_model.specs.declared.parts.Span.{Span}
-use Rattle.space_model.specs.declared.parts.State.TheVariants.{Flight as InFlight}
-use Rattle.space_model.specs.declared.spaces.Space.{Space}
-use Rattle.space_model.specs.Span.{IsPlaced, has_page, meets, same_span}
-use Rattle.space_model.specs.Part.{holders, begins_at, is_listed, is_flight_at, is_backed, listed, rest_of, next_flight, pages_listed}
-use Rattle.space_model.specs.Stepped.{stays, replaced, is_live, found_passes}
-use Rattle.space_model.specs.Purging.{purge_at, after_purge_take, lazy_at, after_lazy, lazy_stands, offer_of, offer_at, is_offer, without_offer, is_regranted, after_offer, offer_stands, decommit_at, after_decommit, decommit_stands}
-use Rattle.space_model.specs.Journal.{granted_by, is_in_dalloc}
-use Rattle.space_model.specs.Flights.{flight, lost, won}
-use Rattle.space_model.specs.Sound.{Sound}
-use Rattle.space_model.proofs.Lists.{false_true, find_passes, ones, without_first}
+use Rattle.space_model.proofs.Words.{list_any, position_or_len, is_some, eqb-true, All-cons, All-nil, All-append, All-head, All-tail, All-take, All-drop, filter-append, Ask, Dalloc, Decommit, PurgeLazy, Answer, Done, Refuses, Heard, Op, PurgeTake, LazyDone, Offer, OfferDone, DecommitDone, Reply, Noted, Nothing, Kept, Abandoned, Offered, Part, Rest, ToDirty, ToMuzzy, ToRetained, Span, Flight as InFlight, Space, IsPlaced, has_page, meets, same_span, holders, is_listed, is_flight_at, is_backed, listed, rest_of, next_flight, pages_listed, stays, replaced, is_live, found_passes, purge_at, after_purge_take, lazy_at, after_lazy, lazy_stands, offer_of, offer_at, is_offer, without_offer, is_regranted, after_offer, offer_stands, decommit_at, after_decommit, decommit_stands, granted_by, is_in_dalloc, flight, lost, won, Sound}
+use Rattle.space_model.proofs.Lists.{false_true, find_passes, ones, without_first, or_false}
 use Rattle.space_model.proofs.Exchange.{share}
 use Rattle.space_model.proofs.Growth.{nobody_holds}
-use Rattle.space_model.proofs.Mixes.{Mix, mix_sum, mixed_first, mixed_filter, mixed_append}
-use Rattle.space_model.proofs.Changes.{Does, Frame, Piece, trade, lawful_trade, put_does, frame_does, one_left, live_quiet, sound_ranges, pages_more, pages_fewer}
+use Rattle.space_model.proofs.Changes.{Does, Frame, Piece, put_does, frame_does, live_quiet, sound_ranges, go_does, come_does}
 use Rattle.space_model.proofs.Pieces.{both_true, different, not_both}
 use Rattle.space_model.proofs.Moves.{Flight, flight_at, live_is, itself, still, live_does, taken_does}
 
@@ -133,41 +105,15 @@ pub offer_does : (c : ℕ) (s : Space) (span : Span) (o : Option Part) → find 
 offer_does c s span None e sound live h = absurd (cc)
 offer_does c s span (Some p) e sound live h =
     let at = flight_at c s span p sound live e in
-    let gone = begins_at p.span.first in
     let t : Space = (offer_at s c (Some p)).after in
-    let stay : List Part = filter (λ q. not (gone q)) s.parts in
-    let went : Mix Part stay (filter gone s.parts) s.parts = mixed_filter gone s.parts in
-    let came : Mix Part stay [] t.parts = mixed_append stay [] in
-    let left = one_left s (is_flight_at c span) p sound e in
-    let fewer : (f : Part → ℕ) → sum_by f t.parts + f p ≡ sum_by f s.parts = λ f. omega (arith, mix_sum f went, mix_sum f came, left f, sum_by-cons f p []) in
     let flies : flight c p ≡ 1 = ap ones at.own in
-    record {
-      change = trade s stay (filter gone s.parts) [];
-      lawful = lawful_trade {old = p ∷ []} sound (record {
-        went = went;
-        came = came;
-        regions = refl;
-        left = left;
-        own = All-cons (Piece c) p [] at.piece (All-nil (Piece c));
-        fits = All-nil (Piece c);
-        owners = λ page. omega (arith, fewer (share page), sound.owners page);
-        frame = offer_frame c s t.parts t.offers sound
-            (All-append (λ o. IsPlaced o.span) s.offers (offer_of c p ∷ []) sound.offered (All-cons (λ o. IsPlaced o.span) (offer_of c p) [] at.piece.fits.placed (All-nil (λ o. IsPlaced o.span))))
-            (λ d other. filter-append (λ o. o.client == d) s.offers (offer_of c p ∷ []) ∙ ap (λ b. filter (λ (o : Offered). o.client == d) s.offers ++ cond b (offer_of c p ∷ []) []) (not_both d c other) ∙ append-nil _);
-        quiet = live_quiet s t at.live refl;
-      });
-      pages = λ page before h.
-          pages_fewer page (holders page s.parts) (holders page t.parts) before p (fewer (share page)) h
-          ∙ ap (λ b. ones (before && not b)) (same_page page p.span span at.first at.pages);
-      flew = omega (arith, fewer (flight c), flies);
-    }
+    go_does c s t (Offer span) Noted (is_flight_at c span) p sound e at.piece refl refl
+    (offer_frame c s t.parts t.offers sound
+    (All-append (λ o. IsPlaced o.span) s.offers (offer_of c p ∷ []) sound.offered (All-cons (λ o. IsPlaced o.span) (offer_of c p) [] at.piece.fits.placed (All-nil (λ o. IsPlaced o.span))))
+    (λ d other. filter-append (λ o. o.client == d) s.offers (offer_of c p ∷ []) ∙ ap (λ b. filter (λ (o : Offered). o.client == d) s.offers ++ cond b (offer_of c p ∷ []) []) (not_both d c other) ∙ append-nil _))
+    (live_quiet s t at.live refl) (λ page before. ap (λ b. before && not b) (sym (same_page page p.span span at.first at.pages))) (omega (arith, flies))
 
 -- ---- OfferDone
-
--- what is said of either that isn't so isn't so of the second
-or_false : (a b : Bool) → (a || b) ≡ false → b ≡ false
-or_false true b h = absurd (cc)
-or_false false b h = h
 
 -- an offer of the client's isn't another one's
 others_offer : (c d : ℕ) (span : Span) (committed : Bool) (o : Offered) → d ≢ c → is_offer c span committed o ≡ true → (o.client == d) ≡ false
@@ -213,26 +159,9 @@ kept_does c s heard found span committed is sound live placed fresh =
     λ page. elim (has_page page span) as (λ b. has_page page span ≡ b → holders page s.parts + ones b ≤ 1)
     [ false ↦ λ h. omega (arith, sound.owners page) | true ↦ λ h. omega (arith, nobody_holds page span s.parts free h) ] refl in
     let flies : flight c p ≡ 1 = ap ones (itself c) in
-    let more : (f : Part → ℕ) → sum_by f t.parts ≡ sum_by f s.parts + f p = λ f. omega (arith, sum_by-append f s.parts (p ∷ []), sum_by-cons f p []) in
-    record {
-      change = trade s s.parts [] (p ∷ []);
-      lawful = lawful_trade {old = []} sound (record {
-        went = mixed_first s.parts;
-        came = mixed_append s.parts (p ∷ []);
-        regions = refl;
-        left = λ f. refl;
-        own = All-nil (Piece c);
-        fits = All-cons (Piece c) p []
-            (record { idle = refl; fits = record { placed = placed; backed = λ h. absurd (false_true h) }; own = λ d other. not_both d c other }) (All-nil (Piece c));
-        owners = λ page. omega (arith, more (share page), most page);
-        frame = taken_frame c s span committed t.parts sound;
-        quiet = live_quiet s t (live_is s.life live) refl;
-      });
-      pages = λ page before h.
-          pages_more page (holders page s.parts) (holders page t.parts) before p (more (share page)) (most page) h
-          ∙ ap (λ ask. ones (before || is_in_dalloc page ask)) (sym is);
-      flew = omega (arith, more (flight c), flies);
-    }
+    come_does c s t (OfferDone heard found) Kept p sound refl refl
+    (record { idle = refl; fits = record { placed = placed; backed = λ h. absurd (false_true h) }; own = λ d other. not_both d c other }) most
+    (taken_frame c s span committed t.parts sound) (live_quiet s t (live_is s.life live) refl) (λ page before. ap (λ ask. before || is_in_dalloc page ask) is) (omega (arith, flies))
 
 pub offer_done_does : (c : ℕ) (s : Space) (heard : Heard) (found : Option ℕ) (ask : Ask) (answer : Answer) → heard.ask ≡ ask → Sound s → is_live s.life ≡ true →
     offer_stands s c ask answer ≡ true → Does c s (OfferDone heard found) (after_offer s c found ask answer)

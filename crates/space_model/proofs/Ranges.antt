@@ -1,6 +1,6 @@
 -- Lists of numbers that count up.
 use Rattle.std.proofs.Common.{◌≡◌, ℕ, zero, suc, ◌+◌, [], ◌∷◌, ◌++◌, ap, arith, add-one}
-use Rattle.std.specs.List.{range_with_len}
+use Rattle.space_model.proofs.Words.{range_with_len}
 
 -- one more number stands at the end
 range_with_len-suc : (a n b : ℕ) → a + n ≡ b → range_with_len a (suc n) ≡ range_with_len a n ++ b ∷ []

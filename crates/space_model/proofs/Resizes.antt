@@ -1,44 +1,14 @@
 -- What the operations of a resize do: they look for pages behind a large region, join them to it, or cut some off.
 use Rattle.std.proofs.Common.{true, false, ◌≡◌, ◌≢◌, ℕ, ◌+◌, ◌-◌, ◌<◌, ◌≤◌, Bool, not, cond, List, [], ◌∷◌, get_or, Option, Some, None, refl, sym, ◌∙◌, ap, subst, arith, All, find, filter, ◌&&◌, ◌==◌, leb as nat_le, ltb as nat_lt}
-use Rattle.std.specs.List.{sum_by, count_by, position_or_len}
-use Rattle.std.specs.Option.{option_map, option_and_then}
-use Rattle.std.proofs.lemmas.Bool.{eqb-true, leb-true, ltb-true}
-use Rattle.std.proofs.lemmas.List.Sums.{sum_by-cons}
-use Rattle.std.proofs.lemmas.List.Elements.{All-weaker, All-cons, All-nil}
-use Rattle.size_classes.specs.Classes.{pages_at}
-use Rattle.size_classes.proofs.Table.{size_bounds, large_size}
-use Rattle.space_model.specs.declared.asks.Ask.{Ask}
-use Rattle.space_model.specs.declared.asks.Ask.TheVariants.{Merge, Split}
-use Rattle.space_model.specs.declared.asks.Answer.{Answer}
-use Rattle.space_model.specs.declared.asks.Answer.TheVariants.{Done, Refused as Refuses}
-use Rattle.space_model.specs.declared.asks.Heard.{Heard}
-use Rattle.space_model.specs.declared.entries.Reply.{Reply}
-use Rattle.space_model.specs.declared.entries.Op.TheVariants.{Widen, JoinDone, TrimDone}
-use Rattle.space_model.specs.declared.entries.Reply.TheVariants.{Noted, Nothing, Whole}
-use Rattle.space_model.specs.declared.parts.Part.{Part}
-use Rattle.space_model.specs.declared.parts.Region.{Region}
-use Rattle.space_model.specs.declared.parts.Span.{Span}
-use Rattle.space_model.specs.declared.parts.State.{State}
-use Rattle.space_model.specs.declared.parts.State.TheVariants.{Active, Dirty, Muzzy, Retained, Flight as InFlight}
-use Rattle.space_model.specs.declared.spaces.Space.{Space}
-use Rattle.space_model.specs.Span.{IsPlaced, end_of, has_page, same_span}
-use Rattle.space_model.specs.Part.{holders, exchanged, begins_at, is_active, is_flight, is_flight_at, taken_out, is_listed, is_unused, rest_of}
-use Rattle.space_model.specs.Region.{address_of, houses, homes, residents, is_held_by, starts_at}
-use Rattle.space_model.specs.Clients.{is_in, without_client}
-use Rattle.space_model.specs.Stepped.{stays, is_live, is_yes_or_no, found_passes, low_piece, high_piece, joined, begins_either}
-use Rattle.space_model.specs.Flights.{flight, lost, won}
-use Rattle.space_model.specs.Resizing.{is_large_at, with_home, large_home, reclassed, is_spare, is_open, widen_by, widen_at, after_widen, is_large_class, has_large, widened_at, after_join, join_stands, trimmed_at, after_trim_done, trim_done_stands}
-use Rattle.space_model.specs.Sound.{Sound, IsQuiet}
+use Rattle.space_model.proofs.Words.{sum_by, count_by, position_or_len, option_map, option_and_then, eqb-true, leb-true, ltb-true, sum_by-cons, All-weaker, All-cons, All-nil, pages_at, size_bounds, large_size, Ask, Merge, Split, Answer, Done, Refuses, Heard, Reply, Widen, JoinDone, TrimDone, Noted, Nothing, Whole, Part, Region, Span, State, Active, Flight as InFlight, Space, IsPlaced, end_of, has_page, same_span, holders, exchanged, begins_at, is_active, is_flight, is_flight_at, taken_out, is_listed, is_unused, rest_of, address_of, houses, homes, residents, is_held_by, starts_at, is_in, without_client, stays, is_live, is_yes_or_no, found_passes, low_piece, high_piece, joined, begins_either, flight, lost, won, is_large_at, with_home, large_home, reclassed, is_spare, is_open, widen_by, widen_at, after_widen, is_large_class, has_large, widened_at, after_join, join_stands, trimmed_at, after_trim_done, trim_done_stands, Sound, IsQuiet}
 use Rattle.space_model.proofs.Lists.{all_sum_le, find_has, find_passes, ones, only_one, sum_nothing}
 use Rattle.space_model.proofs.Exchange.{share}
 use Rattle.space_model.proofs.Mixes.{Mix, mix_sum, mix_first, mix_filter, mixed_first, mixed_filter, mixed_append, mixed_insert}
 use Rattle.space_model.proofs.Ordered.{Ordered, ordered-filter, ordered-inserted}
 use Rattle.space_model.proofs.Settled.{Settled, Used, LargeAt, serves, serves_by, covered, covers_start, idle_settled, both_settled}
 use Rattle.space_model.proofs.Changes.{Does, Plain, IsLawful, Frame, Fits, Piece, pieces_home, pieces_own, one_left, lawful_sums, kept_frame, live_quiet, sound_ranges}
-use Rattle.space_model.proofs.Pieces.{both_true, Listed, found_fits, two_left, joined_share, cut_shares, Fits-joined, Fits-low, Fits-high, Piece-taken}
+use Rattle.space_model.proofs.Pieces.{both_true, Listed, found_fits, two_left, joined_share, cut_shares, Fits-joined, Fits-low, Fits-high, Piece-taken, active_own, held_by_one}
 use Rattle.space_model.proofs.Landing.{eqb_itself, ones_most, one_settled}
-use Rattle.space_model.proofs.Holdings.{held_apart}
-use Rattle.space_model.proofs.Endings.{active_own}
 use Rattle.space_model.proofs.Moves.{live_is, itself, flight_at, still, taken_does, whole_does}
 use Rattle.space_model.proofs.Settings.{client_does, without_others}
 
@@ -47,10 +17,8 @@ use Rattle.space_model.proofs.Settings.{client_does, without_others}
 -- an unused extent is listed where it belongs
 unused_listed : (state : State) → is_unused state ≡ true → is_listed (rest_of state) state ≡ true
 unused_listed Active h = absurd (cc)
-unused_listed Dirty h = refl
-unused_listed Muzzy h = refl
-unused_listed Retained h = refl
 unused_listed (InFlight e rest) h = absurd (cc)
+unused_listed state h = refl
 
 spare_listed : (page pages : ℕ) (parts : List Part) (p : Part) → find (is_spare page pages) parts ≡ Some p → Listed parts p
 spare_listed page pages parts p e =
@@ -181,7 +149,7 @@ resize_lawful {c} {s} {t} {r} {p} {class} {gone} {others} {new} sound x =
           mix_filter (λ q. is_flight d q.state) came (x.grounded d differ)
           ∙ sym (mix_filter (λ q. is_flight d q.state) went (omega (arith, x.left (λ q. ones (is_flight d q.state)), nobody, pieces_own c d others differ x.own)));
       held = λ d differ.
-          let nobody : ones (is_held_by d r) ≡ 0 = ap ones (held_apart c d r differ x.held) in
+          let nobody : ones (is_held_by d r) ≡ 0 = ap ones (held_by_one c d r differ x.held) in
           mix_filter (is_held_by d) landed (omega (arith, nobody, sum_by-cons (λ q. ones (is_held_by d q)) other []))
           ∙ sym (mix_filter (is_held_by d) less (omega (arith, one (λ q. ones (is_held_by d q)), nobody)));
       ordered = subst (λ (rs : List Region). Ordered rs) (sym x.regions) (ordered-inserted other rest (ordered-filter (λ q. not (starts_at r.addr q)) s.regions sound.ordered));

@@ -1,25 +1,17 @@
 -- Lists of clients: that each is in them once, and how many there may be.
 use Rattle.std.proofs.Common.{◌≡◌, ℕ, zero, suc, ◌+◌, ◌<◌, ◌≤◌, Bool, true, false, cond, ◌||◌, List, [], ◌∷◌, ◌++◌, filter, length, nat_eq, refl, sym, ◌∙◌, arith, length-append}
-use Rattle.std.specs.List.{list_any, IsDistinct, AllByRecursion, range_with_len}
-use Rattle.std.proofs.lemmas.Bool.{eqb-true}
-use Rattle.std.proofs.lemmas.Bool.Decides.{nat_tests}
-use Rattle.std.proofs.lemmas.List.Folds.{list_any-append}
-use Rattle.std.proofs.lemmas.Map.Steps.{length-le_from_distinct_below}
-use Rattle.space_model.specs.Clients.{is_in, IsRoster}
+use Rattle.space_model.proofs.Words.{list_any, AllByRecursion, range_with_len, eqb-true, nat_tests, list_any-append, length-le_from_distinct_below, is_in, IsRoster, recursion_from_All, All-from_recursion, All-filter, All-push}
+use Rattle.space_model.proofs.Lists.{counted_any, any_counts}
+use Rattle.space_model.proofs.Mixes.{mix_sum, mixed_filter}
+use Rattle.std.specs.List.{IsDistinct}
 
 -- what holds of all elements holds of those that a filter keeps
 each-filter : {X : Type 0} (P : X → Type 0) (test : X → Bool) (xs : List X) → AllByRecursion P xs → AllByRecursion P (filter test xs)
-each-filter P test [] h = tt
-each-filter P test (x ∷ xs) h =
-    elim (test x) as (λ b. AllByRecursion P (cond b (x ∷ filter test xs) (filter test xs))) [
-      | true ↦ (h.0, each-filter P test xs h.1)
-      | false ↦ each-filter P test xs h.1
-    ]
+each-filter P test xs h = recursion_from_All P (filter test xs) (All-filter test P xs (All-from_recursion P xs h))
 
 -- and of one more where it holds of that
 each-push : {X : Type 0} (P : X → Type 0) (xs : List X) (y : X) → AllByRecursion P xs → P y → AllByRecursion P (xs ++ y ∷ [])
-each-push P [] y h here = (here, tt)
-each-push P (x ∷ xs) y h here = (h.0, each-push P xs y h.1 here)
+each-push P xs y h here = recursion_from_All P (xs ++ y ∷ []) (All-push P xs y (All-from_recursion P xs h) here)
 
 distinct-filter : (test : ℕ → Bool) (xs : List ℕ) → IsDistinct nat_eq xs → IsDistinct nat_eq (filter test xs)
 unfolding IsDistinct
@@ -41,15 +33,8 @@ distinct-push c (x ∷ xs) h new =
 
 -- a member of a filtered list is one of the list
 member-filter : (c : ℕ) (test : ℕ → Bool) (xs : List ℕ) → list_any (nat_eq c) (filter test xs) ≡ true → list_any (nat_eq c) xs ≡ true
-member-filter c test [] h = h
-member-filter c test (x ∷ xs) h =
-    elim (test x) as (λ b. list_any (nat_eq c) (cond b (x ∷ filter test xs) (filter test xs)) ≡ true → (nat_eq c x || list_any (nat_eq c) xs) ≡ true) [
-      | true ↦ λ k. elim (nat_eq c x) as (λ d. (d || list_any (nat_eq c) (filter test xs)) ≡ true → (d || list_any (nat_eq c) xs) ≡ true) [
-        | true ↦ λ k. refl
-        | false ↦ λ k. member-filter c test xs k
-      ] k
-      | false ↦ λ k. elim (nat_eq c x) as (λ d. (d || list_any (nat_eq c) xs) ≡ true) [ true ↦ refl | false ↦ member-filter c test xs k ]
-    ] h
+member-filter c test xs h =
+    counted_any (nat_eq c) xs (omega (arith, any_counts (nat_eq c) (filter test xs) h, mix_sum (λ x. cond (nat_eq c x) 1 0) (mixed_filter test xs)))
 
 pub IsRoster-filter : (test : ℕ → Bool) (xs : List ℕ) → IsRoster xs → IsRoster (filter test xs)
 IsRoster-filter test xs h = record {
@@ -88,6 +73,6 @@ range_misses c low (suc n) h =
     let rest : is_in c (range_with_len (low + 1) n) ≡ false = range_misses c (low + 1) n (omega arith) in
     grind (arith, nat_tests)
 
-pub IsRoster-none : IsRoster []
+pub empty_roster : IsRoster []
 unfolding IsDistinct
-IsRoster-none = record { once = tt; below = λ c h. cc }
+empty_roster = record { once = tt; below = λ c h. cc }

@@ -1,33 +1,6 @@
 -- What settings, moments and trims do: nothing to extents and regions.
 use Rattle.std.proofs.Common.{true, false, ◌≡◌, ◌≢◌, ℕ, ◌+◌, ◌<◌, ◌≤◌, not, cond, List, [], ◌∷◌, ◌++◌, refl, sym, ap, subst, arith, ℤ, pos, negsuc, ◌≤ℤ◌, All, AllPairs, rules, Some, None, ◌*◌, ◌/◌, ◌-◌, ◌&&◌, ◌||◌, ◌==◌, ltb as nat_lt, leb as nat_le}
-use Rattle.std.specs.List.{list_any}
-use Rattle.std.proofs.lemmas.Bool.{eqb-true, ltb-true, leb-true}
-use Rattle.std.proofs.lemmas.Bool.Decides.{nat_tests}
-use Rattle.std.proofs.lemmas.List.Elements.{All-weaker, All-push}
-use Rattle.std.proofs.lemmas.List.Quantifiers.{all_pairs_push}
-use Rattle.space_model.specs.declared.entries.Op.{Op}
-use Rattle.space_model.specs.declared.entries.Op.TheVariants.{Set, Trim, Advance}
-use Rattle.space_model.specs.declared.entries.Reply.{Reply}
-use Rattle.space_model.specs.declared.entries.Reply.TheVariants.{Noted, Nothing}
-use Rattle.space_model.specs.declared.entries.Setting.{Setting}
-use Rattle.space_model.specs.declared.entries.Setting.TheVariants.{DirtyMs, MuzzyMs, HookBox, Bind, Unbind, GrowLimit, Live as MakeLive}
-use Rattle.space_model.specs.declared.parts.Rest.TheVariants.{Dirty as ToDirty, Muzzy as ToMuzzy}
-use Rattle.space_model.specs.declared.spaces.Added.{Added}
-use Rattle.space_model.specs.declared.spaces.Pace.{Pace}
-use Rattle.space_model.specs.declared.spaces.Life.{Life}
-use Rattle.space_model.specs.declared.spaces.Life.TheVariants.{Live, Absent, Dying}
-use Rattle.space_model.specs.declared.spaces.Space.{Space}
-use Rattle.space_model.specs.Span.{pages_end}
-use Rattle.space_model.specs.Part.{pages_listed}
-use Rattle.space_model.specs.Pace.{with_new, passed, passed_if_any, advanced_in, advance_all, after_advance}
-use Rattle.space_model.specs.Opening.{new_pace}
-use Rattle.space_model.specs.Own.{is_dying}
-use Rattle.space_model.specs.Stepped.{stays, is_live}
-use Rattle.space_model.specs.Clients.{is_in, with_client, without_client}
-use Rattle.space_model.specs.Settings.{is_absent, made_live, after_set, is_decay_time, setting_stands}
-use Rattle.space_model.specs.Resizing.{after_trim}
-use Rattle.space_model.specs.Sound.{Sound, IsPaced}
-use Rattle.space_model.specs.Flights.{lost, won}
+use Rattle.space_model.proofs.Words.{list_any, eqb-true, ltb-true, leb-true, nat_tests, All-weaker, All-push, all_pairs_push, Op, Set, Trim, Advance, Reply, Noted, Nothing, Setting, DirtyMs, MuzzyMs, HookBox, Bind, Unbind, GrowLimit, MakeLive, ToDirty, ToMuzzy, Added, Pace, Life, Live, Absent, Dying, Space, pages_end, pages_listed, with_new, passed, passed_if_any, advanced_in, advance_all, after_advance, new_pace, is_dying, stays, is_live, is_in, with_client, without_client, is_absent, made_live, after_set, is_decay_time, setting_stands, after_trim, Sound, IsPaced, lost, won}
 use Rattle.space_model.proofs.Sums.{listed_fit_space}
 use Rattle.space_model.proofs.Changes.{Does, Plain, Ranges, frame_does, range_frame, sound_ranges, live_quiet}
 use Rattle.space_model.proofs.Pieces.{both_true, different, not_both}

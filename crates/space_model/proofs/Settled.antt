@@ -1,18 +1,7 @@
 -- Regions among extents: what a sound space says of all its extents and regions, said of any of them. Two groups that
 -- share no page are settled together where each is.
 use Rattle.std.proofs.Common.{◌≡◌, ℕ, zero, suc, ◌+◌, ◌/◌, ◌%◌, ◌<◌, ◌≤◌, Bool, true, false, cond, IsTrue, List, [], get_or, refl, ap, subst, arith, All, ◌&&◌}
-use Rattle.std.proofs.lemmas.List.Sums.{get_or-le-sum_by, sum_by-le-sum_by}
-use Rattle.std.proofs.lemmas.List.Elements.{All-weaker, All-nil}
-use Rattle.std.proofs.lemmas.Bool.Decides.{nat_tests}
-use Rattle.size_classes.specs.Classes.{size_at, align_at}
-use Rattle.size_classes.proofs.Table.{size_bounds}
-use Rattle.space_model.specs.declared.parts.Part.{Part}
-use Rattle.space_model.specs.declared.parts.Region.{Region}
-use Rattle.space_model.specs.declared.spaces.Space.{Space}
-use Rattle.space_model.specs.Span.{IsPlaced}
-use Rattle.space_model.specs.Part.{holders, is_active}
-use Rattle.space_model.specs.Region.{covers, sharers, houses, homes, residents, fills, lies_in}
-use Rattle.space_model.specs.Sound.{Sound, IsInSlab}
+use Rattle.space_model.proofs.Words.{get_or-le-sum_by, sum_by-le-sum_by, All-weaker, All-nil, nat_tests, size_at, align_at, size_bounds, Part, Region, Space, IsPlaced, holders, is_active, covers, sharers, houses, homes, residents, fills, lies_in, Sound, IsInSlab}
 pub use Rattle.space_model.proofs.Lists.{ones, sum_nothing, nothing_sum}
 use Rattle.space_model.proofs.Lists.{false_true}
 use Rattle.space_model.proofs.Exchange.{share}

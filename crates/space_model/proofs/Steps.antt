@@ -1,40 +1,11 @@
 -- What each operation does, by one analysis of its cases.
-use Rattle.std.proofs.Common.{◌≡◌, ℕ, ◌+◌, ◌^◌, ◌<◌, ◌≤◌, ◌≢◌, Bool, true, false, cond, IsTrue, List, [], ◌∷◌, ◌++◌, Option, Some, None, refl, sym, ◌∙◌, ap, subst, arith, find, ◌&&◌, ◌==◌, Result, Ok, Err, IfOk, OnOk, OnErr, ltb as nat_lt, leb as nat_le}
-use Rattle.std.specs.Int.{is_power_of_two}
-use Rattle.std.specs.Option.{option_or}
-use Rattle.std.proofs.lemmas.List.Sums.{fold_push, sum_by-append, sum_by-cons}
-use Rattle.std.specs.List.{sum_by}
-use Rattle.std.proofs.lemmas.List.Elements.{All-cons, All-nil}
-use Rattle.std.proofs.lemmas.Bool.{eqb-true, ltb-true, leb-true}
-use Rattle.space_model.specs.declared.asks.Ask.{Ask}
-use Rattle.space_model.specs.declared.asks.Ask.TheVariants.{Alloc, Commit, Split, Merge}
-use Rattle.space_model.specs.declared.asks.Answer.{Answer}
-use Rattle.space_model.specs.declared.asks.Answer.TheVariants.{Done, Refused as Refuses, Placed}
-use Rattle.space_model.specs.declared.asks.Heard.{Heard}
-use Rattle.space_model.specs.declared.entries.Entry.{Entry}
-use Rattle.space_model.specs.declared.entries.Op.{Op}
-use Rattle.space_model.specs.declared.entries.Op.TheVariants.{Look, CutDone, GrowDone, CommitDone, Land, Back, PutLook, MergeDone, Fill, Advance, PurgeTake, LazyDone, Offer, OfferDone, DecommitDone, ForcedDone, Publish, TakeOver, Reset, Destroy, DestroyTake, Counts, Set, Widen, JoinDone, Trim, TrimDone}
-use Rattle.space_model.specs.declared.entries.Reply.{Reply}
-use Rattle.space_model.specs.declared.entries.Reply.TheVariants.{Noted, Refused, Bad, Purge}
-use Rattle.space_model.specs.declared.entries.Why.{Why}
-use Rattle.space_model.specs.declared.parts.Part.{Part}
-use Rattle.space_model.specs.declared.parts.Span.{Span}
-use Rattle.space_model.specs.declared.spaces.Space.{Space}
-use Rattle.space_model.specs.Span.{IsPlaced, same_span, end_of, pages_end}
-use Rattle.space_model.specs.Part.{holders, is_listed, is_flight, is_flight_at, rest_of, put_down}
-use Rattle.space_model.specs.Fit.{fit}
-use Rattle.space_model.specs.Stepped.{is_lazy}
-use Rattle.space_model.specs.Step.{is_live, stays, replaced, joined, begins_either, after_look, look_at, after_cut, cut_at, low_piece, high_piece, after_grow, grow_unless, new_part, why_not, after_commit, commit_at, step_of, space_after, reply_to, is_like, is_right_of, is_left_of, neighbour, is_purged, put_at_rest, put_beside, put_at, join_at, apart_at, after_merge, cut_stands, grow_stands, merge_stands, is_yes_or_no, op_stands, stands}
-use Rattle.space_model.specs.Sound.{Sound}
-use Rattle.space_model.specs.Journal.{granted_by, granted, Good}
-use Rattle.space_model.specs.Own.{mine}
-use Rattle.space_model.proofs.Lists.{false_true, find_has, find_passes, if_found, ones}
+use Rattle.std.proofs.Common.{◌≡◌, ℕ, ◌+◌, ◌^◌, ◌<◌, ◌≤◌, ◌≢◌, Bool, true, false, cond, IsTrue, List, [], ◌∷◌, ◌++◌, Option, Some, None, refl, sym, ◌∙◌, ap, subst, arith, find, ◌&&◌, ◌==◌, Result, Ok, Err, IfOk, OnOk, OnErr, ltb as nat_lt, leb as nat_le, inl, inr}
+use Rattle.space_model.proofs.Words.{is_power_of_two, fold_push, sum_by-cons, sum_by, All-cons, All-nil, eqb-true, ltb-true, leb-true, Ask, Alloc, Commit, Split, Merge, Answer, Done, Refuses, Placed, Heard, Entry, Op, Look, CutDone, GrowDone, CommitDone, Land, Back, PutLook, MergeDone, Fill, Advance, PurgeTake, LazyDone, Offer, OfferDone, DecommitDone, ForcedDone, Publish, TakeOver, Reset, Destroy, DestroyTake, Counts, Set, Widen, JoinDone, Trim, TrimDone, Reply, Noted, Refused, Bad, Purge, Why, Part, Span, Space, IsPlaced, same_span, end_of, pages_end, holders, is_listed, is_flight, is_flight_at, rest_of, put_down, fit, is_lazy, is_live, stays, replaced, joined, begins_either, after_look, look_at, after_cut, cut_at, low_piece, high_piece, after_grow, grow_unless, new_part, why_not, after_commit, commit_at, step_of, space_after, reply_to, is_like, is_right_of, is_left_of, neighbour, is_purged, put_at_rest, put_beside, put_at, join_at, apart_at, after_merge, cut_stands, grow_stands, merge_stands, is_yes_or_no, op_stands, stands, Sound, granted_by, granted, Good, mine, flight, lost, won}
+use Rattle.space_model.proofs.Lists.{false_true, find_has, find_passes, ones}
 use Rattle.space_model.proofs.Exchange.{share}
-use Rattle.space_model.specs.Flights.{flight, lost, won}
-use Rattle.space_model.proofs.Changes.{Does, Piece, trade, trade_does, replaced_does, put_does, lawful_trade, range_frame, pages_more, lawful_sound, lawful_others, live_quiet}
-use Rattle.space_model.proofs.Mixes.{mixed_first, mixed_append}
+use Rattle.space_model.proofs.Changes.{Does, Piece, trade_does, replaced_does, put_does, range_frame, lawful_sound, lawful_others, live_quiet, come_does}
 use Rattle.space_model.proofs.Moves.{live_is, itself, Flight, flight_at, Same, still, live_does, taken_does, down_does, whole_does}
-use Rattle.space_model.proofs.Pieces.{both_true, not_both, put_down-nobody, Listed, fit-listed, cut_shares, found_fits, Piece-down, Piece-low, Piece-high, Piece-joined, two_left, joined_share}
+use Rattle.space_model.proofs.Pieces.{both_true, not_both, put_down-nobody, Listed, fit-listed, cut_shares, found_fits, Piece-down, Piece-low, Piece-high, Piece-joined, two_left, joined_share, neighbour_side, live_and}
 use Rattle.space_model.proofs.Fills.{land_done_does, fill_does}
 use Rattle.space_model.proofs.Giving.{back_does}
 use Rattle.space_model.proofs.Purges.{purge_take_does, lazy_does, offer_does, offer_done_does, decommit_does}
@@ -122,28 +93,14 @@ grow_does c s heard found span committed align None e sound live some =
     let p : Part = new_part c span committed in
     let t : Space = (grow_unless s c span committed None).after in
     let free = why_not-free found align s.parts span e in
-    let most : (page : ℕ) → holders page s.parts + share page p ≤ 1 = λ page. free-holders found s.parts p free page (sound.owners page) in
     let inside = both_true (nat_le 512 span.first) (nat_le (end_of span) pages_end) free.inside in
     let placed : IsPlaced span = (some, leb-true _ _ inside.0, leb-true _ _ inside.1) in
-    let piece : Piece c p = record { idle = refl; fits = record { placed = placed; backed = λ h. absurd (false_true h) }; own = λ d other. not_both d c other } in
     let flies : flight c p ≡ 1 = ap ones (itself c) in
-    let more : (f : Part → ℕ) → sum_by f t.parts ≡ sum_by f s.parts + f p = λ f. omega (arith, sum_by-append f s.parts (p ∷ []), sum_by-cons f p []) in
-    record {
-      change = trade s s.parts [] (p ∷ []);
-      lawful = lawful_trade {old = []} sound (record {
-        went = mixed_first s.parts;
-        came = mixed_append s.parts (p ∷ []);
-        regions = refl;
-        left = λ f. refl;
-        own = All-nil (Piece c);
-        fits = All-cons (Piece c) p [] piece (All-nil (Piece c));
-        owners = λ page. omega (arith, more (share page), most page);
-        frame = range_frame c s t sound (record { box = sound.box; dirty = sound.dirty; muzzy = sound.muzzy; grow = (omega (arith, sound.grow), omega (arith, sound.grow)); grow_limit = sound.grow_limit }) refl refl refl refl;
-        quiet = live_quiet s t (live_is s.life live) refl;
-      });
-      pages = λ page before h. pages_more page (holders page s.parts) (holders page t.parts) before p (more (share page)) (most page) h;
-      flew = omega (arith, more (flight c), flies);
-    }
+    come_does c s t (GrowDone heard found) _ p sound refl refl
+    (record { idle = refl; fits = record { placed = placed; backed = λ h. absurd (false_true h) }; own = λ d other. not_both d c other })
+    (λ page. free-holders found s.parts p free page (sound.owners page))
+    (range_frame c s t sound (record { box = sound.box; dirty = sound.dirty; muzzy = sound.muzzy; grow = (omega (arith, sound.grow), omega (arith, sound.grow)); grow_limit = sound.grow_limit }) refl refl refl refl)
+    (live_quiet s t (live_is s.life live) refl) (λ page before. refl) (omega (arith, flies))
 
 grow_done_does : (c : ℕ) (s : Space) (heard : Heard) (found : Option ℕ) (ask : Ask) (answer : Answer) → Sound s → is_live s.life ≡ true →
     grow_stands s c ask answer ≡ true → Does c s (GrowDone heard found) (after_grow s c found ask answer)
@@ -158,22 +115,15 @@ grow_done_does c s heard found ask answer sound live h = still c s (GrowDone hea
 
 -- ---- PutLook
 
--- what one of two searches found, one of them found
-either_found : {X : Type 0} (P : X → Type 0) (a b : Option X) (x : X) → (a ≡ Some x → P x) → (b ≡ Some x → P x) → option_or a b ≡ Some x → P x
-either_found P None b x first second e = second e
-either_found P (Some y) b x first second e = first e
-
 -- a neighbour is a listed extent
 neighbour-listed : (tries : ℕ) (p : Part) (parts : List Part) (other : Part) → neighbour tries p parts ≡ Some other → Listed parts other
 neighbour-listed tries p parts other e =
-    either_found (Listed parts) (cond (tries == 0) (find (is_right_of p) parts) None) (cond (nat_lt tries 2) (find (is_left_of p) parts) None) other
-    (λ k. let found = (if_found (tries == 0) (find (is_right_of p) parts) other k).1 in
-    let like = (both_true (is_like p other) _ (find_passes (is_right_of p) parts other found)).0 in
-    record { test = is_right_of p; found = found; rest = rest_of p.state; is_in = (both_true (is_listed (rest_of p.state) other.state) _ like).0 })
-    (λ k. let found = (if_found (nat_lt tries 2) (find (is_left_of p) parts) other k).1 in
-    let like = (both_true (is_like p other) _ (find_passes (is_left_of p) parts other found)).0 in
-    record { test = is_left_of p; found = found; rest = rest_of p.state; is_in = (both_true (is_listed (rest_of p.state) other.state) _ like).0 })
-    e
+    let listed : (test : Part → Bool) → find test parts ≡ Some other → is_like p other ≡ true → Listed parts other =
+    λ test found like. record { test = test; found = found; rest = rest_of p.state; is_in = (both_true (is_listed (rest_of p.state) other.state) _ like).0 } in
+    elim (neighbour_side tries p parts other e) [
+      | inl right ↦ listed (is_right_of p) right.1 (both_true (is_like p other) _ (find_passes (is_right_of p) parts other right.1)).0
+      | inr left ↦ listed (is_left_of p) left.1 (both_true (is_like p other) _ (find_passes (is_left_of p) parts other left.1)).0
+    ]
 
 beside_does : (c : ℕ) (s : Space) (span : Span) (tries : ℕ) (p : Part) (o : Option Part) → find (is_flight_at c span) s.parts ≡ Some p →
     neighbour tries p s.parts ≡ o → Sound s → is_live s.life ≡ true → Does c s (PutLook span tries) (put_beside s c p o)
@@ -240,9 +190,6 @@ joined_fits c s low high p q sound e f =
     omega (arith, at.2, to.2)
 
 -- ---- any operation
-
-live_and : (s : Space) (b : Bool) → (is_live s.life && b) ≡ true → (is_live s.life ≡ true) × (b ≡ true)
-live_and s b h = both_true (is_live s.life) b h
 
 pub op_does : (c : ℕ) (s : Space) (op : Op) → Sound s → op_stands s c op ≡ true → Does c s op (step_of s c op)
 op_does c s (Look pages align) sound h = look_does c s pages align sound

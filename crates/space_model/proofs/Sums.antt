@@ -1,24 +1,6 @@
 -- Sums of bytes: how those of the states add up, and that none is more than the space.
 use Rattle.std.proofs.Common.{◌-◌, inl, inr, ◌<◌, ◌≡◌, ℕ, ◌+◌, ◌*◌, ◌^◌, ◌≤◌, Bool, true, false, cond, List, [], ◌∷◌, refl, sym, ◌∙◌, arith, All}
-use Rattle.std.specs.List.{sum_by}
-use Rattle.std.proofs.lemmas.List.Sums.{sum_by-cons, sum_by-le-sum_by}
-use Rattle.std.proofs.lemmas.List.Elements.{All-weaker, All-head, All-tail, All-cons}
-use Rattle.std.proofs.lemmas.Bool.{cases_lt}
-use Rattle.std.proofs.lemmas.Bool.Decides.{nat_tests}
-use Rattle.size_classes.specs.Classes.{size_at}
-use Rattle.space_model.specs.declared.parts.Part.{Part}
-use Rattle.space_model.specs.declared.parts.Region.{Region}
-use Rattle.space_model.specs.declared.parts.Rest.{Rest}
-use Rattle.space_model.specs.declared.parts.Rest.TheVariants.{Dirty as ToDirty, Muzzy as ToMuzzy, Retained as ToRetained}
-use Rattle.space_model.specs.declared.parts.State.{State}
-use Rattle.space_model.specs.declared.parts.State.TheVariants.{Active, Dirty, Muzzy, Retained, Flight}
-use Rattle.space_model.specs.declared.spaces.Space.{Space}
-use Rattle.space_model.specs.Span.{IsPlaced, pages_end}
-use Rattle.space_model.specs.Part.{holders, is_active, is_listed, pages_listed}
-use Rattle.space_model.specs.Region.{houses, homes}
-use Rattle.space_model.specs.Sound.{Sound, is_in_flight}
-use Rattle.space_model.specs.Counts.{bytes_of, bytes_where, region_bytes, region_bytes_where, is_mapped}
-use Rattle.space_model.specs.Laws.{BytesFitSpace}
+use Rattle.space_model.proofs.Words.{sum_by, sum_by-cons, sum_by-le-sum_by, All-weaker, All-head, All-tail, All-cons, cases_lt, nat_tests, size_at, Part, Region, Rest, ToDirty, ToMuzzy, ToRetained, State, Active, Retained, Space, IsPlaced, pages_end, holders, is_active, is_listed, pages_listed, houses, homes, Sound, is_in_flight, bytes_of, bytes_where, region_bytes, region_bytes_where, is_mapped, BytesFitSpace}
 use Rattle.space_model.proofs.Exchange.{share}
 use Rattle.space_model.proofs.Intervals.{lengths-le}
 use Rattle.space_model.proofs.Settled.{serves}
@@ -30,19 +12,13 @@ bytes_if test p = cond (test p.state) (bytes_of p) 0
 -- a mapped extent is of one use
 one_use : (n : ℕ) (state : State) →
     cond (is_mapped state) n 0 ≡ cond (is_active state) n 0 + cond (is_listed ToDirty state) n 0 + cond (is_listed ToMuzzy state) n 0 + cond (is_in_flight state) n 0
-one_use n Active = omega arith
-one_use n Dirty = omega arith
-one_use n Muzzy = omega arith
 one_use n Retained = refl
-one_use n (Flight c rest) = omega arith
+one_use n state = omega arith
 
 -- an extent is mapped or retained
 mapped_or : (n : ℕ) (state : State) → n ≡ cond (is_mapped state) n 0 + cond (is_listed ToRetained state) n 0
 mapped_or n Active = omega arith
-mapped_or n Dirty = omega arith
-mapped_or n Muzzy = omega arith
-mapped_or n Retained = omega arith
-mapped_or n (Flight c rest) = omega arith
+mapped_or n state = omega arith
 
 -- the bytes of mapped extents are those of the four uses
 pub mapped_sum : (parts : List Part) → bytes_where is_mapped parts

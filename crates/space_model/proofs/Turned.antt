@@ -1,19 +1,6 @@
 -- Extents that all change at once, and stand last in order of address from then on.
 use Rattle.std.proofs.Common.{◌≡◌, ℕ, ◌+◌, ◌≢◌, Bool, true, not, List, [], ◌∷◌, refl, sym, ◌∙◌, ap, subst, arith, All, filter, fold, ltb as nat_lt}
-use Rattle.std.specs.List.{sum_by, count_by, position_or_len}
-use Rattle.std.proofs.lemmas.List.Sums.{sum_by-cons, sum_by-insert}
-use Rattle.std.proofs.lemmas.List.Elements.{All-weaker, All-filter, All-head, All-tail, All-nil, filter_passes}
-use Rattle.space_model.specs.declared.entries.Op.{Op}
-use Rattle.space_model.specs.declared.entries.Reply.{Reply}
-use Rattle.space_model.specs.declared.parts.Part.{Part}
-use Rattle.space_model.specs.declared.parts.Region.{Region}
-use Rattle.space_model.specs.declared.parts.Span.{Span}
-use Rattle.space_model.specs.declared.spaces.Space.{Space}
-use Rattle.space_model.specs.Span.{has_page}
-use Rattle.space_model.specs.Part.{holders, is_flight, placed, turned, turned_in_order}
-use Rattle.space_model.specs.Region.{homes, is_held_by}
-use Rattle.space_model.specs.Flights.{flight, lost, won}
-use Rattle.space_model.specs.Sound.{Sound, IsQuiet}
+use Rattle.space_model.proofs.Words.{sum_by, count_by, position_or_len, sum_by-cons, sum_by-insert, All-weaker, All-filter, All-head, All-tail, All-nil, filter_passes, Op, Reply, Part, Region, Span, Space, has_page, holders, is_flight, placed, turned, turned_in_order, homes, is_held_by, flight, lost, won, Sound, IsQuiet}
 use Rattle.space_model.proofs.Lists.{All-insert, ones}
 use Rattle.space_model.proofs.Exchange.{share}
 use Rattle.space_model.proofs.Mixes.{Mix, mix_sum, mix_filter, mixed_filter, mixed_append, mixed_first}

@@ -2,14 +2,10 @@
 use Rattle.std.specs.Prelude.{ℕ, ◌+◌, ◌*◌, Bool, not, ◌==◌, nat_lt, List, map, count_by, if◌then◌else◌}
 use Rattle.std.specs.List.{range_with_len, sum_by}
 use Rattle.size_classes.specs.Classes.{size_at}
-use Rattle.space_model.specs.declared.parts.Part.{Part}
-use Rattle.space_model.specs.declared.parts.Region.{Region}
-use Rattle.space_model.specs.declared.parts.Rest.TheVariants.{Dirty as ToDirty, Muzzy as ToMuzzy, Retained as ToRetained}
-use Rattle.space_model.specs.declared.parts.State.{State}
+use Rattle.space_model.specs.Types.{Part, Region, ToDirty, ToMuzzy, ToRetained, State, Space}
 use Rattle.space_model.specs.declared.counts.Counts.{Counts}
 use Rattle.space_model.specs.declared.plain.sums.Use.{Use}
 use Rattle.space_model.specs.declared.plain.sums.Use.TheVariants.{Active, Listed, Flight}
-use Rattle.space_model.specs.declared.spaces.Space.{Space}
 use Rattle.space_model.specs.Part.{is_active, is_in_flight, is_listed}
 use Rattle.space_model.specs.Region.{is_slab}
 

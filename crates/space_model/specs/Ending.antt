@@ -1,12 +1,7 @@
 -- How an arena is emptied and ended: no other client may have anything in it, nor the caller anything in its cache.
 use Rattle.std.specs.Prelude.{ℕ, ◌+◌, Bool, ◌==◌, ◌&&◌, not, nat_le, List, [], ◌∷◌, length, count_by, if◌then◌else◌}
 use Rattle.std.specs.List.{list_any}
-use Rattle.space_model.specs.declared.entries.Reply.{Reply}
-use Rattle.space_model.specs.declared.entries.Reply.TheVariants.{Noted, Nothing, Purge, Busy, Doomed}
-use Rattle.space_model.specs.declared.parts.Part.{Part}
-use Rattle.space_model.specs.declared.parts.Rest.TheVariants.{Dirty as ToDirty, Retained as ToRetained}
-use Rattle.space_model.specs.declared.spaces.Life.TheVariants.{Absent, Dying}
-use Rattle.space_model.specs.declared.spaces.Space.{Space}
+use Rattle.space_model.specs.Types.{Reply, Noted, Nothing, Purge, Busy, Doomed, Part, ToDirty, ToRetained, Absent, Dying, Space}
 use Rattle.space_model.specs.Part.{is_active, is_flight, is_in_flight, is_listed, moved_to, turned}
 use Rattle.space_model.specs.Region.{is_held_by, is_held_by_other}
 use Rattle.space_model.specs.Stepped.{Stepped, stays, replaced, if_live, is_dirty_time_over, is_lazy}

@@ -1,12 +1,7 @@
 -- How many extents a client has in flight, and how many more or fewer after its operation.
 use Rattle.std.specs.Prelude.{ℕ, length, filter, if◌then◌else◌}
 use Rattle.std.specs.List.{sum_by}
-use Rattle.space_model.specs.declared.entries.Op.{Op}
-use Rattle.space_model.specs.declared.entries.Op.TheVariants.{Look, CutDone, GrowDone, CommitDone, Land, Back, PutLook, MergeDone, PurgeTake, Offer, OfferDone, Widen, JoinDone, TrimDone}
-use Rattle.space_model.specs.declared.entries.Reply.{Reply}
-use Rattle.space_model.specs.declared.entries.Reply.TheVariants.{Noted, Took, Cut, Whole, Grown, Landed, Next, Beside, Joined, Taken, Kept}
-use Rattle.space_model.specs.declared.parts.Part.{Part}
-use Rattle.space_model.specs.declared.spaces.Space.{Space}
+use Rattle.space_model.specs.Types.{Op, Look, CutDone, GrowDone, CommitDone, Land, Back, PutLook, MergeDone, PurgeTake, Offer, OfferDone, Widen, JoinDone, TrimDone, Reply, Noted, Took, Cut, Whole, Grown, Landed, Next, Beside, Joined, Taken, Kept, Part, Space}
 use Rattle.space_model.specs.Part.{is_flight}
 use Rattle.space_model.specs.Step.{staying, is_emptied}
 

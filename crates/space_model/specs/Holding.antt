@@ -1,8 +1,6 @@
 -- How a region goes from one client to another: its holder publishes it, and some client takes it over.
 use Rattle.std.specs.Prelude.{ℕ, Bool, ◌&&◌, find, Option, None, Some}
-use Rattle.space_model.specs.declared.entries.Reply.TheVariants.{Noted, Nothing, Owned}
-use Rattle.space_model.specs.declared.parts.Region.{Region}
-use Rattle.space_model.specs.declared.spaces.Space.{Space}
+use Rattle.space_model.specs.Types.{Noted, Nothing, Owned, Region, Space}
 use Rattle.space_model.specs.Region.{held_anew, is_held_by, is_published, starts_at}
 use Rattle.space_model.specs.Stepped.{Stepped, stays, if_live}
 

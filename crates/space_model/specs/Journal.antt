@@ -1,15 +1,7 @@
 -- The journal of an arena: its entries in order, what they leave, and which pages the hooks granted in them.
 use Rattle.std.specs.Prelude.{◌≡◌, ℕ, Bool, true, false, ◌&&◌, ◌||◌, not, List, [], ◌∷◌, fold, if◌then◌else◌}
 use Rattle.std.specs.List.{flat_map}
-use Rattle.space_model.specs.declared.asks.Ask.{Ask}
-use Rattle.space_model.specs.declared.asks.Ask.TheVariants.{Dalloc}
-use Rattle.space_model.specs.declared.entries.Entry.{Entry}
-use Rattle.space_model.specs.declared.entries.Op.{Op}
-use Rattle.space_model.specs.declared.entries.Op.TheVariants.{GrowDone, Offer, OfferDone, DestroyTake}
-use Rattle.space_model.specs.declared.entries.Reply.{Reply}
-use Rattle.space_model.specs.declared.entries.Reply.TheVariants.{Grown, Kept, Abandoned, Doomed}
-use Rattle.space_model.specs.declared.parts.Span.{Span}
-use Rattle.space_model.specs.declared.spaces.Space.{Space}
+use Rattle.space_model.specs.Types.{Ask, Dalloc, Entry, Op, GrowDone, Offer, OfferDone, DestroyTake, Reply, Grown, Kept, Abandoned, Doomed, Span, Space}
 use Rattle.space_model.specs.Span.{has_page}
 use Rattle.space_model.specs.Part.{holders}
 use Rattle.space_model.specs.Step.{space_after, reply_to, stands}

@@ -3,9 +3,7 @@ use Rattle.std.specs.Prelude.{◌≡◌, ◌≢◌, ℕ, ◌+◌, ◌*◌, ◌/�
 use Rattle.std.specs.List.{sum_by}
 use Rattle.size_classes.specs.Classes.{align_at}
 use Rattle.space_model.specs.declared.counts.Counts.{Counts}
-use Rattle.space_model.specs.declared.entries.Entry.{Entry}
-use Rattle.space_model.specs.declared.entries.Reply.{Reply}
-use Rattle.space_model.specs.declared.spaces.Space.{Space}
+use Rattle.space_model.specs.Types.{Entry, Reply, Space}
 use Rattle.space_model.specs.Span.{has_page, pages_end}
 use Rattle.space_model.specs.Part.{is_active}
 use Rattle.space_model.specs.Region.{covers, lies_in}

@@ -1,3 +1,4 @@
+pub mod Types
 pub mod Span
 pub mod Clients
 pub mod Part

@@ -1,9 +1,7 @@
 -- Arena 0 as it is at the start, and an index without an arena: what journals begin from.
 use Rattle.std.specs.Prelude.{ℕ, ℤ, pos, []}
 use Rattle.std.specs.List.{range_with_len}
-use Rattle.space_model.specs.declared.spaces.Pace.{Pace}
-use Rattle.space_model.specs.declared.spaces.Space.{Space}
-use Rattle.space_model.specs.declared.spaces.Life.TheVariants.{Live, Absent}
+use Rattle.space_model.specs.Types.{Pace, Space, Live, Absent}
 use Rattle.space_model.specs.Span.{max_series}
 
 -- a decay of a time in milliseconds from a moment on: epoch 0, nothing left and nothing added

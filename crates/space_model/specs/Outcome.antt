@@ -2,19 +2,7 @@
 use Rattle.std.specs.Prelude.{◌≡◌, ℕ, ◌+◌, ◌*◌, ◌-◌, ◌<◌, ◌≤◌, min, Bool, true, false, not, List, [], ◌∷◌, All, Option, None, Some, find, count_by}
 use Rattle.std.specs.List.{list_any, range_with_len}
 use Rattle.size_classes.specs.Classes.{size_at}
-use Rattle.space_model.specs.declared.asks.Ask.TheVariants.{Alloc, Commit, Split, Merge, Dalloc, Decommit, PurgeLazy, PurgeForced}
-use Rattle.space_model.specs.declared.asks.Heard.{Heard}
-use Rattle.space_model.specs.declared.entries.Op.{Op}
-use Rattle.space_model.specs.declared.entries.Op.TheVariants.{Look, CutDone, GrowDone, CommitDone, Land, Back, PutLook, MergeDone, Fill, Advance, PurgeTake, LazyDone, Offer, OfferDone, DecommitDone, ForcedDone, Publish, TakeOver, Reset, Destroy, DestroyTake, Counts, Set, Widen, JoinDone, Trim, TrimDone}
-use Rattle.space_model.specs.declared.entries.Reply.{Reply}
-use Rattle.space_model.specs.declared.entries.Reply.TheVariants.{NoArena, Noted, Nothing, Took, Grow, Cut, Whole, Refused, Bad, Grown, Landed, Regions, Next, Beside, Purge, Joined, Limits, Taken, Lazy, Kept, Abandoned, Decommitted, Doomed, Owned, Busy, Counted}
-use Rattle.space_model.specs.declared.entries.Setting.{Setting}
-use Rattle.space_model.specs.declared.entries.Why.{Why}
-use Rattle.space_model.specs.declared.parts.Part.{Part}
-use Rattle.space_model.specs.declared.parts.Rest.{Rest}
-use Rattle.space_model.specs.declared.parts.Span.{Span}
-use Rattle.space_model.specs.declared.spaces.Life.TheVariants.{Absent, Dying}
-use Rattle.space_model.specs.declared.spaces.Space.{Space}
+use Rattle.space_model.specs.Types.{Alloc, Commit, Split, Merge, Dalloc, Decommit, PurgeLazy, PurgeForced, Heard, Op, Look, CutDone, GrowDone, CommitDone, Land, Back, PutLook, MergeDone, Fill, Advance, PurgeTake, LazyDone, Offer, OfferDone, DecommitDone, ForcedDone, Publish, TakeOver, Reset, Destroy, DestroyTake, Counts, Set, Widen, JoinDone, Trim, TrimDone, Reply, NoArena, Noted, Nothing, Took, Grow, Cut, Whole, Refused, Bad, Grown, Landed, Regions, Next, Beside, Purge, Joined, Limits, Taken, Lazy, Kept, Abandoned, Decommitted, Doomed, Owned, Busy, Counted, Setting, Why, Part, Rest, Span, Absent, Dying, Space}
 use Rattle.space_model.specs.Span.{end_of}
 use Rattle.space_model.specs.Part.{exchanged, begins_at, is_flight, is_flight_at, put_down}
 use Rattle.space_model.specs.Region.{address_of}

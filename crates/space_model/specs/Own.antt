@@ -1,11 +1,6 @@
 -- What one client owns in an arena: what no step of another client changes.
 use Rattle.std.specs.Prelude.{ℕ, Bool, false, ◌==◌, List, filter}
-use Rattle.space_model.specs.declared.parts.Part.{Part}
-use Rattle.space_model.specs.declared.parts.Offered.{Offered}
-use Rattle.space_model.specs.declared.parts.Region.{Region}
-use Rattle.space_model.specs.declared.spaces.Life.{Life}
-use Rattle.space_model.specs.declared.spaces.Life.TheVariants.{Live, Absent, Dying}
-use Rattle.space_model.specs.declared.spaces.Space.{Space}
+use Rattle.space_model.specs.Types.{Part, Offered, Region, Life, Dying, Space}
 use Rattle.space_model.specs.Clients.{is_in}
 use Rattle.space_model.specs.Part.{is_flight}
 use Rattle.space_model.specs.Region.{is_held_by}
@@ -22,9 +17,8 @@ pub record Mine : Type 0 where
 
 -- whether the client is destroying the arena
 abbrev pub is_dying : ℕ → Life → Bool
-is_dying client Live = false
-is_dying client Absent = false
 is_dying client (Dying c) = c == client
+is_dying client _ = false
 
 -- what the client owns
 abbrev pub mine : ℕ → Space → Mine

@@ -1,11 +1,7 @@
 -- How a decay goes: how much of an addition is left after so many epochs, how many pages may stay, and what a moment changes.
 use Rattle.std.specs.Prelude.{ℕ, ◌+◌, ◌-◌, ◌*◌, ◌/◌, ◌^◌, min, ◌==◌, nat_lt, List, [], ◌∷◌, ◌++◌, filter, ℤ, pos, negsuc, Option, None, Some, if◌then◌else◌}
 use Rattle.std.specs.List.{sum_by}
-use Rattle.space_model.specs.declared.entries.Reply.TheVariants.{Limits}
-use Rattle.space_model.specs.declared.parts.Rest.TheVariants.{Dirty as ToDirty, Muzzy as ToMuzzy}
-use Rattle.space_model.specs.declared.spaces.Added.{Added}
-use Rattle.space_model.specs.declared.spaces.Pace.{Pace}
-use Rattle.space_model.specs.declared.spaces.Space.{Space}
+use Rattle.space_model.specs.Types.{Limits, ToDirty, ToMuzzy, Added, Pace, Space}
 use Rattle.space_model.specs.Part.{pages_listed}
 use Rattle.space_model.specs.Stepped.{Stepped, if_live}
 

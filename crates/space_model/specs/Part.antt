@@ -2,21 +2,13 @@
 use Rattle.std.specs.Prelude.{ℕ, Bool, true, false, ◌==◌, ◌&&◌, not, nat_lt, List, [], ◌++◌, fold, find, count_by, Option, if◌then◌else◌}
 use Rattle.std.specs.List.{filter, insert, position_or_len, sum_by}
 use Rattle.std.specs.Option.{option_map}
-use Rattle.space_model.specs.declared.parts.Span.{Span}
-use Rattle.space_model.specs.declared.parts.Part.{Part}
-use Rattle.space_model.specs.declared.parts.Rest.{Rest}
-use Rattle.space_model.specs.declared.parts.Rest.TheVariants.{Dirty as ToDirty, Muzzy as ToMuzzy, Retained as ToRetained}
-use Rattle.space_model.specs.declared.parts.State.{State}
-use Rattle.space_model.specs.declared.parts.State.TheVariants.{Active, Dirty, Muzzy, Retained, Flight}
+use Rattle.space_model.specs.Types.{Span, Part, Rest, ToDirty, ToMuzzy, ToRetained, State, Active, Dirty, Muzzy, Retained, Flight}
 use Rattle.space_model.specs.Span.{has_page, same_span}
 
 -- whether the state is that of an extent which serves regions
 abbrev pub is_active : State → Bool
 is_active Active = true
-is_active Dirty = false
-is_active Muzzy = false
-is_active Retained = false
-is_active (Flight c rest) = false
+is_active state = false
 
 -- whether an extent in the state is listed among those of a rest
 abbrev pub is_listed : Rest → State → Bool
@@ -28,26 +20,18 @@ is_listed rest state = false
 -- whether an extent in the state is in one of the three lists
 abbrev pub is_unused : State → Bool
 is_unused Active = false
-is_unused Dirty = true
-is_unused Muzzy = true
-is_unused Retained = true
 is_unused (Flight c rest) = false
+is_unused state = true
 
 -- whether an extent in the state is out of its list
 abbrev pub is_in_flight : State → Bool
-is_in_flight Active = false
-is_in_flight Dirty = false
-is_in_flight Muzzy = false
-is_in_flight Retained = false
 is_in_flight (Flight c rest) = true
+is_in_flight state = false
 
 -- whether the client has an extent in the state out of its list
 abbrev pub is_flight : ℕ → State → Bool
 is_flight client (Flight c rest) = c == client
-is_flight client Active = false
-is_flight client Dirty = false
-is_flight client Muzzy = false
-is_flight client Retained = false
+is_flight client state = false
 
 -- where an extent in the state belongs when it is put down
 abbrev pub rest_of : State → Rest
@@ -65,9 +49,8 @@ listed ToRetained = Retained
 
 -- whether extents that belong there are committed, always
 abbrev pub is_backed : Rest → Bool
-is_backed ToDirty = true
-is_backed ToMuzzy = true
 is_backed ToRetained = false
+is_backed rest = true
 
 -- an extent that the client takes out of its list
 abbrev pub taken_out : ℕ → Part → Part

@@ -2,18 +2,7 @@
 use Rattle.std.specs.Prelude.{ℕ, Bool, true, false, ◌==◌, ◌&&◌, ◌||◌, nat_lt, List, [], ◌∷◌, ◌++◌, find, count_by, Option, None, Some, is_some, if◌then◌else◌}
 use Rattle.std.specs.Bool.{beq}
 use Rattle.std.specs.List.{list_any, position_or_len, remove}
-use Rattle.space_model.specs.declared.asks.Ask.{Ask}
-use Rattle.space_model.specs.declared.asks.Ask.TheVariants.{Dalloc, Decommit, PurgeLazy, PurgeForced}
-use Rattle.space_model.specs.declared.asks.Answer.{Answer}
-use Rattle.space_model.specs.declared.asks.Answer.TheVariants.{Done, Refused as Refuses}
-use Rattle.space_model.specs.declared.entries.Reply.TheVariants.{Noted, Nothing, Next, Taken, Lazy, Kept, Abandoned, Decommitted}
-use Rattle.space_model.specs.declared.parts.Offered.{Offered}
-use Rattle.space_model.specs.declared.parts.Part.{Part}
-use Rattle.space_model.specs.declared.parts.Rest.{Rest}
-use Rattle.space_model.specs.declared.parts.Rest.TheVariants.{Dirty as ToDirty, Muzzy as ToMuzzy, Retained as ToRetained}
-use Rattle.space_model.specs.declared.parts.Span.{Span}
-use Rattle.space_model.specs.declared.parts.State.TheVariants.{Flight}
-use Rattle.space_model.specs.declared.spaces.Space.{Space}
+use Rattle.space_model.specs.Types.{Ask, Dalloc, Decommit, PurgeLazy, PurgeForced, Answer, Done, Refuses, Noted, Nothing, Next, Taken, Lazy, Kept, Abandoned, Decommitted, Offered, Part, Rest, ToDirty, ToMuzzy, ToRetained, Span, Flight, Space}
 use Rattle.space_model.specs.Span.{same_span, meets}
 use Rattle.space_model.specs.Part.{exchanged, begins_at, is_listed, is_flight_at, listed, rest_of, taken_out, next_flight, pages_listed}
 use Rattle.space_model.specs.Stepped.{Stepped, stays, replaced, if_live, is_lazy, has_flight, is_yes_or_no}

@@ -2,9 +2,7 @@
 use Rattle.std.specs.Prelude.{ℕ, ◌+◌, ◌*◌, Bool, false, ◌==◌, ◌&&◌, not, List, nat_le, nat_lt, map, fold, count_by, Option, None, Some, is_none, if◌then◌else◌}
 use Rattle.std.specs.List.{insert, list_any, position_or_len, range_with_len}
 use Rattle.size_classes.specs.Classes.{size_at, pages_at}
-use Rattle.space_model.specs.declared.parts.Span.{Span}
-use Rattle.space_model.specs.declared.parts.Part.{Part}
-use Rattle.space_model.specs.declared.parts.Region.{Region}
+use Rattle.space_model.specs.Types.{Span, Part, Region}
 use Rattle.space_model.specs.Span.{end_of}
 use Rattle.space_model.specs.Part.{is_active}
 

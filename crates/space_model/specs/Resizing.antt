@@ -3,14 +3,7 @@ use Rattle.std.specs.Prelude.{ℕ, ◌+◌, ◌-◌, ◌%◌, Bool, false, ◌==
 use Rattle.std.specs.List.{list_any}
 use Rattle.std.specs.Option.{option_and_then, option_map}
 use Rattle.size_classes.specs.Classes.{pages_at}
-use Rattle.space_model.specs.declared.asks.Ask.{Ask}
-use Rattle.space_model.specs.declared.asks.Ask.TheVariants.{Split, Merge}
-use Rattle.space_model.specs.declared.asks.Answer.{Answer}
-use Rattle.space_model.specs.declared.asks.Answer.TheVariants.{Done, Refused as Refuses}
-use Rattle.space_model.specs.declared.entries.Reply.TheVariants.{Noted, Nothing, Took, Landed, Cut, Whole}
-use Rattle.space_model.specs.declared.parts.Part.{Part}
-use Rattle.space_model.specs.declared.parts.Region.{Region}
-use Rattle.space_model.specs.declared.spaces.Space.{Space}
+use Rattle.space_model.specs.Types.{Ask, Split, Merge, Answer, Done, Refuses, Noted, Nothing, Took, Landed, Cut, Whole, Part, Region, Space}
 use Rattle.space_model.specs.Span.{pages_end, end_of, has_page, same_span}
 use Rattle.space_model.specs.Part.{exchanged, begins_at, is_unused, is_flight_at, taken_out}
 use Rattle.space_model.specs.Region.{address_of, houses, inserted, is_held_by, starts_at}

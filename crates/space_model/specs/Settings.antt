@@ -1,11 +1,6 @@
 -- What can be set in an arena, and by whom it is used.
 use Rattle.std.specs.Prelude.{ℕ, Bool, true, false, ◌==◌, ◌&&◌, nat_le, nat_lt, ℤ, pos, negsuc, if◌then◌else◌}
-use Rattle.space_model.specs.declared.entries.Reply.TheVariants.{Noted, Nothing}
-use Rattle.space_model.specs.declared.entries.Setting.{Setting}
-use Rattle.space_model.specs.declared.entries.Setting.TheVariants.{DirtyMs, MuzzyMs, HookBox, Bind, Unbind, GrowLimit, Live as MakeLive}
-use Rattle.space_model.specs.declared.spaces.Life.{Life}
-use Rattle.space_model.specs.declared.spaces.Life.TheVariants.{Live, Absent, Dying}
-use Rattle.space_model.specs.declared.spaces.Space.{Space}
+use Rattle.space_model.specs.Types.{Noted, Nothing, Setting, DirtyMs, MuzzyMs, HookBox, Bind, Unbind, GrowLimit, MakeLive, Life, Live, Absent, Space}
 use Rattle.space_model.specs.Span.{max_series}
 pub use Rattle.space_model.specs.Clients.{is_in, with_client, without_client}
 use Rattle.space_model.specs.Opening.{new_pace}
@@ -13,9 +8,8 @@ use Rattle.space_model.specs.Stepped.{Stepped, stays, if_live}
 
 -- whether no arena has the index
 abbrev pub is_absent : Life → Bool
-is_absent Live = false
 is_absent Absent = true
-is_absent (Dying c) = false
+is_absent _ = false
 
 -- the space of an arena that comes to be, with nothing in it, its decays from a moment on and its growth at the start
 abbrev pub made_live : Space → ℕ → ℤ → ℤ → ℕ → Space
@@ -54,8 +48,7 @@ abbrev pub setting_stands : Setting → Bool
 setting_stands (DirtyMs ms now) = is_decay_time ms
 setting_stands (MuzzyMs ms now) = is_decay_time ms
 setting_stands (HookBox box_no) = nat_lt box_no 32
-setting_stands Bind = true
-setting_stands Unbind = true
 setting_stands (GrowLimit chunks) = nat_le 1 chunks && nat_le chunks max_series
 setting_stands (MakeLive box_no dirty_ms muzzy_ms now) =
     nat_lt box_no 32 && is_decay_time dirty_ms && is_decay_time muzzy_ms
+setting_stands setting = true

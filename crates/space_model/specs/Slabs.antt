@@ -2,12 +2,7 @@
 use Rattle.std.specs.Prelude.{ℕ, ◌+◌, ◌*◌, Bool, ◌==◌, ◌&&◌, not, nat_le, nat_lt, List, [], ◌∷◌, map, filter, take, Option, None, Some, if◌then◌else◌}
 use Rattle.std.specs.List.{flat_map, list_any, range_with_len}
 use Rattle.size_classes.specs.Classes.{size_at, pages_at, regions_at}
-use Rattle.space_model.specs.declared.entries.Reply.TheVariants.{Noted, Nothing, Landed, Regions}
-use Rattle.space_model.specs.declared.parts.Part.{Part}
-use Rattle.space_model.specs.declared.parts.Region.{Region}
-use Rattle.space_model.specs.declared.parts.Span.{Span}
-use Rattle.space_model.specs.declared.parts.State.TheVariants.{Active}
-use Rattle.space_model.specs.declared.spaces.Space.{Space}
+use Rattle.space_model.specs.Types.{Noted, Nothing, Landed, Regions, Part, Region, Span, Active, Space}
 use Rattle.space_model.specs.Part.{exchanged, begins_at, turned_in_order}
 use Rattle.space_model.specs.Region.{address_of, is_slab, landing, region_of, regions_from, starts_at}
 use Rattle.space_model.specs.Stepped.{Stepped, stays, if_live, has_flight}

@@ -1,12 +1,7 @@
 -- What is always true of an arena.
 use Rattle.std.specs.Prelude.{◌≡◌, ℕ, ◌+◌, ◌*◌, ◌%◌, ◌-◌, ◌<◌, ◌≤◌, pos, negsuc, ◌≤ℤ◌, false, IsTrue, List, [], All, AllPairs}
 use Rattle.size_classes.specs.Classes.{size_at, pages_at, regions_at, align_at}
-use Rattle.space_model.specs.declared.parts.Part.{Part}
-use Rattle.space_model.specs.declared.parts.Region.{Region}
-use Rattle.space_model.specs.declared.spaces.Pace.{Pace}
-use Rattle.space_model.specs.declared.spaces.Space.{Space}
-use Rattle.space_model.specs.declared.spaces.Life.{Life}
-use Rattle.space_model.specs.declared.spaces.Life.TheVariants.{Live, Absent, Dying}
+use Rattle.space_model.specs.Types.{Part, Region, Pace, Space, Life, Live, Absent, Dying}
 use Rattle.space_model.specs.Span.{IsPlaced, pages_end, max_series}
 pub use Rattle.space_model.specs.Part.{is_in_flight}
 use Rattle.space_model.specs.Part.{is_active, is_backed, rest_of, holders}

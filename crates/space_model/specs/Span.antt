@@ -1,7 +1,7 @@
 -- Spans of pages, and the space of pages that there is.
 use Rattle.std.specs.Prelude.{ℕ, ◌+◌, ◌*◌, ◌/◌, ◌-◌, ◌<◌, ◌≤◌, Bool, ◌==◌, ◌&&◌, nat_le, nat_lt, List}
 use Rattle.std.specs.List.{range_with_len}
-use Rattle.space_model.specs.declared.parts.Span.{Span}
+use Rattle.space_model.specs.Types.{Span}
 
 -- The first page past all pages: the bound of the space is named here alone, and 512 is its first page.
 abbrev pub pages_end : ℕ

@@ -4,23 +4,7 @@ use Rattle.std.specs.Bool.{beq}
 use Rattle.std.specs.Int.{is_power_of_two}
 use Rattle.std.specs.List.{list_any, list_all}
 use Rattle.std.specs.Option.{option_map, option_or}
-use Rattle.space_model.specs.declared.asks.Ask.{Ask}
-use Rattle.space_model.specs.declared.asks.Ask.TheVariants.{Alloc, Commit, Split, Merge}
-use Rattle.space_model.specs.declared.asks.Answer.{Answer}
-use Rattle.space_model.specs.declared.asks.Answer.TheVariants.{Done, Refused as Refuses, Placed}
-use Rattle.space_model.specs.declared.entries.Entry.{Entry}
-use Rattle.space_model.specs.declared.entries.Op.{Op}
-use Rattle.space_model.specs.declared.entries.Op.TheVariants.{Look, CutDone, GrowDone, CommitDone, Land, Back, PutLook, MergeDone, Fill, Advance, PurgeTake, LazyDone, Offer, OfferDone, DecommitDone, ForcedDone, Publish, TakeOver, Reset, Destroy, DestroyTake, Counts, Set, Widen, JoinDone, Trim, TrimDone}
-use Rattle.space_model.specs.declared.entries.Reply.{Reply}
-use Rattle.space_model.specs.declared.entries.Reply.TheVariants.{Noted, Took, Grow, Cut, Refused, Bad, Grown, Next, Beside, Purge, Joined, Counted}
-use Rattle.space_model.specs.declared.entries.Why.{Why}
-use Rattle.space_model.specs.declared.entries.Why.TheVariants.{OffSpace, Unaligned, Meets}
-use Rattle.space_model.specs.declared.parts.Part.{Part}
-use Rattle.space_model.specs.declared.parts.Region.{Region}
-use Rattle.space_model.specs.declared.parts.Span.{Span}
-use Rattle.space_model.specs.declared.parts.Rest.TheVariants.{Retained as ToRetained}
-use Rattle.space_model.specs.declared.parts.State.TheVariants.{Dirty, Flight}
-use Rattle.space_model.specs.declared.spaces.Space.{Space}
+use Rattle.space_model.specs.Types.{Ask, Alloc, Commit, Split, Merge, Answer, Done, Refuses, Placed, Entry, Op, Look, CutDone, GrowDone, CommitDone, Land, Back, PutLook, MergeDone, Fill, Advance, PurgeTake, LazyDone, Offer, OfferDone, DecommitDone, ForcedDone, Publish, TakeOver, Reset, Destroy, DestroyTake, Counts, Set, Widen, JoinDone, Trim, TrimDone, Reply, Noted, Took, Grow, Cut, Refused, Bad, Grown, Next, Beside, Purge, Joined, Counted, Why, OffSpace, Unaligned, Meets, Part, Region, Span, ToRetained, Dirty, Flight, Space}
 use Rattle.space_model.specs.Span.{pages_end, max_series, end_of, chunk_span, chunks_of, chunks_in, meets, run_start}
 pub use Rattle.space_model.specs.Part.{placed, next_flight}
 use Rattle.space_model.specs.Part.{exchanged, begins_at, is_active, is_listed, is_flight_at, rest_of, listed, put_down, taken_out, turned, turned_in_order}

@@ -1,21 +1,21 @@
 -- What a step gives, and the words that the operations share.
-use Rattle.std.specs.Prelude.{ℕ, ◌+◌, ◌-◌, Bool, true, false, ◌||◌, not, List, [], ◌∷◌, find, pos, Option, None, Some, if◌then◌else◌}
+use Rattle.std.specs.Prelude.{◌≡◌, ℕ, ◌+◌, ◌-◌, Bool, true, false, ◌||◌, not, List, [], ◌∷◌, find, pos, Option, None, Some, Result, IfOk, OnOk, OnErr, if◌then◌else◌}
 use Rattle.std.specs.Ordering.{int_eq}
-use Rattle.space_model.specs.declared.asks.Answer.{Answer}
-use Rattle.space_model.specs.declared.asks.Answer.TheVariants.{Done, Refused as Refuses, Placed}
-use Rattle.space_model.specs.declared.entries.Reply.{Reply}
-use Rattle.space_model.specs.declared.entries.Reply.TheVariants.{NoArena, Noted, Whole}
-use Rattle.space_model.specs.declared.parts.Part.{Part}
-use Rattle.space_model.specs.declared.parts.Span.{Span}
-use Rattle.space_model.specs.declared.spaces.Life.{Life}
-use Rattle.space_model.specs.declared.spaces.Life.TheVariants.{Live, Absent, Dying}
-use Rattle.space_model.specs.declared.spaces.Space.{Space}
+use Rattle.space_model.specs.Types.{Answer, Placed, Reply, NoArena, Noted, Whole, Part, Span, Life, Live, Space}
 use Rattle.space_model.specs.Part.{exchanged, begins_at, is_flight_at, put_down}
 
 -- The space after an entry, and the reply to it.
 pub record Stepped : Type 0 where
   pub after : Space
   pub reply : Reply
+
+-- A step was made and its reply told, or memory was wanting and the space is as it was.
+abbrev pub IsMade : {E : Type 0} → Space → Space → Result Reply E → Stepped → Type 0
+IsMade s t result step = record {
+  after : OnOk result (t ≡ step.after);
+  reply : IfOk result (λ told. told ≡ step.reply);
+  err : OnErr result (t ≡ s);
+}
 
 -- nothing changes
 abbrev pub stays : Space → Reply → Stepped
@@ -34,8 +34,7 @@ whole_at space (Some p) = replaced space p (put_down p ∷ []) Whole
 -- whether the arena serves requests
 abbrev pub is_live : Life → Bool
 is_live Live = true
-is_live Absent = false
-is_live (Dying c) = false
+is_live _ = false
 
 -- a step that only a live arena makes: any other has no arena to reply
 abbrev pub if_live : Space → Stepped → Stepped
@@ -76,6 +75,5 @@ has_flight space c span test = found_passes test (find (is_flight_at c span) spa
 
 -- whether the answer is one to an ask other than alloc
 abbrev pub is_yes_or_no : Answer → Bool
-is_yes_or_no Done = true
-is_yes_or_no Refuses = true
 is_yes_or_no (Placed first committed zeroed) = false
+is_yes_or_no answer = true

@@ -29,6 +29,7 @@ impl Model for Clients {
 
 impl Clients {
     /// No client.
+    #[tactic(auto, using(crate::proofs::Roster::empty_roster))]
     pub fn none() -> Self
         ensures { result ≡ [] }
     {
@@ -38,6 +39,7 @@ impl Clients {
     }
 
     /// All 32 clients, by number.
+    #[tactic(auto, using(crate::proofs::Ranges::range_with_len_more, crate::proofs::Roster::range_misses))]
     pub fn everyone() -> Self
         ensures { result ≡ range_with_len 0 32 }
     {

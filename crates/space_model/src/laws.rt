@@ -23,6 +23,7 @@ pub fn replies_tell()
 {}
 
 /// No page is in two extents, and no byte in two regions, which stand by address.
+#[tactic(auto, using(crate::proofs::LawLemmas::parts_are_apart, crate::proofs::LawLemmas::regions_are_apart, crate::proofs::LawLemmas::regions_rise))]
 pub fn nothing_is_shared()
     ensures parts { PartsAreApart }
     ensures regions { RegionsAreApart }
@@ -30,6 +31,7 @@ pub fn nothing_is_shared()
 {}
 
 /// Each region lies in an active, committed extent, on granted pages and aligned.
+#[tactic(auto, using(crate::proofs::LawLemmas::regions_have_homes, crate::proofs::LawLemmas::regions_are_granted))]
 pub fn regions_are_usable()
     ensures homes { RegionsHaveHomes }
     ensures granted { RegionsAreGranted }
@@ -37,6 +39,7 @@ pub fn regions_are_usable()
 {}
 
 /// The counts are sums over the extents, which fit into the space.
+#[tactic(auto, using(crate::proofs::Sums::mapped_sum, crate::proofs::Sums::whole_sum, crate::proofs::Sums::bytes_fit_space))]
 pub fn counts_add_up()
     ensures mapped { MappedIsSum }
     ensures all { MappedIsUnretained }

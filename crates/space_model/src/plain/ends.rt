@@ -5,6 +5,7 @@ ghost use Rattle.std.specs.List.{list_any};
 ghost use Rattle.space_model.specs.Part.{is_active, is_flight, is_in_flight, is_listed, moved_to, turned, turned_in_order};
 ghost use Rattle.space_model.specs.Region.{is_held_by, is_held_by_other};
 ghost use Rattle.space_model.specs.Ending.{held_count, flight_count, if_free, reset_reply, emptied, after_reset, reset_stands, ended, after_destroy, doom_at, after_destroy_take};
+ghost use Rattle.space_model.specs.Stepped.{IsMade};
 ghost use Rattle.space_model.specs.Sound.{Sound};
 
 use super::frees::{in_order, is_dirty_time_over, is_lazy};
@@ -102,6 +103,7 @@ fn offer_count(space: &Space, client: u32) -> u64
 
 /// What others have in the arena, or the client in its cache: how many regions, and how many extents in flight or
 /// offered.
+#[tactic(auto, using(crate::proofs::Bounds::held_apart, crate::proofs::Bounds::cached_least))]
 fn load(space: &Space, client: u32, cached: u64) -> (u64, u64)
     requires { IsTrue (reset_stands space.now client cached) }
     ensures held { result.0 ≡ held_count space.now client cached }
@@ -190,9 +192,7 @@ fn all_to_retained(parts: &Parts) -> Result<Vec<Part>, NoMemory>
 
 /// All regions go, and each extent that served them is dirty.
 fn empty(space: &mut Space) -> Result<Reply, NoMemory>
-    ensures after { OnOk result (space.new ≡ (emptied space.old).after) }
-    ensures reply { IfOk result (λ told. told ≡ (emptied space.old).reply) }
-    ensures err { OnErr result (space.new ≡ space.old) }
+    ensures { IsMade space.old space.new result (emptied space.old) }
 {
     let alloc = *space.regions.items.allocator();
     let parts = active_to_dirty(&space.parts)?;
@@ -209,9 +209,7 @@ fn empty(space: &mut Space) -> Result<Reply, NoMemory>
 /// Discards all regions, unless the arena is in use.
 pub fn reset(space: &mut Space, client: u32, cached: u64) -> Result<Reply, NoMemory>
     requires { IsTrue (reset_stands space.old client cached) }
-    ensures after { OnOk result (space.new ≡ (after_reset space.old client cached).after) }
-    ensures reply { IfOk result (λ told. told ≡ (after_reset space.old client cached).reply) }
-    ensures err { OnErr result (space.new ≡ space.old) }
+    ensures { IsMade space.old space.new result (after_reset space.old client cached) }
 {
     if !space.life.is_live() {
         return Ok(Reply::NoArena);
@@ -229,9 +227,7 @@ pub fn reset(space: &mut Space, client: u32, cached: u64) -> Result<Reply, NoMem
 
 /// All regions go, each extent is retained, and the client is destroying the arena.
 fn end(space: &mut Space, client: u32) -> Result<Reply, NoMemory>
-    ensures after { OnOk result (space.new ≡ (ended space.old client).after) }
-    ensures reply { IfOk result (λ told. told ≡ (ended space.old client).reply) }
-    ensures err { OnErr result (space.new ≡ space.old) }
+    ensures { IsMade space.old space.new result (ended space.old client) }
 {
     let alloc = *space.regions.items.allocator();
     let parts = all_to_retained(&space.parts)?;
@@ -244,9 +240,7 @@ fn end(space: &mut Space, client: u32) -> Result<Reply, NoMemory>
 /// Ends the arena, unless it is in use.
 pub fn destroy(space: &mut Space, client: u32, cached: u64) -> Result<Reply, NoMemory>
     requires { IsTrue (reset_stands space.old client cached) }
-    ensures after { OnOk result (space.new ≡ (after_destroy space.old client cached).after) }
-    ensures reply { IfOk result (λ told. told ≡ (after_destroy space.old client cached).reply) }
-    ensures err { OnErr result (space.new ≡ space.old) }
+    ensures { IsMade space.old space.new result (after_destroy space.old client cached) }
 {
     if !space.life.is_live() {
         return Ok(Reply::NoArena);
@@ -265,9 +259,7 @@ pub fn destroy(space: &mut Space, client: u32, cached: u64) -> Result<Reply, NoM
 
 /// Takes the oldest extent off an arena that is being destroyed; after the last one it is absent.
 pub fn destroy_take(space: &mut Space) -> Result<Reply, NoMemory>
-    ensures after { OnOk result (space.new ≡ (after_destroy_take space.old).after) }
-    ensures reply { IfOk result (λ told. told ≡ (after_destroy_take space.old).reply) }
-    ensures err { OnErr result (space.new ≡ space.old) }
+    ensures { IsMade space.old space.new result (after_destroy_take space.old) }
 {
     let Some(part) = space.parts.as_slice().first().copied() else {
         space.life = Life::Absent;

@@ -2,6 +2,7 @@
 
 ghost use Rattle.std.specs.Prelude.{◌≡◌, IfOk, OnOk, OnErr, None, Some, find, if◌then◌else◌};
 ghost use Rattle.space_model.specs.Region.{held_anew};
+ghost use Rattle.space_model.specs.Stepped.{IsMade};
 ghost use Rattle.space_model.specs.Holding.{is_held_at, is_published_at, after_publish, after_take_over};
 
 use super::stands::is_held_by;
@@ -63,9 +64,7 @@ fn all_published(client: u32, addr: u64, regions: &Regions) -> Result<Vec<Region
 
 /// Nobody holds the client's region at the address any more.
 pub fn publish(space: &mut Space, client: u32, addr: u64) -> Result<Reply, NoMemory>
-    ensures after { OnOk result (space.new ≡ (after_publish space.old client addr).after) }
-    ensures reply { IfOk result (λ told. told ≡ (after_publish space.old client addr).reply) }
-    ensures err { OnErr result (space.new ≡ space.old) }
+    ensures { IsMade space.old space.new result (after_publish space.old client addr) }
 {
     let regions = all_published(client, addr, &space.regions)?;
     space.regions = Seq::from_vec(regions);
@@ -96,9 +95,7 @@ fn published_at(addr: u64, regions: &Regions) -> Option<Region>
 
 /// The client holds the published region at the address from now on, if there is one.
 pub fn take_over(space: &mut Space, client: u32, addr: u64) -> Result<Reply, NoMemory>
-    ensures after { OnOk result (space.new ≡ (after_take_over space.old client addr).after) }
-    ensures reply { IfOk result (λ told. told ≡ (after_take_over space.old client addr).reply) }
-    ensures err { OnErr result (space.new ≡ space.old) }
+    ensures { IsMade space.old space.new result (after_take_over space.old client addr) }
 {
     if !space.life.is_live() {
         return Ok(Reply::NoArena);

@@ -7,6 +7,7 @@ ghost use Rattle.space_model.specs.Fit.{fit};
 ghost use Rattle.space_model.specs.Step.{cut_stands, grow_stands, replaced, after_look, low_piece, high_piece, cut_at, whole_at, after_cut, new_part, grow_after, grow_unless, after_grow, after_commit, step_of, space_after, reply_to, stands, op_stands};
 ghost use Rattle.space_model.specs.Sound.{Sound};
 ghost use Rattle.space_model.specs.Journal.{Good};
+ghost use Rattle.space_model.specs.Stepped.{IsMade};
 ghost use Rattle.space_model.specs.Own.{mine};
 
 use super::ends::{destroy, destroy_take, reset};
@@ -55,9 +56,7 @@ pub fn replace(
     pieces: &[Part],
     reply: Reply,
 ) -> Result<Reply, NoMemory>
-    ensures after { OnOk result (space.new ≡ (replaced space.old part.now pieces.now reply).after) }
-    ensures reply { IfOk result (λ told. told ≡ reply) }
-    ensures err { OnErr result (space.new ≡ space.old) }
+    ensures { IsMade space.old space.new result (replaced space.old part.now pieces.now reply) }
 {
     exchange(&mut space.parts, part.span.first, pieces)?;
     Ok(reply)
@@ -87,9 +86,7 @@ pub fn put_down(part: Part) -> Part
 fn look(space: &mut Space, client: u32, pages: u64, align: u64) -> Result<Reply, NoMemory>
     requires align { 1 ≤ align }
     requires sound { Sound space.old }
-    ensures after { OnOk result (space.new ≡ (after_look space.old client pages align).after) }
-    ensures reply { IfOk result (λ told. told ≡ (after_look space.old client pages align).reply) }
-    ensures err { OnErr result (space.new ≡ space.old) }
+    ensures { IsMade space.old space.new result (after_look space.old client pages align) }
 {
     if !space.life.is_live() {
         return Ok(Reply::NoArena);
@@ -109,9 +106,7 @@ fn look(space: &mut Space, client: u32, pages: u64, align: u64) -> Result<Reply,
 
 /// An extent in flight whose hook refused is put down whole.
 pub fn put_whole(space: &mut Space, found: Option<Part>) -> Result<Reply, NoMemory>
-    ensures after { OnOk result (space.new ≡ (whole_at space.old found).after) }
-    ensures reply { IfOk result (λ told. told ≡ (whole_at space.old found).reply) }
-    ensures err { OnErr result (space.new ≡ space.old) }
+    ensures { IsMade space.old space.new result (whole_at space.old found) }
 {
     match found {
         Some(part) => replace(space, &part, &[put_down(part)], Reply::Whole),
@@ -123,9 +118,7 @@ pub fn put_whole(space: &mut Space, found: Option<Part>) -> Result<Reply, NoMemo
 fn cut(space: &mut Space, keep_low: bool, left: u64, part: Part) -> Result<Reply, NoMemory>
     requires cut { left ≤ part.span.pages }
     requires fits { part.span.first + part.span.pages < 2 ^ 64 }
-    ensures after { OnOk result (space.new ≡ (cut_at space.old keep_low left (Some part)).after) }
-    ensures reply { IfOk result (λ told. told ≡ (cut_at space.old keep_low left (Some part)).reply) }
-    ensures err { OnErr result (space.new ≡ space.old) }
+    ensures { IsMade space.old space.new result (cut_at space.old keep_low left (Some part)) }
 {
     let low = part.low_piece(left);
     let high = part.high_piece(left);
@@ -139,12 +132,11 @@ fn cut(space: &mut Space, keep_low: bool, left: u64, part: Part) -> Result<Reply
 }
 
 /// Takes in the answer to a split.
+#[tactic(auto, using(crate::proofs::Steps::cut_bounds))]
 fn cut_done(space: &mut Space, client: u32, heard: Heard, keep_low: bool) -> Result<Reply, NoMemory>
     requires stands { IsTrue (cut_stands space.old client heard.ask heard.answer) }
     requires sound { Sound space.old }
-    ensures after { OnOk result (space.new ≡ (after_cut space.old client keep_low heard.ask heard.answer).after) }
-    ensures reply { IfOk result (λ told. told ≡ (after_cut space.old client keep_low heard.ask heard.answer).reply) }
-    ensures err { OnErr result (space.new ≡ space.old) }
+    ensures { IsMade space.old space.new result (after_cut space.old client keep_low heard.ask heard.answer) }
 {
     let Ask::Split { span, left } = heard.ask else {
         return Ok(Reply::Noted);
@@ -159,9 +151,7 @@ fn cut_done(space: &mut Space, client: u32, heard: Heard, keep_low: bool) -> Res
 
 /// Takes in the answer to a commit.
 fn commit_done(space: &mut Space, client: u32, heard: Heard) -> Result<Reply, NoMemory>
-    ensures after { OnOk result (space.new ≡ (after_commit space.old client heard.ask heard.answer).after) }
-    ensures reply { IfOk result (λ told. told ≡ (after_commit space.old client heard.ask heard.answer).reply) }
-    ensures err { OnErr result (space.new ≡ space.old) }
+    ensures { IsMade space.old space.new result (after_commit space.old client heard.ask heard.answer) }
 {
     let Ask::Commit(span) = heard.ask else {
         return Ok(Reply::Noted);
@@ -213,9 +203,7 @@ fn grow(
     committed: bool,
     why: Option<Why>,
 ) -> Result<Reply, NoMemory>
-    ensures after { OnOk result (space.new ≡ (grow_unless space.old client span committed why).after) }
-    ensures reply { IfOk result (λ told. told ≡ (grow_unless space.old client span committed why).reply) }
-    ensures err { OnErr result (space.new ≡ space.old) }
+    ensures { IsMade space.old space.new result (grow_unless space.old client span committed why) }
 {
     if let Some(why) = why {
         return Ok(Reply::Bad(why));
@@ -233,9 +221,7 @@ fn grow_done(
     found: Option<u64>,
 ) -> Result<Reply, NoMemory>
     requires { IsTrue (grow_stands space.old client heard.ask heard.answer) }
-    ensures after { OnOk result (space.new ≡ (after_grow space.old client found heard.ask heard.answer).after) }
-    ensures reply { IfOk result (λ told. told ≡ (after_grow space.old client found heard.ask heard.answer).reply) }
-    ensures err { OnErr result (space.new ≡ space.old) }
+    ensures { IsMade space.old space.new result (after_grow space.old client found heard.ask heard.answer) }
 {
     match (heard.ask, heard.answer) {
         (
@@ -260,9 +246,7 @@ fn step(space: &mut Space, client: u32, op: &Op) -> Result<Reply, NoMemory>
     requires client { client < 32 }
     requires stands { IsTrue (op_stands space.old client op.now) }
     requires sound { Sound space.old }
-    ensures after { OnOk result (space.new ≡ (step_of space.old client op.now).after) }
-    ensures reply { IfOk result (λ told. told ≡ (step_of space.old client op.now).reply) }
-    ensures err { OnErr result (space.new ≡ space.old) }
+    ensures { IsMade space.old space.new result (step_of space.old client op.now) }
 {
     match op {
         Op::Look { pages, align } => look(space, client, *pages, *align),

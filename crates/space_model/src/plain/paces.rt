@@ -5,6 +5,7 @@ ghost use Rattle.std.specs.List.{sum_by};
 ghost use Rattle.space_model.specs.Span.{IsPlaced, pages_end};
 ghost use Rattle.space_model.specs.Part.{is_listed, pages_listed};
 ghost use Rattle.space_model.specs.Pace.{weight, weighed, limit_at, with_new, passed, passed_if_any, advanced, advance_all, after_advance};
+ghost use Rattle.space_model.specs.Stepped.{IsMade};
 ghost use Rattle.space_model.specs.Sound.{Sound, IsPaced};
 
 use crate::{Added, Pace, Part, Reply, Rest, Seq, Space};
@@ -24,6 +25,7 @@ struct Paced {
 }
 
 /// How much of 2^24 an addition weighs while so many epochs are left to it, from 1 to 200.
+#[tactic(auto, using(crate::proofs::Decay::weight_fits), unfolding(crate::specs::Pace::weight))]
 fn weight(left: u64) -> u128
     requires { left ≤ 200 }
     ensures value { result ≡ weight left }
@@ -173,9 +175,7 @@ pub fn pages_listed(rest: Rest, space: &Space) -> u64
 /// Both decays of an arena go on to a moment.
 fn advance_all(space: &mut Space, now: u64) -> Result<Reply, NoMemory>
     requires { Sound space.old }
-    ensures after { OnOk result (space.new ≡ (advance_all space.old now).after) }
-    ensures reply { IfOk result (λ told. told ≡ (advance_all space.old now).reply) }
-    ensures err { OnErr result (space.new ≡ space.old) }
+    ensures { IsMade space.old space.new result (advance_all space.old now) }
 {
     let dirty = advanced(&space.dirty, now, pages_listed(Rest::Dirty, space))?;
     let muzzy = advanced(&space.muzzy, now, pages_listed(Rest::Muzzy, space))?;
@@ -193,9 +193,7 @@ fn advance_all(space: &mut Space, now: u64) -> Result<Reply, NoMemory>
 /// Tells both decays what time it is.
 pub fn advance(space: &mut Space, now: u64) -> Result<Reply, NoMemory>
     requires { Sound space.old }
-    ensures after { OnOk result (space.new ≡ (after_advance space.old now).after) }
-    ensures reply { IfOk result (λ told. told ≡ (after_advance space.old now).reply) }
-    ensures err { OnErr result (space.new ≡ space.old) }
+    ensures { IsMade space.old space.new result (after_advance space.old now) }
 {
     if !space.life.is_live() {
         return Ok(Reply::NoArena);

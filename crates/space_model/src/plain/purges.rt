@@ -5,6 +5,7 @@ ghost use Rattle.std.specs.Bool.{beq};
 ghost use Rattle.std.specs.List.{list_any, position};
 ghost use Rattle.space_model.specs.Part.{is_flight_at, is_listed, listed, rest_of};
 ghost use Rattle.space_model.specs.Purging.{count_listed, purge_at, after_purge_take, is_purgeable, lazy_at, after_lazy, lazy_stands, offer_at, is_offer, without_offer, is_regranted, keep_offer, after_offer, offer_stands, decommit_at, after_decommit, decommit_stands, forced_stands};
+ghost use Rattle.space_model.specs.Stepped.{IsMade};
 ghost use Rattle.space_model.specs.Sound.{Sound};
 
 use super::finds::{any_meets, flight, next_flight};
@@ -51,9 +52,7 @@ fn oldest(rest: Rest, parts: &Parts) -> Option<Part>
 
 /// An extent leaves its list to be purged.
 fn purge(space: &mut Space, client: u32, rest: Rest, found: Option<Part>) -> Result<Reply, NoMemory>
-    ensures after { OnOk result (space.new ≡ (purge_at space.old client rest found).after) }
-    ensures reply { IfOk result (λ told. told ≡ (purge_at space.old client rest found).reply) }
-    ensures err { OnErr result (space.new ≡ space.old) }
+    ensures { IsMade space.old space.new result (purge_at space.old client rest found) }
 {
     let Some(part) = found else {
         return Ok(Reply::Nothing);
@@ -69,9 +68,7 @@ fn purge(space: &mut Space, client: u32, rest: Rest, found: Option<Part>) -> Res
 /// Takes the oldest extent of the rest out, where more pages are listed than may stay.
 pub fn purge_take(space: &mut Space, client: u32, rest: Rest, keep: u64) -> Result<Reply, NoMemory>
     requires { Sound space.old }
-    ensures after { OnOk result (space.new ≡ (after_purge_take space.old client rest keep).after) }
-    ensures reply { IfOk result (λ told. told ≡ (after_purge_take space.old client rest keep).reply) }
-    ensures err { OnErr result (space.new ≡ space.old) }
+    ensures { IsMade space.old space.new result (after_purge_take space.old client rest keep) }
 {
     if !space.life.is_live() {
         return Ok(Reply::NoArena);
@@ -106,9 +103,7 @@ pub fn lazy_stands(space: &Space, client: u32, heard: Heard) -> bool
 
 /// Takes in the answer to a lazy purge.
 pub fn lazy_done(space: &mut Space, client: u32, heard: Heard) -> Result<Reply, NoMemory>
-    ensures after { OnOk result (space.new ≡ (after_lazy space.old client heard.ask heard.answer).after) }
-    ensures reply { IfOk result (λ told. told ≡ (after_lazy space.old client heard.ask heard.answer).reply) }
-    ensures err { OnErr result (space.new ≡ space.old) }
+    ensures { IsMade space.old space.new result (after_lazy space.old client heard.ask heard.answer) }
 {
     let Ask::PurgeLazy(span) = heard.ask else {
         return Ok(Reply::Noted);
@@ -129,9 +124,7 @@ pub fn lazy_done(space: &mut Space, client: u32, heard: Heard) -> Result<Reply, 
 
 /// An extent in flight is offered to the dalloc hook.
 pub fn offer(space: &mut Space, client: u32, span: Span) -> Result<Reply, NoMemory>
-    ensures after { OnOk result (space.new ≡ (offer_at space.old client (find (is_flight_at client span) space.old.parts)).after) }
-    ensures reply { IfOk result (λ told. told ≡ (offer_at space.old client (find (is_flight_at client span) space.old.parts)).reply) }
-    ensures err { OnErr result (space.new ≡ space.old) }
+    ensures { IsMade space.old space.new result (offer_at space.old client (find (is_flight_at client span) space.old.parts)) }
 {
     let Some(part) = flight(space.parts.as_slice(), client, span) else {
         return Ok(Reply::Noted);
@@ -184,6 +177,7 @@ fn offer_place(offers: &[Offered], client: u32, span: Span, committed: bool) -> 
 }
 
 /// Takes the client's first offer of the span off, if there is one.
+#[tactic(auto, using(crate::proofs::Bounds::first_place, crate::proofs::Bounds::no_place))]
 fn take_offer_off(offers: &mut Offers, client: u32, span: Span, committed: bool)
     ensures { offers.new ≡ without_offer client span committed offers.old }
 {
@@ -200,9 +194,7 @@ fn keep_offer(
     span: Span,
     committed: bool,
 ) -> Result<Reply, NoMemory>
-    ensures after { OnOk result (space.new ≡ (keep_offer space.old client found span committed).after) }
-    ensures reply { IfOk result (λ told. told ≡ (keep_offer space.old client found span committed).reply) }
-    ensures err { OnErr result (space.new ≡ space.old) }
+    ensures { IsMade space.old space.new result (keep_offer space.old client found span committed) }
 {
     if found.is_some() || any_meets(space.parts.as_slice(), span) {
         let next = next_flight(client, space.parts.as_slice());
@@ -251,9 +243,7 @@ pub fn decommit_stands(space: &Space, client: u32, heard: Heard) -> bool
 
 /// Takes in the answer to a decommit.
 pub fn decommit_done(space: &mut Space, client: u32, heard: Heard) -> Result<Reply, NoMemory>
-    ensures after { OnOk result (space.new ≡ (after_decommit space.old client heard.ask heard.answer).after) }
-    ensures reply { IfOk result (λ told. told ≡ (after_decommit space.old client heard.ask heard.answer).reply) }
-    ensures err { OnErr result (space.new ≡ space.old) }
+    ensures { IsMade space.old space.new result (after_decommit space.old client heard.ask heard.answer) }
 {
     let Ask::Decommit(span) = heard.ask else {
         return Ok(Reply::Noted);

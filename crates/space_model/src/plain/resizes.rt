@@ -5,6 +5,7 @@ ghost use Rattle.std.specs.List.{list_any};
 ghost use Rattle.space_model.specs.Span.{has_page, same_span};
 ghost use Rattle.space_model.specs.Region.{address_of, houses, starts_at};
 ghost use Rattle.space_model.specs.Resizing.{is_large_class, is_large_at, large_home, has_large, reclassed, is_spare, is_open, widen_at, after_widen, widen_stands, widened_at, after_join, join_stands, after_trim, trim_stands, trimmed_at, after_trim_done, trim_done_stands};
+ghost use Rattle.space_model.specs.Stepped.{IsMade};
 ghost use Rattle.space_model.specs.Sound.{Sound};
 
 use super::finds::flight;
@@ -146,9 +147,7 @@ fn widen_at(
     home: (Region, Part),
 ) -> Result<Reply, NoMemory>
     requires { home.1.span.pages ≤ pages }
-    ensures after { OnOk result (space.new ≡ (widen_at space.old client pages (Some home)).after) }
-    ensures reply { IfOk result (λ told. told ≡ (widen_at space.old client pages (Some home)).reply) }
-    ensures err { OnErr result (space.new ≡ space.old) }
+    ensures { IsMade space.old space.new result (widen_at space.old client pages (Some home)) }
 {
     let span = home.1.span;
     let page = span.end();
@@ -170,9 +169,7 @@ fn widen_at(
 pub fn widen(space: &mut Space, client: u32, addr: u64, pages: u64) -> Result<Reply, NoMemory>
     requires stands { IsTrue (widen_stands space.old client addr pages) }
     requires sound { Sound space.old }
-    ensures after { OnOk result (space.new ≡ (after_widen space.old client addr pages).after) }
-    ensures reply { IfOk result (λ told. told ≡ (after_widen space.old client addr pages).reply) }
-    ensures err { OnErr result (space.new ≡ space.old) }
+    ensures { IsMade space.old space.new result (after_widen space.old client addr pages) }
 {
     match large_home(space, client, u128::from(addr)) {
         Some(home) => widen_at(space, client, pages, home),
@@ -217,9 +214,7 @@ fn widen_by(
     high: &Part,
 ) -> Result<Reply, NoMemory>
     requires { low.now.span.pages + high.now.span.pages < 2 ^ 64 }
-    ensures after { OnOk result (space.new ≡ (widened_at space.old class (Some (region, low.now)) (Some high.now)).after) }
-    ensures reply { IfOk result (λ told. told ≡ (widened_at space.old class (Some (region, low.now)) (Some high.now)).reply) }
-    ensures err { OnErr result (space.new ≡ space.old) }
+    ensures { IsMade space.old space.new result (widened_at space.old class (Some (region, low.now)) (Some high.now)) }
 {
     let regions = reclassed(region, class, &space.regions)?;
     let both = joined(low, high);
@@ -235,9 +230,7 @@ fn widen_by(
 pub fn join_done(space: &mut Space, client: u32, heard: Heard, class: u8) -> Result<Reply, NoMemory>
     requires stands { IsTrue (join_stands space.old client class heard.ask heard.answer) }
     requires sound { Sound space.old }
-    ensures after { OnOk result (space.new ≡ (after_join space.old client class heard.ask heard.answer).after) }
-    ensures reply { IfOk result (λ told. told ≡ (after_join space.old client class heard.ask heard.answer).reply) }
-    ensures err { OnErr result (space.new ≡ space.old) }
+    ensures { IsMade space.old space.new result (after_join space.old client class heard.ask heard.answer) }
 {
     let Ask::Merge { low, high } = heard.ask else {
         return Ok(Reply::Noted);
@@ -301,9 +294,7 @@ fn cut_off(
 ) -> Result<Reply, NoMemory>
     requires cut { left ≤ part.span.pages }
     requires fits { part.span.first + part.span.pages < 2 ^ 64 }
-    ensures after { OnOk result (space.new ≡ (trimmed_at space.old client left class (Some (region, part))).after) }
-    ensures reply { IfOk result (λ told. told ≡ (trimmed_at space.old client left class (Some (region, part))).reply) }
-    ensures err { OnErr result (space.new ≡ space.old) }
+    ensures { IsMade space.old space.new result (trimmed_at space.old client left class (Some (region, part))) }
 {
     let regions = reclassed(region, class, &space.regions)?;
     let low = part.low_piece(left);
@@ -314,12 +305,11 @@ fn cut_off(
 }
 
 /// Takes in the answer to a split of a large region's extent, which ends the client's shrinking.
+#[tactic(auto, using(crate::proofs::Bounds::home_placed))]
 pub fn trim_done(space: &mut Space, client: u32, heard: Heard, class: u8) -> Result<Reply, NoMemory>
     requires stands { IsTrue (trim_done_stands space.old client class heard.ask heard.answer) }
     requires sound { Sound space.old }
-    ensures after { OnOk result (space.new ≡ (after_trim_done space.old client class heard.ask heard.answer).after) }
-    ensures reply { IfOk result (λ told. told ≡ (after_trim_done space.old client class heard.ask heard.answer).reply) }
-    ensures err { OnErr result (space.new ≡ space.old) }
+    ensures { IsMade space.old space.new result (after_trim_done space.old client class heard.ask heard.answer) }
 {
     let reply = match (heard.ask, heard.answer) {
         (Ask::Split { span, left }, Answer::Done) => {

@@ -1,4 +1,4 @@
-use Rattle.space_model.specs.Sound.{Sound}
+use Rattle.space_model.proofs.Words.{Sound}
 use Rattle.space_model.proofs.tests.carry_out.Given as goal
 
 -- the arena is sound

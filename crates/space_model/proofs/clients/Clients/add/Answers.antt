@@ -1,5 +1,5 @@
 use Rattle.std.proofs.Common.{◌≡◌, ◌<◌, false, length, ap, sym, ◌∙◌, rules}
-use Rattle.space_model.specs.Clients.{is_in}
+use Rattle.space_model.proofs.Words.{is_in}
 use Rattle.space_model.proofs.Roster.{IsRoster-push, roster_room}
 use Rattle.space_model.proofs.clients.Clients.add.Goals as goal
 

@@ -1,5 +1,5 @@
 use Rattle.std.proofs.Common.{◌≡◌}
-use Rattle.std.specs.List.{range_with_len}
+use Rattle.space_model.proofs.Words.{range_with_len}
 use Rattle.space_model.proofs.clients.Clients.everyone.Given as goal
 
 -- the clients so far, by number

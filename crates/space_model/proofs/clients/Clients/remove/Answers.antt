@@ -1,6 +1,6 @@
 use Rattle.std.proofs.Common.{◌≡◌, ◌∙◌, ap, not, ◌==◌, rules}
 use Rattle.arrayvec.proofs.ArrayVecLemmas.{filter-from_retain}
-use Rattle.space_model.specs.Clients.{without_client}
+use Rattle.space_model.proofs.Words.{without_client}
 use Rattle.space_model.proofs.Roster.{IsRoster-filter}
 use Rattle.space_model.proofs.clients.Clients.remove.Goals as goal
 

@@ -1,5 +1,5 @@
 use Rattle.std.proofs.Common.{◌≡◌, drop}
-use Rattle.space_model.specs.Step.{rises_from}
+use Rattle.space_model.proofs.Words.{rises_from}
 use Rattle.space_model.proofs.plain.stands.rises.Given as goal
 
 -- the addresses rise where those that are left rise from the least one on

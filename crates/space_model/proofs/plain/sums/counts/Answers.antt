@@ -1,6 +1,5 @@
 use Rattle.std.proofs.Common.{◌≡◌, ◌∙◌, true, ap, sym}
-use Rattle.space_model.specs.declared.entries.Reply.TheVariants.{Counted}
-use Rattle.space_model.specs.Step.{is_live}
+use Rattle.space_model.proofs.Words.{Counted, is_live}
 use Rattle.space_model.proofs.plain.sums.counts.Goals as goal
 
 pub returns-in_ok-boxed_counts-clause-reply : goal.returns-in_ok-boxed_counts-clause-reply

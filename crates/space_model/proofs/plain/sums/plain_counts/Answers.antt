@@ -1,5 +1,5 @@
 use Rattle.std.proofs.Common.{◌≡◌, ◌+◌, ◌∙◌, ap, arith}
-use Rattle.space_model.specs.Counts.{bytes_where, is_mapped, regions_by_class}
+use Rattle.space_model.proofs.Words.{bytes_where, is_mapped, regions_by_class}
 use Rattle.space_model.proofs.Sums.{mapped_sum}
 use Rattle.space_model.proofs.plain.sums.plain_counts.Goals as goal
 

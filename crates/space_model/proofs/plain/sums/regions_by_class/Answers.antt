@@ -1,8 +1,6 @@
 use Rattle.std.proofs.Common.{◌∙◌, ℕ, ◌+◌, ◌==◌, ap, get_or, set, arith}
-use Rattle.std.specs.List.{count_by}
+use Rattle.space_model.proofs.Words.{count_by, fill_by_more, fill_by_all}
 use Rattle.std.proofs.Common.{length-set}
-use Rattle.std.proofs.lemmas.List.Edits.{fill_by_more}
-use Rattle.std.proofs.lemmas.List.FromFn.{fill_by_all}
 use Rattle.space_model.proofs.plain.sums.regions_by_class.Goals as goal
 
 pub loop-i-preserved : goal.loop-i-preserved

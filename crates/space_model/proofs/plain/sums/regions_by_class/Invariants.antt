@@ -1,5 +1,5 @@
 use Rattle.std.proofs.Common.{◌≡◌, ℕ, ◌+◌, ◌<◌, get_or, ◌==◌, length}
-use Rattle.std.specs.List.{count_by}
+use Rattle.space_model.proofs.Words.{count_by}
 use Rattle.space_model.proofs.plain.sums.regions_by_class.Given as goal
 
 -- the numbers so far

@@ -1,8 +1,5 @@
 use Rattle.std.proofs.Common.{◌∙◌, ℕ, ap, get_or, set, length-set, arith}
-use Rattle.std.specs.List.{count_by}
-use Rattle.std.proofs.lemmas.List.Edits.{fill_by_more}
-use Rattle.std.proofs.lemmas.List.FromFn.{fill_by_all}
-use Rattle.space_model.specs.Region.{is_slab}
+use Rattle.space_model.proofs.Words.{count_by, fill_by_more, fill_by_all, is_slab}
 use Rattle.space_model.proofs.plain.sums.slabs_by_class.Goals as goal
 
 pub loop-class-preserved : goal.loop-class-preserved

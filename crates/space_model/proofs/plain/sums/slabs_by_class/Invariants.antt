@@ -1,6 +1,5 @@
 use Rattle.std.proofs.Common.{◌≡◌, ℕ, ◌<◌, get_or, length}
-use Rattle.std.specs.List.{count_by}
-use Rattle.space_model.specs.Region.{is_slab}
+use Rattle.space_model.proofs.Words.{count_by, is_slab}
 use Rattle.space_model.proofs.plain.sums.slabs_by_class.Given as goal
 
 -- the numbers so far
