@@ -6,6 +6,7 @@ use Rattle.std.proofs.lemmas.Bool.Decides.{nat_tests}
 use Rattle.std.proofs.lemmas.List.Elements.{All-contains, All-filter, All-push, All-weaker}
 use Rattle.page_map.specs.Pages.{Pages}
 use Rattle.space_model.specs.declared.parts.Part.{Part}
+use Rattle.space_model.specs.declared.parts.State.{State}
 use Rattle.space_model.specs.Span.{IsPlaced, end_of, meets}
 use Rattle.space_model.specs.Part.{begins_at, exchanged}
 use Rattle.space_model.specs.Step.{low_piece, high_piece}
@@ -48,16 +49,18 @@ pub low_apart : (left : ℕ) (p : Part) (others : List Part) → left < p.span.p
 low_apart left p others fewer all = All-weaker (λ x. meets x.span p.span ≡ false) (λ x. meets x.span (low_piece left p).span ≡ false) (λ x f. meets_low left x p fewer f) others all
 
 -- nor does one piece meet the other
-pub high_apart : (left : ℕ) (p : Part) (others now : List Part) → left < p.span.pages → All (λ x. meets x.span p.span ≡ false) others → now ≡ others ++ low_piece left p ∷ [] → All (λ x. meets x.span (high_piece left p).span ≡ false) now
-high_apart left p others now fewer all e =
-    rw e (All-push (λ x. meets x.span (high_piece left p).span ≡ false) others (low_piece left p)
+pub high_apart : (left : ℕ) (p low : Part) (others now : List Part) → left < p.span.pages → All (λ x. meets x.span p.span ≡ false) others → low.span ≡ (low_piece left p).span → now ≡ others ++ low ∷ [] → All (λ x. meets x.span (high_piece left p).span ≡ false) now
+high_apart left p low others now fewer all same e =
+    rw e (All-push (λ x. meets x.span (high_piece left p).span ≡ false) others low
     (All-weaker (λ x. meets x.span p.span ≡ false) (λ x. meets x.span (high_piece left p).span ≡ false) (λ x f. meets_high left x p fewer f) others all)
-    (grind (arith, nat_tests)))
+    (rw same (grind (arith, nat_tests))))
 
 -- the extents after a cut
-pub cut_parts : (old now u v : List Part) (first at left : ℕ) (p low high : Part) → old ≡ now → find (begins_at first) old ≡ Some p → at ≡ first → u ≡ exchanged (begins_at at) old (low ∷ []) → v ≡ u ++ high ∷ [] → low ≡ low_piece left p → high ≡ high_piece left p →
-    IfSome (find (begins_at first) now) (λ q. v ≡ exchanged (begins_at first) now (low_piece left q ∷ high_piece left q ∷ []))
-cut_parts old now u v first at left p low high same e is more last low_is high_is =
+pub cut_parts : (old now u v : List Part) (first at left : ℕ) (p low high : Part) (a b : State) → old ≡ now → find (begins_at first) old ≡ Some p → at ≡ first → u ≡ exchanged (begins_at at) old (record low { state = a } ∷ []) → v ≡ u ++ record high { state = b } ∷ [] → low ≡ low_piece left p → high ≡ high_piece left p →
+    IfSome (find (begins_at first) now) (λ q. v ≡ exchanged (begins_at first) now (record (low_piece left q) { state = a } ∷ record (high_piece left q) { state = b } ∷ []))
+cut_parts old now u v first at left p low' high' a b same e is more last low_is high_is =
+    let low : Part = record low' { state = a } in
+    let high : Part = record high' { state = b } in
     let others = filter (λ q. not (begins_at first q)) old in
     rw (sym (ap (find (begins_at first)) same) ∙ e) (
     last ∙ ap (λ xs. xs ++ high ∷ []) (more ∙ ap (λ n. exchanged (begins_at n) old (low ∷ [])) is)

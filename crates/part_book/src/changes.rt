@@ -1,5 +1,5 @@
 //! An extent is taken off all indexes, put on all of them, or changed where it stands.
-ghost use Rattle.std.specs.Prelude.{◌≡◌, ◌≢◌, ◌==◌, ℕ, ◌+◌, ◌-◌, ◌/◌, ◌<◌, ◌≤◌, true, false, [], ◌∷◌, ◌++◌, not, cond, length, find, filter, All, Contains, IsSome, IfSome, Some, is_some, vec_len, vec_capacity};
+ghost use Rattle.std.specs.Prelude.{◌≡◌, ◌≢◌, ◌==◌, ℕ, ◌+◌, ◌-◌, ◌/◌, ◌^◌, ◌<◌, ◌≤◌, true, false, [], ◌∷◌, ◌++◌, not, cond, length, find, filter, All, Contains, IsSome, IfSome, Some, is_some, vec_len, vec_capacity};
 ghost use Rattle.std.specs.FinMap as map_of;
 ghost use Rattle.std.specs.FinSet as set;
 ghost use Rattle.space_model.specs.Span.{IsPlaced, end_of, meets};
@@ -103,11 +103,15 @@ impl Table {
         ensures room { (n : ℕ) → HasListRoom self.old n → HasListRoom self.new (n + 1) }
     {
         self.order.remove(number);
-        unlist(&mut self.dirty, Rest::Dirty, number, part);
-        unlist(&mut self.muzzy, Rest::Muzzy, number, part);
-        unlist(&mut self.retained, Rest::Retained, number, part);
+        unlist(
+            &mut self.dirty,
+            &mut self.muzzy,
+            &mut self.retained,
+            &mut self.flights,
+            number,
+            part,
+        );
         drop_key(&mut self.sizes, size_key(number, part));
-        land(&mut self.flights, number, part.state);
     }
 
     // Puts an extent last in the order, and on what its state puts it on.
@@ -117,11 +121,42 @@ impl Table {
         ensures room { (n : ℕ) → HasListRoom self.old (n + 1) → HasListRoom self.new n }
     {
         self.order.push(number);
-        list(&mut self.dirty, Rest::Dirty, number, part);
-        list(&mut self.muzzy, Rest::Muzzy, number, part);
-        list(&mut self.retained, Rest::Retained, number, part);
+        list(
+            &mut self.dirty,
+            &mut self.muzzy,
+            &mut self.retained,
+            &mut self.flights,
+            number,
+            part,
+        );
         put_key(&mut self.sizes, size_key(number, part));
-        launch(&mut self.flights, number, part.state);
+    }
+}
+
+impl AgeList {
+    // Puts an extent of so many pages behind the others.
+    fn push(&mut self, number: u32, pages: u64)
+        requires place { number < self.old.ages.places }
+        requires new_number { All (λ n. n ≢ number) self.old.ages.numbers }
+        requires fits { self.old.pages + pages < 2 ^ 64 }
+        ensures numbers { self.new.ages.numbers ≡ self.old.ages.numbers ++ number ∷ [] }
+        ensures pages { self.new.pages ≡ self.old.pages + pages }
+        ensures places { self.new.ages.places ≡ self.old.ages.places }
+    {
+        self.ages.push(number);
+        self.pages += pages;
+    }
+
+    // Takes an extent of so many pages out.
+    fn remove(&mut self, number: u32, pages: u64)
+        requires there { Contains self.old.ages.numbers number }
+        requires within { pages ≤ self.old.pages }
+        ensures numbers { self.new.ages.numbers ≡ filter (λ n. not (n == number)) self.old.ages.numbers }
+        ensures pages { self.new.pages + pages ≡ self.old.pages }
+        ensures places { self.new.ages.places ≡ self.old.ages.places }
+    {
+        self.ages.remove(number);
+        self.pages -= pages;
     }
 }
 
@@ -164,25 +199,59 @@ fn move_edges(edges: &mut PageMap, from: Span, to: Span, number: u32)
     }
 }
 
-// Lists an extent, if its state is that of the list.
-fn list(list: &mut AgeList, rest: Rest, number: u32, part: &Part)
-    requires { CanList list.old (record { number = number; part = part.now }) }
-    ensures { Gets rest list.old list.new (record { number = number; part = part.now }) }
+// Puts an extent on the list of its state, or behind those in flight, if it belongs there.
+fn list(
+    dirty: &mut AgeList,
+    muzzy: &mut AgeList,
+    retained: &mut AgeList,
+    flights: &mut Vec<u32>,
+    number: u32,
+    part: &Part,
+)
+    requires dirty { CanList dirty.old (record { number = number; part = part.now }) }
+    requires muzzy { CanList muzzy.old (record { number = number; part = part.now }) }
+    requires retained { CanList retained.old (record { number = number; part = part.now }) }
+    requires flights { vec_len flights.old < vec_capacity flights.old }
+    ensures dirty { Gets Rest.Dirty dirty.old dirty.new (record { number = number; part = part.now }) }
+    ensures muzzy { Gets Rest.Muzzy muzzy.old muzzy.new (record { number = number; part = part.now }) }
+    ensures retained { Gets Rest.Retained retained.old retained.new (record { number = number; part = part.now }) }
+    ensures flights { flights.new.items ≡ flights.old.items ++ cond (is_in_flight part.now.state) (number ∷ []) [] }
+    ensures room { vec_capacity flights.old ≤ vec_capacity flights.new }
 {
-    if part.state.is_listed(rest) {
-        list.ages.push(number);
-        list.pages += part.span.pages;
+    match part.state {
+        State::Active => {}
+        State::Dirty => dirty.push(number, part.span.pages),
+        State::Muzzy => muzzy.push(number, part.span.pages),
+        State::Retained => retained.push(number, part.span.pages),
+        State::Flight(_, _) => flights.push(number).unwrap(),
     }
 }
 
-// Takes an extent off the list, if its state is that of the list.
-fn unlist(list: &mut AgeList, rest: Rest, number: u32, part: &Part)
-    requires { CanUnlist rest list.old (record { number = number; part = part.now }) }
-    ensures { Loses rest list.old list.new (record { number = number; part = part.now }) }
+// Takes an extent off the list of its state, or off those in flight, if it is there.
+fn unlist(
+    dirty: &mut AgeList,
+    muzzy: &mut AgeList,
+    retained: &mut AgeList,
+    flights: &mut Vec<u32>,
+    number: u32,
+    part: &Part,
+)
+    requires dirty { CanUnlist Rest.Dirty dirty.old (record { number = number; part = part.now }) }
+    requires muzzy { CanUnlist Rest.Muzzy muzzy.old (record { number = number; part = part.now }) }
+    requires retained { CanUnlist Rest.Retained retained.old (record { number = number; part = part.now }) }
+    ensures dirty { Loses Rest.Dirty dirty.old dirty.new (record { number = number; part = part.now }) }
+    ensures muzzy { Loses Rest.Muzzy muzzy.old muzzy.new (record { number = number; part = part.now }) }
+    ensures retained { Loses Rest.Retained retained.old retained.new (record { number = number; part = part.now }) }
+    ensures flights { flights.new.items ≡ cond (is_in_flight part.now.state)
+        (filter (λ flight. not (flight == number)) flights.old.items) flights.old.items }
+    ensures room { vec_capacity flights.new ≡ vec_capacity flights.old }
 {
-    if part.state.is_listed(rest) {
-        list.ages.remove(number);
-        list.pages -= part.span.pages;
+    match part.state {
+        State::Active => {}
+        State::Dirty => dirty.remove(number, part.span.pages),
+        State::Muzzy => muzzy.remove(number, part.span.pages),
+        State::Retained => retained.remove(number, part.span.pages),
+        State::Flight(_, _) => land(flights, number),
     }
 }
 
@@ -209,24 +278,10 @@ fn drop_key(keys: &mut OrderedSet, key: Option<Key>)
     }
 }
 
-// Puts an extent behind those in flight, if it is in flight.
-fn launch(flights: &mut Vec<u32>, number: u32, state: State)
-    requires { vec_len flights.old < vec_capacity flights.old }
-    ensures numbers { flights.new.items ≡ flights.old.items ++ cond (is_in_flight state) (number ∷ []) [] }
-    ensures room { vec_capacity flights.old ≤ vec_capacity flights.new }
-{
-    if state.is_in_flight() {
-        flights.push(number).unwrap();
-    }
-}
-
-// Takes an extent off those in flight, if it is in flight.
-fn land(flights: &mut Vec<u32>, number: u32, state: State)
-    ensures numbers { flights.new.items ≡ cond (is_in_flight state)
-        (filter (λ flight. not (flight == number)) flights.old.items) flights.old.items }
+// Takes an extent off those in flight.
+fn land(flights: &mut Vec<u32>, number: u32)
+    ensures numbers { flights.new.items ≡ filter (λ flight. not (flight == number)) flights.old.items }
     ensures room { vec_capacity flights.new ≡ vec_capacity flights.old }
 {
-    if state.is_in_flight() {
-        flights.retain(|flight| *flight != number);
-    }
+    flights.retain(|flight| *flight != number);
 }

@@ -231,20 +231,29 @@ impl PartBook {
         self.table.exchange(number, part, changed);
     }
 
-    /// Makes two of the extent that begins at a page: its first `left` pages and the others. Both
-    /// have its state and commit state and come last, the low one first. It takes a place.
-    pub fn cut(&mut self, first: u64, left: u64)
+    /// Makes two of the extent that begins at a page: its first `left` pages and the others, each in a
+    /// state of its own. Both have its commit state and come last, the low one first. It takes a place.
+    pub fn cut(&mut self, first: u64, left: u64, low: State, high: State)
         requires room { 0 < self.old.spare }
         requires begins { IsSome (find (begins_at first) self.old.parts) }
         requires some { 0 < left }
         requires fewer { IfSome (find (begins_at first) self.old.parts) (λ p. left < p.span.pages) }
         ensures parts { IfSome (find (begins_at first) self.old.parts) (λ p. self.new.parts
-            ≡ exchanged (begins_at first) self.old.parts (low_piece left p ∷ high_piece left p ∷ [])) }
+            ≡ exchanged (begins_at first) self.old.parts
+            (record (low_piece left p) { state = low } ∷ record (high_piece left p) { state = high } ∷ [])) }
         ensures spare { self.new.spare + 1 ≡ self.old.spare }
     {
         let (number, part) = self.table.extent_at(first);
-        self.table.exchange(number, part, part.low_piece(left));
-        self.table.put_on(part.high_piece(left));
+        let low = Part {
+            state: low,
+            ..part.low_piece(left)
+        };
+        let high = Part {
+            state: high,
+            ..part.high_piece(left)
+        };
+        self.table.exchange(number, part, low);
+        self.table.put_on(high);
         self.spare -= 1;
     }
 

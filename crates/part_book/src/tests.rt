@@ -94,7 +94,7 @@ fn cut(book: &mut PartBook, first: u64) -> bool {
         && 1 < part.span.pages
         && book.spare() > 0
     {
-        book.cut(first, 1);
+        book.cut(first, 1, State::Dirty, State::Dirty);
         return true;
     }
     false

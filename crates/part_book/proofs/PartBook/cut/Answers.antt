@@ -1,6 +1,6 @@
-use Rattle.std.proofs.Common.{◌≡◌, ◌+◌, ◌-◌, ◌*◌, ◌/◌, not, [], ◌∷◌, filter, find, sym, ap, ◌∙◌, subst, arith}
+use Rattle.std.proofs.Common.{◌≡◌, ◌+◌, ◌-◌, ◌*◌, ◌/◌, not, filter, find, sym, ap, ◌∙◌, subst, arith}
 use Rattle.space_model.specs.Span.{end_of}
-use Rattle.space_model.specs.Part.{begins_at, exchanged}
+use Rattle.space_model.specs.Part.{begins_at}
 use Rattle.space_model.specs.Step.{high_piece}
 use Rattle.part_book.specs.Tables.{HasRoom, parts_of}
 use Rattle.part_book.proofs.Changed.{cut_parts, high_apart, low_apart, low_placed, others_from}
@@ -27,8 +27,7 @@ put_on-requires-clause-apart c =
     let at = c.extent_at-number.ensures in
     let fewer = rw (sym (ap (λ b. find (begins_at c.args.first) b.parts) c.self.view_is) ∙ at.at.found) at c.requires.fewer in
     let others = others_from (parts_of c.self.inside.table) c.args.first p.span.first p at.first at.apart in
-    let now = c.exchange.ensures.kept.parts ∙ ap (λ low. exchanged (begins_at p.span.first) (parts_of c.self.inside.table) (low ∷ [])) c.low_piece.ensures in
-    rw c.high_piece.ensures (high_apart c.args.left p (filter (λ x. not (begins_at p.span.first x)) (parts_of c.self.inside.table)) (parts_of c.exchange.new.self) fewer others now)
+    rw c.high_piece.ensures (high_apart c.args.left p _ (filter (λ x. not (begins_at p.span.first x)) (parts_of c.self.inside.table)) (parts_of c.exchange.new.self) fewer others (ap (λ q. q.span) c.low_piece.ensures) c.exchange.ensures.kept.parts)
 
 pub put_on-requires-clause-room : goal.put_on-requires-clause-room
 put_on-requires-clause-room c =
@@ -60,4 +59,4 @@ invariant_of-self c =
 
 pub returns-clause-parts : goal.returns-clause-parts
 returns-clause-parts c =
-    cut_parts (parts_of c.self.inside.table) _ (parts_of c.exchange.new.self) _ c.args.first _ c.args.left c.extent_at-number.result.1 c.low_piece.result c.high_piece.result (ap (λ b. b.parts) c.self.view_is) c.extent_at-number.ensures.at.found c.extent_at-number.ensures.first c.exchange.ensures.kept.parts c.put_on.ensures.kept.parts c.low_piece.ensures c.high_piece.ensures
+    cut_parts (parts_of c.self.inside.table) _ (parts_of c.exchange.new.self) _ c.args.first _ c.args.left c.extent_at-number.result.1 c.low_piece.result c.high_piece.result _ _ (ap (λ b. b.parts) c.self.view_is) c.extent_at-number.ensures.at.found c.extent_at-number.ensures.first c.exchange.ensures.kept.parts c.put_on.ensures.kept.parts c.low_piece.ensures c.high_piece.ensures

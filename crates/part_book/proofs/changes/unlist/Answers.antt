@@ -1,21 +1,32 @@
-use Rattle.std.proofs.Common.{◌≡◌, true, not, cond, eqb, filter, length, sym, ap, ◌∙◌, arith}
-use Rattle.part_book.proofs.Lists.{bit, kept_length}
+use Rattle.std.proofs.Common.{◌≡◌, ◌+◌, true, not, eqb, filter, length, ap, arith}
+use Rattle.space_model.specs.declared.parts.Rest.{Rest}
+use Rattle.space_model.specs.declared.parts.Rest.TheVariants.{Dirty as ToDirty, Muzzy as ToMuzzy, Retained as ToRetained}
 use Rattle.space_model.specs.Part.{is_listed}
+use Rattle.part_book.specs.declared.table.AgeList.{AgeList}
+use Rattle.part_book.specs.Lists.{CanUnlist, Loses}
+use Rattle.part_book.specs.Rows.{Row}
+use Rattle.part_book.proofs.Lists.{kept_length}
 use Rattle.part_book.proofs.changes.unlist.Goals as goal
 
-pub returns-then-is_listed : goal.returns-then-is_listed
-returns-then-is_listed c =
-    let old = c.args.list.now in
-    let listed : is_listed c.args.rest c.args.part.now.state ≡ true = sym c.is_listed.ensures ∙ c.if-is_listed.true in
-    let one : bit (is_listed c.args.rest c.args.part.now.state) ≡ 1 = ap bit listed in
-    let own : cond (is_listed c.args.rest c.args.part.now.state) c.args.part.now.span.pages 0 ≡ c.args.part.now.span.pages = ap (λ b. cond b c.args.part.now.span.pages 0) listed in
-    let kept = kept_length (λ n. eqb n c.args.number) old.ages.numbers in
-    let len = ap length c.remove.ensures.numbers in
-    let once = c.requires.once in
-    let fits = c.requires.pages listed in
+-- a list loses an extent that it has
+lost : (rest : Rest) (old new : AgeList) (row : Row) → CanUnlist rest old row → is_listed rest row.part.state ≡ true → new.ages.numbers ≡ filter (λ n. not (eqb n row.number)) old.ages.numbers →
+    new.pages + row.part.span.pages ≡ old.pages → new.ages.places ≡ old.ages.places → Loses rest old new row
+lost rest old new row can listed numbers pages places =
+    let kept = kept_length (λ n. eqb n row.number) old.ages.numbers in
+    let len = ap length numbers in
+    let once = can.once in
     record {
-      numbers = c.remove.ensures.numbers ∙ ap (λ b. cond b (filter (λ n. not (eqb n c.args.number)) old.ages.numbers) old.ages.numbers) (sym listed);
-      pages = omega arith;
-      places = c.remove.ensures.places;
-      len = omega arith;
+      numbers = rw listed numbers;
+      pages = rw listed pages;
+      places = places;
+      len = rw listed (omega arith);
     }
+
+pub returns-in-Dirty-clause-dirty : goal.returns-in-Dirty-clause-dirty
+returns-in-Dirty-clause-dirty c = lost ToDirty _ _ _ c.requires.dirty (ap (is_listed ToDirty) c.in-Dirty.is) c.remove.ensures.numbers c.remove.ensures.pages c.remove.ensures.places
+
+pub returns-in-Muzzy-clause-muzzy : goal.returns-in-Muzzy-clause-muzzy
+returns-in-Muzzy-clause-muzzy c = lost ToMuzzy _ _ _ c.requires.muzzy (ap (is_listed ToMuzzy) c.in-Muzzy.is) c.remove-in-Muzzy.ensures.numbers c.remove-in-Muzzy.ensures.pages c.remove-in-Muzzy.ensures.places
+
+pub returns-in-Retained-clause-retained : goal.returns-in-Retained-clause-retained
+returns-in-Retained-clause-retained c = lost ToRetained _ _ _ c.requires.retained (ap (is_listed ToRetained) c.in-Retained.is) c.remove-in-Retained.ensures.numbers c.remove-in-Retained.ensures.pages c.remove-in-Retained.ensures.places

@@ -6,14 +6,14 @@ use Rattle.part_book.proofs.Removals.{can_unlist, order_fewer}
 use Rattle.part_book.proofs.Rowed.{row_placed}
 use Rattle.part_book.proofs.table.Table.lift.Goals as goal
 
-pub unlist-requires : goal.unlist-requires
-unlist-requires c = can_unlist c.args.self.now (rows_of c.args.self.now) _ c.requires.table c.requires.there ToDirty _ c.requires.table.indexes.dirty
+pub unlist-requires-clause-dirty : goal.unlist-requires-clause-dirty
+unlist-requires-clause-dirty c = can_unlist c.args.self.now (rows_of c.args.self.now) _ c.requires.table c.requires.there ToDirty _ c.requires.table.indexes.dirty
 
-pub unlist-requires-2 : goal.unlist-requires-2
-unlist-requires-2 c = can_unlist c.args.self.now (rows_of c.args.self.now) _ c.requires.table c.requires.there ToMuzzy _ c.requires.table.indexes.muzzy
+pub unlist-requires-clause-muzzy : goal.unlist-requires-clause-muzzy
+unlist-requires-clause-muzzy c = can_unlist c.args.self.now (rows_of c.args.self.now) _ c.requires.table c.requires.there ToMuzzy _ c.requires.table.indexes.muzzy
 
-pub unlist-requires-3 : goal.unlist-requires-3
-unlist-requires-3 c = can_unlist c.args.self.now (rows_of c.args.self.now) _ c.requires.table c.requires.there ToRetained _ c.requires.table.indexes.retained
+pub unlist-requires-clause-retained : goal.unlist-requires-clause-retained
+unlist-requires-clause-retained c = can_unlist c.args.self.now (rows_of c.args.self.now) _ c.requires.table c.requires.there ToRetained _ c.requires.table.indexes.retained
 
 pub size_key-requires : goal.size_key-requires
 size_key-requires c = row_placed (rows_of c.args.self.now) _ c.requires.table.indexes.apart c.requires.there
@@ -24,8 +24,8 @@ returns-clause-room c n room =
     let fewer = order_fewer t _ c.requires.table c.requires.there c.remove.ensures.numbers in
     let rests = one_rest (record { number = c.args.number; part = c.args.part.now }) in
     let spare = rw c.size_key.ensures at c.drop_key.ensures.spare in
-    let flights = c.land.ensures.room in
+    let flights = c.unlist.ensures.room in
     record {
-      sizes = omega (arith, room.sizes, c.unlist.ensures.len, c.unlist-2.ensures.len, c.unlist-3.ensures.len);
+      sizes = omega (arith, room.sizes, c.unlist.ensures.dirty.len, c.unlist.ensures.muzzy.len, c.unlist.ensures.retained.len);
       flights = omega (arith, room.flights);
     }
