@@ -1,5 +1,5 @@
 -- Extents that are apart stay apart, with sums that are known, where one or two of them are exchanged.
-use Rattle.std.proofs.Common.{◌≡◌, ◌≢◌, ℕ, ◌+◌, ◌-◌, ◌<◌, ◌≤◌, Bool, true, false, not, cond, List, [], ◌∷◌, ◌++◌, find, filter, Option, Some, IfSome, refl, sym, ◌∙◌, ap, subst, arith, All, append_assoc, inl, inr}
+use Rattle.std.proofs.Common.{◌≡◌, ◌≢◌, ℕ, ◌+◌, ◌-◌, ◌<◌, ◌≤◌, Bool, true, false, not, cond, List, [], ◌∷◌, ◌++◌, find, filter, Option, Some, IfSome, refl, sym, ap, subst, arith, All, append_assoc, inl, inr}
 use Rattle.std.specs.List.{count_by, list_any, sum_by}
 use Rattle.std.proofs.lemmas.Bool.{cases_Bool, cases_lt}
 use Rattle.std.proofs.lemmas.Bool.Decides.{nat_tests}
@@ -9,7 +9,7 @@ use Rattle.space_model.specs.declared.parts.Part.{Part}
 use Rattle.space_model.specs.declared.parts.Span.{Span}
 use Rattle.space_model.specs.declared.parts.State.{State}
 use Rattle.space_model.specs.Span.{IsPlaced, end_of, has_page, meets, pages_end}
-use Rattle.space_model.specs.Part.{begins_at, exchanged, holders, is_active, put_down}
+use Rattle.space_model.specs.Part.{begins_at, exchanged, holders, is_active}
 use Rattle.space_model.specs.Step.{begins_either, high_piece, joined, low_piece}
 use Rattle.space_model.proofs.Exchange.{All-exchanged, filter-begins_at, filter_nothing, find-le-sum_by, find_has, share, sum_by-either, sum_by-exchanged, sum_by-replaced}
 use Rattle.space_model.proofs.Settled.{some_pages}
@@ -202,7 +202,7 @@ added {b} p view apart idle placed most =
       pages = sums pages;
     }
 
--- ---- a cut in three calls
+-- ---- a cut, and the lower piece behind the higher one
 
 -- what a list has where a part of it has none that pass
 find_behind : (t : Part → Bool) (others tail : List Part) → filter t others ≡ [] → find t (others ++ tail) ≡ find t tail
@@ -224,23 +224,17 @@ cleared page others tail apart one =
     filter_nothing (begins_at page) others
     (omega (arith, begins_once page (others ++ tail) apart, one, sum_by-append (λ p. cond (begins_at page p) 1 0) others tail))
 
--- What the first or the second of the last two extents is exchanged for comes last.
-pub record Behind (others : List Part) (a b x : Part) : Type 0 where
-  pub first_there : find (begins_at a.span.first) (others ++ a ∷ b ∷ []) ≡ Some a
-  pub first : exchanged (begins_at a.span.first) (others ++ a ∷ b ∷ []) (x ∷ []) ≡ others ++ b ∷ x ∷ []
-  pub second_there : find (begins_at b.span.first) (others ++ a ∷ b ∷ []) ≡ Some b
-  pub second : exchanged (begins_at b.span.first) (others ++ a ∷ b ∷ []) (x ∷ []) ≡ others ++ a ∷ x ∷ []
+-- What comes last where the first of the last two extents is exchanged for itself.
+pub record Behind (others : List Part) (a b : Part) : Type 0 where
+  pub there : find (begins_at a.span.first) (others ++ a ∷ b ∷ []) ≡ Some a
+  pub last : exchanged (begins_at a.span.first) (others ++ a ∷ b ∷ []) (a ∷ []) ≡ others ++ b ∷ a ∷ []
 
-pub behind : (others : List Part) (a b x : Part) → IsApart (others ++ a ∷ b ∷ []) → a.span.first ≢ b.span.first → Behind others a b x
-behind others a b x apart differ =
+behind : (others : List Part) (a b : Part) → IsApart (others ++ a ∷ b ∷ []) → a.span.first ≢ b.span.first → Behind others a b
+behind others a b apart differ =
     let t = begins_at a.span.first in
-    let u = begins_at b.span.first in
-    let a_none = cleared a.span.first others (a ∷ b ∷ []) apart (grind (arith, nat_tests)) in
-    let b_none = cleared b.span.first others (a ∷ b ∷ []) apart (grind (arith, nat_tests)) in record {
-      first_there = grind (arith, nat_tests, find_behind t others (a ∷ b ∷ []) a_none);
-      first = grind (arith, nat_tests, exchanged_behind t others (a ∷ b ∷ []) (x ∷ []) a_none);
-      second_there = grind (arith, nat_tests, find_behind u others (a ∷ b ∷ []) b_none);
-      second = grind (arith, nat_tests, exchanged_behind u others (a ∷ b ∷ []) (x ∷ []) b_none);
+    let none = cleared a.span.first others (a ∷ b ∷ []) apart (grind (arith, nat_tests)) in record {
+      there = grind (arith, nat_tests, find_behind t others (a ∷ b ∷ []) none);
+      last = grind (arith, nat_tests, exchanged_behind t others (a ∷ b ∷ []) (a ∷ []) none);
     }
 
 -- ---- as functions cite them
@@ -270,57 +264,36 @@ there_within parts p apart there = (
 pub joined_active : (p q : Part) → active_pages (joined p q ∷ []) ≡ serving p + active_pages (record q { state = p.state } ∷ [])
 joined_active p q = grind (arith, sum_by-cons serving (joined p q) [], sum_by-cons serving (record q { state = p.state }) [])
 
--- the two pieces in order of address, once an extent is cut
-abbrev pub halves : List Part → Part → ℕ → List Part
-halves parts p left = exchanged (begins_at p.span.first) parts (low_piece left p ∷ high_piece left p ∷ [])
+-- an extent is cut in two, each in a state of its own
+abbrev halves : List Part → Part → ℕ → State → State → List Part
+halves parts p left a b = exchanged (begins_at p.span.first) parts (record (low_piece left p) { state = a } ∷ record (high_piece left p) { state = b } ∷ [])
 
-pub halved : (parts : List Part) (p : Part) (left : ℕ) → IsApart parts → IsThere parts p → 0 < left → left < p.span.pages → Swapped parts (halves parts p left) 0 0
-halved parts p left apart there some fewer =
-    let low : Part = low_piece left p in
-    let high : Part = high_piece left p in
+pub halved : (parts : List Part) (p : Part) (left : ℕ) (a b : State) → IsApart parts → IsThere parts p → 0 < left → left < p.span.pages →
+    Swapped parts (halves parts p left a b) (active_pages (p ∷ [])) (active_pages (record (low_piece left p) { state = a } ∷ []) + active_pages (record (high_piece left p) { state = b } ∷ []))
+halved parts p left a b apart there some fewer =
+    let low : Part = record (low_piece left p) { state = a } in
+    let high : Part = record (high_piece left p) { state = b } in
     let swap = swapped parts (low ∷ high ∷ []) p apart there (two_fill p low high left (there_placed parts p apart there) some fewer refl refl).0 in record {
       apart = swap.apart;
       pages = swap.pages;
-      active = omega (arith, swap.active, cut_serving (is_active p.state) p.span.pages fewer, sum_by-cons serving low (high ∷ []), sum_by-cons serving high []);
+      active = omega (arith, swap.active, sum_by-cons serving p [], sum_by-cons serving low (high ∷ []), sum_by-cons serving low []);
     }
+
+-- the pieces serve what the extent served
+pub pieces_serve : (p : Part) (left : ℕ) → left < p.span.pages → active_pages (low_piece left p ∷ []) + active_pages (high_piece left p ∷ []) ≡ active_pages (p ∷ [])
+pieces_serve p left fewer = omega (arith, parted (is_active p.state) p.span.pages fewer, sum_by-cons serving p [], sum_by-cons serving (low_piece left p) [], sum_by-cons serving (high_piece left p) [])
   where
-    cut_serving : (b : Bool) (n : ℕ) → left < n → cond b n 0 ≡ cond b left 0 + cond b (n - left) 0
-    cut_serving b n less = grind arith
+    parted : (b : Bool) (n : ℕ) → left < n → cond b n 0 ≡ cond b left 0 + cond b (n - left) 0
+    parted b n less = grind arith
 
--- What the calls that put one piece down and the other one behind it find and leave.
-pub record Settles (one final : List Part) (a b : Part) : Type 0 where
-  pub first_there : find (begins_at a.span.first) one ≡ Some a
-  pub second_there : find (begins_at b.span.first) (exchanged (begins_at a.span.first) one (put_down a ∷ [])) ≡ Some b
-  pub left : exchanged (begins_at b.span.first) (exchanged (begins_at a.span.first) one (put_down a ∷ [])) (b ∷ []) ≡ final
+-- an extent serves no more than its pages
+pub serves_most : (p : Part) → active_pages (p ∷ []) ≤ p.span.pages
+serves_most p = omega (arith, sum_by-cons serving p [], most (is_active p.state) p.span.pages)
+  where
+    most : (b : Bool) (n : ℕ) → cond b n 0 ≤ n
+    most b n = grind arith
 
-settle : (others one : List Part) (a b : Part) → find (begins_at a.span.first) one ≡ Some a → exchanged (begins_at a.span.first) one (put_down a ∷ []) ≡ others ++ b ∷ put_down a ∷ [] →
-    IsApart (others ++ b ∷ put_down a ∷ []) → b.span.first ≢ a.span.first → Settles one (others ++ put_down a ∷ b ∷ []) a b
-settle others one a b there is apart differ =
-    let two = behind others b (put_down a) b apart differ in record {
-      first_there = there;
-      second_there = ap (find (begins_at b.span.first)) is ∙ two.first_there;
-      left = ap (λ xs. exchanged (begins_at b.span.first) xs (b ∷ [])) is ∙ two.first;
-    }
-
--- either of the two pieces may be the one that is put down
-pub settles : (parts : List Part) (p : Part) (left : ℕ) → IsApart parts → IsThere parts p → 0 < left → left < p.span.pages →
-    Settles (halves parts p left) (exchanged (begins_at p.span.first) parts (put_down (high_piece left p) ∷ low_piece left p ∷ [])) (high_piece left p) (low_piece left p)
-    × Settles (halves parts p left) (exchanged (begins_at p.span.first) parts (put_down (low_piece left p) ∷ high_piece left p ∷ [])) (low_piece left p) (high_piece left p)
-settles parts p left apart there some fewer =
-    let low : Part = low_piece left p in
-    let high : Part = high_piece left p in
-    let others : List Part = filter (λ q. not (begins_at p.span.first q)) parts in
-    let placed = there_placed parts p apart there in
-    let one = λ (x : Part). behind others low high x (halved parts p left apart there some fewer).apart (omega arith) in
-    let high_down = swapped parts (low ∷ put_down high ∷ []) p apart there (two_fill p low (put_down high) left placed some fewer refl refl).0 in
-    let low_down = swapped parts (high ∷ put_down low ∷ []) p apart there (two_fill p (put_down low) high left placed some fewer refl refl).1 in (
-      settle others (halves parts p left) high low (one (put_down high)).second_there (one (put_down high)).second high_down.apart (omega arith),
-      settle others (halves parts p left) low high (one (put_down low)).first_there (one (put_down low)).first low_down.apart (omega arith),
-    )
-
--- where the higher piece takes another state, it comes last
-pub cut_behind : (parts : List Part) (p : Part) (left : ℕ) (state : State) → IsApart parts → IsThere parts p → 0 < left → left < p.span.pages →
-    let low = low_piece left p in
-    let high = high_piece left p in
-    Behind (filter (λ q. not (begins_at p.span.first q)) parts) low high (record high { state = state })
-cut_behind parts p left state apart there some fewer = behind _ _ _ _ (halved parts p left apart there some fewer).apart (omega arith)
+-- where the higher piece is put down, the lower one may be put behind it
+pub low_behind : (parts : List Part) (p : Part) (left : ℕ) (down : State) → IsApart parts → IsThere parts p → 0 < left → left < p.span.pages →
+    Behind (filter (λ q. not (begins_at p.span.first q)) parts) (low_piece left p) (record (high_piece left p) { state = down })
+low_behind parts p left down apart there some fewer = behind _ _ _ (halved parts p left p.state down apart there some fewer).apart (omega arith)

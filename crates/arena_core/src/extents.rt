@@ -59,6 +59,13 @@ impl Extents {
         self.book.reserve(more)
     }
 
+    /// How many more extents there is a place for.
+    pub fn spare(&self) -> u64
+        ensures { result ≡ self.now.spare }
+    {
+        self.book.spare()
+    }
+
     /// The pages of the extents that serve regions.
     pub fn active_pages(&self) -> u64
         ensures { result ≡ active_pages self.now.parts }
@@ -230,31 +237,21 @@ impl Extents {
         self.book.drop_part(part.span.first);
     }
 
-    /// Cuts an extent in two, of which the higher one comes last, behind the lower one. It takes a place.
-    fn halve(&mut self, part: &Part, left: u64)
+    /// Cuts an extent in two, each in a state of its own, of which the higher one comes last, behind the lower one. It takes
+    /// a place.
+    fn halve(&mut self, part: &Part, left: u64, low: State, high: State)
         requires there { IsThere self.old.parts part.now }
         requires room { 0 < self.old.spare }
         requires some { 0 < left }
         requires fewer { left < part.now.span.pages }
         ensures parts { self.new.parts ≡ exchanged (begins_at part.now.span.first) self.old.parts
-            (low_piece left part.now ∷ high_piece left part.now ∷ []) }
+            (record (low_piece left part.now) { state = low } ∷ record (high_piece left part.now) { state = high } ∷ []) }
         ensures spare { self.new.spare + 1 ≡ self.old.spare }
-        ensures placed { IsPlaced part.now.span }
         ensures apart { IsApart self.old.parts }
     {
-        self.book.cut(part.span.first, left);
-    }
-
-    /// Puts one extent down, and the other one behind it.
-    fn put_behind(&mut self, down: &Part, kept: &Part)
-        requires down { IsThere self.old.parts down.now }
-        requires kept { IsThere (exchanged (begins_at down.now.span.first) self.old.parts (put_down down.now ∷ [])) kept.now }
-        ensures parts { self.new.parts ≡ exchanged (begins_at kept.now.span.first)
-            (exchanged (begins_at down.now.span.first) self.old.parts (put_down down.now ∷ [])) (kept.now ∷ []) }
-        ensures spare { self.new.spare ≡ self.old.spare }
-    {
-        self.change(down, down.state.rest().state(), down.committed);
-        self.change(kept, kept.state, kept.committed);
+        let active = active_after(self.active, &part.low_piece(left), low);
+        self.active = active_after(active, &part.high_piece(left), high);
+        self.book.cut(part.span.first, left, low, high);
     }
 
     /// Makes two of an extent. The piece that keeps its state comes last, behind the other one, which is put down. It takes
@@ -269,13 +266,12 @@ impl Extents {
             (put_down (low_piece left part.now) ∷ high_piece left part.now ∷ [])) }
         ensures spare { self.new.spare + 1 ≡ self.old.spare }
     {
-        self.halve(part, left);
-        let low = part.low_piece(left);
-        let high = part.high_piece(left);
+        let down = part.state.rest().state();
         if keep_low {
-            self.put_behind(&high, &low);
+            self.halve(part, left, part.state, down);
+            self.change(&part.low_piece(left), part.state, part.committed);
         } else {
-            self.put_behind(&low, &high);
+            self.halve(part, left, down, part.state);
         }
     }
 
@@ -290,9 +286,7 @@ impl Extents {
             (low_piece left part.now ∷ record (high_piece left part.now) { state = state } ∷ []) }
         ensures spare { self.new.spare + 1 ≡ self.old.spare }
     {
-        self.halve(part, left);
-        let high = part.high_piece(left);
-        self.change(&high, state, high.committed);
+        self.halve(part, left, part.state, state);
     }
 
     /// Makes one of two extents side by side, with the first one's state and commit state. It comes last.

@@ -1,6 +1,6 @@
 //! An arena's space as its indexes keep it.
 
-ghost use Rattle.std.specs.Prelude.{◌≡◌, ℕ, OnOk};
+ghost use Rattle.std.specs.Prelude.{◌≡◌, ◌≤◌, ℕ, max, OnOk};
 ghost use Rattle.arena_core.specs.Indexes.{HasPlaces, space_of};
 
 use crate::extents::Extents;
@@ -30,6 +30,19 @@ pub struct Indexes {
 /// How many regions land in one extent at most.
 const MOST_REGIONS: u64 = 512;
 
+/// How many places are made beside those that are wanted, for the operations to come.
+const MORE: u64 = 64;
+
+/// How many places an index that has so many is asked for, where so many are wanted.
+pub fn asked(spare: u64, wanted: u64) -> u64
+    ensures { wanted ≤ max spare result }
+{
+    if wanted <= spare {
+        return 0;
+    }
+    wanted.saturating_add(MORE)
+}
+
 /// Makes places for at least so many further extents and offers, and for the regions of as many slabs. The space stays.
 pub fn reserve(indexes: &mut Indexes, places: u64) -> Result<(), NoMemory>
     ensures space { space_of indexes.new ≡ space_of indexes.old }
@@ -37,7 +50,11 @@ pub fn reserve(indexes: &mut Indexes, places: u64) -> Result<(), NoMemory>
     ensures ok { OnOk result (HasPlaces indexes.new places) }
 {
     let regions = places.checked_mul(MOST_REGIONS).ok_or(NoMemory)?;
-    indexes.extents.reserve(places)?;
-    indexes.regions.reserve(regions)?;
+    indexes
+        .extents
+        .reserve(asked(indexes.extents.spare(), places))?;
+    indexes
+        .regions
+        .reserve(asked(indexes.regions.spare(), regions))?;
     indexes.offers.reserve(places)
 }

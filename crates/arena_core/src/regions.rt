@@ -97,6 +97,13 @@ impl RegionSet {
         self.keys.reserve(places)
     }
 
+    /// How many more regions there is a place for.
+    pub fn spare(&self) -> u64
+        ensures { result ≡ self.now.spare }
+    {
+        self.keys.spare()
+    }
+
     /// Whether there is no region.
     pub fn is_empty(&self) -> bool
         ensures { result ≡ (length self.now.regions == 0) }

@@ -35,7 +35,8 @@ fn make_places(body: &mut Body, client: u32, room: u64) -> Result<(), NoMemory>
     ensures fits { OnOk result (all_rooms (slice_set body.old.rooms client room) < 2 ^ 64) }
 {
     let places = body.rooms.total_with(client, room).ok_or(NoMemory)?;
-    body.bins.reserve(places)?;
+    body.bins
+        .reserve(indexes::asked(body.bins.spare(), places))?;
     indexes::reserve(&mut body.indexes, places)
 }
 
