@@ -1,5 +1,6 @@
 pub mod Boxes
 pub mod Chains
+pub mod Pairing
 pub mod PlanSteps
 pub mod SeatSums
 pub mod ShareAsks

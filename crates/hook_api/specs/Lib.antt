@@ -1,9 +1,11 @@
 pub mod Asked
 pub mod Chain
 pub mod Counts
+pub mod Deeds
 pub mod Hooks
 pub mod Journals
 pub mod Kept
+pub mod Kepts
 pub mod Orders
 pub mod Plans
 pub mod Rising

@@ -4,7 +4,8 @@ ghost use Rattle.std.specs.Prelude.{◌≡◌, []};
 ghost use Rattle.hook_api.specs.Kept.{IsKept};
 
 use crate::Asked;
-use space_model::{Entry, Seq};
+use crate::kepts::Kepts;
+use space_model::Entry;
 use std::alloc::Global;
 use std::marker::Model;
 
@@ -50,9 +51,6 @@ impl Kept {
         self.asked
     }
 }
-
-/// Entries of a journal, in order.
-pub type Kepts = Seq<Kept>;
 
 /// The journal of one arena.
 #[derive(Drop)]

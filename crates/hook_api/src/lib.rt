@@ -9,9 +9,11 @@
 mod asked;
 mod books;
 mod boxed;
+mod deeds;
 mod desk;
 mod hooks;
 mod kept;
+mod kepts;
 mod laws;
 mod locks;
 mod orders;
@@ -23,11 +25,13 @@ mod share_rule;
 mod shared;
 mod shelf;
 mod sights;
+mod slots;
 mod unshare;
 
 pub use asked::{Asked, Askeds};
 pub use hooks::{Boxes, ExtentHooks, Placed, Said};
-pub use kept::{Journal, Journals, Kept, Kepts};
+pub use kept::{Journal, Journals, Kept};
+pub use kepts::{Kepts, Writing};
 pub use laws::{
     ask_chain_at_each_box, ask_chain_extends, chain_at_each_box, chain_extends, plan_refuses_nth,
 };
@@ -36,6 +40,7 @@ pub use rising::RisingHooks;
 pub use seat::{AskSeat, AskSeats};
 pub use shared::SharedShelf;
 pub use shelf::HookShelf;
+pub use slots::Slot;
 
 #[cfg(test)]
 mod tests;

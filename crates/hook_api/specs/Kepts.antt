@@ -1,0 +1,49 @@
+-- Entries of a journal in few bytes, and their asks in a list of their own.
+use Rattle.std.specs.Prelude.{◌≡◌, ℕ, ◌-◌, ◌≤◌, ◌<◌, ◌^◌, true, List, [], ◌∷◌, Option, None, Some, if◌then◌else◌, count_by, drop, length, min, slice_get, vec_capacity, vec_len}
+use Rattle.hook_api.specs.Asked.{AskFacts}
+use Rattle.hook_api.specs.Kept.{KeptFacts}
+use Rattle.hook_api.specs.Deeds.{carried, op_of}
+use Rattle.hook_api.specs.declared.slots.Slot.{Slot}
+use Rattle.hook_api.specs.declared.kepts.Writing.TheInside.{Inside}
+
+-- an entry again, beside the ask that was made for it
+abbrev pub kept_of : Slot → Option AskFacts → KeptFacts
+kept_of slot asked = record { entry = record { client = slot.client; op = op_of slot.deed (carried asked) }; asked = asked }
+
+-- the ask of an entry: the first one that is left, where it has one
+abbrev pub ask_of : Slot → List AskFacts → Option AskFacts
+ask_of slot asks = if slot.asks then slice_get asks 0 else None
+
+-- the asks that are left behind an entry
+abbrev pub asks_after : Slot → List AskFacts → List AskFacts
+asks_after slot asks = if slot.asks then drop 1 asks else asks
+
+-- the entries, each beside its ask
+abbrev pub paired : List Slot → List AskFacts → List KeptFacts
+paired [] asks = []
+paired (slot ∷ slots) asks = kept_of slot (ask_of slot asks) ∷ paired slots (asks_after slot asks)
+
+-- there are just as many asks as entries that have one
+abbrev pub IsPaired : List Slot → List AskFacts → Type 0
+IsPaired slots asks = length asks ≡ count_by (λ (s : Slot). s.asks) slots
+
+-- the ask that there is, if there is one
+abbrev pub asks_in : Option AskFacts → List AskFacts
+asks_in None = []
+asks_in (Some asked) = asked ∷ []
+
+-- what callers see of a journal that goes on: its entries with their asks, and for how many more it has places
+pub record Written : Type 0 where
+  pub kept : List KeptFacts
+  pub spare : ℕ
+
+-- the entries with their asks, and the places in both lists
+abbrev pub written : Inside → Written
+written w = record {
+  kept = paired w.slots.items w.asks.items;
+  spare = min (vec_capacity w.slots - vec_len w.slots) (vec_capacity w.asks - vec_len w.asks);
+}
+
+-- there are just as many asks as entries that have one
+abbrev pub IsWriting : Inside → Type 0
+IsWriting w = IsPaired w.slots.items w.asks.items
