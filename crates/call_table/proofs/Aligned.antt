@@ -8,14 +8,9 @@ use Rattle.std.proofs.lemmas.Bool.{cases_lt, eqb-true}
 use Rattle.std.proofs.lemmas.List.Folds.{Any-from_list_any, list_any_at}
 use Rattle.std.proofs.lemmas.List.FromFn.{get_or-range_with_len, length-range_with_len}
 use lib.Count.{ones}
-use Rattle.size_classes.specs.Classes.{IsAlignment, aligned_for, class_for}
 use Rattle.size_classes.proofs.Least.{class_for_exists}
 use Rattle.size_classes.proofs.Table.{passes_below, at}
-use Rattle.thread_cache.specs.declared.Held.{Held}
-use Rattle.thread_cache.specs.Desks.{DeskFacts, hit, hitting}
-use Rattle.call_table.specs.declared.needs.Answered.TheVariants.{TooLarge, BadAlign}
-use Rattle.call_table.specs.declared.needs.Request.TheVariants.{Memalign}
-use Rattle.call_table.specs.declared.points.Next.TheVariants.{Ends}
+use Rattle.call_table.specs.Words.{Memalign, TooLarge, BadAlign, Ends, Held, DeskFacts, IsAlignment, aligned_for, class_for, hit, hitting}
 use Rattle.call_table.specs.Runs.{begin_desk, begin_get, begin_memalign, desk_got, is_alignment, page_align, small_hit, stage}
 
 -- an alignment passes the test

@@ -1,38 +1,20 @@
 -- Each request in range begins with what its first point has to know.
-use Rattle.std.proofs.Common.{ℤ, negsuc, ◌≡◌, ℕ, ◌/◌, ◌*◌, ◌≤◌, ◌<◌, ◌==◌, ◌&&◌, ◌^◌, inl, inr, Bool, true, false, cond, not, min, max, List, [], ◌∷◌, length, take, slice_set, suc, zero, sym, ap, ◌∙◌, Option, None, Some, refl, arith, nat_le, nat_lt, ◌+◌, lt-ltb, le-leb}
-use Rattle.std.specs.List.{Contains}
+use Rattle.std.proofs.Common.{ℤ, negsuc, ◌≡◌, ℕ, ◌≤◌, ◌<◌, ◌==◌, ◌&&◌, ◌^◌, inl, inr, Bool, true, false, not, min, List, [], ◌∷◌, length, suc, zero, sym, ap, ◌∙◌, Option, None, Some, refl, arith, nat_le, nat_lt, ◌+◌, lt-ltb, le-leb, Contains, int_eq}
 use Rattle.std.specs.Int.{is_power_of_two}
-use Rattle.std.specs.Ordering.{int_eq}
 use Rattle.std.proofs.lemmas.Bool.Decides.{nat_tests}
-use Rattle.std.proofs.lemmas.Bool.{ltb-true}
+use Rattle.std.proofs.lemmas.Bool.{cond_both, not-false, ltb-true}
 use lib.Count.{ones}
-use Rattle.size_classes.specs.Classes.{aligned_for, class_for, regions_at, slots_at}
 use Rattle.size_classes.proofs.Least.{class_for_exists}
 use Rattle.size_classes.proofs.Table.{slab_filled}
-use Rattle.space_model.specs.declared.Rest.{Rest}
-use Rattle.space_model.specs.declared.Rest.TheVariants.{Dirty as ToDirty, Muzzy as ToMuzzy, Retained as ToRetained}
-use Rattle.space_model.specs.declared.Setting.TheVariants.{Bind as SetBound}
-use Rattle.space_model.specs.Own.{Mine}
 use Rattle.space_model.specs.Purging.{is_purgeable}
 use Rattle.space_model.specs.Settings.{is_decay_time}
-use Rattle.space_model.specs.Slabs.{most_regions}
 use Rattle.space_model.specs.Step.{rises_from}
-use Rattle.thread_cache.specs.declared.Held.{Held}
-use Rattle.thread_cache.specs.Caches.{cached_in, put_in}
-use Rattle.thread_cache.specs.Desks.{BatchFacts, DeskFacts, batch_of, cached_of, freeing, going, caching, going_with, has_slot, held_at, hit, is_cacheable, older_count, rising_from}
+use Rattle.thread_cache.specs.Desks.{has_slot, older_count, rising_from}
 use Rattle.thread_cache.proofs.Going.{batch_is, cached_is_flat, taken_is_in}
-use Rattle.call_table.specs.declared.needs.Answered.TheVariants.{Ok, TooLarge, BadAlign, NoArena as NoSuchArena, Automatic}
-use Rattle.call_table.specs.declared.needs.Given.TheVariants.{Done as Finished}
-use Rattle.call_table.specs.declared.needs.Request.TheVariants.{Malloc, Memalign, Free, FreeForeign, Publish, Take, Flush, Cache, Purge as PurgeAll, Decay, Time, Reset, Destroy, Create, Bind, HookBox, GrowLimit}
-use Rattle.call_table.specs.declared.points.Wish.{Wish}
-use Rattle.call_table.specs.declared.points.Change.TheVariants.{Stops, Visits, Leaves}
-use Rattle.call_table.specs.declared.points.TurnPoint.{TurnPoint}
-use Rattle.call_table.specs.declared.points.TurnPoint.TheVariants.{Filling, Looking, Advancing, Changing, Resetting, Destroying, Owning}
-use Rattle.call_table.specs.declared.points.Point.TheVariants.{Turns}
-use Rattle.call_table.specs.declared.points.Next.TheVariants.{Go, Ends}
-use Rattle.call_table.specs.Runs.{batch_goes, begin_bind, begin_flush, begin_free, begin_get, begin_malloc, begin_memalign, begin_publish, first_turn, first_turn_but_0, get, is_alignment, page_align, share, small_hit, stage, wish_for, time_of, after_time, whole_visit}
+use Rattle.call_table.specs.Words.{Malloc, Memalign, Free, FreeForeign, Publish, Take, Flush, Cache, PurgeAll, Decay, Time, Reset, Destroy, Create, Bind, HookBox, GrowLimit, TurnPoint, Advancing, Changing, Resetting, Destroying, Owning, Stage}
+use Rattle.call_table.specs.Words.{Rest, ToDirty, ToMuzzy, ToRetained, Mine, Held, DeskFacts, aligned_for, class_for, slots_at, most_regions, cached_in, BatchFacts, batch_of, cached_of, freeing, going, caching, going_with, held_at, hit, is_cacheable}
+use Rattle.call_table.specs.Runs.{batch_goes, begin_bind, begin_flush, begin_free, begin_get, begin_malloc, begin_memalign, begin_publish, first_turn, first_turn_but_0, get, is_alignment, page_align, share, small_hit, wish_for, time_of, after_time}
 use Rattle.call_table.specs.Desks.{flushes}
-use Rattle.call_table.specs.declared.calls.Stage.{Stage}
 use Rattle.call_table.specs.Knows.{IsWish, Idle, Gets, KnowsTurn, IsChange, is_held}
 use Rattle.call_table.specs.Laws.{Ready, KnowsNext, BatchesKnow, BeginsKnow, Has}
 use Rattle.call_table.proofs.Aligned.{aligned_below, page_power}
@@ -45,48 +27,32 @@ power_1 = refl
 -- a class has room for one region at least
 one_fits : (class : ℕ) → 1 ≤ most_regions class
 one_fits class =
-    elim (nat_lt class 36) as (λ v. nat_lt class 36 ≡ v → 1 ≤ cond v (regions_at class) 1) [
-      | true ↦ λ h. (slab_filled class (ltb-true _ _ h)).1
-      | false ↦ λ h. omega arith
-    ] refl
+    cond_both (nat_lt class 36) _ _ (λ n. 1 ≤ n) (λ h. (slab_filled class (ltb-true _ _ h)).1) (λ _. omega arith)
 
 some_slots : (class : ℕ) → 20 ≤ slots_at class
-some_slots class = elim (nat_lt class 36) as (λ v. 20 ≤ cond v (min 200 (max 20 (2 * regions_at class))) 20) [ true ↦ most_20 (regions_at class) | false ↦ omega arith ]
-  where
-    most_20 : (n : ℕ) → 20 ≤ min 200 (max 20 (2 * n))
-    most_20 n = grind arith
+some_slots class = cond_both (nat_lt class 36) _ _ (λ n. 20 ≤ n) (λ _. grind arith) (λ _. omega arith)
 
 -- at least one region is got
 some_shared : (class : ℕ) (desk : DeskFacts) → 0 < share class desk
-some_shared class desk = elim (desk.caches && nat_lt class 36) as (λ v. 0 < cond v (slots_at class / 2) 1) [ true ↦ omega (arith, some_slots class) | false ↦ omega arith ]
+some_shared class desk = cond_both (desk.caches && nat_lt class 36) _ _ (λ n. 0 < n) (λ _. omega (arith, some_slots class)) (λ _. omega arith)
 
 wish_is : (class align count : ℕ) → class < 121 → is_power_of_two align ≡ true → 0 < count → IsWish (wish_for class align (min count (most_regions class)))
 wish_is class align count below power some = record {
   class = below;
-  some = lesser_some count (most_regions class) some (one_fits class);
-  fewer = lesser_fewer count (most_regions class);
+  some = grind (arith, one_fits class);
+  fewer = grind arith;
   pages = refl;
   align = power;
 }
-  where
-    lesser_some : (a b : ℕ) → 0 < a → 1 ≤ b → 0 < min a b
-    lesser_some a b one other = grind arith
-
-    lesser_fewer : (a b : ℕ) → min a b ≤ b
-    lesser_fewer a b = grind arith
 
 -- a turn that comes first knows what it has to, or there is no such arena
 first_knows : (m : Mine) (arena : ℕ) (point : TurnPoint) → Idle m → KnowsTurn m point → KnowsNext m (first_turn arena point).next
 first_knows m arena point idle knows =
-    elim (nat_lt arena 32) as (λ v. KnowsNext m (cond v (Go (Turns point)) (Ends (NoSuchArena arena)))) [ true ↦ knows | false ↦ idle ]
+    cond_both (nat_lt arena 32) _ _ (KnowsNext m) (λ _. knows) (λ _. idle)
 
 get_knows : (m : Mine) (class align count : ℕ) → Gets m (wish_for class align (min count (most_regions class))) → Idle m → 0 < count → KnowsNext m (get class align count)
 get_knows m class align count gets idle some =
-    let wish : Wish = wish_for class align (min count (most_regions class)) in
-    elim (nat_lt class 36) as (λ v. nat_lt class 36 ≡ v → KnowsNext m (cond v (Go (Turns (Filling wish count))) (Go (Turns (Looking wish))))) [
-      | true ↦ λ h. (gets, idle, ltb-true _ _ h, some)
-      | false ↦ λ h. (gets, idle)
-    ] refl
+    cond_both (nat_lt class 36) _ _ (KnowsNext m) (λ h. (gets, idle, ltb-true _ _ h, some)) (λ _. (gets, idle))
 
 got_knows : (m : Mine) (class align : ℕ) (hit : Option Held) (desk : DeskFacts) → class < 121 → is_power_of_two align ≡ true →
     Ready m desk (begin_get class align hit desk) → KnowsNext m (begin_get class align hit desk).next
@@ -97,31 +63,17 @@ got_knows m class align None desk below power ready =
 
 malloc_knows : (m : Mine) (size : ℕ) (desk : DeskFacts) → Ready m desk (begin_malloc size desk) → KnowsNext m (begin_malloc size desk).next
 malloc_knows m size desk ready =
-    elim (nat_lt (2 ^ 35) size) as (λ v. nat_lt (2 ^ 35) size ≡ v → Ready m desk (cond v (stage desk.arena (Ends TooLarge)) (begin_get (class_for size) 1 (hit (class_for size) desk) desk)) →
-    KnowsNext m (cond v (stage desk.arena (Ends TooLarge)) (begin_get (class_for size) 1 (hit (class_for size) desk) desk)).next) [
-      | true ↦ λ h r. r.idle
-      | false ↦ λ h r.
-          let most : size ≤ 2 ^ 35 = grind (arith, nat_tests) in
-          got_knows m (class_for size) 1 (hit (class_for size) desk) desk (class_for_exists size most) power_1 r
-    ] refl ready
+    cond_both (nat_lt (2 ^ 35) size) _ _ (λ at. Ready m desk at → KnowsNext m at.next) (λ _ r. r.idle)
+    (λ h. got_knows m (class_for size) 1 (hit (class_for size) desk) desk (class_for_exists size (grind (arith, nat_tests))) power_1) ready
 
 memalign_knows : (m : Mine) (align size : ℕ) (desk : DeskFacts) → Ready m desk (begin_memalign align size desk) → KnowsNext m (begin_memalign align size desk).next
 memalign_knows m align size desk ready =
-    let begun : Stage = begin_get (aligned_for size align) (page_align align) (small_hit (aligned_for size align) desk) desk in
-    let large : Bool → Stage = λ v. cond v (stage desk.arena (Ends TooLarge)) begun in
-    elim (is_alignment align) as (λ v. is_alignment align ≡ v → Ready m desk (cond (not v) (stage desk.arena (Ends BadAlign)) (large (nat_lt (2 ^ 35) size))) →
-    KnowsNext m (cond (not v) (stage desk.arena (Ends BadAlign)) (large (nat_lt (2 ^ 35) size))).next) [
-      | true ↦ λ good. elim (nat_lt (2 ^ 35) size) as (λ v. nat_lt (2 ^ 35) size ≡ v → Ready m desk (large v) → KnowsNext m (large v).next) [
-        | true ↦ λ h r. r.idle
-        | false ↦ λ h r.
-            let most : size ≤ 2 ^ 35 = grind (arith, nat_tests) in
-            got_knows m (aligned_for size align) (page_align align) (small_hit (aligned_for size align) desk) desk (aligned_below size align most) (page_power align good) r
-      ] refl
-      | false ↦ λ bad r. r.idle
-    ] refl ready
+    cond_both (not (is_alignment align)) _ _ (λ at. Ready m desk at → KnowsNext m at.next) (λ _ r. r.idle)
+    (λ good. cond_both (nat_lt (2 ^ 35) size) _ _ (λ at. Ready m desk at → KnowsNext m at.next) (λ _ r. r.idle)
+    (λ h. got_knows m (aligned_for size align) (page_align align) (small_hit (aligned_for size align) desk) desk (aligned_below size align (grind (arith, nat_tests))) (page_power align (not-false _ good)))) ready
 
 change_is : (rest : Rest) (ms : ℤ) → is_purgeable rest ≡ true → IsChange (after_time rest ms)
-change_is rest ms purgeable = elim (int_eq ms (negsuc 0)) as (λ v. IsChange (cond v Stops (Visits (whole_visit rest)))) [ true ↦ tt | false ↦ purgeable ]
+change_is rest ms purgeable = cond_both (int_eq ms (negsuc 0)) _ _ IsChange (λ _. tt) (λ _. purgeable)
 
 time_knows : (m : Mine) (index : ℕ) (rest : Rest) (ms : ℤ) (now : ℕ) → Idle m → is_decay_time ms ≡ true → is_purgeable rest ≡ true → KnowsTurn m (Changing (time_of rest ms now) (after_time rest ms))
 time_knows m index ToDirty ms now idle range purgeable = (idle, range, change_is ToDirty ms purgeable, refl)
@@ -130,10 +82,7 @@ time_knows m index ToRetained ms now idle range purgeable = absurd (cc)
 
 bind_knows : (m : Mine) (arena index : ℕ) → Idle m → KnowsNext m (begin_bind arena index).next
 bind_knows m arena index idle =
-    elim (index == arena) as (λ v. KnowsNext m (cond v (stage arena (Ends (Ok Finished))) (first_turn index (Changing SetBound (Leaves arena)))).next) [
-      | true ↦ idle
-      | false ↦ first_knows m index (Changing SetBound (Leaves arena)) idle (idle, refl, tt, refl)
-    ]
+    cond_both (index == arena) _ _ (λ (at : Stage). KnowsNext m at.next) (λ _. idle) (λ _. first_knows m index _ idle (idle, refl, tt, refl))
 
 -- ---- regions that go back
 
@@ -157,10 +106,9 @@ batch_knows m desk arena regions (Some batch) e has ready =
 -- all that is to go is the client's
 going_is_had : (desk : DeskFacts) (hand : Option Held) (all : Bool) → ((region : Held) → hand ≡ Some region → Has desk region) → (region : Held) → Contains (going_with hand all desk) region → Has desk region
 going_is_had desk (Some own) all has region among =
-    elim (is_cacheable own.class desk) as (λ v. Contains (cond v (take (older_count own.class desk) (cached_in desk.cached own.class)) (own ∷ [])) region → Has desk region) [
-      | true ↦ λ there. inr (inl (cached_is_flat desk.cached own.class region (taken_is_in (older_count own.class desk) (cached_in desk.cached own.class) region there)))
-      | false ↦ λ there. has region (ap Some (only_one there))
-    ] among
+    cond_both (is_cacheable own.class desk) _ _ (λ xs. Contains xs region → Has desk region)
+    (λ _ there. inr (inl (cached_is_flat desk.cached own.class region (taken_is_in (older_count own.class desk) (cached_in desk.cached own.class) region there))))
+    (λ _ there. has region (ap Some (only_one there))) among
   where
     only_one : Contains (own ∷ []) region → own ≡ region
     only_one (zero, inside, is) = is
@@ -174,7 +122,7 @@ batches-know m request desk arena ready =
 
 -- a region that is cached leaves the hand as it is
 cached_hand : (region own : Held) (desk : DeskFacts) → (caching region desk).hand ≡ Some own → desk.hand ≡ Some own
-cached_hand region own desk is = elim (nat_lt region.class 41) as (λ v. (cond v (record desk { cached = slice_set desk.cached region.class (put_in region.class region (cached_in desk.cached region.class)) }) desk).hand ≡ Some own → desk.hand ≡ Some own) [ true ↦ λ e. e | false ↦ λ e. e ] is
+cached_hand region own desk is = cond_both (nat_lt region.class 41) _ _ (λ (after : DeskFacts). after.hand ≡ Some own → desk.hand ≡ Some own) (λ _ e. e) (λ _ e. e) is
 
 free_knows : (m : Mine) (addr : ℕ) (held : Option Held) (desk : DeskFacts) → held_at addr desk ≡ held → Ready m desk (begin_free addr held desk) → KnowsNext m (begin_free addr held desk).next
 free_knows m addr None desk e ready = ready.idle
@@ -183,10 +131,8 @@ free_knows m addr (Some region) desk held ready =
   where
     hand_is_had : (own : Held) → (freeing region desk).hand ≡ Some own → Has desk own
     hand_is_had own is =
-        elim (is_cacheable region.class desk && has_slot region.class desk) as (λ v. (cond v (caching region desk) (record desk { hand = Some region })).hand ≡ Some own → Has desk own) [
-          | true ↦ λ e. inr (inr (cached_hand region own desk e))
-          | false ↦ λ e. inl (addr, held ∙ e)
-        ] is
+        cond_both (is_cacheable region.class desk && has_slot region.class desk) _ _ (λ (after : DeskFacts). after.hand ≡ Some own → Has desk own)
+        (λ _ e. inr (inr (cached_hand region own desk e))) (λ _ e. inl (addr, held ∙ e)) is
 
 publish_knows : (m : Mine) (addr : ℕ) (held : Option Held) (desk : DeskFacts) → held_at addr desk ≡ held → Ready m desk (begin_publish addr held) → KnowsNext m (begin_publish addr held).next
 publish_knows m addr None desk e ready = ready.idle
@@ -199,11 +145,7 @@ flush_knows m desk ready = batch_knows m desk desk.arena (going true desk) _ ref
 emptied_knows : (m : Mine) (desk : DeskFacts) (index : ℕ) (point : ℕ → TurnPoint) → ((n : ℕ) → n ≤ length m.regions → KnowsTurn m (point n)) →
     Ready m desk (first_turn_but_0 index (point (cached_of index desk))) → KnowsNext m (first_turn_but_0 index (point (cached_of index desk))).next
 emptied_knows m desk index point knows ready =
-    elim (index == 0) as (λ v. Ready m desk (cond v (stage index (Ends Automatic)) (first_turn index (point (cached_of index desk)))) →
-    KnowsNext m (cond v (stage index (Ends Automatic)) (first_turn index (point (cached_of index desk)))).next) [
-      | true ↦ λ r. r.idle
-      | false ↦ λ r. first_knows m index (point (cached_of index desk)) r.idle (knows (cached_of index desk) r.cached)
-    ] ready
+    cond_both (index == 0) _ _ (λ at. Ready m desk at → KnowsNext m at.next) (λ _ r. r.idle) (λ _ r. first_knows m index _ r.idle (knows (cached_of index desk) r.cached)) ready
 
 pub begins-know : BeginsKnow
 begins-know m (Malloc size) desk range ready = malloc_knows m size desk ready

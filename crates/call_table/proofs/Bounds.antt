@@ -1,28 +1,9 @@
 -- A malloc makes few asks and few turns: each step of it leaves fewer.
 use Rattle.std.proofs.Common.{sym, ◌∙◌, ap, subst, ◌-◌, ◌≡◌, ℕ, ◌+◌, ◌≤◌, ◌^◌, Bool, true, false, cond, not, min, List, [], ◌∷◌, Option, None, Some, refl, arith, nat_lt, count_by}
+use Rattle.std.proofs.lemmas.Bool.{cond_both}
 use Rattle.std.proofs.lemmas.List.Sums.{sum_by-cons}
-use Rattle.size_classes.specs.Classes.{aligned_for, class_for}
-use Rattle.space_model.specs.declared.Reply.{Reply}
-use Rattle.space_model.specs.declared.Reply.TheVariants.{Nothing, Noted, Took, Grow, Cut, Whole, Refused as Refuse, Grown, Landed, Regions}
-use Rattle.space_model.specs.declared.Span.{Span}
-use Rattle.space_model.specs.Span.{max_series}
-use Rattle.hook_api.specs.Asked.{AskFacts}
-use Rattle.thread_cache.specs.declared.Held.{Held}
-use Rattle.thread_cache.specs.Desks.{DeskFacts, hit}
-use Rattle.call_table.specs.declared.needs.Answered.{Answered}
-use Rattle.call_table.specs.declared.needs.Request.{Request}
-use Rattle.call_table.specs.declared.needs.Request.TheVariants.{Malloc, Memalign}
-use Rattle.call_table.specs.declared.calls.Stage.{Stage}
-use Rattle.call_table.specs.declared.needs.Item.{Item}
-use Rattle.call_table.specs.declared.needs.Item.TheVariants.{Replied, Told, Starved}
-use Rattle.call_table.specs.declared.points.Wish.{Wish}
-use Rattle.call_table.specs.declared.points.TurnPoint.{TurnPoint}
-use Rattle.call_table.specs.declared.points.TurnPoint.TheVariants.{Filling, Looking, Landing}
-use Rattle.call_table.specs.declared.points.AskPoint.{AskPoint}
-use Rattle.call_table.specs.declared.points.AskPoint.TheVariants.{Skipping, Trimming, Growing, Paring, Needing, Granting, Committing}
-use Rattle.call_table.specs.declared.points.Point.TheVariants.{Turns, Asks, Tells}
-use Rattle.call_table.specs.declared.points.Next.{Next}
-use Rattle.call_table.specs.declared.points.Next.TheVariants.{Go, Over, More, Gone, Ends, Nowhere}
+use Rattle.call_table.specs.Words.{Request, Malloc, Memalign, Item, Replied, Told, Starved, Answered, Wish, TurnPoint, Filling, Looking, Landing, AskPoint, Skipping, Trimming, Growing, Paring, Needing, Granting, Committing, Turns, Asks, Tells, Next, Go, Over, More, Gone, Ends, Nowhere, Stage}
+use Rattle.call_table.specs.Words.{Reply, Nothing, Noted, Took, Grow, Cut, Refuse, Grown, Landed, Regions, Span, AskFacts, Held, DeskFacts, aligned_for, class_for, max_series, hit}
 use Rattle.call_table.specs.Table.{is_marked, op_of, starved, turned, told, chunks_for, commit, trim}
 use Rattle.call_table.specs.Runs.{begin_get, begin_stage, get, is_alignment, moment, page_align, run, settle, share, small_hit}
 use Rattle.call_table.specs.Desks.{desk_fed}
@@ -50,78 +31,50 @@ asks_ask point one asks turns = ⊥
 abbrev pub Fits : ℕ → ℕ → Next → Type 0
 Fits asks turns (Go (Turns point)) = asks_turn point asks turns
 Fits asks turns (Go (Asks point heard)) = asks_ask point (unheard heard) asks turns
-Fits asks turns (Go (Tells span b)) = ⊥
-Fits asks turns (Over index point) = ⊥
-Fits asks turns More = ⊥
-Fits asks turns next = Unit {0}
-
-chosen : (v : Bool) (asks turns : ℕ) (x y : Next) → Fits asks turns x → Fits asks turns y → Fits asks turns (cond v x y)
-chosen true asks turns x y one other = one
-chosen false asks turns x y one other = other
+Fits asks turns Gone = Unit {0}
+Fits asks turns (Ends answer) = Unit {0}
+Fits asks turns Nowhere = Unit {0}
+Fits asks turns next = ⊥
 
 commit_fits : (wish : Wish) (span : Span) (b : Bool) (asks turns : ℕ) → 1 ≤ asks → 2 ≤ turns → Fits asks turns (commit wish span b)
 commit_fits wish span true asks turns a t = omega arith
 commit_fits wish span false asks turns a t = (omega arith, omega arith)
 
 trim_fits : (wish : Wish) (span : Span) (b : Bool) (asks turns : ℕ) → 4 ≤ asks → 5 ≤ turns → Fits asks turns (trim wish span b)
-trim_fits wish span b asks turns a t = chosen (nat_lt wish.pages span.pages) asks turns _ _ (omega arith, omega arith) (commit_fits wish span b asks turns (omega arith) (omega arith))
+trim_fits wish span b asks turns a t = cond_both (nat_lt wish.pages span.pages) _ _ (Fits asks turns) (λ _. (omega arith, omega arith)) (λ _. commit_fits wish span b asks turns (omega arith) (omega arith))
 
 turned_fits : (point : TurnPoint) (reply : Reply) (asks turns : ℕ) → asks_turn point asks (turns + 1) → Fits asks turns (turned point reply)
 turned_fits (Filling wish count) Nothing asks turns fits = (fits.0, omega (arith, fits.1))
 turned_fits (Filling wish count) (Regions []) asks turns fits = tt
-turned_fits (Filling wish count) (Regions (addr ∷ addrs)) asks turns fits = tt
-turned_fits (Filling wish count) reply asks turns fits = tt
 turned_fits (Looking wish) (Took span b skip) asks turns fits =
-    chosen (nat_lt 0 skip) asks turns _ _ (omega (arith, fits.0), omega (arith, fits.1)) (trim_fits wish span b asks turns (omega (arith, fits.0)) (omega (arith, fits.1)))
+    cond_both (nat_lt 0 skip) _ _ (Fits asks turns) (λ _. (omega (arith, fits.0), omega (arith, fits.1))) (λ _. trim_fits wish span b asks turns (omega (arith, fits.0)) (omega (arith, fits.1)))
 turned_fits (Looking wish) (Grow series) asks turns fits =
-    chosen (nat_lt (chunks_for wish.pages) (min series max_series)) asks turns _ _ (omega (arith, fits.0), omega (arith, fits.1)) (omega (arith, fits.0), omega (arith, fits.1))
-turned_fits (Looking wish) reply asks turns fits = tt
+    cond_both (nat_lt (chunks_for wish.pages) (min series max_series)) _ _ (Fits asks turns) (λ _. (omega (arith, fits.0), omega (arith, fits.1))) (λ _. (omega (arith, fits.0), omega (arith, fits.1)))
 turned_fits (Landing wish span) (Landed first count) asks turns fits = tt
-turned_fits (Landing wish span) reply asks turns fits = tt
-turned_fits point reply asks turns fits = absurd fits
+turned_fits point reply asks turns fits = grind arith
 
 told_fits : (point : AskPoint) (asked : AskFacts) (reply : Reply) (asks turns : ℕ) → asks_ask point 0 asks (turns + 1) → Fits asks turns (told point asked reply)
 told_fits (Skipping wish span b skip) asked (Cut high) asks turns fits = trim_fits wish high b asks turns (omega (arith, fits.0)) (omega (arith, fits.1))
-told_fits (Skipping wish span b skip) asked Whole asks turns fits = (omega (arith, fits.0), omega (arith, fits.1))
-told_fits (Skipping wish span b skip) asked reply asks turns fits = tt
 told_fits (Trimming wish span b) asked (Cut low) asks turns fits = commit_fits wish low b asks turns (omega (arith, fits.0)) (omega (arith, fits.1))
-told_fits (Trimming wish span b) asked Whole asks turns fits = (omega (arith, fits.0), omega (arith, fits.1))
-told_fits (Trimming wish span b) asked reply asks turns fits = tt
 told_fits (Growing wish chunks) asked Refuse asks turns fits = (omega (arith, fits.0), omega (arith, fits.1))
-told_fits (Growing wish chunks) asked (Grown span b) asks turns fits = (omega (arith, fits.0), omega (arith, fits.1))
-told_fits (Growing wish chunks) asked reply asks turns fits = tt
 told_fits (Paring wish span b) asked (Cut low) asks turns fits = commit_fits wish low b asks turns (omega (arith, fits.0)) (omega (arith, fits.1))
-told_fits (Paring wish span b) asked Whole asks turns fits = (omega (arith, fits.0), omega (arith, fits.1))
-told_fits (Paring wish span b) asked reply asks turns fits = tt
 told_fits (Needing wish) asked (Grown span b) asks turns fits =
-    chosen (nat_lt wish.pages span.pages) asks turns _ _ (omega (arith, fits.0), omega (arith, fits.1)) (commit_fits wish span b asks turns (omega (arith, fits.0)) (omega (arith, fits.1)))
-told_fits (Needing wish) asked reply asks turns fits = tt
+    cond_both (nat_lt wish.pages span.pages) _ _ (Fits asks turns) (λ _. (omega (arith, fits.0), omega (arith, fits.1))) (λ _. commit_fits wish span b asks turns (omega (arith, fits.0)) (omega (arith, fits.1)))
 told_fits (Granting wish span b) asked (Cut low) asks turns fits = commit_fits wish low b asks turns (omega (arith, fits.0)) (omega (arith, fits.1))
-told_fits (Granting wish span b) asked reply asks turns fits = tt
 told_fits (Committing wish span) asked Noted asks turns fits = omega (arith, fits.1)
-told_fits (Committing wish span) asked reply asks turns fits = tt
-told_fits point asked reply asks turns fits = absurd fits
+told_fits point asked reply asks turns fits = grind arith
 
 -- an ask uses up one ask
 heard_fits : (point : AskPoint) (asks turns : ℕ) → asks_ask point 1 (asks + 1) turns → asks_ask point 0 asks turns
 heard_fits (Skipping wish span b skip) asks turns fits = (omega (arith, fits.0), fits.1)
-heard_fits (Growing wish chunks) asks turns fits = (omega (arith, fits.0), fits.1)
-heard_fits (Trimming wish span b) asks turns fits = (omega (arith, fits.0), fits.1)
-heard_fits (Paring wish span b) asks turns fits = (omega (arith, fits.0), fits.1)
-heard_fits (Needing wish) asks turns fits = (omega (arith, fits.0), fits.1)
-heard_fits (Granting wish span b) asks turns fits = (omega (arith, fits.0), fits.1)
-heard_fits (Committing wish span) asks turns fits = (omega (arith, fits.0), fits.1)
-heard_fits point asks turns fits = absurd fits
+heard_fits point asks turns fits = grind arith
 
 -- ---- the fold
 
 settled_fits : (request : Request) (desk : DeskFacts) (arena asks turns : ℕ) (next : Next) → Fits asks turns next → Fits asks turns (settle request desk arena next).next
-settled_fits request desk arena asks turns (Go point) fits = fits
 settled_fits request desk arena asks turns (Over index point) fits = absurd fits
 settled_fits request desk arena asks turns More fits = absurd fits
-settled_fits request desk arena asks turns Gone fits = tt
-settled_fits request desk arena asks turns (Ends answer) fits = tt
-settled_fits request desk arena asks turns Nowhere fits = tt
+settled_fits request desk arena asks turns next fits = fits
 
 starved_fits : (v : Bool) (asks turns : ℕ) → Fits asks turns (starved v)
 starved_fits true asks turns = tt
@@ -138,29 +91,15 @@ never_ends request desk arena items answer e = let no = nowhere_run request desk
 -- a turn uses up one turn, and an ask one ask
 turn_some : (point : TurnPoint) (asks turns : ℕ) → asks_turn point asks turns → 1 ≤ turns
 turn_some (Filling wish count) asks turns fits = omega (arith, fits.1)
-turn_some (Looking wish) asks turns fits = omega (arith, fits.1)
-turn_some (Landing wish span) asks turns fits = fits
-turn_some point asks turns fits = absurd fits
+turn_some point asks turns fits = omega arith
 
 ask_some : (point : AskPoint) (asks turns : ℕ) → asks_ask point 1 asks turns → 1 ≤ asks
 ask_some (Skipping wish span b skip) asks turns fits = omega (arith, fits.0)
-ask_some (Growing wish chunks) asks turns fits = omega (arith, fits.0)
-ask_some (Trimming wish span b) asks turns fits = omega (arith, fits.0)
-ask_some (Paring wish span b) asks turns fits = omega (arith, fits.0)
-ask_some (Needing wish) asks turns fits = omega (arith, fits.0)
-ask_some (Granting wish span b) asks turns fits = omega (arith, fits.0)
-ask_some (Committing wish span) asks turns fits = fits.0
-ask_some point asks turns fits = absurd fits
+ask_some point asks turns fits = omega arith
 
 done_some : (point : AskPoint) (asks turns : ℕ) → asks_ask point 0 asks turns → 1 ≤ turns
 done_some (Skipping wish span b skip) asks turns fits = omega (arith, fits.1)
-done_some (Growing wish chunks) asks turns fits = omega (arith, fits.1)
-done_some (Trimming wish span b) asks turns fits = omega (arith, fits.1)
-done_some (Paring wish span b) asks turns fits = omega (arith, fits.1)
-done_some (Needing wish) asks turns fits = omega (arith, fits.1)
-done_some (Granting wish span b) asks turns fits = omega (arith, fits.1)
-done_some (Committing wish span) asks turns fits = omega (arith, fits.1)
-done_some point asks turns fits = absurd fits
+done_some point asks turns fits = omega arith
 
 -- What is left to a run that ends.
 record Few (asks turns : ℕ) (items : List Item) : Type 0 where
@@ -192,29 +131,21 @@ run_fits (Replied reply ∷ items) request desk arena asks turns (Go (Turns poin
 run_fits (Starved ∷ items) request desk arena asks turns (Go (Turns point)) answer fits e =
     one_turn asks turns Starved items refl refl (turn_some point asks turns fits)
     (run_fits items request _ _ asks (turns - 1) _ answer (settled_fits request (desk_fed desk arena (Go (Turns point)) Starved) arena asks (turns - 1) (starved (is_marked (op_of point))) (starved_fits (is_marked (op_of point)) asks (turns - 1))) e)
-run_fits (Told asked ∷ items) request desk arena asks turns (Go (Turns point)) answer fits e = absurd (never_ends request _ arena items answer e)
 run_fits (Told asked ∷ items) request desk arena asks turns (Go (Asks point None)) answer fits e =
     let some = ask_some point asks turns fits in
     let same : asks ≡ asks - 1 + 1 = omega (arith, some) in
     one_told asks turns asked items some (run_fits items request _ arena (asks - 1) turns (Go (Asks point (Some asked))) answer (heard_fits point (asks - 1) turns (subst (λ n. asks_ask point 1 n turns) same fits)) e)
-run_fits (Replied reply ∷ items) request desk arena asks turns (Go (Asks point None)) answer fits e = absurd (never_ends request _ arena items answer e)
-run_fits (Starved ∷ items) request desk arena asks turns (Go (Asks point None)) answer fits e = absurd (never_ends request _ arena items answer e)
 run_fits (Replied reply ∷ items) request desk arena asks turns (Go (Asks point (Some asked))) answer fits e =
     let some = done_some point asks turns fits in
     let same : turns ≡ turns - 1 + 1 = omega (arith, some) in
     one_turn asks turns (Replied reply) items refl refl some
     (run_fits items request _ _ asks (turns - 1) _ answer (settled_fits request (desk_fed desk arena (Go (Asks point (Some asked))) (Replied reply)) arena asks (turns - 1) (told point asked reply) (told_fits point asked reply asks (turns - 1) (subst (asks_ask point 0 asks) same fits))) e)
-run_fits (Told other ∷ items) request desk arena asks turns (Go (Asks point (Some asked))) answer fits e = absurd (never_ends request _ arena items answer e)
-run_fits (Starved ∷ items) request desk arena asks turns (Go (Asks point (Some asked))) answer fits e = absurd (never_ends request _ arena items answer e)
+run_fits (Starved ∷ items) request desk arena asks turns (Go (Asks point None)) answer fits e = absurd (never_ends request _ arena items answer e)
 run_fits (item ∷ items) request desk arena asks turns (Go (Tells span b)) answer fits e = absurd fits
-run_fits (item ∷ items) request desk arena asks turns (Over index point) answer fits e = absurd fits
-run_fits (item ∷ items) request desk arena asks turns More answer fits e = absurd fits
-run_fits (item ∷ items) request desk arena asks turns Gone answer fits e = absurd (never_ends request _ arena items answer e)
-run_fits (item ∷ items) request desk arena asks turns (Ends given) answer fits e = absurd (never_ends request _ arena items answer e)
-run_fits (item ∷ items) request desk arena asks turns Nowhere answer fits e = absurd (never_ends request _ arena items answer e)
+run_fits (item ∷ items) request desk arena asks turns next answer fits e = absurd (never_ends request _ arena items answer e)
 
 get_fits : (class align count : ℕ) → Fits 5 8 (get class align count)
-get_fits class align count = chosen (nat_lt class 36) 5 8 _ _ (omega arith, omega arith) (omega arith, omega arith)
+get_fits class align count = cond_both (nat_lt class 36) _ _ (Fits 5 8) (λ _. (omega arith, omega arith)) (λ _. (omega arith, omega arith))
 
 got_fits : (class align : ℕ) (hit : Option Held) (desk : DeskFacts) → Fits 5 8 (begin_get class align hit desk).next
 got_fits class align (Some region) desk = tt

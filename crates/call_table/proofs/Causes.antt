@@ -1,19 +1,10 @@
 -- Every answer has its cause: each step keeps the reasons of the point to which it leads.
-use Rattle.std.proofs.Common.{◌≡◌, ℕ, inl, inr, Bool, false, List, [], ◌∷◌, ◌++◌, Option, None, Some, refl, sym, ◌∙◌, ap, arith, find}
-use Rattle.std.specs.List.{Contains}
+use Rattle.std.proofs.Common.{◌≡◌, ℕ, inl, inr, Bool, false, List, [], ◌∷◌, ◌++◌, Option, None, Some, refl, sym, ◌∙◌, ap, arith, find, Contains}
 use Rattle.std.proofs.lemmas.List.Elements.{Contains-append_left, Contains-append_right}
 use Rattle.std.proofs.lemmas.List.Sums.{fold-append}
-use Rattle.space_model.specs.declared.Answer.{Answer}
-use Rattle.space_model.specs.declared.Answer.TheVariants.{Done, Refused as Refuses, Placed}
-use Rattle.space_model.specs.declared.Ask.TheVariants.{Alloc, Commit, Split}
-use Rattle.space_model.specs.declared.Reply.TheVariants.{Grow, Whole, Refused as Refuse, Bad, Grown}
-use Rattle.space_model.specs.declared.Space.{Space}
-use Rattle.space_model.specs.declared.Span.{Span}
-use Rattle.space_model.specs.declared.Why.{Why}
 use Rattle.space_model.specs.Part.{is_flight_at}
 use Rattle.space_model.specs.Step.{after_cut, cut_at, after_commit, commit_at, after_grow, grow_unless, why_not}
-use Rattle.call_table.specs.declared.needs.Item.{Item}
-use Rattle.call_table.specs.declared.needs.Item.TheVariants.{Replied}
+use Rattle.call_table.specs.Words.{Item, Replied, Alloc, Commit, Split, Answer, Placed, Done, Refuses, Grow, Whole, Refuse, Bad, Grown, Space, Span, Why}
 use Rattle.call_table.specs.Table.{answered_span}
 use Rattle.call_table.specs.Causes.{Extent, extent_after, extent_of, NothingFits}
 

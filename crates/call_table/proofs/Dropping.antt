@@ -1,44 +1,30 @@
 -- What the turns of a call leave that purges extents: what it knows where it goes on.
 use Rattle.std.proofs.Common.{inl, inr, IsTrue, is_some, ◌≡◌, ℕ, ◌+◌, ◌-◌, ◌*◌, ◌<◌, ◌≤◌, ◌==◌, ◌&&◌, ◌||◌, Bool, true, false, not, cond, List, [], ◌∷◌, ◌++◌, Option, None, Some, refl, sym, ◌∙◌, ap, subst, arith, All, filter, find, length, ltb as nat_lt}
 use Rattle.std.specs.Option.{option_or}
+use Rattle.std.proofs.lemmas.Bool.{cond_both}
 use Rattle.std.proofs.lemmas.Bool.Decides.{nat_tests}
 use Rattle.std.proofs.lemmas.List.Elements.{All-filter, All-head, filter-append}
 use Rattle.std.proofs.Math.ListN.{length-append}
 use Rattle.std.proofs.lemmas.List.Folds.{find-append}
-use Rattle.space_model.specs.declared.Answer.{Answer}
-use Rattle.space_model.specs.declared.Answer.TheVariants.{Done, Refused as Refuses, Placed}
-use Rattle.space_model.specs.declared.Ask.TheVariants.{Dalloc, Decommit, PurgeLazy}
-use Rattle.space_model.specs.declared.Part.{Part}
 use Rattle.space_model.specs.declared.Offered.{Offered}
-use Rattle.call_table.specs.declared.points.Visit.{Visit}
-use Rattle.space_model.specs.declared.Reply.TheVariants.{NoArena, Nothing, Noted, Abandoned, Kept}
-use Rattle.space_model.specs.declared.Rest.{Rest}
-use Rattle.space_model.specs.declared.Rest.TheVariants.{Dirty as ToDirty, Muzzy as ToMuzzy, Retained as ToRetained}
 use Rattle.space_model.specs.declared.State.TheVariants.{Dirty, Flight}
-use Rattle.space_model.specs.declared.Space.{Space}
-use Rattle.space_model.specs.declared.Span.{Span}
-use Rattle.space_model.specs.Span.{IsPlaced, same_span, meets}
+use Rattle.space_model.specs.Span.{IsPlaced, meets}
 use Rattle.space_model.specs.Part.{exchanged, begins_at, is_flight, is_flight_at, is_listed, is_backed, rest_of, listed, taken_out, pages_listed}
 use Rattle.space_model.specs.Stepped.{stays, is_live, is_lazy}
 use Rattle.space_model.specs.Step.{next_flight}
 use Rattle.space_model.specs.Purging.{after_lazy, lazy_at, offer_at, offer_of, without_offer, is_offer, is_regranted, after_offer, after_decommit, decommit_at, after_purge_take, purge_at, count_listed, is_purgeable}
-use Rattle.space_model.specs.Sound.{Sound}
-use Rattle.space_model.specs.Own.{mine}
-use Rattle.hook_api.specs.Hooks.{Answers as AnswersTo}
 use Rattle.space_model.proofs.Exchange.{find_passes, find_has}
 use Rattle.space_model.proofs.Outcomes.{belongs}
 use Rattle.space_model.proofs.Pieces.{both_true}
-use Rattle.call_table.specs.declared.points.Then.{Then}
-use Rattle.call_table.specs.declared.points.Then.TheVariants.{Visiting}
-use Rattle.call_table.specs.declared.points.TurnPoint.TheVariants.{Taking, Offering}
-use Rattle.call_table.specs.declared.points.AskPoint.TheVariants.{Easing, Returning, Decommitting, Forcing}
+use Rattle.space_model.proofs.Moves.{itself}
+use Rattle.call_table.specs.Words.{Visit, Then, Visiting, Taking, Offering, Easing, Returning, Decommitting, Forcing, Dalloc, Decommit, PurgeLazy, Answer, Placed, Done, Refuses, Noted, Kept, Abandoned, Rest, ToDirty, ToMuzzy, ToRetained, Space, Part, Span, Sound, mine, same_span, AnswersTo}
 use Rattle.call_table.specs.Table.{decommitted, eased, forced, put_purged, returned, takes_left, turned}
 use Rattle.call_table.specs.Knows.{Idle, Flies, Droppable, HasOffered, IsThen, IsVisit, HasLeft, in_flight}
 use Rattle.call_table.specs.Laws.{Keeps, stages_then, stages_later, left, left_then, left_visit, stages_visit, left_turn, left_ask, flights_of}
-use Rattle.call_table.proofs.Lists.{find-none, filter-fewer, find-gone, any-none, filter-removed}
-use Rattle.call_table.proofs.Own.{flights_exchanged, filter-swap}
+use Rattle.call_table.proofs.Lists.{find-none, filter-fewer, filter-swap, find-gone, any-none, filter-removed, passes_alone}
+use Rattle.call_table.proofs.Own.{flights_exchanged}
 use Rattle.call_table.proofs.Putting.{Room, fewer_room, found_at, begins_as, gone_flights, next_goes, drop_goes, visited_goes, listed_dirty}
-use Rattle.call_table.proofs.Getting.{Onto, span_itself, begins_itself, client_itself, passes_alone, replaced_idle}
+use Rattle.call_table.proofs.Getting.{Onto, span_itself, begins_itself, replaced_idle}
 
 -- ---- an extent in flight that changes
 
@@ -83,8 +69,8 @@ lazy_onto c s span later Done sound flies is kind =
     let at = found_at c s span p sound flies.found in
     let piece : Part = record p { state = Flight c ToMuzzy } in
     let t : Space = (lazy_at s c (Some p)).after in
-    let found : in_flight span (mine c t).flights ≡ Some piece = subst (λ x. in_flight x (mine c t).flights ≡ Some piece) at.spans (changed_found c s p piece (client_itself c) refl) in
-    let count : flights_of c t ≤ flights_of c s = changed_count c s span p piece flies.found (client_itself c) in
+    let found : in_flight span (mine c t).flights ≡ Some piece = subst (λ x. in_flight x (mine c t).flights ≡ Some piece) at.spans (changed_found c s p piece (itself c) refl) in
+    let count : flights_of c t ≤ flights_of c s = changed_count c s span p piece flies.found (itself c) in
     rw at.found (purged_goes c t span later _ piece flies.offers is found refl (omega (arith, count)))
 lazy_onto c s span later Refuses sound flies is kind =
     ((record { part = flies.part; found = flies.found; is = rw flies.is refl; offers = flies.offers }, is), inr (refl, omega arith))
@@ -101,7 +87,7 @@ offer_onto c s span later sound flies is =
     let backed : IsTrue p.committed = find_has (λ q. IsTrue (is_backed (rest_of q.state)) → IsTrue q.committed) (is_flight_at c span) s.parts p sound.backed at.found flies.is in
     let offers : (mine c t).offers ≡ offer_of c p ∷ [] =
     filter-append (λ (o : Offered). o.client == c) s.offers (offer_of c p ∷ []) ∙ ap (λ os. os ++ filter (λ (o : Offered). o.client == c) (offer_of c p ∷ [])) flies.offers
-    ∙ ap (λ (v : Bool). cond v (offer_of c p ∷ []) []) (client_itself c) in
+    ∙ ap (λ (v : Bool). cond v (offer_of c p ∷ []) []) (itself c) in
     let fewer = filter-fewer (λ q. same_span q.span span) (begins_at p.span.first) (mine c s).flights p flies.found (begins_itself p) in
     let count : flights_of c t ≡ length (filter (λ q. not (begins_at p.span.first q)) (mine c s).flights) = ap length (gone_flights c s p [] refl) in
     (((record { offer = offer_of c p; offers = offers; spans = at.spans; committed = backed }, is), tt), inr (refl, omega (arith, fewer, count)))
@@ -139,7 +125,7 @@ kept_goes c s span later found false offers is some e =
     let none : filter (λ q. meets q.span span) (mine c s).flights ≡ [] =
     filter-swap (λ q. meets q.span span) flies s.parts ∙ ap (filter flies) (any-none (λ q. meets q.span span) s.parts (either_false (is_some found) _ e)) in
     let flights : (mine c t).flights ≡ (mine c s).flights ++ piece ∷ [] =
-    filter-append flies s.parts (piece ∷ []) ∙ ap (λ (v : Bool). (mine c s).flights ++ cond v (piece ∷ []) []) (client_itself c) in
+    filter-append flies s.parts (piece ∷ []) ∙ ap (λ (v : Bool). (mine c s).flights ++ cond v (piece ∷ []) []) (itself c) in
     let found : in_flight span (mine c t).flights ≡ Some piece =
     ap (in_flight span) flights ∙ find-append (λ q. same_span q.span span) (mine c s).flights (piece ∷ [])
     ∙ ap (λ o. option_or o (in_flight span (piece ∷ []))) (find-none (λ q. same_span q.span span) (λ q. meets q.span span) (mine c s).flights none (same_meets span some))
@@ -197,9 +183,8 @@ visit_stage visit None = omega arith
 visit_stage visit (Some n) = omega arith
 
 purgeable_backed : (r : Rest) → is_purgeable r ≡ true → is_backed r ≡ true
-purgeable_backed ToDirty h = refl
-purgeable_backed ToMuzzy h = refl
 purgeable_backed ToRetained h = absurd (cc)
+purgeable_backed r h = refl
 
 took_goes : (c : ℕ) (s : Space) (visit : Visit) (left : Option ℕ) (o : Option Part) → find (λ p. is_listed visit.rest p.state) s.parts ≡ o → Idle (mine c s) → IsVisit visit → HasLeft left →
     Onto c (turned (Taking visit left)) (stages_visit visit left) (left_visit left) (purge_at s c visit.rest o)
@@ -208,7 +193,7 @@ took_goes c s visit left (Some p) e idle is some =
     let taken : Part = taken_out c p in
     let t : Space = (purge_at s c visit.rest (Some p)).after in
     let flights : (mine c t).flights ≡ taken ∷ [] =
-    replaced_idle c s (begins_at p.span.first) (taken ∷ []) idle.flights ∙ ap (λ (v : Bool). cond v (taken ∷ []) []) (client_itself c) in
+    replaced_idle c s (begins_at p.span.first) (taken ∷ []) idle.flights ∙ ap (λ (v : Bool). cond v (taken ∷ []) []) (itself c) in
     let found : in_flight p.span (mine c t).flights ≡ Some taken = ap (in_flight p.span) flights ∙ ap (λ (v : Bool). cond v (Some taken) None) (span_itself p.span) in
     let count : flights_of c t ≡ length (taken ∷ []) = ap length flights in
     let rest : rest_of p.state ≡ visit.rest = belongs visit.rest p.state (find_passes (λ q. is_listed visit.rest q.state) s.parts p e) in
@@ -221,12 +206,7 @@ took_goes c s visit left (Some p) e idle is some =
 pub take_onto : (c : ℕ) (s : Space) (visit : Visit) (left : Option ℕ) → Idle (mine c s) → IsVisit visit → HasLeft left →
     Onto c (turned (Taking visit left)) (stages_visit visit left) (left_visit left) (after_purge_take s c visit.rest visit.keep)
 take_onto c s visit left idle is some =
-    elim (is_live s.life) as (λ l. Onto c (turned (Taking visit left)) (stages_visit visit left) (left_visit left)
-    (cond l (cond (nat_lt visit.keep (pages_listed visit.rest s.parts)) (purge_at s c visit.rest (find (λ p. is_listed visit.rest p.state) s.parts)) (stays s Nothing)) (stays s NoArena))) [
-      | true ↦ elim (nat_lt visit.keep (pages_listed visit.rest s.parts)) as (λ v. Onto c (turned (Taking visit left)) (stages_visit visit left) (left_visit left)
-          (cond v (purge_at s c visit.rest (find (λ p. is_listed visit.rest p.state) s.parts)) (stays s Nothing))) [
-            | true ↦ took_goes c s visit left (find (λ p. is_listed visit.rest p.state) s.parts) refl idle is some
-            | false ↦ visited_goes c s (stages_visit visit left) (left_visit left) visit.later idle (visit_stage visit left)
-          ]
-      | false ↦ idle
-    ]
+    cond_both (is_live s.life) _ _ (Onto c (turned (Taking visit left)) (stages_visit visit left) (left_visit left))
+    (λ _. cond_both (nat_lt visit.keep (pages_listed visit.rest s.parts)) _ _ (Onto c (turned (Taking visit left)) (stages_visit visit left) (left_visit left))
+    (λ _. took_goes c s visit left (find (λ p. is_listed visit.rest p.state) s.parts) refl idle is some) (λ _. visited_goes c s (stages_visit visit left) (left_visit left) visit.later idle (visit_stage visit left)))
+    (λ _. idle)

@@ -1,42 +1,25 @@
 -- What the turns of a call leave that gets an extent: what it knows where it goes on.
-use Rattle.std.proofs.Common.{inr, min, ◌≡◌, ◌≢◌, ℕ, ◌+◌, ◌-◌, ◌<◌, ◌≤◌, ◌==◌, Bool, true, false, not, cond, List, [], ◌∷◌, ◌++◌, Option, None, Some, refl, sym, ◌∙◌, ap, subst, arith, filter, find, ltb as nat_lt, count_ones}
+use Rattle.std.proofs.Common.{inr, min, ◌≡◌, ◌≢◌, ℕ, ◌+◌, ◌-◌, ◌<◌, ◌≤◌, Bool, true, false, not, cond, List, [], ◌∷◌, ◌++◌, Option, None, Some, refl, sym, ◌∙◌, ap, subst, arith, filter, find, ltb as nat_lt, count_ones}
 use Rattle.std.specs.Int.{is_power_of_two}
 use Rattle.std.specs.Option.{option_or}
 use Rattle.std.proofs.lemmas.Bool.Decides.{nat_tests}
-use Rattle.std.proofs.lemmas.Bool.{ltb-true, leb-true, eqb-true}
+use Rattle.std.proofs.lemmas.Bool.{cond_both, ltb-true, leb-true, eqb-true}
 use Rattle.std.proofs.lemmas.Nat.{ones_le_self}
 use Rattle.std.proofs.lemmas.List.Elements.{filter-append}
 use Rattle.size_classes.proofs.Table.{pages_bounds}
-use Rattle.space_model.specs.declared.Answer.{Answer}
-use Rattle.space_model.specs.declared.Answer.TheVariants.{Done, Refused as Refuses, Placed}
-use Rattle.space_model.specs.declared.Ask.TheVariants.{Alloc, Commit, Split}
-use Rattle.space_model.specs.declared.Part.{Part}
-use Rattle.space_model.specs.declared.Reply.{Reply}
-use Rattle.space_model.specs.declared.Reply.TheVariants.{NoArena, Noted, Cut, Whole, Refused, Bad, Grown}
-use Rattle.space_model.specs.declared.Rest.{Rest}
-use Rattle.space_model.specs.declared.Rest.TheVariants.{Dirty as ToDirty, Muzzy as ToMuzzy, Retained as ToRetained}
-use Rattle.space_model.specs.declared.Space.{Space}
-use Rattle.space_model.specs.declared.Span.{Span}
-use Rattle.space_model.specs.declared.Why.{Why}
-use Rattle.space_model.specs.Span.{max_series, same_span, run_start, holds_run, end_of}
+use Rattle.space_model.specs.Span.{run_start, holds_run}
 use Rattle.space_model.specs.Part.{exchanged, begins_at, is_flight, is_flight_at, put_down, taken_out, listed, rest_of}
 use Rattle.space_model.specs.Fit.{fit, fit_of, is_best, is_candidate}
-use Rattle.space_model.specs.Stepped.{Stepped, stays, is_live, low_piece, high_piece, whole_at}
-use Rattle.space_model.specs.Slabs.{land_at}
-use Rattle.space_model.specs.Step.{after_cut, cut_at, after_look, look_at, after_grow, grow_unless, why_not, new_part, after_commit, commit_at}
-use Rattle.space_model.specs.Own.{mine}
-use Rattle.hook_api.specs.Hooks.{Answers}
+use Rattle.space_model.specs.Stepped.{Stepped, is_live, whole_at}
+use Rattle.space_model.specs.Step.{after_cut, cut_at, kept_piece, other_piece, after_look, look_at, after_grow, grow_unless, why_not, new_part, after_commit, commit_at}
 use Rattle.space_model.proofs.Exchange.{find_passes}
-use Rattle.space_model.proofs.Pieces.{both_true}
-use Rattle.call_table.specs.declared.points.Wish.{Wish}
-use Rattle.call_table.specs.declared.points.TurnPoint.TheVariants.{Looking, Landing}
-use Rattle.call_table.specs.declared.points.AskPoint.TheVariants.{Skipping, Trimming, Growing, Needing, Granting}
-use Rattle.call_table.specs.declared.points.Point.TheVariants.{Asks}
-use Rattle.call_table.specs.declared.points.Next.{Next}
-use Rattle.call_table.specs.declared.points.Next.TheVariants.{Go}
+use Rattle.space_model.proofs.Pieces.{put_down-nobody, both_true}
+use Rattle.space_model.proofs.Moves.{itself}
+use Rattle.call_table.specs.Words.{Wish, Looking, Landing, Next, Alloc, Commit, Split, Answer, Placed, Done, Refuses, Reply, Noted, Cut, Whole, Refuse as Refused, Bad, Grown, Rest, ToDirty, ToMuzzy, ToRetained, Space, Part, Span, Why, mine, max_series, same_span, end_of, land_at, AnswersTo as Answers}
 use Rattle.call_table.specs.Table.{commit, grant, grow, trim, skip_to, turned, chunks_for}
 use Rattle.call_table.specs.Knows.{IsWish, Idle, Alone, Gets, is_served, in_flight}
 use Rattle.call_table.specs.Laws.{Keeps}
+use Rattle.call_table.proofs.Lists.{passes_alone}
 use Rattle.call_table.proofs.Own.{flight_found, flights_exchanged}
 
 -- a wish has a page at least
@@ -53,36 +36,27 @@ commit_goes c t bound wish span false gets alone pages fewer = (((gets, alone, p
 pub grant_goes : (c : ℕ) (t : Space) (bound : ℕ) (wish : Wish) (span : Span) (b : Bool) → Gets (mine c t) wish → Alone (mine c t) span b →
     wish.pages ≤ span.pages → 5 < bound → Keeps c t 0 bound (grant wish span b)
 grant_goes c t bound wish span b gets alone holds fewer =
-    elim (nat_lt wish.pages span.pages) as (λ x. nat_lt wish.pages span.pages ≡ x → Keeps c t 0 bound (cond x (Go (Asks (Granting wish span b) None)) (commit wish span b))) [
-      | true ↦ λ h. (((gets, alone, ltb-true _ _ h), tt), inr (refl, omega arith))
-      | false ↦ λ h. commit_goes c t bound wish span b gets alone (grind (arith, nat_tests)) (omega arith)
-    ] refl
+    cond_both (nat_lt wish.pages span.pages) _ _ (Keeps c t 0 bound) (λ h. (((gets, alone, ltb-true _ _ h), tt), inr (refl, omega arith)))
+    (λ h. commit_goes c t bound wish span b gets alone (grind (arith, nat_tests)) (omega arith))
 
 pub trim_goes : (c : ℕ) (t : Space) (bound : ℕ) (wish : Wish) (span : Span) (b : Bool) → Gets (mine c t) wish → Alone (mine c t) span b →
     wish.pages ≤ span.pages → 9 < bound → Keeps c t 0 bound (trim wish span b)
 trim_goes c t bound wish span b gets alone holds fewer =
-    elim (nat_lt wish.pages span.pages) as (λ x. nat_lt wish.pages span.pages ≡ x → Keeps c t 0 bound (cond x (Go (Asks (Trimming wish span b) None)) (commit wish span b))) [
-      | true ↦ λ h. (((gets, alone, ltb-true _ _ h), tt), inr (refl, omega arith))
-      | false ↦ λ h. commit_goes c t bound wish span b gets alone (grind (arith, nat_tests)) (omega arith)
-    ] refl
+    cond_both (nat_lt wish.pages span.pages) _ _ (Keeps c t 0 bound) (λ h. (((gets, alone, ltb-true _ _ h), tt), inr (refl, omega arith)))
+    (λ h. commit_goes c t bound wish span b gets alone (grind (arith, nat_tests)) (omega arith))
 
 skip_goes : (c : ℕ) (t : Space) (bound : ℕ) (wish : Wish) (span : Span) (b : Bool) (skip : ℕ) → Gets (mine c t) wish → Alone (mine c t) span b →
     skip + wish.pages ≤ span.pages → 11 < bound → Keeps c t 0 bound (skip_to wish span b skip)
 skip_goes c t bound wish span b skip gets alone holds fewer =
-    elim (nat_lt 0 skip) as (λ x. nat_lt 0 skip ≡ x → Keeps c t 0 bound (cond x (Go (Asks (Skipping wish span b skip) None)) (trim wish span b))) [
-      | true ↦ λ h. (((gets, alone, ltb-true _ _ h, holds), tt), inr (refl, omega arith))
-      | false ↦ λ h. trim_goes c t bound wish span b gets alone (omega arith) (omega arith)
-    ] refl
+    cond_both (nat_lt 0 skip) _ _ (Keeps c t 0 bound) (λ h. (((gets, alone, ltb-true _ _ h, holds), tt), inr (refl, omega arith)))
+    (λ h. trim_goes c t bound wish span b gets alone (omega arith) (omega arith))
 
 -- the arena grows by more chunks than are needed, or by just as many
 pub grow_goes : (c : ℕ) (t : Space) (bound : ℕ) (wish : Wish) (series : ℕ) → Gets (mine c t) wish → Idle (mine c t) → 11 < bound →
     Keeps c t 0 bound (grow wish series)
 grow_goes c t bound wish series gets idle fewer =
-    elim (nat_lt (chunks_for wish.pages) (min series max_series)) as (λ x. nat_lt (chunks_for wish.pages) (min series max_series) ≡ x →
-    Keeps c t 0 bound (cond x (Go (Asks (Growing wish (min series max_series)) None)) (Go (Asks (Needing wish) None)))) [
-      | true ↦ λ h. (((gets, idle, ltb-true _ _ h), tt), inr (refl, omega arith))
-      | false ↦ λ h. (((gets, idle), tt), inr (refl, omega arith))
-    ] refl
+    cond_both (nat_lt (chunks_for wish.pages) (min series max_series)) _ _ (Keeps c t 0 bound) (λ h. (((gets, idle, ltb-true _ _ h), tt), inr (refl, omega arith)))
+    (λ h. (((gets, idle), tt), inr (refl, omega arith)))
 
 -- a customer stays one
 pub gets_kept : (c : ℕ) (s t : Space) (wish : Wish) → Gets (mine c s) wish → is_served (mine c t) ≡ is_served (mine c s) → Gets (mine c t) wish
@@ -96,29 +70,11 @@ span_itself s = grind (arith, nat_tests)
 pub begins_itself : (p : Part) → begins_at p.span.first p ≡ true
 begins_itself p = grind (arith, nat_tests)
 
-pub client_itself : (c : ℕ) → (c == c) ≡ true
-client_itself c = grind (arith, nat_tests)
-
--- what was put down is in flight no more
-pub down_is_listed : (c : ℕ) (rest : Rest) → is_flight c (listed rest) ≡ false
-down_is_listed c ToDirty = refl
-down_is_listed c ToMuzzy = refl
-down_is_listed c ToRetained = refl
-
 -- the client's only extent is the one that is found
 pub alone_found : (c : ℕ) (s : Space) (span : Span) (b : Bool) → (alone : Alone (mine c s) span b) → find (is_flight_at c span) s.parts ≡ Some alone.part
 alone_found c s span b alone =
     let same : same_span alone.part.span span ≡ true = subst (λ x. same_span alone.part.span x ≡ true) alone.spans (span_itself alone.part.span) in
     flight_found c span s.parts ∙ ap (in_flight span) alone.flights ∙ ap (λ (v : Bool). cond v (Some alone.part) None) same
-
--- it is in flight
-pub passes_alone : {X : Type 0} (f : X → Bool) (xs : List X) (x : X) → filter f xs ≡ x ∷ [] → f x ≡ true
-passes_alone f [] x e = absurd (cc)
-passes_alone f (y ∷ ys) x e =
-    elim (f y) as (λ v. f y ≡ v → cond v (y ∷ filter f ys) (filter f ys) ≡ x ∷ [] → f x ≡ true) [
-      | true ↦ λ h k. let same : y ≡ x = cc in subst (λ z. f z ≡ true) same h
-      | false ↦ λ h k. passes_alone f ys x k
-    ] refl e
 
 -- once pieces have taken its place, those of them that are in flight are all that the client has
 pub replaced_alone : (c : ℕ) (s : Space) (p : Part) (pieces : List Part) → (mine c s).flights ≡ p ∷ [] →
@@ -152,7 +108,7 @@ whole_onto c s f bound span b alone on =
     let p : Part = alone.part in
     let t : Space = (whole_at s (Some p)).after in
     let idle : Idle (mine c t) = record {
-      flights = replaced_alone c s p (put_down p ∷ []) alone.flights ∙ ap (λ (v : Bool). cond v (put_down p ∷ []) []) (down_is_listed c (rest_of p.state));
+      flights = replaced_alone c s p (put_down p ∷ []) alone.flights ∙ ap (λ (v : Bool). cond v (put_down p ∷ []) []) (put_down-nobody c (rest_of p.state));
       offers = alone.offers;
     } in
     subst (λ o. Onto c f 0 bound (whole_at s o)) (sym (alone_found c s span b alone)) (on t refl idle)
@@ -162,34 +118,28 @@ abbrev pub kept_span : Bool → ℕ → Span → Span
 kept_span true left s = record { first = s.first; pages = left }
 kept_span false left s = record { first = s.first + left; pages = s.pages - left }
 
+-- what the pieces of a cut have of the extent
+piece_is : (keep_low : Bool) (left : ℕ) (p : Part) → ((kept_piece keep_low left p).span ≡ kept_span keep_low left p.span) × ((kept_piece keep_low left p).state ≡ p.state)
+    × ((kept_piece keep_low left p).committed ≡ p.committed) × ((put_down (other_piece keep_low left p)).state ≡ listed (rest_of p.state))
+piece_is true left p = (refl, refl, refl, refl)
+piece_is false left p = (refl, refl, refl, refl)
+
 cut_done : (c : ℕ) (s : Space) (f : Reply → Next) (bound : ℕ) (keep_low : Bool) (span : Span) (left : ℕ) (b : Bool) → (alone : Alone (mine c s) span b) →
     AnyAfter c s (λ t. Alone (mine c t) (kept_span keep_low left span) b → Keeps c t 0 bound (f (Cut (kept_span keep_low left span)))) →
     Onto c f 0 bound (cut_at s keep_low left (Some alone.part))
-cut_done c s f bound true span left b alone on =
+cut_done c s f bound keep_low span left b alone on =
     let p : Part = alone.part in
-    let own = passes_alone (λ q. is_flight c q.state) s.parts p alone.flights in
-    let t : Space = (cut_at s true left (Some p)).after in
-    let spans : (low_piece left p).span ≡ kept_span true left span = ap (kept_span true left) alone.spans in
-    let still : Alone (mine c t) (kept_span true left span) b = record {
-      part = low_piece left p;
-      flights = replaced_alone c s p (put_down (high_piece left p) ∷ low_piece left p ∷ []) alone.flights
-          ∙ rw (down_is_listed c (rest_of p.state), own) refl;
+    let kept : Part = kept_piece keep_low left p in
+    let is = piece_is keep_low left p in
+    let t : Space = (cut_at s keep_low left (Some p)).after in
+    let spans : kept.span ≡ kept_span keep_low left span = is.0 ∙ ap (kept_span keep_low left) alone.spans in
+    let own : is_flight c kept.state ≡ true = ap (is_flight c) is.1 ∙ passes_alone (λ q. is_flight c q.state) s.parts p alone.flights in
+    let down : is_flight c (put_down (other_piece keep_low left p)).state ≡ false = ap (is_flight c) is.3 ∙ put_down-nobody c (rest_of p.state) in
+    let still : Alone (mine c t) (kept_span keep_low left span) b = record {
+      part = kept;
+      flights = replaced_alone c s p (put_down (other_piece keep_low left p) ∷ kept ∷ []) alone.flights ∙ rw (down, own) refl;
       spans = spans;
-      committed = alone.committed;
-      offers = alone.offers;
-    } in
-    subst (λ k. Keeps c t 0 bound (f (Cut k))) (sym spans) (on t refl still)
-cut_done c s f bound false span left b alone on =
-    let p : Part = alone.part in
-    let own = passes_alone (λ q. is_flight c q.state) s.parts p alone.flights in
-    let t : Space = (cut_at s false left (Some p)).after in
-    let spans : (high_piece left p).span ≡ kept_span false left span = ap (kept_span false left) alone.spans in
-    let still : Alone (mine c t) (kept_span false left span) b = record {
-      part = high_piece left p;
-      flights = replaced_alone c s p (put_down (low_piece left p) ∷ high_piece left p ∷ []) alone.flights
-          ∙ rw (down_is_listed c (rest_of p.state), own) refl;
-      spans = spans;
-      committed = alone.committed;
+      committed = is.2 ∙ alone.committed;
       offers = alone.offers;
     } in
     subst (λ k. Keeps c t 0 bound (f (Cut k))) (sym spans) (on t refl still)
@@ -235,7 +185,7 @@ grown_onto c s f bound span b None idle on_bad on_grown =
       part = new_part c span b;
       flights = filter-append (λ q. is_flight c q.state) s.parts (new_part c span b ∷ [])
           ∙ ap (λ ps. ps ++ filter (λ q. is_flight c q.state) (new_part c span b ∷ [])) idle.flights
-          ∙ ap (λ (v : Bool). cond v (new_part c span b ∷ []) []) (client_itself c);
+          ∙ ap (λ (v : Bool). cond v (new_part c span b ∷ []) []) (itself c);
       spans = refl;
       committed = refl;
       offers = idle.offers;
@@ -287,7 +237,7 @@ found_goes c s wish (Some p) e gets idle =
     let t : Space = (look_at s c wish.align (Some p)).after in
     let alone : Alone (mine c t) p.span p.committed = record {
       part = taken;
-      flights = replaced_idle c s (begins_at p.span.first) (taken ∷ []) idle.flights ∙ ap (λ (v : Bool). cond v (taken ∷ []) []) (client_itself c);
+      flights = replaced_idle c s (begins_at p.span.first) (taken ∷ []) idle.flights ∙ ap (λ (v : Bool). cond v (taken ∷ []) []) (itself c);
       spans = refl;
       committed = refl;
       offers = idle.offers;
@@ -299,10 +249,7 @@ found_goes c s wish (Some p) e gets idle =
 -- the reply to the look
 pub look_onto : (c : ℕ) (s : Space) (wish : Wish) → Gets (mine c s) wish → Idle (mine c s) → Onto c (turned (Looking wish)) 0 12 (after_look s c wish.pages wish.align)
 look_onto c s wish gets idle =
-    elim (is_live s.life) as (λ l. Onto c (turned (Looking wish)) 0 12 (cond l (look_at s c wish.align (fit wish.pages wish.align s.parts)) (stays s NoArena))) [
-      | true ↦ found_goes c s wish (fit wish.pages wish.align s.parts) refl gets idle
-      | false ↦ idle
-    ]
+    cond_both (is_live s.life) _ _ (Onto c (turned (Looking wish)) 0 12) (λ _. found_goes c s wish (fit wish.pages wish.align s.parts) refl gets idle) (λ _. idle)
 
 -- ---- the landing
 

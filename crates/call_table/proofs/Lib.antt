@@ -16,3 +16,4 @@ pub mod Credits
 pub mod Rooms
 pub mod Multiples
 pub mod Memaligns
+pub mod Proved

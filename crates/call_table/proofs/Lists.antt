@@ -1,30 +1,80 @@
 -- Searches and filters of lists, one after the other.
-use Rattle.std.proofs.Common.{suc, ◌≡◌, ◌+◌, ◌<◌, ◌≤◌, ◌||◌, Bool, true, false, not, cond, List, [], ◌∷◌, ◌++◌, None, Some, refl, sym, ap, subst, arith, filter, find, length}
+use Rattle.std.proofs.Common.{suc, ◌≡◌, ℕ, ◌+◌, ◌<◌, ◌&&◌, ◌||◌, Bool, true, false, not, cond, List, [], ◌∷◌, None, Some, All, refl, sym, ◌∙◌, ap, subst, arith, filter, find, length}
 use Rattle.std.specs.List.{list_any, remove, position_or_len}
+use Rattle.std.proofs.Math.Bool.{and-true, and_comm}
+use Rattle.std.proofs.lemmas.List.Elements.{All-head, filter_passes}
+use Rattle.std.proofs.lemmas.List.Filters.{length-filter_both}
+use Rattle.std.proofs.lemmas.List.Sums.{length-filter}
+use Rattle.space_model.proofs.Lists.{find-le-sum_by}
+
+-- what passes two tests is sought among what passes the first
+pub find-both : {X : Type 0} (a b : X → Bool) (xs : List X) → find (λ x. a x && b x) xs ≡ find b (filter a xs)
+find-both a b [] = refl
+find-both a b (x ∷ xs) = elim (a x) as (λ v. cond (v && b x) (Some x) (find (λ x. a x && b x) xs) ≡ find b (cond v (x ∷ filter a xs) (filter a xs))) [
+  | true ↦ elim (b x) as (λ w. cond w (Some x) (find (λ x. a x && b x) xs) ≡ cond w (Some x) (find b (filter a xs))) [ true ↦ refl | false ↦ find-both a b xs ]
+  | false ↦ find-both a b xs
+]
+
+pub any-both : {X : Type 0} (a b : X → Bool) (xs : List X) → list_any (λ x. a x && b x) xs ≡ list_any b (filter a xs)
+any-both a b [] = refl
+any-both a b (x ∷ xs) = elim (a x) as (λ v. ((v && b x) || list_any (λ x. a x && b x) xs) ≡ list_any b (cond v (x ∷ filter a xs) (filter a xs))) [
+  | true ↦ ap (λ w. b x || w) (any-both a b xs)
+  | false ↦ any-both a b xs
+]
+
+-- two filters are one
+filter-both : {X : Type 0} (a b : X → Bool) (xs : List X) → filter (λ x. a x && b x) xs ≡ filter b (filter a xs)
+filter-both a b [] = refl
+filter-both a b (x ∷ xs) = elim (a x) as (λ v. cond (v && b x) (x ∷ filter (λ x. a x && b x) xs) (filter (λ x. a x && b x) xs) ≡ filter b (cond v (x ∷ filter a xs) (filter a xs))) [
+  | true ↦ ap (λ ys. cond (b x) (x ∷ ys) ys) (filter-both a b xs)
+  | false ↦ filter-both a b xs
+]
+
+-- tests that agree are one test
+by_test : {X Y : Type 0} (F : (X → Bool) → Y) (f g : X → Bool) → ((x : X) → f x ≡ g x) → F f ≡ F g
+by_test F f g e = λ i. F (λ x. e x i)
+
+pub any-filter : {X : Type 0} (a : X → Bool) (xs : List X) → list_any a xs ≡ list_any (λ _. true) (filter a xs)
+any-filter a xs = by_test (λ f. list_any f xs) a (λ x. a x && true) (λ x. sym (and-true (a x))) ∙ any-both a (λ _. true) xs
+
+-- where none passes, none is
+pub none-any : {X : Type 0} (f : X → Bool) (xs : List X) → filter f xs ≡ [] → list_any f xs ≡ false
+none-any f xs e = any-filter f xs ∙ ap (list_any (λ _. true)) e
+
+-- two filters may be applied in either order
+pub filter-swap : {X : Type 0} (a b : X → Bool) (xs : List X) → filter a (filter b xs) ≡ filter b (filter a xs)
+filter-swap a b xs = sym (filter-both b a xs) ∙ by_test (λ f. filter f xs) _ _ (λ x. and_comm (b x) (a x)) ∙ filter-both a b xs
+
+-- those that are neither are left after one filter and the other
+pub filter-either : {X : Type 0} (a b : X → Bool) (xs : List X) → filter (λ x. not (a x || b x)) xs ≡ filter (λ x. not (b x)) (filter (λ x. not (a x)) xs)
+filter-either a b xs = by_test (λ f. filter f xs) _ _ (λ x. neither (a x) (b x)) ∙ filter-both (λ x. not (a x)) (λ x. not (b x)) xs
+  where
+    neither : (v w : Bool) → not (v || w) ≡ (not v && not w)
+    neither true w = refl
+    neither false w = refl
 
 -- what is sought and would stay is found after others went
 pub find-kept : {X : Type 0} (test keep : X → Bool) (xs : List X) → ((x : X) → test x ≡ true → keep x ≡ true) → find test (filter keep xs) ≡ find test xs
-find-kept test keep [] stays = refl
-find-kept test keep (x ∷ xs) stays =
-    elim (test x) as (λ v. test x ≡ v → find test (cond (keep x) (x ∷ filter keep xs) (filter keep xs)) ≡ cond v (Some x) (find test xs)) [
-      | true ↦ λ h. rw (stays x h, h) refl
-      | false ↦ λ h. elim (keep x) as (λ w. find test (cond w (x ∷ filter keep xs) (filter keep xs)) ≡ find test xs) [
-        | true ↦ rw h (find-kept test keep xs stays)
-        | false ↦ find-kept test keep xs stays
-      ]
-    ] refl
+find-kept test keep xs stays = sym (find-both keep test xs) ∙ by_test (λ f. find f xs) _ _ (λ x. implied (keep x) (test x) (stays x))
+  where
+    implied : (v w : Bool) → (w ≡ true → v ≡ true) → (v && w) ≡ w
+    implied true w h = refl
+    implied false true h = absurd (let no = h refl in cc)
+    implied false false h = refl
 
 -- where none of these is there, none is found that would be one of them
 pub find-none : {X : Type 0} (test f : X → Bool) (xs : List X) → filter f xs ≡ [] → ((x : X) → test x ≡ true → f x ≡ true) → find test xs ≡ None
-find-none test f [] e one = refl
-find-none test f (x ∷ xs) e one =
-    elim (f x) as (λ v. f x ≡ v → cond v (x ∷ filter f xs) (filter f xs) ≡ [] → find test (x ∷ xs) ≡ None) [
-      | true ↦ λ h k. absurd (cc)
-      | false ↦ λ h k. elim (test x) as (λ w. test x ≡ w → cond w (Some x) (find test xs) ≡ None) [
-        | true ↦ λ t. let both : f x ≡ true = one x t in absurd (cc)
-        | false ↦ λ t. find-none test f xs k one
-      ] refl
-    ] refl e
+find-none test f xs e one = sym (find-kept test f xs one) ∙ ap (find test) e
+
+-- once one that was found is gone, there are fewer
+pub filter-fewer : {X : Type 0} (test gone : X → Bool) (xs : List X) (x : X) → find test xs ≡ Some x → gone x ≡ true →
+    length (filter (λ y. not (gone y)) xs) < length xs
+filter-fewer test gone xs x e g =
+    omega (arith, length-filter_both gone (λ y. not (gone y)) (λ _. refl) xs, length-filter gone xs, find-le-sum_by (λ y. cond (gone y) 1 0) test xs x e, ap {B = ℕ} (λ (v : Bool). cond v 1 0) g)
+
+-- what alone passes a filter passes its test
+pub passes_alone : {X : Type 0} (f : X → Bool) (xs : List X) (x : X) → filter f xs ≡ x ∷ [] → f x ≡ true
+passes_alone f xs x e = All-head (λ y. f y ≡ true) x [] (subst (All (λ y. f y ≡ true)) e (filter_passes f xs))
 
 -- where none of these is there, all others are
 pub filter-none : {X : Type 0} (f : X → Bool) (xs : List X) → filter f xs ≡ [] → filter (λ x. not (f x)) xs ≡ xs
@@ -34,41 +84,6 @@ filter-none f (x ∷ xs) e =
       | true ↦ λ k. absurd (cc)
       | false ↦ λ k. ap (λ l. x ∷ l) (filter-none f xs k)
     ] e
-
--- a filter leaves no more
-pub filter-shorter : {X : Type 0} (f : X → Bool) (xs : List X) → length (filter f xs) ≤ length xs
-filter-shorter f [] = omega arith
-filter-shorter f (x ∷ xs) =
-    elim (f x) as (λ v. length (cond v (x ∷ filter f xs) (filter f xs)) ≤ length (x ∷ xs)) [
-      | true ↦ omega (arith, filter-shorter f xs)
-      | false ↦ omega (arith, filter-shorter f xs)
-    ]
-
--- once one that was found is gone, there are fewer
-pub filter-fewer : {X : Type 0} (test gone : X → Bool) (xs : List X) (x : X) → find test xs ≡ Some x → gone x ≡ true →
-    length (filter (λ y. not (gone y)) xs) < length xs
-filter-fewer test gone [] x e g = absurd (cc)
-filter-fewer test gone (y ∷ ys) x e g =
-    let rest = filter-shorter (λ y. not (gone y)) ys in
-    elim (gone y) as (λ v. gone y ≡ v → length (cond (not v) (y ∷ filter (λ y. not (gone y)) ys) (filter (λ y. not (gone y)) ys)) < length (y ∷ ys)) [
-      | true ↦ λ h. omega (arith, rest)
-      | false ↦ λ h. elim (test y) as (λ w. cond w (Some y) (find test ys) ≡ Some x → length (y ∷ filter (λ y. not (gone y)) ys) < length (y ∷ ys)) [
-        | true ↦ λ k. let same : y ≡ x = cc in let both : gone y ≡ true = subst (λ z. gone z ≡ true) (sym same) g in absurd (cc)
-        | false ↦ λ k. omega (arith, filter-fewer test gone ys x k g)
-      ] e
-    ] refl
-
--- those that are neither are left after one filter and the other
-pub filter-either : {X : Type 0} (a b : X → Bool) (xs : List X) → filter (λ x. not (a x || b x)) xs ≡ filter (λ x. not (b x)) (filter (λ x. not (a x)) xs)
-filter-either a b [] = refl
-filter-either a b (x ∷ xs) =
-    elim (a x) as (λ v. cond (not (v || b x)) (x ∷ filter (λ x. not (a x || b x)) xs) (filter (λ x. not (a x || b x)) xs) ≡ filter (λ x. not (b x)) (cond (not v) (x ∷ filter (λ x. not (a x)) xs) (filter (λ x. not (a x)) xs))) [
-      | true ↦ filter-either a b xs
-      | false ↦ elim (b x) as (λ w. cond (not w) (x ∷ filter (λ x. not (a x || b x)) xs) (filter (λ x. not (a x || b x)) xs) ≡ cond (not w) (x ∷ filter (λ x. not (b x)) (filter (λ x. not (a x)) xs)) (filter (λ x. not (b x)) (filter (λ x. not (a x)) xs))) [
-        | true ↦ filter-either a b xs
-        | false ↦ ap (λ l. x ∷ l) (filter-either a b xs)
-      ]
-    ]
 
 -- the first that passes heads those that pass
 pub first_heads : {X : Type 0} (f : X → Bool) (xs : List X) (x : X) → find f xs ≡ Some x → (ys : List X) × (filter f xs ≡ x ∷ ys)
@@ -86,12 +101,6 @@ none_passes f (y ∷ ys) e =
       | true ↦ λ k. absurd (cc)
       | false ↦ λ k. none_passes f ys k
     ] e
-
--- the last one passes, so one is found
-pub last_found : {X : Type 0} (test : X → Bool) (xs : List X) (x : X) → test x ≡ true → (y : X) × (find test (xs ++ x ∷ []) ≡ Some y)
-last_found {X} test [] x h = (x, ap (λ v. cond v (Some x) None) h)
-last_found {X} test (z ∷ zs) x h =
-    elim (test z) as (λ v. (y : X) × (cond v (Some z) (find test (zs ++ x ∷ [])) ≡ Some y)) [ true ↦ (z, refl) | false ↦ last_found test zs x h ]
 
 -- what would be gone isn't found
 pub find-gone : {X : Type 0} (test keep : X → Bool) (xs : List X) → ((x : X) → test x ≡ true → keep x ≡ false) → find test (filter keep xs) ≡ None
@@ -112,15 +121,6 @@ any-none f (x ∷ xs) e =
     elim (f x) as (λ v. (v || list_any f xs) ≡ false → cond v (x ∷ filter f xs) (filter f xs) ≡ []) [
       | true ↦ λ k. absurd (cc)
       | false ↦ λ k. any-none f xs k
-    ] e
-
--- and the other way round
-pub none-any : {X : Type 0} (f : X → Bool) (xs : List X) → filter f xs ≡ [] → list_any f xs ≡ false
-none-any f [] e = refl
-none-any f (x ∷ xs) e =
-    elim (f x) as (λ v. cond v (x ∷ filter f xs) (filter f xs) ≡ [] → (v || list_any f xs) ≡ false) [
-      | true ↦ λ k. absurd (cc)
-      | false ↦ λ k. none-any f xs k
     ] e
 
 -- of the only one of a kind that is found, none of the kind is left once it is taken out

@@ -1,55 +1,24 @@
 -- Where the region of a memalign stands: each step of it keeps what the first page of its extent is a multiple of.
 use Prim.Native.Nat.{◌∣◌}
-use Rattle.std.proofs.Common.{◌≡◌, ℕ, ◌+◌, ◌-◌, ◌*◌, ◌/◌, ◌%◌, ◌<◌, ◌≤◌, ◌^◌, ◌==◌, max, min, Bool, true, false, cond, not, List, [], ◌∷◌, Option, None, Some, refl, sym, ◌∙◌, ap, subst, arith, nat_lt, find, All}
-use Rattle.std.specs.List.{slice_get}
-use Rattle.std.specs.Option.{option_map}
-use Rattle.std.proofs.lemmas.Bool.{eqb-true, ltb-true}
+use Rattle.std.proofs.Common.{◌≡◌, ℕ, ◌+◌, ◌-◌, ◌*◌, ◌/◌, ◌%◌, ◌<◌, ◌≤◌, ◌^◌, ◌==◌, max, min, Bool, true, false, cond, not, List, [], ◌∷◌, Option, None, Some, refl, sym, ◌∙◌, ap, subst, arith, nat_lt, find, All, rules, slice_get}
+use Rattle.std.proofs.lemmas.Bool.{cond_both, not-false, eqb-true, ltb-true}
 use Rattle.std.proofs.lemmas.Bool.Decides.{nat_tests}
 use Rattle.std.proofs.lemmas.List.Elements.{All-head}
 use Rattle.std.proofs.lemmas.Nat.Gcd.{dvd_of_mod-eq-zero, dvd_trans, mod-eq-zero_of_dvd}
 use Rattle.std.proofs.lemmas.Option.{get_or_from_slice_get, slice_get_within}
-use Rattle.size_classes.specs.Classes.{align_at, aligned_for}
-use Rattle.space_model.specs.declared.Answer.{Answer}
-use Rattle.space_model.specs.declared.Answer.TheVariants.{Done, Refused as Refuses, Placed}
-use Rattle.space_model.specs.declared.Ask.TheVariants.{Alloc, Split}
-use Rattle.space_model.specs.declared.Part.{Part}
-use Rattle.space_model.specs.declared.Reply.{Reply}
-use Rattle.space_model.specs.declared.Reply.TheVariants.{NoArena, Nothing, Noted, Took, Grow, Cut, Whole, Refused as Refuse, Grown, Landed, Regions}
-use Rattle.space_model.specs.declared.Space.{Space}
-use Rattle.space_model.specs.declared.Span.{Span}
-use Rattle.space_model.specs.declared.Why.{Why}
-use Rattle.space_model.specs.declared.Why.TheVariants.{OffSpace, Unaligned, Meets}
 use Rattle.space_model.specs.Fit.{fit}
 use Rattle.space_model.specs.Part.{is_flight_at}
 use Rattle.space_model.specs.Region.{region_of}
-use Rattle.space_model.specs.Slabs.{after_fill, fill_at, land_at, lowest_free, most_regions}
-use Rattle.space_model.specs.Sound.{Sound}
-use Rattle.space_model.specs.Span.{chunk_span, chunks_of, max_series}
-use Rattle.space_model.specs.Step.{after_cut, after_grow, after_look, cut_at, grow_unless, is_in_space, is_live, is_owned, kept_piece, look_at, stays, step_of, whole_at, why_not}
+use Rattle.space_model.specs.Slabs.{after_fill}
+use Rattle.space_model.specs.Stepped.{Stepped}
+use Rattle.space_model.specs.Step.{after_cut, after_grow, after_look, cut_at, grow_unless, is_in_space, is_live, kept_piece, look_at, stays, step_of, whole_at, why_not}
 use Rattle.space_model.proofs.Fills.{Spot, lowest_spots}
 use Rattle.space_model.proofs.Found.{found_span}
-use Rattle.hook_api.specs.Asked.{AskFacts}
-use Rattle.thread_cache.specs.declared.Held.{Held}
-use Rattle.thread_cache.specs.Caches.{cached_in}
-use Rattle.thread_cache.specs.Desks.{DeskFacts, before_last, hit, is_cacheable}
-use Rattle.call_table.specs.declared.calls.Stage.{Stage}
-use Rattle.call_table.specs.declared.needs.Answered.TheVariants.{Ok, TooLarge, BadAlign}
-use Rattle.call_table.specs.declared.needs.Given.TheVariants.{Region}
-use Rattle.call_table.specs.declared.needs.Item.{Item}
-use Rattle.call_table.specs.declared.needs.Item.TheVariants.{Replied, Told, Starved}
-use Rattle.call_table.specs.declared.needs.Request.{Request}
-use Rattle.call_table.specs.declared.needs.Request.TheVariants.{Memalign}
-use Rattle.call_table.specs.declared.points.Wish.{Wish}
-use Rattle.call_table.specs.declared.points.TurnPoint.{TurnPoint}
-use Rattle.call_table.specs.declared.points.TurnPoint.TheVariants.{Filling, Looking, Landing}
-use Rattle.call_table.specs.declared.points.AskPoint.{AskPoint}
-use Rattle.call_table.specs.declared.points.AskPoint.TheVariants.{Skipping, Trimming, Growing, Paring, Needing, Granting, Committing}
-use Rattle.call_table.specs.declared.points.Point.{Point}
-use Rattle.call_table.specs.declared.points.Point.TheVariants.{Turns, Asks, Tells}
-use Rattle.call_table.specs.declared.points.Next.{Next}
-use Rattle.call_table.specs.declared.points.Next.TheVariants.{Go, Over, More, Gone, Ends, Nowhere}
+use Rattle.thread_cache.specs.Desks.{before_last}
+use Rattle.call_table.specs.Words.{Request, Memalign, Item, Replied, Told, Starved, Region, Ok, Wish, TurnPoint, Filling, Looking, Landing, AskPoint, Skipping, Trimming, Growing, Paring, Needing, Granting, Committing, Point, Turns, Asks, Tells, Next, Go, Over, More, Ends, Stage}
+use Rattle.call_table.specs.Words.{Alloc, Split, Answer, Placed, Done, Refuses, Reply, NoArena, Noted, Took, Grow, Cut, Grown, Landed, Regions, Space, Part, Span, Sound, AskFacts, Held, DeskFacts, align_at, aligned_for, fill_at, land_at, lowest_free, most_regions, max_series, cached_in, is_cacheable}
 use Rattle.call_table.specs.Table.{alloc_of, ask_of, chunks_for, commit, done_of, is_marked, op_of, starved, step, told, trim, turned, whole_chunks}
-use Rattle.call_table.specs.Runs.{begin_get, begin_memalign, get, is_alignment, moment, page_align, run, settle, share, small_hit, stage, wish_for}
+use Rattle.call_table.specs.Runs.{begin_get, begin_memalign, get, is_alignment, moment, page_align, run, settle, share, small_hit, wish_for}
 use Rattle.call_table.specs.Desks.{desk_fed}
 use Rattle.call_table.specs.Laws.{with_found}
 use Rattle.call_table.specs.Causes.{AllCame, Came}
@@ -76,14 +45,8 @@ took_aligned s c pages align span b skip some e =
 -- a range against which nothing speaks begins at a multiple of the alignment
 why_not-aligned : (found : Option ℕ) (align : ℕ) (s : Space) (span : Span) → why_not found align s.parts span ≡ None → align ∣ span.first
 why_not-aligned found align s span e =
-    let meeting : Option Why = option_map (λ chunk. Meets (chunk_span chunk)) (find (is_owned found s.parts) (chunks_of span)) in
-    elim (is_in_space span) as (λ v. cond (not v) (Some OffSpace) (cond (not (span.first % align == 0)) (Some Unaligned) meeting) ≡ None → align ∣ span.first) [
-      | false ↦ λ k. absurd (cc)
-      | true ↦ elim (span.first % align == 0) as (λ v. span.first % align == 0 ≡ v → cond (not v) (Some Unaligned) meeting ≡ None → align ∣ span.first) [
-        | false ↦ λ h k. absurd (cc)
-        | true ↦ λ h k. dvd_of_mod-eq-zero align (eqb-true _ _ h)
-      ] refl
-    ] e
+    cond_both (not (is_in_space span)) _ _ (λ o. o ≡ None → align ∣ span.first) (λ _ k. absurd (cc))
+    (λ _. cond_both (not (span.first % align == 0)) _ _ (λ o. o ≡ None → align ∣ span.first) (λ _ k. absurd (cc)) (λ h _. dvd_of_mod-eq-zero align (eqb-true _ _ (not-false _ h)))) e
 
 -- so what an alloc granted does
 grown_aligned : (s : Space) (c : ℕ) (found : Option ℕ) (pages align : ℕ) (answer : Answer) (span : Span) (b : Bool) → Grown span b ≡ (after_grow s c found (Alloc None pages align false) answer).reply → align ∣ span.first
@@ -128,33 +91,26 @@ landed_first s c class count span first come e =
 -- a free region of a slab stands at a multiple of the alignment of its class
 filled_aligned : (s : Space) (c class count addr : ℕ) (others : List ℕ) → Sound s → class < 36 → Regions (addr ∷ others) ≡ (after_fill s c class count).reply → align_at class ∣ addr
 filled_aligned s c class count addr others sound small e =
-    let Free : ℕ → Type 0 = λ a. Spot s.parts s.regions (region_of c class a) in
-    elim (is_live s.life) as (λ v. Regions (addr ∷ others) ≡ (cond v (fill_at s c class (lowest_free class count s)) (stays s NoArena)).reply → align_at class ∣ addr) [
-      | true ↦ elim (lowest_free class count s) as (λ xs. lowest_free class count s ≡ xs → Regions (addr ∷ others) ≡ (fill_at s c class xs).reply → align_at class ∣ addr) [
-        | [] ↦ λ h k. absurd (cc)
-        | x ∷ xs ↦ λ h k.
-            let spots : All Free (x ∷ xs) = subst (All Free) h (lowest_spots c class count s small sound) in
-            let same : addr ≡ x = cc in
-            subst (λ n. align_at class ∣ n) (sym same) (dvd_of_mod-eq-zero (align_at class) (All-head Free x xs spots).aligned)
-      ] refl
-      | false ↦ λ k. absurd (cc)
-    ] e
+    cond_both (is_live s.life) _ _ (λ (u : Stepped). Regions (addr ∷ others) ≡ u.reply → align_at class ∣ addr) (λ _. filled (lowest_free class count s) (lowest_spots c class count s small sound))
+    (λ _ k. absurd (cc)) e
+  where
+    filled : (xs : List ℕ) → All (λ a. Spot s.parts s.regions (region_of c class a)) xs → Regions (addr ∷ others) ≡ (fill_at s c class xs).reply → align_at class ∣ addr
+    filled [] spots k = absurd (cc)
+    filled (x ∷ xs) spots k =
+        let same : addr ≡ x = cc in
+        subst (λ n. align_at class ∣ n) (sym same) (dvd_of_mod-eq-zero (align_at class) (All-head (λ a. Spot s.parts s.regions (region_of c class a)) x xs spots).aligned)
 
 -- a region that a memalign takes from the cache stands at a multiple of the alignment of its class
 hit_aligned : (class : ℕ) (desk : DeskFacts) (region : Held) → IsCacheAligned desk → small_hit class desk ≡ Some region → (class < 36) × (align_at class ∣ region.addr)
 hit_aligned class desk region cached e =
-    let regions : List Held = cached_in desk.cached class in
-    elim (nat_lt class 36) as (λ v. nat_lt class 36 ≡ v → cond v (hit class desk) None ≡ Some region → (class < 36) × (align_at class ∣ region.addr)) [
-      | true ↦ λ h. let small : class < 36 = ltb-true _ _ h in
-          elim (is_cacheable class desk) as (λ v. cond v (slice_get regions (before_last class desk)) None ≡ Some region → (class < 36) × (align_at class ∣ region.addr)) [
-            | true ↦ λ got.
-                let place : ℕ = before_last class desk in
-                let there = cached class small place region (slice_get_within regions place region got) in
-                (small, dvd_of_mod-eq-zero (align_at class) (subst (λ (r : Held). r.addr % align_at class ≡ 0) (get_or_from_slice_get regions place region region got) there))
-            | false ↦ λ got. absurd (cc)
-          ]
-      | false ↦ λ h got. absurd (cc)
-    ] refl e
+    cond_both (nat_lt class 36) _ _ (λ o. o ≡ Some region → (class < 36) × (align_at class ∣ region.addr)) (λ h. cond_both (is_cacheable class desk) _ _ (λ o. o ≡ Some region → (class < 36) × (align_at class ∣ region.addr)) (λ _. got (ltb-true _ _ h)) (λ _ k. absurd (cc))) (λ _ k. absurd (cc)) e
+  where
+    got : class < 36 → slice_get (cached_in desk.cached class) (before_last class desk) ≡ Some region → (class < 36) × (align_at class ∣ region.addr)
+    got small there =
+        let regions : List Held = cached_in desk.cached class in
+        let place : ℕ = before_last class desk in
+        let at = cached class small place region (slice_get_within regions place region there) in
+        (small, dvd_of_mod-eq-zero (align_at class) (subst (λ (r : Held). r.addr % align_at class ≡ 0) (get_or_from_slice_get regions place region region there) at))
 
 module _ (align size : ℕ) where
   -- ---- what is so at each point
@@ -202,40 +158,30 @@ module _ (align size : ℕ) where
 
   -- ---- where a point leads
 
-  chosen : (v : Bool) (x y : Next) → NextAligned x → NextAligned y → NextAligned (cond v x y)
-  chosen true x y one other = one
-  chosen false x y one other = other
-
   commit_aligned : (wish : Wish) (span : Span) (b : Bool) → Starts wish span.first → NextAligned (commit wish span b)
   commit_aligned wish span true starts = starts
   commit_aligned wish span false starts = starts
 
   trim_aligned : (wish : Wish) (span : Span) (b : Bool) → Starts wish span.first → NextAligned (trim wish span b)
-  trim_aligned wish span b starts = chosen (nat_lt wish.pages span.pages) _ _ starts (commit_aligned wish span b starts)
+  trim_aligned wish span b starts = cond_both (nat_lt wish.pages span.pages) _ _ NextAligned (λ _. starts) (λ _. commit_aligned wish span b starts)
 
   -- what is skipped is cut off, and otherwise nothing is
   skip_aligned : (wish : Wish) (span : Span) (b : Bool) (skip : ℕ) → Starts wish (span.first + skip) → NextAligned (turned (Looking wish) (Took span b skip))
   skip_aligned wish span b skip starts =
-      elim (nat_lt 0 skip) as (λ v. nat_lt 0 skip ≡ v → NextAligned (cond v (Go (Asks (Skipping wish span b skip) None)) (trim wish span b))) [
-        | true ↦ λ h. starts
-        | false ↦ λ h. let same : span.first + skip ≡ span.first = grind (arith, nat_tests) in trim_aligned wish span b (starts.0, subst (λ n. wish.align ∣ n) same starts.1)
-      ] refl
+      cond_both (nat_lt 0 skip) _ _ NextAligned (λ _. starts)
+      (λ h. let same : span.first + skip ≡ span.first = grind (arith, nat_tests) in trim_aligned wish span b (starts.0, subst (λ n. wish.align ∣ n) same starts.1))
 
   turned_aligned : (s : Space) (c : ℕ) (found : Option ℕ) (point : TurnPoint) (reply : Reply) → Sound s → TurnAligned point →
       reply ≡ (step_of s c (with_found found (op_of point))).reply → NextAligned (turned point reply)
   turned_aligned s c found (Filling wish count) (Regions []) sound knows e = tt
   turned_aligned s c found (Filling wish count) (Regions (addr ∷ others)) sound (aims, small) e =
       (aims.class, mod-eq-zero_of_dvd align (dvd_trans align (aims.small small) (filled_aligned s c wish.class count addr others sound small e)))
-  turned_aligned s c found (Filling wish count) Nothing sound (aims, small) e = aims
-  turned_aligned s c found (Filling wish count) reply sound knows e = tt
   turned_aligned s c found (Looking wish) (Took span b skip) sound aims e = skip_aligned wish span b skip (aims, took_aligned s c wish.pages wish.align span b skip aims.some e)
-  turned_aligned s c found (Looking wish) (Grow series) sound aims e = chosen (nat_lt (chunks_for wish.pages) (min series max_series)) _ _ aims aims
-  turned_aligned s c found (Looking wish) reply sound aims e = tt
+  turned_aligned s c found (Looking wish) (Grow series) sound aims e = cond_both (nat_lt (chunks_for wish.pages) (min series max_series)) _ _ NextAligned (λ _. aims) (λ _. aims)
   turned_aligned s c found (Landing wish span) (Landed first count) sound (aims, starts) e =
       let at = landed_first s c wish.class wish.count span first count e in
       (aims.class, mod-eq-zero_of_dvd align (subst (λ n. align ∣ n) (sym at) (page_divides align wish.align span.first aims.bytes starts)))
-  turned_aligned s c found (Landing wish span) reply sound knows e = tt
-  turned_aligned s c found point reply sound knows e = absurd knows
+  turned_aligned s c found point reply sound knows e = search rules
 
   -- a piece of the extent begins where it has to
   cut_starts : (s : Space) (c : ℕ) (keep_low : Bool) (wish : Wish) (span : Span) (left : ℕ) (asked : AskFacts) (kept : Span) → asked.ask ≡ Split span left → Starts wish (kept_first keep_low span left) →
@@ -254,26 +200,15 @@ module _ (align size : ℕ) where
   told_aligned : (s : Space) (c : ℕ) (found : Option ℕ) (point : AskPoint) (asked : AskFacts) (reply : Reply) → AskAligned point → asked.ask ≡ ask_of point →
       reply ≡ (step_of s c (with_found found (done_of point asked))).reply → NextAligned (told point asked reply)
   told_aligned s c found (Skipping wish span b skip) asked (Cut high) starts is e = trim_aligned wish high b (cut_starts s c false wish span skip asked high is starts e)
-  told_aligned s c found (Skipping wish span b skip) asked Whole starts is e = starts.0
-  told_aligned s c found (Skipping wish span b skip) asked reply starts is e = tt
   told_aligned s c found (Trimming wish span b) asked (Cut low) starts is e = commit_aligned wish low b (cut_starts s c true wish span wish.pages asked low is starts e)
-  told_aligned s c found (Trimming wish span b) asked Whole starts is e = starts.0
-  told_aligned s c found (Trimming wish span b) asked reply starts is e = tt
-  told_aligned s c found (Growing wish chunks) asked Refuse aims is e = aims
   told_aligned s c found (Growing wish chunks) asked (Grown span b) aims is e = grown_starts s c found wish (chunks * 512) asked span b is aims e
-  told_aligned s c found (Growing wish chunks) asked reply aims is e = tt
   told_aligned s c found (Paring wish span b) asked (Cut low) starts is e = commit_aligned wish low b (cut_starts s c true wish span wish.pages asked low is starts e)
-  told_aligned s c found (Paring wish span b) asked Whole starts is e = starts.0
-  told_aligned s c found (Paring wish span b) asked reply starts is e = tt
   told_aligned s c found (Needing wish) asked (Grown span b) aims is e =
       let starts = grown_starts s c found wish (whole_chunks wish.pages) asked span b is aims e in
-      chosen (nat_lt wish.pages span.pages) _ _ starts (commit_aligned wish span b starts)
-  told_aligned s c found (Needing wish) asked reply aims is e = tt
+      cond_both (nat_lt wish.pages span.pages) _ _ NextAligned (λ _. starts) (λ _. commit_aligned wish span b starts)
   told_aligned s c found (Granting wish span b) asked (Cut low) starts is e = commit_aligned wish low b (cut_starts s c true wish span wish.pages asked low is starts e)
-  told_aligned s c found (Granting wish span b) asked reply starts is e = tt
   told_aligned s c found (Committing wish span) asked Noted starts is e = starts
-  told_aligned s c found (Committing wish span) asked reply starts is e = tt
-  told_aligned s c found point asked reply knows is e = absurd knows
+  told_aligned s c found point asked reply knows is e = search rules
 
   -- ---- the fold
 
@@ -284,33 +219,22 @@ module _ (align size : ℕ) where
   step_aligned : (c : ℕ) (point : Point) (item : Item) → PointAligned point → Came c (Go point) item → NextAligned (step point item)
   step_aligned c (Turns point) (Replied reply) knows (s, t, sound, (found, left, replied)) = turned_aligned s c found point reply sound knows replied
   step_aligned c (Turns point) Starved knows came = starved_aligned (is_marked (op_of point))
-  step_aligned c (Turns point) (Told asked) knows came = tt
   step_aligned c (Asks point None) (Told asked) knows (s, t, sound, (is, kind, same)) = (knows, is)
-  step_aligned c (Asks point None) (Replied reply) knows came = tt
-  step_aligned c (Asks point None) Starved knows came = tt
   step_aligned c (Asks point (Some asked)) (Replied reply) (knows, is) (s, t, sound, (found, left, replied)) = told_aligned s c found point asked reply knows is replied
-  step_aligned c (Asks point (Some asked)) (Told other) knows came = tt
-  step_aligned c (Asks point (Some asked)) Starved knows came = tt
   step_aligned c (Tells span b) item knows came = absurd knows
+  step_aligned c point item knows came = tt
 
   settle_aligned : (request : Request) (desk : DeskFacts) (arena : ℕ) (next : Next) → NextAligned next → NextAligned (settle request desk arena next).next
-  settle_aligned request desk arena (Go point) knows = knows
   settle_aligned request desk arena (Over index point) knows = absurd knows
   settle_aligned request desk arena More knows = absurd knows
-  settle_aligned request desk arena Gone knows = tt
-  settle_aligned request desk arena (Ends answer) knows = knows
-  settle_aligned request desk arena Nowhere knows = tt
+  settle_aligned request desk arena next knows = knows
 
   run_aligned : (c : ℕ) (items : List Item) (request : Request) (desk : DeskFacts) (arena : ℕ) (next : Next) → NextAligned next → AllCame c (moment request desk arena next) items →
       NextAligned (run (moment request desk arena next) items).stage.next
   run_aligned c [] request desk arena next knows came = knows
   run_aligned c (item ∷ items) request desk arena (Go point) knows (one, others) =
       run_aligned c items request _ _ _ (settle_aligned request (desk_fed desk arena (Go point) item) arena (step point item) (step_aligned c point item knows one)) others
-  run_aligned c (item ∷ items) request desk arena (Over index point) knows (one, others) = absurd one
-  run_aligned c (item ∷ items) request desk arena More knows (one, others) = absurd one
-  run_aligned c (item ∷ items) request desk arena Gone knows (one, others) = absurd one
-  run_aligned c (item ∷ items) request desk arena (Ends given) knows (one, others) = absurd one
-  run_aligned c (item ∷ items) request desk arena Nowhere knows (one, others) = absurd one
+  run_aligned c (item ∷ items) request desk arena next knows (one, others) = absurd one
 
   -- ---- where the memalign begins
 
@@ -322,10 +246,7 @@ module _ (align size : ℕ) where
       let class : ℕ = aligned_for size align in
       let wish : Wish = wish_for class (page_align align) (min count (most_regions class)) in
       let aims : Aims wish = wish_aims (min count (most_regions class)) passes in
-      elim (nat_lt class 36) as (λ v. nat_lt class 36 ≡ v → NextAligned (cond v (Go (Turns (Filling wish count))) (Go (Turns (Looking wish))))) [
-        | true ↦ λ h. (aims, ltb-true _ _ h)
-        | false ↦ λ h. aims
-      ] refl
+      cond_both (nat_lt class 36) _ _ NextAligned (λ h. (aims, ltb-true _ _ h)) (λ _. aims)
 
   got_aligned : (desk : DeskFacts) (found : Option Held) → is_alignment align ≡ true → IsCacheAligned desk → small_hit (aligned_for size align) desk ≡ found →
       NextAligned (begin_get (aligned_for size align) (page_align align) found desk).next
@@ -336,11 +257,8 @@ module _ (align size : ℕ) where
 
   begin_aligned : (desk : DeskFacts) → IsCacheAligned desk → NextAligned (begin_memalign align size desk).next
   begin_aligned desk cached =
-      let begun : Stage = begin_get (aligned_for size align) (page_align align) (small_hit (aligned_for size align) desk) desk in
-      elim (is_alignment align) as (λ v. is_alignment align ≡ v → NextAligned (cond (not v) (stage desk.arena (Ends BadAlign)) (cond (nat_lt (2 ^ 35) size) (stage desk.arena (Ends TooLarge)) begun)).next) [
-        | true ↦ λ passes. chosen_stage NextAligned (nat_lt (2 ^ 35) size) _ _ tt (got_aligned desk (small_hit (aligned_for size align) desk) passes cached refl)
-        | false ↦ λ bad. tt
-      ] refl
+      cond_both (not (is_alignment align)) _ _ (λ (at : Stage). NextAligned at.next) (λ _. tt)
+      (λ good. chosen_stage NextAligned (nat_lt (2 ^ 35) size) _ _ tt (got_aligned desk (small_hit (aligned_for size align) desk) (not-false _ good) cached refl))
 
 pub memaligns-are_aligned : MemalignsAreAligned
 memaligns-are_aligned c align size desk items addr class cached came e =

@@ -1,15 +1,15 @@
 -- What the alignments of a memalign divide: the alignment of a small class, and the first bytes of pages.
 use Prim.Native.Nat.{◌∣◌}
-use Rattle.std.proofs.Common.{◌≡◌, ℕ, ◌+◌, ◌-◌, ◌*◌, ◌/◌, ◌%◌, ◌^◌, ◌<◌, ◌≤◌, ◌==◌, ◌&&◌, max, Bool, true, cond, leb, ltb, refl, sym, ◌∙◌, ap, subst, inl, inr, arith}
-use Rattle.std.proofs.Math.Nat.{div-add-mod, dvd-mul_left, mod-eq_of_lt, mod-lt, mod_self, mul-add-mod_self_left, mul-dvd-mul_left}
+use Rattle.std.proofs.Common.{◌≡◌, ℕ, ◌+◌, ◌-◌, ◌*◌, ◌/◌, ◌%◌, ◌^◌, ◌<◌, ◌≤◌, ◌==◌, ◌&&◌, max, Bool, true, cond, leb, ltb, refl, sym, ◌∙◌, ap, subst, arith}
+use Rattle.std.proofs.Math.Nat.{add-mod-mod, div-add-mod, dvd-mul_left, mod-lt, mod_self, mul-add-mod_self_left, mul-dvd-mul_left}
 use Rattle.std.proofs.lemmas.Nat.Gcd.{dvd_of_mod-eq-zero, dvd_trans}
 use Rattle.std.proofs.lemmas.Nat.{pow_pos}
-use Rattle.std.proofs.lemmas.Bool.{and_parts, cases_lt, eqb-true, ltb-true}
+use Rattle.std.proofs.lemmas.Bool.{and_parts, eqb-true, ltb-true}
 use Rattle.std.proofs.lemmas.Bool.Decides.{nat_tests}
 use Rattle.std.specs.Int.{next_multiple_of}
-use Rattle.size_classes.specs.Classes.{align_at, aligned_for, class_for}
 use Rattle.size_classes.proofs.Alignment.{aligned_divides}
 use Rattle.size_classes.proofs.Table.{passes_below, at}
+use Rattle.call_table.specs.Words.{align_at, aligned_for, class_for}
 use Rattle.call_table.specs.Runs.{is_alignment, page_align}
 use Rattle.call_table.proofs.Aligned.{passing_is, power_of}
 
@@ -44,20 +44,10 @@ paged_of align passes =
 -- a number that was rounded up to a multiple is one
 rounded_up : (n align : ℕ) → 1 ≤ align → next_multiple_of n align % align ≡ 0
 rounded_up n align some =
-    let rest : ℕ = n % align in
-    let below : rest < align = mod-lt n (omega arith) in
-    let split : align * (n / align) + rest ≡ n = div-add-mod n align in
-    elim (cases_lt 0 rest) [
-      | inl more ↦
-          let left : (align - rest) % align ≡ align - rest = mod-eq_of_lt (omega arith) in
-          let sum : n + (align - rest) ≡ align * (n / align) + align = omega arith in
-          ap (λ k. (n + k) % align) left ∙ ap (λ k. k % align) sum ∙ mul-add-mod_self_left align (n / align) align ∙ mod_self align
-      | inr none ↦
-          let all : align - rest ≡ align = omega arith in
-          let nothing : (align - rest) % align ≡ 0 = ap (λ k. k % align) all ∙ mod_self align in
-          let same : n + 0 ≡ n = omega arith in
-          ap (λ k. (n + k) % align) nothing ∙ ap (λ k. k % align) same ∙ omega arith
-    ]
+    let below : n % align < align = mod-lt n (omega arith) in
+    let split : align * (n / align) + n % align ≡ n = div-add-mod n align in
+    let sum : n + (align - n % align) ≡ align * (n / align) + align = omega arith in
+    add-mod-mod n (align - n % align) align ∙ ap (λ k. k % align) sum ∙ mul-add-mod_self_left align (n / align) align ∙ mod_self align
 
 -- where the class for an alignment is small, the alignment is at most a page's and the class that of the rounded size
 chosen_small : (align r c : ℕ) → cond (leb align 4096 && ltb r 36) r (max 36 c) < 36 → (align ≤ 4096) × (r < 36) × (cond (leb align 4096 && ltb r 36) r (max 36 c) ≡ r)

@@ -1,61 +1,19 @@
 -- What a client owns, seen in the lists of the space: what the step finds, it finds among the client's own.
-use Rattle.std.proofs.Common.{◌≡◌, ℕ, ◌==◌, ◌&&◌, ◌||◌, Bool, true, false, not, cond, List, [], ◌∷◌, ◌++◌, All, Some, refl, ◌∙◌, ap, filter, find}
+use Rattle.std.proofs.Common.{◌≡◌, ℕ, ◌==◌, ◌||◌, Bool, true, false, not, List, [], ◌∷◌, ◌++◌, All, refl, ◌∙◌, ap, filter, find}
 use Rattle.std.specs.List.{list_any}
 use Rattle.std.proofs.lemmas.List.Elements.{All-head, All-tail, filter-append}
-use Rattle.space_model.specs.declared.Part.{Part}
 use Rattle.space_model.specs.declared.Region.{Region}
-use Rattle.space_model.specs.declared.Space.{Space}
-use Rattle.space_model.specs.declared.Span.{Span}
 use Rattle.space_model.specs.declared.State.{State}
-use Rattle.space_model.specs.declared.State.TheVariants.{Active, Dirty, Muzzy, Retained, Flight}
+use Rattle.space_model.specs.declared.State.TheVariants.{Flight}
 use Rattle.space_model.specs.declared.Life.{Life}
 use Rattle.space_model.specs.declared.Life.TheVariants.{Live, Absent, Dying}
-use Rattle.space_model.specs.Span.{same_span}
 use Rattle.space_model.specs.Part.{is_flight, is_flight_at, exchanged}
 use Rattle.space_model.specs.Region.{is_held_by}
 use Rattle.space_model.specs.Step.{is_live, is_customer, holds_at}
-use Rattle.space_model.specs.Sound.{Sound, IsQuiet, is_in_flight}
-use Rattle.space_model.specs.Own.{Mine, mine}
+use Rattle.space_model.specs.Sound.{IsQuiet, is_in_flight}
+use Rattle.call_table.specs.Words.{Space, Part, Span, Sound, Mine, mine, same_span}
 use Rattle.call_table.specs.Knows.{is_served, in_flight}
-
--- ---- lists
-
--- what passes two tests is sought among what passes the first
-pub find-both : {X : Type 0} (a b : X → Bool) (xs : List X) → find (λ x. a x && b x) xs ≡ find b (filter a xs)
-find-both a b [] = refl
-find-both a b (x ∷ xs) = elim (a x) as (λ v. cond (v && b x) (Some x) (find (λ x. a x && b x) xs) ≡ find b (cond v (x ∷ filter a xs) (filter a xs))) [
-  | true ↦ elim (b x) as (λ w. cond w (Some x) (find (λ x. a x && b x) xs) ≡ cond w (Some x) (find b (filter a xs))) [ true ↦ refl | false ↦ find-both a b xs ]
-  | false ↦ find-both a b xs
-]
-
-pub any-both : {X : Type 0} (a b : X → Bool) (xs : List X) → list_any (λ x. a x && b x) xs ≡ list_any b (filter a xs)
-any-both a b [] = refl
-any-both a b (x ∷ xs) = elim (a x) as (λ v. ((v && b x) || list_any (λ x. a x && b x) xs) ≡ list_any b (cond v (x ∷ filter a xs) (filter a xs))) [
-  | true ↦ ap (λ w. b x || w) (any-both a b xs)
-  | false ↦ any-both a b xs
-]
-
-pub any-filter : {X : Type 0} (a : X → Bool) (xs : List X) → list_any a xs ≡ list_any (λ _. true) (filter a xs)
-any-filter a [] = refl
-any-filter a (x ∷ xs) = elim (a x) as (λ v. (v || list_any a xs) ≡ list_any (λ _. true) (cond v (x ∷ filter a xs) (filter a xs))) [
-  | true ↦ refl
-  | false ↦ any-filter a xs
-]
-
--- two filters may be applied in either order
-pub filter-swap : {X : Type 0} (a b : X → Bool) (xs : List X) → filter a (filter b xs) ≡ filter b (filter a xs)
-filter-swap a b [] = refl
-filter-swap a b (x ∷ xs) =
-    elim (a x) as (λ v. a x ≡ v → filter a (cond (b x) (x ∷ filter b xs) (filter b xs)) ≡ filter b (cond v (x ∷ filter a xs) (filter a xs))) [
-      | true ↦ λ h. elim (b x) as (λ w. filter a (cond w (x ∷ filter b xs) (filter b xs)) ≡ cond w (x ∷ filter b (filter a xs)) (filter b (filter a xs))) [
-        | true ↦ rw h (ap (λ l. x ∷ l) (filter-swap a b xs))
-        | false ↦ filter-swap a b xs
-      ]
-      | false ↦ λ h. elim (b x) as (λ w. filter a (cond w (x ∷ filter b xs) (filter b xs)) ≡ filter b (filter a xs)) [
-        | true ↦ rw h (filter-swap a b xs)
-        | false ↦ filter-swap a b xs
-      ]
-    ] refl
+use Rattle.call_table.proofs.Lists.{any-both, any-filter, filter-swap, find-both}
 
 -- ---- the client's own
 
@@ -81,11 +39,8 @@ flights_exchanged c gone parts pieces =
 -- ---- an arena that isn't live serves nobody
 
 not_mine : (c : ℕ) (state : State) → is_in_flight state ≡ false → is_flight c state ≡ false
-not_mine c Active h = refl
-not_mine c Dirty h = refl
-not_mine c Muzzy h = refl
-not_mine c Retained h = refl
 not_mine c (Flight d rest) h = absurd (cc)
+not_mine c state h = refl
 
 none_flies : (c : ℕ) (parts : List Part) → All (λ p. is_in_flight p.state ≡ false) parts → filter (λ p. is_flight c p.state) parts ≡ []
 none_flies c [] all = refl
@@ -100,20 +55,18 @@ pub record Nothing (m : Mine) : Type 0 where
   pub regions : m.regions ≡ []
   pub bound : m.bound ≡ false
 
+has_nothing : (c : ℕ) (s : Space) → s.regions ≡ [] → s.offers ≡ [] → s.bound ≡ [] → filter (λ p. is_flight c p.state) s.parts ≡ [] → Nothing (mine c s)
+has_nothing c s regions offers bound flights = record {
+  flights = flights;
+  offers = ap (filter (λ o. o.client == c)) offers;
+  regions = ap (filter (is_held_by c)) regions;
+  bound = ap (list_any (λ b. b == c)) bound;
+}
+
 nothing_at : (c : ℕ) (s : Space) (life : Life) → IsQuiet life s → is_live life ≡ false → Nothing (mine c s)
 nothing_at c s Live quiet h = absurd (cc)
-nothing_at c s Absent quiet h = record {
-  flights = ap (filter (λ p. is_flight c p.state)) quiet.3;
-  offers = ap (filter (λ o. o.client == c)) quiet.1;
-  regions = ap (filter (is_held_by c)) quiet.0;
-  bound = ap (list_any (λ b. b == c)) quiet.2;
-}
-nothing_at c s (Dying d) quiet h = record {
-  flights = none_flies c s.parts quiet.3;
-  offers = ap (filter (λ o. o.client == c)) quiet.1;
-  regions = ap (filter (is_held_by c)) quiet.0;
-  bound = ap (list_any (λ b. b == c)) quiet.2;
-}
+nothing_at c s Absent quiet h = has_nothing c s quiet.0 quiet.1 quiet.2 (ap (filter (λ p. is_flight c p.state)) quiet.3)
+nothing_at c s (Dying d) quiet h = has_nothing c s quiet.0 quiet.1 quiet.2 (none_flies c s.parts quiet.3)
 
 -- an arena in which the client has something is live
 pub live_where : (c : ℕ) (s : Space) → Sound s → ¬ Nothing (mine c s) → is_live s.life ≡ true

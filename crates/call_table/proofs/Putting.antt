@@ -3,48 +3,27 @@ use Rattle.std.proofs.Common.{append-nil, inl, inr, ◌⊎◌, ◌≡◌, ◌≢
 use Rattle.std.specs.Bool.{beq}
 use Rattle.std.specs.Option.{option_map, option_or}
 use Rattle.std.proofs.lemmas.Bool.Decides.{nat_tests}
-use Rattle.std.proofs.lemmas.Bool.{eqb-true, ltb-true}
+use Rattle.std.proofs.lemmas.Bool.{cond_both, eqb-true, ltb-true}
 use Rattle.std.proofs.Math.ListN.{length-append}
 use Rattle.std.proofs.lemmas.List.Folds.{find-append}
-use Rattle.space_model.specs.declared.Answer.{Answer}
-use Rattle.space_model.specs.declared.Answer.TheVariants.{Done, Refused as Refuses, Placed}
-use Rattle.space_model.specs.declared.Ask.TheVariants.{Merge}
-use Rattle.space_model.specs.declared.Part.{Part}
-use Rattle.space_model.specs.declared.Reply.TheVariants.{Purge}
-use Rattle.space_model.specs.declared.Rest.{Rest}
-use Rattle.space_model.specs.declared.Rest.TheVariants.{Dirty as ToDirty, Muzzy as ToMuzzy, Retained as ToRetained}
-use Rattle.space_model.specs.declared.State.{State}
-use Rattle.space_model.specs.declared.State.TheVariants.{Dirty, Muzzy, Retained}
-use Rattle.space_model.specs.declared.Space.{Space}
-use Rattle.space_model.specs.declared.Span.{Span}
-use Rattle.space_model.specs.Span.{same_span, end_of}
+use Rattle.space_model.specs.declared.State.TheVariants.{Dirty}
 use Rattle.space_model.specs.Part.{exchanged, begins_at, is_flight, is_flight_at, is_listed, rest_of, listed, put_down, taken_out}
-use Rattle.space_model.specs.Stepped.{Stepped, stays, joined, begins_either, is_lazy}
+use Rattle.space_model.specs.Stepped.{Stepped, joined, begins_either, is_lazy}
 use Rattle.space_model.specs.Step.{is_purged, next_flight, is_like, is_right_of, is_left_of, neighbour, put_at_rest, put_beside, may_merge, join_at, after_merge, after_back}
-use Rattle.space_model.specs.Sound.{Sound}
-use Rattle.space_model.specs.Own.{mine}
-use Rattle.hook_api.specs.Hooks.{Answers as AnswersTo}
 use Rattle.space_model.proofs.Exchange.{find_passes, find_has, filter-begins_at}
 use Rattle.space_model.proofs.Found.{span_is}
 use Rattle.space_model.proofs.Lists.{if_found}
 use Rattle.space_model.proofs.Outcomes.{belongs, beq_itself}
 use Rattle.space_model.proofs.Settled.{some_pages}
-use Rattle.space_model.proofs.Pieces.{both_true}
-use Rattle.call_table.specs.declared.points.Then.{Then}
-use Rattle.call_table.specs.declared.points.Then.TheVariants.{Batches, Visiting}
-use Rattle.call_table.specs.declared.points.Later.{Later}
-use Rattle.call_table.specs.declared.points.Later.TheVariants.{Answers, DirtyToo}
-use Rattle.call_table.specs.declared.points.Point.{Point}
-use Rattle.call_table.specs.declared.points.TurnPoint.TheVariants.{Giving, Finding, Taking, Offering}
-use Rattle.call_table.specs.declared.points.AskPoint.TheVariants.{Merging, Easing}
-use Rattle.call_table.specs.declared.points.Point.TheVariants.{Turns, Asks}
-use Rattle.call_table.specs.declared.points.Next.TheVariants.{Go, Nowhere}
+use Rattle.space_model.proofs.Pieces.{put_down-nobody, listed-nobody, both_true}
+use Rattle.space_model.proofs.Moves.{itself}
+use Rattle.call_table.specs.Words.{Later, Answers, DirtyToo, Then, Batches, Visiting, Giving, Finding, Taking, Offering, Easing, Point, Turns, Asks, Merge, Answer, Placed, Done, Refuses, Purge, Rest, ToDirty, Space, Part, Span, Sound, mine, same_span, end_of, AnswersTo}
 use Rattle.call_table.specs.Table.{drop, look_on, merged, onward, put_next, turned, visited}
 use Rattle.call_table.specs.Knows.{Idle, Flies, Pair, Settled, Droppable, IsThen, in_flight}
 use Rattle.call_table.specs.Laws.{Keeps, IsNearer, stages, stages_then, stages_later, left, left_then, left_turn, flights_of, looks_left, purges_left}
-use Rattle.call_table.proofs.Lists.{find-kept, find-none, filter-none, filter-fewer, filter-either, first_heads, none_passes, find-gone}
-use Rattle.call_table.proofs.Own.{flight_found, flights_exchanged, filter-swap}
-use Rattle.call_table.proofs.Getting.{Onto, span_itself, begins_itself, client_itself, down_is_listed}
+use Rattle.call_table.proofs.Lists.{filter-swap, find-kept, find-none, filter-none, filter-fewer, filter-either, first_heads, none_passes, find-gone}
+use Rattle.call_table.proofs.Own.{flight_found, flights_exchanged}
+use Rattle.call_table.proofs.Getting.{Onto, span_itself, begins_itself}
 
 -- ---- what follows
 
@@ -76,12 +55,8 @@ onward_goes : (c : ℕ) (t : Space) (stage bound : ℕ) (later : Then) → Idle 
     Keeps c t stage bound (onward later)
 onward_goes c t stage bound Batches idle is room = idle
 onward_goes c t stage bound (Visiting visit n) idle is room =
-    elim (n == 0) as (λ v. n == 0 ≡ v → Keeps c t stage bound (cond v (visited visit.later) (Go (Turns (Taking visit (Some n)))))) [
-      | true ↦ λ h. visited_goes c t stage bound visit.later idle (room_stage stage bound (Visiting visit n) 0 room)
-      | false ↦ λ h.
-          let some : 0 < n = grind (arith, nat_tests) in
-          ((idle, is, some), near c t stage bound (Visiting visit n) (Turns (Taking visit (Some n))) 0 refl (omega arith) room)
-    ] refl
+    cond_both (n == 0) _ _ (Keeps c t stage bound) (λ h. visited_goes c t stage bound visit.later idle (room_stage stage bound (Visiting visit n) 0 room))
+    (λ h. ((idle, is, grind (arith, nat_tests)), near c t stage bound (Visiting visit n) (Turns (Taking visit (Some n))) 0 refl (omega arith) room))
 
 -- ---- the extent that a reply names
 
@@ -133,22 +108,14 @@ begins_not span first differ q h = elsewhere q.span.first (eqb-true _ _ (both_tr
 
 -- ---- the neighbour
 
-not_flying : (c : ℕ) (r : Rest) (state : State) → is_listed r state ≡ true → is_flight c state ≡ false
-not_flying c ToDirty Dirty h = refl
-not_flying c ToMuzzy Muzzy h = refl
-not_flying c ToRetained Retained h = refl
-not_flying c r state h = absurd (cc)
-
 listed_itself : (r : Rest) → is_listed r (listed r) ≡ true
 listed_itself ToDirty = refl
-listed_itself ToMuzzy = refl
-listed_itself ToRetained = refl
+listed_itself r = refl
 
 same_committed : (a b : Bool) → beq a b ≡ true → a ≡ b
 same_committed true true h = refl
 same_committed false false h = refl
-same_committed true false h = absurd (cc)
-same_committed false true h = absurd (cc)
+same_committed a b h = absurd (cc)
 
 -- two extents that belong to the same list, and are committed alike, may be merged
 merge_may : (p q : Part) → rest_of p.state ≡ rest_of q.state → p.committed ≡ q.committed → may_merge p q ≡ true
@@ -215,11 +182,11 @@ beside_onto c s own tries fresh later p other sound look offers is found settled
     let none : filter gone (mine c s).flights ≡ [] =
     filter-swap gone flies s.parts
     ∙ ap (filter flies) (filter-begins_at near.test s.parts other some (sound.owners other.span.first) near.found)
-    ∙ ap (λ (v : Bool). cond v (other ∷ []) []) (not_flying c (rest_of p.state) other.state like.0) in
+    ∙ ap (λ (v : Bool). cond v (other ∷ []) []) (listed-nobody c (rest_of p.state) other.state like.0) in
     let flights : (mine c t).flights ≡ (mine c s).flights ++ taken ∷ [] =
     flights_exchanged c gone s.parts (taken ∷ [])
     ∙ ap (λ ps. ps ++ filter flies (taken ∷ [])) (filter-none gone (mine c s).flights none)
-    ∙ ap (λ (v : Bool). (mine c s).flights ++ cond v (taken ∷ []) []) (client_itself c) in
+    ∙ ap (λ (v : Bool). (mine c s).flights ++ cond v (taken ∷ []) []) (itself c) in
     let still : in_flight own (mine c t).flights ≡ Some p =
     ap (in_flight own) flights ∙ find-append (λ q. same_span q.span own) (mine c s).flights (taken ∷ []) ∙ ap (λ o. option_or o (in_flight own (taken ∷ []))) found in
     let out : in_flight other.span (mine c t).flights ≡ Some taken =
@@ -229,22 +196,20 @@ beside_onto c s own tries fresh later p other sound look offers is found settled
     let more : flights_of c t ≡ flights_of c s + 1 = ap length flights ∙ length-append (mine c s).flights (taken ∷ []) in
     let one : 0 < flights_of c s = omega (arith, filter-fewer (λ q. same_span q.span own) (λ _. true) (mine c s).flights p found refl) in
     let taken_settled : Settled fresh taken = settled_like fresh p taken rest settled in
-    elim (tries == 0 && other.span.first == end_of own) as (λ v. (tries == 0 && other.span.first == end_of own) ≡ v →
-    Keeps c t (stages_then later) (left_turn (flights_of c s) 0 (Finding own tries fresh later)) (cond v (Go (Asks (Merging own other.span true fresh later) None)) (cond (nat_lt tries 2) (Go (Asks (Merging other.span own false fresh later) None)) Nowhere))) [
-      | true ↦ λ h.
-          let both = both_true (tries == 0) _ h in
-          let first : tries ≡ 0 = eqb-true _ _ both.0 in (
-            ((record { low_part = p; high_part = taken; low_found = still; high_found = out; alike = merge_may p taken (sym rest) (sym committed); side_by_side = sym (eqb-true _ _ both.1); low_settled = settled; high_settled = taken_settled; offers = offers }, is), tt),
-            inr (refl, let all : looks_left tries ≡ 7 = ap looks_left first in omega (arith, all, more, one)),
-          )
-      | false ↦ λ h.
-          let at_own = subst (λ (span : Span). ((tries == 0 && other.span.first == end_of span) || end_of other.span == span.first) ≡ true) at.spans near.side in
-          let side : end_of other.span ≡ own.first = eqb-true _ _ (rw h at at_own) in
-          rw (lt-ltb _ _ near.early) (
-            ((record { low_part = taken; high_part = p; low_found = out; high_found = still; alike = merge_may taken p rest committed; side_by_side = side; low_settled = taken_settled; high_settled = settled; offers = offers }, is), tt),
-            inr (refl, omega (arith, looks_early tries near.early, more, one)),
-          )
-    ] refl
+    cond_both (tries == 0 && other.span.first == end_of own) _ _ (Keeps c t (stages_then later) (left_turn (flights_of c s) 0 (Finding own tries fresh later)))
+    (λ h.
+    let both = both_true (tries == 0) _ h in
+    let all : looks_left tries ≡ 7 = ap looks_left (eqb-true _ _ both.0) in (
+      ((record { low_part = p; high_part = taken; low_found = still; high_found = out; alike = merge_may p taken (sym rest) (sym committed); side_by_side = sym (eqb-true _ _ both.1); low_settled = settled; high_settled = taken_settled; offers = offers }, is), tt),
+      inr (refl, omega (arith, all, more, one)),
+    ))
+    (λ h.
+    let at_own = subst (λ (span : Span). ((tries == 0 && other.span.first == end_of span) || end_of other.span == span.first) ≡ true) at.spans near.side in
+    let side : end_of other.span ≡ own.first = eqb-true _ _ (rw h at at_own) in
+    rw (lt-ltb _ _ near.early) (
+      ((record { low_part = taken; high_part = p; low_found = out; high_found = still; alike = merge_may taken p rest committed; side_by_side = side; low_settled = taken_settled; high_settled = settled; offers = offers }, is), tt),
+      inr (refl, omega (arith, looks_early tries near.early, more, one)),
+    ))
 
 -- an extent whose client puts it down, or offers it, is in flight no more
 pub gone_flights : (c : ℕ) (s : Space) (p : Part) (pieces : List Part) → filter (λ q. is_flight c q.state) pieces ≡ [] →
@@ -255,7 +220,7 @@ gone_flights c s p pieces none =
     ∙ append-nil (filter (λ q. not (begins_at p.span.first q)) (mine c s).flights)
 
 down_flies_not : (c : ℕ) (p : Part) → filter (λ q. is_flight c q.state) (put_down p ∷ []) ≡ []
-down_flies_not c p = ap (λ (v : Bool). cond v (put_down p ∷ []) []) (down_is_listed c (rest_of p.state))
+down_flies_not c p = ap (λ (v : Bool). cond v (put_down p ∷ []) []) (put_down-nobody c (rest_of p.state))
 
 -- the extent is put down
 rest_onto : (c : ℕ) (s : Space) (own : Span) (tries : ℕ) (fresh : Bool) (later : Then) (p : Part) → (mine c s).offers ≡ [] → IsThen later →
@@ -304,10 +269,9 @@ put_found c s own tries fresh later flies (Some other) sound look is e =
     beside_onto c s own tries fresh later flies.part other sound look flies.offers is flies.found flies.is (found_at c s own flies.part sound flies.found)
     (neighbour_near tries flies.part other s.parts e)
 put_found c s own tries fresh later flies None sound look is e =
-    elim (is_purged s flies.part) as (λ v. is_purged s flies.part ≡ v → Onto c (turned (Finding own tries fresh later)) (stages_then later) (left_turn (flights_of c s) 0 (Finding own tries fresh later)) (cond v (stays s (Purge (is_lazy s))) (put_at_rest s c flies.part))) [
-      | true ↦ λ h. purge_goes c s own tries fresh later (is_lazy s) flies.part flies.offers is flies.found flies.is (both_true (is_listed (rest_of flies.part.state) Dirty) _ h).0
-      | false ↦ λ h. rest_onto c s own tries fresh later flies.part flies.offers is flies.found
-    ] refl
+    cond_both (is_purged s flies.part) _ _ (Onto c (turned (Finding own tries fresh later)) (stages_then later) (left_turn (flights_of c s) 0 (Finding own tries fresh later)))
+    (λ h. purge_goes c s own tries fresh later (is_lazy s) flies.part flies.offers is flies.found flies.is (both_true (is_listed (rest_of flies.part.state) Dirty) _ h).0)
+    (λ h. rest_onto c s own tries fresh later flies.part flies.offers is flies.found)
 
 -- the reply to a look for a neighbour
 pub put_onto : (c : ℕ) (s : Space) (own : Span) (tries : ℕ) (fresh : Bool) (later : Then) → Sound s → tries < 3 → (flies : Flies (mine c s) own (Settled fresh)) → IsThen later →

@@ -1,50 +1,13 @@
 -- The reasons of each point to which a call comes, and of its answer.
-use Rattle.std.proofs.Common.{ℤ, negsuc, ◌≡◌, ℕ, ◌*◌, ◌≤◌, ◌^◌, ◌==◌, ◌&&◌, ◌⊎◌, inl, inr, Bool, true, false, cond, not, min, max, List, [], ◌∷◌, ◌++◌, Option, None, Some, refl, sym, ◌∙◌, ap, subst, arith, nat_lt, append_assoc, append-nil}
-use Rattle.std.specs.List.{Contains}
-use Rattle.std.proofs.lemmas.Bool.{ltb-true, eqb-true}
+use Rattle.std.proofs.Common.{rules, ℤ, negsuc, ◌≡◌, ℕ, ◌*◌, ◌≤◌, ◌^◌, ◌==◌, ◌&&◌, ◌⊎◌, inl, inr, Bool, true, false, not, min, max, List, [], ◌∷◌, ◌++◌, Option, None, Some, refl, sym, ◌∙◌, ap, subst, arith, nat_lt, append_assoc, append-nil, Contains, int_eq}
+use Rattle.std.proofs.lemmas.Bool.{cond_both, ltb-true, eqb-true, not-true, not-false}
 use Rattle.std.proofs.lemmas.Bool.Decides.{nat_tests}
-use Rattle.size_classes.specs.Classes.{aligned_for, class_for}
-use Rattle.space_model.specs.declared.Answer.TheVariants.{Refused as Refuses}
-use Rattle.space_model.specs.declared.Reply.{Reply}
-use Rattle.space_model.specs.declared.Reply.TheVariants.{NoArena, Nothing, Noted, Took, Grow, Cut, Whole, Refused as Refuse, Bad, Grown, Landed, Next as NextFlight, Beside, Purge, Joined, Regions, Limits as LimitsAre, Taken, Lazy, Kept, Abandoned, Decommitted, Owned, Busy as InUse}
-use Rattle.space_model.specs.declared.Space.{Space}
-use Rattle.space_model.specs.declared.Span.{Span}
-use Rattle.space_model.specs.declared.Why.{Why}
-use Rattle.space_model.specs.Span.{max_series, end_of}
-use Rattle.space_model.specs.Step.{after_cut, after_commit, after_grow}
-use Rattle.hook_api.specs.Asked.{AskFacts}
-use Rattle.space_model.specs.Slabs.{most_regions}
-use Rattle.thread_cache.specs.declared.Held.{Held}
-use Rattle.thread_cache.specs.Desks.{BatchFacts, DeskFacts, batch_of, cached_of, freeing, going, going_with, held_at, hit}
-use Rattle.call_table.specs.declared.needs.Answered.{Answered}
-use Rattle.call_table.specs.declared.needs.Answered.TheVariants.{Ok, Refused, BadAnswer, TooLarge, BadAlign, NotHeld, NoArena as NoSuchArena, Automatic}
-use Rattle.call_table.specs.declared.needs.Given.{Given}
-use Rattle.call_table.specs.declared.needs.Item.{Item}
-use Rattle.call_table.specs.declared.needs.Item.TheVariants.{Replied, Told, Starved}
-use Rattle.call_table.specs.declared.needs.Request.{Request}
-use Rattle.call_table.specs.declared.points.Wish.{Wish}
-use Rattle.call_table.specs.declared.needs.Request.TheVariants.{Malloc, Memalign, Free, FreeForeign, Publish, Take, Flush, Cache, Purge as PurgeAll, Decay, Time, Reset, Destroy, Create, Bind, HookBox, GrowLimit}
-use Rattle.call_table.specs.declared.needs.Given.TheVariants.{Region, Done as Finished, Arena, Limits}
-use Rattle.space_model.specs.declared.Setting.TheVariants.{Bind as SetBound, HookBox as SetBox, GrowLimit as SetLimit}
-use Rattle.space_model.specs.declared.Rest.{Rest}
-use Rattle.std.specs.Ordering.{int_eq}
-use Rattle.space_model.specs.Step.{step_of}
-use Rattle.call_table.specs.declared.points.Later.{Later}
-use Rattle.call_table.specs.declared.points.Later.TheVariants.{Answers, DirtyToo}
-use Rattle.call_table.specs.declared.points.Then.{Then}
-use Rattle.call_table.specs.declared.points.Then.TheVariants.{Batches, Visiting}
-use Rattle.call_table.specs.declared.points.Change.{Change}
-use Rattle.call_table.specs.declared.points.Change.TheVariants.{Stops, Visits, Leaves}
-use Rattle.call_table.specs.declared.points.TurnPoint.{TurnPoint}
-use Rattle.call_table.specs.declared.points.TurnPoint.TheVariants.{Filling, Looking, Landing, Giving, Finding, Taking, Offering, Advancing, Changing, Making, Resetting, Destroying, Dooming, Publishing, Owning}
-use Rattle.call_table.specs.declared.points.AskPoint.{AskPoint}
-use Rattle.call_table.specs.declared.points.AskPoint.TheVariants.{Skipping, Trimming, Growing, Paring, Needing, Granting, Committing, Merging, Easing, Returning, Decommitting, Forcing}
-use Rattle.call_table.specs.declared.points.Point.{Point}
-use Rattle.call_table.specs.declared.points.Point.TheVariants.{Turns, Asks, Tells}
-use Rattle.call_table.specs.declared.points.Next.{Next}
-use Rattle.call_table.specs.declared.points.Next.TheVariants.{Go, Over, More, Gone, Ends, Nowhere}
+use Rattle.space_model.specs.Step.{step_of, after_cut, after_commit, after_grow}
+use Rattle.call_table.specs.Words.{Request, Malloc, Memalign, Free, FreeForeign, Publish, Take, Flush, Cache, Time, Reset, Destroy, Create, Bind, Item, Replied, Told, Starved, Given, Region, Finished, Arena, Limits, Answered, Refused, BadAnswer, NotHeld, Automatic, aligned_for, class_for, max_series, end_of, most_regions, BatchFacts, batch_of, cached_of, freeing, going, going_with, held_at, hit}
+use Rattle.call_table.specs.Words.{Wish, Later, Answers, DirtyToo, Then, Batches, Visiting, Change, Visits, TurnPoint, Filling, Looking, Landing, Giving, Finding, Taking, Offering, Advancing, Changing, Making, Resetting, Destroying, Dooming, Publishing, Owning, AskPoint, Skipping, Trimming, Growing, Paring, Needing, Granting, Committing, Merging, Easing, Returning, Decommitting, Forcing, Point, Turns, Asks, Tells, Next, Go, Over, More, Gone, Ends, Stage}
+use Rattle.call_table.specs.Words.{Refuses, Reply, NoArena, Nothing, Noted, Took, Grow, Cut, Whole, Refuse, Bad, Grown, Landed, NextFlight, Beside, Purge, Joined, Regions, LimitsAre, Taken, Lazy, Abandoned, Decommitted, Owned, InUse, Rest, Space, Span, Why, AskFacts, Held, DeskFacts}
 use Rattle.call_table.specs.Table.{answered_span, trimmed, alloc_of, ask_of, done_of, op_of, is_marked, starved, chunks_for, whole_chunks, step, turned, told, commit, trim, visited, onward, put_next, drop, limited, changed, took_over}
-use Rattle.call_table.specs.Runs.{batch_goes, begin_bind, begin_free, begin_get, begin_malloc, begin_memalign, begin_publish, begin_stage, first_turn, first_turn_but_0, get, is_alignment, moment, page_align, run, settle, share, small_hit, stage, wish_for, time_of, after_time, whole_visit}
+use Rattle.call_table.specs.Runs.{batch_goes, begin_bind, begin_free, begin_get, begin_malloc, begin_memalign, begin_publish, begin_stage, first_turn, first_turn_but_0, get, is_alignment, moment, page_align, run, settle, share, small_hit, wish_for, time_of, after_time}
 use Rattle.call_table.specs.Desks.{desk_fed, flushes}
 use Rattle.call_table.specs.Laws.{with_found}
 use Rattle.call_table.specs.Causes.{extent, extent_of, NothingFits, WasGranted, IsNeeded, IsWishOf, GotCause, RegionCause, GivenCause, CauseOf, Came, AllCame, AnswersHaveCauses}
@@ -65,9 +28,8 @@ module _ (desk : DeskFacts) where
   ThenWhy request items (Visiting visit left) = LaterWhy request items visit.later
 
   abbrev pub ChangeWhy : Request → List Item → Change → Type 0
-  ChangeWhy request items Stops = Unit {0}
   ChangeWhy request items (Visits visit) = LaterWhy request items visit.later
-  ChangeWhy request items (Leaves arena) = Unit {0}
+  ChangeWhy request items change = Unit {0}
 
   -- the region that is taken over is that of the request, and goes back where it is to be freed
   abbrev pub OwnWhy : Request → ℕ → Bool → Type 0
@@ -120,10 +82,9 @@ module _ (desk : DeskFacts) where
   abbrev pub NextWhy : Request → List Item → Next → Type 0
   NextWhy request items (Go point) = PointWhy request items point
   NextWhy request items (Over index point) = PointWhy request items point
-  NextWhy request items More = Unit {0}
   NextWhy request items Gone = Contains items (Replied NoArena)
   NextWhy request items (Ends answer) = CauseOf desk request items answer
-  NextWhy request items Nowhere = Unit {0}
+  NextWhy request items next = Unit {0}
 
   -- ---- reasons last
 
@@ -154,16 +115,12 @@ module _ (desk : DeskFacts) where
 
   -- ---- where a point leads
 
-  chosen : (request : Request) (items : List Item) (v : Bool) (x y : Next) → NextWhy request items x → NextWhy request items y → NextWhy request items (cond v x y)
-  chosen request items true x y one other = one
-  chosen request items false x y one other = other
-
   commit_why : (request : Request) (items : List Item) (wish : Wish) (span : Span) (b : Bool) → Had request items wish span b → NextWhy request items (commit wish span b)
   commit_why request items wish span true had = had.0
   commit_why request items wish span false had = had
 
   trim_why : (request : Request) (items : List Item) (wish : Wish) (span : Span) (b : Bool) → Had request items wish span b → NextWhy request items (trim wish span b)
-  trim_why request items wish span b had = chosen request items (nat_lt wish.pages span.pages) _ _ had (commit_why request items wish span b had)
+  trim_why request items wish span b had = cond_both (nat_lt wish.pages span.pages) _ _ (NextWhy request items) (λ _. had) (λ _. commit_why request items wish span b had)
 
   visited_why : (request : Request) (items : List Item) (later : Later) → LaterWhy request items later → NextWhy request items (visited later)
   visited_why request items (Answers given) why = why
@@ -171,7 +128,7 @@ module _ (desk : DeskFacts) where
 
   onward_why : (request : Request) (items : List Item) (later : Then) → ThenWhy request items later → NextWhy request items (onward later)
   onward_why request items Batches why = tt
-  onward_why request items (Visiting visit left) why = chosen request items (left == 0) _ _ (visited_why request items visit.later why) why
+  onward_why request items (Visiting visit left) why = cond_both (left == 0) _ _ (NextWhy request items) (λ _. visited_why request items visit.later why) (λ _. why)
 
   put_why : (request : Request) (items : List Item) (later : Then) (next : Option Span) → ThenWhy request items later → NextWhy request items (put_next later next)
   put_why request items later None why = onward_why request items later why
@@ -184,13 +141,11 @@ module _ (desk : DeskFacts) where
   limited_why : (request : Request) (items : List Item) (dirty muzzy : Option ℕ) → Contains items (Replied (LimitsAre dirty muzzy)) → NextWhy request items (limited dirty muzzy)
   limited_why request items None None has = has
   limited_why request items (Some d) None has = has
-  limited_why request items None (Some m) has = has
-  limited_why request items (Some d) (Some m) has = has
+  limited_why request items dirty muzzy has = has
 
   changed_why : (request : Request) (items : List Item) (change : Change) → ChangeWhy request items change → NextWhy request items (changed change)
-  changed_why request items Stops why = tt
   changed_why request items (Visits visit) why = why
-  changed_why request items (Leaves arena) why = tt
+  changed_why request items change why = tt
 
   -- a region that landed, or was free in a slab, is of the class of the request
   landed_why : (request : Request) (items : List Item) (wish : Wish) (addr : ℕ) → IsWishOf request wish →
@@ -211,10 +166,9 @@ module _ (desk : DeskFacts) where
 
   found_why : (request : Request) (items : List Item) (own : Span) (tries : ℕ) (fresh : Bool) (later : Then) (reply : Reply) → ThenWhy request (items ++ Replied reply ∷ []) later →
       NextWhy request (items ++ Replied reply ∷ []) (turned (Finding own tries fresh later) reply)
-  found_why request items own tries fresh later (Beside other) why = chosen request _ (tries == 0 && other.first == end_of own) _ _ why (chosen request _ (nat_lt tries 2) _ _ why tt)
+  found_why request items own tries fresh later (Beside other) why = cond_both (tries == 0 && other.first == end_of own) _ _ (NextWhy request _) (λ _. why) (λ _. cond_both (nat_lt tries 2) _ _ (NextWhy request _) (λ _. why) (λ _. tt))
   found_why request items own tries fresh later (NextFlight next) why = put_why request _ later next why
   found_why request items own tries true later (Purge lazy) why = drop_why request _ own lazy later why
-  found_why request items own tries false later (Purge lazy) why = tt
   found_why request items own tries fresh later reply why = tt
 
   turned_why : (request : Request) (items : List Item) (point : TurnPoint) (reply : Reply) → TurnWhy request items point →
@@ -222,16 +176,12 @@ module _ (desk : DeskFacts) where
   turned_why request items (Filling wish count) (Regions []) why = tt
   turned_why request items (Filling wish count) (Regions (addr ∷ addrs)) why = landed_why request _ wish addr why (inr (addrs, last_in items (Replied (Regions (addr ∷ addrs)))))
   turned_why request items (Filling wish count) Nothing why = why
-  turned_why request items (Filling wish count) NoArena why = last_in items (Replied NoArena)
-  turned_why request items (Filling wish count) reply why = tt
   turned_why request items (Looking wish) (Took span b skip) why =
       let had : Had request (items ++ Replied (Took span b skip) ∷ []) wish span b = (why, extent_next items (Replied (Took span b skip)) _ refl) in
-      chosen request _ (nat_lt 0 skip) _ _ had (trim_why request _ wish span b had)
+      cond_both (nat_lt 0 skip) _ _ (NextWhy request _) (λ _. had) (λ _. trim_why request _ wish span b had)
   turned_why request items (Looking wish) (Grow series) why =
       let fits : NothingFits (items ++ Replied (Grow series) ∷ []) = inl (series, last_in items (Replied (Grow series))) in
-      chosen request _ (nat_lt (chunks_for wish.pages) (min series max_series)) _ _ (why, fits) (why, fits)
-  turned_why request items (Looking wish) NoArena why = last_in items (Replied NoArena)
-  turned_why request items (Looking wish) reply why = tt
+      cond_both (nat_lt (chunks_for wish.pages) (min series max_series)) _ _ (NextWhy request _) (λ _. (why, fits)) (λ _. (why, fits))
   turned_why request items (Landing wish span) (Landed first count) why = landed_why request _ wish first why (inl (count, last_in items (Replied (Landed first count))))
   turned_why request items (Landing wish span) reply why = tt
   turned_why request items (Giving addrs) (NextFlight next) why = put_why request _ Batches next tt
@@ -239,38 +189,21 @@ module _ (desk : DeskFacts) where
   turned_why request items (Finding own tries fresh later) reply why = found_why request items own tries fresh later reply (then_more request items (Replied reply) later why)
   turned_why request items (Taking visit left) (Taken span lazy listed) why = drop_why request _ span lazy _ (later_more request items _ visit.later why)
   turned_why request items (Taking visit left) Nothing why = visited_why request _ visit.later (later_more request items _ visit.later why)
-  turned_why request items (Taking visit left) NoArena why = last_in items (Replied NoArena)
-  turned_why request items (Taking visit left) reply why = tt
   turned_why request items (Offering span later) Noted why = then_more request items (Replied Noted) later why
-  turned_why request items (Offering span later) reply why = tt
   turned_why request items (Advancing now) (LimitsAre dirty muzzy) why = limited_why request _ dirty muzzy (last_in items (Replied (LimitsAre dirty muzzy)))
-  turned_why request items (Advancing now) NoArena why = last_in items (Replied NoArena)
-  turned_why request items (Advancing now) reply why = tt
   turned_why request items (Changing setting change) Noted why = changed_why request _ change (change_more change why)
     where
       change_more : (change : Change) → ChangeWhy request items change → ChangeWhy request (items ++ Replied Noted ∷ []) change
-      change_more Stops why = tt
       change_more (Visits visit) why = later_more request items (Replied Noted) visit.later why
-      change_more (Leaves arena) why = tt
-  turned_why request items (Changing setting change) NoArena why = last_in items (Replied NoArena)
-  turned_why request items (Changing setting change) reply why = tt
-  turned_why request items (Making index setting) Noted why = last_in items (Replied Noted)
-  turned_why request items (Making index setting) Nothing why = chosen request _ (nat_lt index 31) _ _ tt (last_in items (Replied Nothing))
-  turned_why request items (Making index setting) reply why = tt
+      change_more change why = tt
+  turned_why request items (Making index setting) Nothing why = cond_both (nat_lt index 31) _ _ (NextWhy request _) (λ _. tt) (λ _. last_in items (Replied Nothing))
   turned_why request items (Resetting cached) (InUse others flights threads) why = last_in items (Replied (InUse others flights threads))
-  turned_why request items (Resetting cached) NoArena why = last_in items (Replied NoArena)
-  turned_why request items (Resetting cached) reply why = tt
   turned_why request items (Destroying cached) (InUse others flights threads) why = last_in items (Replied (InUse others flights threads))
-  turned_why request items (Destroying cached) NoArena why = last_in items (Replied NoArena)
-  turned_why request items (Destroying cached) reply why = tt
   turned_why request items Dooming Nothing why = tt
-  turned_why request items Dooming reply why = tt
   turned_why request items (Publishing addr) Noted why = tt
-  turned_why request items (Publishing addr) reply why = tt
   turned_why request items (Owning addr frees past) (Owned class) why = owned_why request _ addr class frees why (last_in items (Replied (Owned class)))
   turned_why request items (Owning addr frees past) Nothing why = unowned_why request _ addr frees why (last_in items (Replied Nothing))
-  turned_why request items (Owning addr frees past) NoArena why = last_in items (Replied NoArena)
-  turned_why request items (Owning addr frees past) reply why = tt
+  turned_why request items point reply why = let last = last_in items (Replied reply) in search rules
 
   -- ---- after an answer was taken in
 
@@ -343,14 +276,12 @@ module _ (desk : DeskFacts) where
   told_why request items c (Skipping wish span b skip) asked (Cut high) why came =
       trim_why request _ wish high b (cut_had request items wish span high b (still_had request items why.earlier asked wish span b why.told why.why))
   told_why request items c (Skipping wish span b skip) asked Whole why came = (why.why.0, whole_fits items)
-  told_why request items c (Skipping wish span b skip) asked reply why came = tt
   told_why request items c (Trimming wish span b) asked reply why came = trimmed_why request items wish span b reply (still_had request items why.earlier asked wish span b why.told why.why)
   told_why request items c (Paring wish span b) asked reply why came = trimmed_why request items wish span b reply (still_had request items why.earlier asked wish span b why.told why.why)
   told_why request items c (Growing wish chunks) asked Refuse why came =
       (why.why.0, fits_more items (Replied Refuse) (subst NothingFits (sym why.told) (fits_more why.earlier (Told asked) why.why.1)))
   told_why request items c (Growing wish chunks) asked (Bad reason) why (s, found, replied) = bad_why request items (Growing wish chunks) asked wish (chunks * 512) reason why.why.0 why refl s c found replied
   told_why request items c (Growing wish chunks) asked (Grown span b) why came = (why.why.0, extent_next items (Replied (Grown span b)) (extent_of items) refl)
-  told_why request items c (Growing wish chunks) asked reply why came = tt
   told_why request items c (Needing wish) asked Refuse why (s, found, replied) =
       refused_why request items (Needing wish) asked wish Refuse why.why.0 why
       (grow_refused s c found (whole_chunks wish.pages) (max 512 wish.align) asked.answer (subst (λ a. Refuse ≡ (after_grow s c found a asked.answer).reply) why.is replied)) (refl, why.why.1)
@@ -358,36 +289,25 @@ module _ (desk : DeskFacts) where
   told_why request items c (Needing wish) asked (Grown span b) why (s, found, replied) =
       let had : Had request (items ++ Replied (Grown span b) ∷ []) wish span b = (why.why.0, extent_next items (Replied (Grown span b)) (extent_of items) refl) in
       let placed = grow_grown s c found (whole_chunks wish.pages) (max 512 wish.align) asked.answer span b (subst (λ a. Grown span b ≡ (after_grow s c found a asked.answer).reply) why.is replied) in
-      elim (nat_lt wish.pages span.pages) as (λ v. nat_lt wish.pages span.pages ≡ v → NextWhy request (items ++ Replied (Grown span b) ∷ []) (cond v (Go (Asks (Granting wish span b) None)) (commit wish span b))) [
-        | true ↦ λ h. (had, record { asked = asked; told = asked_in request items (Needing wish) asked (Grown span b) why; exact = why.is; is_committed = b; zeroed = placed.0; placed = placed.1; replied = last_in items (Replied (Grown span b)); more = ltb-true _ _ h })
-        | false ↦ λ h. commit_why request _ wish span b had
-      ] refl
-  told_why request items c (Needing wish) asked reply why came = tt
+      cond_both (nat_lt wish.pages span.pages) _ _ (NextWhy request _)
+      (λ h. (had, record { asked = asked; told = asked_in request items (Needing wish) asked (Grown span b) why; exact = why.is; is_committed = b; zeroed = placed.0; placed = placed.1; replied = last_in items (Replied (Grown span b)); more = ltb-true _ _ h }))
+      (λ h. commit_why request _ wish span b had)
   told_why request items c (Granting wish span b) asked (Cut low) why came =
       commit_why request _ wish low b (cut_had request items wish span low b (still_had request items why.earlier asked wish span b why.told why.why.0))
   told_why request items c (Granting wish span b) asked Whole why (s, found, replied) =
       refused_why request items (Granting wish span b) asked wish Whole why.why.0.0 why
       (cut_whole s c true span wish.pages asked.answer (subst (λ a. Whole ≡ (after_cut s c true a asked.answer).reply) why.is replied)) (refl, why.why.1)
-  told_why request items c (Granting wish span b) asked reply why came = tt
   told_why request items c (Committing wish span) asked Noted why came = why.why.0
   told_why request items c (Committing wish span) asked Whole why (s, found, replied) =
       refused_why request items (Committing wish span) asked wish Whole why.why.0 why
       (commit_whole s c span asked.answer (subst (λ a. Whole ≡ (after_commit s c a asked.answer).reply) why.is replied)) why.why.1
-  told_why request items c (Committing wish span) asked reply why came = tt
   told_why request items c (Merging low high own_low fresh later) asked (Joined own) why came = heard_more request items why.earlier asked (Joined own) later why.told why.why
-  told_why request items c (Merging low high own_low fresh later) asked reply why came = tt
   told_why request items c (Easing span later) asked (Lazy true) why came = heard_more request items why.earlier asked (Lazy true) later why.told why.why
-  told_why request items c (Easing span later) asked (Lazy false) why came = heard_more request items why.earlier asked (Lazy false) later why.told why.why
-  told_why request items c (Easing span later) asked reply why came = tt
   told_why request items c (Returning span later) asked (NextFlight next) why came = put_why request _ later next (heard_more request items why.earlier asked (NextFlight next) later why.told why.why)
   told_why request items c (Returning span later) asked (Abandoned next) why came = put_why request _ later next (heard_more request items why.earlier asked (Abandoned next) later why.told why.why)
-  told_why request items c (Returning span later) asked Kept why came = heard_more request items why.earlier asked Kept later why.told why.why
-  told_why request items c (Returning span later) asked reply why came = tt
   told_why request items c (Decommitting span later) asked (Decommitted true) why came = heard_more request items why.earlier asked (Decommitted true) later why.told why.why
-  told_why request items c (Decommitting span later) asked (Decommitted false) why came = heard_more request items why.earlier asked (Decommitted false) later why.told why.why
-  told_why request items c (Decommitting span later) asked reply why came = tt
   told_why request items c (Forcing span later) asked Noted why came = heard_more request items why.earlier asked Noted later why.told why.why
-  told_why request items c (Forcing span later) asked reply why came = tt
+  told_why request items c point asked reply why came = let more = λ (later : Then). heard_more request items why.earlier asked reply later why.told in search rules
 
   -- ---- the fold
 
@@ -396,12 +316,9 @@ module _ (desk : DeskFacts) where
   batch_why request items arena (Some batch) = tt
 
   pub settle_why : (request : Request) (items : List Item) (now : DeskFacts) (arena : ℕ) (next : Next) → NextWhy request items next → NextWhy request items (settle request now arena next).next
-  settle_why request items now arena (Go point) why = why
-  settle_why request items now arena (Over index point) why = why
   settle_why request items now arena More why = batch_why request items arena (batch_of (going (flushes request) now))
   settle_why request items now arena Gone why = inr why
-  settle_why request items now arena (Ends answer) why = why
-  settle_why request items now arena Nowhere why = tt
+  settle_why request items now arena next why = why
 
   starved_why : (request : Request) (items : List Item) (v : Bool) → NextWhy request (items ++ Starved ∷ []) (starved v)
   starved_why request items true = last_in items Starved
@@ -411,16 +328,10 @@ module _ (desk : DeskFacts) where
       NextWhy request (items ++ item ∷ []) (step point item)
   step_why request items c (Turns point) (Replied reply) why came = turned_why request items point reply why
   step_why request items c (Turns point) Starved why came = starved_why request items (is_marked (op_of point))
-  step_why request items c (Turns point) (Told asked) why came = tt
   step_why request items c (Asks point None) (Told asked) why (s, t, sound, (is, kind, same)) = record { earlier = items; told = refl; why = why; is = is }
-  step_why request items c (Asks point None) (Replied reply) why came = tt
-  step_why request items c (Asks point None) Starved why came = tt
   step_why request items c (Asks point (Some asked)) (Replied reply) why (s, t, sound, (found, left, replied)) = told_why request items c point asked reply why (s, found, replied)
-  step_why request items c (Asks point (Some asked)) (Told other) why came = tt
-  step_why request items c (Asks point (Some asked)) Starved why came = tt
-  step_why request items c (Tells span b) (Told asked) why came = tt
-  step_why request items c (Tells span b) (Replied reply) why came = tt
   step_why request items c (Tells span b) Starved why came = tt
+  step_why request items c point item why came = tt
 
   run_why : (request : Request) (c : ℕ) (items past : List Item) (now : DeskFacts) (arena : ℕ) (next : Next) (answer : Answered) → NextWhy request past next → AllCame c (moment request now arena next) items →
       (run (moment request now arena next) items).stage.next ≡ Ends answer → CauseOf desk request (past ++ items) answer
@@ -429,37 +340,24 @@ module _ (desk : DeskFacts) where
   run_why request c (item ∷ items) past now arena (Go point) answer why (one, others) e =
       subst (λ (xs : List Item). CauseOf desk request xs answer) (append_assoc past (item ∷ []) items)
       (run_why request c items (past ++ item ∷ []) _ _ _ answer (settle_why request _ (desk_fed now arena (Go point) item) arena (step point item) (step_why request past c point item why one)) others e)
-  run_why request c (item ∷ items) past now arena (Over index point) answer why (one, others) e = absurd one
-  run_why request c (item ∷ items) past now arena More answer why (one, others) e = absurd one
-  run_why request c (item ∷ items) past now arena Gone answer why (one, others) e = absurd one
-  run_why request c (item ∷ items) past now arena (Ends given) answer why (one, others) e = absurd one
-  run_why request c (item ∷ items) past now arena Nowhere answer why (one, others) e = absurd one
+  run_why request c (item ∷ items) past now arena next answer why (one, others) e = absurd one
 
   -- ---- where a request begins
 
   first_why : (request : Request) (arena : ℕ) (point : TurnPoint) → TurnWhy request [] point → NextWhy request [] (first_turn arena point).next
   first_why request arena point why =
-      elim (nat_lt arena 32) as (λ v. nat_lt arena 32 ≡ v → NextWhy request [] (cond v (Go (Turns point)) (Ends (NoSuchArena arena)))) [
-        | true ↦ λ h. why
-        | false ↦ λ h. let most : 32 ≤ arena = grind (arith, nat_tests) in inl most
-      ] refl
+      cond_both (nat_lt arena 32) _ _ (NextWhy request []) (λ h. why) (λ h. let most : 32 ≤ arena = grind (arith, nat_tests) in inl most)
 
   but_0_why : (request : Request) (arena : ℕ) (point : TurnPoint) → (arena ≡ 0 → CauseOf desk request [] Automatic) → TurnWhy request [] point → NextWhy request [] (first_turn_but_0 arena point).next
   but_0_why request arena point automatic why =
-      elim (arena == 0) as (λ v. arena == 0 ≡ v → NextWhy request [] (cond v (stage arena (Ends Automatic)) (first_turn arena point)).next) [
-        | true ↦ λ h. automatic (eqb-true _ _ h)
-        | false ↦ λ h. first_why request arena point why
-      ] refl
+      cond_both (arena == 0) _ _ (λ (at : Stage). NextWhy request [] at.next) (λ h. automatic (eqb-true _ _ h)) (λ h. first_why request arena point why)
 
   get_why : (request : Request) (class align count : ℕ) → IsWishOf request (wish_for class align (min count (most_regions class))) → NextWhy request [] (get class align count)
-  get_why request class align count wished = chosen request [] (nat_lt class 36) _ _ wished wished
+  get_why request class align count wished = cond_both (nat_lt class 36) _ _ (NextWhy request []) (λ _. wished) (λ _. wished)
 
   malloc_why : (size : ℕ) → NextWhy (Malloc size) [] (begin_malloc size desk).next
   malloc_why size =
-      elim (nat_lt (2 ^ 35) size) as (λ v. nat_lt (2 ^ 35) size ≡ v → NextWhy (Malloc size) [] (cond v (stage desk.arena (Ends TooLarge)) (begin_get (class_for size) 1 (hit (class_for size) desk) desk)).next) [
-        | true ↦ λ h. ltb-true _ _ h
-        | false ↦ λ h. got_why (hit (class_for size) desk) refl
-      ] refl
+      cond_both (nat_lt (2 ^ 35) size) _ _ (λ (at : Stage). NextWhy (Malloc size) [] at.next) (λ h. ltb-true _ _ h) (λ h. got_why (hit (class_for size) desk) refl)
     where
       got_why : (found : Option Held) → hit (class_for size) desk ≡ found → NextWhy (Malloc size) [] (begin_get (class_for size) 1 found desk).next
       got_why (Some region) e = (refl, inl (region, e, refl))
@@ -467,29 +365,19 @@ module _ (desk : DeskFacts) where
 
   memalign_why : (align size : ℕ) → NextWhy (Memalign align size) [] (begin_memalign align size desk).next
   memalign_why align size =
-      elim (is_alignment align) as (λ v. is_alignment align ≡ v → NextWhy (Memalign align size) []
-      (cond (not v) (stage desk.arena (Ends BadAlign)) (cond (nat_lt (2 ^ 35) size) (stage desk.arena (Ends TooLarge)) (begin_get (aligned_for size align) (page_align align) (small_hit (aligned_for size align) desk) desk))).next) [
-        | true ↦ λ good. elim (nat_lt (2 ^ 35) size) as (λ v. nat_lt (2 ^ 35) size ≡ v → NextWhy (Memalign align size) []
-            (cond v (stage desk.arena (Ends TooLarge)) (begin_get (aligned_for size align) (page_align align) (small_hit (aligned_for size align) desk) desk)).next) [
-              | true ↦ λ h. (passing_is align good, ltb-true _ _ h)
-              | false ↦ λ h. got_why (small_hit (aligned_for size align) desk) refl
-            ] refl
-        | false ↦ λ bad. failing_is_not align bad
-      ] refl
+      cond_both (not (is_alignment align)) _ _ (λ (at : Stage). NextWhy (Memalign align size) [] at.next) (λ bad. failing_is_not align (not-true _ bad))
+      (λ good. cond_both (nat_lt (2 ^ 35) size) _ _ (λ (at : Stage). NextWhy (Memalign align size) [] at.next) (λ h. (passing_is align (not-false _ good), ltb-true _ _ h)) (λ h. got_why (small_hit (aligned_for size align) desk) refl))
     where
       got_why : (found : Option Held) → small_hit (aligned_for size align) desk ≡ found → NextWhy (Memalign align size) [] (begin_get (aligned_for size align) (page_align align) found desk).next
       got_why (Some region) e = (refl, inl (region, e, refl))
       got_why None e = get_why (Memalign align size) (aligned_for size align) (page_align align) (share (aligned_for size align) desk) refl
 
   time_why : (rest : Rest) (ms : ℤ) (request : Request) → ChangeWhy request [] (after_time rest ms)
-  time_why rest ms request = elim (int_eq ms (negsuc 0)) as (λ v. ChangeWhy request [] (cond v Stops (Visits (whole_visit rest)))) [ true ↦ tt | false ↦ tt ]
+  time_why rest ms request = cond_both (int_eq ms (negsuc 0)) _ _ (ChangeWhy request []) (λ _. tt) (λ _. tt)
 
   bind_why : (arena index : ℕ) → NextWhy (Bind index) [] (begin_bind arena index).next
   bind_why arena index =
-      elim (index == arena) as (λ v. NextWhy (Bind index) [] (cond v (stage arena (Ends (Ok Finished))) (first_turn index (Changing SetBound (Leaves arena)))).next) [
-        | true ↦ tt
-        | false ↦ first_why (Bind index) index (Changing SetBound (Leaves arena)) tt
-      ]
+      cond_both (index == arena) _ _ (λ (at : Stage). NextWhy (Bind index) [] at.next) (λ _. tt) (λ _. first_why (Bind index) index _ tt)
 
   free_why : (addr : ℕ) (held : Option Held) → held_at addr desk ≡ held → NextWhy (Free addr) [] (begin_free addr held desk).next
   free_why addr None e = (refl, e)
@@ -509,15 +397,12 @@ module _ (desk : DeskFacts) where
   begin_why Flush = batch_why Flush [] desk.arena (batch_of (going true desk))
   begin_why (Cache true) = tt
   begin_why (Cache false) = batch_why (Cache false) [] desk.arena (batch_of (going true desk))
-  begin_why (PurgeAll index) = first_why (PurgeAll index) index _ tt
-  begin_why (Decay index now) = first_why (Decay index now) index (Advancing now) tt
   begin_why (Time index rest ms now) = first_why (Time index rest ms now) index (Changing (time_of rest ms now) (after_time rest ms)) (time_why rest ms (Time index rest ms now))
   begin_why (Reset index) = but_0_why (Reset index) index (Resetting (cached_of index desk)) (λ e. e) tt
   begin_why (Destroy index) = but_0_why (Destroy index) index (Destroying (cached_of index desk)) (λ e. e) tt
   begin_why (Create box_no dirty_ms muzzy_ms now) = tt
   begin_why (Bind index) = bind_why desk.arena index
-  begin_why (HookBox index box_no) = first_why (HookBox index box_no) index (Changing (SetBox box_no) Stops) tt
-  begin_why (GrowLimit index chunks) = first_why (GrowLimit index chunks) index (Changing (SetLimit chunks) Stops) tt
+  begin_why request = first_why request _ _ tt
 
 pub answers-have_causes : AnswersHaveCauses
 answers-have_causes c request desk items answer came e = run_why desk request c items [] _ _ _ answer (begin_why desk request) came e

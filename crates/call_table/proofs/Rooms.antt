@@ -1,38 +1,15 @@
 -- Whoever has the room that is needed at a point has it wherever the call goes.
-use Rattle.std.proofs.Common.{◌≡◌, ℕ, ◌+◌, ◌-◌, ◌*◌, ◌<◌, ◌≤◌, ◌==◌, ◌&&◌, Bool, true, false, cond, max, min, [], ◌∷◌, Option, None, Some, refl, sym, ap, subst, arith, length, nat_lt}
-use Rattle.std.specs.List.{sum_by}
-use Rattle.std.proofs.lemmas.Bool.{eqb-true, ltb-true}
+use Rattle.std.proofs.Common.{◌≡◌, ℕ, ◌+◌, ◌-◌, ◌*◌, ◌<◌, ◌≤◌, ◌==◌, ◌&&◌, Bool, true, false, cond, max, min, [], Option, None, Some, refl, sym, ap, subst, arith, length, nat_lt, sum_by}
+use Rattle.std.proofs.lemmas.Bool.{cond_both, eqb-true, ltb-true}
 use Rattle.std.proofs.lemmas.Bool.Decides.{nat_tests}
 use Rattle.std.proofs.lemmas.List.Sums.{length-filter}
-use Rattle.space_model.specs.declared.Op.{Op}
-use Rattle.space_model.specs.declared.Reply.{Reply}
-use Rattle.space_model.specs.declared.Reply.TheVariants.{Nothing, Noted, Took, Grow, Cut, Refused as Refuse, Grown, Landed, Next as NextFlight, Beside, Purge, Joined, Regions, Limits, Taken, Lazy, Kept, Abandoned, Decommitted, Doomed, Owned}
-use Rattle.space_model.specs.declared.Space.{Space}
-use Rattle.space_model.specs.declared.Span.{Span}
-use Rattle.space_model.specs.Span.{max_series, end_of, same_span}
 use Rattle.space_model.specs.Part.{is_flight}
 use Rattle.space_model.specs.Flights.{flight, lost, won}
 use Rattle.space_model.specs.Step.{op_stands, step_of}
-use Rattle.space_model.specs.Sound.{Sound}
-use Rattle.space_model.specs.Own.{Mine, mine}
 use Rattle.space_model.proofs.Pieces.{both_true}
 use Rattle.space_model.proofs.Steps.{op_keeps}
-use Rattle.hook_api.specs.Asked.{AskFacts}
-use Rattle.call_table.specs.declared.needs.Item.TheVariants.{Replied, Told, Starved}
-use Rattle.call_table.specs.declared.points.Wish.{Wish}
-use Rattle.call_table.specs.declared.points.Later.{Later}
-use Rattle.call_table.specs.declared.points.Later.TheVariants.{Answers, DirtyToo}
-use Rattle.call_table.specs.declared.points.Then.{Then}
-use Rattle.call_table.specs.declared.points.Then.TheVariants.{Batches, Visiting}
-use Rattle.call_table.specs.declared.points.Change.{Change}
-use Rattle.call_table.specs.declared.points.Change.TheVariants.{Stops, Visits, Leaves}
-use Rattle.call_table.specs.declared.points.TurnPoint.{TurnPoint}
-use Rattle.call_table.specs.declared.points.TurnPoint.TheVariants.{Filling, Looking, Landing, Giving, Finding, Taking, Offering, Advancing, Changing, Making, Resetting, Destroying, Dooming, Publishing, Owning}
-use Rattle.call_table.specs.declared.points.AskPoint.{AskPoint}
-use Rattle.call_table.specs.declared.points.AskPoint.TheVariants.{Skipping, Trimming, Growing, Paring, Needing, Granting, Committing, Merging, Easing, Returning, Decommitting, Forcing}
-use Rattle.call_table.specs.declared.points.Point.TheVariants.{Turns, Asks, Tells}
-use Rattle.call_table.specs.declared.points.Next.{Next}
-use Rattle.call_table.specs.declared.points.Next.TheVariants.{Go, Nowhere}
+use Rattle.call_table.specs.Words.{Replied, Told, Starved, Op, Reply, Nothing, Noted, Took, Grow, Cut, Refuse, Grown, Landed, NextFlight, Beside, Purge, Joined, Regions, LimitsAre as Limits, Taken, Lazy, Abandoned, Decommitted, Doomed, Owned, Space, Span, Sound, Mine, mine, AskFacts, max_series, end_of, same_span}
+use Rattle.call_table.specs.Words.{Wish, Later, Answers, Then, Batches, Visiting, Change, Stops, TurnPoint, Filling, Looking, Landing, Giving, Finding, Taking, Offering, Advancing, Changing, Making, Resetting, Destroying, Dooming, Publishing, Owning, AskPoint, Skipping, Trimming, Growing, Paring, Needing, Granting, Committing, Merging, Easing, Returning, Decommitting, Forcing, Turns, Asks, Tells, Next, Go}
 use Rattle.call_table.specs.Table.{is_marked, op_of, done_of, starved, turned, told, chunks_for, commit, trim, visited, onward, put_next, drop, limited, changed}
 use Rattle.call_table.specs.Knows.{Idle, KnowsTurn}
 use Rattle.call_table.specs.Laws.{Keeps, left, stages, with_found}
@@ -47,24 +24,20 @@ use Rattle.call_table.proofs.Steps.{never_starves, starved_keeps, steps-keep}
 abbrev pub Most : ℕ → ℕ → Next → Type 0
 Most g n next = needed_next g next ≤ n
 
-chosen : (g n : ℕ) (v : Bool) (x y : Next) → Most g n x → Most g n y → Most g n (cond v x y)
-chosen g n true x y one other = one
-chosen g n false x y one other = other
-
 commit_most : (g n : ℕ) (wish : Wish) (span : Span) (b : Bool) → 2 ≤ n → Most g n (commit wish span b)
 commit_most g n wish span true some = omega (arith, some)
 commit_most g n wish span false some = some
 
 trim_most : (g n : ℕ) (wish : Wish) (span : Span) (b : Bool) → 5 ≤ n → Most g n (trim wish span b)
-trim_most g n wish span b some = chosen g n (nat_lt wish.pages span.pages) _ _ some (commit_most g n wish span b (omega (arith, some)))
+trim_most g n wish span b some = cond_both (nat_lt wish.pages span.pages) _ _ (Most g n) (λ _. some) (λ _. commit_most g n wish span b (omega (arith, some)))
 
 visited_most : (g n : ℕ) (later : Later) → Most g n (visited later)
 visited_most g n (Answers given) = omega arith
-visited_most g n (DirtyToo keep given) = omega arith
+visited_most g n later = omega arith
 
 onward_most : (g n : ℕ) (later : Then) → Most g n (onward later)
 onward_most g n Batches = omega arith
-onward_most g n (Visiting visit left) = chosen g n (left == 0) _ _ (visited_most g n visit.later) (omega arith)
+onward_most g n (Visiting visit left) = cond_both (left == 0) _ _ (Most g n) (λ _. visited_most g n visit.later) (λ _. omega arith)
 
 drop_most : (g n : ℕ) (span : Span) (lazy : Bool) (later : Then) → 16 * (g - 1) + 10 ≤ n → Most g n (drop span lazy later)
 drop_most g n span true later some = some
@@ -77,54 +50,32 @@ put_most g n later (Some span) some = omega (arith, some)
 limited_most : (g n : ℕ) (dirty muzzy : Option ℕ) → Most g n (limited dirty muzzy)
 limited_most g n None None = omega arith
 limited_most g n (Some d) None = omega arith
-limited_most g n None (Some m) = omega arith
-limited_most g n (Some d) (Some m) = omega arith
+limited_most g n dirty muzzy = omega arith
 
 changed_most : (g n : ℕ) (change : Change) → Most g n (changed change)
 changed_most g n Stops = omega arith
-changed_most g n (Visits visit) = omega arith
-changed_most g n (Leaves arena) = omega arith
+changed_most g n change = omega arith
 
 -- ---- a turn that takes memory
 
 -- behind a turn that takes memory come at most 16 turns without by each extent in flight, and 16 where there is none
 marked_most : (g : ℕ) (point : TurnPoint) (reply : Reply) → is_marked (op_of point) ≡ true → Most g (16 * max 1 g) (turned point reply)
-marked_most g (Filling wish count) (Regions (addr ∷ addrs)) may = omega arith
-marked_most g (Filling wish count) reply may = other reply
-  where
-    other : (reply : Reply) → Most g (16 * max 1 g) (turned (Filling wish count) reply)
-    other (Regions []) = omega arith
-    other (Regions (addr ∷ addrs)) = omega arith
-    other reply = omega arith
-marked_most g (Looking wish) (Took span b skip) may = chosen g _ (nat_lt 0 skip) _ _ (omega arith) (trim_most g _ wish span b (omega arith))
-marked_most g (Looking wish) (Grow series) may = chosen g _ (nat_lt (chunks_for wish.pages) (min series max_series)) _ _ (omega arith) (omega arith)
-marked_most g (Looking wish) reply may = omega arith
+marked_most g (Filling wish count) (Regions []) may = omega arith
+marked_most g (Looking wish) (Took span b skip) may = cond_both (nat_lt 0 skip) _ _ (Most g _) (λ _. omega arith) (λ _. trim_most g _ wish span b (omega arith))
+marked_most g (Looking wish) (Grow series) may = cond_both (nat_lt (chunks_for wish.pages) (min series max_series)) _ _ (Most g _) (λ _. omega arith) (λ _. omega arith)
 marked_most g (Giving addrs) (NextFlight next) may = put_most g _ Batches next (omega arith)
-marked_most g (Giving addrs) reply may = omega arith
 marked_most g (Taking visit n) (Taken span lazy listed) may = drop_most g _ span lazy _ (omega arith)
 marked_most g (Taking visit n) Nothing may = visited_most g _ visit.later
-marked_most g (Taking visit n) reply may = omega arith
 marked_most g (Advancing now) (Limits dirty muzzy) may = limited_most g _ dirty muzzy
-marked_most g (Advancing now) reply may = omega arith
 marked_most g (Changing setting change) Noted may = changed_most g _ change
-marked_most g (Changing setting change) reply may = omega arith
-marked_most g (Making index setting) Nothing may = chosen g _ (nat_lt index 31) _ _ (omega arith) (omega arith)
-marked_most g (Making index setting) reply may = omega arith
+marked_most g (Making index setting) Nothing may = cond_both (nat_lt index 31) _ _ (Most g _) (λ _. omega arith) (λ _. omega arith)
 marked_most g (Resetting cached) (Purge lazy) may = omega arith
-marked_most g (Resetting cached) reply may = omega arith
 marked_most g (Destroying cached) Noted may = omega arith
-marked_most g (Destroying cached) reply may = omega arith
 marked_most g Dooming (Doomed span b) may = omega arith
-marked_most g Dooming reply may = omega arith
 marked_most g (Publishing addr) Noted may = omega arith
-marked_most g (Publishing addr) reply may = omega arith
 marked_most g (Owning addr true past) (Owned class) may = omega arith
-marked_most g (Owning addr false past) (Owned class) may = omega arith
 marked_most g (Owning addr frees past) Nothing may = omega arith
-marked_most g (Owning addr frees past) reply may = omega arith
-marked_most g (Landing wish span) reply may = absurd (cc)
-marked_most g (Finding own tries fresh later) reply may = absurd (cc)
-marked_most g (Offering span later) reply may = absurd (cc)
+marked_most g point reply may = first_of (omega arith, cc)
 
 -- ---- a turn that takes none
 
@@ -138,92 +89,63 @@ put_spends g n later None has much some = let none = onward_most g 0 later in om
 put_spends g n later (Some span) has much some = let all = much has in omega (arith, all, has)
 
 looks_some : (tries : ℕ) → 1 ≤ looks_to_come tries
-looks_some tries = elim (tries == 0) as (λ v. 1 ≤ cond v 5 (cond (tries == 1) 3 1)) [ true ↦ omega arith | false ↦ elim (tries == 1) as (λ v. 1 ≤ cond v 3 1) [ true ↦ omega arith | false ↦ omega arith ] ]
+looks_some tries = grind (arith, nat_tests)
 
 looks_early : (tries : ℕ) → tries < 2 → 3 ≤ looks_to_come tries
-looks_early tries early = elim (tries == 0) as (λ v. (tries == 0) ≡ v → 3 ≤ cond v 5 (cond (tries == 1) 3 1)) [
-  | true ↦ λ h. omega arith
-  | false ↦ λ h. elim (tries == 1) as (λ v. (tries == 1) ≡ v → 3 ≤ cond v 3 1) [ true ↦ λ k. omega arith | false ↦ λ k. absurd (grind (arith, nat_tests)) ] refl
-] refl
+looks_early tries early = grind (arith, nat_tests)
 
 found_spends : (f g : ℕ) (own : Span) (tries : ℕ) (fresh : Bool) (later : Then) (found : Option ℕ) (c : ℕ) (s : Space) (reply : Reply) →
     g + lost (with_found found (op_of (Finding own tries fresh later))) reply ≡ f + won c s (with_found found (op_of (Finding own tries fresh later))) reply →
     HasNext g (turned (Finding own tries fresh later) reply) → 0 < f → needed_next g (turned (Finding own tries fresh later) reply) + 1 ≤ needed_turn f (Finding own tries fresh later)
 found_spends f g own tries fresh later found c s (Beside other) e has some =
-    elim (tries == 0 && other.first == end_of own) as (λ v. (tries == 0 && other.first == end_of own) ≡ v →
-    needed_next g (cond v (Go (Asks (Merging own other true fresh later) None)) (cond (nat_lt tries 2) (Go (Asks (Merging other own false fresh later) None)) Nowhere)) + 1 ≤ needed_turn f (Finding own tries fresh later)) [
-      | true ↦ λ h.
-          let first : tries ≡ 0 = eqb-true _ _ (both_true (tries == 0) _ h).0 in
-          let all : looks_to_come tries ≡ 5 = ap looks_to_come first in
-          omega (arith, all, e, some)
-      | false ↦ λ h. elim (nat_lt tries 2) as (λ w. nat_lt tries 2 ≡ w → needed_next g (cond w (Go (Asks (Merging other own false fresh later) None)) Nowhere) + 1 ≤ needed_turn f (Finding own tries fresh later)) [
-        | true ↦ λ k. omega (arith, looks_early tries (ltb-true _ _ k), e, some)
-        | false ↦ λ k. omega (arith, looks_some tries)
-      ] refl
-    ] refl
+    cond_both (tries == 0 && other.first == end_of own) _ _ (λ next. needed_next g next + 1 ≤ needed_turn f (Finding own tries fresh later))
+    (λ h. let all : looks_to_come tries ≡ 5 = ap looks_to_come (eqb-true _ _ (both_true (tries == 0) _ h).0) in omega (arith, all, e, some))
+    (λ _. cond_both (nat_lt tries 2) _ _ (λ next. needed_next g next + 1 ≤ needed_turn f (Finding own tries fresh later))
+    (λ k. omega (arith, looks_early tries (ltb-true _ _ k), e, some)) (λ _. omega (arith, looks_some tries)))
 found_spends f g own tries fresh later found c s (NextFlight next) e has some =
     put_spends g _ later next has (λ more. omega (arith, e, more, looks_some tries)) (omega (arith, looks_some tries))
 found_spends f g own tries true later found c s (Purge lazy) e has some =
     let most = drop_most g (16 * (g - 1) + 10) own lazy later (omega arith) in omega (arith, e, most, looks_some tries)
-found_spends f g own tries false later found c s (Purge lazy) e has some = omega (arith, looks_some tries)
 found_spends f g own tries fresh later found c s reply e has some = omega (arith, looks_some tries)
 
 turned_spends : (f g : ℕ) (point : TurnPoint) (found : Option ℕ) (c : ℕ) (s : Space) (reply : Reply) → is_marked (op_of point) ≡ false →
     g + lost (with_found found (op_of point)) reply ≡ f + won c s (with_found found (op_of point)) reply →
     HasNext g (turned point reply) → HasNext f (Go (Turns point)) → needed_next g (turned point reply) + 1 ≤ needed_turn f point
 turned_spends f g (Landing wish span) found c s (Landed first count) may e has some = omega arith
-turned_spends f g (Landing wish span) found c s reply may e has some = omega arith
 turned_spends f g (Finding own tries fresh later) found c s reply may e has some = found_spends f g own tries fresh later found c s reply e has some
 turned_spends f g (Offering span later) found c s Noted may e has some = omega (arith, e)
-turned_spends f g (Offering span later) found c s reply may e has some = omega arith
-turned_spends f g point found c s reply may e has some = absurd (cc)
+turned_spends f g point found c s reply may e has some = first_of (omega arith, cc)
 
 told_spends : (f g : ℕ) (point : AskPoint) (asked : AskFacts) (found : Option ℕ) (c : ℕ) (s : Space) (reply : Reply) →
     g + lost (with_found found (done_of point asked)) reply ≡ f + won c s (with_found found (done_of point asked)) reply →
     HasNext g (told point asked reply) → needed_next g (told point asked reply) + 1 ≤ needed_ask f point
 told_spends f g (Skipping wish span b skip) asked found c s (Cut high) e has = let most = trim_most g 5 wish high b (omega arith) in omega (arith, most)
-told_spends f g (Skipping wish span b skip) asked found c s reply e has = omega arith
 told_spends f g (Trimming wish span b) asked found c s (Cut low) e has = let most = commit_most g 2 wish low b (omega arith) in omega (arith, most)
-told_spends f g (Trimming wish span b) asked found c s reply e has = omega arith
 told_spends f g (Growing wish chunks) asked found c s Refuse e has = omega arith
-told_spends f g (Growing wish chunks) asked found c s (Grown span b) e has = omega arith
-told_spends f g (Growing wish chunks) asked found c s reply e has = omega arith
 told_spends f g (Paring wish span b) asked found c s (Cut low) e has = let most = commit_most g 2 wish low b (omega arith) in omega (arith, most)
-told_spends f g (Paring wish span b) asked found c s reply e has = omega arith
 told_spends f g (Needing wish) asked found c s (Grown span b) e has =
-    let most = chosen g 3 (nat_lt wish.pages span.pages) (Go (Asks (Granting wish span b) None)) (commit wish span b) (omega arith) (commit_most g 3 wish span b (omega arith)) in omega (arith, most)
-told_spends f g (Needing wish) asked found c s reply e has = omega arith
+    let most = cond_both (nat_lt wish.pages span.pages) (Go (Asks (Granting wish span b) None)) (commit wish span b) (Most g 3) (λ _. omega arith) (λ _. commit_most g 3 wish span b (omega arith)) in omega (arith, most)
 told_spends f g (Granting wish span b) asked found c s (Cut low) e has = let most = commit_most g 2 wish low b (omega arith) in omega (arith, most)
-told_spends f g (Granting wish span b) asked found c s reply e has = omega arith
 told_spends f g (Committing wish span) asked found c s Noted e has = omega arith
-told_spends f g (Committing wish span) asked found c s reply e has = omega arith
 told_spends f g (Merging low high true fresh later) asked found c s (Joined own) e has = omega (arith, e)
 told_spends f g (Merging low high false fresh later) asked found c s (Joined own) e has = omega (arith, e)
-told_spends f g (Merging low high own_low fresh later) asked found c s reply e has = omega arith
 told_spends f g (Easing span later) asked found c s (Lazy true) e has = omega (arith, e)
-told_spends f g (Easing span later) asked found c s (Lazy false) e has = omega (arith, e)
-told_spends f g (Easing span later) asked found c s reply e has = omega arith
 told_spends f g (Returning span later) asked found c s (NextFlight next) e has = put_spends g (16 * f + 8) later next has (λ more. omega (arith, e)) (omega arith)
 told_spends f g (Returning span later) asked found c s (Abandoned next) e has = put_spends g (16 * f + 8) later next has (λ more. omega (arith, e)) (omega arith)
-told_spends f g (Returning span later) asked found c s Kept e has = omega (arith, e)
-told_spends f g (Returning span later) asked found c s reply e has = omega arith
 told_spends f g (Decommitting span later) asked found c s (Decommitted true) e has = omega (arith, e)
-told_spends f g (Decommitting span later) asked found c s (Decommitted false) e has = omega (arith, e)
-told_spends f g (Decommitting span later) asked found c s reply e has = omega arith
 told_spends f g (Forcing span later) asked found c s Noted e has = omega (arith, e)
-told_spends f g (Forcing span later) asked found c s reply e has = omega arith
+told_spends f g point asked found c s reply e has = omega (arith, e)
 
 -- ---- the room
 
--- what a call knows where it goes on tells that an extent is in flight, if it is to put one down
-keeps_next : (c : ℕ) (t : Space) (stage bound : ℕ) (next : Next) → Keeps c t stage bound next → HasNext (flying (mine c t)) next
-keeps_next c t stage bound (Go (Turns (Finding own tries fresh later))) (knows, near) =
-    let flies = knows.1 in omega (arith, filter-fewer (λ q. same_span q.span own) (λ _. true) (mine c t).flights flies.part flies.found refl)
-keeps_next c t stage bound next keeps = tt
-
+-- what a call knows tells that an extent is in flight, if it is to put one down
 turn_flies : (m : Mine) (point : TurnPoint) → KnowsTurn m point → HasNext (flying m) (Go (Turns point))
 turn_flies m (Finding own tries fresh later) knows = let flies = knows.1 in omega (arith, filter-fewer (λ q. same_span q.span own) (λ _. true) m.flights flies.part flies.found refl)
 turn_flies m point knows = tt
+
+keeps_next : (c : ℕ) (t : Space) (stage bound : ℕ) (next : Next) → Keeps c t stage bound next → HasNext (flying (mine c t)) next
+keeps_next c t stage bound (Go (Turns point)) (knows, near) = turn_flies (mine c t) point knows
+keeps_next c t stage bound next keeps = tt
 
 -- so many are in flight after a turn
 flights_then : (c : ℕ) (s : Space) (op : Op) → Sound s → op_stands s c op ≡ true →
@@ -237,40 +159,13 @@ flights_then c s op sound stands =
 -- a turn that takes memory wins one extent at most, or as many as it empties
 won_few : (c : ℕ) (s : Space) (point : TurnPoint) (reply : Reply) → is_marked (op_of point) ≡ true → won c s (op_of point) reply ≤ max 1 (empties c (op_of point) s)
 won_few c s (Looking wish) (Took span b skip) may = omega arith
-won_few c s (Looking wish) reply may = omega arith
-won_few c s (Giving addrs) reply may = omega arith
 won_few c s (Taking visit n) (Taken span lazy listed) may = omega arith
-won_few c s (Taking visit n) reply may = omega arith
-won_few c s (Finding own tries fresh later) reply may = absurd (cc)
-won_few c s (Offering span later) reply may = absurd (cc)
-won_few c s (Landing wish span) reply may = absurd (cc)
-won_few c s (Filling wish count) reply may = omega arith
-won_few c s (Advancing now) reply may = omega arith
-won_few c s (Changing setting change) reply may = omega arith
-won_few c s (Making index setting) reply may = omega arith
-won_few c s (Resetting cached) reply may = omega arith
-won_few c s (Destroying cached) reply may = omega arith
-won_few c s Dooming reply may = omega arith
-won_few c s (Publishing addr) reply may = omega arith
-won_few c s (Owning addr frees past) reply may = omega arith
+won_few c s point reply may = first_of (omega arith, cc)
 
 -- an operation of a turn that takes in no answer carries no chunk that was found
 found_not : (found : Option ℕ) (point : TurnPoint) → with_found found (op_of point) ≡ op_of point
 found_not found (Filling wish count) = refl
-found_not found (Looking wish) = refl
-found_not found (Landing wish span) = refl
-found_not found (Giving addrs) = refl
-found_not found (Finding own tries fresh later) = refl
-found_not found (Taking visit n) = refl
-found_not found (Offering span later) = refl
-found_not found (Advancing now) = refl
-found_not found (Changing setting change) = refl
-found_not found (Making index setting) = refl
-found_not found (Resetting cached) = refl
-found_not found (Destroying cached) = refl
-found_not found Dooming = refl
-found_not found (Publishing addr) = refl
-found_not found (Owning addr frees past) = refl
+found_not found point = refl
 
 -- ---- the law
 

@@ -1,39 +1,25 @@
 -- Every turn that a call wants may stand.
-use Rattle.std.proofs.Common.{filter, ◌≡◌, ◌≢◌, ℕ, ◌*◌, ◌<◌, ◌≤◌, ◌==◌, ◌&&◌, ◌||◌, Bool, true, false, List, [], ◌∷◌, Option, None, Some, refl, sym, ◌∙◌, ap, subst, arith, length, lt-ltb, le-leb, eq-eqb}
+use Rattle.std.proofs.Common.{filter, ◌≡◌, ◌≢◌, ℕ, ◌*◌, ◌<◌, ◌≤◌, ◌==◌, ◌&&◌, Bool, true, false, List, [], ◌∷◌, Option, None, Some, refl, sym, ◌∙◌, ap, subst, arith, length, lt-ltb, le-leb, eq-eqb}
 use Rattle.std.specs.List.{list_any, list_all, count_by}
 use Rattle.std.specs.Bool.{beq}
+use Rattle.std.proofs.Math.Bool.{and_assoc}
 use Rattle.std.proofs.lemmas.List.Sums.{length-filter}
-use Rattle.size_classes.specs.Classes.{pages_at}
-use Rattle.space_model.specs.declared.Answer.{Answer}
-use Rattle.space_model.specs.declared.Answer.TheVariants.{Done, Refused as Refuses, Placed}
-use Rattle.space_model.specs.declared.Ask.TheVariants.{Split}
 use Rattle.space_model.specs.declared.Offered.{Offered}
 use Rattle.space_model.specs.declared.Op.TheVariants.{CutDone, GrowDone}
-use Rattle.space_model.specs.declared.Part.{Part}
 use Rattle.space_model.specs.declared.Region.{Region}
-use Rattle.space_model.specs.declared.Space.{Space}
-use Rattle.space_model.specs.declared.Span.{Span}
-use Rattle.space_model.specs.Span.{same_span}
 use Rattle.space_model.specs.Part.{is_flight}
 use Rattle.space_model.specs.Region.{is_held_by}
 use Rattle.space_model.specs.Ending.{reset_stands}
 use Rattle.space_model.specs.Purging.{is_offer}
 use Rattle.space_model.specs.Step.{op_stands, is_live, is_yes_or_no, is_range_or_no, holds_at}
-use Rattle.space_model.specs.Sound.{Sound}
-use Rattle.space_model.specs.Own.{mine}
-use Rattle.hook_api.specs.Asked.{AskFacts, heard_in}
-use Rattle.hook_api.specs.Hooks.{Answers as AnswersTo}
-use Rattle.call_table.specs.declared.points.Wish.{Wish}
-use Rattle.call_table.specs.declared.points.TurnPoint.{TurnPoint}
-use Rattle.call_table.specs.declared.points.TurnPoint.TheVariants.{Filling, Looking, Landing, Giving, Finding, Taking, Offering, Advancing, Changing, Making, Resetting, Destroying, Dooming, Publishing, Owning}
-use Rattle.call_table.specs.declared.points.AskPoint.{AskPoint}
-use Rattle.call_table.specs.declared.points.AskPoint.TheVariants.{Skipping, Trimming, Growing, Paring, Needing, Granting, Committing, Merging, Easing, Returning, Decommitting, Forcing}
-use Rattle.call_table.specs.declared.points.Point.TheVariants.{Turns, Asks, Tells}
+use Rattle.hook_api.specs.Asked.{heard_in}
+use Rattle.call_table.specs.Words.{Wish, TurnPoint, Filling, Looking, Landing, Giving, Finding, Taking, Offering, Advancing, Changing, Making, Resetting, Destroying, Dooming, Publishing, Owning, AskPoint, Skipping, Trimming, Growing, Paring, Needing, Granting, Committing, Merging, Easing, Returning, Decommitting, Forcing, Turns, Asks, Tells}
+use Rattle.call_table.specs.Words.{Split, Answer, Placed, Done, Refuses, Space, Part, Span, Sound, mine, AskFacts, pages_at, same_span, AnswersTo}
 use Rattle.call_table.specs.Table.{done_of, op_of, alloc_of, whole_chunks}
 use Rattle.call_table.specs.Knows.{Idle, Alone, HasOffered, Gets, KnowsAsk, KnowsTurn, Heard, is_held, is_served, in_flight}
 use Rattle.call_table.specs.Laws.{with_found, WantsStand}
-use Rattle.call_table.proofs.Lists.{none-any}
-use Rattle.call_table.proofs.Own.{any-both, flight_found, region_found, served, live_where}
+use Rattle.call_table.proofs.Lists.{any-both, none-any}
+use Rattle.call_table.proofs.Own.{flight_found, region_found, served, live_where}
 use Rattle.call_table.proofs.Getting.{span_itself, wish_some, alone_found}
 use Rattle.call_table.proofs.Powers.{power_max}
 
@@ -65,10 +51,6 @@ range_answer Done h = absurd (h refl)
 range_answer Refuses h = refl
 range_answer (Placed first b z) h = refl
 
-all-same : {X : Type 0} (f g : X → Bool) (xs : List X) → ((x : X) → f x ≡ g x) → list_all f xs ≡ list_all g xs
-all-same f g [] e = refl
-all-same f g (x ∷ xs) e = rw (e x) (ap (λ v. g x && v) (all-same f g xs e))
-
 none_in_flight : (c : ℕ) (s : Space) → Idle (mine c s) → list_any (λ p. is_flight c p.state) s.parts ≡ false
 none_in_flight c s idle = none-any (λ p. is_flight c p.state) s.parts idle.flights
 
@@ -87,7 +69,8 @@ turn_stands c s (Landing wish span) found sound (gets, alone, pages) =
     let same : span.pages ≡ pages_at wish.class = pages ∙ gets.is.pages in
     rw (live_alone c s span true sound alone, lt-ltb _ _ gets.is.class, lt-ltb _ _ gets.is.some, le-leb _ _ gets.is.fewer, eq-eqb _ _ same, alone_found c s span true alone, alone.committed) refl
 turn_stands c s (Giving addrs) found sound gives =
-    let held : list_all (holds_at c s.regions) addrs ≡ true = all-same (holds_at c s.regions) _ addrs (region_found c s.regions) ∙ gives.held in
+    let same : list_all (holds_at c s.regions) addrs ≡ list_all (is_held (mine c s)) addrs = λ i. list_all (λ addr. region_found c s.regions addr i) addrs in
+    let held : list_all (holds_at c s.regions) addrs ≡ true = same ∙ gives.held in
     rw (live_held c s addrs sound gives.some gives.held, lt-ltb _ _ gives.some, gives.rise, held) refl
 turn_stands c s (Finding own tries fresh later) found sound (look, flies, is) =
     rw (live_found c s own flies.part sound flies.found, lt-ltb _ _ look, flight_found c own s.parts, flies.found) refl
@@ -120,15 +103,8 @@ live_offered c s span sound has = live_where c s sound (λ none. absurd (let e :
 
 -- an offer is found among the client's
 offer_found : (c : ℕ) (span : Span) (offers : List Offered) → list_any (is_offer c span true) offers ≡ list_any (λ (o : Offered). same_span o.span span && beq o.committed true) (filter (λ (o : Offered). o.client == c) offers)
-offer_found c span offers = any-same (is_offer c span true) _ offers (λ o. and_assoc (o.client == c) (same_span o.span span) (beq o.committed true)) ∙ any-both (λ (o : Offered). o.client == c) (λ o. same_span o.span span && beq o.committed true) offers
-  where
-    and_assoc : (a b d : Bool) → (a && b && d) ≡ (a && (b && d))
-    and_assoc true b d = refl
-    and_assoc false b d = refl
-
-    any-same : (f g : Offered → Bool) (xs : List Offered) → ((x : Offered) → f x ≡ g x) → list_any f xs ≡ list_any g xs
-    any-same f g [] e = refl
-    any-same f g (x ∷ xs) e = rw (e x) (ap (λ v. g x || v) (any-same f g xs e))
+offer_found c span offers =
+    (λ i. list_any (λ (o : Offered). and_assoc (o.client == c) (same_span o.span span) (beq o.committed true) i) offers) ∙ any-both (λ (o : Offered). o.client == c) (λ o. same_span o.span span && beq o.committed true) offers
 
 offer_stands_at : (c : ℕ) (s : Space) (span : Span) → HasOffered (mine c s) span → list_any (is_offer c span true) s.offers ≡ true
 offer_stands_at c s span has =

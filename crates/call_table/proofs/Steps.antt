@@ -1,52 +1,27 @@
 -- Whatever comes of what a call wants leads on.
-use Rattle.std.proofs.Common.{add-zero, append-nil, inl, inr, fold, take, drop, filter, ◌++◌, ◌≡◌, ℕ, ◌+◌, ◌-◌, ◌*◌, ◌<◌, ◌==◌, ◌&&◌, Bool, true, false, not, cond, List, [], ◌∷◌, Option, None, Some, refl, sym, ◌∙◌, ap, subst, arith, max, length, find, ltb as nat_lt}
+use Rattle.std.proofs.Common.{rules, add-zero, append-nil, inl, inr, fold, take, drop, filter, ◌++◌, ◌≡◌, ℕ, ◌+◌, ◌-◌, ◌*◌, ◌<◌, ◌==◌, ◌&&◌, Bool, true, false, not, cond, List, [], ◌∷◌, Option, None, Some, refl, sym, ◌∙◌, ap, subst, arith, max, length, find, ltb as nat_lt}
 use Rattle.std.specs.List.{position_or_len}
 use Rattle.std.proofs.lemmas.List.Elements.{filter-append}
-use Rattle.std.proofs.lemmas.Bool.{ltb-true}
+use Rattle.std.proofs.lemmas.Bool.{cond_both, ltb-true}
 use Rattle.std.proofs.lemmas.List.{take-append-drop}
-use Rattle.space_model.specs.declared.Ask.TheVariants.{Split}
-use Rattle.space_model.specs.declared.Part.{Part}
 use Rattle.space_model.specs.declared.Region.{Region}
-use Rattle.space_model.specs.declared.Reply.{Reply}
-use Rattle.space_model.specs.declared.Reply.TheVariants.{NoArena, Nothing, Noted, Purge, Doomed, Busy as InUse}
-use Rattle.space_model.specs.declared.Rest.{Rest}
-use Rattle.space_model.specs.declared.Rest.TheVariants.{Dirty as ToDirty, Retained as ToRetained}
-use Rattle.space_model.specs.declared.Setting.{Setting}
-use Rattle.space_model.specs.declared.Setting.TheVariants.{DirtyMs, MuzzyMs, HookBox, Bind, Unbind, GrowLimit, Live as MakeLive}
-use Rattle.space_model.specs.declared.Space.{Space}
-use Rattle.space_model.specs.declared.Span.{Span}
 use Rattle.space_model.specs.Part.{is_active, is_listed, is_flight, begins_at, moved_to, placed, turned as turned_parts, turned_in_order}
-use Rattle.space_model.specs.Purging.{after_lazy, after_offer, after_decommit}
 use Rattle.space_model.specs.Stepped.{Stepped, stays, replaced, is_live, if_live, is_lazy, is_dirty_time_over}
-use Rattle.space_model.specs.Slabs.{fill_at, lowest_free}
 use Rattle.space_model.specs.Pace.{after_advance, advance_all}
-use Rattle.space_model.specs.Opening.{new_pace}
-use Rattle.space_model.specs.Settings.{after_set, setting_stands, with_client, without_client, is_absent, made_live}
+use Rattle.space_model.specs.Settings.{after_set, setting_stands, is_absent}
 use Rattle.space_model.specs.Holding.{take_over_at, is_published_at}
 use Rattle.space_model.specs.Ending.{held_count, flight_count, if_free, after_reset, emptied, after_destroy, ended, doom_at}
-use Rattle.space_model.specs.Step.{step_of, after_cut, after_grow, after_commit, after_merge}
-use Rattle.space_model.specs.Sound.{Sound}
-use Rattle.space_model.specs.Own.{mine}
-use Rattle.hook_api.specs.Asked.{AskFacts}
-use Rattle.hook_api.specs.Hooks.{Answers as AnswersTo}
-use Rattle.call_table.specs.declared.needs.Item.TheVariants.{Replied, Told, Starved}
-use Rattle.call_table.specs.declared.points.Wish.{Wish}
-use Rattle.call_table.specs.declared.points.TurnPoint.{TurnPoint}
-use Rattle.call_table.specs.declared.points.TurnPoint.TheVariants.{Filling, Looking, Landing, Giving, Finding, Taking, Offering, Advancing, Changing, Making, Resetting, Destroying, Dooming, Publishing, Owning}
-use Rattle.call_table.specs.declared.points.AskPoint.{AskPoint}
-use Rattle.call_table.specs.declared.points.AskPoint.TheVariants.{Skipping, Trimming, Growing, Paring, Needing, Granting, Committing, Merging, Easing, Returning, Decommitting, Forcing}
-use Rattle.call_table.specs.declared.points.Point.TheVariants.{Turns, Asks, Tells}
-use Rattle.call_table.specs.declared.points.Next.{Next}
-use Rattle.call_table.specs.declared.points.Next.TheVariants.{Go, Over, Gone, Ends}
-use Rattle.call_table.specs.declared.needs.Answered.TheVariants.{Busy, ArenasFull}
-use Rattle.call_table.specs.declared.points.Change.{Change}
-use Rattle.call_table.specs.declared.points.Change.TheVariants.{Stops, Visits, Leaves}
-use Rattle.call_table.specs.Table.{turned, starved, is_marked, told, done_of, op_of, whole_chunks, limited, changed, make_next, skipped, trimmed, grown, needed, granted, committed, merged, eased, returned, decommitted}
+use Rattle.space_model.specs.Step.{step_of, after_cut}
+use Rattle.space_model.proofs.Pieces.{put_down-nobody}
+use Rattle.space_model.proofs.Moves.{itself}
+use Rattle.call_table.specs.Words.{Replied, Told, Starved, Busy, Split, Answer, Reply, NoArena, Noted, Purge, Doomed, InUse, Rest, ToDirty, ToRetained, Setting, MakeLive, Space, Part, Span, Sound, mine, AskFacts, fill_at, lowest_free, AnswersTo}
+use Rattle.call_table.specs.Words.{Wish, Change, Stops, Visits, Leaves, TurnPoint, Filling, Looking, Landing, Giving, Finding, Taking, Offering, Advancing, Changing, Making, Resetting, Destroying, Dooming, Publishing, Owning, AskPoint, Skipping, Trimming, Growing, Paring, Needing, Granting, Committing, Merging, Easing, Returning, Decommitting, Forcing, Turns, Asks, Tells, Next, Go, Gone, Ends}
+use Rattle.call_table.specs.Table.{ask_of, turned, starved, is_marked, told, done_of, op_of, whole_chunks, limited, changed, make_next, skipped, trimmed, grown, needed, granted, committed}
 use Rattle.call_table.specs.Knows.{Idle, Alone, Gets, KnowsAsk, KnowsTurn, Heard, IsChange, is_of_arena}
-use Rattle.call_table.specs.Laws.{with_found, Keeps, stages_turn, stages_ask, stages_then, stages_change, left, left_ask, flights_of, StepsKeep}
+use Rattle.call_table.specs.Laws.{with_found, Keeps, stages_turn, stages_ask, stages_change, left, left_ask, flights_of, StepsKeep}
 use Rattle.call_table.proofs.Lists.{filter-fewer}
 use Rattle.call_table.proofs.Own.{flight_found}
-use Rattle.call_table.proofs.Getting.{Onto, kept_span, cut_onto, commit_onto, alloc_onto, look_onto, land_onto, commit_goes, grant_goes, trim_goes, gets_kept, replaced_idle, begins_itself, client_itself, down_is_listed}
+use Rattle.call_table.proofs.Getting.{Onto, kept_span, cut_onto, commit_onto, alloc_onto, look_onto, land_onto, commit_goes, grant_goes, trim_goes, gets_kept, replaced_idle, begins_itself}
 use Rattle.call_table.proofs.Putting.{merge_onto, back_onto, put_onto}
 use Rattle.call_table.proofs.Dropping.{lazy_onto, offer_onto, return_onto, decommit_onto, forced_onto, take_onto}
 
@@ -61,7 +36,7 @@ moved_flies_not c r (p ∷ ps) done none =
     (let flies : Part → Bool = λ q. is_flight c q.state in
     let i : ℕ = position_or_len (λ q. nat_lt (moved_to r p).span.first q.span.first) done in
     filter-append flies (take i done) (moved_to r p ∷ drop i done)
-    ∙ ap (λ (v : Bool). filter flies (take i done) ++ cond v (moved_to r p ∷ filter flies (drop i done)) (filter flies (drop i done))) (down_is_listed c r)
+    ∙ ap (λ (v : Bool). filter flies (take i done) ++ cond v (moved_to r p ∷ filter flies (drop i done)) (filter flies (drop i done))) (put_down-nobody c r)
     ∙ sym (filter-append flies (take i done) (drop i done)) ∙ ap (filter flies) (take-append-drop i done) ∙ none)
 
 -- where the client had nothing in flight, it has nothing after extents were moved to a list
@@ -75,8 +50,7 @@ fill_keeps c s wish count (addr ∷ addrs) gets idle = record { flights = idle.f
 limited_goes : (c : ℕ) (t : Space) (bound : ℕ) (dirty muzzy : Option ℕ) → Idle (mine c t) → Keeps c t 4 bound (limited dirty muzzy)
 limited_goes c t bound None None idle = idle
 limited_goes c t bound (Some d) None idle = ((idle, refl, tt), inl (omega arith))
-limited_goes c t bound None (Some m) idle = ((idle, refl, tt), inl (omega arith))
-limited_goes c t bound (Some d) (Some m) idle = ((idle, refl, tt), inl (omega arith))
+limited_goes c t bound dirty muzzy idle = ((idle, refl, tt), inl (omega arith))
 
 -- a step that only a live arena makes keeps what it keeps, and else the call ends
 live_keeps : (c : ℕ) (s : Space) (f : Reply → Next) (stage bound : ℕ) (u : Stepped) → f NoArena ≡ Gone → Idle (mine c s) → Onto c f stage bound u → Onto c f stage bound (if_live s u)
@@ -98,28 +72,18 @@ noted_keeps c s t setting change idle is still = live_keeps c s (turned (Changin
 
 set_keeps : (c : ℕ) (s : Space) (setting : Setting) (change : Change) → Idle (mine c s) → IsChange change → is_of_arena setting ≡ true →
     Onto c (turned (Changing setting change)) (stages_change change) 0 (after_set s c setting)
-set_keeps c s (DirtyMs ms now) change idle is of = noted_keeps c s (record s { dirty = new_pace ms now }) (DirtyMs ms now) change idle is (record { flights = idle.flights; offers = idle.offers })
-set_keeps c s (MuzzyMs ms now) change idle is of = noted_keeps c s (record s { muzzy = new_pace ms now }) (MuzzyMs ms now) change idle is (record { flights = idle.flights; offers = idle.offers })
-set_keeps c s (HookBox box_no) change idle is of = noted_keeps c s (record s { box_no = box_no }) (HookBox box_no) change idle is (record { flights = idle.flights; offers = idle.offers })
-set_keeps c s Bind change idle is of = noted_keeps c s (record s { bound = with_client c s.bound }) Bind change idle is (record { flights = idle.flights; offers = idle.offers })
-set_keeps c s Unbind change idle is of = noted_keeps c s (record s { bound = without_client c s.bound }) Unbind change idle is (record { flights = idle.flights; offers = idle.offers })
-set_keeps c s (GrowLimit chunks) change idle is of = noted_keeps c s (record s { grow_limit = chunks }) (GrowLimit chunks) change idle is (record { flights = idle.flights; offers = idle.offers })
 set_keeps c s (MakeLive box_no dirty_ms muzzy_ms now) change idle is of = absurd (cc)
+set_keeps c s setting change idle is of = noted_keeps c s _ setting change idle is (record { flights = idle.flights; offers = idle.offers })
 
 next_made : (c : ℕ) (s : Space) (index : ℕ) (setting : Setting) → Idle (mine c s) → setting_stands setting ≡ true → is_of_arena setting ≡ false → Keeps c s (31 - index) 0 (make_next index setting)
 next_made c s index setting idle stands of =
-    elim (nat_lt index 31) as (λ v. nat_lt index 31 ≡ v → Keeps c s (31 - index) 0 (cond v (Over (index + 1) (Turns (Making (index + 1) setting))) (Ends ArenasFull))) [
-      | true ↦ λ h. (idle, (λ m still. (still, stands, of)), let below : index < 31 = ltb-true _ _ h in omega arith)
-      | false ↦ λ h. idle
-    ] refl
+    cond_both (nat_lt index 31) _ _ (Keeps c s (31 - index) 0) (λ h. (idle, (λ m still. (still, stands, of)), let below : index < 31 = ltb-true _ _ h in omega arith)) (λ h. idle)
 
 make_keeps : (c : ℕ) (s : Space) (index : ℕ) (setting : Setting) → Idle (mine c s) → setting_stands setting ≡ true → is_of_arena setting ≡ false →
     Onto c (turned (Making index setting)) (31 - index) 0 (after_set s c setting)
 make_keeps c s index (MakeLive box_no dirty_ms muzzy_ms now) idle stands of =
-    elim (is_absent s.life) as (λ v. Onto c (turned (Making index (MakeLive box_no dirty_ms muzzy_ms now))) (31 - index) 0 (cond v (stays (made_live s box_no dirty_ms muzzy_ms now) Noted) (stays s Nothing))) [
-      | true ↦ record { flights = idle.flights; offers = idle.offers }
-      | false ↦ next_made c s index (MakeLive box_no dirty_ms muzzy_ms now) idle stands of
-    ]
+    cond_both (is_absent s.life) _ _ (Onto c (turned (Making index (MakeLive box_no dirty_ms muzzy_ms now))) (31 - index) 0) (λ _. record { flights = idle.flights; offers = idle.offers })
+    (λ _. next_made c s index (MakeLive box_no dirty_ms muzzy_ms now) idle stands of)
 make_keeps c s index setting idle stands of = absurd (cc)
 
 -- a step that only an arena makes which is in nobody's use
@@ -139,7 +103,7 @@ destroy_keeps : (c : ℕ) (s : Space) (cached : ℕ) → Idle (mine c s) → Ont
 destroy_keeps c s cached idle =
     let still : Idle (mine c (ended s c).after) = record { flights = moved_idle c s ToRetained (λ p. not (is_listed ToRetained p.state)) idle; offers = idle.offers } in
     live_keeps c s (turned (Destroying cached)) 1 0 _ refl idle (free_keeps c s (turned (Destroying cached)) 1 0 (held_count s c cached) (flight_count s c) (length s.bound) (ended s c) refl idle
-    ((still, client_itself c), inl (omega arith)))
+    ((still, itself c), inl (omega arith)))
 
 doom_keeps : (c : ℕ) (s : Space) (parts : List Part) → s.parts ≡ parts → Idle (mine c s) → (mine c s).dying ≡ true → Onto c (turned Dooming) 0 (2 * length s.parts + 1) (doom_at s parts)
 doom_keeps c s [] e idle dying = record { flights = idle.flights; offers = idle.offers }
@@ -157,13 +121,12 @@ own_keeps c s addr true past (Some r) idle = record { flights = idle.flights; of
 own_keeps c s addr false past (Some r) idle = record { flights = idle.flights; offers = idle.offers }
 
 -- the answer to a split behind the run, or of a grant of more chunks than are needed
-trim_keeps : (c : ℕ) (s : Space) (wish : Wish) (span : Span) (b : Bool) (asked : AskFacts) → Gets (mine c s) wish → Alone (mine c s) span b →
-    asked.ask ≡ Split span wish.pages → AnswersTo (Split span wish.pages) asked.answer → Onto c (trimmed wish b) 0 8 (after_cut s c true asked.ask asked.answer)
-trim_keeps c s wish span b asked gets alone is kind =
-    subst (λ a. Onto c (trimmed wish b) 0 8 (after_cut s c true a asked.answer)) (sym is)
-    (cut_onto c s (trimmed wish b) 8 true span wish.pages b asked.answer alone kind
+trim_keeps : (c : ℕ) (s : Space) (wish : Wish) (span : Span) (b : Bool) (answer : Answer) → Gets (mine c s) wish → Alone (mine c s) span b → AnswersTo (Split span wish.pages) answer →
+    Onto c (trimmed wish b) 0 8 (after_cut s c true (Split span wish.pages) answer)
+trim_keeps c s wish span b answer gets alone kind =
+    cut_onto c s (trimmed wish b) 8 true span wish.pages b answer alone kind
     (λ t e kept. commit_goes c t 8 wish (kept_span true wish.pages span) b (gets_kept c s t wish gets e) kept refl (omega arith))
-    (λ t e idle. (((gets_kept c s t wish gets e, idle), tt), inr (refl, omega arith))))
+    (λ t e idle. (((gets_kept c s t wish gets e, idle), tt), inr (refl, omega arith)))
 
 -- ---- what a step keeps
 
@@ -187,83 +150,57 @@ turn_keeps c s Dooming found sound (idle, dying) = doom_keeps c s s.parts refl i
 turn_keeps c s (Publishing addr) found sound (idle, held) = record { flights = idle.flights; offers = idle.offers }
 turn_keeps c s (Owning addr frees past) found sound idle = live_keeps c s (turned (Owning addr frees past)) 0 0 _ refl idle (own_keeps c s addr frees past (find (is_published_at addr) s.regions) idle)
 
-ask_keeps : (c : ℕ) (s : Space) (point : AskPoint) (asked : AskFacts) (found : Option ℕ) → Sound s → KnowsAsk (mine c s) point → Heard point (Some asked) →
-    Onto c (told point asked) (stages_ask point) (left_ask (flights_of c s) point) (step_of s c (with_found found (done_of point asked)))
-ask_keeps c s (Skipping wish span b skip) asked found sound (gets, alone, some, holds) (is, kind) =
-    subst (λ a. Onto c (skipped wish b) 0 10 (after_cut s c false a asked.answer)) (sym is)
-    (cut_onto c s (skipped wish b) 10 false span skip b asked.answer alone kind
+-- what is so of an ask that is the point's own is so of the ask that was heard
+abbrev asked_at : AskPoint → AskFacts → AskFacts
+asked_at point asked = record asked { ask = ask_of point }
+
+ask_keeps : (c : ℕ) (s : Space) (point : AskPoint) (asked : AskFacts) (found : Option ℕ) → Sound s → KnowsAsk (mine c s) point → AnswersTo (ask_of point) asked.answer →
+    Onto c (told point (asked_at point asked)) (stages_ask point) (left_ask (flights_of c s) point) (step_of s c (with_found found (done_of point (asked_at point asked))))
+ask_keeps c s (Skipping wish span b skip) asked found sound (gets, alone, some, holds) kind =
+    cut_onto c s (skipped wish b) 10 false span skip b asked.answer alone kind
     (λ t e kept. trim_goes c t 10 wish (kept_span false skip span) b (gets_kept c s t wish gets e) kept (omega arith) (omega arith))
-    (λ t e idle. (((gets_kept c s t wish gets e, idle), tt), inr (refl, omega arith))))
-ask_keeps c s (Trimming wish span b) asked found sound (gets, alone, more) (is, kind) = trim_keeps c s wish span b asked gets alone is kind
-ask_keeps c s (Growing wish chunks) asked found sound (gets, idle, more) (is, kind) =
-    subst (λ a. Onto c (grown wish chunks asked.answer) 0 10 (after_grow s c found a asked.answer)) (sym is)
-    (alloc_onto c s (grown wish chunks asked.answer) 10 found (chunks * 512) (max 512 wish.align) asked.answer idle kind
+    (λ t e idle. (((gets_kept c s t wish gets e, idle), tt), inr (refl, omega arith)))
+ask_keeps c s (Trimming wish span b) asked found sound (gets, alone, more) kind = trim_keeps c s wish span b asked.answer gets alone kind
+ask_keeps c s (Growing wish chunks) asked found sound (gets, idle, more) kind =
+    alloc_onto c s (grown wish chunks asked.answer) 10 found (chunks * 512) (max 512 wish.align) asked.answer idle kind
     (λ t e none. (((gets_kept c s t wish gets e, none), tt), inr (refl, omega arith)))
     (λ t e none why. none)
-    (λ t e span b pages alone. (((gets_kept c s t wish gets e, alone, omega (arith, pages, more)), tt), inr (refl, omega arith))))
-ask_keeps c s (Paring wish span b) asked found sound (gets, alone, more) (is, kind) = trim_keeps c s wish span b asked gets alone is kind
-ask_keeps c s (Needing wish) asked found sound (gets, idle) (is, kind) =
-    subst (λ a. Onto c (needed wish asked) 0 6 (after_grow s c found a asked.answer)) (sym is)
-    (alloc_onto c s (needed wish asked) 6 found (whole_chunks wish.pages) (max 512 wish.align) asked.answer idle kind
+    (λ t e span b pages alone. (((gets_kept c s t wish gets e, alone, omega (arith, pages, more)), tt), inr (refl, omega arith)))
+ask_keeps c s (Paring wish span b) asked found sound (gets, alone, more) kind = trim_keeps c s wish span b asked.answer gets alone kind
+ask_keeps c s (Needing wish) asked found sound (gets, idle) kind =
+    alloc_onto c s (needed wish (asked_at (Needing wish) asked)) 6 found (whole_chunks wish.pages) (max 512 wish.align) asked.answer idle kind
     (λ t e none. none)
     (λ t e none why. none)
-    (λ t e span b pages alone. grant_goes c t 6 wish span b (gets_kept c s t wish gets e) alone (omega (arith, pages)) (omega arith)))
-ask_keeps c s (Granting wish span b) asked found sound (gets, alone, more) (is, kind) =
-    subst (λ a. Onto c (granted wish b asked) 0 4 (after_cut s c true a asked.answer)) (sym is)
-    (cut_onto c s (granted wish b asked) 4 true span wish.pages b asked.answer alone kind
+    (λ t e span b pages alone. grant_goes c t 6 wish span b (gets_kept c s t wish gets e) alone (omega (arith, pages)) (omega arith))
+ask_keeps c s (Granting wish span b) asked found sound (gets, alone, more) kind =
+    cut_onto c s (granted wish b (asked_at (Granting wish span b) asked)) 4 true span wish.pages b asked.answer alone kind
     (λ t e kept. commit_goes c t 4 wish (kept_span true wish.pages span) b (gets_kept c s t wish gets e) kept refl (omega arith))
-    (λ t e idle. idle))
-ask_keeps c s (Committing wish span) asked found sound (gets, alone, pages) (is, kind) =
-    subst (λ a. Onto c (committed wish span asked) 0 2 (after_commit s c a asked.answer)) (sym is)
-    (commit_onto c s (committed wish span asked) 2 span false asked.answer alone kind
+    (λ t e idle. idle)
+ask_keeps c s (Committing wish span) asked found sound (gets, alone, pages) kind =
+    commit_onto c s (committed wish span (asked_at (Committing wish span) asked)) 2 span false asked.answer alone kind
     (λ t e noted. ((gets_kept c s t wish gets e, noted, pages), inr (refl, omega arith)))
-    (λ t e idle. idle))
-ask_keeps c s (Merging low high own_low fresh later) asked found sound (pair, then_is) (is, kind) =
-    subst (λ a. Onto c (merged own_low fresh later) (stages_then later) (left_ask (flights_of c s) (Merging low high own_low fresh later)) (after_merge s c own_low a asked.answer)) (sym is)
-    (merge_onto c s low high own_low fresh later asked.answer sound pair then_is kind)
-ask_keeps c s (Easing span later) asked found sound (flies, then_is) (is, kind) =
-    subst (λ a. Onto c (eased span later) (stages_then later) (left_ask (flights_of c s) (Easing span later)) (after_lazy s c a asked.answer)) (sym is)
-    (lazy_onto c s span later asked.answer sound flies then_is kind)
-ask_keeps c s (Returning span later) asked found sound (has, then_is) (is, kind) =
-    subst (λ a. Onto c (returned span later) (stages_then later) (left_ask (flights_of c s) (Returning span later)) (after_offer s c found a asked.answer)) (sym is)
-    (return_onto c s span later found asked.answer sound has then_is kind)
-ask_keeps c s (Decommitting span later) asked found sound (flies, then_is) (is, kind) =
-    subst (λ a. Onto c (decommitted span later) (stages_then later) (left_ask (flights_of c s) (Decommitting span later)) (after_decommit s c a asked.answer)) (sym is)
-    (decommit_onto c s span later asked.answer sound flies then_is kind)
-ask_keeps c s (Forcing span later) asked found sound (flies, then_is) (is, kind) = forced_onto c s span later flies then_is
+    (λ t e idle. idle)
+ask_keeps c s (Merging low high own_low fresh later) asked found sound (pair, then_is) kind = merge_onto c s low high own_low fresh later asked.answer sound pair then_is kind
+ask_keeps c s (Easing span later) asked found sound (flies, then_is) kind = lazy_onto c s span later asked.answer sound flies then_is kind
+ask_keeps c s (Returning span later) asked found sound (has, then_is) kind = return_onto c s span later found asked.answer sound has then_is kind
+ask_keeps c s (Decommitting span later) asked found sound (flies, then_is) kind = decommit_onto c s span later asked.answer sound flies then_is kind
+ask_keeps c s (Forcing span later) asked found sound (flies, then_is) kind = forced_onto c s span later flies then_is
+
+heard_keeps : (c : ℕ) (s : Space) (point : AskPoint) (asked : AskFacts) (found : Option ℕ) → Sound s → KnowsAsk (mine c s) point → Heard point (Some asked) →
+    Onto c (told point asked) (stages_ask point) (left_ask (flights_of c s) point) (step_of s c (with_found found (done_of point asked)))
+heard_keeps c s point asked found sound knows (is, kind) =
+    subst (λ a. Onto c (told point (record asked { ask = a })) (stages_ask point) (left_ask (flights_of c s) point) (step_of s c (with_found found (done_of point (record asked { ask = a }))))) (sym is)
+    (ask_keeps c s point asked found sound knows kind)
 
 -- a turn that found no memory changed nothing, and the client had nothing in flight
 pub starved_keeps : (c : ℕ) (s : Space) (point : TurnPoint) (stage bound : ℕ) → KnowsTurn (mine c s) point → is_marked (op_of point) ≡ true →
     Keeps c s stage bound (starved (is_marked (op_of point)))
-starved_keeps c s (Filling wish count) stage bound (gets, idle, small, some) may = idle
-starved_keeps c s (Looking wish) stage bound (gets, idle) may = idle
-starved_keeps c s (Giving addrs) stage bound gives may = gives.idle
-starved_keeps c s (Taking visit left) stage bound (idle, is, some) may = idle
-starved_keeps c s (Advancing now) stage bound idle may = idle
-starved_keeps c s (Changing setting change) stage bound (idle, stands, is, of) may = idle
-starved_keeps c s (Making index setting) stage bound (idle, stands, of) may = idle
-starved_keeps c s (Resetting cached) stage bound (idle, fewer) may = idle
-starved_keeps c s (Destroying cached) stage bound (idle, fewer) may = idle
-starved_keeps c s Dooming stage bound (idle, dying) may = idle
-starved_keeps c s (Publishing addr) stage bound (idle, held) may = idle
-starved_keeps c s (Owning addr frees past) stage bound idle may = idle
 starved_keeps c s (Landing wish span) stage bound knows may = absurd (cc)
-starved_keeps c s (Finding own tries fresh later) stage bound knows may = absurd (cc)
-starved_keeps c s (Offering span later) stage bound knows may = absurd (cc)
+starved_keeps c s point stage bound knows may = first_of (search rules, cc)
 
 pub never_starves : (point : AskPoint) (asked : AskFacts) → is_marked (done_of point asked) ≡ false
 never_starves (Skipping wish span b skip) asked = refl
-never_starves (Trimming wish span b) asked = refl
-never_starves (Growing wish chunks) asked = refl
-never_starves (Paring wish span b) asked = refl
-never_starves (Needing wish) asked = refl
-never_starves (Granting wish span b) asked = refl
-never_starves (Committing wish span) asked = refl
-never_starves (Merging low high own_low fresh later) asked = refl
-never_starves (Easing span later) asked = refl
-never_starves (Returning span later) asked = refl
-never_starves (Decommitting span later) asked = refl
-never_starves (Forcing span later) asked = refl
+never_starves point asked = refl
 
 -- what is known where a step leads is known there, in its own space and by its own reply
 moved : (c : ℕ) (f : Reply → Next) (stage bound : ℕ) (u : Stepped) (t : Space) (reply : Reply) → t ≡ u.after → reply ≡ u.reply → Onto c f stage bound u → Keeps c t stage bound (f reply)
@@ -275,17 +212,12 @@ steps-keep c s t (Turns point) (Replied reply) sound knows (found, after, replie
     moved c (turned point) (stages_turn point) (left c s (Turns point)) _ t reply after replied (turn_keeps c s point found sound knows)
 steps-keep c s t (Turns point) Starved sound knows (may, same) =
     subst (λ v. Keeps c v (stages_turn point) (left c s (Turns point)) (starved (is_marked (op_of point)))) (sym same) (starved_keeps c s point _ _ knows may)
-steps-keep c s t (Turns point) (Told asked) sound knows moves = absurd moves
 steps-keep c s t (Asks point None) (Told asked) sound (knows, heard) (is, kind, same) =
     subst (λ v. Keeps c v (stages_ask point) (left_ask (flights_of c s) point + 1) (Go (Asks point (Some asked)))) (sym same) ((knows, (is, kind)), inr (refl, omega arith))
-steps-keep c s t (Asks point None) (Replied reply) sound knows moves = absurd moves
-steps-keep c s t (Asks point None) Starved sound knows moves = absurd moves
 steps-keep c s t (Asks point (Some asked)) (Replied reply) sound (knows, heard) (found, after, replied) =
     moved c (told point asked) (stages_ask point) (left c s (Asks point (Some asked))) _ t reply after replied
-    (subst (λ n. Onto c (told point asked) (stages_ask point) n (step_of s c (with_found found (done_of point asked)))) (sym (add-zero (left_ask (flights_of c s) point))) (ask_keeps c s point asked found sound knows heard))
+    (subst (λ n. Onto c (told point asked) (stages_ask point) n (step_of s c (with_found found (done_of point asked)))) (sym (add-zero (left_ask (flights_of c s) point))) (heard_keeps c s point asked found sound knows heard))
 steps-keep c s t (Asks point (Some asked)) Starved sound (knows, heard) (may, same) = absurd (let no = never_starves point asked in cc)
-steps-keep c s t (Asks point (Some asked)) (Told other) sound knows moves = absurd moves
 steps-keep c s t (Tells span b) (Told asked) sound knows (is, kind, same) =
     subst (λ v. Keeps c v 0 (2 * length s.parts + 2) (Go (Turns Dooming))) (sym same) (knows, inr (refl, omega arith))
-steps-keep c s t (Tells span b) (Replied reply) sound knows moves = absurd moves
-steps-keep c s t (Tells span b) Starved sound knows moves = absurd moves
+steps-keep c s t point item sound knows moves = absurd moves

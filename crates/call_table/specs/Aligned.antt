@@ -1,14 +1,7 @@
 -- Where the region of a memalign stands.
 use Rattle.std.specs.Prelude.{◌≡◌, ℕ, ◌%◌, List, All}
-use Rattle.size_classes.specs.Classes.{IsSmall, align_at, aligned_for}
-use Rattle.thread_cache.specs.declared.Held.{Held}
-use Rattle.thread_cache.specs.Caches.{cached_in}
-use Rattle.thread_cache.specs.Desks.{DeskFacts}
-use Rattle.call_table.specs.declared.needs.Answered.TheVariants.{Ok}
-use Rattle.call_table.specs.declared.needs.Given.TheVariants.{Region}
-use Rattle.call_table.specs.declared.needs.Item.{Item}
-use Rattle.call_table.specs.declared.needs.Request.TheVariants.{Memalign}
-use Rattle.call_table.specs.declared.points.Next.TheVariants.{Ends}
+use Rattle.size_classes.specs.Classes.{IsSmall}
+use Rattle.call_table.specs.Words.{Memalign, Item, Region, Ok, Ends, Held, DeskFacts, align_at, aligned_for, cached_in}
 use Rattle.call_table.specs.Runs.{begin, run}
 use Rattle.call_table.specs.Causes.{AllCame}
 

@@ -1,14 +1,6 @@
 -- How long the run of a call is.
-use Rattle.std.specs.Prelude.{◌≡◌, ℕ, ◌+◌, ◌≤◌, Bool, true, false, List, Some, count_by}
-use Rattle.std.specs.List.{sum_by}
-use Rattle.space_model.specs.declared.Reply.TheVariants.{Next as NextFlight, Abandoned, Purge, Taken, Doomed}
-use Rattle.thread_cache.specs.Desks.{DeskFacts}
-use Rattle.call_table.specs.declared.needs.Answered.{Answered}
-use Rattle.call_table.specs.declared.needs.Item.{Item}
-use Rattle.call_table.specs.declared.needs.Item.TheVariants.{Replied, Told}
-use Rattle.call_table.specs.declared.needs.Request.{Request}
-use Rattle.call_table.specs.declared.needs.Request.TheVariants.{Malloc, Memalign}
-use Rattle.call_table.specs.declared.points.Next.TheVariants.{Ends}
+use Rattle.std.specs.Prelude.{◌≡◌, ℕ, ◌+◌, ◌≤◌, Bool, true, false, List, Some, count_by, sum_by}
+use Rattle.call_table.specs.Words.{Request, Malloc, Memalign, Item, Replied, Told, Answered, Ends, NextFlight, Purge, Taken, Abandoned, Doomed, DeskFacts}
 use Rattle.call_table.specs.Runs.{begin, run}
 
 -- whether the item is an ask with its answer

@@ -1,10 +1,6 @@
 -- A call as contracts see it.
 use Rattle.std.specs.Prelude.{◌≤◌, ℕ}
-use Rattle.thread_cache.specs.Desks.{DeskFacts}
-use Rattle.call_table.specs.declared.calls.Stage.{Stage}
-use Rattle.call_table.specs.declared.needs.Request.{Request}
-use Rattle.call_table.specs.declared.points.Next.{Next}
-use Rattle.call_table.specs.declared.points.Next.TheVariants.{Go}
+use Rattle.call_table.specs.Words.{Request, Next, Go, Stage, DeskFacts}
 use Rattle.call_table.specs.Points.{IsSizedNext}
 use Rattle.call_table.specs.Needs.{IsPlace}
 use Rattle.call_table.specs.Runs.{Moment}

@@ -1,31 +1,8 @@
 -- Why each answer of a call comes, by what the call was fed.
-use Rattle.std.specs.Prelude.{◌≡◌, ℕ, ◌<◌, ◌≤◌, ◌^◌, ◌⊎◌, max, Bool, true, false, List, [], ◌∷◌, ◌++◌, fold, Contains, Option, None, Some}
-use Rattle.std.specs.Option.{option_map}
-use Rattle.size_classes.specs.Classes.{IsAlignment, aligned_for, class_for}
-use Rattle.space_model.specs.declared.Ask.{Ask}
-use Rattle.space_model.specs.declared.Ask.TheVariants.{Alloc, Commit, Split}
-use Rattle.space_model.specs.declared.Answer.TheVariants.{Placed, Refused as Refuses}
-use Rattle.space_model.specs.declared.Part.{Part}
-use Rattle.space_model.specs.declared.Reply.TheVariants.{NoArena, Nothing, Noted, Took, Grow, Cut, Whole, Grown, Landed, Regions, Limits as LimitsAre, Owned, Busy as InUse}
-use Rattle.space_model.specs.declared.Space.{Space}
-use Rattle.space_model.specs.declared.Span.{Span}
-use Rattle.space_model.specs.declared.Why.{Why}
+use Rattle.std.specs.Prelude.{◌≡◌, ℕ, ◌<◌, ◌≤◌, ◌^◌, ◌⊎◌, max, Bool, true, false, List, [], ◌∷◌, ◌++◌, fold, Contains, Option, None, Some, option_map}
 use Rattle.space_model.specs.Step.{why_not}
-use Rattle.space_model.specs.Sound.{Sound}
-use Rattle.hook_api.specs.Asked.{AskFacts}
-use Rattle.thread_cache.specs.declared.Held.{Held}
-use Rattle.thread_cache.specs.Desks.{DeskFacts, held_at, hit}
-use Rattle.call_table.specs.declared.needs.Answered.{Answered}
-use Rattle.call_table.specs.declared.needs.Answered.TheVariants.{Ok, Refused, BadAnswer, TooLarge, BadAlign, NotHeld, NoArena as NoSuchArena, Busy, NoMemory, ArenasFull, Automatic}
-use Rattle.call_table.specs.declared.needs.Given.{Given}
-use Rattle.call_table.specs.declared.needs.Given.TheVariants.{Region, Done as Finished, Arena, Limits}
-use Rattle.call_table.specs.declared.needs.Item.{Item}
-use Rattle.call_table.specs.declared.needs.Item.TheVariants.{Replied, Told, Starved}
-use Rattle.call_table.specs.declared.needs.Request.{Request}
-use Rattle.call_table.specs.declared.needs.Request.TheVariants.{Malloc, Memalign, Free, FreeForeign, Publish, Take, Reset, Destroy}
-use Rattle.call_table.specs.declared.points.Wish.{Wish}
-use Rattle.call_table.specs.declared.points.Next.{Next}
-use Rattle.call_table.specs.declared.points.Next.TheVariants.{Go, Ends}
+use Rattle.call_table.specs.Words.{Request, Malloc, Memalign, Free, FreeForeign, Publish, Take, Reset, Destroy, Item, Replied, Told, Starved, Given, Region, Finished, Arena, Limits, Answered, Ok, Refused, BadAnswer, TooLarge, BadAlign, NotHeld, NoSuchArena, Busy, NoMemory, ArenasFull, Automatic, Wish, Next, Go, Ends}
+use Rattle.call_table.specs.Words.{Ask, Alloc, Commit, Split, Placed, Refuses, NoArena, Nothing, Noted, Took, Grow, Cut, Whole, Grown, Landed, Regions, LimitsAre, Owned, InUse, Space, Part, Span, Why, Sound, AskFacts, Held, DeskFacts, IsAlignment, aligned_for, class_for, held_at, hit}
 use Rattle.call_table.specs.Table.{alloc_of, want, whole_chunks}
 use Rattle.call_table.specs.Runs.{Moment, after, begin, page_align, run, small_hit, wish_for}
 use Rattle.call_table.specs.Laws.{Moves}

@@ -2,23 +2,8 @@
 use Rattle.std.specs.Prelude.{ℕ, ◌+◌, ◌-◌, ◌*◌, ◌^◌, Bool, true, false, not, min, List, [], ◌∷◌, map}
 use Rattle.std.specs.List.{range_with_len}
 use Rattle.size_classes.specs.Classes.{size_at}
-use Rattle.space_model.specs.declared.Reply.{Reply}
-use Rattle.space_model.specs.declared.Reply.TheVariants.{Noted, Landed, Next as NextFlight, Purge, Regions, Owned}
-use Rattle.thread_cache.specs.declared.Held.{Held}
-use Rattle.thread_cache.specs.Desks.{DeskFacts, caching, discarding, empty_handed, freeing, gave, held_again, holding, kept}
-use Rattle.call_table.specs.declared.needs.Answered.{Answered}
-use Rattle.call_table.specs.declared.needs.Answered.TheVariants.{Ok}
-use Rattle.call_table.specs.declared.needs.Given.TheVariants.{Region, Done as Finished}
-use Rattle.call_table.specs.declared.needs.Item.{Item}
-use Rattle.call_table.specs.declared.needs.Item.TheVariants.{Replied}
-use Rattle.call_table.specs.declared.needs.Request.{Request}
-use Rattle.call_table.specs.declared.needs.Request.TheVariants.{Cache, Flush}
-use Rattle.call_table.specs.declared.points.Change.TheVariants.{Leaves}
-use Rattle.call_table.specs.declared.points.TurnPoint.{TurnPoint}
-use Rattle.call_table.specs.declared.points.TurnPoint.TheVariants.{Filling, Landing, Giving, Changing, Resetting, Destroying, Publishing, Owning}
-use Rattle.call_table.specs.declared.points.Point.TheVariants.{Turns}
-use Rattle.call_table.specs.declared.points.Next.{Next}
-use Rattle.call_table.specs.declared.points.Next.TheVariants.{Go, Ends}
+use Rattle.thread_cache.specs.Desks.{discarding, empty_handed, gave, held_again, holding, kept}
+use Rattle.call_table.specs.Words.{Request, Flush, Cache, Item, Replied, Region, Finished, Answered, Ok, Leaves, TurnPoint, Filling, Landing, Giving, Changing, Resetting, Destroying, Publishing, Owning, Turns, Next, Go, Ends, Reply, Noted, Landed, NextFlight, Purge, Regions, Owned, Held, DeskFacts, caching, freeing}
 
 -- a region of an arena
 abbrev pub region_at : ℕ → ℕ → ℕ → Held

@@ -3,36 +3,15 @@
 use Rattle.std.specs.Prelude.{◌≡◌, ℕ, ◌+◌, ◌<◌, ◌≤◌, Bool, true, false, ◌==◌, ◌||◌, List, [], ◌∷◌, length, Option, None, Some, find}
 use Rattle.std.specs.Int.{is_power_of_two}
 use Rattle.std.specs.List.{list_any, list_all}
-use Rattle.size_classes.specs.Classes.{pages_at}
 use Rattle.space_model.specs.declared.Offered.{Offered}
-use Rattle.space_model.specs.declared.Part.{Part}
 use Rattle.space_model.specs.declared.Region.{Region}
-use Rattle.space_model.specs.declared.Rest.TheVariants.{Dirty as ToDirty, Retained as ToRetained}
-use Rattle.space_model.specs.declared.Setting.{Setting}
-use Rattle.space_model.specs.declared.Setting.TheVariants.{Live as MakeLive}
-use Rattle.space_model.specs.declared.Span.{Span}
 use Rattle.space_model.specs.declared.State.TheVariants.{Dirty}
-use Rattle.space_model.specs.Span.{same_span, end_of}
 use Rattle.space_model.specs.Part.{is_listed, is_backed, rest_of}
 use Rattle.space_model.specs.Purging.{is_purgeable}
 use Rattle.space_model.specs.Settings.{setting_stands}
-use Rattle.space_model.specs.Slabs.{most_regions}
 use Rattle.space_model.specs.Step.{may_merge, rises_from}
-use Rattle.space_model.specs.Own.{Mine}
-use Rattle.hook_api.specs.Asked.{AskFacts}
-use Rattle.hook_api.specs.Hooks.{Answers as AnswersTo}
-use Rattle.call_table.specs.declared.points.Wish.{Wish}
-use Rattle.call_table.specs.declared.points.Visit.{Visit}
-use Rattle.call_table.specs.declared.points.Then.{Then}
-use Rattle.call_table.specs.declared.points.Then.TheVariants.{Batches, Visiting}
-use Rattle.call_table.specs.declared.points.Change.{Change}
-use Rattle.call_table.specs.declared.points.Change.TheVariants.{Stops, Visits, Leaves}
-use Rattle.call_table.specs.declared.points.TurnPoint.{TurnPoint}
-use Rattle.call_table.specs.declared.points.TurnPoint.TheVariants.{Filling, Looking, Landing, Giving, Finding, Taking, Offering, Advancing, Changing, Making, Resetting, Destroying, Dooming, Publishing, Owning}
-use Rattle.call_table.specs.declared.points.AskPoint.{AskPoint}
-use Rattle.call_table.specs.declared.points.AskPoint.TheVariants.{Skipping, Trimming, Growing, Paring, Needing, Granting, Committing, Merging, Easing, Returning, Decommitting, Forcing}
-use Rattle.call_table.specs.declared.points.Point.{Point}
-use Rattle.call_table.specs.declared.points.Point.TheVariants.{Turns, Asks, Tells}
+use Rattle.call_table.specs.Words.{ToDirty, ToRetained, Setting, MakeLive, Part, Span, Mine, AskFacts, pages_at, same_span, end_of, most_regions, AnswersTo}
+use Rattle.call_table.specs.Words.{Wish, Visit, Then, Batches, Visiting, Change, Visits, TurnPoint, Filling, Looking, Landing, Giving, Finding, Taking, Offering, Advancing, Changing, Making, Resetting, Destroying, Dooming, Publishing, Owning, AskPoint, Skipping, Trimming, Growing, Paring, Needing, Granting, Committing, Merging, Easing, Returning, Decommitting, Forcing, Point, Turns, Asks, Tells}
 use Rattle.call_table.specs.Table.{ask_of, chunks_for}
 
 -- what a call can wish for: regions of a class in an extent of its pages, at an alignment that is a power of two
@@ -129,9 +108,8 @@ IsThen Batches = Unit {0}
 IsThen (Visiting visit left) = IsVisit visit
 
 abbrev pub IsChange : Change → Type 0
-IsChange Stops = Unit {0}
 IsChange (Visits visit) = IsVisit visit
-IsChange (Leaves arena) = Unit {0}
+IsChange change = Unit {0}
 
 -- a visit that goes on has something left
 abbrev pub HasLeft : Option ℕ → Type 0

@@ -1,39 +1,11 @@
 -- What is always true between a call and the space of its arena.
-use Rattle.std.specs.Prelude.{◌≡◌, ℕ, ◌+◌, ◌-◌, ◌*◌, ◌<◌, ◌≤◌, ◌==◌, ◌⊎◌, true, length, Contains, Some, Bool, Option, None, if◌then◌else◌}
-use Rattle.std.specs.List.{flat_map}
-use Rattle.space_model.specs.declared.Op.{Op}
+use Rattle.std.specs.Prelude.{◌≡◌, ℕ, ◌+◌, ◌-◌, ◌*◌, ◌<◌, ◌≤◌, ◌==◌, ◌⊎◌, true, length, Contains, Some, Bool, Option, None, if◌then◌else◌, flat_map}
 use Rattle.space_model.specs.declared.Op.TheVariants.{GrowDone, OfferDone}
-use Rattle.space_model.specs.declared.Space.{Space}
 use Rattle.space_model.specs.Step.{step_of, op_stands}
-use Rattle.space_model.specs.Sound.{Sound}
-use Rattle.space_model.specs.Own.{Mine, mine}
-use Rattle.space_model.specs.Span.{max_series}
 use Rattle.space_model.specs.Settings.{is_decay_time}
 use Rattle.space_model.specs.Purging.{is_purgeable}
-use Rattle.hook_api.specs.Asked.{AskFacts}
-use Rattle.hook_api.specs.Hooks.{Answers as AnswersTo}
-use Rattle.call_table.specs.declared.needs.Item.{Item}
-use Rattle.call_table.specs.declared.needs.Item.TheVariants.{Replied, Told, Starved}
-use Rattle.thread_cache.specs.declared.Held.{Held}
-use Rattle.thread_cache.specs.Desks.{DeskFacts, cached_of, held_at}
-use Rattle.call_table.specs.declared.calls.Stage.{Stage}
-use Rattle.call_table.specs.declared.needs.Request.{Request}
-use Rattle.call_table.specs.declared.needs.Request.TheVariants.{Time, Create, HookBox, GrowLimit as SetGrowLimit}
-use Rattle.call_table.specs.declared.points.Later.{Later}
-use Rattle.call_table.specs.declared.points.Later.TheVariants.{Answers, DirtyToo}
-use Rattle.call_table.specs.declared.points.Then.{Then}
-use Rattle.call_table.specs.declared.points.Then.TheVariants.{Batches, Visiting}
-use Rattle.call_table.specs.declared.points.Change.{Change}
-use Rattle.call_table.specs.declared.points.Change.TheVariants.{Stops, Visits, Leaves}
-use Rattle.call_table.specs.declared.points.Visit.{Visit}
-use Rattle.call_table.specs.declared.points.TurnPoint.{TurnPoint}
-use Rattle.call_table.specs.declared.points.TurnPoint.TheVariants.{Filling, Looking, Landing, Giving, Finding, Taking, Offering, Advancing, Changing, Making, Resetting, Destroying, Dooming, Publishing, Owning}
-use Rattle.call_table.specs.declared.points.AskPoint.{AskPoint}
-use Rattle.call_table.specs.declared.points.AskPoint.TheVariants.{Skipping, Trimming, Growing, Paring, Needing, Granting, Committing, Merging, Easing, Returning, Decommitting, Forcing}
-use Rattle.call_table.specs.declared.points.Point.{Point}
-use Rattle.call_table.specs.declared.points.Point.TheVariants.{Turns, Asks, Tells}
-use Rattle.call_table.specs.declared.points.Next.{Next}
-use Rattle.call_table.specs.declared.points.Next.TheVariants.{Go, Over, More, Gone, Ends, Nowhere}
+use Rattle.call_table.specs.Words.{Request, Time, Create, HookBox, GrowLimit as SetGrowLimit, Item, Replied, Told, Starved, Op, Space, Sound, Mine, mine, AskFacts, Held, DeskFacts, max_series, AnswersTo, cached_of, held_at}
+use Rattle.call_table.specs.Words.{Visit, Later, Answers, DirtyToo, Then, Batches, Visiting, Change, Stops, Visits, Leaves, TurnPoint, Filling, Looking, Landing, Giving, Finding, Taking, Offering, Advancing, Changing, Making, Resetting, Destroying, Dooming, AskPoint, Skipping, Trimming, Growing, Paring, Needing, Granting, Committing, Merging, Easing, Returning, Decommitting, Forcing, Point, Turns, Asks, Tells, Next, Go, Over, More, Ends, Nowhere, Stage}
 use Rattle.call_table.specs.Table.{Want, WantTurn, WantAsk, want, step, is_marked}
 use Rattle.call_table.specs.Knows.{Idle, Knows, is_held, is_served}
 use Rattle.call_table.specs.Runs.{begin_stage, settle}
@@ -82,8 +54,6 @@ stages_visit visit (Some left) = stages_later visit.later
 
 abbrev pub stages_turn : TurnPoint → ℕ
 stages_turn (Filling wish count) = 1
-stages_turn (Looking wish) = 0
-stages_turn (Landing wish span) = 0
 stages_turn (Giving addrs) = 1
 stages_turn (Finding own tries fresh later) = stages_then later
 stages_turn (Taking visit left) = stages_visit visit left
@@ -93,9 +63,7 @@ stages_turn (Changing setting change) = stages_change change
 stages_turn (Making index setting) = 31 - index
 stages_turn (Resetting cached) = 2
 stages_turn (Destroying cached) = 1
-stages_turn Dooming = 0
-stages_turn (Publishing addr) = 0
-stages_turn (Owning addr frees past) = 0
+stages_turn point = 0
 
 abbrev pub stages_ask : AskPoint → ℕ
 stages_ask (Merging low high own_low fresh later) = stages_then later
@@ -130,10 +98,8 @@ left_visit (Some left) = 30 * left
 -- the turns and asks that can come at most from a point of a turn on before the next stage, itself among them, where the
 -- client has so many extents in flight and the arena has so many
 abbrev pub left_turn : ℕ → ℕ → TurnPoint → ℕ
-left_turn flights parts (Filling wish count) = 0
 left_turn flights parts (Looking wish) = 12
 left_turn flights parts (Landing wish span) = 1
-left_turn flights parts (Giving addrs) = 0
 left_turn flights parts (Finding own tries fresh later) = 30 * (flights - 1) + looks_left tries + purges_left fresh + left_then later
 left_turn flights parts (Taking visit left) = left_visit left
 left_turn flights parts (Offering span later) = 30 * (flights - 1) + 14 + left_then later
@@ -185,10 +151,8 @@ IsNearer c t stage bound point = (stages point < stage) ⊎ ((stages point ≡ s
 abbrev pub Keeps : ℕ → Space → ℕ → ℕ → Next → Type 0
 Keeps c t stage bound (Go point) = Knows (mine c t) point × IsNearer c t stage bound point
 Keeps c t stage bound (Over arena point) = Idle (mine c t) × ((m : Mine) → Idle m → Knows m point) × (stages point < stage)
-Keeps c t stage bound More = Idle (mine c t)
-Keeps c t stage bound Gone = Idle (mine c t)
-Keeps c t stage bound (Ends answer) = Idle (mine c t)
 Keeps c t stage bound Nowhere = ⊥
+Keeps c t stage bound next = Idle (mine c t)
 
 -- whatever comes of what a call wants leads on: the call knows its extents again and is nearer to its end, and where it
 -- has ended the client has nothing in flight

@@ -1,14 +1,8 @@
 -- What a call tells that it needs, by where it stands.
 use Rattle.std.specs.Prelude.{◌≡◌, ◌≤◌, ℕ, length}
+use Rattle.call_table.specs.Words.{Request, Malloc, Memalign, Free, Publish, Flush, Cache, TurnPoint, Giving, Turns, Next, Go, Ends, Nowhere}
 use Rattle.call_table.specs.declared.needs.Need.{Need}
 use Rattle.call_table.specs.declared.needs.Need.TheVariants.{Turn as NeedsTurn, Ask as NeedsAsk, Done as IsDone}
-use Rattle.call_table.specs.declared.needs.Request.{Request}
-use Rattle.call_table.specs.declared.needs.Request.TheVariants.{Malloc, Memalign, Free, Publish, Flush, Cache}
-use Rattle.call_table.specs.declared.points.TurnPoint.{TurnPoint}
-use Rattle.call_table.specs.declared.points.TurnPoint.TheVariants.{Giving}
-use Rattle.call_table.specs.declared.points.Point.TheVariants.{Turns}
-use Rattle.call_table.specs.declared.points.Next.{Next}
-use Rattle.call_table.specs.declared.points.Next.TheVariants.{Go, Ends, Nowhere}
 use Rattle.call_table.specs.Table.{Want, WantTurn, WantAsk, want}
 
 -- the need is what is wanted of the arena

@@ -1,15 +1,6 @@
 -- What is so of every point of a call, whatever it was fed: what it asks for fits into a number.
 use Rattle.std.specs.Prelude.{◌<◌, ◌≤◌, ◌^◌}
-use Rattle.space_model.specs.Span.{max_series}
-use Rattle.call_table.specs.declared.points.Wish.{Wish}
-use Rattle.call_table.specs.declared.points.TurnPoint.{TurnPoint}
-use Rattle.call_table.specs.declared.points.TurnPoint.TheVariants.{Filling, Looking, Landing}
-use Rattle.call_table.specs.declared.points.AskPoint.{AskPoint}
-use Rattle.call_table.specs.declared.points.AskPoint.TheVariants.{Skipping, Trimming, Growing, Paring, Needing, Granting, Committing}
-use Rattle.call_table.specs.declared.points.Point.{Point}
-use Rattle.call_table.specs.declared.points.Point.TheVariants.{Turns, Asks, Tells}
-use Rattle.call_table.specs.declared.points.Next.{Next}
-use Rattle.call_table.specs.declared.points.Next.TheVariants.{Go, Over}
+use Rattle.call_table.specs.Words.{Wish, TurnPoint, Filling, Looking, Landing, AskPoint, Skipping, Trimming, Growing, Paring, Needing, Granting, Committing, Point, Turns, Asks, Tells, Next, Go, Over, max_series}
 
 -- the pages of a wish are few, and its class is one
 abbrev pub IsFew : Wish → Type 0

@@ -1,10 +1,6 @@
 -- What is read of a call, and where a call is aimed that takes a region over.
 use Rattle.std.specs.Prelude.{ℕ, true, false, Option, None, Some}
-use Rattle.call_table.specs.declared.needs.Answered.{Answered}
-use Rattle.call_table.specs.declared.points.TurnPoint.TheVariants.{Owning}
-use Rattle.call_table.specs.declared.points.Point.TheVariants.{Turns}
-use Rattle.call_table.specs.declared.points.Next.{Next}
-use Rattle.call_table.specs.declared.points.Next.TheVariants.{Go, Ends}
+use Rattle.call_table.specs.Words.{Answered, Owning, Turns, Next, Go, Ends}
 use Rattle.call_table.specs.Calls.{CallFacts}
 
 -- the answer of a call that has ended

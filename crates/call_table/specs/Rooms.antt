@@ -1,20 +1,8 @@
 -- How many turns that take no memory a call may still make before its next one that does.
 use Rattle.std.specs.Prelude.{◌≡◌, ℕ, ◌+◌, ◌-◌, ◌*◌, ◌<◌, ◌≤◌, ◌==◌, Bool, false, length, filter, max, if◌then◌else◌}
-use Rattle.space_model.specs.declared.Op.{Op}
 use Rattle.space_model.specs.declared.Op.TheVariants.{Back}
-use Rattle.space_model.specs.declared.Space.{Space}
 use Rattle.space_model.specs.Step.{is_emptied, staying}
-use Rattle.space_model.specs.Sound.{Sound}
-use Rattle.space_model.specs.Own.{Mine, mine}
-use Rattle.call_table.specs.declared.needs.Item.{Item}
-use Rattle.call_table.specs.declared.points.TurnPoint.{TurnPoint}
-use Rattle.call_table.specs.declared.points.TurnPoint.TheVariants.{Landing, Finding, Offering}
-use Rattle.call_table.specs.declared.points.AskPoint.{AskPoint}
-use Rattle.call_table.specs.declared.points.AskPoint.TheVariants.{Skipping, Trimming, Growing, Paring, Needing, Granting, Committing, Merging, Easing, Returning, Decommitting, Forcing}
-use Rattle.call_table.specs.declared.points.Point.{Point}
-use Rattle.call_table.specs.declared.points.Point.TheVariants.{Turns, Asks, Tells}
-use Rattle.call_table.specs.declared.points.Next.{Next}
-use Rattle.call_table.specs.declared.points.Next.TheVariants.{Go}
+use Rattle.call_table.specs.Words.{Item, TurnPoint, Landing, Finding, Offering, AskPoint, Skipping, Trimming, Growing, Paring, Needing, Granting, Committing, Merging, Easing, Returning, Decommitting, Forcing, Point, Turns, Asks, Tells, Next, Go, Op, Space, Sound, Mine, mine}
 use Rattle.call_table.specs.Table.{Want, WantTurn, WantAsk, want, step, is_marked}
 use Rattle.call_table.specs.Knows.{Knows}
 use Rattle.call_table.specs.Laws.{Moves}

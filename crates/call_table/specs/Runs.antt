@@ -2,30 +2,10 @@
 use Rattle.std.specs.Prelude.{ℕ, ◌/◌, ◌^◌, ◌==◌, ◌&&◌, Bool, true, false, not, nat_lt, max, min, ℤ, negsuc, List, [], ◌∷◌, Option, None, Some, if◌then◌else◌}
 use Rattle.std.specs.List.{list_any, range_with_len}
 use Rattle.std.specs.Ordering.{int_eq}
-use Rattle.size_classes.specs.Classes.{aligned_for, class_for, pages_at, slots_at}
-use Rattle.space_model.specs.declared.Rest.{Rest}
-use Rattle.space_model.specs.declared.Rest.TheVariants.{Dirty as ToDirty, Muzzy as ToMuzzy, Retained as ToRetained}
-use Rattle.space_model.specs.declared.Setting.{Setting}
-use Rattle.space_model.specs.declared.Setting.TheVariants.{DirtyMs, MuzzyMs, HookBox as SetBox, Bind as SetBound, GrowLimit as SetLimit, Live as MakeLive}
-use Rattle.space_model.specs.Slabs.{most_regions}
-use Rattle.thread_cache.specs.declared.Held.{Held}
-use Rattle.thread_cache.specs.Desks.{BatchFacts, DeskFacts, batch_of, cached_of, freeing, going, going_with, held_at, hit, hitting, not_holding}
-use Rattle.call_table.specs.declared.needs.Answered.TheVariants.{Ok, TooLarge, BadAlign, NotHeld, NoArena, NoMemory, Automatic}
-use Rattle.call_table.specs.declared.needs.Given.TheVariants.{Region, Done as Finished}
-use Rattle.call_table.specs.declared.needs.Item.{Item}
-use Rattle.call_table.specs.declared.needs.Request.{Request}
-use Rattle.call_table.specs.declared.needs.Request.TheVariants.{Malloc, Memalign, Free, FreeForeign, Publish, Take, Flush, Cache, Purge as PurgeAll, Decay, Time, Reset, Destroy, Create, Bind, HookBox, GrowLimit}
-use Rattle.call_table.specs.declared.points.Wish.{Wish}
-use Rattle.call_table.specs.declared.points.Visit.{Visit}
-use Rattle.call_table.specs.declared.points.Later.TheVariants.{Answers, DirtyToo}
-use Rattle.call_table.specs.declared.points.Change.{Change}
-use Rattle.call_table.specs.declared.points.Change.TheVariants.{Stops, Visits, Leaves}
-use Rattle.call_table.specs.declared.points.TurnPoint.{TurnPoint}
-use Rattle.call_table.specs.declared.points.TurnPoint.TheVariants.{Filling, Looking, Giving, Taking, Advancing, Changing, Making, Resetting, Destroying, Publishing, Owning}
-use Rattle.call_table.specs.declared.points.Point.TheVariants.{Turns}
-use Rattle.call_table.specs.declared.points.Next.{Next}
-use Rattle.call_table.specs.declared.points.Next.TheVariants.{Go, Over, More, Gone, Ends, Nowhere}
-use Rattle.call_table.specs.declared.calls.Stage.{Stage}
+use Rattle.thread_cache.specs.Desks.{not_holding}
+use Rattle.call_table.specs.Words.{Request, Malloc, Memalign, Free, FreeForeign, Publish, Take, Flush, Cache, PurgeAll, Decay, Time, Reset, Destroy, Create, Bind, HookBox, GrowLimit, Item, Region, Finished, Ok, TooLarge, BadAlign, NotHeld, NoSuchArena as NoArena, NoMemory, Automatic}
+use Rattle.call_table.specs.Words.{Wish, Visit, Answers, DirtyToo, Change, Stops, Visits, Leaves, TurnPoint, Filling, Looking, Giving, Taking, Advancing, Changing, Making, Resetting, Destroying, Publishing, Owning, Turns, Next, Go, Over, More, Gone, Ends, Nowhere, Stage}
+use Rattle.call_table.specs.Words.{Rest, ToDirty, ToMuzzy, ToRetained, Setting, DirtyMs, MuzzyMs, SetBox, SetBound, SetLimit, MakeLive, Held, DeskFacts, aligned_for, class_for, pages_at, slots_at, most_regions, BatchFacts, batch_of, cached_of, freeing, going, going_with, held_at, hit, hitting}
 use Rattle.call_table.specs.Table.{step}
 use Rattle.call_table.specs.Desks.{desk_closed, desk_fed, flushes}
 

@@ -1,40 +1,11 @@
 -- The table of calls: what a call wants at each point, and where an item leads.
 use Rattle.std.specs.Prelude.{ℕ, ◌+◌, ◌-◌, ◌*◌, ◌/◌, ◌==◌, ◌&&◌, Bool, true, false, nat_lt, min, max, ◌∷◌, Option, None, Some, if◌then◌else◌}
-use Rattle.space_model.specs.declared.Ask.{Ask}
-use Rattle.space_model.specs.declared.Ask.TheVariants.{Alloc, Dalloc, Destroy as DestroyExtent, Commit, Decommit, PurgeLazy, PurgeForced, Split, Merge}
-use Rattle.space_model.specs.declared.Answer.{Answer}
-use Rattle.space_model.specs.declared.Answer.TheVariants.{Placed}
-use Rattle.space_model.specs.declared.Op.{Op}
+use Rattle.space_model.specs.declared.Ask.TheVariants.{Destroy as DestroyExtent}
 use Rattle.space_model.specs.declared.Op.TheVariants.{Look, CutDone, GrowDone, CommitDone, Land, Back, PutLook, MergeDone, Fill, Advance, PurgeTake, LazyDone, Offer, OfferDone, DecommitDone, ForcedDone, Publish, TakeOver, Reset, Destroy, DestroyTake, Set}
-use Rattle.space_model.specs.declared.Setting.{Setting}
-use Rattle.space_model.specs.declared.Setting.TheVariants.{Unbind}
-use Rattle.space_model.specs.declared.Reply.{Reply}
-use Rattle.space_model.specs.declared.Reply.TheVariants.{NoArena, Nothing, Noted, Took, Grow, Cut, Whole, Refused as Refuse, Bad, Grown, Landed, Next as NextFlight, Beside, Purge, Joined, Regions, Limits as LimitsAre, Taken, Lazy, Kept, Abandoned, Decommitted, Doomed, Owned, Busy as InUse}
-use Rattle.space_model.specs.declared.Rest.TheVariants.{Dirty as ToDirty, Muzzy as ToMuzzy}
-use Rattle.space_model.specs.declared.Span.{Span}
-use Rattle.space_model.specs.Span.{end_of, max_series}
-use Rattle.hook_api.specs.Asked.{AskFacts, heard_in}
-use Rattle.call_table.specs.declared.needs.Answered.TheVariants.{Ok, Refused, BadAnswer, NotHeld, Busy, NoMemory, ArenasFull}
-use Rattle.call_table.specs.declared.needs.Given.{Given}
-use Rattle.call_table.specs.declared.needs.Given.TheVariants.{Region, Done as Finished, Arena, Limits}
-use Rattle.call_table.specs.declared.needs.Item.{Item}
-use Rattle.call_table.specs.declared.needs.Item.TheVariants.{Replied, Told, Starved}
-use Rattle.call_table.specs.declared.points.Wish.{Wish}
-use Rattle.call_table.specs.declared.points.Visit.{Visit}
-use Rattle.call_table.specs.declared.points.Later.{Later}
-use Rattle.call_table.specs.declared.points.Later.TheVariants.{Answers, DirtyToo}
-use Rattle.call_table.specs.declared.points.Then.{Then}
-use Rattle.call_table.specs.declared.points.Then.TheVariants.{Batches, Visiting}
-use Rattle.call_table.specs.declared.points.Change.{Change}
-use Rattle.call_table.specs.declared.points.Change.TheVariants.{Stops, Visits, Leaves}
-use Rattle.call_table.specs.declared.points.TurnPoint.{TurnPoint}
-use Rattle.call_table.specs.declared.points.TurnPoint.TheVariants.{Filling, Looking, Landing, Giving, Finding, Taking, Offering, Advancing, Changing, Making, Resetting, Destroying, Dooming, Publishing, Owning}
-use Rattle.call_table.specs.declared.points.AskPoint.{AskPoint}
-use Rattle.call_table.specs.declared.points.AskPoint.TheVariants.{Skipping, Trimming, Growing, Paring, Needing, Granting, Committing, Merging, Easing, Returning, Decommitting, Forcing}
-use Rattle.call_table.specs.declared.points.Point.{Point}
-use Rattle.call_table.specs.declared.points.Point.TheVariants.{Turns, Asks, Tells}
-use Rattle.call_table.specs.declared.points.Next.{Next}
-use Rattle.call_table.specs.declared.points.Next.TheVariants.{Go, Over, More, Gone, Ends, Nowhere}
+use Rattle.hook_api.specs.Asked.{heard_in}
+use Rattle.call_table.specs.Words.{Item, Replied, Told, Starved, Given, Region, Finished, Arena, Limits, Ok, Refused, BadAnswer, NotHeld, Busy, NoMemory, ArenasFull, end_of, max_series}
+use Rattle.call_table.specs.Words.{Wish, Visit, Later, Answers, DirtyToo, Then, Batches, Visiting, Change, Stops, Visits, Leaves, TurnPoint, Filling, Looking, Landing, Giving, Finding, Taking, Offering, Advancing, Changing, Making, Resetting, Destroying, Dooming, Publishing, Owning, AskPoint, Skipping, Trimming, Growing, Paring, Needing, Granting, Committing, Merging, Easing, Returning, Decommitting, Forcing, Point, Turns, Asks, Tells, Next, Go, Over, More, Gone, Ends, Nowhere}
+use Rattle.call_table.specs.Words.{Ask, Alloc, Dalloc, Commit, Decommit, PurgeLazy, PurgeForced, Split, Merge, Answer, Placed, Op, Reply, NoArena, Nothing, Noted, Took, Grow, Cut, Whole, Refuse, Bad, Grown, Landed, NextFlight, Beside, Purge, Joined, Regions, LimitsAre, Taken, Lazy, Kept, Abandoned, Decommitted, Doomed, Owned, InUse, ToDirty, ToMuzzy, Setting, Unbind, Span, AskFacts}
 
 -- ---- what is wanted at a point
 

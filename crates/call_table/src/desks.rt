@@ -22,6 +22,7 @@ fn share(desk: &mut Desk, arena: u32, class: u8, addrs: &[u64])
 }
 
 /// The address of a region of a class at a place behind the first one.
+#[tactic(auto, using(crate::proofs::Shares::limit_once))]
 fn address_behind(first: u64, class: u8, place: u32) -> u64
     requires { class < 121 }
     ensures { result ≡ address_behind first class place }

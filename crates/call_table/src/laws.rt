@@ -1,4 +1,5 @@
 //! Laws of calls, as contracts of functions that do nothing.
+#![tactic(auto, using(crate::proofs::Proved::laws))]
 
 ghost use Rattle.call_table.specs.Laws.{BatchesKnow, BeginsKnow, KnowledgeIsOwn, StepsKeep, WantsStand};
 ghost use Rattle.call_table.specs.Rooms.{RoomsSuffice};

@@ -82,18 +82,25 @@ impl Then {
         }
     }
 
+    /// An extent in flight looks for a neighbour.
+    fn find(self, own: Span, tries: u8, fresh: bool) -> Next
+        ensures { result ≡ Next.Go (Point.Turns (TurnPoint.Finding own tries fresh self)) }
+    {
+        TurnPoint::Finding {
+            own,
+            tries,
+            fresh,
+            then: self,
+        }
+        .next()
+    }
+
     /// The next extent in flight is put down, or there is none.
     pub(crate) fn put_next(self, next: Option<Span>) -> Next
         ensures { result ≡ put_next self next }
     {
         match next {
-            Some(own) => TurnPoint::Finding {
-                own,
-                tries: 0,
-                fresh: true,
-                then: self,
-            }
-            .next(),
+            Some(own) => self.find(own, 0, true),
             None => self.onward(),
         }
     }
@@ -129,26 +136,14 @@ impl Then {
     pub(crate) fn look_on(self, own: Span, own_low: bool, fresh: bool) -> Next
         ensures { result ≡ look_on own own_low fresh self }
     {
-        TurnPoint::Finding {
-            own,
-            tries: if own_low { 1 } else { 2 },
-            fresh,
-            then: self,
-        }
-        .next()
+        self.find(own, if own_low { 1 } else { 2 }, fresh)
     }
 
     /// An extent that was purged is put down.
     pub(crate) fn put_purged(self, own: Span) -> Next
         ensures { result ≡ put_purged own self }
     {
-        TurnPoint::Finding {
-            own,
-            tries: 0,
-            fresh: false,
-            then: self,
-        }
-        .next()
+        self.find(own, 0, false)
     }
 
     /// An extent is purged lazily, or offered to its hook.

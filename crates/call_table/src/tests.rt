@@ -69,10 +69,7 @@ impl Played {
 
     /// Whether the call has ended, and is done.
     fn is_done(&self) -> bool {
-        match &self.stage.next {
-            Next::Ends(Answered::Ok(Given::Done)) => true,
-            _ => false,
-        }
+        matches!(&self.stage.next, Next::Ends(Answered::Ok(Given::Done)))
     }
 }
 

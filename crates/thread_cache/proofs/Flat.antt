@@ -1,29 +1,7 @@
--- The regions of all classes, one class after another, and what is told of them class by class.
-use Rattle.std.proofs.Common.{◌≡◌, ℕ, ◌+◌, ◌<◌, Bool, List, [], ◌∷◌, ◌++◌, length, take, drop, map, get_or, count_by, fold, ap, sym, ◌∙◌, append-nil, cond, ◌-◌, arith}
-use Rattle.std.specs.List.{flat_map}
+-- Lists of which one after another is changed.
+use Rattle.std.proofs.Common.{◌≡◌, ℕ, ◌+◌, ◌<◌, List, [], ◌∷◌, ◌++◌, length, take, drop, map, get_or, ap, sym, ◌∙◌, ◌-◌, arith}
 use Rattle.std.proofs.Math.ListN.{set}
-use Rattle.std.proofs.lemmas.Grind.{flat_map-append}
 use Rattle.std.proofs.lemmas.List.{append_assoc, drop_more, get_or-append_right, get_or-drop, length-map, length-take-le, map-append, set-append_right, take_more}
-use Rattle.std.proofs.lemmas.List.Sums.{fold-append, sum_by-append}
-use Rattle.thread_cache.specs.declared.Held.{Held}
-use Rattle.thread_cache.specs.Caches.{cached_in}
-
--- the regions of one more class
-flat_more : (lists : List (List Held)) (i : ℕ) → i < length lists → flat_map (λ list. list) (take (i + 1) lists) ≡ flat_map (λ list. list) (take i lists) ++ cached_in lists i
-flat_more lists i inside =
-    ap (flat_map (λ list. list)) (take_more lists i [] inside)
-    ∙ flat_map-append (λ list. list) (take i lists) (cached_in lists i ∷ [])
-    ∙ ap (λ xs. flat_map (λ list. list) (take i lists) ++ xs) (append-nil (cached_in lists i))
-
--- what is folded over them
-pub fold_flat_more : {Y : Type 0} (f : Y → Held → Y) (z : Y) (lists : List (List Held)) (i : ℕ) → i < length lists →
-    fold f z (flat_map (λ list. list) (take (i + 1) lists)) ≡ fold f (fold f z (flat_map (λ list. list) (take i lists))) (cached_in lists i)
-fold_flat_more f z lists i inside = ap (fold f z) (flat_more lists i inside) ∙ fold-append f z (flat_map (λ list. list) (take i lists)) (cached_in lists i)
-
--- what is counted among them
-pub count_flat_more : (p : Held → Bool) (lists : List (List Held)) (i : ℕ) → i < length lists →
-    count_by p (flat_map (λ list. list) (take (i + 1) lists)) ≡ count_by p (flat_map (λ list. list) (take i lists)) + count_by p (cached_in lists i)
-count_flat_more p lists i inside = ap (count_by p) (flat_more lists i inside) ∙ sum_by-append (λ h. cond (p h) 1 0) (flat_map (λ list. list) (take i lists)) (cached_in lists i)
 
 -- one more list is changed
 pub one_mapped : {X : Type 0} (f : X → X) (xs : List X) (i : ℕ) (d : X) → i < length xs →

@@ -1,6 +1,5 @@
 use Rattle.std.proofs.Common.{subst, sym}
-use Rattle.call_table.specs.declared.calls.Stage.{Stage}
-use Rattle.call_table.specs.declared.needs.Request.TheVariants.{Malloc, Memalign}
+use Rattle.call_table.specs.Words.{Malloc, Memalign, Stage}
 use Rattle.call_table.specs.Points.{IsSizedNext}
 use Rattle.call_table.proofs.Credits.{begin-is_call}
 use Rattle.call_table.proofs.calls.Stage.begin.Goals as goal
