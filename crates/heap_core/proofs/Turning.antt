@@ -72,13 +72,13 @@ has_place r now client op spare view is may some more made false e =
 pub turn_recorded : (r new : Inside) (now : Record) (client : ℕ) (op : Op) (k : KeptFacts) (spare : ℕ) → shown r ≡ now → IsRecorded r → IsTrue (stands now.space (entry_of client op)) →
     (opens op ≡ false → 0 < room_of client now.rooms) → r.journal.spare ≤ spare → (opens op ≡ true → all_rooms r.arena.rooms + most_room op < spare) →
     k.entry ≡ entry_of client op → new.index ≡ r.index → new.arena.space ≡ space_after r.arena.space (entry_of client op) → new.arena.rooms ≡ rooms_after r.arena client op →
-    emptied_by client op r.arena.space ≤ given_by op → new.journal.items ≡ r.journal.items ++ k ∷ [] → spare ≤ new.journal.spare + 1 → IsRecorded new
+    emptied_by client op r.arena.space ≤ given_by op → new.journal.kept ≡ r.journal.kept ++ k ∷ [] → spare ≤ new.journal.spare + 1 → IsRecorded new
 turn_recorded r new now client op k spare view is may some more made entry index after rooms few items one =
     let may_here : stands r.arena.space k.entry ≡ true = subst (λ (x : Record). stands x.space k.entry ≡ true) (sym view) (subst (λ e. stands now.space e ≡ true) (sym entry) may) in
     let within : client < length r.arena.rooms = omega (arith, client_is now.space client op may, is.clients) in
     let room : opens op ≡ false → 0 < room_of client r.arena.rooms = λ e. subst (λ (x : Record). 0 < room_of client x.rooms) (sym view) (some e) in
     record {
-      replayed = rw (index, items) (subst (IsReplayed r.index (r.journal.items ++ k ∷ [])) (ap (space_after r.arena.space) entry ∙ sym after) (replayed_more r.index r.journal.items k r.arena.space is.replayed may_here));
+      replayed = rw (index, items) (subst (IsReplayed r.index (r.journal.kept ++ k ∷ [])) (ap (space_after r.arena.space) entry ∙ sym after) (replayed_more r.index r.journal.kept k r.arena.space is.replayed may_here));
       clients = ap length rooms ∙ length-set r.arena.rooms client _ ∙ is.clients;
       places = fits (opens op) refl within room;
     }

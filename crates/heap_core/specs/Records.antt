@@ -27,7 +27,7 @@ entries_of kept = map (λ k. k.entry) kept
 
 -- what callers see
 abbrev pub shown : Inside → Record
-shown r = record { index = r.index; space = r.arena.space; rooms = r.arena.rooms; kept = r.journal.items }
+shown r = record { index = r.index; space = r.arena.space; rooms = r.arena.rooms; kept = r.journal.kept }
 
 -- a space is what a journal leaves of an opening, and each entry of that may stand where it comes
 pub record IsReplayed (index : ℕ) (kept : List KeptFacts) (s : Space) : Type 0 where
@@ -40,6 +40,6 @@ most_room op = 16 * max 1 (given_by op)
 
 -- the arena is what its journal leaves, and the journal has a place for each operation for which a client has room
 pub record IsRecorded (r : Inside) : Type 0 where
-  pub replayed : IsReplayed r.index r.journal.items r.arena.space
+  pub replayed : IsReplayed r.index r.journal.kept r.arena.space
   pub clients : length r.arena.rooms ≡ 32
   pub places : all_rooms r.arena.rooms ≤ r.journal.spare

@@ -154,21 +154,22 @@ impl Arenas {
         &mut self,
         arena: u32,
         client: u32,
-        mut op: Op,
-        asked: Option<Asked>,
+        op: &mut Op,
+        asked: &Option<Asked>,
     ) -> Result<Reply, NoMemory>
         requires arena { arena < 32 }
-        requires stands { IsTrue (stands (record_at self.old arena).space (entry_of client (settled (spaces_of self.old) arena op))) }
-        requires room { opens op ≡ false → 0 < room_in self.old arena client }
-        requires kept { IsKept (entry_of client op) asked }
-        ensures after { OnOk result (self.new ≡ turned self.old arena client (settled (spaces_of self.old) arena op) asked) }
-        ensures reply { IfOk result (λ told. told ≡ reply_in self.old arena client (settled (spaces_of self.old) arena op)) }
-        ensures room { OnOk result (room_in self.new arena client ≤ all_rooms (record_at self.old arena).rooms + most_room op) }
+        requires stands { IsTrue (stands (record_at self.old arena).space (entry_of client (settled (spaces_of self.old) arena op.old))) }
+        requires room { opens op.old ≡ false → 0 < room_in self.old arena client }
+        requires kept { IsKept (entry_of client op.old) asked.now }
+        ensures after { OnOk result (self.new ≡ turned self.old arena client (settled (spaces_of self.old) arena op.old) asked.now) }
+        ensures reply { IfOk result (λ told. told ≡ reply_in self.old arena client (settled (spaces_of self.old) arena op.old)) }
+        ensures room { OnOk result (room_in self.new arena client ≤ all_rooms (record_at self.old arena).rooms + most_room op.old) }
         ensures err { OnErr result (self.new ≡ self.old) }
-        ensures sure { opens op ≡ false → IsOk result }
+        ensures sure { opens op.old ≡ false → IsOk result }
         ensures others { (other : ℕ) → other ≢ client → (i : ℕ) → mine other (record_at self.new i).space ≡ mine other (record_at self.old i).space }
+        ensures op { op.new ≡ settled (spaces_of self.old) arena op.old }
     {
-        settle(&self.records, arena, &mut op);
+        settle(&self.records, arena, op);
         self.records[arena as usize].turn(client, op, asked)
     }
 

@@ -9,10 +9,9 @@ ghost use Rattle.arena_core.specs.Arenas.{all_rooms, entry_of, given_by, opens, 
 ghost use Rattle.heap_core.specs.Arenas.{record_after};
 ghost use Rattle.heap_core.specs.Records.{IsReplayed, most_room, opening};
 
-use crate::reserves::Reserved;
 use arena_core::Arena;
-use hook_api::{Asked, Journal, Kept, Kepts};
-use space_model::{Entry, Op, Reply, Space};
+use hook_api::{Asked, Journal, Slot, Writing};
+use space_model::{Op, Reply, Space};
 use std::alloc::{AllocError as NoMemory, Global};
 use std::marker::Model;
 
@@ -25,7 +24,8 @@ const UNIT: u64 = 16;
 pub struct Recorded {
     index: u32,
     arena: Arena,
-    journal: Reserved<Kept>,
+    journal: Writing,
+    alloc: Global,
 }
 
 impl Model for Recorded {
@@ -60,8 +60,8 @@ pub fn places_for(arena: &Arena, op: &Op) -> Result<u64, NoMemory>
 }
 
 /// Makes places in a journal of an arena for a turn that takes memory, and for those that may follow it.
-fn make_places(journal: &mut Reserved<Kept>, arena: &Arena, op: &Op) -> Result<(), NoMemory>
-    ensures items { journal.new.items ≡ journal.old.items }
+fn make_places(journal: &mut Writing, arena: &Arena, op: &Op) -> Result<(), NoMemory>
+    ensures entries { journal.new.kept ≡ journal.old.kept }
     ensures kept { journal.old.spare ≤ journal.new.spare }
     ensures ok { OnOk result (opens op.now ≡ true → all_rooms arena.now.rooms + most_room op.now < journal.new.spare) }
     ensures sure { opens op.now ≡ false → IsOk result }
@@ -85,7 +85,8 @@ impl Recorded {
         Ok(Recorded {
             index,
             arena: Arena::new(alloc, space)?,
-            journal: Reserved::new(alloc),
+            journal: Writing::new(alloc),
+            alloc,
         })
     }
 
@@ -100,23 +101,29 @@ impl Recorded {
 
     /// A turn of a client, whose entry joins the journal beside the ask that it carries. Where memory is wanting, nothing
     /// changes; that comes at the first turn of a unit alone.
-    pub fn turn(&mut self, client: u32, op: Op, asked: Option<Asked>) -> Result<Reply, NoMemory>
-        requires stands { IsTrue (stands self.old.space (entry_of client op)) }
-        requires room { opens op ≡ false → 0 < room_of client self.old.rooms }
-        requires kept { IsKept (entry_of client op) asked }
+    pub fn turn(
+        &mut self,
+        client: u32,
+        op: &Op,
+        asked: &Option<Asked>,
+    ) -> Result<Reply, NoMemory>
+        requires stands { IsTrue (stands self.old.space (entry_of client op.now)) }
+        requires room { opens op.now ≡ false → 0 < room_of client self.old.rooms }
+        requires kept { IsKept (entry_of client op.now) asked.now }
         ensures index { self.new.index ≡ self.old.index }
-        ensures after { OnOk result (self.new ≡ record_after self.old client op asked) }
-        ensures reply { IfOk result (λ told. told ≡ reply_to self.old.space (entry_of client op)) }
+        ensures after { OnOk result (self.new ≡ record_after self.old client op.now asked.now) }
+        ensures reply { IfOk result (λ told. told ≡ reply_to self.old.space (entry_of client op.now)) }
         ensures replayed { IsReplayed self.new.index self.new.kept self.new.space }
         ensures few { OnOk result (length self.new.kept < 2 ^ 64) }
-        ensures room { OnOk result (room_of client self.new.rooms ≤ all_rooms self.old.rooms + most_room op) }
+        ensures room { OnOk result (room_of client self.new.rooms ≤ all_rooms self.old.rooms + most_room op.now) }
         ensures err { OnErr result (self.new ≡ self.old) }
-        ensures sure { opens op ≡ false → IsOk result }
+        ensures sure { opens op.now ≡ false → IsOk result }
         ensures others { (other : ℕ) → other ≢ client → mine other self.new.space ≡ mine other self.old.space }
     {
-        make_places(&mut self.journal, &self.arena, &op)?;
-        let reply = self.arena.step(client, &op)?;
-        self.journal.push(Kept::new(Entry { client, op }, asked));
+        make_places(&mut self.journal, &self.arena, op)?;
+        let slot = Slot::of(client, op, asked, self.alloc)?;
+        let reply = self.arena.step(client, op)?;
+        self.journal.push(slot, asked);
         Ok(reply)
     }
 
@@ -129,7 +136,7 @@ impl Recorded {
         let Recorded { index, journal, .. } = self;
         Journal {
             index,
-            kept: Kepts::from_vec(journal.into_vec()),
+            kept: journal.into_kepts(),
         }
     }
 }

@@ -42,22 +42,17 @@ fn promise(log: &mut AskLog, arena: &Arena, client: u32, op: &Op) -> Result<(), 
     log.promise(client, places_for(arena, op)?)
 }
 
-/// A turn in one of the arenas, with places for the asks that may follow it. Where memory is wanting, nothing changes.
-fn make_turn(arenas: &mut Arenas, log: &mut AskLog, turn: Turn) -> Result<Reply, NoMemory>
-    requires arena { turn.arena < 32 }
-    requires client { turn.client < 32 }
-    requires can { CanTurn arenas.old turn.client turn.arena turn.op turn.asked }
-    ensures turn { MadeTurn arenas.old log.old.owed turn result arenas.new log.new.owed }
+/// A turn in one of the arenas, with places for the asks that may follow it. Where memory is wanting, nothing changes. The
+/// operation is from then on as it entered the journal.
+fn make_turn(arenas: &mut Arenas, log: &mut AskLog, turn: &mut Turn) -> Result<Reply, NoMemory>
+    requires arena { turn.old.arena < 32 }
+    requires client { turn.old.client < 32 }
+    requires can { CanTurn arenas.old turn.old.client turn.old.arena turn.old.op turn.old.asked }
+    ensures turn { MadeTurn arenas.old log.old.owed turn.old result arenas.new log.new.owed }
     ensures asks { log.new.asks ≡ log.old.asks }
 {
-    let Turn {
-        arena,
-        client,
-        op,
-        asked,
-    } = turn;
-    promise(log, arenas.at(arena), client, &op)?;
-    arenas.turn(arena, client, op, asked)
+    promise(log, arenas.at(turn.arena), turn.client, &turn.op)?;
+    arenas.turn(turn.arena, turn.client, &mut turn.op, &turn.asked)
 }
 
 /// What a call is fed that wanted a turn.
@@ -92,13 +87,13 @@ impl Heap {
         ensures err { OnErr result (self.new ≡ self.old) }
     {
         self.arenas.are_apart();
-        let turn = Turn {
+        let mut turn = Turn {
             arena: region.arena,
             client: holder,
             op: Op::Publish { addr: region.addr },
             asked: None,
         };
-        make_turn(&mut self.arenas, &mut self.log, turn)?;
+        make_turn(&mut self.arenas, &mut self.log, &mut turn)?;
         self.clients[holder as usize].lose(region.addr);
         Ok(())
     }
@@ -129,12 +124,12 @@ impl Heap {
     }
 
     /// The turn that a client's call wants.
-    fn turn(&mut self, turn: Turn, alloc: Global) -> Stepped
-        requires client { turn.client < 32 }
-        requires needs { Needs (seat_at self.old.seats turn.client).call (Need.Turn turn) }
-        requires free { IfSome (seat_at self.old.seats turn.client).call (λ call. HolderIs self.old call None) }
-        ensures step { (shelf : Shelf) → IsStep self.old shelf turn.client (seat_at self.old.seats turn.client).call result self.new shelf }
-        ensures sure { IsSure self.old turn.client (seat_at self.old.seats turn.client).call self.new }
+    fn turn(&mut self, turn: &mut Turn, alloc: Global) -> Stepped
+        requires client { turn.old.client < 32 }
+        requires needs { Needs (seat_at self.old.seats turn.old.client).call (Need.Turn turn.old) }
+        requires free { IfSome (seat_at self.old.seats turn.old.client).call (λ call. HolderIs self.old call None) }
+        ensures step { (shelf : Shelf) → IsStep self.old shelf turn.old.client (seat_at self.old.seats turn.old.client).call result self.new shelf }
+        ensures sure { IsSure self.old turn.old.client (seat_at self.old.seats turn.old.client).call self.new }
     {
         let client = turn.client as usize;
         self.arenas.are_apart();
@@ -167,11 +162,11 @@ impl Heap {
     }
 
     /// A turn for a client's call: the one by which a holder publishes, if there is one, and else the one that the call wants.
-    fn turn_for(&mut self, turn: Turn, alloc: Global) -> Stepped
-        requires client { turn.client < 32 }
-        requires needs { Needs (seat_at self.old.seats turn.client).call (Need.Turn turn) }
-        ensures step { (shelf : Shelf) → IsStep self.old shelf turn.client (seat_at self.old.seats turn.client).call result self.new shelf }
-        ensures sure { IsSure self.old turn.client (seat_at self.old.seats turn.client).call self.new }
+    fn turn_for(&mut self, turn: &mut Turn, alloc: Global) -> Stepped
+        requires client { turn.old.client < 32 }
+        requires needs { Needs (seat_at self.old.seats turn.old.client).call (Need.Turn turn.old) }
+        ensures step { (shelf : Shelf) → IsStep self.old shelf turn.old.client (seat_at self.old.seats turn.old.client).call result self.new shelf }
+        ensures sure { IsSure self.old turn.old.client (seat_at self.old.seats turn.old.client).call self.new }
     {
         match self.holder_for(turn.client) {
             Some((holder, region)) => self.take_over(turn.client, holder as u32, region, alloc),
@@ -222,7 +217,7 @@ impl Heap {
                 ended: None,
             },
             Some(Ok(Need::Ask { arena, ask })) => self.ask(client, arena, ask, shelf, alloc),
-            Some(Ok(Need::Turn(turn))) => self.turn_for(turn, alloc),
+            Some(Ok(Need::Turn(mut turn))) => self.turn_for(&mut turn, alloc),
             Some(Ok(Need::Done(_))) => unreachable!(),
             Some(Err(_)) => self.starve(client, alloc),
         }

@@ -16,13 +16,13 @@ const CLIENT: u32 = 3;
 
 /// Arena 1 comes to be.
 fn make(rt: &impl Abort, arenas: &mut Arenas) -> Result<(), Fail> {
-    let live = Op::Set(Setting::Live {
+    let mut live = Op::Set(Setting::Live {
         box_no: 7,
         dirty_ms: -1,
         muzzy_ms: 5000,
         now: 9,
     });
-    let reply = arenas.turn(1, CLIENT, live, None)?;
+    let reply = arenas.turn(1, CLIENT, &mut live, &None)?;
     assert_eq!(rt; reply, Reply::Noted);
     assert_eq!(rt;
         (arenas.at(1).life(), arenas.at(1).box_no()),
@@ -35,8 +35,8 @@ fn make(rt: &impl Abort, arenas: &mut Arenas) -> Result<(), Fail> {
 fn look(rt: &impl Abort, arenas: &mut Arenas, arena: u32, reply: Reply) -> Result<(), Fail>
     requires { arena < 32 }
 {
-    let op = Op::Look { pages: 5, align: 1 };
-    let told = arenas.turn(arena, CLIENT, op, None)?;
+    let mut op = Op::Look { pages: 5, align: 1 };
+    let told = arenas.turn(arena, CLIENT, &mut op, &None)?;
     assert_eq!(rt; told, reply);
     Ok(())
 }
@@ -61,9 +61,9 @@ fn journals_have_the_entries_of_their_arena(rt: HostRuntime) -> Result<(), Fail>
     look(&rt, &mut arenas, 0, Reply::Grow { series: 1 })?;
     let journals = arenas.into_journals(alloc)?;
     let journals = journals.as_slice();
-    assert_eq!(rt; journals[0].kept.as_slice().len(), 2);
-    assert_eq!(rt; journals[1].kept.as_slice().len(), 1);
-    assert!(rt; journals[31].kept.as_slice().is_empty());
+    assert_eq!(rt; journals[0].kept.len(), 2);
+    assert_eq!(rt; journals[1].kept.len(), 1);
+    assert_eq!(rt; journals[31].kept.len(), 0);
     Ok(())
 }
 
@@ -171,7 +171,7 @@ fn calls_of_two_clients_interleave(rt: HostRuntime) -> Result<(), Fail> {
     assert!(rt; first.is_some() && second.is_some() && first != second);
     assert_eq!(rt; heap.arena(0).counts().allocated, 20480 + 16);
     let (journals, asks) = heap.finish(alloc)?;
-    assert!(rt; !journals.as_slice()[0].kept.as_slice().is_empty());
+    assert!(rt; journals.as_slice()[0].kept.len() > 0);
     assert!(rt; !asks.as_slice().is_empty());
     Ok(())
 }

@@ -10,18 +10,18 @@ use Rattle.heap_core.proofs.arenas.Arenas.turn.Goals as goal
 
 pub turn-requires-clause-kept : goal.turn-requires-clause-kept
 turn-requires-clause-kept c =
-    kept_settled (spaces_of c.self.inside.records.items) c.args.arena c.args.client c.args.op c.settle.new.op c.args.asked (c.settle.ensures ∙ ap (λ rs. settled (spaces_of rs) c.args.arena c.args.op) c.deref.ensures.value) c.requires.kept
+    kept_settled (spaces_of c.self.inside.records.items) c.args.arena c.args.client c.args.op.now c.settle.new.op c.args.asked.now (c.settle.ensures ∙ ap (λ rs. settled (spaces_of rs) c.args.arena c.args.op.now) c.deref.ensures.value) c.requires.kept
 
 pub invariant_of-self : goal.invariant_of-self
 invariant_of-self c =
     let at = c.index_mut.ensures.value ∙ get_or_default c.self.inside.records.items c.args.arena c.index_mut.result.now no_record (omega (arith, c.requires.arena, c.self.invariant.arenas.number)) in
     recorded_turned c.self.inside.records.items c.args.arena c.turn.result c.index_mut.result.now c.turn.new.self c.self.invariant c.requires.arena at c.turn.ensures.few c.turn.ensures.err
-    (arenas_turned_from c.self.inside.records.items c.args.arena c.args.client c.args.op c.settle.new.op c.args.asked c.turn.result c.index_mut.result.now c.turn.new.self
+    (arenas_turned_from c.self.inside.records.items c.args.arena c.args.client c.args.op.now c.settle.new.op c.args.asked.now c.turn.result c.index_mut.result.now c.turn.new.self
     at c.self.invariant.arenas c.requires.arena
-    (c.settle.ensures ∙ ap (λ rs. settled (spaces_of rs) c.args.arena c.args.op) c.deref.ensures.value) (subst (λ (rs : List Record). IsTrue (stands (record_at rs c.args.arena).space (entry_of c.args.client (settled (spaces_of rs) c.args.arena c.args.op)))) (sym c.self.view_is) c.requires.stands) c.turn.ensures.after c.turn.ensures.err c.turn.ensures.index c.turn.ensures.replayed)
+    (c.settle.ensures ∙ ap (λ rs. settled (spaces_of rs) c.args.arena c.args.op.now) c.deref.ensures.value) (subst (λ (rs : List Record). IsTrue (stands (record_at rs c.args.arena).space (entry_of c.args.client (settled (spaces_of rs) c.args.arena c.args.op.now)))) (sym c.self.view_is) c.requires.stands) c.turn.ensures.after c.turn.ensures.err c.turn.ensures.index c.turn.ensures.replayed)
 
 pub returns-clause-room : goal.returns-clause-room
 returns-clause-room c =
-    room_turned c.self.inside.records.items c.args.self.now c.args.arena c.args.client c.args.op c.settle.new.op c.turn.result c.index_mut.result.now c.turn.new.self c.self.view_is
+    room_turned c.self.inside.records.items c.args.self.now c.args.arena c.args.client c.args.op.now c.settle.new.op c.turn.result c.index_mut.result.now c.turn.new.self c.self.view_is
     (c.index_mut.ensures.value ∙ get_or_default c.self.inside.records.items c.args.arena c.index_mut.result.now no_record (omega (arith, c.requires.arena, c.self.invariant.arenas.number))) c.self.invariant.arenas c.requires.arena
-    (c.settle.ensures ∙ ap (λ rs. settled (spaces_of rs) c.args.arena c.args.op) c.deref.ensures.value) c.turn.ensures.room
+    (c.settle.ensures ∙ ap (λ rs. settled (spaces_of rs) c.args.arena c.args.op.now) c.deref.ensures.value) c.turn.ensures.room

@@ -15,7 +15,7 @@ use Rattle.heap_core.proofs.heaps.Heap.turn.Goals as goal
 
 pub make_turn-made-requires-clause-can : goal.make_turn-made-requires-clause-can
 make_turn-made-requires-clause-can c =
-    let turn = c.args.turn in
+    let turn = c.args.turn.now in
     let inside = c.self.inside in
     let seats = inside.clients.items in
     let needs = subst (λ (h : HeapFacts). Needs (seat_at h.seats turn.client).call (NeedsTurn turn)) (sym c.self.view_is) c.requires.needs in
@@ -24,7 +24,7 @@ make_turn-made-requires-clause-can c =
 
 pub make_turn-made-requires-clause-arena : goal.make_turn-made-requires-clause-arena
 make_turn-made-requires-clause-arena c =
-    let turn = c.args.turn in
+    let turn = c.args.turn.now in
     let inside = c.self.inside in
     let seats = inside.clients.items in
     let needs = subst (λ (h : HeapFacts). Needs (seat_at h.seats turn.client).call (NeedsTurn turn)) (sym c.self.view_is) c.requires.needs in
@@ -33,7 +33,7 @@ make_turn-made-requires-clause-arena c =
 
 pub feed-ended-requires : goal.feed-ended-requires
 feed-ended-requires c =
-    let turn = c.args.turn in
+    let turn = c.args.turn.now in
     let inside = c.self.inside in
     let seats = inside.clients.items in
     let needs = subst (λ (h : HeapFacts). Needs (seat_at h.seats turn.client).call (NeedsTurn turn)) (sym c.self.view_is) c.requires.needs in
@@ -45,7 +45,7 @@ feed-ended-requires c =
 
 pub invariant_of-self : goal.invariant_of-self
 invariant_of-self c =
-    let turn = c.args.turn in
+    let turn = c.args.turn.now in
     let inside = c.self.inside in
     let seats = inside.clients.items in
     let needs = subst (λ (h : HeapFacts). Needs (seat_at h.seats turn.client).call (NeedsTurn turn)) (sym c.self.view_is) c.requires.needs in
@@ -58,7 +58,7 @@ invariant_of-self c =
 
 pub returns-clause-step : goal.returns-clause-step
 returns-clause-step c =
-    let turn = c.args.turn in
+    let turn = c.args.turn.now in
     let inside = c.self.inside in
     let seats = inside.clients.items in
     let needs = subst (λ (h : HeapFacts). Needs (seat_at h.seats turn.client).call (NeedsTurn turn)) (sym c.self.view_is) c.requires.needs in
@@ -77,7 +77,7 @@ returns-clause-step c =
 
 pub returns-clause-sure : goal.returns-clause-sure
 returns-clause-sure c =
-    let turn = c.args.turn in
+    let turn = c.args.turn.now in
     let inside = c.self.inside in
     let seats = inside.clients.items in
     let needs = subst (λ (h : HeapFacts). Needs (seat_at h.seats turn.client).call (NeedsTurn turn)) (sym c.self.view_is) c.requires.needs in

@@ -1,26 +1,26 @@
 use Rattle.std.proofs.Common.{◌∙◌, ◌++◌, ◌∷◌, [], ap, refl}
+use Rattle.hook_api.specs.Kepts.{kept_of}
 use Rattle.arena_core.specs.Arenas.{opens}
 use Rattle.heap_core.proofs.Turning.{has_place, room_bound, turn_recorded}
 use Rattle.heap_core.proofs.records.Recorded.turn.Goals as goal
 
-pub push-requires : goal.push-requires
-push-requires c = record {
-  room = has_place c.self.inside c.args.self.now c.args.client c.args.op c.make_places.new.journal.spare c.self.view_is c.self.invariant c.requires.stands
-      c.requires.room c.make_places.ensures.kept c.in_ok-make_places.ensures.ok (opens c.args.op) refl;
-}
+pub push-requires-clause-room : goal.push-requires-clause-room
+push-requires-clause-room c =
+    has_place c.self.inside c.args.self.now c.args.client c.args.op.now c.make_places.new.journal.spare c.self.view_is c.self.invariant c.requires.stands
+    c.requires.room c.make_places.ensures.kept c.in_ok-make_places.ensures.ok (opens c.args.op.now) refl
 
 pub invariant_of-self-2 : goal.invariant_of-self-2
 invariant_of-self-2 c =
-    turn_recorded c.self.inside (record { index = c.self.inside.index; arena = c.step.new.self; journal = c.push.new.self }) c.args.self.now c.args.client c.args.op c.new.result
+    turn_recorded c.self.inside (record { index = c.self.inside.index; arena = c.step.new.self; journal = c.push.new.self; alloc = c.self.inside.alloc }) c.args.self.now c.args.client c.args.op.now (kept_of c.in_ok-slot.slot c.args.asked.now)
     c.make_places.new.journal.spare c.self.view_is c.self.invariant c.requires.stands c.requires.room c.make_places.ensures.kept c.in_ok-make_places.ensures.ok
-    (ap (λ k. k.entry) c.new.ensures) refl c.in_ok-reply.ensures.after c.in_ok-reply.ensures.rooms c.in_ok-reply.ensures.few (c.push.ensures.items ∙ ap (λ kept. kept ++ c.new.result ∷ []) c.make_places.ensures.items) c.push.ensures.spare
+    (ap (λ k. k.entry) c.in_ok-slot.ensures.kept) refl c.in_ok-reply.ensures.after c.in_ok-reply.ensures.rooms c.in_ok-reply.ensures.few (c.push.ensures.kept ∙ ap (λ kept. kept ++ kept_of c.in_ok-slot.slot c.args.asked.now ∷ []) c.make_places.ensures.entries) c.push.ensures.spare
 
 pub returns-clause-replayed : goal.returns-clause-replayed
 returns-clause-replayed c =
-    (turn_recorded c.self.inside (record { index = c.self.inside.index; arena = c.step.new.self; journal = c.push.new.self }) c.args.self.now c.args.client c.args.op c.new.result
+    (turn_recorded c.self.inside (record { index = c.self.inside.index; arena = c.step.new.self; journal = c.push.new.self; alloc = c.self.inside.alloc }) c.args.self.now c.args.client c.args.op.now (kept_of c.in_ok-slot.slot c.args.asked.now)
     c.make_places.new.journal.spare c.self.view_is c.self.invariant c.requires.stands c.requires.room c.make_places.ensures.kept c.in_ok-make_places.ensures.ok
-    (ap (λ k. k.entry) c.new.ensures) refl c.in_ok-reply.ensures.after c.in_ok-reply.ensures.rooms c.in_ok-reply.ensures.few (c.push.ensures.items ∙ ap (λ kept. kept ++ c.new.result ∷ []) c.make_places.ensures.items) c.push.ensures.spare).replayed
+    (ap (λ k. k.entry) c.in_ok-slot.ensures.kept) refl c.in_ok-reply.ensures.after c.in_ok-reply.ensures.rooms c.in_ok-reply.ensures.few (c.push.ensures.kept ∙ ap (λ kept. kept ++ kept_of c.in_ok-slot.slot c.args.asked.now ∷ []) c.make_places.ensures.entries) c.push.ensures.spare).replayed
 
 pub returns-clause-room : goal.returns-clause-room
 returns-clause-room c =
-    room_bound c.self.inside c.args.self.now c.args.client c.args.op c.step.new.self.rooms c.self.view_is c.self.invariant c.requires.stands c.requires.room c.in_ok-reply.ensures.rooms c.in_ok-reply.ensures.few
+    room_bound c.self.inside c.args.self.now c.args.client c.args.op.now c.step.new.self.rooms c.self.view_is c.self.invariant c.requires.stands c.requires.room c.in_ok-reply.ensures.rooms c.in_ok-reply.ensures.few
