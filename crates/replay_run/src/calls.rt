@@ -152,7 +152,7 @@ fn answer_call<K: Sink>(
     ensures cause { IfErr result (λ stop. HasStopCause stop 0 0 (K.faults sink.old) (K.faults sink.new)) }
     ensures counts { K.faults sink.old ≤ K.faults sink.new }
 {
-    let mut text = Vec::new(alloc);
+    let mut text = Vec::with_capacity(alloc, 96)?;
     call_line(&mut text, client, head(&verb), &answer)?;
     print(sink, &text)?;
     names.bind_answer(verb, answer)?;

@@ -125,7 +125,7 @@ pub(crate) fn kind(ask: Ask) -> &'static str
 
 /// The size of a class, in bytes, or 0 where there is no such class.
 #[tactic(auto, using(crate::proofs::Sizes::size_past))]
-fn size(class: u8) -> u64
+pub(crate) fn size(class: u8) -> u64
     ensures { result ≡ size_at class }
 {
     if class < CLASSES { size_of(class) } else { 0 }

@@ -1,15 +1,18 @@
 //! The lines of a report. Each is written behind what the buffer has. Where memory runs out, its beginning may be there.
 
-ghost use Rattle.std.specs.Prelude.{◌≡◌, ◌++◌, OnOk, codes};
+ghost use Rattle.std.specs.Prelude.{◌≡◌, ◌++◌, OnOk};
+ghost use Rattle.std.specs.Fmt.{decimal};
+ghost use Rattle.call_table.specs.declared.needs.Given.{Given};
 ghost use Rattle.report_text.specs.Heads.{head_name};
-ghost use Rattle.report_text.specs.Answers.{ended_text};
+ghost use Rattle.report_text.specs.Answers.{ended_text, given_text};
 ghost use Rattle.report_text.specs.Lines.{newline, call_line, turn_line, ask_line, idle_line, counts_line, no_arena_line, bad_line, usage_line};
 
-use crate::answers::{AnswerText, SaidText, kind};
+use crate::answers::{AnswerText, SaidText, kind, size};
 use crate::counts::{MappedText, UnusedText, UsedText};
 use crate::heads::word;
 use crate::{Cause, Head};
 use call_table::{Answered, Given};
+use itoa::Buffer;
 use space_model::{Answer, Ask, Counts};
 use std::alloc::AllocError as NoMemory;
 use std::io::{Error, Write};
@@ -27,9 +30,15 @@ pub fn call_line(
 ) -> Result<(), NoMemory>
     ensures { OnOk result (out.new.items ≡ out.old.items ++ call_line client head.entry answered.now) }
 {
-    write!(out, "t{client} {}", word(head)).map_err(no_memory)?;
+    out.push(b't')?;
+    write_decimal(out, u64::from(client))?;
+    out.push(b' ')?;
+    out.extend_from_slice(word(head).as_bytes())?;
     write_name(out, head)?;
-    write_ended(out, head, answered)
+    out.push(b' ')?;
+    write_ended(out, head, answered)?;
+    out.push(b'\n')?;
+    Ok(())
 }
 
 fn write_name(out: &mut Vec<u8>, head: Head<'_>) -> Result<(), NoMemory>
@@ -42,14 +51,29 @@ fn write_name(out: &mut Vec<u8>, head: Head<'_>) -> Result<(), NoMemory>
     Ok(())
 }
 
+/// The answers that calls have most are written by hand, the others by their format.
 fn write_ended(out: &mut Vec<u8>, head: Head<'_>, answered: &Answered) -> Result<(), NoMemory>
-    ensures { OnOk result (out.new.items ≡ out.old.items ++ (codes " " ++ ended_text head.entry answered.now ++ newline)) }
+    ensures { OnOk result (out.new.items ≡ out.old.items ++ ended_text head.entry answered.now) }
 {
-    let written = match (head, *answered) {
-        (Head::Take, Answered::Ok(Given::Region { .. })) => writeln!(out, " ok"),
-        (_, answered) => writeln!(out, " {}", AnswerText(answered)),
-    };
-    written.map_err(no_memory)
+    match (head, answered) {
+        (Head::Take, Answered::Ok(Given::Region { .. })) => out.extend_from_slice(b"ok"),
+        (_, Answered::Ok(Given::Done)) => out.extend_from_slice(b"ok"),
+        (_, Answered::Ok(Given::Region { addr, class })) => write_region(out, *addr, *class),
+        (_, answered) => write!(out, "{}", AnswerText(*answered)).map_err(no_memory),
+    }
+}
+
+fn write_region(out: &mut Vec<u8>, addr: u64, class: u8) -> Result<(), NoMemory>
+    ensures { OnOk result (out.new.items ≡ out.old.items ++ given_text (Given.Region addr class)) }
+{
+    write!(out, "@{addr:x} ").map_err(no_memory)?;
+    write_decimal(out, size(class))
+}
+
+fn write_decimal(out: &mut Vec<u8>, number: u64) -> Result<(), NoMemory>
+    ensures { OnOk result (out.new.items ≡ out.old.items ++ decimal number) }
+{
+    out.extend_from_slice(Buffer::new().format(number).as_bytes())
 }
 
 /// Growing the buffer is all that can fail.

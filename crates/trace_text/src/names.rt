@@ -2,14 +2,18 @@
 
 ghost use Rattle.std.specs.Prelude.{◌≡◌, ◌≤◌, length, IfOk};
 
+use smallvec::SmallVec;
 use std::alloc::{AllocError as NoMemory, Global};
 use std::hash::{Hash, Hasher};
 use std::marker::Model;
 
+/// How many bytes a name has at most for which no memory is taken.
+const USUAL_BYTES: usize = 16;
+
 /// A word of a line, of at most 100 bytes, which contracts see as the list of its bytes.
 #[derive(Debug, Drop)]
 pub struct Name {
-    bytes: Vec<u8>,
+    bytes: SmallVec<u8, USUAL_BYTES>,
 }
 
 impl Model for Name {
@@ -29,7 +33,7 @@ impl Name {
         ensures { IfOk result (λ n. n ≡ bytes.now) }
     {
         Ok(Name {
-            bytes: Vec::from_slice(alloc, bytes)?,
+            bytes: SmallVec::from_slice(alloc, bytes)?,
         })
     }
 

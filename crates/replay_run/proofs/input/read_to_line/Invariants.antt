@@ -1,7 +1,7 @@
 use Rattle.std.proofs.Common.{◌≤◌, length}
 use Rattle.edge_io.specs.Bytes.{Keeps}
 use Rattle.replay_run.specs.Input.{TakesMore}
-use Rattle.replay_run.proofs.input.find_line.Given as goal
+use Rattle.replay_run.proofs.input.read_to_line.Given as goal
 
 -- the pending bytes are those from before and those that were taken, at least one in each turn
 abbrev pub invariant-loop : goal.invariant-loop

@@ -1,7 +1,7 @@
 use Rattle.std.proofs.Common.{◌++◌, take}
 use Rattle.std.proofs.KnownBytes.{Consumes-trans}
 use Rattle.replay_run.proofs.Endings.{takes_unread}
-use Rattle.replay_run.proofs.input.find_line.Goals as goal
+use Rattle.replay_run.proofs.input.read_to_line.Goals as goal
 
 pub returns-in_err-extend-in-Ok-clause-stopped : goal.returns-in_err-extend-in-Ok-clause-stopped
 returns-in_err-extend-in-Ok-clause-stopped g c =
