@@ -101,12 +101,7 @@ impl Recorded {
 
     /// A turn of a client, whose entry joins the journal beside the ask that it carries. Where memory is wanting, nothing
     /// changes; that comes at the first turn of a unit alone.
-    pub fn turn(
-        &mut self,
-        client: u32,
-        op: &Op,
-        asked: &Option<Asked>,
-    ) -> Result<Reply, NoMemory>
+    pub fn turn(&mut self, client: u32, op: &Op, asked: &Option<Asked>) -> Result<Reply, NoMemory>
         requires stands { IsTrue (stands self.old.space (entry_of client op.now)) }
         requires room { opens op.now ≡ false → 0 < room_of client self.old.rooms }
         requires kept { IsKept (entry_of client op.now) asked.now }
