@@ -8,4 +8,5 @@ pub mod Orders
 pub mod Packed
 pub mod Places
 pub mod Removed
+pub mod Searches
 pub mod Sorted
