@@ -5,7 +5,6 @@ ghost use Rattle.std.specs.Prelude.{◌≡◌, ◌<◌, ◌≤◌, false, true, 
 ghost use Rattle.size_classes.specs.Classes.{IsSmall, regions_at};
 ghost use Rattle.slab_bits.specs.Slabs.{AreFreeFrom};
 
-use lane_scan::lowest_set;
 use size_classes::slab_regions;
 use std::marker::Model;
 
@@ -13,7 +12,7 @@ use std::marker::Model;
 mod tests;
 mod words;
 
-use words::{WORDS, clear_bit, fill_between, has_bit, set_bit};
+use words::{WORDS, clear_bit, fill_between, has_bit, lowest_bit, set_bit};
 
 /// The free regions of a slab, by their places in it, counted from 0.
 ///
@@ -85,7 +84,7 @@ impl SlabBits {
         ensures taken { IfSome result (λ i. self.new ≡ record self.old { free = slice_set self.old.free i false }) }
         ensures full { IfNone result (self.new ≡ self.old) }
     {
-        let i = lowest_set(&self.free)?;
+        let i = lowest_bit(&self.free)?;
         clear_bit(&mut self.free, i);
         self.left -= 1;
         Some(i)

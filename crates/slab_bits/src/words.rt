@@ -1,5 +1,5 @@
 //! Single bits of eight words.
-ghost use Rattle.std.specs.Prelude.{◌≡◌, ◌&&◌, ℕ, ◌<◌, ◌≤◌, false, true, length, nat_le, nat_lt, slice_index_or, slice_set};
+ghost use Rattle.std.specs.Prelude.{◌≡◌, ◌&&◌, ℕ, ◌<◌, ◌≤◌, false, true, length, nat_le, nat_lt, position, slice_index_or, slice_set};
 ghost use Rattle.lane_scan.specs.Bits.{bits_of};
 ghost use Rattle.slab_bits.specs.Words.{OnesBelow};
 
@@ -37,6 +37,18 @@ pub fn has_bit(words: &[u64; WORDS], i: u32) -> bool
     ensures { result ≡ slice_index_or (bits_of words.now) i false }
 {
     words[i as usize / 64] >> (i % 64) & 1 == 1
+}
+
+/// The lowest bit that is 1. `None` where none is.
+pub fn lowest_bit(words: &[u64; WORDS]) -> Option<u32>
+    ensures { result ≡ position (λ bit. bit) (bits_of words.now) }
+{
+    for i in 0..WORDS {
+        if words[i] != 0 {
+            return Some(64 * i as u32 + words[i].trailing_zeros());
+        }
+    }
+    None
 }
 
 /// Makes a bit 0.
