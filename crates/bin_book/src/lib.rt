@@ -20,7 +20,7 @@ mod tests;
 /// The slabs of an arena, in order of first page, with the free regions of each.
 ///
 /// A slab stands in the book as long as a region of it is out. Where the lowest free regions of a
-/// class are, and which slab has an address, is found by halving ordered sets; no slab is looked at
+/// class are, and which slab has an address, is found by searching ordered sets; no slab is looked at
 /// that isn't taken from. [`BinBook::reserve`] makes places for further slabs, whatever their classes.
 #[derive(Drop)]
 pub struct BinBook {

@@ -25,7 +25,7 @@ mod tests;
 /// The extents of an arena, in the order in which each took its present span, state and commit
 /// state.
 ///
-/// An extent is known by its first page. Each look-up halves a few ordered sets or reads a page's
+/// An extent is known by its first page. Each look-up searches a few ordered sets or reads a page's
 /// entry in a table, and scans no list of extents; only `next_flight` goes through those in flight,
 /// which are few. [`PartBook::reserve`] makes room for a number of further extents, whatever their
 /// pages and states. An extent lies in the pages of the space, and no page is in two.
