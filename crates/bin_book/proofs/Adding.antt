@@ -1,7 +1,8 @@
 -- A slab comes.
-use Rattle.std.proofs.Common.{◌≡◌, ◌≢◌, ℕ, ◌+◌, ◌-◌, ◌^◌, ◌<◌, ◌≤◌, Bool, false, eqb, ltb, List, [], ◌∷◌, ◌++◌, length, length-set, map, filter, get_or, set, count_by, ◌⊎◌, inl, inr, refl, sym, ap, ◌∙◌, subst, arith, Contains, Ordering, Less, Equal, Greater, is_lt, is_gt, vec_len, vec_capacity}
+use Rattle.std.proofs.Common.{Some, ◌≡◌, ◌≢◌, ℕ, ◌+◌, ◌-◌, ◌^◌, ◌<◌, ◌≤◌, Bool, false, eqb, ltb, List, [], ◌∷◌, ◌++◌, length, length-set, map, filter, get_or, set, count_by, ◌⊎◌, inl, inr, refl, sym, ap, ◌∙◌, subst, arith, Contains, Ordering, Less, Equal, Greater, is_lt, is_gt, vec_len, vec_capacity}
 use mathlib.Core.Logic.{dite}
 use native.Mathlib.Decide.{ℕ_discrete}
+use Rattle.std.specs.FinMap as map_of
 use Rattle.std.specs.List.{list_any, range_with_len}
 use Rattle.std.proofs.lemmas.Bool.{cases_lt, eq-eqb, eqb-true, false_from_ne_true}
 use Rattle.std.proofs.lemmas.Bool.Decides.{nat_tests}
@@ -19,9 +20,11 @@ use Rattle.ordered_set.proofs.KeyOrder.{key_tie, key_total}
 use Rattle.ordered_set.proofs.Members.{filter_from, with_from, with_keeps, with_self}
 use Rattle.ordered_set.proofs.Orders.{less_from_parts, less_parts}
 use Rattle.ordered_set.proofs.Sorted.{absent, others_is, parts, present}
+use Rattle.bin_book.specs.declared.chart.Chart.{Chart}
 use Rattle.bin_book.specs.declared.table.Table.{Table}
 use Rattle.bin_book.specs.Bins.{meets_slab, place, slab_with_out, with_slab}
-use Rattle.bin_book.specs.Tables.{AreCounts, AreFree, IsBinned, IsKept, IsSlabIn, IsTable, bin_key, bin_of, bits_at, left_of, ones, slab_at, slab_of, slabs_in}
+use Rattle.bin_book.specs.Charts.{HasPage}
+use Rattle.bin_book.specs.Tables.{AreCounts, AreFree, IsBinned, IsCharted, IsKept, IsSlabIn, IsTable, bin_key, bin_of, bits_at, left_of, ones, slab_at, slab_of, slabs_in}
 use Rattle.bin_book.proofs.Lists.{any_false, bit, count_map, count_same, count_some, filter_map_is, filter_same, map_has, map_same}
 use Rattle.bin_book.proofs.Places.{length_ones, run_ones}
 use Rattle.bin_book.proofs.Kept.{bits_here, bits_there, same_slab}
@@ -185,6 +188,25 @@ module _ (t : Table) (i : IsTable t) (class first number : ℕ) (bits : Bits) (i
         ];
       }
 
+  pub chart_place : number < vec_len t.chart.firsts
+  chart_place = let low = i.free.in_slots number was_free in let room = i.chart_room in omega arith
+
+  -- its first page stands at its number, and its pages have no other number
+  pub charted_added : (chart : Chart) → chart.firsts.items ≡ set t.chart.firsts.items number first → ((page n : ℕ) → map_of.get chart.pages.numbers page ≡ Some n → (HasPage first (pages_at class) page × (number ≡ n)) ⊎ (map_of.get t.chart.pages.numbers page ≡ Some n)) → IsCharted slots keys chart
+  charted_added chart firsts only = record {
+    firsts = λ k m. ap (λ ns. get_or ns k.minor 0) firsts ∙ elim (with_from t.firsts.keys slab k m) [
+      | inl e ↦ subst (λ (z : Key). get_or (set t.chart.firsts.items number first) z.minor 0 ≡ z.major) (sym e) (get_or-set_same t.chart.firsts.items number first 0 (let low = chart_place in let same = t.chart.firsts.ok.0 in omega arith))
+      | inr d ↦ get_or-set_other t.chart.firsts.items number k.minor first 0 (other_number k d) ∙ i.charted.firsts k d
+    ];
+    holders = λ page n e. elim (only page n e) [
+      | inl p ↦ (slab, record { there = with_self t.firsts.keys slab; at = p.1; has = subst (λ c. HasPage first (pages_at c) page) (sym (ap (λ (b : Bits). b.class) (bits_here t.slots.items number number bits in_items refl) ∙ is)) p.0 })
+      | inr old ↦
+          let h = i.charted.holders page n old in
+          let there = h.1.there in
+          (h.0, record { there = with_keeps t.firsts.keys slab h.0 there; at = h.1.at; has = subst (λ (b : Bits). HasPage h.0.major (pages_at b.class) page) (sym (bits_there t.slots.items number h.0.minor bits (other_number h.0 there))) h.1.has })
+    ];
+  }
+
   count_rest : (n : ℕ) → count_by (λ m. eqb m n) rest + bit (eqb number n) ≤ 1
   count_rest n =
       let whole = ap (count_by (λ m. eqb m n)) free ∙ sum_by-append (λ m. bit (eqb m n)) rest (number ∷ []) in
@@ -229,19 +251,21 @@ module _ (t : Table) (i : IsTable t) (class first number : ℕ) (bits : Bits) (i
       omega arith)
 
   pub table_added : (small : class < 36) → (u : Table) → u.firsts.keys ≡ keys → u.firsts.spare + 1 ≡ t.firsts.spare → IsAscending u.firsts.keys → u.slots.items ≡ slots → vec_len u.slots ≡ vec_len t.slots → u.free.items ≡ rest → vec_len u.free + 1 ≡ vec_len t.free → vec_capacity u.free ≡ vec_capacity t.free
-      → u.counts ≡ set t.counts class (get_or t.counts class 0 + 1) → u.bins.keys ≡ with_key t.bins.keys (bin_key bits.class (eqb (left_of bits) 0) slab) → u.bins.spare + 1 ≡ t.bins.spare → IsTable u
+      → u.counts ≡ set t.counts class (get_or t.counts class 0 + 1) → IsCharted slots keys u.chart → vec_len u.chart.firsts ≡ vec_len t.chart.firsts → u.bins.keys ≡ with_key t.bins.keys (bin_key bits.class (eqb (left_of bits) 0) slab) → u.bins.spare + 1 ≡ t.bins.spare → IsTable u
   unfolding slabs_in
-  table_added small u firsts spare ascending items len free_items free_len cap counts bins bins_spare =
+  table_added small u firsts spare ascending items len free_items free_len cap counts charted chart_len bins bins_spare =
       let more = ap length firsts ∙ length_with t.firsts.keys slab i.ascending new_key in
       let places = i.places in
       let few = i.small in
       let room = i.room in
+      let chart_room = i.chart_room in
       let firsts_room = i.firsts_room in
       let bins_room = i.bins_room in
       record {
         ascending = ascending;
         kept = rw (items, firsts) kept_added;
         binned = rw (items, firsts) (binned_added u.bins.keys bins);
+        charted = rw (items, firsts) charted;
         in_slots = λ k m. elim (with_from t.firsts.keys slab k (subst (λ ks. Contains ks k) firsts m)) [
           | inl e ↦ let at : k.minor ≡ number = ap (λ (z : Key). z.minor) e in let low = i.free.in_slots number was_free in omega arith
           | inr d ↦ let low = i.in_slots k d in omega arith
@@ -252,6 +276,7 @@ module _ (t : Table) (i : IsTable t) (class first number : ℕ) (bits : Bits) (i
         places = omega arith;
         small = omega arith;
         room = omega arith;
+        chart_room = omega arith;
         firsts_room = omega arith;
         bins_room = omega arith;
       }

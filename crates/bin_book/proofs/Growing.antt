@@ -1,17 +1,21 @@
 -- More slots.
-use Rattle.std.proofs.Common.{append-nil, append_assoc, ◌≡◌, ℕ, ◌+◌, ◌-◌, ◌^◌, ◌<◌, ◌≤◌, zero, suc, eqb, List, [], ◌∷◌, ◌++◌, length, map, get_or, count_by, inl, inr, sym, ap, ◌∙◌, subst, arith, Contains, vec_len, vec_capacity}
+use Rattle.std.proofs.Common.{nat_cmp, append-nil, append_assoc, ◌≡◌, ℕ, ◌+◌, ◌-◌, ◌^◌, ◌<◌, ◌≤◌, zero, suc, eqb, List, [], ◌∷◌, ◌++◌, length, map, get_or, count_by, inl, inr, sym, ap, ◌∙◌, subst, arith, Contains, Some, None, refl, vec_len, vec_capacity}
+use Rattle.std.specs.FinMap as map_of
 use Rattle.std.specs.List.{range_with_len}
 use Rattle.std.specs.List.Sorted.{IsStrictlySortedBy}
 use Rattle.std.proofs.lemmas.Bool.{cases_Bool, cases_lt, eqb-true}
 use Rattle.std.proofs.lemmas.List.{get_or_append_left}
 use Rattle.std.proofs.lemmas.List.Elements.{Contains-append_cases}
 use Rattle.std.proofs.lemmas.List.Sums.{sum_by-append, sum_by-cons}
+use Rattle.size_classes.specs.Classes.{pages_at}
 use Rattle.ordered_set.specs.declared.key.Key.{Key}
 use Rattle.ordered_set.specs.Keys.{IsAscending}
 use Rattle.slab_bits.specs.Slabs.{Slab as Bits}
+use Rattle.bin_book.specs.declared.chart.Chart.{Chart}
 use Rattle.bin_book.specs.declared.table.Table.{Table}
 use Rattle.bin_book.specs.Bins.{Slab}
-use Rattle.bin_book.specs.Tables.{AreFree, IsBinned, IsKept, IsSlabIn, IsTable, bin_key, bits_at, left_of, no_bits, slab_at, slab_of, slabs_in}
+use Rattle.bin_book.specs.Charts.{Grows, HasPage}
+use Rattle.bin_book.specs.Tables.{AreFree, IsBinned, IsCharted, IsKept, IsSlabIn, IsTable, bin_key, bits_at, left_of, no_bits, slab_at, slab_of, slabs_in}
 use Rattle.bin_book.proofs.Lists.{bit, map_same, range_from}
 use Rattle.bin_book.proofs.Removing.{count_zero}
 
@@ -43,7 +47,7 @@ count_range a (suc n) m =
     ]
 
 -- a table with more slots, and more room
-module _ (t u : Table) (i : IsTable t) (firsts : u.firsts.keys ≡ t.firsts.keys) (bins : u.bins.keys ≡ t.bins.keys) (counts : u.counts ≡ t.counts) (agree : (n : ℕ) → n < vec_len t.slots → bits_at u.slots.items n ≡ bits_at t.slots.items n) where
+module _ (t u : Table) (i : IsTable t) (firsts : u.firsts.keys ≡ t.firsts.keys) (bins : u.bins.keys ≡ t.bins.keys) (counts : u.counts ≡ t.counts) (agree : (n : ℕ) → n < vec_len t.slots → bits_at u.slots.items n ≡ bits_at t.slots.items n) (chart : Grows t.chart u.chart) where
   same_bits : (k : Key) → Contains t.firsts.keys k → bits_at u.slots.items k.minor ≡ bits_at t.slots.items k.minor
   same_bits k m = agree k.minor (i.in_slots k m)
 
@@ -58,6 +62,14 @@ module _ (t u : Table) (i : IsTable t) (firsts : u.firsts.keys ≡ t.firsts.keys
   binned_grown = record {
     has = λ k m. subst (λ (b : Bits). Contains t.bins.keys (bin_key b.class (eqb (left_of b) 0) k)) (sym (same_bits k m)) (i.binned.has k m);
     from = λ b m. let p = i.binned.from b m in (p.0, p.1, ap (λ (x : Bits). bin_key x.class (eqb (left_of x) 0) p.0) (same_bits p.0 p.1) ∙ p.2);
+  }
+
+  charted_grown : IsCharted u.slots.items t.firsts.keys u.chart
+  charted_grown = record {
+    firsts = λ k m. chart.firsts k.minor (let low = i.in_slots k m in let room = i.chart_room in omega arith) ∙ i.charted.firsts k m;
+    holders = λ page n e.
+        let h = i.charted.holders page n (ap (λ ns. map_of.get ns page) (sym chart.numbers) ∙ e) in
+        (h.0, record { there = h.1.there; at = h.1.at; has = subst (λ (b : Bits). HasPage h.0.major (pages_at b.class) page) (sym (same_bits h.0 h.1.there)) h.1.has });
   }
 
   pub slabs_grown : slabs_in u ≡ slabs_in t
@@ -84,14 +96,15 @@ module _ (t u : Table) (i : IsTable t) (firsts : u.firsts.keys ≡ t.firsts.keys
   }
 
   pub table_grown : vec_len t.slots ≤ vec_len u.slots → u.free.items ≡ t.free.items ++ range_with_len (vec_len t.slots) (vec_len u.slots - vec_len t.slots) → vec_len u.free + vec_len t.slots ≡ vec_len t.free + vec_len u.slots
-      → vec_len u.slots < 2 ^ 32 → vec_len u.slots ≤ vec_capacity u.free → vec_len u.free ≤ u.firsts.spare → vec_len u.free ≤ u.bins.spare → IsTable u
-  table_grown le free places small room firsts_room bins_room =
+      → vec_len u.slots < 2 ^ 32 → vec_len u.slots ≤ vec_capacity u.free → vec_len u.slots ≤ vec_len u.chart.firsts → vec_len u.free ≤ u.firsts.spare → vec_len u.free ≤ u.bins.spare → IsTable u
+  table_grown le free places small room chart_room firsts_room bins_room =
       let len = ap length firsts in
       let was = i.places in
       record {
         ascending = rw firsts i.ascending;
         kept = rw firsts kept_grown;
         binned = rw (firsts, bins) binned_grown;
+        charted = rw firsts charted_grown;
         in_slots = λ k m. let low = i.in_slots k (subst (λ ks. Contains ks k) firsts m) in omega arith;
         free = rw (free, firsts) (free_grown le);
         classes = ap length counts ∙ i.classes;
@@ -99,13 +112,14 @@ module _ (t u : Table) (i : IsTable t) (firsts : u.firsts.keys ≡ t.firsts.keys
         places = omega arith;
         small = small;
         room = room;
+        chart_room = chart_room;
         firsts_room = firsts_room;
         bins_room = bins_room;
       }
 
--- a table whose sets have more room, and that is as it was otherwise
-pub table_roomy : (t u : Table) → IsTable t → u.firsts.keys ≡ t.firsts.keys → t.firsts.spare ≤ u.firsts.spare → u.bins.keys ≡ t.bins.keys → t.bins.spare ≤ u.bins.spare → u.slots ≡ t.slots → u.free ≡ t.free → u.counts ≡ t.counts → IsTable u × (slabs_in u ≡ slabs_in t)
-table_roomy t u i firsts more bins wider slots free counts =
+-- a table whose sets and chart have more room, and that is as it was otherwise
+pub table_roomy : (t u : Table) → IsTable t → u.firsts.keys ≡ t.firsts.keys → t.firsts.spare ≤ u.firsts.spare → u.bins.keys ≡ t.bins.keys → t.bins.spare ≤ u.bins.spare → u.slots ≡ t.slots → u.free ≡ t.free → u.counts ≡ t.counts → Grows t.chart u.chart → IsTable u × (slabs_in u ≡ slabs_in t)
+table_roomy t u i firsts more bins wider slots free counts chart =
     let items = ap (λ v. v.items) slots in
     let len = ap (λ v. vec_len v) slots in
     let free_items = ap (λ v. v.items) free in
@@ -114,12 +128,17 @@ table_roomy t u i firsts more bins wider slots free counts =
     let agree = (λ (n : ℕ) (l : n < vec_len t.slots). ap (λ xs. bits_at xs n) items) in
     let small = i.small in
     let room = i.room in
+    let chart_room = i.chart_room in
+    let places = chart.places in
     let firsts_room = i.firsts_room in
     let bins_room = i.bins_room in
     let none : vec_len u.slots - vec_len t.slots ≡ 0 = omega arith in (
-      table_grown t u i firsts bins counts agree (omega arith) (free_items ∙ sym (append-nil t.free.items) ∙ ap (λ n. t.free.items ++ range_with_len (vec_len t.slots) n) (sym none)) (omega arith) (omega arith) (omega arith) (omega arith) (omega arith),
-      slabs_grown t u i firsts bins counts agree,
+      table_grown t u i firsts bins counts agree chart (omega arith) (free_items ∙ sym (append-nil t.free.items) ∙ ap (λ n. t.free.items ++ range_with_len (vec_len t.slots) n) (sym none)) (omega arith) (omega arith) (omega arith) (omega arith) (omega arith) (omega arith),
+      slabs_grown t u i firsts bins counts agree chart,
     )
+
+pub same_chart : (chart : Chart) → Grows chart chart
+same_chart chart = record { numbers = refl; firsts = λ n l. refl; places = omega arith }
 
 -- ---- a table without slabs
 
@@ -131,13 +150,14 @@ none_ascending : IsAscending []
 unfolding IsStrictlySortedBy
 none_ascending = tt
 
-pub empty_table : (t : Table) → t.firsts.keys ≡ [] → t.bins.keys ≡ [] → vec_len t.slots ≡ 0 → t.free.items ≡ [] → vec_len t.free ≡ 0 → length t.counts ≡ 36 → ((class : ℕ) → class < 36 → get_or t.counts class 0 ≡ 0) → IsTable t
-empty_table t firsts bins slots free free_len classes zeros =
+pub empty_table : (t : Table) → t.firsts.keys ≡ [] → t.bins.keys ≡ [] → vec_len t.slots ≡ 0 → t.free.items ≡ [] → vec_len t.free ≡ 0 → length t.counts ≡ 36 → ((class : ℕ) → class < 36 → get_or t.counts class 0 ≡ 0) → t.chart.pages.numbers ≡ map_of.empty → IsTable t
+empty_table t firsts bins slots free free_len classes zeros chart =
     let none = λ (k : Key) (m : Contains t.firsts.keys k). no_member firsts m in
     record {
       ascending = rw firsts none_ascending;
       kept = record { slab = λ k m. absurd (none k m); apart = λ k l m. absurd (none k m); numbers = λ k l m. absurd (none k m) };
       binned = record { has = λ k m. absurd (none k m); from = λ b m. absurd (no_member bins m) };
+      charted = record { firsts = λ k m. absurd (none k m); holders = λ page n e. absurd (let no : None ≡ Some n = sym (ap (λ ns. map_of.get ns page) chart ∙ map_of.get-empty nat_cmp page) ∙ e in cc) };
       in_slots = λ k m. absurd (none k m);
       free = record { in_slots = λ n m. absurd (no_member free m); unused = λ n k m. absurd (no_member free m); once = λ n. rw free (omega arith) };
       classes = classes;
@@ -145,6 +165,7 @@ empty_table t firsts bins slots free free_len classes zeros =
       places = let len = ap length firsts in omega arith;
       small = omega arith;
       room = omega arith;
+      chart_room = omega arith;
       firsts_room = omega arith;
       bins_room = omega arith;
     }

@@ -1,5 +1,7 @@
 -- The slab that has an address, and those that share pages with a span.
-use Rattle.std.proofs.Common.{◌≡◌, ℕ, ◌+◌, ◌-◌, ◌*◌, ◌/◌, ◌%◌, ◌<◌, ◌≤◌, Bool, true, false, not, ◌&&◌, eqb, ltb, List, length, map, filter, get_or, Some, None, ◌⊎◌, inl, inr, refl, sym, ap, ◌∙◌, subst, arith, Contains, is_lt}
+use Rattle.std.proofs.Common.{Option, IfNone, IfSome, ◌≡◌, ℕ, ◌+◌, ◌-◌, ◌*◌, ◌/◌, ◌%◌, ◌<◌, ◌≤◌, Bool, true, false, not, ◌&&◌, eqb, ltb, List, length, map, filter, get_or, Some, None, ◌⊎◌, inl, inr, refl, sym, ap, ◌∙◌, subst, arith, Contains, is_lt, vec_len}
+use Rattle.std.specs.FinMap as map_of
+use Rattle.std.specs.Option.{option_map}
 use Rattle.std.specs.List.{list_any, range_with_len}
 use Rattle.std.proofs.lemmas.Nat.{div-add-mod'}
 use Rattle.std.proofs.Math.Nat.{mul-div_cancel, mul-mod_left}
@@ -16,15 +18,9 @@ use Rattle.ordered_set.proofs.Orders.{last_greatest, less_from_parts, less_parts
 use Rattle.ordered_set.proofs.Sorted.{every_member, less_from_lt}
 use Rattle.bin_book.specs.declared.table.Table.{Table}
 use Rattle.bin_book.specs.Bins.{Slab, is_among, is_out, place, places}
-use Rattle.bin_book.specs.Tables.{HasOut, IsOutAt, IsTable, bits_at, ones, slab_at, slabs_in}
+use Rattle.bin_book.specs.Tables.{HasOut, IsLastBelow, IsOutAt, IsTable, bits_at, ones, slab_at, slabs_in}
 use Rattle.bin_book.proofs.Lists.{any_from, any_has, any_map, any_none, map_from, map_has, range_from, range_has}
 use Rattle.bin_book.proofs.Places.{among_ones, place_inside}
-
--- the key of the last slab that begins below a page
-pub record IsLastBelow (keys : List Key) (page : ℕ) (key : Key) : Type 0 where
-  pub there : Contains keys key
-  pub below : key.major < page
-  pub last : (k : Key) → Contains keys k → k.major < page → k.major ≤ key.major
 
 below_page : (k : Key) (page : ℕ) → k.major < page → is_below (start page) k ≡ true
 below_page k page l = ap is_lt (less_from_parts k (start page) (inl l))
@@ -53,6 +49,15 @@ none_below keys page e k m = elim (cases_lt k.major page) [
         let some = slice_get-get_or ks (length ks - 1) k (omega arith) in
         let no : None ≡ Some (get_or ks (length ks - 1) k) = sym e ∙ some in cc
 
+-- what a search below a page finds
+pub last_found : (keys : List Key) (page : ℕ) (found : Option Key) → IsAscending keys → found ≡ last_of (filter (is_below (start page)) keys) → IfSome found (λ key. IsLastBelow keys page key)
+last_found keys page None ascending e = tt
+last_found keys page (Some key) ascending e = last_below keys page key ascending (sym e)
+
+pub none_found : (keys : List Key) (page : ℕ) (found : Option Key) → found ≡ last_of (filter (is_below (start (page + 1))) keys) → IfNone found ((k : Key) → Contains keys k → page < k.major)
+none_found keys page None e = λ k m. let far = none_below keys (page + 1) (sym e) k m in omega arith
+none_found keys page (Some key) e = tt
+
 module _ (t : Table) (i : IsTable t) where
   pages_of : (k : Key) → Contains t.firsts.keys k → 1 ≤ pages_at (bits_at t.slots.items k.minor).class
   pages_of k m = (pages_bounds _ (let s = (i.kept.slab k m).small in omega arith)).0
@@ -63,6 +68,41 @@ module _ (t : Table) (i : IsTable t) where
     | inl l ↦ elim (i.kept.apart k key m last.there (last.last k m l)) [ inl e ↦ inl e | inr far ↦ inr (inl far) ]
     | inr g ↦ inr (inr g)
   ]
+
+  -- a page has a number only where a slab has the page, which is the last one that begins there or below
+  pub charted_last : (page number : ℕ) → map_of.get t.chart.pages.numbers page ≡ Some number → IsLastBelow t.firsts.keys (page + 1) (record { major = get_or t.chart.firsts.items number 0; minor = number })
+  charted_last page number e =
+      let h = i.charted.holders page number e in
+      let key = h.0 in
+      let there = h.1.there in
+      let has = h.1.has in
+      let first : get_or t.chart.firsts.items number 0 ≡ key.major = ap (λ n. get_or t.chart.firsts.items n 0) (sym h.1.at) ∙ i.charted.firsts key there in
+      let same : key ≡ record { major = get_or t.chart.firsts.items number 0; minor = number } = (λ x. record { major = sym first x; minor = h.1.at x }) in
+      subst (IsLastBelow t.firsts.keys (page + 1)) same (record {
+        there = there;
+        below = omega (arith, has.0);
+        last = λ k m l. elim (cases_lt key.major k.major) [
+          | inl above ↦ elim (i.kept.apart key k there m (omega arith)) [
+            | inl e ↦ let at : key.major ≡ k.major = ap (λ (z : Key). z.major) e in omega arith
+            | inr far ↦ let low = has.1 in absurd (omega arith)
+          ]
+          | inr low ↦ low
+        ];
+      })
+
+  pub charted_found : (page : ℕ) (key : Key) → option_map (λ number. record { major = get_or t.chart.firsts.items number 0; minor = number }) (map_of.get t.chart.pages.numbers page) ≡ Some key → IsLastBelow t.firsts.keys (page + 1) key
+  charted_found page key e = by (map_of.get t.chart.pages.numbers page) refl e
+    where
+      by : (o : Option ℕ) → map_of.get t.chart.pages.numbers page ≡ o → option_map (λ number. record { major = get_or t.chart.firsts.items number 0; minor = number }) o ≡ Some key → IsLastBelow t.firsts.keys (page + 1) key
+      by None is e = absurd (cc)
+      by (Some number) is e = subst (IsLastBelow t.firsts.keys (page + 1)) (cc) (charted_last page number is)
+
+  pub charted_place : (page number : ℕ) → map_of.get t.chart.pages.numbers page ≡ Some number → number < vec_len t.chart.firsts
+  charted_place page number e =
+      let h = i.charted.holders page number e in
+      let low = i.in_slots h.0 h.1.there in
+      let room = i.chart_room in
+      omega (arith, h.1.at)
 
   -- ---- sharing pages
 

@@ -3,15 +3,17 @@ use Rattle.std.proofs.Common.{◌≡◌, ◌≢◌, ℕ, ◌+◌, ◌*◌, ◌^�
 use Rattle.std.proofs.lemmas.Bool.{cases_lt}
 use Rattle.std.proofs.lemmas.Cmp.{tied_itself}
 use Rattle.std.proofs.lemmas.List.{get_or-set_other, get_or-set_same}
-use Rattle.size_classes.specs.Classes.{regions_at}
+use Rattle.size_classes.specs.Classes.{pages_at, regions_at}
 use Rattle.size_classes.proofs.Table.{size_bounds}
 use Rattle.slab_bits.specs.Slabs.{Slab as Bits}
 use Rattle.ordered_set.specs.declared.key.Key.{Key}
 use Rattle.ordered_set.specs.Keys.{key_cmp, with_key, without_key}
 use Rattle.ordered_set.proofs.KeyOrder.{key_tie, key_total}
 use Rattle.ordered_set.proofs.Members.{with_from, with_keeps, with_self, without_from, without_keeps}
+use Rattle.bin_book.specs.declared.chart.Chart.{Chart}
 use Rattle.bin_book.specs.Bins.{place}
-use Rattle.bin_book.specs.Tables.{IsBinned, IsKept, IsMoved, IsSlabIn, bin_key, bin_of, bits_at, left_of, no_bits, slab_at}
+use Rattle.bin_book.specs.Charts.{HasPage}
+use Rattle.bin_book.specs.Tables.{IsBinned, IsCharted, IsKept, IsMoved, IsSlabIn, bin_key, bin_of, bits_at, left_of, no_bits, slab_at}
 use Rattle.bin_book.proofs.Lists.{count_map, count_same}
 use Rattle.bin_book.proofs.Places.{place_inside, same_place}
 
@@ -110,6 +112,14 @@ module _ (slots : List Bits) (keys : List Key) (kept : IsKept slots keys) (key :
     slab = by_key (λ k b. IsSlabIn b k.major) is (λ k m ne. kept.slab k m);
     apart = λ k l m n le. let same = class_stays k m in rw same (kept.apart k l m n le);
     numbers = kept.numbers;
+  }
+
+  pub charted_changed : (chart : Chart) → IsCharted slots keys chart → IsCharted (set slots key.minor new) keys chart
+  charted_changed chart charted = record {
+    firsts = charted.firsts;
+    holders = λ page n e.
+        let h = charted.holders page n e in
+        (h.0, record { there = h.1.there; at = h.1.at; has = subst (λ c. HasPage h.0.major (pages_at c) page) (sym (class_stays h.0 h.1.there)) h.1.has });
   }
 
   pub counts_stay : (c : ℕ) → count_by (λ s. eqb s.class c) (map (slab_at (set slots key.minor new)) keys) ≡ count_by (λ s. eqb s.class c) (map (slab_at slots) keys)

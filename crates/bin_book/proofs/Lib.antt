@@ -1,5 +1,6 @@
 pub mod Lists
 pub mod Places
+pub mod Charting
 pub mod Kept
 pub mod Open
 pub mod Taking

@@ -1,5 +1,6 @@
 -- A slab goes.
-use Rattle.std.proofs.Common.{◌≡◌, ℕ, ◌+◌, ◌-◌, ◌<◌, ◌≤◌, zero, suc, eqb, List, [], ◌∷◌, ◌++◌, length, length-set, map, get_or, set, count_by, Some, None, inl, inr, refl, sym, ap, ◌∙◌, subst, arith, Contains, slice_get, vec_len, vec_capacity}
+use Rattle.std.proofs.Common.{◌≡◌, ◌≢◌, ℕ, ◌+◌, ◌-◌, ◌<◌, ◌≤◌, zero, suc, eqb, List, [], ◌∷◌, ◌++◌, length, length-set, map, get_or, set, count_by, Some, None, inl, inr, refl, sym, ap, ◌∙◌, subst, arith, Contains, slice_get, vec_len, vec_capacity}
+use Rattle.std.specs.FinMap as map_of
 use mathlib.Core.Logic.{dite}
 use native.Mathlib.Decide.{ℕ_discrete}
 use Rattle.std.proofs.lemmas.Bool.{cases_Bool, eq-eqb, eqb-true, false_from_ne_true}
@@ -7,12 +8,15 @@ use Rattle.std.proofs.lemmas.List.{get_or-set_other, get_or-set_same, length-map
 use Rattle.std.proofs.lemmas.Option.{get_or_from_slice_get, slice_get_within}
 use Rattle.std.proofs.lemmas.List.Elements.{Contains-push_cases}
 use Rattle.std.proofs.lemmas.List.Sums.{sum_by-append, sum_by-cons}
+use Rattle.size_classes.specs.Classes.{pages_at}
 use Rattle.ordered_set.specs.declared.key.Key.{Key}
 use Rattle.ordered_set.specs.Keys.{IsAscending, without_key}
 use Rattle.ordered_set.proofs.Calls.{length_without}
 use Rattle.ordered_set.proofs.Members.{without_from, without_keeps}
+use Rattle.bin_book.specs.declared.chart.Chart.{Chart}
 use Rattle.bin_book.specs.declared.table.Table.{Table}
-use Rattle.bin_book.specs.Tables.{AreCounts, AreFree, IsBinned, IsKept, IsTable, bin_of, bits_at, slab_at, slabs_in, slabs_without}
+use Rattle.bin_book.specs.Charts.{HasPage}
+use Rattle.bin_book.specs.Tables.{AreCounts, AreFree, IsBinned, IsCharted, IsKept, IsTable, bin_of, bits_at, slab_at, slabs_in, slabs_without}
 use Rattle.bin_book.proofs.Lists.{bit, count_map}
 use Rattle.bin_book.proofs.Adding.{count_without}
 use Rattle.bin_book.proofs.Kept.{same_slab}
@@ -47,6 +51,17 @@ module _ (t : Table) (i : IsTable t) (slab : Key) (there : Contains t.firsts.key
         let p = without_from t.bins.keys (bin_of t.slots.items slab) b m in
         let q = i.binned.from b p.0 in
         (q.0, without_keeps t.firsts.keys slab q.0 q.1 (λ e. p.1 (sym q.2 ∙ ap (bin_of t.slots.items) e)), q.2);
+  }
+
+  -- no page has its number any more
+  pub charted_less : (chart : Chart) → chart.firsts ≡ t.chart.firsts → ((page : ℕ) → HasPage slab.major (pages_at (bits_at t.slots.items slab.minor).class) page → map_of.get chart.pages.numbers page ≡ None)
+      → ((page n : ℕ) → map_of.get chart.pages.numbers page ≡ Some n → map_of.get t.chart.pages.numbers page ≡ Some n) → IsCharted t.slots.items keys chart
+  charted_less chart firsts none only = record {
+    firsts = λ k m. ap (λ v. get_or v.items k.minor 0) firsts ∙ i.charted.firsts k (without_from t.firsts.keys slab k m).0;
+    holders = λ page n e.
+        let h = i.charted.holders page n (only page n e) in
+        let gone : h.0 ≢ slab = (λ same. let no : None ≡ Some n = sym (none page (subst (λ (z : Key). HasPage z.major (pages_at (bits_at t.slots.items z.minor).class) page) same h.1.has)) ∙ e in cc) in
+        (h.0, record { there = without_keeps t.firsts.keys slab h.0 h.1.there gone; at = h.1.at; has = h.1.has });
   }
 
   free_more : AreFree (t.free.items ++ slab.minor ∷ []) keys (vec_len t.slots)
@@ -117,9 +132,9 @@ module _ (t : Table) (i : IsTable t) (slab : Key) (there : Contains t.firsts.key
   room_for_one = let one = fewer_keys in let places = i.places in let room = i.room in omega arith
 
   pub table_less : (u : Table) → u.firsts.keys ≡ keys → u.firsts.spare ≡ t.firsts.spare + 1 → IsAscending u.firsts.keys → u.slots ≡ t.slots → u.free.items ≡ t.free.items ++ slab.minor ∷ [] → vec_len u.free ≡ vec_len t.free + 1 → vec_capacity t.free ≤ vec_capacity u.free
-      → u.counts ≡ set t.counts class_of_slab (get_or t.counts class_of_slab 0 - 1) → u.bins.keys ≡ without_key t.bins.keys (bin_of t.slots.items slab) → u.bins.spare ≡ t.bins.spare + 1 → IsTable u
+      → u.counts ≡ set t.counts class_of_slab (get_or t.counts class_of_slab 0 - 1) → IsCharted t.slots.items keys u.chart → vec_len u.chart.firsts ≡ vec_len t.chart.firsts → u.bins.keys ≡ without_key t.bins.keys (bin_of t.slots.items slab) → u.bins.spare ≡ t.bins.spare + 1 → IsTable u
   unfolding slabs_in
-  table_less u firsts spare ascending slots free_items free_len cap counts bins bins_spare =
+  table_less u firsts spare ascending slots free_items free_len cap counts charted chart_len bins bins_spare =
       let items = ap (λ v. v.items) slots in
       let len = ap (λ v. vec_len v) slots in
       let fewer = ap length firsts in
@@ -127,12 +142,14 @@ module _ (t : Table) (i : IsTable t) (slab : Key) (there : Contains t.firsts.key
       let places = i.places in
       let few = i.small in
       let room = i.room in
+      let chart_room = i.chart_room in
       let firsts_room = i.firsts_room in
       let bins_room = i.bins_room in
       record {
         ascending = ascending;
         kept = rw (items, firsts) kept_less;
         binned = rw (items, firsts, bins) binned_less;
+        charted = rw (items, firsts) charted;
         in_slots = λ k m. let low = i.in_slots k (without_from t.firsts.keys slab k (subst (λ ks. Contains ks k) firsts m)).0 in omega arith;
         free = rw (free_items, firsts, len) free_more;
         classes = ap length counts ∙ length-set t.counts class_of_slab (get_or t.counts class_of_slab 0 - 1) ∙ i.classes;
@@ -140,6 +157,7 @@ module _ (t : Table) (i : IsTable t) (slab : Key) (there : Contains t.firsts.key
         places = omega arith;
         small = omega arith;
         room = omega arith;
+        chart_room = omega arith;
         firsts_room = omega arith;
         bins_room = omega arith;
       }

@@ -22,7 +22,7 @@ use Rattle.bin_book.specs.Bins.{Slab, free_of, place, with_free, without}
 use Rattle.bin_book.specs.Tables.{IsLowestOpen, IsMoved, IsOutAt, IsSlabIn, IsTable, bin_key, bin_of, bits_at, left_of, slab_at, slab_of, slabs_in}
 use Rattle.bin_book.proofs.Lists.{bit, head, map_both, map_same}
 use Rattle.bin_book.proofs.Places.{freed_slab, lowest_one, same_place, taken_slab}
-use Rattle.bin_book.proofs.Kept.{binned_changed, by_key, counts_stay, is_new, kept_changed, one_place, others_stay}
+use Rattle.bin_book.proofs.Kept.{binned_changed, charted_changed, by_key, counts_stay, is_new, kept_changed, one_place, others_stay}
 use Rattle.bin_book.proofs.Open.{full_free, less_ne, small_numbers}
 
 -- the bits with one written
@@ -77,9 +77,9 @@ module _ (t : Table) (i : IsTable t) (key : Key) (there : Contains t.firsts.keys
   pub in_items : key.minor < length t.slots.items
   in_items = let l = i.in_slots key there in let same = t.slots.ok.0 in omega arith
 
-  pub table_changed : IsSlabIn new key.major → (u : Table) → u.firsts ≡ t.firsts → u.slots.items ≡ after → vec_len u.slots ≡ vec_len t.slots → u.free ≡ t.free → u.counts ≡ t.counts → IsMoved t.bins.keys u.bins.keys (bin_of t.slots.items key) (bin_key new.class (eqb (left_of new) 0) key) → u.bins.spare ≡ t.bins.spare → IsTable u
+  pub table_changed : IsSlabIn new key.major → (u : Table) → u.firsts ≡ t.firsts → u.slots.items ≡ after → vec_len u.slots ≡ vec_len t.slots → u.free ≡ t.free → u.counts ≡ t.counts → u.chart ≡ t.chart → IsMoved t.bins.keys u.bins.keys (bin_of t.slots.items key) (bin_key new.class (eqb (left_of new) 0) key) → u.bins.spare ≡ t.bins.spare → IsTable u
   unfolding slabs_in
-  table_changed is u firsts items len free counts moved spare =
+  table_changed is u firsts items len free counts chart moved spare =
       let keys = ap (λ (s : KeySet). s.keys) firsts in
       let firsts_spare = ap (λ (s : KeySet). s.spare) firsts in
       let free_len = ap (λ v. vec_len v) free in
@@ -89,6 +89,7 @@ module _ (t : Table) (i : IsTable t) (key : Key) (there : Contains t.firsts.keys
         ascending = rw keys i.ascending;
         kept = rw (items, keys) (kept_changed t.slots.items t.firsts.keys i.kept key there in_items new class is);
         binned = rw (items, keys) (binned_changed t.slots.items t.firsts.keys i.kept key there in_items new class (small_numbers t i) t.bins.keys u.bins.keys i.binned moved);
+        charted = rw (items, keys, chart) (charted_changed t.slots.items t.firsts.keys i.kept key there in_items new class t.chart i.charted);
         in_slots = rw (keys, len) i.in_slots;
         free = rw (keys, len, free_items) i.free;
         classes = rw counts i.classes;
@@ -96,6 +97,7 @@ module _ (t : Table) (i : IsTable t) (key : Key) (there : Contains t.firsts.keys
         places = rw (keys, free_len, len) i.places;
         small = rw len i.small;
         room = rw (len, free_cap) i.room;
+        chart_room = rw (len, chart) i.chart_room;
         firsts_room = rw (free_len, firsts_spare) i.firsts_room;
         bins_room = rw (free_len, spare) i.bins_room;
       }

@@ -1,3 +1,4 @@
 pub mod Bins
+pub mod Charts
 pub mod Shown
 pub mod Tables

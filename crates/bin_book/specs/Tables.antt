@@ -1,12 +1,15 @@
 -- What a table keeps of its slabs.
-use Rattle.std.specs.Prelude.{◌≡◌, ◌≢◌, ◌==◌, ◌⊎◌, ℕ, ◌+◌, ◌*◌, ◌^◌, ◌<◌, ◌≤◌, Bool, false, cond, List, [], map, filter, length, count_by, slice_index_or, vec_len, vec_capacity, Contains}
+use Rattle.std.specs.Prelude.{◌≡◌, ◌≢◌, ◌==◌, ◌⊎◌, ℕ, ◌+◌, ◌*◌, ◌^◌, ◌<◌, ◌≤◌, Bool, false, cond, List, [], map, filter, length, count_by, slice_index_or, Some, vec_len, vec_capacity, Contains}
+use Rattle.std.specs.FinMap as map_of
 use Rattle.std.specs.List.{range_with_len}
 use Rattle.size_classes.specs.Classes.{pages_at, regions_at}
 use Rattle.slab_bits.specs.Slabs.{Slab as Bits}
 use Rattle.ordered_set.specs.declared.key.Key.{Key}
 use Rattle.ordered_set.specs.Keys.{IsAscending, without_key}
+use Rattle.bin_book.specs.declared.chart.Chart.{Chart}
 use Rattle.bin_book.specs.declared.table.Table.{Table}
 use Rattle.bin_book.specs.Bins.{Slab, place}
+use Rattle.bin_book.specs.Charts.{HasPage, first_at}
 
 -- what stands in a slot that has no slab
 abbrev pub no_bits : Bits
@@ -72,6 +75,17 @@ pub record AreFree (free : List ℕ) (keys : List Key) (slots : ℕ) : Type 0 wh
   pub unused : (n : ℕ) (k : Key) → Contains free n → Contains keys k → k.minor ≢ n
   pub once : (n : ℕ) → count_by (λ m. m == n) free ≤ 1
 
+-- the slab with this key has the number and the page
+pub record IsHolder (slots : List Bits) (keys : List Key) (number page : ℕ) (key : Key) : Type 0 where
+  pub there : Contains keys key
+  pub at : key.minor ≡ number
+  pub has : HasPage key.major (pages_at (bits_at slots key.minor).class) page
+
+-- the first page of each slab stands at its number, and a page has a number only where the slab with that number has the page
+pub record IsCharted (slots : List Bits) (keys : List Key) (chart : Chart) : Type 0 where
+  pub firsts : (k : Key) → Contains keys k → first_at chart.firsts.items k.minor ≡ k.major
+  pub holders : (page number : ℕ) → map_of.get chart.pages.numbers page ≡ Some number → (k : Key) × IsHolder slots keys number page k
+
 -- so many slabs of each class are counted
 abbrev pub AreCounts : List ℕ → List Slab → Type 0
 AreCounts counts slabs = (class : ℕ) → class < 36 → slice_index_or counts class 0 ≡ count_by (λ s. s.class == class) slabs
@@ -82,11 +96,18 @@ pub record IsMoved (old new : List Key) (was now : Key) : Type 0 where
   pub now_there : Contains new now
   pub from : (k : Key) → Contains new k → (k ≡ now) ⊎ (Contains old k × (k ≢ was))
 
--- slots, sets and counts keep the slabs, and there is room for as many as there are free slots
+-- the key of the last slab that begins below a page
+pub record IsLastBelow (keys : List Key) (page : ℕ) (key : Key) : Type 0 where
+  pub there : Contains keys key
+  pub below : key.major < page
+  pub last : (k : Key) → Contains keys k → k.major < page → k.major ≤ key.major
+
+-- slots, sets, chart and counts keep the slabs, and there is room for as many as there are free slots
 pub record IsTable (t : Table) : Type 0 where
   pub ascending : IsAscending t.firsts.keys
   pub kept : IsKept t.slots.items t.firsts.keys
   pub binned : IsBinned t.slots.items t.firsts.keys t.bins.keys
+  pub charted : IsCharted t.slots.items t.firsts.keys t.chart
   pub in_slots : (k : Key) → Contains t.firsts.keys k → k.minor < vec_len t.slots
   pub free : AreFree t.free.items t.firsts.keys (vec_len t.slots)
   pub classes : length t.counts ≡ 36
@@ -94,6 +115,7 @@ pub record IsTable (t : Table) : Type 0 where
   pub places : length t.firsts.keys + vec_len t.free ≡ vec_len t.slots
   pub small : vec_len t.slots < 2 ^ 32
   pub room : vec_len t.slots ≤ vec_capacity t.free
+  pub chart_room : vec_len t.slots ≤ vec_len t.chart.firsts
   pub firsts_room : vec_len t.free ≤ t.firsts.spare
   pub bins_room : vec_len t.free ≤ t.bins.spare
 

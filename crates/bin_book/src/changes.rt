@@ -7,7 +7,7 @@ ghost use Rattle.bin_book.specs.Tables.{IsMoved, IsOutAt, IsTable, bits_at, left
 
 use crate::table::{Table, bin_key};
 use ordered_set::{Key, OrderedSet};
-use size_classes::{PAGE_BYTES, size_of};
+use size_classes::{PAGE_BYTES, class_pages, size_of};
 use slab_bits::SlabBits;
 
 impl Table {
@@ -33,6 +33,7 @@ impl Table {
         self.firsts.insert(slab);
         self.bins
             .insert(bin_key(class, bits.free_count() == 0, slab));
+        self.chart.add(slab, class_pages(class));
         self.slots[number as usize] = bits;
         self.counts[class as usize] += 1;
     }
@@ -89,6 +90,7 @@ impl Table {
         let is_full = self.left(slab) == 0;
         self.bins.remove(bin_key(class, is_full, slab));
         self.firsts.remove(slab);
+        self.chart.remove(slab.major, class_pages(class));
         self.free.push(slab.minor as u32).unwrap();
         self.counts[class as usize] -= 1;
     }

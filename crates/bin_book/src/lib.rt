@@ -13,6 +13,7 @@ use std::alloc::{AllocError as NoMemory, Global};
 use std::marker::Model;
 
 mod changes;
+mod chart;
 mod table;
 #[cfg(test)]
 mod tests;

@@ -3,8 +3,9 @@ ghost use Rattle.std.specs.Prelude.{◌≡◌, ◌==◌, ℕ, ◌+◌, ◌-◌, 
 ghost use Rattle.std.specs.List.{list_any, range_with_len};
 ghost use Rattle.size_classes.specs.Classes.{IsSmall, pages_at};
 ghost use Rattle.bin_book.specs.Bins.{free_of, is_out};
-ghost use Rattle.bin_book.specs.Tables.{HasOut, IsLowestOpen, IsOutAt, IsTable, bin_key, bits_at, left_of, slabs_in};
+ghost use Rattle.bin_book.specs.Tables.{HasOut, IsLastBelow, IsLowestOpen, IsOutAt, IsTable, bin_key, bits_at, left_of, slabs_in};
 
+use crate::chart::Chart;
 use ordered_set::{Key, OrderedSet};
 use size_classes::{PAGE_BYTES, class_pages, size_of, slab_regions};
 use slab_bits::SlabBits;
@@ -17,12 +18,13 @@ pub const CLASSES: usize = 36;
 const RADIX: u64 = 1 << 32;
 
 /// Each slab has a number, the place of the slot that has its bits. Its number stands in two sets,
-/// by first page and by class, where slabs with free regions come first. A slot without a slab has
-/// its number among the free ones.
+/// by first page and by class, where slabs with free regions come first, and in the chart at each of
+/// its pages. A slot without a slab has its number among the free ones.
 #[derive(Drop)]
 pub struct Table {
     pub firsts: OrderedSet,
     pub bins: OrderedSet,
+    pub chart: Chart,
     pub slots: Vec<SlabBits>,
     pub free: Vec<u32>,
     pub counts: [u64; CLASSES],
@@ -60,6 +62,7 @@ impl Table {
         Table {
             firsts: OrderedSet::new(alloc),
             bins: OrderedSet::new(alloc),
+            chart: Chart::new(alloc),
             slots: Vec::new(alloc),
             free: Vec::new(alloc),
             counts: [0; CLASSES],
@@ -74,16 +77,32 @@ impl Table {
         ensures ok { OnOk result (vec_len self.new.free ≡ max (vec_len self.old.free) more) }
         ensures err { OnErr result (vec_len self.new.free ≡ vec_len self.old.free) }
     {
-        if more <= self.spare() {
-            return Ok(());
-        }
         let all = self.firsts.len().checked_add(more).ok_or(NoMemory)?;
         if all >= RADIX {
             return Err(NoMemory);
         }
+        self.chart.reserve(more, all as usize)?;
+        if more <= self.spare() {
+            return Ok(());
+        }
+        self.widen(more, all as usize)
+    }
+
+    // Makes room for so many further slabs in the sets and the slots, where the chart has it.
+    fn widen(&mut self, more: u64, all: usize) -> Result<(), NoMemory>
+        requires table { IsTable self.old }
+        requires all { all ≡ length self.old.firsts.keys + more }
+        requires small { all < 2 ^ 32 }
+        requires more { vec_len self.old.free ≤ more }
+        requires chart { all ≤ vec_len self.old.chart.firsts }
+        ensures table { IsTable self.new }
+        ensures slabs { slabs_in self.new ≡ slabs_in self.old }
+        ensures ok { OnOk result (vec_len self.new.free ≡ more) }
+        ensures err { OnErr result (vec_len self.new.free ≡ vec_len self.old.free) }
+    {
         self.firsts.reserve(more)?;
         self.bins.reserve(more)?;
-        add_slots(&mut self.slots, &mut self.free, all as usize)
+        add_slots(&mut self.slots, &mut self.free, all)
     }
 
     /// How many slots have no slab.
@@ -138,11 +157,7 @@ impl Table {
         ensures some { IfSome result (λ found. IsOutAt self.now class addr found.0 found.1) }
         ensures none { is_some result ≡ list_any (is_out class addr) (slabs_in self.now) }
     {
-        let next = Key {
-            major: addr / PAGE_BYTES + 1,
-            minor: 0,
-        };
-        let slab = self.firsts.before(next)?;
+        let slab = self.last_at(addr / PAGE_BYTES)?;
         let offset = addr - PAGE_BYTES * slab.major;
         let size = size_of(class);
         if self.has_out(slab, class, offset / size) && offset % size == 0 {
@@ -150,6 +165,22 @@ impl Table {
         } else {
             None
         }
+    }
+
+    // The last slab that begins at a page or below. It is the one that has the page, if one has.
+    fn last_at(&self, page: u64) -> Option<Key>
+        requires table { IsTable self.now }
+        requires page { page + 1 < 2 ^ 64 }
+        ensures some { IfSome result (λ key. IsLastBelow self.now.firsts.keys (page + 1) key) }
+        ensures none { IfNone result ((key : Key) → Contains self.now.firsts.keys key → page < key.major) }
+    {
+        if let Some(slab) = self.chart.find(page) {
+            return Some(slab);
+        }
+        self.firsts.before(Key {
+            major: page + 1,
+            minor: 0,
+        })
     }
 
     // Whether the slab is of the class, and its region with a number is out.

@@ -3,7 +3,7 @@ use Rattle.size_classes.specs.Classes.{pages_at, regions_at}
 use Rattle.ordered_set.specs.Keys.{with_key}
 use Rattle.bin_book.specs.Bins.{slab_with_out, with_slab}
 use Rattle.bin_book.specs.Tables.{IsSlabIn, bin_key, slabs_in}
-use Rattle.bin_book.proofs.Adding.{few_slabs, in_items, new_bin, new_in, new_key, new_slab, slabs_added, table_added}
+use Rattle.bin_book.proofs.Adding.{chart_place, charted_added, few_slabs, in_items, new_bin, new_in, new_key, new_slab, slabs_added, table_added}
 use Rattle.bin_book.proofs.table.Table.add.Goals as goal
 
 pub overflow_add-self : goal.overflow_add-self
@@ -26,9 +26,14 @@ insert-requires-2-clause-absent c m =
     let b = c.before.before.before.before.before in
     new_bin c.args.self.now c.requires.table c.args.class c.args.first c.from.result c.with_out-bits.result c.with_out-bits.ensures.class (new b) c.pop.new.self.items (free b) c.requires.apart _ (subst (Contains c.args.self.now.bins.keys) c.bin_key.ensures m)
 
+pub add-requires-clause-place : goal.add-requires-clause-place
+add-requires-clause-place c =
+    let b = c.before.before.before.before.before.before.before.before in
+    chart_place c.args.self.now c.requires.table c.args.class c.args.first c.from.result c.with_out-bits.result c.with_out-bits.ensures.class (new b) c.pop.new.self.items (free b) c.requires.apart
+
 pub index_mut-requires : goal.index_mut-requires
 index_mut-requires c =
-    let b = c.before.before.before.before.before.before.before in
+    let b = c.before.before.before.before.before.before.before.before.before.before in
     let low = in_items c.args.self.now c.requires.table c.args.class c.args.first c.from.result c.with_out-bits.result c.with_out-bits.ensures.class (new b) c.pop.new.self.items (free b) c.requires.apart in
     let same = c.args.self.now.slots.ok.0 in
     let is = c.from.ensures in
@@ -36,18 +41,19 @@ index_mut-requires c =
 
 pub returns-clause-table : goal.returns-clause-table
 returns-clause-table c =
-    let b = c.before.before.before.before.before.before.before.before.before.before.before in
+    let b = c.before.before.before.before.before.before.before.before.before.before.before.before.before.before in
     let t = c.args.self.now in
     let bits = c.with_out-bits.result in
     let class = c.with_out-bits.ensures.class in
     let len = subst (λ o. vec_len c.pop.new.self + length (option_to_list o) ≡ vec_len t.free) c.unwrap-number.ensures c.pop.ensures.len in
     let key = c.insert-2.ensures.keys ∙ ap (with_key t.bins.keys) (c.bin_key.ensures ∙ (λ k. bin_key (sym class k) (eqb (c.free_count.ensures k) 0) (record { major = c.args.first; minor = c.from.result }))) in
+    let charted = charted_added t c.requires.table c.args.class c.args.first c.from.result bits class (new b) c.pop.new.self.items (free b) c.requires.apart c.add.new.self c.add.ensures.firsts (rw c.class_pages.ensures.pages at c.add.ensures.only) in
     table_added t c.requires.table c.args.class c.args.first c.from.result bits class (new b) c.pop.new.self.items (free b) c.requires.apart c.requires.class _ c.insert.ensures.keys c.insert.ensures.spare c.insert.ensures.ascending
-    (ap (λ n. set t.slots.items n bits) (sym c.from.ensures)) refl refl (omega arith) c.pop.ensures.capacity refl key c.insert-2.ensures.spare
+    (ap (λ n. set t.slots.items n bits) (sym c.from.ensures)) refl refl (omega arith) c.pop.ensures.capacity refl charted c.add.ensures.len key c.insert-2.ensures.spare
 
 pub returns-clause-slabs : goal.returns-clause-slabs
 returns-clause-slabs c =
-    let b = c.before.before.before.before.before.before.before.before.before.before.before in
+    let b = c.before.before.before.before.before.before.before.before.before.before.before.before.before.before in
     let t = c.args.self.now in
     let bits = c.with_out-bits.result in
     let class = c.with_out-bits.ensures.class in

@@ -1,28 +1,28 @@
-use Rattle.std.proofs.Common.{◌≡◌, ◌+◌, ◌-◌, ◌*◌, ◌/◌, ◌%◌, is_some, false, true, sym, ap, ◌∙◌, subst, arith}
+use Rattle.std.proofs.Common.{◌≡◌, ◌-◌, ◌*◌, ◌/◌, ◌%◌, is_some, false, true, sym, ap, ◌∙◌, subst, arith}
 use Rattle.size_classes.proofs.Table.{slab_filled}
 use Rattle.bin_book.specs.Tables.{HasOut, IsOutAt, bits_at}
-use Rattle.bin_book.proofs.Holding.{last_below, none_below, none_out, out_at, out_not, out_somewhere, pages_far}
+use Rattle.bin_book.proofs.Holding.{none_out, out_at, out_not, out_somewhere, pages_far}
 use Rattle.bin_book.proofs.table.Table.holder.Goals as goal
 use Rattle.bin_book.proofs.table.Table.holder.Goals.{else-has_out-via-then-has_out+else-offset-size-eq0, else-has_out-via-else-has_out}
 
 pub returns-in_err-slab-clause-none : goal.returns-in_err-slab-clause-none
-returns-in_err-slab-clause-none c = ap is_some c.from_residual.ensures ∙ none_out c.args.self.now c.requires.table c.args.class c.args.addr (pages_far c.args.self.now c.requires.table c.args.class c.args.addr (none_below c.args.self.now.firsts.keys (c.args.addr / 4096 + 1) (sym c.in_err-slab.ensures.found)))
+returns-in_err-slab-clause-none c = ap is_some c.from_residual.ensures ∙ none_out c.args.self.now c.requires.table c.args.class c.args.addr (pages_far c.args.self.now c.requires.table c.args.class c.args.addr (λ k m. let far = c.in_err-slab.ensures.none k m in omega arith))
 
 pub overflow_mul-offset : goal.overflow_mul-offset
 overflow_mul-offset c =
-    let last = last_below c.args.self.now.firsts.keys (c.args.addr / 4096 + 1) c.in_ok-slab.slab c.in_ok-slab.ensures.ascending (sym c.in_ok-slab.ensures.found) in
+    let last = c.in_ok-slab.ensures.some in
     let below = last.below in
     let fits = c.ranges.addr.fits in
     record { fits = omega arith }
 
 pub overflow_sub-offset : goal.overflow_sub-offset
 overflow_sub-offset c =
-    let last = last_below c.args.self.now.firsts.keys (c.args.addr / 4096 + 1) c.in_ok-slab.slab c.in_ok-slab.ensures.ascending (sym c.in_ok-slab.ensures.found) in
+    let last = c.in_ok-slab.ensures.some in
     let below = last.below in
     omega arith
 
 pub has_out-requires-clause-there : goal.has_out-requires-clause-there
-has_out-requires-clause-there c = (last_below c.args.self.now.firsts.keys (c.args.addr / 4096 + 1) c.in_ok-slab.slab c.in_ok-slab.ensures.ascending (sym c.in_ok-slab.ensures.found)).there
+has_out-requires-clause-there c = (c.in_ok-slab.ensures.some).there
 
 -- what is out there
 out : (c : goal.Then-offset-size-eq0) → HasOut (bits_at c.args.self.now.slots.items c.in_ok-slab.slab.minor) c.args.class ((c.args.addr - 4096 * c.in_ok-slab.slab.major) / c.size_of-size.result)
@@ -32,7 +32,7 @@ there : (c : goal.Then-offset-size-eq0) → IsOutAt c.args.self.now c.args.class
 there c =
     let t = c.args.self.now in
     let offset = c.args.addr - 4096 * c.in_ok-slab.slab.major in
-    let last = last_below t.firsts.keys (c.args.addr / 4096 + 1) c.in_ok-slab.slab c.in_ok-slab.ensures.ascending (sym c.in_ok-slab.ensures.found) in
+    let last = c.in_ok-slab.ensures.some in
     let e = c.size_of-size.ensures.size in
     subst (λ s. IsOutAt t c.args.class c.args.addr c.in_ok-slab.slab (offset / s)) (sym e) (out_at t c.requires.table c.args.class c.args.addr c.requires.class c.in_ok-slab.slab last (subst (λ s. offset % s ≡ 0) e c.if-offset-size-eq0.true)
     (subst (λ s. HasOut (bits_at t.slots.items c.in_ok-slab.slab.minor) c.args.class (offset / s)) e (out c)))
@@ -51,7 +51,7 @@ returns-else-has_out-clause-none c =
     let t = c.args.self.now in
     let offset = c.args.addr - 4096 * c.in_ok-slab.slab.major in
     let bits = bits_at t.slots.items c.in_ok-slab.slab.minor in
-    let last = last_below t.firsts.keys (c.args.addr / 4096 + 1) c.in_ok-slab.slab c.in_ok-slab.ensures.ascending (sym c.in_ok-slab.ensures.found) in
+    let last = c.in_ok-slab.ensures.some in
     let e = c.size_of-size.ensures.size in
     let not_there = out_not t c.requires.table c.args.class c.args.addr c.requires.class c.in_ok-slab.slab last in
     elim c.else-has_out.branch [

@@ -6,7 +6,7 @@ use Rattle.bin_book.proofs.table.Table.new.Goals as goal
 
 pub returns-clause-table : goal.returns-clause-table
 returns-clause-table c =
-    empty_table _ (ap (λ (s : KeySet). s.keys) c.new.ensures) (ap (λ (s : KeySet). s.keys) c.new-2.ensures) c.new-3.ensures.len c.new-4.ensures.items c.new-4.ensures.len refl (λ class small. get_or-replicate 36 class 0 0 small)
+    empty_table _ (ap (λ (s : KeySet). s.keys) c.new.ensures) (ap (λ (s : KeySet). s.keys) c.new-2.ensures) c.new-4.ensures.len c.new-5.ensures.items c.new-5.ensures.len refl (λ class small. get_or-replicate 36 class 0 0 small) c.new-3.ensures.pages
 
 pub returns-clause-slabs : goal.returns-clause-slabs
 returns-clause-slabs c = empty_slabs _ (ap (λ (s : KeySet). s.keys) c.new.ensures)

@@ -55,7 +55,7 @@ returns-clause-table c =
     let there = c.requires.out.there in
     let moved = subst (λ (k : Key). IsMoved t.bins.keys c.move_key.new.bins.keys k c.bin_key.result) (was c.before) c.move_key.ensures.keys in
     table_changed t c.requires.table c.args.slab there (with_bit (bits_at t.slots.items c.args.slab.minor) c.args.region true) refl (put_in t c.requires.table c.args.class _ c.args.slab c.args.region c.requires.out c.requires.others)
-    _ refl (ap (set t.slots.items c.args.slab.minor) (new c.before)) refl refl refl (subst (IsMoved t.bins.keys c.move_key.new.bins.keys (bin_of t.slots.items c.args.slab)) (now c.before) moved) c.move_key.ensures.spare
+    _ refl (ap (set t.slots.items c.args.slab.minor) (new c.before)) refl refl refl refl (subst (IsMoved t.bins.keys c.move_key.new.bins.keys (bin_of t.slots.items c.args.slab)) (now c.before) moved) c.move_key.ensures.spare
 
 pub returns-clause-slabs : goal.returns-clause-slabs
 returns-clause-slabs c =

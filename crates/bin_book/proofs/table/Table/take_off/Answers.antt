@@ -1,8 +1,9 @@
-use Rattle.std.proofs.Common.{◌≡◌, ◌+◌, ◌≤◌, eqb, List, length, set, get_or, ◌-◌, Contains, refl, sym, ap, ◌∙◌, subst}
+use Rattle.std.proofs.Common.{◌≡◌, ◌+◌, ◌≤◌, eqb, List, length, set, get_or, ◌-◌, Contains, refl, sym, ap, ◌∙◌, subst, vec_len}
+use Rattle.size_classes.specs.Classes.{pages_at}
 use Rattle.ordered_set.specs.declared.key.Key.{Key}
 use Rattle.ordered_set.specs.Keys.{without_key}
 use Rattle.bin_book.specs.Tables.{bin_key, bin_of}
-use Rattle.bin_book.proofs.Removing.{fewer_keys, slabs_less, some_count, table_less}
+use Rattle.bin_book.proofs.Removing.{charted_less, fewer_keys, slabs_less, some_count, table_less}
 use Rattle.bin_book.proofs.table.Table.take_off.Goals as goal
 
 -- the key of the slab among those of its class
@@ -25,6 +26,8 @@ pub returns-clause-table : goal.returns-clause-table
 returns-clause-table c =
     let t = c.args.self.now in
     let key = c.bin_key.ensures ∙ (λ k. bin_key (sym c.requires.class k) (eqb (c.left-is_full.ensures k) 0) c.args.slab) in
+    let pages = c.class_pages.ensures.pages ∙ ap pages_at (sym c.requires.class) in
+    let charted = charted_less t c.requires.table c.args.slab c.requires.there c.remove-3.new.self c.remove-3.ensures.firsts (rw pages at c.remove-3.ensures.none) c.remove-3.ensures.only in
     table_less t c.requires.table c.args.slab c.requires.there _ c.remove-2.ensures.keys c.remove-2.ensures.spare c.remove-2.ensures.ascending refl
     (rw c.unwrap.ensures at c.push.ensures.items) (rw c.unwrap.ensures at c.push.ensures.len) c.push.ensures.capacity
-    (ap (λ n. set t.counts n (get_or t.counts n 0 - 1)) (sym c.requires.class)) (c.remove.ensures.keys ∙ ap (without_key t.bins.keys) key) c.remove.ensures.spare
+    (ap (λ n. set t.counts n (get_or t.counts n 0 - 1)) (sym c.requires.class)) charted (ap (λ v. vec_len v) c.remove-3.ensures.firsts) (c.remove.ensures.keys ∙ ap (without_key t.bins.keys) key) c.remove.ensures.spare

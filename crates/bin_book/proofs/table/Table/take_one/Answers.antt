@@ -78,7 +78,7 @@ returns-clause-table c =
     let b = bits c.before.before.before.before in
     let moved = subst (λ (k : Key). IsMoved t.bins.keys c.move_key.new.bins.keys k c.bin_key.result) (was c.before.before.before.before) c.move_key.ensures.keys in
     table_changed t c.requires.table c.in_ok-slab.slab o.there (with_bit (bits_at t.slots.items c.in_ok-slab.slab.minor) c.unwrap-region.result false) refl (taken_in t c.requires.table c.args.class c.in_ok-slab.slab o c.unwrap-region.result b.0 b.1)
-    _ refl (ap (set t.slots.items c.in_ok-slab.slab.minor) b.2) refl refl refl (subst (IsMoved t.bins.keys c.move_key.new.bins.keys (bin_of t.slots.items c.in_ok-slab.slab)) (now c.before.before.before.before) moved) c.move_key.ensures.spare
+    _ refl (ap (set t.slots.items c.in_ok-slab.slab.minor) b.2) refl refl refl refl (subst (IsMoved t.bins.keys c.move_key.new.bins.keys (bin_of t.slots.items c.in_ok-slab.slab)) (now c.before.before.before.before) moved) c.move_key.ensures.spare
 
 pub returns-clause-lowest : goal.returns-clause-lowest
 returns-clause-lowest c =

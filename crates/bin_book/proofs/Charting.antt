@@ -1,0 +1,94 @@
+-- The pages of a slab get its number.
+use Rattle.std.proofs.Common.{◌≡◌, ℕ, ◌+◌, ◌-◌, ◌/◌, ◌<◌, ◌≤◌, true, false, if◌then◌else◌, cond, eqb, ◌||◌, ◌⊎◌, inl, inr, Some, None, refl, sym, ap, ◌∙◌, subst, arith, nat_cmp}
+use Rattle.std.specs.Cmp.{nat_cmp_total, unsigned_tied}
+use Rattle.std.specs.FinMap as map_of
+use Rattle.std.specs.FinSet as set_of
+use Rattle.std.proofs.lemmas.Bool.{cases_Bool, cases_lt, eq-eqb, eqb-true}
+use Rattle.page_map.specs.Pages.{Pages}
+use Rattle.bin_book.specs.Charts.{HasPage}
+
+get_set : (m : map_of.FinMap nat_cmp ℕ) (p v q : ℕ) → map_of.get (map_of.insert m p v) q ≡ cond (eqb q p) (Some v) (map_of.get m q)
+get_set m p v q = map_of.get-insert nat_cmp_total m p v q ∙ ap (λ b. cond b (Some v) (map_of.get m q)) (unsigned_tied q p)
+
+get_cleared : (m : map_of.FinMap nat_cmp ℕ) (p q : ℕ) → map_of.get (map_of.remove m p) q ≡ cond (eqb q p) None (map_of.get m q)
+get_cleared m p q = map_of.get-remove nat_cmp_total m p q ∙ ap (λ b. cond b None (map_of.get m q)) (unsigned_tied q p)
+
+-- each number is that of the slab at one of its pages, or was there
+abbrev pub AreOwn : (old new : map_of.FinMap nat_cmp ℕ) (first pages slab : ℕ) → Type 0
+AreOwn old new first pages slab = (page n : ℕ) → map_of.get new page ≡ Some n → (HasPage first pages page × (slab ≡ n)) ⊎ (map_of.get old page ≡ Some n)
+
+pub own_set : (old m : map_of.FinMap nat_cmp ℕ) (first pages slab p : ℕ) → AreOwn old m first pages slab → HasPage first pages p → AreOwn old (map_of.insert m p slab) first pages slab
+own_set old m first pages slab p own has page n e = elim (cases_Bool (eqb page p)) [
+  | inl t ↦
+      let same : Some slab ≡ Some n = sym (get_set m p slab page ∙ ap (λ b. cond b (Some slab) (map_of.get m page)) t) ∙ e in
+      inl (subst (HasPage first pages) (sym (eqb-true page p t)) has, cc)
+  | inr f ↦ own page n (sym (get_set m p slab page ∙ ap (λ b. cond b (Some slab) (map_of.get m page)) f) ∙ e)
+]
+
+-- a page that is cleared has no number, and the others have theirs
+pub only_cleared : (m : map_of.FinMap nat_cmp ℕ) (p page n : ℕ) → map_of.get (map_of.remove m p) page ≡ Some n → map_of.get m page ≡ Some n
+only_cleared m p page n e = elim (cases_Bool (eqb page p)) [
+  | inl t ↦ absurd (let no : None ≡ Some n = sym (get_cleared m p page ∙ ap (λ b. cond b None (map_of.get m page)) t) ∙ e in cc)
+  | inr f ↦ sym (get_cleared m p page ∙ ap (λ b. cond b None (map_of.get m page)) f) ∙ e
+]
+
+pub none_cleared : (m : map_of.FinMap nat_cmp ℕ) (p page : ℕ) → (page < p → map_of.get m page ≡ None) → page < p + 1 → map_of.get (map_of.remove m p) page ≡ None
+none_cleared m p page none l = get_cleared m p page ∙ elim (cases_Bool (eqb page p)) [
+  | inl t ↦ ap (λ b. cond b None (map_of.get m page)) t
+  | inr f ↦ ap (λ b. cond b None (map_of.get m page)) f ∙ elim (cases_lt page p) [
+    | inl low ↦ none low
+    | inr high ↦ absurd (let is = eq-eqb page p (omega arith) in let no : true ≡ false = sym is ∙ f in cc)
+  ]
+]
+
+-- the pages from the first one up to another one have a number, and took no more leaves than they have chunks
+pub record HasRun (old new : Pages) (first slab page : ℕ) : Type 0 where
+  pub numbers : (p : ℕ) → first ≤ p → p < page → map_of.get new.numbers p ≡ Some slab
+  pub none_yet : page ≤ first → new.spare ≡ old.spare
+  pub leaf : first < page → set_of.contains new.chunks ((page - 1) / 512) ≡ true
+  pub leaves : first < page → old.spare + first / 512 ≤ new.spare + (page - 1) / 512 + 1
+
+-- three leaves are enough for a run of 512 pages
+pub some_leaf : (old new : Pages) (first slab page : ℕ) → HasRun old new first slab page → 2 < old.spare → page < first + 512 → 0 < new.spare
+some_leaf old new first slab page run some inside = elim (cases_lt first page) [
+  | inl l ↦ let most = run.leaves l in omega arith
+  | inr g ↦ let same = run.none_yet g in omega arith
+]
+
+pub longer_run : (old new next : Pages) (first slab page : ℕ) → HasRun old new first slab page → first ≤ page → 0 < new.spare → next.numbers ≡ map_of.insert new.numbers page slab → next.chunks ≡ set_of.insert new.chunks (page / 512)
+    → next.spare ≡ (if set_of.contains new.chunks (page / 512) then new.spare else new.spare - 1) → HasRun old next first slab (page + 1)
+longer_run old new next first slab page run from some numbers chunks spare = record {
+  numbers = λ p low l. ap (λ m. map_of.get m p) numbers ∙ get_set new.numbers page slab p ∙ elim (cases_Bool (eqb p page)) [
+    | inl t ↦ ap (λ b. cond b (Some slab) (map_of.get new.numbers p)) t
+    | inr f ↦ ap (λ b. cond b (Some slab) (map_of.get new.numbers p)) f ∙ elim (cases_lt p page) [
+      | inl below ↦ run.numbers p low below
+      | inr high ↦ absurd (let is = eq-eqb p page (omega arith) in let no : true ≡ false = sym is ∙ f in cc)
+    ]
+  ];
+  none_yet = λ l. absurd (omega arith);
+  leaf = λ l. let at : page + 1 - 1 ≡ page = omega arith in ap (λ s. set_of.contains s ((page + 1 - 1) / 512)) chunks ∙ ap (λ p. set_of.contains (set_of.insert new.chunks (page / 512)) (p / 512)) at ∙ contains_new new.chunks (page / 512);
+  leaves = λ l. elim (cases_Bool (set_of.contains new.chunks (page / 512))) [
+    | inl t ↦
+        let kept : next.spare ≡ new.spare = spare ∙ ap (λ b. if b then new.spare else new.spare - 1) t in
+        elim (cases_lt first page) [
+          | inl above ↦ let most = run.leaves above in omega arith
+          | inr g ↦ let same = run.none_yet g in omega arith
+        ]
+    | inr f ↦
+        let less : next.spare ≡ new.spare - 1 = spare ∙ ap (λ b. if b then new.spare else new.spare - 1) f in
+        elim (cases_lt first page) [
+          | inl above ↦
+              let most = run.leaves above in
+              elim (cases_lt ((page - 1) / 512) (page / 512)) [
+                | inl next_chunk ↦ omega arith
+                | inr same_chunk ↦
+                    let is : (page - 1) / 512 ≡ page / 512 = omega arith in
+                    absurd (let no : true ≡ false = sym (run.leaf above) ∙ ap (set_of.contains new.chunks) is ∙ f in cc)
+              ]
+          | inr g ↦ let same = run.none_yet g in omega arith
+        ]
+  ];
+}
+  where
+    contains_new : (s : set_of.FinSet nat_cmp) (k : ℕ) → set_of.contains (set_of.insert s k) k ≡ true
+    contains_new s k = set_of.contains-insert nat_cmp_total s k k ∙ ap (λ b. b || set_of.contains s k) (unsigned_tied k k ∙ eq-eqb k k refl)

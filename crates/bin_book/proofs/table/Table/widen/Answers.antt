@@ -1,0 +1,25 @@
+use Rattle.std.proofs.Common.{refl, ap, arith}
+use Rattle.ordered_set.specs.Keys.{KeySet}
+use Rattle.bin_book.proofs.Growing.{same_chart, slabs_grown, table_grown, table_roomy}
+use Rattle.bin_book.proofs.table.Table.widen.Goals as goal
+
+pub returns-in_err-reserve-2-clause-table : goal.returns-in_err-reserve-2-clause-table
+returns-in_err-reserve-2-clause-table c =
+    let firsts = c.in_ok-reserve.ensures.ok in
+    (table_roomy c.args.self.now _ c.requires.table c.reserve.ensures.keys (omega arith) c.reserve-2.ensures.keys (let same = ap (λ (s : KeySet). s.spare) c.in_err-reserve-2.ensures.err in omega arith) refl refl refl (same_chart c.args.self.now.chart)).0
+
+pub returns-in_err-reserve-2-clause-slabs : goal.returns-in_err-reserve-2-clause-slabs
+returns-in_err-reserve-2-clause-slabs c =
+    slabs_grown c.args.self.now _ c.requires.table c.reserve.ensures.keys c.reserve-2.ensures.keys refl (λ n l. refl) (same_chart c.args.self.now.chart)
+
+pub returns-clause-table : goal.returns-clause-table
+returns-clause-table c =
+    let firsts = c.in_ok-reserve.ensures.ok in
+    let bins = c.in_ok-reserve-2.ensures.ok in
+    let slots = c.add_slots.ensures in
+    let all = c.requires.all in
+    let chart = c.requires.chart in
+    table_grown c.args.self.now _ c.requires.table c.reserve.ensures.keys c.reserve-2.ensures.keys refl slots.kept (same_chart c.args.self.now.chart) slots.more slots.free slots.places (omega arith) (slots.room c.requires.table.room) (omega arith) (omega arith) (omega arith)
+
+pub returns-clause-slabs : goal.returns-clause-slabs
+returns-clause-slabs c = slabs_grown c.args.self.now _ c.requires.table c.reserve.ensures.keys c.reserve-2.ensures.keys refl c.add_slots.ensures.kept (same_chart c.args.self.now.chart)
