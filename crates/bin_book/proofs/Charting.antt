@@ -1,9 +1,11 @@
 -- The pages of a slab get its number.
-use Rattle.std.proofs.Common.{◌≡◌, ℕ, ◌+◌, ◌-◌, ◌/◌, ◌<◌, ◌≤◌, true, false, if◌then◌else◌, cond, eqb, ◌||◌, ◌⊎◌, inl, inr, Some, None, refl, sym, ap, ◌∙◌, subst, arith, nat_cmp}
+use Rattle.std.proofs.Common.{Bool, leb, ◌≡◌, ℕ, ◌+◌, ◌-◌, ◌/◌, ◌<◌, ◌≤◌, true, false, if◌then◌else◌, cond, eqb, ◌||◌, ◌⊎◌, inl, inr, Some, None, refl, sym, ap, ◌∙◌, subst, arith, nat_cmp}
 use Rattle.std.specs.Cmp.{nat_cmp_total, unsigned_tied}
 use Rattle.std.specs.FinMap as map_of
 use Rattle.std.specs.FinSet as set_of
-use Rattle.std.proofs.lemmas.Bool.{cases_Bool, cases_lt, eq-eqb, eqb-true}
+use Rattle.std.proofs.lemmas.Bool.{cases_Bool, cases_lt, leb-true, eq-eqb, eqb-true}
+use Rattle.size_classes.specs.Classes.{class_sizes, least_pages, pages_at}
+use Rattle.size_classes.proofs.Table.{at, passes_below}
 use Rattle.page_map.specs.Pages.{Pages}
 use Rattle.bin_book.specs.Charts.{HasPage}
 
@@ -92,3 +94,15 @@ longer_run old new next first slab page run from some numbers chunks spare = rec
   where
     contains_new : (s : set_of.FinSet nat_cmp) (k : ℕ) → set_of.contains (set_of.insert s k) k ≡ true
     contains_new s k = set_of.contains-insert nat_cmp_total s k k ∙ ap (λ b. b || set_of.contains s k) (unsigned_tied k k ∙ eq-eqb k k refl)
+
+-- ---- how many pages a slab has
+
+abbrev short : ℕ → Bool
+short c = leb (pages_at c) 8
+
+short_below : passes_below short 36 ≡ true
+unfolding class_sizes least_pages
+short_below = refl
+
+pub small_pages : (c : ℕ) → c < 36 → pages_at c ≤ 8
+small_pages c small = leb-true _ _ (at short 36 c short_below small)

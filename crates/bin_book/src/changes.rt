@@ -1,8 +1,11 @@
 //! A slab comes, a region of it is taken or put back, or it goes.
-ghost use Rattle.std.specs.Prelude.{◌≡◌, ◌≢◌, ◌+◌, ◌<◌, ◌≤◌, ◌^◌, ◌==◌, false, [], ◌∷◌, map, length, vec_len, IfNone, IfSome, Contains};
+ghost use Rattle.std.specs.Prelude.{◌≡◌, ◌≢◌, ◌+◌, ◌<◌, ◌≤◌, ◌^◌, ◌==◌, false, [], ◌∷◌, map, length, vec_len, ℕ, IfNone, IfSome, IsSome, Contains};
+ghost use Rattle.std.specs.FinMap as map_of;
 ghost use Rattle.std.specs.List.{list_any};
+ghost use Rattle.page_map.specs.declared.table.TheConstants.{PAGES};
 ghost use Rattle.size_classes.specs.Classes.{IsSmall, pages_at, regions_at};
 ghost use Rattle.bin_book.specs.Bins.{free_of, meets_slab, place, slab_with_out, with_free, with_slab, without};
+ghost use Rattle.bin_book.specs.Charts.{HasPage};
 ghost use Rattle.bin_book.specs.Tables.{IsMoved, IsOutAt, IsTable, bits_at, left_of, slabs_in, slabs_without};
 
 use crate::table::{Table, bin_key};
@@ -23,6 +26,8 @@ impl Table {
         ensures table { IsTable self.new }
         ensures slabs { slabs_in self.new ≡ with_slab (slabs_in self.old) (slab_with_out class first count) }
         ensures free { vec_len self.new.free + 1 ≡ vec_len self.old.free }
+        ensures charted { (page : ℕ) → 2 < self.old.chart.pages.spare → page < PAGES → HasPage first (pages_at class) page
+            → IsSome (map_of.get self.new.chart.pages.numbers page) }
     {
         let number = self.free.pop().unwrap();
         let bits = SlabBits::with_out(class, count);

@@ -21,8 +21,10 @@ mod tests;
 /// The slabs of an arena, in order of first page, with the free regions of each.
 ///
 /// A slab stands in the book as long as a region of it is out. Where the lowest free regions of a
-/// class are, and which slab has an address, is found by searching ordered sets; no slab is looked at
-/// that isn't taken from. [`BinBook::reserve`] makes places for further slabs, whatever their classes.
+/// class are is found by searching an ordered set; no slab is looked at that isn't taken from. Which slab
+/// has an address is read off a map of pages. A page that the map lacks, since its slab came when the
+/// map had no room, is sought in an ordered set. [`BinBook::reserve`] makes places for further slabs, whatever
+/// their classes, and room for their pages.
 #[derive(Drop)]
 pub struct BinBook {
     table: Table,

@@ -138,3 +138,18 @@ fn a_plain_list_says_the_same(rt: HostRuntime) -> Result<(), Fail> {
     }
     Ok(())
 }
+
+#[test]
+fn a_page_without_a_number_is_found(rt: HostRuntime) -> Result<(), Fail> {
+    let mut book = BinBook::new(rt.alloc());
+    book.reserve(1)?;
+    for slab in 0..400 {
+        assert!(rt; add(&mut book, 9, 511 + 1024 * slab));
+        let addr = 4096 * (511 + 1024 * slab);
+        assert!(rt; put_back(&mut book, 9, addr + 5 * 4096).is_none());
+        assert!(rt; put_back(&mut book, 9, addr) == Some(true));
+    }
+    assert!(rt; add(&mut book, 24, 1 << 30));
+    assert!(rt; put_back(&mut book, 24, 4096 << 30) == Some(true));
+    Ok(())
+}

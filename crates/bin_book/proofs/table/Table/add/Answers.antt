@@ -1,9 +1,11 @@
-use Rattle.std.proofs.Common.{length, vec_len, ◌≡◌, ◌<◌, ◌≤◌, ◌+◌, ◌^◌, ◌∷◌, ◌++◌, [], eqb, set, Contains, option_to_list, Some, refl, sym, ap, ◌∙◌, subst, arith}
+use Rattle.std.proofs.Common.{IsSome, length, vec_len, ◌≡◌, ◌<◌, ◌≤◌, ◌+◌, ◌^◌, ◌∷◌, ◌++◌, [], eqb, set, Contains, option_to_list, Some, refl, sym, ap, ◌∙◌, subst, arith}
 use Rattle.size_classes.specs.Classes.{pages_at, regions_at}
 use Rattle.ordered_set.specs.Keys.{with_key}
 use Rattle.bin_book.specs.Bins.{slab_with_out, with_slab}
+use Rattle.bin_book.specs.Charts.{HasPage}
 use Rattle.bin_book.specs.Tables.{IsSlabIn, bin_key, slabs_in}
 use Rattle.bin_book.proofs.Adding.{chart_place, charted_added, few_slabs, in_items, new_bin, new_in, new_key, new_slab, slabs_added, table_added}
+use Rattle.bin_book.proofs.Charting.{small_pages}
 use Rattle.bin_book.proofs.table.Table.add.Goals as goal
 
 pub overflow_add-self : goal.overflow_add-self
@@ -60,3 +62,9 @@ returns-clause-slabs c =
     let is = new_slab bits c.args.first c.args.count (subst (λ n. c.args.count ≤ regions_at n) (sym class) c.requires.most) c.with_out-bits.ensures.free ∙ ap (λ n. slab_with_out n c.args.first c.args.count) class in
     slabs_added t c.requires.table c.args.class c.args.first c.from.result bits class (new b) c.pop.new.self.items (free b) c.requires.apart _ c.insert.ensures.keys (ap (λ n. set t.slots.items n bits) (sym c.from.ensures))
     ∙ ap (with_slab (slabs_in t)) is
+
+pub returns-clause-charted : goal.returns-clause-charted
+returns-clause-charted c page some low has =
+    let few = small_pages c.args.class c.requires.class in
+    let pages = c.class_pages.ensures.pages in
+    subst IsSome (sym (c.add.ensures.each page some (omega arith) low (subst (λ n. HasPage c.args.first n page) (sym pages) has))) refl
