@@ -61,8 +61,8 @@ impl OrderedSet {
             return Ok(());
         }
         let keys = self.len.checked_add(more).ok_or(NoMemory)?;
-        // Two neighbouring blocks have more than 64 keys together.
-        self.index.reserve((keys / 32 + 1) as usize)?;
+        // Each block has at least 64 keys, unless it is the only one.
+        self.index.reserve((keys / 64 + 1) as usize)?;
         self.spare = more;
         Ok(())
     }
