@@ -25,3 +25,4 @@ pub mod FirstPlaces
 pub mod Turns
 pub mod KeyWalks
 pub mod Loads
+pub mod Serving
