@@ -25,4 +25,3 @@ pub mod FirstPlaces
 pub mod Turns
 pub mod KeyWalks
 pub mod Loads
-pub mod Serving

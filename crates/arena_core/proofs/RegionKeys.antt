@@ -1,5 +1,5 @@
 -- What searches and changes of the keys do to the regions that they stand for.
-use Rattle.std.proofs.Common.{◌≡◌, ℕ, ◌+◌, ◌*◌, ◌/◌, ◌%◌, ◌<◌, ◌≤◌, suc, Bool, true, false, not, cond, List, [], ◌∷◌, map, filter, find, Option, None, Some, option_map, Less, Greater, is_gt, is_lt, is_eq, refl, sym, ◌∙◌, ap, subst, arith, ◌≢◌, eqb, ltb as nat_lt, leb as nat_le, inl, inr}
+use Rattle.std.proofs.Common.{◌≡◌, ℕ, ◌+◌, ◌*◌, ◌/◌, ◌%◌, ◌<◌, ◌≤◌, suc, Bool, true, false, not, cond, List, [], ◌∷◌, map, filter, find, Option, None, Some, Less, Greater, is_gt, is_lt, is_eq, refl, sym, ◌∙◌, ap, subst, arith, ◌≢◌, eqb, ltb as nat_lt, leb as nat_le, inl, inr}
 use Rattle.std.specs.List.{All, AllByRecursion as Every, Contains, count_by, sum_by, list_any, insert, position_or_len}
 use Rattle.std.specs.List.Sorted.{IsStrictlySortedBy}
 use Rattle.std.proofs.lemmas.Bool.{cases_order}
@@ -18,8 +18,7 @@ use Rattle.ordered_set.proofs.Members.{contains_later}
 use Rattle.space_model.specs.declared.parts.Region.{Region}
 use Rattle.space_model.specs.Region.{inserted}
 use Rattle.space_model.specs.Step.{is_given_back, staying, holds_at}
-use Rattle.part_book.proofs.Lists.{find_map}
-use Rattle.arena_core.specs.RegionLists.{begins_from, code_of, holder_of, key_of, region_of}
+use Rattle.arena_core.specs.RegionLists.{code_of, holder_of, key_of, region_of}
 
 -- a region is that of its key
 pub region_is : (r : Region) → r.class < 121 → region_of (key_of r) ≡ r
@@ -38,17 +37,6 @@ region_is r small = λ i. record { addr = r.addr; class = class_is i; holder = h
 -- a key is at an address or behind it just where its major number says so
 pub from_is : (k : Key) (major : ℕ) → is_from (start major) k ≡ nat_le major k.major
 from_is k major = grind (arith, nat_tests, from_start k major, start_from k major)
-
--- the first key from an address on is that of the first region from there on
-pub from_inside : {o : Option Key} {regions : List Region} (addr : ℕ) (keys : List Key) → map region_of keys ≡ regions → o ≡ find (is_from (start addr)) keys →
-    option_map (λ k. k.major) o ≡ option_map (λ r. r.addr) (find (begins_from addr) regions)
-from_inside {o} {regions} addr keys view is =
-    let there = find_map region_of (begins_from addr) keys ∙ sym (λ i. option_map region_of (find (λ k. from_is k addr i) keys)) ∙ ap (option_map region_of) (sym is) in
-    sym (ap (λ rs. option_map (λ (r : Region). r.addr) (find (begins_from addr) rs)) (sym view) ∙ ap (option_map (λ (r : Region). r.addr)) there ∙ twice o)
-  where
-    twice : (o : Option Key) → option_map (λ (r : Region). r.addr) (option_map region_of o) ≡ option_map (λ k. k.major) o
-    twice None = refl
-    twice (Some k) = refl
 
 -- the keys behind one are at no lower address
 pub keys_after : (n : ℕ) (k : Key) (ks : List Key) → n ≤ k.major → Every (λ x. key_cmp k x ≡ Less) ks → Every (λ x. n ≤ x.major) ks

@@ -177,11 +177,6 @@ pub walk_goes : (test : Part → Bool) (turn : Part → Part) (start parts one :
 walk_goes test turn start parts one page p spans stays there first is walk =
     walk_by test turn start parts one page p (test p) refl spans stays there (λ k d h passes. first k d h (walk.low k d h passes)) is walk
 
--- where it is the lowest that passes
-pub walk_turns : (test : Part → Bool) (turn : Part → Part) (start parts one : List Part) (page : ℕ) (p : Part) → ((q : Part) → (turn q).span ≡ q.span) → test (turn p) ≡ false → IsThere parts p → test p ≡ true →
-    All (λ q. test q ≡ true → p.span.first ≤ q.span.first) parts → one ≡ exchanged (begins_at p.span.first) parts (turn p ∷ []) → Walk test turn start parts page → Walk test turn start one (end_of p.span)
-walk_turns test turn start parts one page p spans stays there passes lowest is walk = walk_by test turn start parts one page p true passes spans stays there lowest is walk
-
 -- it ends where none passes
 pub walk_ends : (test : Part → Bool) (turn : Part → Part) (start parts : List Part) (page : ℕ) → All (λ q. test q ≡ false) parts → Walk test turn start parts page → parts ≡ turned test turn start
 walk_ends test turn start parts page fails walk =

@@ -1,10 +1,13 @@
 -- The extents of an arena with sums of their pages.
-use Rattle.std.specs.Prelude.{◌≡◌, ℕ, ◌≤◌, Bool, List, Option, None, Some, All, find, if◌then◌else◌}
+use Rattle.std.specs.Prelude.{◌≡◌, ℕ, ◌≤◌, Bool, not, List, Option, None, Some, All, find, if◌then◌else◌}
 use Rattle.std.specs.List.{sum_by}
 use Rattle.part_book.specs.Books.{Book}
 use Rattle.space_model.specs.declared.parts.Part.{Part}
+use Rattle.space_model.specs.declared.parts.Rest.{Rest}
+use Rattle.space_model.specs.declared.parts.Rest.TheVariants.{Dirty}
+use Rattle.space_model.specs.declared.parts.State.{State}
 use Rattle.space_model.specs.Span.{IsPlaced}
-use Rattle.space_model.specs.Part.{begins_at, holders, is_active}
+use Rattle.space_model.specs.Part.{begins_at, holders, is_active, is_listed}
 use Rattle.arena_core.specs.declared.extents.Extents.TheInside.{Inside}
 
 -- the pages of the extents
@@ -23,6 +26,12 @@ IsThere parts p = find (begins_at p.span.first) parts ≡ Some p
 abbrev pub kept : (Part → Bool) → Option Part → Option Part
 kept test None = None
 kept test (Some p) = if test p then Some p else None
+
+-- whether an extent in a state goes to a list when an arena is emptied into it: to the dirty ones what serves regions, to
+-- another list whatever isn't there
+abbrev pub goes_to : Rest → State → Bool
+goes_to Dirty state = is_active state
+goes_to rest state = not (is_listed rest state)
 
 -- each extent lies in the space, and no page is in two
 pub record IsApart (parts : List Part) : Type 0 where

@@ -1,5 +1,5 @@
 -- Regions as keys of an ordered set: the address first, the class and the holder in one number.
-use Rattle.std.specs.Prelude.{◌≡◌, Bool, nat_le, ℕ, ◌+◌, ◌-◌, ◌*◌, ◌/◌, ◌%◌, ◌==◌, ◌&&◌, List, map, nat_lt, Option, None, Some, if◌then◌else◌}
+use Rattle.std.specs.Prelude.{◌≡◌, ℕ, ◌+◌, ◌-◌, ◌*◌, ◌/◌, ◌%◌, ◌==◌, ◌&&◌, List, map, nat_lt, Option, None, Some, if◌then◌else◌}
 use Rattle.ordered_set.specs.declared.key.Key.{Key}
 use Rattle.ordered_set.specs.Keys.{IsAscending}
 use Rattle.space_model.specs.declared.parts.Region.{Region}
@@ -32,10 +32,6 @@ region_of key = record { addr = key.major; class = key.minor % 256; holder = hol
 abbrev pub published_of : ℕ → Option Key → Option ℕ
 published_of addr None = None
 published_of addr (Some k) = if k.major == addr && nat_lt k.minor 256 then Some (k.minor % 256) else None
-
--- whether a region begins at an address or behind it
-abbrev pub begins_from : ℕ → Region → Bool
-begins_from addr r = nat_le addr r.addr
 
 -- the regions of the keys in order, and the places that are left
 abbrev pub shown : Inside → RegionList

@@ -1,21 +1,17 @@
 //! How an arena is emptied and ended.
 
-ghost use Rattle.std.specs.Prelude.{◌≡◌, ◌<◌, ◌≤◌, ℕ, IsTrue, All, AllPairs, [], ◌∷◌, cond, not};
-ghost use Rattle.space_model.specs.Part.{begins_at, exchanged, is_active, is_listed, moved_to, turned};
-ghost use Rattle.space_model.specs.Region.{homes, residents};
+ghost use Rattle.std.specs.Prelude.{◌≡◌, ◌≤◌, ℕ, IsTrue, [], ◌∷◌, cond};
+ghost use Rattle.space_model.specs.Part.{begins_at, exchanged, moved_to, turned};
 ghost use Rattle.space_model.specs.Ending.{after_destroy, after_destroy_take, after_reset, emptied, ended, flight_count, held_count, reset_stands};
-ghost use Rattle.space_model.specs.Stepped.{is_dirty_time_over};
 ghost use Rattle.space_model.specs.Sound.{Sound};
-ghost use Rattle.arena_core.specs.Extents.{IsApart, IsThere};
+ghost use Rattle.arena_core.specs.Extents.{IsApart, IsThere, goes_to};
 ghost use Rattle.arena_core.specs.Indexes.{HasPlaces, space_of};
 ghost use Rattle.arena_core.specs.Slabs.{slabs_left};
 
 use crate::extents::Extents;
 use crate::indexes::Indexes;
-use crate::regions::RegionSet;
 use crate::{purges, slabs};
 use bin_book::BinBook;
-use size_classes::PAGE_BYTES;
 use space_model::{Life, Part, Reply, Rest, State};
 
 /// What others have in the arena, or the client in its cache: how many regions, and how many extents in flight or offered.
@@ -30,46 +26,37 @@ fn load(indexes: &Indexes, client: u32, cached: u64) -> (u64, u64)
     (held, flights)
 }
 
-/// Makes each extent that serves regions dirty, in order of address: the next one has the next region.
-fn make_dirty(extents: &mut Extents, regions: &RegionSet)
-    requires apart { IsApart extents.old.parts }
-    requires used { All (λ p. IsTrue (is_active p.state) → 0 < residents p regions.now.regions) extents.old.parts }
-    requires homes { All (λ r. homes r extents.old.parts ≡ 1) regions.now.regions }
-    requires classes { All (λ r. r.class < 121) regions.now.regions }
-    requires ordered { AllPairs (λ q r. q.addr ≤ r.addr) regions.now.regions }
-    ensures parts { extents.new.parts ≡ turned (λ p. is_active p.state) (moved_to Rest.Dirty) extents.old.parts }
-    ensures spare { extents.new.spare ≡ extents.old.spare }
+/// Whether an extent in a state goes to a list when an arena is emptied into it.
+fn goes_to(rest: Rest, state: State) -> bool
+    ensures { result ≡ goes_to rest state }
 {
-    let mut page = 0;
-    while let Some(addr) = regions.first_from(PAGE_BYTES * page) {
-        let part = extents.holding(addr / PAGE_BYTES).unwrap();
-        extents.change(&part, State::Dirty, part.committed);
-        page = part.span.first + part.span.pages;
+    match rest {
+        Rest::Dirty => state.is_active(),
+        _ => !state.is_listed(rest),
     }
 }
 
-/// Makes an extent retained that isn't yet.
-fn retain(extents: &mut Extents, part: &Part)
+/// Moves an extent to a list, if it goes there.
+fn move_one(extents: &mut Extents, part: &Part, rest: Rest)
     requires { IsThere extents.old.parts part.now }
-    ensures parts { extents.new.parts ≡ cond (not (is_listed Rest.Retained part.now.state))
-        (exchanged (begins_at part.now.span.first) extents.old.parts (moved_to Rest.Retained part.now ∷ [])) extents.old.parts }
+    ensures parts { extents.new.parts ≡ cond (goes_to rest part.now.state)
+        (exchanged (begins_at part.now.span.first) extents.old.parts (moved_to rest part.now ∷ [])) extents.old.parts }
     ensures spare { extents.new.spare ≡ extents.old.spare }
 {
-    if !part.state.is_listed(Rest::Retained) {
-        extents.change(part, State::Retained, part.committed);
+    if goes_to(rest, part.state) {
+        extents.change(part, rest.state(), part.committed);
     }
 }
 
-/// Makes each extent retained that isn't yet, in order of address.
-fn retain_all(extents: &mut Extents)
+/// Moves each extent that goes there to a list, in order of address.
+fn move_all(extents: &mut Extents, rest: Rest)
     requires { IsApart extents.old.parts }
-    ensures parts { extents.new.parts
-        ≡ turned (λ p. not (is_listed Rest.Retained p.state)) (moved_to Rest.Retained) extents.old.parts }
+    ensures parts { extents.new.parts ≡ turned (λ p. goes_to rest p.state) (moved_to rest) extents.old.parts }
     ensures spare { extents.new.spare ≡ extents.old.spare }
 {
     let mut page = 0;
     while let Some(part) = extents.first_from(page) {
-        retain(extents, &part);
+        move_one(extents, &part, rest);
         page = part.span.first + part.span.pages;
     }
 }
@@ -81,7 +68,7 @@ fn empty(indexes: &mut Indexes) -> Reply
     ensures reply { result ≡ (emptied (space_of indexes.old)).reply }
     ensures places { (n : ℕ) → HasPlaces indexes.old n → HasPlaces indexes.new n }
 {
-    make_dirty(&mut indexes.extents, &indexes.regions);
+    move_all(&mut indexes.extents, Rest::Dirty);
     indexes.regions.clear();
     if indexes.dirty.ms() == 0 {
         return Reply::Purge {
@@ -120,7 +107,7 @@ fn end(indexes: &mut Indexes, client: u32) -> Reply
     ensures reply { result ≡ (ended (space_of indexes.old) client).reply }
     ensures places { (n : ℕ) → HasPlaces indexes.old n → HasPlaces indexes.new n }
 {
-    retain_all(&mut indexes.extents);
+    move_all(&mut indexes.extents, Rest::Retained);
     indexes.regions.clear();
     indexes.life = Life::Dying(client);
     Reply::Noted

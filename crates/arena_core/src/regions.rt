@@ -7,7 +7,7 @@ ghost use Rattle.space_model.specs.Region.{held_anew, inserted, is_held_by_other
 ghost use Rattle.space_model.specs.Holding.{is_published_at};
 ghost use Rattle.space_model.specs.Counts.{region_bytes, region_bytes_where, regions_by_class};
 ghost use Rattle.space_model.specs.Step.{holds_at, is_given_back, staying};
-ghost use Rattle.arena_core.specs.RegionLists.{begins_from, code_of, key_of, published_of, region_of};
+ghost use Rattle.arena_core.specs.RegionLists.{code_of, key_of, published_of, region_of};
 
 use ordered_set::{Key, OrderedSet};
 use size_classes::{CLASSES, SMALL_CLASSES, size_of};
@@ -160,17 +160,6 @@ impl RegionSet {
         self.bytes = 0;
         self.small = 0;
         self.classes = no_regions();
-    }
-
-    /// The address of the first region that begins at an address or behind it.
-    pub fn first_from(&self, addr: u64) -> Option<u64>
-        ensures { result ≡ option_map (λ r. r.addr) (find (begins_from addr) self.now.regions) }
-    {
-        let start = Key {
-            major: addr,
-            minor: 0,
-        };
-        Some(self.keys.at_or_after(start)?.major)
     }
 
     /// Puts a region behind those at lower addresses. It takes a place.

@@ -18,8 +18,8 @@ pub use key::Key;
 /// A set of keys in ascending order.
 ///
 /// A look-up searches the directory of the blocks and then one block, in steps that leave a third;
-/// an insertion or a removal moves the keys of one block at most. `reserve` makes room for a number
-/// of insertions, whatever their keys, and each removal gives its place back.
+/// an insertion moves the keys of one block at most, and a removal those of two. `reserve` makes
+/// room for a number of insertions, whatever their keys, and each removal gives its place back.
 #[derive(Drop)]
 pub struct OrderedSet {
     index: Index,
@@ -61,8 +61,8 @@ impl OrderedSet {
             return Ok(());
         }
         let keys = self.len.checked_add(more).ok_or(NoMemory)?;
-        // Two neighbouring blocks have more than 64 keys together.
-        self.index.reserve((keys / 32 + 1) as usize)?;
+        // Each block has at least 64 keys, unless it is the only one.
+        self.index.reserve((keys / 64 + 1) as usize)?;
         self.spare = more;
         Ok(())
     }
