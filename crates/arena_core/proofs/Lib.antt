@@ -1,3 +1,4 @@
+mod ByClass
 pub mod Coming
 pub mod Emptying
 pub mod Filled
@@ -6,6 +7,7 @@ pub mod Handing
 pub mod Homes
 pub mod Landed
 pub mod Outcomes
+pub mod RegionKeys
 pub mod Resized
 pub mod Swaps
 pub mod Totals
@@ -21,4 +23,5 @@ pub mod BookLaw
 pub mod InOrder
 pub mod FirstPlaces
 pub mod Turns
+pub mod KeyWalks
 pub mod Loads

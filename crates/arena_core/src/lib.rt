@@ -24,18 +24,21 @@ mod offer_list;
 mod offers;
 mod purges;
 mod readers;
+mod regions;
 mod resizes;
 mod rooms;
 mod settings;
+mod slabs;
 mod steps;
 #[cfg(test)]
 mod tests;
 
+use bin_book::BinBook;
 use decay_curve::Decay;
 use extents::Extents;
 use indexes::Indexes;
 use offer_list::OfferList;
-use region_book::RegionBook;
+use regions::RegionSet;
 use rooms::Rooms;
 use space_model::{Counts, Life, Op, Reply, Space, Span};
 use std::alloc::{AllocError as NoMemory, Global};
@@ -74,7 +77,7 @@ impl Arena {
                 indexes: Indexes {
                     life: space.life,
                     extents: Extents::new(alloc)?,
-                    regions: RegionBook::new(alloc),
+                    regions: RegionSet::new(alloc),
                     offers: OfferList::new(alloc),
                     bound: space.bound,
                     box_no: space.box_no,
@@ -86,6 +89,7 @@ impl Arena {
                     alloc,
                 },
                 rooms: Rooms::none(),
+                bins: BinBook::new(alloc),
             },
         })
     }
@@ -130,7 +134,7 @@ impl Arena {
     pub fn counts(&self) -> Counts
         ensures { result ≡ counts_of self.now.space }
     {
-        readers::counts(&self.body.indexes)
+        readers::counts(&self.body.indexes, &self.body.bins)
     }
 
     /// Whether the arena is there.

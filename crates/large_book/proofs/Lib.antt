@@ -1,2 +1,0 @@
-pub mod ByAddress
-pub mod Listing

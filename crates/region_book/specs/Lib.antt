@@ -1,4 +1,0 @@
-pub mod Books
-pub mod RegionLists
-pub mod Slabs
-pub mod Totals
