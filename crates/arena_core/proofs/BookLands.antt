@@ -29,7 +29,9 @@ use Rattle.bin_book.specs.Bins.{Slab, meets_slab, of_class, slab_with_out, with_
 use Rattle.bin_book.proofs.Lists.{any_from, any_has, any_none, count_some, filter_map_is, filter_same, map_from, map_has, map_same, range_from, range_has}
 use Rattle.part_book.proofs.Lists.{filter_swap}
 use Rattle.arena_core.specs.Booked.{slab_of}
-use Rattle.arena_core.specs.Slabs.{CanLand, IsBooked, slabs_landed}
+use Rattle.arena_core.specs.Slabs.{IsBooked}
+use Rattle.region_book.specs.RegionLists.{CanBeSlab}
+use Rattle.region_book.specs.Slabs.{slabs_landed}
 use Rattle.arena_core.proofs.Booked.{any_landing, idle_no_slab, serves_none}
 use Rattle.arena_core.proofs.Books.{class_stays, from_slabs, only, stands_at}
 use Rattle.arena_core.proofs.Emptying.{ones}
@@ -238,14 +240,14 @@ module _ (c : ℕ) (s : Space) (test : Part → Bool) (p : Part) (class count : 
           ∙ ap (map (slab_of after.regions d)) (sym (order_grows (filter (is_slab d s.regions) s.parts) active (others_differ d))
           ∙ ap (turned_in_order (λ q. q)) (sym (slabs_then d ∙ ap (λ b. filter (is_slab d s.regions) s.parts ++ cond b (active ∷ []) []) same)))
 
-  pub landed_booked : (span : Span) → span.first ≡ p.span.first → IsBooked after (slabs_landed span class count slabs)
+  pub landed_booked : (span : Span) → span.first ≡ p.span.first → IsBooked after (slabs_landed class span.first count slabs)
   landed_booked span is = subst (λ n. IsBooked after (cond (ltb class 36) (with_slab slabs (slab_with_out class n count)) slabs)) (sym is) (elim (cases_lt class 36) [
     | inl low ↦ subst (λ b. IsBooked after (cond b (with_slab slabs new) slabs)) (sym (lt-ltb class 36 low)) (with_booked low)
     | inr big ↦ subst (λ b. IsBooked after (cond b (with_slab slabs new) slabs)) (sym (le-ltb class 36 big)) (record { small = book.small; booked = λ d low. others_stay d low (grind (arith, nat_tests, big, low)) })
   ])
 
   -- the book has a place for it
-  pub can_land : (span : Span) → span.first ≡ p.span.first → class < 36 → CanLand span class count slabs
+  pub can_land : (span : Span) → span.first ≡ p.span.first → class < 36 → CanBeSlab class span.first count slabs
   can_land span is low = record {
     some = l.some;
     most = l.most low;

@@ -24,7 +24,9 @@ use Rattle.space_model.proofs.Pieces.{both_true}
 use Rattle.space_model.proofs.Steps.{op_keeps}
 use Rattle.bin_book.specs.Bins.{Slab, without}
 use Rattle.arena_core.specs.Arenas.{is_return, opens}
-use Rattle.arena_core.specs.Slabs.{CanFollow, CanLand, IsBooked, slabs_begun, slabs_filled, slabs_followed, slabs_landed, slabs_left, slabs_taken}
+use Rattle.arena_core.specs.Slabs.{CanFollow, IsBooked, slabs_begun, slabs_filled, slabs_followed, slabs_left, slabs_taken}
+use Rattle.region_book.specs.RegionLists.{CanBeSlab}
+use Rattle.region_book.specs.Slabs.{slabs_landed}
 use Rattle.arena_core.proofs.Booked.{fills_taken, stay_handed}
 use Rattle.arena_core.proofs.BookLands.{Lands, can_land, landed_booked}
 use Rattle.arena_core.proofs.BookResizes.{join_step, trim_step}
@@ -61,13 +63,13 @@ no_extent class count s c span stands e =
     cc
 
 land_booked : (c : ℕ) (s : Space) (span : Span) (class count : ℕ) (o : Option Part) (slabs : List Slab) → find (is_flight_at c span) s.parts ≡ o → Sound s → land_stands s c span class count ≡ true → IsBooked s slabs →
-    IsBooked (land_at s c class count o).after (slabs_landed span class count slabs)
+    IsBooked (land_at s c class count o).after (slabs_landed class span.first count slabs)
 land_booked c s span class count None slabs e sound stands book = absurd (no_extent class count s c span stands e)
 land_booked c s span class count (Some p) slabs e sound stands book =
     landed_booked c s (is_flight_at c span) p class count (lands_of c s span class count p sound stands e) slabs book span (sym (in_flight c s span p sound (sym e)).first)
 
 land_can : (c : ℕ) (s : Space) (span : Span) (class count : ℕ) (o : Option Part) (slabs : List Slab) → find (is_flight_at c span) s.parts ≡ o → Sound s → land_stands s c span class count ≡ true → IsBooked s slabs →
-    class < 36 → CanLand span class count slabs
+    class < 36 → CanBeSlab class span.first count slabs
 land_can c s span class count None slabs e sound stands book = absurd (no_extent class count s c span stands e)
 land_can c s span class count (Some p) slabs e sound stands book =
     can_land c s (is_flight_at c span) p class count (lands_of c s span class count p sound stands e) slabs book span (sym (in_flight c s span p sound (sym e)).first)

@@ -1,9 +1,10 @@
 -- A book of slabs beside a space, as regions land and are given back.
-use Rattle.std.proofs.Common.{◌≡◌, ℕ, ◌/◌, ◌<◌, ◌≤◌, Bool, true, false, not, IsTrue, List, [], ◌∷◌, length, get_or, All, Contains, filter, map, inl, inr, refl, sym, ◌∙◌, ap, subst, arith, ◌&&◌, eqb, lt-ltb, find, Some}
+use Rattle.std.proofs.Common.{◌≡◌, ℕ, ◌/◌, ◌<◌, ◌≤◌, Bool, true, false, not, IsTrue, List, [], ◌∷◌, length, get_or, All, Contains, filter, map, inl, inr, refl, sym, ◌∙◌, ap, subst, arith, ◌&&◌, eqb, lt-ltb, find, Some, cond}
 use Rattle.std.specs.List.{count_by, list_any, sum_by}
 use Rattle.std.proofs.lemmas.Bool.{cases_Bool, cases_lt, eq-eqb, eqb-true, false_from_ne_true, le-ltb}
 use Rattle.std.proofs.lemmas.Bool.Decides.{nat_tests}
-use Rattle.std.proofs.lemmas.List.Elements.{All-cons, All-contains, All-contains_itself, All-filter, All-map, All-nil}
+use Rattle.std.proofs.lemmas.List.{nil_from_length}
+use Rattle.std.proofs.lemmas.List.Elements.{All-cons, All-contains, All-contains_itself, All-filter, All-map, All-nil, All-head}
 use Rattle.std.proofs.lemmas.List.Filters.{sum_by-filter_both}
 use Rattle.std.proofs.lemmas.List.{ext_get_or, length-map}
 use Rattle.std.proofs.lemmas.List.FromFn.{length-map-range_with_len}
@@ -27,10 +28,11 @@ use Rattle.bin_book.specs.Bins.{Slab, is_out, is_unused, of_class, with_free}
 use Rattle.bin_book.proofs.Lists.{any_from, any_has, any_map, filter_all_of, filter_both, filter_map_is, filter_none_of, filter_same, head, map_both, map_from, map_same}
 use Rattle.part_book.proofs.Lists.{filter_swap}
 use Rattle.arena_core.specs.Booked.{slab_of}
-use Rattle.arena_core.specs.Slabs.{IsBooked, NothingIsBooked, is_last, slabs_returned}
+use Rattle.arena_core.specs.Slabs.{IsBooked, NothingIsBooked, slabs_left}
+use Rattle.region_book.specs.Slabs.{is_last, slabs_returned}
 use Rattle.arena_core.proofs.Booked.{among_kept, both_ways, freed, idle_no_slab, serves_none, stay_still}
 use Rattle.arena_core.proofs.Emptying.{Empties, Gives, any_counts, begins_alone, counts_any, empties, given_parts, gives, is_left, ones}
-use Rattle.arena_core.proofs.ByClass.{at_tally, tally}
+use Rattle.region_book.proofs.ByClass.{at_tally, tally}
 use Rattle.arena_core.proofs.Finds.{find_alone}
 use Rattle.arena_core.proofs.InOrder.{order_stays}
 use Rattle.arena_core.proofs.Served.{SlabAt, slab_at, starts_served, still_slab, unused_is}
@@ -125,6 +127,24 @@ nothing_booked s none = record {
       let empty = filter_none_of (is_slab class s.regions) s.parts (λ q m. ap (λ rs. is_slab class rs q) none) in
       sym (ap (λ ps. map (slab_of s.regions class) (turned_in_order (λ p. p) ps)) empty);
 }
+
+-- and where no region is booked, no slab is
+none_left : (s : Space) (slabs : List Slab) → IsBooked s slabs → s.regions ≡ [] → slabs ≡ []
+none_left s [] book none = refl
+none_left s (x ∷ xs) book none =
+    let low = All-head (λ (y : Slab). y.class < 36) x xs book.small in
+    let is : of_class x.class (x ∷ xs) ≡ [] = book.booked x.class low ∙ sym ((nothing_booked s none).booked x.class low) in
+    let own : eqb x.class x.class ≡ true = eq-eqb x.class x.class refl in
+    let some : of_class x.class (x ∷ xs) ≡ x ∷ of_class x.class xs = rw own refl in
+    absurd (cc)
+
+-- so a space that stays has the slabs that it had
+pub same_left : (s : Space) (slabs : List Slab) → IsBooked s slabs → slabs_left s slabs ≡ slabs
+same_left s slabs book = by (eqb (length s.regions) 0) refl
+  where
+    by : (b : Bool) → eqb (length s.regions) 0 ≡ b → cond b [] slabs ≡ slabs
+    by true e = sym (none_left s slabs book (nil_from_length s.regions (eqb-true _ _ e)))
+    by false e = refl
 
 -- ---- one region is given back
 

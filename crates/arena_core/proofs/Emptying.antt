@@ -14,7 +14,7 @@ use Rattle.space_model.specs.declared.parts.Region.{Region}
 use Rattle.space_model.specs.declared.spaces.Space.{Space}
 use Rattle.space_model.specs.Span.{IsPlaced, has_page}
 use Rattle.space_model.specs.Part.{begins_at, exchanged, holders, is_active, taken_out}
-use Rattle.space_model.specs.Region.{covers, homes, houses, is_held_by, residents}
+use Rattle.space_model.specs.Region.{covers, homes, houses, is_held_by, residents, starts_at}
 use Rattle.space_model.specs.Step.{after_back, holds_at, is_emptied, is_given_back, staying, taken_in_order}
 use Rattle.space_model.specs.Sound.{Sound}
 use Rattle.space_model.proofs.Exchange.{filter-begins_at, find_has, find_passes}
@@ -22,7 +22,6 @@ use Rattle.space_model.proofs.Settled.{serves, some_pages}
 use Rattle.space_model.proofs.Settled.{serves-le-share, sum_nothing}
 use Rattle.arena_core.proofs.Finds.{fewer_pass}
 use Rattle.arena_core.proofs.Homes.{home_shares}
-use Rattle.arena_core.proofs.RegionKeys.{is_at}
 use Rattle.arena_core.proofs.Swaps.{keeps_all}
 
 -- ---- lists
@@ -83,11 +82,11 @@ All-split P t (x ∷ xs) kept left =
 -- ---- the region
 
 -- at most one region begins at an address
-pub begins_alone : (s : Space) (addr : ℕ) → Sound s → count_by (is_at addr) s.regions ≤ 1
+pub begins_alone : (s : Space) (addr : ℕ) → Sound s → count_by (starts_at addr) s.regions ≤ 1
 begins_alone s addr sound =
-    let has : (r : Region) → r.class < 121 → is_at addr r ≡ true → covers addr r ≡ true =
+    let has : (r : Region) → r.class < 121 → starts_at addr r ≡ true → covers addr r ≡ true =
     λ r class h. let size : 0 < size_at r.class = omega (arith, size_bounds r.class class) in grind (arith, nat_tests) in
-    omega (arith, sound.apart addr, fewer_pass (is_at addr) (covers addr) s.regions (λ k d h. has (get_or s.regions k d) (sound.classes k d h)))
+    omega (arith, sound.apart addr, fewer_pass (starts_at addr) (covers addr) s.regions (λ k d h. has (get_or s.regions k d) (sound.classes k d h)))
 
 -- The region that a client gives back.
 pub record Given (c addr : ℕ) (regions : List Region) (r : Region) : Type 0 where
@@ -99,7 +98,7 @@ given c addr s sound held =
     let t = is_given_back c (addr ∷ []) in
     let same : (r : Region) → (is_held_by c r && eqb r.addr addr) ≡ t r = λ r. both (is_held_by c r) r.addr in
     let some : 0 < count_by t s.regions = any_counts t s.regions (sym (λ i. list_any (λ r. same r i) s.regions) ∙ held) in
-    let fewer = fewer_pass t (is_at addr) s.regions (λ k d h e. starts (get_or s.regions k d) e) in
+    let fewer = fewer_pass t (starts_at addr) s.regions (λ k d h e. starts (get_or s.regions k d) e) in
     let one = one_passes t s.regions some (omega (arith, fewer, begins_alone s addr sound)) in
     let passes : All (λ r. t r ≡ true) (one.0 ∷ []) = subst (All (λ r. t r ≡ true)) one.1 (filter_passes t s.regions) in
     (one.0, record { alone = one.1; at = eqb-true _ _ (starts one.0 (All-head (λ r. t r ≡ true) one.0 [] passes)) })
@@ -107,7 +106,7 @@ given c addr s sound held =
     both : (b : Bool) (m : ℕ) → (b && eqb m addr) ≡ (b && (eqb addr m || false))
     both b m = grind (arith, nat_tests)
 
-    starts : (r : Region) → is_given_back c (addr ∷ []) r ≡ true → is_at addr r ≡ true
+    starts : (r : Region) → is_given_back c (addr ∷ []) r ≡ true → starts_at addr r ≡ true
     starts r h = grind (arith, nat_tests)
 
 -- ---- its extent

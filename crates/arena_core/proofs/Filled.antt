@@ -15,7 +15,7 @@ use Rattle.space_model.proofs.Steps.{op_keeps}
 use Rattle.bin_book.specs.Bins.{Slab, free_of, without}
 use Rattle.bin_book.proofs.Lists.{filter_all_of}
 use Rattle.arena_core.specs.Booked.{filled}
-use Rattle.arena_core.specs.Coming.{CanCome}
+use Rattle.region_book.specs.RegionLists.{CanCome}
 use Rattle.arena_core.specs.Slabs.{IsBooked, slabs_filled, slabs_taken}
 use Rattle.arena_core.proofs.Booked.{fills_taken}
 use Rattle.arena_core.proofs.Books.{map_itself}

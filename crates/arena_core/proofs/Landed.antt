@@ -17,7 +17,7 @@ use Rattle.space_model.specs.Step.{is_live, op_stands}
 use Rattle.space_model.specs.Sound.{Sound}
 use Rattle.space_model.proofs.Pieces.{both_true}
 use Rattle.space_model.proofs.Steps.{op_keeps}
-use Rattle.arena_core.specs.Coming.{CanCome}
+use Rattle.region_book.specs.RegionLists.{CanCome}
 use Rattle.arena_core.proofs.Coming.{can_come}
 use Rattle.arena_core.proofs.Homes.{in_flight}
 
@@ -35,6 +35,7 @@ pub record Fitting (c : ℕ) (s : Space) (class count : ℕ) (p : Part) : Type 0
   pub few : count ≤ 512
   pub bytes : count * size_at class ≤ 4096 * p.span.pages
   pub last : p.span.first + p.span.pages ≤ pages_end
+  pub large : 36 ≤ class → (count ≡ 1) × (p.span.first < 536870912)
   pub come : is_live s.life ≡ true → CanCome (regions_from c class (4096 * p.span.first) count) s.regions
 
 pub fitting : (c : ℕ) (s : Space) (span : Span) (class count : ℕ) (p : Part) → Sound s → IsTrue (land_stands s c span class count) → Some p ≡ find (is_flight_at c span) s.parts → Fitting c s class count p
@@ -48,6 +49,13 @@ fitting c s span class count p sound stands found =
       few = bytes.0;
       bytes = within;
       last = flight.placed.2;
+      large = λ big.
+          let one : most_regions class ≡ 1 = grind (arith, nat_tests, big) in
+          let most = may.3 in
+          let some = may.2 in
+          let end = flight.placed.2 in
+          let pages_some = flight.placed in
+          (omega (arith, one, most, some), omega (arith, end, pages_some.0));
       come = λ live.
           let may : op_stands s c (Land span class count) ≡ true = rw live stands in
           can_come s (land_at s c class count (Some p)).after (regions_from c class (address_of p.span.first) count)

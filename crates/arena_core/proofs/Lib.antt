@@ -1,4 +1,3 @@
-mod ByClass
 pub mod Coming
 pub mod Emptying
 pub mod Filled
@@ -7,7 +6,6 @@ pub mod Handing
 pub mod Homes
 pub mod Landed
 pub mod Outcomes
-pub mod RegionKeys
 pub mod Resized
 pub mod Swaps
 pub mod Totals
@@ -23,5 +21,4 @@ pub mod BookLaw
 pub mod InOrder
 pub mod FirstPlaces
 pub mod Turns
-pub mod KeyWalks
 pub mod Loads

@@ -16,8 +16,8 @@ use Rattle.space_model.proofs.Pieces.{both_true}
 use Rattle.space_model.proofs.Steps.{Outcome, Outcome-good, Outcome-others, Outcome-sound}
 use Rattle.space_model.proofs.LawLemmas.{absent_replays_are_good, first_replays_are_good}
 use Rattle.arena_core.specs.declared.steps.Body.{Body}
-use Rattle.arena_core.specs.Arenas.{HasRoom, IsBody, Standing, all_rooms, entry_of, room_after, room_of, rooms_after, standing_of}
-use Rattle.arena_core.specs.Indexes.{space_of}
+use Rattle.arena_core.specs.Arenas.{IsBody, Standing, all_rooms, entry_of, room_after, room_of, rooms_after, standing_of}
+use Rattle.arena_core.specs.Indexes.{HasPlaces, space_of}
 use Rattle.arena_core.specs.Slabs.{IsBooked}
 
 -- What a step leaves of a body that callers see as `a`.
@@ -35,7 +35,7 @@ pub record Stepped {E : Type 0} (a : Standing) (new : Body) (client : ℕ) (op :
 pub stepped : {E : Type 0} {old new : Body} {a : Standing} {r : Result Reply E} (client : ℕ) (op : Op) → standing_of old ≡ a → IsBody old →
     IsTrue (stands a.space (entry_of client op)) → OnOk r (space_of new.indexes ≡ space_after (space_of old.indexes) (entry_of client op)) →
     IfOk r (λ told. told ≡ reply_to (space_of old.indexes) (entry_of client op)) → OnOk r (new.rooms ≡ rooms_after (standing_of old) client op) →
-    OnErr r (standing_of new ≡ standing_of old) → HasRoom new (all_rooms new.rooms) → IsBooked (space_of new.indexes) new.bins.slabs → Stepped a new client op r
+    OnErr r (standing_of new ≡ standing_of old) → HasPlaces new.indexes (all_rooms new.rooms) → IsBooked (space_of new.indexes) new.indexes.regions.slabs → Stepped a new client op r
 stepped {E} {old} {new} {a} {r} client op view body stands_now after told rooms same places booked =
     let s : Space = space_of old.indexes in
     let t : Space = space_of new.indexes in

@@ -1,5 +1,5 @@
 -- The extent of a client's large region is the one that begins at its address.
-use Rattle.std.proofs.Common.{◌≡◌, ℕ, ◌*◌, ◌/◌, ◌<◌, ◌≤◌, ◌==◌, Bool, true, false, not, cond, IsTrue, List, [], ◌∷◌, get_or, find, filter, Option, None, Some, refl, sym, ◌∙◌, ap, subst, arith, ◌&&◌, ◌||◌}
+use Rattle.std.proofs.Common.{◌≡◌, ℕ, ◌*◌, ◌/◌, ◌<◌, ◌≤◌, ◌==◌, Bool, true, false, not, cond, IsTrue, List, [], ◌∷◌, get_or, find, filter, Option, None, Some, refl, sym, ◌∙◌, ap, subst, arith, ◌&&◌, ◌||◌, leb as nat_le}
 use Rattle.std.specs.List.{count_by, list_any}
 use Rattle.std.specs.Option.{IsSome, option_map}
 use Rattle.std.proofs.lemmas.Bool.{eqb-true}
@@ -41,6 +41,7 @@ pub record Homed (c addr : ℕ) (s : Space) (test : Part → Bool) (home : Regio
   pub placed : IsPlaced home.1.span
   pub active : is_active home.1.state ≡ true
   pub hand : holds_at c s.regions addr ≡ true
+  pub large : list_any (λ r. starts_at addr r && nat_le 36 r.class) s.regions ≡ true
 
 -- the holder of what a client holds
 holder_is : (c : ℕ) (o : Option ℕ) → is_held_by c (record { addr = 0; class = 0; holder = o }) ≡ true → o ≡ Some c
@@ -76,6 +77,7 @@ homed_by c addr s test (Some home) e sound h =
         placed = at.placed;
         active = at.active;
         hand = any_found (is_large_at c addr) (λ q. is_held_by c q && starts_at addr q) s.regions r f.region (rw here.0 here.1);
+        large = any_found (is_large_at c addr) (λ q. starts_at addr q && nat_le 36 q.class) s.regions r f.region (rw here.1 (both_true (is_held_by c r && starts_at addr r) _ (find_passes (is_large_at c addr) s.regions r f.region)).1);
       },
     )
 

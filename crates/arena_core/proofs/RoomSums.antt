@@ -5,7 +5,7 @@ use Rattle.space_model.specs.declared.entries.Op.{Op}
 use Rattle.space_model.specs.declared.entries.Op.TheVariants.{Back}
 use Rattle.space_model.specs.declared.spaces.Space.{Space}
 use Rattle.arena_core.specs.declared.steps.Body.{Body}
-use Rattle.arena_core.specs.Arenas.{HasRoom, all_rooms, emptied_by, is_return, room_of}
+use Rattle.arena_core.specs.Arenas.{all_rooms, emptied_by, is_return, room_of}
 use Rattle.arena_core.specs.declared.indexes.Indexes.{Indexes}
 use Rattle.arena_core.specs.Indexes.{HasPlaces}
 
@@ -22,12 +22,8 @@ pub places_fewer : (i : Indexes) (few more : ℕ) → few ≤ more → HasPlaces
 places_fewer i few more le h = record { extents = omega (arith, h.extents); regions = omega (arith, h.regions); offers = omega (arith, h.offers) }
 
 -- there is still room for all rooms where there is for as many as before
-pub room_of_all : {a b : Body} {old new : List ℕ} → ((n : ℕ) → HasRoom a n → HasRoom b n) → new ≡ old → HasRoom a (all_rooms old) → HasRoom b (all_rooms new)
-room_of_all {a} keeps same h = keeps _ (subst (λ rooms. HasRoom a (all_rooms rooms)) (sym same) h)
-
--- places that stay leave the room
-pub room_kept : {a b : Body} → ((n : ℕ) → HasPlaces a.indexes n → HasPlaces b.indexes n) → a.bins.spare ≤ b.bins.spare → (n : ℕ) → HasRoom a n → HasRoom b n
-room_kept keeps more n h = record { indexes = keeps n h.indexes; slabs = omega (arith, more, h.slabs) }
+pub room_of_all : {a b : Indexes} {old new : List ℕ} → ((n : ℕ) → HasPlaces a n → HasPlaces b n) → new ≡ old → HasPlaces a (all_rooms old) → HasPlaces b (all_rooms new)
+room_of_all {a} keeps same h = keeps _ (subst (λ rooms. HasPlaces a (all_rooms rooms)) (sym same) h)
 
 -- an operation that takes no place leaves one less than there were
 pub places_kept : {i j : Indexes} → ((n : ℕ) → HasPlaces i n → HasPlaces j n) → (n : ℕ) → HasPlaces i (n + 1) → HasPlaces j n

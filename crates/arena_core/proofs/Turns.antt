@@ -1,6 +1,6 @@
 -- Extents that change one after the other, from the lowest on, leave what they leave when they change at once.
-use Rattle.std.proofs.Common.{◌≡◌, ℕ, ◌+◌, ◌<◌, ◌≤◌, Bool, true, false, cond, not, List, [], ◌∷◌, ◌++◌, append_assoc, append-nil, length, get_or, filter, fold, refl, sym, ◌∙◌, ap, subst, arith, All, ltb as nat_lt, inl, inr}
-use Rattle.std.specs.List.{position_or_len, sum_by}
+use Rattle.std.proofs.Common.{◌≡◌, ℕ, ◌+◌, ◌<◌, ◌≤◌, Bool, true, false, cond, not, List, [], ◌∷◌, ◌++◌, append_assoc, append-nil, length, get_or, filter, fold, refl, sym, ◌∙◌, ap, subst, arith, All, ltb as nat_lt, inl, inr, suc}
+use Rattle.std.specs.List.{insert, position_or_len, sum_by}
 use Rattle.std.proofs.lemmas.Bool.{cases_Bool}
 use Rattle.std.proofs.lemmas.Bool.Decides.{nat_tests}
 use Rattle.std.proofs.lemmas.List.Elements.{All-append, All-cons, All-filter, All-head, All-nil, All-tail, filter-append, filter_passes}
@@ -16,8 +16,11 @@ use Rattle.space_model.proofs.Settled.{some_pages}
 use Rattle.part_book.proofs.Lists.{filter_swap}
 use Rattle.arena_core.specs.Extents.{IsApart, IsThere}
 use Rattle.arena_core.proofs.Emptying.{All-split, none_kept}
-use Rattle.arena_core.proofs.RegionKeys.{insert_later}
 use Rattle.arena_core.proofs.Swaps.{changed, keeps_all, there_placed}
+
+-- what is inserted behind the first element
+insert_later : {X : Type 0} (x y : X) (xs : List X) (n : ℕ) → insert (x ∷ xs) (1 + n) y ≡ x ∷ insert xs n y
+insert_later x y xs n = let e : 1 + n ≡ suc n = omega arith in rw e refl
 
 -- ---- a change that leaves each extent where it begins
 

@@ -78,14 +78,9 @@ entry_of client op = record { client = client; op = op }
 abbrev pub standing_of : Body → Standing
 standing_of body = record { space = space_of body.indexes; rooms = body.rooms }
 
--- each index and the book of slabs have places for so many operations that take no memory
-pub record HasRoom (body : Body) (places : ℕ) : Type 0 where
-  pub indexes : HasPlaces body.indexes places
-  pub slabs : places ≤ body.bins.spare
-
--- the space is sound, there are 32 rooms, there are places for all of them, and the slabs of the book are the space's
+-- the space is sound, there are 32 rooms, there are places for all of them, and the slabs are the space's
 pub record IsBody (body : Body) : Type 0 where
   pub sound : Sound (space_of body.indexes)
   pub clients : length body.rooms ≡ 32
-  pub places : HasRoom body (all_rooms body.rooms)
-  pub booked : IsBooked (space_of body.indexes) body.bins.slabs
+  pub places : HasPlaces body.indexes (all_rooms body.rooms)
+  pub booked : IsBooked (space_of body.indexes) body.indexes.regions.slabs

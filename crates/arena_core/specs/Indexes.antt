@@ -1,5 +1,5 @@
 -- An arena's space as its indexes keep it.
-use Rattle.std.specs.Prelude.{ℕ, ◌*◌, ◌≤◌}
+use Rattle.std.specs.Prelude.{ℕ, ◌≤◌}
 use Rattle.space_model.specs.declared.spaces.Space.{Space}
 use Rattle.arena_core.specs.declared.indexes.Indexes.{Indexes}
 
@@ -19,8 +19,8 @@ space_of i = record {
   trims = i.trims;
 }
 
--- there is a place for so many more extents and so many more offers, and for all the regions that may land in so many extents
+-- there is a place for so many more extents and so many more offers, and for the regions of so many
 pub record HasPlaces (i : Indexes) (places : ℕ) : Type 0 where
   pub extents : places ≤ i.extents.spare
-  pub regions : 512 * places ≤ i.regions.spare
+  pub regions : places ≤ i.regions.places
   pub offers : places ≤ i.offers.spare

@@ -1,9 +1,7 @@
 pub mod Arenas
 pub mod Booked
-pub mod Coming
 pub mod Extents
 pub mod Indexes
 pub mod OfferLists
-pub mod RegionLists
 pub mod Rooms
 pub mod Slabs

@@ -10,6 +10,8 @@ use Rattle.space_model.specs.Ending.{after_destroy, after_reset}
 use Rattle.space_model.specs.Slabs.{lowest_free}
 use Rattle.space_model.specs.Stepped.{is_live}
 use Rattle.bin_book.specs.Bins.{Slab, is_unused, meets_slab, slab_with_out, with_free, with_slab, without}
+use Rattle.region_book.specs.RegionLists.{CanBeSlab}
+use Rattle.region_book.specs.Slabs.{slabs_landed}
 use Rattle.arena_core.specs.Booked.{AreBooked}
 
 -- a book's slabs are of small classes, and those of each class are the space's
@@ -21,29 +23,10 @@ pub record IsBooked (s : Space) (slabs : List Slab) : Type 0 where
 abbrev pub NothingIsBooked : Type 0
 NothingIsBooked = (s : Space) → s.regions ≡ [] → IsBooked s []
 
--- a new slab has a region out and no more than its places, lies in the space, and meets no slab of the book
-pub record CanLand (span : Span) (class count : ℕ) (slabs : List Slab) : Type 0 where
-  pub some : 0 < count
-  pub most : count ≤ regions_at class
-  pub inside : span.first + pages_at class ≤ 2 ^ 32
-  pub apart : list_any (meets_slab class span.first) slabs ≡ false
-
 -- where an operation makes a slab, it can
 abbrev pub CanFollow : Op → List Slab → Type 0
-CanFollow (Land span class count) slabs = class < 36 → CanLand span class count slabs
+CanFollow (Land span class count) slabs = class < 36 → CanBeSlab class span.first count slabs
 CanFollow _ slabs = Unit {0}
-
--- the slabs after regions landed in an extent, which is one more slab if their class is small
-abbrev pub slabs_landed : Span → ℕ → ℕ → List Slab → List Slab
-slabs_landed span class count slabs = if nat_lt class 36 then with_slab slabs (slab_with_out class span.first count) else slabs
-
--- whether a region that is given back is the last one of its extent, as a large one always is
-abbrev pub is_last : ℕ → ℕ → List Slab → Bool
-is_last class addr slabs = if nat_lt class 36 then list_any is_unused (map (with_free addr) slabs) else true
-
--- the slabs after a region was given back, without one that then has none out
-abbrev pub slabs_returned : ℕ → ℕ → List Slab → List Slab
-slabs_returned class addr slabs = if nat_lt class 36 then filter (λ x. not (is_unused x)) (map (with_free addr) slabs) else slabs
 
 -- the slabs after the regions at some addresses were taken
 abbrev pub slabs_taken : List ℕ → List Slab → List Slab
@@ -66,5 +49,5 @@ slabs_begun c s _ slabs = slabs
 
 -- the slabs after an operation that takes no memory
 abbrev pub slabs_followed : Op → List Slab → List Slab
-slabs_followed (Land span class count) slabs = slabs_landed span class count slabs
+slabs_followed (Land span class count) slabs = slabs_landed class span.first count slabs
 slabs_followed _ slabs = slabs

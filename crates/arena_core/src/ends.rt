@@ -1,21 +1,21 @@
 //! How an arena is emptied and ended.
 
-ghost use Rattle.std.specs.Prelude.{◌≡◌, ◌≤◌, ℕ, IsTrue, [], ◌∷◌, cond};
+ghost use Rattle.std.specs.Prelude.{◌≡◌, ◌<◌, ◌≤◌, ℕ, IsTrue, [], ◌∷◌, cond};
 ghost use Rattle.space_model.specs.Part.{begins_at, exchanged, moved_to, turned};
 ghost use Rattle.space_model.specs.Ending.{after_destroy, after_destroy_take, after_reset, emptied, ended, flight_count, held_count, reset_stands};
 ghost use Rattle.space_model.specs.Sound.{Sound};
 ghost use Rattle.arena_core.specs.Extents.{IsApart, IsThere, goes_to};
 ghost use Rattle.arena_core.specs.Indexes.{HasPlaces, space_of};
-ghost use Rattle.arena_core.specs.Slabs.{slabs_left};
+ghost use Rattle.arena_core.specs.Slabs.{IsBooked, slabs_left};
 
 use crate::extents::Extents;
 use crate::indexes::Indexes;
-use crate::{purges, slabs};
-use bin_book::BinBook;
+use crate::purges;
 use space_model::{Life, Part, Reply, Rest, State};
 
 /// What others have in the arena, or the client in its cache: how many regions, and how many extents in flight or offered.
 fn load(indexes: &Indexes, client: u32, cached: u64) -> (u64, u64)
+    requires client { client < 32 }
     requires stands { IsTrue (reset_stands (space_of indexes.now) client cached) }
     requires sound { Sound (space_of indexes.now) }
     ensures held { result.0 ≡ held_count (space_of indexes.now) client cached }
@@ -66,6 +66,7 @@ fn empty(indexes: &mut Indexes) -> Reply
     requires { Sound (space_of indexes.old) }
     ensures after { space_of indexes.new ≡ (emptied (space_of indexes.old)).after }
     ensures reply { result ≡ (emptied (space_of indexes.old)).reply }
+    ensures slabs { indexes.new.regions.slabs ≡ [] }
     ensures places { (n : ℕ) → HasPlaces indexes.old n → HasPlaces indexes.new n }
 {
     move_all(&mut indexes.extents, Rest::Dirty);
@@ -79,11 +80,14 @@ fn empty(indexes: &mut Indexes) -> Reply
 }
 
 /// Discards all regions, unless the arena is in use.
-fn reset_space(indexes: &mut Indexes, client: u32, cached: u64) -> Reply
+pub fn reset(indexes: &mut Indexes, client: u32, cached: u64) -> Reply
+    requires client { client < 32 }
     requires stands { IsTrue (reset_stands (space_of indexes.old) client cached) }
     requires sound { Sound (space_of indexes.old) }
+    requires booked { IsBooked (space_of indexes.old) indexes.old.regions.slabs }
     ensures after { space_of indexes.new ≡ (after_reset (space_of indexes.old) client cached).after }
     ensures reply { result ≡ (after_reset (space_of indexes.old) client cached).reply }
+    ensures slabs { indexes.new.regions.slabs ≡ slabs_left (after_reset (space_of indexes.old) client cached).after indexes.old.regions.slabs }
     ensures places { (n : ℕ) → HasPlaces indexes.old n → HasPlaces indexes.new n }
 {
     if !indexes.life.is_live() {
@@ -105,6 +109,7 @@ fn end(indexes: &mut Indexes, client: u32) -> Reply
     requires { Sound (space_of indexes.old) }
     ensures after { space_of indexes.new ≡ (ended (space_of indexes.old) client).after }
     ensures reply { result ≡ (ended (space_of indexes.old) client).reply }
+    ensures slabs { indexes.new.regions.slabs ≡ [] }
     ensures places { (n : ℕ) → HasPlaces indexes.old n → HasPlaces indexes.new n }
 {
     move_all(&mut indexes.extents, Rest::Retained);
@@ -114,11 +119,14 @@ fn end(indexes: &mut Indexes, client: u32) -> Reply
 }
 
 /// Ends the arena, unless it is in use.
-fn destroy_space(indexes: &mut Indexes, client: u32, cached: u64) -> Reply
+pub fn destroy(indexes: &mut Indexes, client: u32, cached: u64) -> Reply
+    requires client { client < 32 }
     requires stands { IsTrue (reset_stands (space_of indexes.old) client cached) }
     requires sound { Sound (space_of indexes.old) }
+    requires booked { IsBooked (space_of indexes.old) indexes.old.regions.slabs }
     ensures after { space_of indexes.new ≡ (after_destroy (space_of indexes.old) client cached).after }
     ensures reply { result ≡ (after_destroy (space_of indexes.old) client cached).reply }
+    ensures slabs { indexes.new.regions.slabs ≡ slabs_left (after_destroy (space_of indexes.old) client cached).after indexes.old.regions.slabs }
     ensures places { (n : ℕ) → HasPlaces indexes.old n → HasPlaces indexes.new n }
 {
     if !indexes.life.is_live() {
@@ -136,40 +144,11 @@ fn destroy_space(indexes: &mut Indexes, client: u32, cached: u64) -> Reply
     }
 }
 
-/// Discards all regions, unless the arena is in use. Where no region is left then, there is no slab.
-pub fn reset(indexes: &mut Indexes, bins: &mut BinBook, client: u32, cached: u64) -> Reply
-    requires stands { IsTrue (reset_stands (space_of indexes.old) client cached) }
-    requires sound { Sound (space_of indexes.old) }
-    ensures after { space_of indexes.new ≡ (after_reset (space_of indexes.old) client cached).after }
-    ensures reply { result ≡ (after_reset (space_of indexes.old) client cached).reply }
-    ensures slabs { bins.new.slabs ≡ slabs_left (after_reset (space_of indexes.old) client cached).after bins.old.slabs }
-    ensures spare { bins.old.spare ≤ bins.new.spare }
-    ensures places { (n : ℕ) → HasPlaces indexes.old n → HasPlaces indexes.new n }
-{
-    let reply = reset_space(indexes, client, cached);
-    slabs::forget(bins, indexes.regions.is_empty());
-    reply
-}
-
-/// Ends the arena, unless it is in use. Where no region is left then, there is no slab.
-pub fn destroy(indexes: &mut Indexes, bins: &mut BinBook, client: u32, cached: u64) -> Reply
-    requires stands { IsTrue (reset_stands (space_of indexes.old) client cached) }
-    requires sound { Sound (space_of indexes.old) }
-    ensures after { space_of indexes.new ≡ (after_destroy (space_of indexes.old) client cached).after }
-    ensures reply { result ≡ (after_destroy (space_of indexes.old) client cached).reply }
-    ensures slabs { bins.new.slabs ≡ slabs_left (after_destroy (space_of indexes.old) client cached).after bins.old.slabs }
-    ensures spare { bins.old.spare ≤ bins.new.spare }
-    ensures places { (n : ℕ) → HasPlaces indexes.old n → HasPlaces indexes.new n }
-{
-    let reply = destroy_space(indexes, client, cached);
-    slabs::forget(bins, indexes.regions.is_empty());
-    reply
-}
-
 /// Takes the oldest extent off an arena that is being destroyed. After the last one it is absent.
 pub fn destroy_take(indexes: &mut Indexes) -> Reply
     ensures after { space_of indexes.new ≡ (after_destroy_take (space_of indexes.old)).after }
     ensures reply { result ≡ (after_destroy_take (space_of indexes.old)).reply }
+    ensures slabs { indexes.new.regions.slabs ≡ indexes.old.regions.slabs }
     ensures places { (n : ℕ) → HasPlaces indexes.old n → HasPlaces indexes.new n }
 {
     let Some(part) = indexes.extents.first() else {

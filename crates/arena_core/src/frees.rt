@@ -9,8 +9,7 @@ ghost use Rattle.arena_core.specs.Indexes.{HasPlaces, space_of};
 ghost use Rattle.arena_core.specs.Slabs.{IsBooked};
 
 use crate::indexes::Indexes;
-use crate::{purges, slabs};
-use bin_book::BinBook;
+use crate::purges;
 use size_classes::PAGE_BYTES;
 use space_model::{Answer, Ask, Heard, Part, Reply, Span, State};
 
@@ -27,6 +26,7 @@ pub fn put_look(indexes: &mut Indexes, client: u32, span: Span, tries: u8) -> Re
         ≡ (put_at (space_of indexes.old) client tries (find (is_flight_at client span) (space_of indexes.old).parts)).after }
     ensures reply { result
         ≡ (put_at (space_of indexes.old) client tries (find (is_flight_at client span) (space_of indexes.old).parts)).reply }
+    ensures slabs { indexes.new.regions.slabs ≡ indexes.old.regions.slabs }
     ensures places { (n : ℕ) → HasPlaces indexes.old n → HasPlaces indexes.new n }
 {
     let Some(part) = indexes.extents.flight(client, span) else {
@@ -52,6 +52,7 @@ pub fn merge_done(indexes: &mut Indexes, client: u32, heard: Heard, own_low: boo
     requires sound { Sound (space_of indexes.old) }
     ensures after { space_of indexes.new ≡ (after_merge (space_of indexes.old) client own_low heard.ask heard.answer).after }
     ensures reply { result ≡ (after_merge (space_of indexes.old) client own_low heard.ask heard.answer).reply }
+    ensures slabs { indexes.new.regions.slabs ≡ indexes.old.regions.slabs }
     ensures places { (n : ℕ) → HasPlaces indexes.old n → HasPlaces indexes.new n }
 {
     let Ask::Merge { low, high } = heard.ask else {
@@ -82,19 +83,17 @@ pub fn merge_done(indexes: &mut Indexes, client: u32, heard: Heard, own_low: boo
 }
 
 /// The client gives one region back. Where its extent then serves none, the extent is in flight, and the answer is true.
-fn give_one(indexes: &mut Indexes, bins: &mut BinBook, client: u32, addr: u64) -> bool
+fn give_one(indexes: &mut Indexes, client: u32, addr: u64) -> bool
     requires held { holds_at client (space_of indexes.old).regions addr ≡ true }
     requires sound { Sound (space_of indexes.old) }
-    requires booked { IsBooked (space_of indexes.old) bins.old.slabs }
+    requires booked { IsBooked (space_of indexes.old) indexes.old.regions.slabs }
     ensures after { space_of indexes.new ≡ (after_back (space_of indexes.old) client (addr ∷ [])).after }
     ensures emptied { cond result 1 0
         ≡ length (filter (is_emptied (staying client (addr ∷ []) (space_of indexes.old).regions)) (space_of indexes.old).parts) }
     ensures places { (n : ℕ) → HasPlaces indexes.old n → HasPlaces indexes.new n }
-    ensures booked { IsBooked (space_of indexes.new) bins.new.slabs }
-    ensures spare { bins.old.spare ≤ bins.new.spare }
+    ensures booked { IsBooked (space_of indexes.new) indexes.new.regions.slabs }
 {
-    let class = indexes.regions.take(client, addr);
-    let emptied = slabs::put_back(bins, class, addr);
+    let (_class, emptied) = indexes.regions.give_back(client, addr);
     if emptied {
         let part = indexes.extents.holding(addr / PAGE_BYTES).unwrap();
         let state = State::Flight(client, part.state.rest());
@@ -104,23 +103,22 @@ fn give_one(indexes: &mut Indexes, bins: &mut BinBook, client: u32, addr: u64) -
 }
 
 /// The client gives the regions at the addresses back. The answer is how many extents are emptied.
-pub fn give_back(indexes: &mut Indexes, bins: &mut BinBook, client: u32, addrs: &[u64]) -> u64
+pub fn give_back(indexes: &mut Indexes, client: u32, addrs: &[u64]) -> u64
     requires live { is_live (space_of indexes.old).life ≡ true }
     requires rise { rises_from 0 addrs.now ≡ true }
     requires held { list_all (holds_at client (space_of indexes.old).regions) addrs.now ≡ true }
     requires sound { Sound (space_of indexes.old) }
-    requires booked { IsBooked (space_of indexes.old) bins.old.slabs }
+    requires booked { IsBooked (space_of indexes.old) indexes.old.regions.slabs }
     ensures after { space_of indexes.new ≡ (after_back (space_of indexes.old) client addrs.now).after }
     ensures emptied { result
         ≡ length (filter (is_emptied (staying client addrs.now (space_of indexes.old).regions)) (space_of indexes.old).parts) }
     ensures few { result ≤ length addrs.now }
     ensures places { (n : ℕ) → HasPlaces indexes.old n → HasPlaces indexes.new n }
-    ensures booked { IsBooked (space_of indexes.new) bins.new.slabs }
-    ensures spare { bins.old.spare ≤ bins.new.spare }
+    ensures booked { IsBooked (space_of indexes.new) indexes.new.regions.slabs }
 {
     let mut emptied = 0;
     for addr in addrs {
-        emptied += u64::from(give_one(indexes, bins, client, *addr));
+        emptied += u64::from(give_one(indexes, client, *addr));
     }
     emptied
 }

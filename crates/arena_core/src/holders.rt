@@ -1,6 +1,6 @@
 //! How a region goes from one client to another.
 
-ghost use Rattle.std.specs.Prelude.{◌≡◌, ℕ, true};
+ghost use Rattle.std.specs.Prelude.{◌≡◌, ◌<◌, ℕ, true};
 ghost use Rattle.space_model.specs.Holding.{after_publish, after_take_over};
 ghost use Rattle.space_model.specs.Step.{holds_at};
 ghost use Rattle.space_model.specs.Sound.{Sound};
@@ -15,6 +15,7 @@ pub fn publish(indexes: &mut Indexes, client: u32, addr: u64) -> Reply
     requires sound { Sound (space_of indexes.old) }
     ensures after { space_of indexes.new ≡ (after_publish (space_of indexes.old) client addr).after }
     ensures reply { result ≡ (after_publish (space_of indexes.old) client addr).reply }
+    ensures slabs { indexes.new.regions.slabs ≡ indexes.old.regions.slabs }
     ensures places { (n : ℕ) → HasPlaces indexes.old n → HasPlaces indexes.new n }
 {
     indexes.regions.hand_over(addr, None);
@@ -23,9 +24,11 @@ pub fn publish(indexes: &mut Indexes, client: u32, addr: u64) -> Reply
 
 /// The client holds the published region at the address from now on, if there is one.
 pub fn take_over(indexes: &mut Indexes, client: u32, addr: u64) -> Reply
+    requires client { client < 32 }
     requires sound { Sound (space_of indexes.old) }
     ensures after { space_of indexes.new ≡ (after_take_over (space_of indexes.old) client addr).after }
     ensures reply { result ≡ (after_take_over (space_of indexes.old) client addr).reply }
+    ensures slabs { indexes.new.regions.slabs ≡ indexes.old.regions.slabs }
     ensures places { (n : ℕ) → HasPlaces indexes.old n → HasPlaces indexes.new n }
 {
     if !indexes.life.is_live() {

@@ -5,8 +5,8 @@ ghost use Rattle.arena_core.specs.Indexes.{HasPlaces, space_of};
 
 use crate::extents::Extents;
 use crate::offer_list::OfferList;
-use crate::regions::RegionSet;
 use decay_curve::Decay;
+use region_book::RegionBook;
 use space_model::{Clients, Life};
 use std::alloc::{AllocError as NoMemory, Global};
 
@@ -15,7 +15,7 @@ use std::alloc::{AllocError as NoMemory, Global};
 pub struct Indexes {
     pub life: Life,
     pub extents: Extents,
-    pub regions: RegionSet,
+    pub regions: RegionBook,
     pub offers: OfferList,
     pub bound: Clients,
     pub box_no: u32,
@@ -26,9 +26,6 @@ pub struct Indexes {
     pub trims: Clients,
     pub alloc: Global,
 }
-
-/// How many regions land in one extent at most.
-const MOST_REGIONS: u64 = 512;
 
 /// How many places are made beside those that are wanted, for the operations to come.
 const MORE: u64 = 64;
@@ -43,18 +40,18 @@ pub fn asked(spare: u64, wanted: u64) -> u64
     wanted.saturating_add(MORE)
 }
 
-/// Makes places for at least so many further extents and offers, and for the regions of as many slabs. The space stays.
+/// Makes places for at least so many further extents and offers, and for the regions of as many. The space stays, and its slabs.
 pub fn reserve(indexes: &mut Indexes, places: u64) -> Result<(), NoMemory>
     ensures space { space_of indexes.new ≡ space_of indexes.old }
+    ensures slabs { indexes.new.regions.slabs ≡ indexes.old.regions.slabs }
     ensures kept { (n : ℕ) → HasPlaces indexes.old n → HasPlaces indexes.new n }
     ensures ok { OnOk result (HasPlaces indexes.new places) }
 {
-    let regions = places.checked_mul(MOST_REGIONS).ok_or(NoMemory)?;
     indexes
         .extents
         .reserve(asked(indexes.extents.spare(), places))?;
     indexes
         .regions
-        .reserve(asked(indexes.regions.spare(), regions))?;
+        .reserve(asked(indexes.regions.places(), places))?;
     indexes.offers.reserve(places)
 }

@@ -24,21 +24,18 @@ mod offer_list;
 mod offers;
 mod purges;
 mod readers;
-mod regions;
 mod resizes;
 mod rooms;
 mod settings;
-mod slabs;
 mod steps;
 #[cfg(test)]
 mod tests;
 
-use bin_book::BinBook;
 use decay_curve::Decay;
 use extents::Extents;
 use indexes::Indexes;
 use offer_list::OfferList;
-use regions::RegionSet;
+use region_book::RegionBook;
 use rooms::Rooms;
 use space_model::{Counts, Life, Op, Reply, Space, Span};
 use std::alloc::{AllocError as NoMemory, Global};
@@ -77,7 +74,7 @@ impl Arena {
                 indexes: Indexes {
                     life: space.life,
                     extents: Extents::new(alloc)?,
-                    regions: RegionSet::new(alloc),
+                    regions: RegionBook::new(alloc),
                     offers: OfferList::new(alloc),
                     bound: space.bound,
                     box_no: space.box_no,
@@ -89,7 +86,6 @@ impl Arena {
                     alloc,
                 },
                 rooms: Rooms::none(),
-                bins: BinBook::new(alloc),
             },
         })
     }
@@ -134,7 +130,7 @@ impl Arena {
     pub fn counts(&self) -> Counts
         ensures { result ≡ counts_of self.now.space }
     {
-        readers::counts(&self.body.indexes, &self.body.bins)
+        readers::counts(&self.body.indexes)
     }
 
     /// Whether the arena is there.

@@ -1,22 +1,20 @@
 //! What the operations of a malloc do to the indexes.
 
 ghost use Rattle.std.specs.Prelude.{◌≡◌, ℕ, ◌+◌, ◌*◌, ◌≤◌, ◌<◌, ◌^◌, false, true, IsTrue, Some, find, IfSome};
-ghost use Rattle.size_classes.specs.Classes.{size_at};
-ghost use Rattle.space_model.specs.Region.{landing, regions_from};
 ghost use Rattle.space_model.specs.Span.{IsPlaced, pages_end, end_of, run_start, chunks_of};
 ghost use Rattle.space_model.specs.Part.{is_flight_at};
 ghost use Rattle.space_model.specs.Step.{cut_stands, grow_stands, land_stands, land_at, after_look, after_cut, after_grow, after_commit, cut_at, whole_at, is_found, is_owned, is_in_space, is_live, why_not, grow_after};
 ghost use Rattle.space_model.specs.Sound.{Sound};
 ghost use Rattle.arena_core.specs.Extents.{IsThere};
 ghost use Rattle.arena_core.specs.Indexes.{HasPlaces, space_of};
-ghost use Rattle.arena_core.specs.Coming.{CanCome};
+ghost use Rattle.region_book.specs.RegionLists.{CanBeSlab};
+ghost use Rattle.region_book.specs.Slabs.{slabs_landed};
 
 use crate::extents::Extents;
 use crate::indexes::Indexes;
-use crate::regions::RegionSet;
-use size_classes::{PAGE_BYTES, size_of};
+use size_classes::PAGE_BYTES;
 use space_model::{
-    Answer, Ask, CHUNK_PAGES, Heard, MAX_SERIES, Part, Region, Reply, Rest, Span, State, Why,
+    Answer, Ask, CHUNK_PAGES, Heard, MAX_SERIES, Part, Reply, Rest, Span, State, Why,
 };
 
 /// Looks for the extent that serves a request, and takes it out of its list.
@@ -26,6 +24,7 @@ pub fn look(indexes: &mut Indexes, client: u32, pages: u64, align: u64) -> Reply
     requires sound { Sound (space_of indexes.old) }
     ensures after { space_of indexes.new ≡ (after_look (space_of indexes.old) client pages align).after }
     ensures reply { result ≡ (after_look (space_of indexes.old) client pages align).reply }
+    ensures slabs { indexes.new.regions.slabs ≡ indexes.old.regions.slabs }
     ensures places { (n : ℕ) → HasPlaces indexes.old n → HasPlaces indexes.new n }
 {
     if !indexes.life.is_live() {
@@ -50,6 +49,7 @@ pub fn put_whole(indexes: &mut Indexes, found: Option<Part>) -> Reply
     requires { IfSome found (IsThere (space_of indexes.old).parts) }
     ensures after { space_of indexes.new ≡ (whole_at (space_of indexes.old) found).after }
     ensures reply { result ≡ (whole_at (space_of indexes.old) found).reply }
+    ensures slabs { indexes.new.regions.slabs ≡ indexes.old.regions.slabs }
     ensures places { (n : ℕ) → HasPlaces indexes.old n → HasPlaces indexes.new n }
 {
     let Some(part) = found else {
@@ -70,6 +70,7 @@ fn cut(indexes: &mut Indexes, part: &Part, left: u64, keep_low: bool) -> Reply
     requires fewer { left < part.now.span.pages }
     ensures after { space_of indexes.new ≡ (cut_at (space_of indexes.old) keep_low left (Some part.now)).after }
     ensures reply { result ≡ (cut_at (space_of indexes.old) keep_low left (Some part.now)).reply }
+    ensures slabs { indexes.new.regions.slabs ≡ indexes.old.regions.slabs }
     ensures places { (n : ℕ) → HasPlaces indexes.old (n + 1) → HasPlaces indexes.new n }
 {
     indexes.extents.split(part, left, keep_low);
@@ -94,6 +95,7 @@ pub fn cut_done(indexes: &mut Indexes, client: u32, heard: Heard, keep_low: bool
     requires room { HasPlaces indexes.old 1 }
     ensures after { space_of indexes.new ≡ (after_cut (space_of indexes.old) client keep_low heard.ask heard.answer).after }
     ensures reply { result ≡ (after_cut (space_of indexes.old) client keep_low heard.ask heard.answer).reply }
+    ensures slabs { indexes.new.regions.slabs ≡ indexes.old.regions.slabs }
     ensures places { (n : ℕ) → HasPlaces indexes.old (n + 1) → HasPlaces indexes.new n }
 {
     let Ask::Split { span, left } = heard.ask else {
@@ -110,6 +112,7 @@ pub fn cut_done(indexes: &mut Indexes, client: u32, heard: Heard, keep_low: bool
 pub fn commit_done(indexes: &mut Indexes, client: u32, heard: Heard) -> Reply
     ensures after { space_of indexes.new ≡ (after_commit (space_of indexes.old) client heard.ask heard.answer).after }
     ensures reply { result ≡ (after_commit (space_of indexes.old) client heard.ask heard.answer).reply }
+    ensures slabs { indexes.new.regions.slabs ≡ indexes.old.regions.slabs }
     ensures places { (n : ℕ) → HasPlaces indexes.old n → HasPlaces indexes.new n }
 {
     let Ask::Commit(span) = heard.ask else {
@@ -187,6 +190,7 @@ pub fn grow_done(indexes: &mut Indexes, client: u32, heard: Heard, found: Option
     requires room { HasPlaces indexes.old 1 }
     ensures after { space_of indexes.new ≡ (after_grow (space_of indexes.old) client found heard.ask heard.answer).after }
     ensures reply { result ≡ (after_grow (space_of indexes.old) client found heard.ask heard.answer).reply }
+    ensures slabs { indexes.new.regions.slabs ≡ indexes.old.regions.slabs }
     ensures places { (n : ℕ) → HasPlaces indexes.old (n + 1) → HasPlaces indexes.new n }
 {
     let Ask::Alloc { pages, align, .. } = heard.ask else {
@@ -215,30 +219,15 @@ pub fn grow_done(indexes: &mut Indexes, client: u32, heard: Heard, found: Option
     }
 }
 
-/// The first `count` regions of a class from an address on are the client's.
-fn land(regions: &mut RegionSet, client: u32, class: u8, first: u64, count: u32)
-    requires class { class < 121 }
-    requires room { count ≤ regions.old.spare }
-    requires can_come { CanCome (regions_from client class first count) regions.old.regions }
-    requires ends { first + count * size_at class < 2 ^ 64 }
-    ensures regions { regions.new.regions ≡ landing (regions_from client class first count) regions.old.regions }
-    ensures spare { regions.new.spare + count ≡ regions.old.spare }
-{
-    for i in 0..count {
-        regions.add(Region {
-            addr: first + u64::from(i) * size_of(class),
-            class,
-            holder: Some(client),
-        });
-    }
-}
-
 /// An extent in flight serves the first `count` regions of a class from now on, which the client holds.
 pub fn land_done(indexes: &mut Indexes, client: u32, span: Span, class: u8, count: u32) -> Reply
     requires live { is_live (space_of indexes.old).life ≡ true }
+    requires client { client < 32 }
     requires stands { IsTrue (land_stands (space_of indexes.old) client span class count) }
     requires sound { Sound (space_of indexes.old) }
     requires room { HasPlaces indexes.old 1 }
+    requires may { class < 36 → CanBeSlab class span.first count indexes.old.regions.slabs }
+    ensures slabs { indexes.new.regions.slabs ≡ slabs_landed class span.first count indexes.old.regions.slabs }
     ensures after { space_of indexes.new
         ≡ (land_at (space_of indexes.old) client class count (find (is_flight_at client span) (space_of indexes.old).parts)).after }
     ensures reply { result
@@ -250,6 +239,6 @@ pub fn land_done(indexes: &mut Indexes, client: u32, span: Span, class: u8, coun
     };
     let first = PAGE_BYTES * part.span.first;
     indexes.extents.change(&part, State::Active, part.committed);
-    land(&mut indexes.regions, client, class, first, count);
+    indexes.regions.land(client, class, part.span.first, count);
     Reply::Landed { first, count }
 }

@@ -17,6 +17,7 @@ pub fn offer(indexes: &mut Indexes, client: u32, span: Span) -> Reply
     requires room { HasPlaces indexes.old 1 }
     ensures after { space_of indexes.new ≡ (offer_at (space_of indexes.old) client (find (is_flight_at client span) (space_of indexes.old).parts)).after }
     ensures reply { result ≡ (offer_at (space_of indexes.old) client (find (is_flight_at client span) (space_of indexes.old).parts)).reply }
+    ensures slabs { indexes.new.regions.slabs ≡ indexes.old.regions.slabs }
     ensures places { (n : ℕ) → HasPlaces indexes.old (n + 1) → HasPlaces indexes.new n }
 {
     if let Some(part) = indexes.extents.flight(client, span) {
@@ -49,6 +50,7 @@ fn keep_offer(
     requires room { HasPlaces indexes.old 1 }
     ensures after { space_of indexes.new ≡ (keep_offer (space_of indexes.old) client found span committed).after }
     ensures reply { result ≡ (keep_offer (space_of indexes.old) client found span committed).reply }
+    ensures slabs { indexes.new.regions.slabs ≡ indexes.old.regions.slabs }
     ensures places { (n : ℕ) → HasPlaces indexes.old (n + 1) → HasPlaces indexes.new n }
 {
     if is_regranted(found, &indexes.extents, span) {
@@ -69,6 +71,7 @@ pub fn offer_done(indexes: &mut Indexes, client: u32, heard: Heard, found: Optio
     requires room { HasPlaces indexes.old 1 }
     ensures after { space_of indexes.new ≡ (after_offer (space_of indexes.old) client found heard.ask heard.answer).after }
     ensures reply { result ≡ (after_offer (space_of indexes.old) client found heard.ask heard.answer).reply }
+    ensures slabs { indexes.new.regions.slabs ≡ indexes.old.regions.slabs }
     ensures places { (n : ℕ) → HasPlaces indexes.old (n + 1) → HasPlaces indexes.new n }
 {
     let Ask::Dalloc { span, committed } = heard.ask else {

@@ -20,6 +20,7 @@ pub fn is_lazy(indexes: &Indexes) -> bool
 pub fn purge_take(indexes: &mut Indexes, client: u32, rest: Rest, keep: u64) -> Reply
     ensures after { space_of indexes.new ≡ (after_purge_take (space_of indexes.old) client rest keep).after }
     ensures reply { result ≡ (after_purge_take (space_of indexes.old) client rest keep).reply }
+    ensures slabs { indexes.new.regions.slabs ≡ indexes.old.regions.slabs }
     ensures places { (n : ℕ) → HasPlaces indexes.old n → HasPlaces indexes.new n }
 {
     if !indexes.life.is_live() {
@@ -46,6 +47,7 @@ pub fn purge_take(indexes: &mut Indexes, client: u32, rest: Rest, keep: u64) -> 
 pub fn lazy_done(indexes: &mut Indexes, client: u32, heard: Heard) -> Reply
     ensures after { space_of indexes.new ≡ (after_lazy (space_of indexes.old) client heard.ask heard.answer).after }
     ensures reply { result ≡ (after_lazy (space_of indexes.old) client heard.ask heard.answer).reply }
+    ensures slabs { indexes.new.regions.slabs ≡ indexes.old.regions.slabs }
     ensures places { (n : ℕ) → HasPlaces indexes.old n → HasPlaces indexes.new n }
 {
     let Ask::PurgeLazy(span) = heard.ask else {
@@ -66,6 +68,7 @@ pub fn lazy_done(indexes: &mut Indexes, client: u32, heard: Heard) -> Reply
 pub fn decommit_done(indexes: &mut Indexes, client: u32, heard: Heard) -> Reply
     ensures after { space_of indexes.new ≡ (after_decommit (space_of indexes.old) client heard.ask heard.answer).after }
     ensures reply { result ≡ (after_decommit (space_of indexes.old) client heard.ask heard.answer).reply }
+    ensures slabs { indexes.new.regions.slabs ≡ indexes.old.regions.slabs }
     ensures places { (n : ℕ) → HasPlaces indexes.old n → HasPlaces indexes.new n }
 {
     let Ask::Decommit(span) = heard.ask else {

@@ -9,15 +9,14 @@ ghost use Rattle.arena_core.specs.Indexes.{space_of};
 ghost use Rattle.arena_core.specs.Slabs.{IsBooked};
 
 use crate::indexes::Indexes;
-use bin_book::BinBook;
 use size_classes::PAGE_BYTES;
 use space_model::{CHUNK_PAGES, CHUNKS, Counts, Rest, Span};
 
 /// The counts: sums that are kept, and no scan.
 #[tactic(auto, using(crate::proofs::Totals::pages_few))]
-pub fn counts(indexes: &Indexes, bins: &BinBook) -> Counts
+pub fn counts(indexes: &Indexes) -> Counts
     requires sound { Sound (space_of indexes.now) }
-    requires booked { IsBooked (space_of indexes.now) bins.now.slabs }
+    requires booked { IsBooked (space_of indexes.now) indexes.now.regions.slabs }
     ensures { result ≡ counts_of (space_of indexes.now) }
 {
     let active = PAGE_BYTES * indexes.extents.active_pages();
@@ -38,7 +37,7 @@ pub fn counts(indexes: &Indexes, bins: &BinBook) -> Counts
         small,
         large: allocated - small,
         regs: indexes.regions.small_numbers(),
-        slabs: bins.slabs(),
+        slabs: indexes.regions.slabs(),
         lextents: indexes.regions.large_numbers(),
     }
 }

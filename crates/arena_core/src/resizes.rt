@@ -13,11 +13,8 @@ ghost use Rattle.arena_core.specs.Indexes.{HasPlaces, space_of};
 use crate::extents::Extents;
 use crate::indexes::Indexes;
 use crate::moves::put_whole;
-use crate::regions::RegionSet;
 use size_classes::PAGE_BYTES;
-use space_model::{
-    Answer, Ask, CHUNK_PAGES, CHUNKS, Heard, Part, Region, Reply, Rest, Span, State,
-};
+use space_model::{Answer, Ask, CHUNK_PAGES, CHUNKS, Heard, Part, Reply, Rest, Span, State};
 
 /// Whether a chunk begins at the page, in the space, and no extent has the page.
 #[tactic(auto, using(crate::proofs::Totals::found_any))]
@@ -33,6 +30,7 @@ fn widen_by(indexes: &mut Indexes, client: u32, page: u64, lacking: u64) -> Repl
         ≡ (widen_by (space_of indexes.old) client page (find (is_spare page lacking) (space_of indexes.old).parts)).after }
     ensures reply { result
         ≡ (widen_by (space_of indexes.old) client page (find (is_spare page lacking) (space_of indexes.old).parts)).reply }
+    ensures slabs { indexes.new.regions.slabs ≡ indexes.old.regions.slabs }
     ensures places { (n : ℕ) → HasPlaces indexes.old n → HasPlaces indexes.new n }
 {
     let Some(part) = indexes.extents.spare_at(page, lacking) else {
@@ -57,6 +55,7 @@ pub fn widen(indexes: &mut Indexes, client: u32, addr: u64, pages: u64) -> Reply
     requires sound { Sound (space_of indexes.old) }
     ensures after { space_of indexes.new ≡ (after_widen (space_of indexes.old) client addr pages).after }
     ensures reply { result ≡ (after_widen (space_of indexes.old) client addr pages).reply }
+    ensures slabs { indexes.new.regions.slabs ≡ indexes.old.regions.slabs }
     ensures places { (n : ℕ) → HasPlaces indexes.old n → HasPlaces indexes.new n }
 {
     let part = indexes.extents.at(addr / PAGE_BYTES);
@@ -64,28 +63,9 @@ pub fn widen(indexes: &mut Indexes, client: u32, addr: u64, pages: u64) -> Reply
     widen_by(indexes, client, end, pages - part.span.pages)
 }
 
-/// The client's large region at an address takes another large class.
-fn reclass(regions: &mut RegionSet, client: u32, addr: u64, class: u8)
-    requires held { holds_at client regions.old.regions addr ≡ true }
-    requires alone { count_by (λ r. r.addr == addr) regions.old.regions ≤ 1 }
-    requires classes { All (λ r. r.class < 121) regions.old.regions }
-    requires bytes { region_bytes regions.old.regions ≤ 2 ^ 41 }
-    requires large { 36 ≤ class }
-    requires class { class < 121 }
-    ensures regions { regions.new.regions
-        ≡ inserted (record { addr = addr; class = class; holder = Some client }) (filter (λ r. not (starts_at addr r)) regions.old.regions) }
-    ensures spare { regions.new.spare ≡ regions.old.spare }
-{
-    regions.take(client, addr);
-    regions.add(Region {
-        addr,
-        class,
-        holder: Some(client),
-    });
-}
-
 /// Joins an extent to the one of the client's large region at the page where that begins, and the region takes the class.
 fn join_home(indexes: &mut Indexes, client: u32, low: Span, high: &Part, class: u8) -> Reply
+    requires client { client < 32 }
     requires home { has_large (space_of indexes.old) client (address_of low.first) (λ p. same_span p.span low) ≡ true }
     requires there { IsThere (space_of indexes.old).parts high.now }
     requires beside { end_of low ≡ high.now.span.first }
@@ -96,21 +76,24 @@ fn join_home(indexes: &mut Indexes, client: u32, low: Span, high: &Part, class: 
         ≡ (widened_at (space_of indexes.old) class (large_home (space_of indexes.old) client (address_of low.first)) (Some high.now)).after }
     ensures reply { result
         ≡ (widened_at (space_of indexes.old) class (large_home (space_of indexes.old) client (address_of low.first)) (Some high.now)).reply }
+    ensures slabs { indexes.new.regions.slabs ≡ indexes.old.regions.slabs }
     ensures places { (n : ℕ) → HasPlaces indexes.old n → HasPlaces indexes.new n }
 {
     let part = indexes.extents.at(low.first);
     let first = PAGE_BYTES * low.first;
     indexes.extents.join(&part, high);
-    reclass(&mut indexes.regions, client, first, class);
+    indexes.regions.reclass(client, low.first, class);
     Reply::Landed { first, count: 1 }
 }
 
 /// Takes in the answer to a merge of a large region's extent with the extent in flight behind it.
 pub fn join_done(indexes: &mut Indexes, client: u32, heard: Heard, class: u8) -> Reply
+    requires client { client < 32 }
     requires stands { IsTrue (join_stands (space_of indexes.old) client class heard.ask heard.answer) }
     requires sound { Sound (space_of indexes.old) }
     ensures after { space_of indexes.new ≡ (after_join (space_of indexes.old) client class heard.ask heard.answer).after }
     ensures reply { result ≡ (after_join (space_of indexes.old) client class heard.ask heard.answer).reply }
+    ensures slabs { indexes.new.regions.slabs ≡ indexes.old.regions.slabs }
     ensures places { (n : ℕ) → HasPlaces indexes.old n → HasPlaces indexes.new n }
 {
     let Ask::Merge { low, high } = heard.ask else {
@@ -128,6 +111,7 @@ pub fn trim(indexes: &mut Indexes, client: u32) -> Reply
     requires client { client < 32 }
     ensures after { space_of indexes.new ≡ (after_trim (space_of indexes.old) client).after }
     ensures reply { result ≡ (after_trim (space_of indexes.old) client).reply }
+    ensures slabs { indexes.new.regions.slabs ≡ indexes.old.regions.slabs }
     ensures places { (n : ℕ) → HasPlaces indexes.old n → HasPlaces indexes.new n }
 {
     indexes.trims.add(client);
@@ -137,6 +121,7 @@ pub fn trim(indexes: &mut Indexes, client: u32) -> Reply
 /// Cuts the pages behind the first `left` off the extent of the client's large region at a page, which takes the class. They
 /// are in flight.
 fn cut_home(indexes: &mut Indexes, client: u32, span: Span, left: u64, class: u8) -> Reply
+    requires client { client < 32 }
     requires home { has_large (space_of indexes.old) client (address_of span.first) (λ p. same_span p.span span) ≡ true }
     requires room { HasPlaces indexes.old 1 }
     requires some { 0 < left }
@@ -149,13 +134,13 @@ fn cut_home(indexes: &mut Indexes, client: u32, span: Span, left: u64, class: u8
     ensures reply { result
         ≡ (trimmed_at (space_of indexes.old) client left class (large_home (space_of indexes.old) client (address_of span.first))).reply }
     ensures trims { indexes.new.trims ≡ indexes.old.trims }
+    ensures slabs { indexes.new.regions.slabs ≡ indexes.old.regions.slabs }
     ensures places { (n : ℕ) → HasPlaces indexes.old (n + 1) → HasPlaces indexes.new n }
 {
     let part = indexes.extents.at(span.first);
-    let first = PAGE_BYTES * span.first;
     let state = State::Flight(client, part.state.rest());
     indexes.extents.cut_off(&part, left, state);
-    reclass(&mut indexes.regions, client, first, class);
+    indexes.regions.reclass(client, span.first, class);
     Reply::Cut(Span {
         first: span.first + left,
         pages: span.pages - left,
@@ -164,12 +149,14 @@ fn cut_home(indexes: &mut Indexes, client: u32, span: Span, left: u64, class: u8
 
 /// What the answer to a split of a large region's extent does, but that the client is done with shrinking.
 fn trim_answered(indexes: &mut Indexes, client: u32, heard: Heard, class: u8) -> Reply
+    requires client { client < 32 }
     requires stands { IsTrue (trim_done_stands (space_of indexes.old) client class heard.ask heard.answer) }
     requires sound { Sound (space_of indexes.old) }
     requires room { HasPlaces indexes.old 1 }
     ensures after { space_of indexes.new ≡ (trim_answered (space_of indexes.old) client class heard.ask heard.answer).after }
     ensures reply { result ≡ (trim_answered (space_of indexes.old) client class heard.ask heard.answer).reply }
     ensures trims { indexes.new.trims ≡ indexes.old.trims }
+    ensures slabs { indexes.new.regions.slabs ≡ indexes.old.regions.slabs }
     ensures places { (n : ℕ) → HasPlaces indexes.old (n + 1) → HasPlaces indexes.new n }
 {
     let Ask::Split { span, left } = heard.ask else {
@@ -184,11 +171,13 @@ fn trim_answered(indexes: &mut Indexes, client: u32, heard: Heard, class: u8) ->
 
 /// Takes in the answer to a split of a large region's extent, which ends the client's shrinking.
 pub fn trim_done(indexes: &mut Indexes, client: u32, heard: Heard, class: u8) -> Reply
+    requires client { client < 32 }
     requires stands { IsTrue (trim_done_stands (space_of indexes.old) client class heard.ask heard.answer) }
     requires sound { Sound (space_of indexes.old) }
     requires room { HasPlaces indexes.old 1 }
     ensures after { space_of indexes.new ≡ (after_trim_done (space_of indexes.old) client class heard.ask heard.answer).after }
     ensures reply { result ≡ (after_trim_done (space_of indexes.old) client class heard.ask heard.answer).reply }
+    ensures slabs { indexes.new.regions.slabs ≡ indexes.old.regions.slabs }
     ensures places { (n : ℕ) → HasPlaces indexes.old (n + 1) → HasPlaces indexes.new n }
 {
     let reply = trim_answered(indexes, client, heard, class);

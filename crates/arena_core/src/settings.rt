@@ -11,7 +11,6 @@ ghost use Rattle.arena_core.specs.Slabs.{IsBooked};
 
 use crate::indexes::Indexes;
 use crate::readers;
-use bin_book::BinBook;
 use space_model::{Boxed, Counts, Life, MAX_SERIES, Reply, Rest, Setting};
 use std::alloc::AllocError as NoMemory;
 
@@ -21,6 +20,7 @@ pub fn advance(indexes: &mut Indexes, now: u64) -> Reply
     requires { Sound (space_of indexes.old) }
     ensures after { space_of indexes.new ≡ (after_advance (space_of indexes.old) now).after }
     ensures reply { result ≡ (after_advance (space_of indexes.old) now).reply }
+    ensures slabs { indexes.new.regions.slabs ≡ indexes.old.regions.slabs }
     ensures places { (n : ℕ) → HasPlaces indexes.old n → HasPlaces indexes.new n }
 {
     if !indexes.life.is_live() {
@@ -39,6 +39,7 @@ fn make_live(indexes: &mut Indexes, box_no: u32, dirty_ms: i64, muzzy_ms: i64, n
     requires dirty { is_decay_time dirty_ms ≡ true }
     requires muzzy { is_decay_time muzzy_ms ≡ true }
     ensures after { space_of indexes.new ≡ made_live (space_of indexes.old) box_no dirty_ms muzzy_ms now }
+    ensures slabs { indexes.new.regions.slabs ≡ indexes.old.regions.slabs }
     ensures places { (n : ℕ) → HasPlaces indexes.old n → HasPlaces indexes.new n }
 {
     indexes.life = Life::Live;
@@ -54,6 +55,7 @@ fn change(indexes: &mut Indexes, client: u32, setting: Setting)
     requires client { client < 32 }
     requires stands { setting_stands setting ≡ true }
     ensures after { space_of indexes.new ≡ with_setting (space_of indexes.old) client setting }
+    ensures slabs { indexes.new.regions.slabs ≡ indexes.old.regions.slabs }
     ensures places { (n : ℕ) → HasPlaces indexes.old n → HasPlaces indexes.new n }
 {
     match setting {
@@ -73,6 +75,7 @@ pub fn set(indexes: &mut Indexes, client: u32, setting: Setting) -> Reply
     requires stands { setting_stands setting ≡ true }
     ensures after { space_of indexes.new ≡ (after_set (space_of indexes.old) client setting).after }
     ensures reply { result ≡ (after_set (space_of indexes.old) client setting).reply }
+    ensures slabs { indexes.new.regions.slabs ≡ indexes.old.regions.slabs }
     ensures places { (n : ℕ) → HasPlaces indexes.old n → HasPlaces indexes.new n }
 {
     match (indexes.life, setting) {
@@ -98,24 +101,24 @@ pub fn set(indexes: &mut Indexes, client: u32, setting: Setting) -> Reply
 }
 
 /// The counts, in a box.
-fn boxed_counts(indexes: &Indexes, bins: &BinBook) -> Result<Boxed<Counts>, NoMemory>
+fn boxed_counts(indexes: &Indexes) -> Result<Boxed<Counts>, NoMemory>
     requires sound { Sound (space_of indexes.now) }
-    requires booked { IsBooked (space_of indexes.now) bins.now.slabs }
+    requires booked { IsBooked (space_of indexes.now) indexes.now.regions.slabs }
     ensures { IfOk result (λ boxed. boxed ≡ counts_of (space_of indexes.now)) }
 {
-    let counts = readers::counts(indexes, bins);
+    let counts = readers::counts(indexes);
     Boxed::new(indexes.alloc, counts)
 }
 
 /// The counts of a live arena, for which memory is taken.
-pub fn counted(indexes: &Indexes, bins: &BinBook) -> Result<Reply, NoMemory>
+pub fn counted(indexes: &Indexes) -> Result<Reply, NoMemory>
     requires sound { Sound (space_of indexes.now) }
-    requires booked { IsBooked (space_of indexes.now) bins.now.slabs }
+    requires booked { IsBooked (space_of indexes.now) indexes.now.regions.slabs }
     ensures reply { IfOk result (λ told. told ≡ (if_live (space_of indexes.now) (stays (space_of indexes.now) (Reply.Counted (counts_of (space_of indexes.now))))).reply) }
     ensures same { (if_live (space_of indexes.now) (stays (space_of indexes.now) (Reply.Counted (counts_of (space_of indexes.now))))).after ≡ space_of indexes.now }
 {
     if indexes.life.is_live() {
-        Ok(Reply::Counted(boxed_counts(indexes, bins)?))
+        Ok(Reply::Counted(boxed_counts(indexes)?))
     } else {
         Ok(Reply::NoArena)
     }

@@ -3,40 +3,36 @@
 ghost use Rattle.std.specs.Prelude.{◌≡◌, ℕ, ◌+◌, ◌*◌, ◌<◌, ◌≤◌, ◌^◌, false, true, length, max, IsTrue, IsOk, IfOk, OnOk, OnErr, slice_set};
 ghost use Rattle.space_model.specs.Step.{op_stands, step_of};
 ghost use Rattle.space_model.specs.Sound.{Sound};
-ghost use Rattle.arena_core.specs.Arenas.{HasRoom, IsBody, all_rooms, emptied_by, given_by, is_return, opens, room_of, rooms_after, standing_of};
+ghost use Rattle.arena_core.specs.Arenas.{IsBody, all_rooms, emptied_by, given_by, is_return, opens, room_of, rooms_after, standing_of};
 ghost use Rattle.arena_core.specs.Indexes.{HasPlaces, space_of};
-ghost use Rattle.arena_core.specs.Slabs.{IsBooked, slabs_begun};
+ghost use Rattle.arena_core.specs.Slabs.{CanFollow, IsBooked, slabs_begun, slabs_followed};
 
 use crate::indexes::{self, Indexes};
 use crate::rooms::Rooms;
-use crate::{ends, fills, frees, holders, moves, offers, purges, resizes, settings, slabs};
-use bin_book::BinBook;
+use crate::{ends, fills, frees, holders, moves, offers, purges, resizes, settings};
 use space_model::{Addresses, Op, Reply};
 use std::alloc::AllocError as NoMemory;
 
 /// How many operations that take no memory may follow one that makes room for them.
 const UNIT: u64 = 16;
 
-/// An arena: its space in indexes, the rooms of its clients, and its slabs with their free regions.
+/// An arena: its space in indexes, and the rooms of its clients.
 #[derive(Drop)]
 pub struct Body {
     pub indexes: Indexes,
     pub rooms: Rooms,
-    pub bins: BinBook,
 }
 
 /// Makes places for all rooms, of which the client's shall be this. Where memory is wanting nothing changes.
 fn make_places(body: &mut Body, client: u32, room: u64) -> Result<(), NoMemory>
     requires client { client < 32 }
     ensures standing { standing_of body.new ≡ standing_of body.old }
-    ensures slabs { body.new.bins.slabs ≡ body.old.bins.slabs }
-    ensures kept { (n : ℕ) → HasRoom body.old n → HasRoom body.new n }
-    ensures ok { OnOk result (HasRoom body.new (all_rooms (slice_set body.old.rooms client room))) }
+    ensures slabs { body.new.indexes.regions.slabs ≡ body.old.indexes.regions.slabs }
+    ensures kept { (n : ℕ) → HasPlaces body.old.indexes n → HasPlaces body.new.indexes n }
+    ensures ok { OnOk result (HasPlaces body.new.indexes (all_rooms (slice_set body.old.rooms client room))) }
     ensures fits { OnOk result (all_rooms (slice_set body.old.rooms client room) < 2 ^ 64) }
 {
     let places = body.rooms.total_with(client, room).ok_or(NoMemory)?;
-    body.bins
-        .reserve(indexes::asked(body.bins.spare(), places))?;
     indexes::reserve(&mut body.indexes, places)
 }
 
@@ -64,32 +60,31 @@ pub fn opens(op: &Op) -> bool
 }
 
 /// The first operation of a unit, if it isn't a return. Where memory is wanting for it, the space stays.
-fn begin(indexes: &mut Indexes, bins: &mut BinBook, client: u32, op: &Op) -> Result<Reply, NoMemory>
+fn begin(indexes: &mut Indexes, client: u32, op: &Op) -> Result<Reply, NoMemory>
     requires client { client < 32 }
     requires opens { opens op.now ≡ true }
     requires other { is_return op.now ≡ false }
     requires stands { IsTrue (op_stands (space_of indexes.old) client op.now) }
     requires sound { Sound (space_of indexes.old) }
-    requires booked { IsBooked (space_of indexes.old) bins.old.slabs }
+    requires booked { IsBooked (space_of indexes.old) indexes.old.regions.slabs }
     ensures after { OnOk result (space_of indexes.new ≡ (step_of (space_of indexes.old) client op.now).after) }
     ensures reply { IfOk result (λ told. told ≡ (step_of (space_of indexes.old) client op.now).reply) }
     ensures err { OnErr result (space_of indexes.new ≡ space_of indexes.old) }
-    ensures slabs { OnOk result (bins.new.slabs ≡ slabs_begun client (space_of indexes.old) op.now bins.old.slabs) }
-    ensures same { OnErr result (bins.new.slabs ≡ bins.old.slabs) }
-    ensures spare { bins.old.spare ≤ bins.new.spare }
+    ensures slabs { OnOk result (indexes.new.regions.slabs ≡ slabs_begun client (space_of indexes.old) op.now indexes.old.regions.slabs) }
+    ensures same { OnErr result (indexes.new.regions.slabs ≡ indexes.old.regions.slabs) }
     ensures places { (n : ℕ) → HasPlaces indexes.old n → HasPlaces indexes.new n }
 {
     match op {
         Op::Look { pages, align } => Ok(moves::look(indexes, client, *pages, *align)),
-        Op::Fill { class, count } => fills::fill(indexes, bins, client, *class, *count),
+        Op::Fill { class, count } => fills::fill(indexes, client, *class, *count),
         Op::Advance { now } => Ok(settings::advance(indexes, *now)),
         Op::Set(setting) => Ok(settings::set(indexes, client, *setting)),
-        Op::Counts => settings::counted(indexes, bins),
+        Op::Counts => settings::counted(indexes),
         Op::PurgeTake { rest, keep } => Ok(purges::purge_take(indexes, client, *rest, *keep)),
         Op::Publish { addr } => Ok(holders::publish(indexes, client, *addr)),
         Op::TakeOver { addr } => Ok(holders::take_over(indexes, client, *addr)),
-        Op::Reset { cached } => Ok(ends::reset(indexes, bins, client, *cached)),
-        Op::Destroy { cached } => Ok(ends::destroy(indexes, bins, client, *cached)),
+        Op::Reset { cached } => Ok(ends::reset(indexes, client, *cached)),
+        Op::Destroy { cached } => Ok(ends::destroy(indexes, client, *cached)),
         Op::DestroyTake => Ok(ends::destroy_take(indexes)),
         Op::Widen { addr, pages } => Ok(resizes::widen(indexes, client, *addr, *pages)),
         Op::Trim { .. } => Ok(resizes::trim(indexes, client)),
@@ -109,12 +104,12 @@ fn open_unit(body: &mut Body, client: u32, op: &Op) -> Result<Reply, NoMemory>
     ensures reply { IfOk result (λ told. told ≡ (step_of (space_of body.old.indexes) client op.now).reply) }
     ensures rooms { OnOk result (body.new.rooms ≡ rooms_after (standing_of body.old) client op.now) }
     ensures err { OnErr result (standing_of body.new ≡ standing_of body.old) }
-    ensures places { HasRoom body.new (all_rooms body.new.rooms) }
-    ensures booked { IsBooked (space_of body.new.indexes) body.new.bins.slabs }
+    ensures places { HasPlaces body.new.indexes (all_rooms body.new.rooms) }
+    ensures booked { IsBooked (space_of body.new.indexes) body.new.indexes.regions.slabs }
 {
     let room = body.rooms.of(client).max(UNIT);
     make_places(body, client, room)?;
-    let reply = begin(&mut body.indexes, &mut body.bins, client, op)?;
+    let reply = begin(&mut body.indexes, client, op)?;
     body.rooms.set(client, room);
     Ok(reply)
 }
@@ -136,14 +131,14 @@ fn give_back(body: &mut Body, client: u32, addrs: &Addresses) -> Result<Reply, N
     ensures rooms { OnOk result (body.new.rooms ≡ rooms_after (standing_of body.old) client (Op.Back addrs.now)) }
     ensures few { OnOk result (emptied_by client (Op.Back addrs.now) (space_of body.old.indexes) ≤ length addrs.now) }
     ensures err { OnErr result (standing_of body.new ≡ standing_of body.old) }
-    ensures places { HasRoom body.new (all_rooms body.new.rooms) }
-    ensures booked { IsBooked (space_of body.new.indexes) body.new.bins.slabs }
+    ensures places { HasPlaces body.new.indexes (all_rooms body.new.rooms) }
+    ensures booked { IsBooked (space_of body.new.indexes) body.new.indexes.regions.slabs }
 {
     let least = body.rooms.of(client).max(UNIT);
     let addrs = addrs.as_slice();
     let most = most_room(addrs)?;
     make_places(body, client, least.max(most))?;
-    let emptied = frees::give_back(&mut body.indexes, &mut body.bins, client, addrs);
+    let emptied = frees::give_back(&mut body.indexes, client, addrs);
     body.rooms.set(client, least.max(UNIT * emptied));
     Ok(Reply::Next(body.indexes.extents.next_flight(client)))
 }
@@ -155,8 +150,10 @@ fn follow(indexes: &mut Indexes, client: u32, op: &Op) -> Reply
     requires stands { IsTrue (op_stands (space_of indexes.old) client op.now) }
     requires sound { Sound (space_of indexes.old) }
     requires room { HasPlaces indexes.old 1 }
+    requires may { CanFollow op.now indexes.old.regions.slabs }
     ensures after { space_of indexes.new ≡ (step_of (space_of indexes.old) client op.now).after }
     ensures reply { result ≡ (step_of (space_of indexes.old) client op.now).reply }
+    ensures slabs { indexes.new.regions.slabs ≡ slabs_followed op.now indexes.old.regions.slabs }
     ensures places { (n : ℕ) → HasPlaces indexes.old (n + 1) → HasPlaces indexes.new n }
 {
     match op {
@@ -187,12 +184,11 @@ fn use_up(body: &mut Body, client: u32, op: &Op) -> Reply
     ensures after { space_of body.new.indexes ≡ (step_of (space_of body.old.indexes) client op.now).after }
     ensures reply { result ≡ (step_of (space_of body.old.indexes) client op.now).reply }
     ensures rooms { body.new.rooms ≡ rooms_after (standing_of body.old) client op.now }
-    ensures places { HasRoom body.new (all_rooms body.new.rooms) }
-    ensures booked { IsBooked (space_of body.new.indexes) body.new.bins.slabs }
+    ensures places { HasPlaces body.new.indexes (all_rooms body.new.rooms) }
+    ensures booked { IsBooked (space_of body.new.indexes) body.new.indexes.regions.slabs }
 {
     let room = body.rooms.of(client);
     let reply = follow(&mut body.indexes, client, op);
-    slabs::follow(&mut body.bins, op);
     body.rooms.set(client, room - 1);
     reply
 }
@@ -209,8 +205,8 @@ pub fn step(body: &mut Body, client: u32, op: &Op) -> Result<Reply, NoMemory>
     ensures err { OnErr result (standing_of body.new ≡ standing_of body.old) }
     ensures few { OnOk result (emptied_by client op.now (space_of body.old.indexes) ≤ given_by op.now) }
     ensures sure { opens op.now ≡ false → IsOk result }
-    ensures places { HasRoom body.new (all_rooms body.new.rooms) }
-    ensures booked { IsBooked (space_of body.new.indexes) body.new.bins.slabs }
+    ensures places { HasPlaces body.new.indexes (all_rooms body.new.rooms) }
+    ensures booked { IsBooked (space_of body.new.indexes) body.new.indexes.regions.slabs }
 {
     match op {
         Op::Back { addrs } => give_back(body, client, addrs),

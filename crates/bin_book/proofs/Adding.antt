@@ -1,5 +1,5 @@
 -- A slab comes.
-use Rattle.std.proofs.Common.{Some, ◌≡◌, ◌≢◌, ℕ, ◌+◌, ◌-◌, ◌^◌, ◌<◌, ◌≤◌, Bool, false, eqb, ltb, List, [], ◌∷◌, ◌++◌, length, length-set, map, filter, get_or, set, count_by, ◌⊎◌, inl, inr, refl, sym, ap, ◌∙◌, subst, arith, Contains, Ordering, Less, Equal, Greater, is_lt, is_gt, vec_len, vec_capacity}
+use Rattle.std.proofs.Common.{Some, None, ◌≡◌, ◌≢◌, ℕ, ◌+◌, ◌-◌, ◌*◌, ◌^◌, ◌<◌, ◌≤◌, Bool, false, eqb, ltb, List, [], ◌∷◌, ◌++◌, length, length-set, map, filter, find, get_or, set, count_by, ◌⊎◌, inl, inr, refl, sym, ap, ◌∙◌, subst, arith, Contains, Ordering, Less, Equal, Greater, is_lt, is_gt, vec_len, vec_capacity}
 use mathlib.Core.Logic.{dite}
 use native.Mathlib.Decide.{ℕ_discrete}
 use Rattle.std.specs.FinMap as map_of
@@ -10,25 +10,31 @@ use Rattle.std.proofs.lemmas.List.{get_or-set_other, get_or-set_same, length-map
 use Rattle.std.proofs.lemmas.List.Elements.{Contains-append_left, Contains-push}
 use Rattle.std.proofs.lemmas.List.FromFn.{length-range_with_len}
 use Rattle.std.proofs.lemmas.List.Sums.{count_by-le-length, sum_by-append, sum_by-cons}
-use Rattle.size_classes.specs.Classes.{pages_at, regions_at}
-use Rattle.size_classes.proofs.Table.{pages_bounds}
+use Rattle.size_classes.specs.Classes.{pages_at, regions_at, size_at}
+use Rattle.size_classes.proofs.Table.{pages_bounds, size_bounds, slab_filled}
+use Rattle.space_model.specs.declared.parts.Region.{Region}
+use Rattle.space_model.specs.Region.{landing, region_of, regions_from, starts_at}
 use Rattle.slab_bits.specs.Slabs.{AreFreeFrom, Slab as Bits}
 use Rattle.ordered_set.specs.declared.key.Key.{Key}
 use Rattle.ordered_set.specs.Keys.{IsAscending, is_above, is_below, is_from, key_cmp, with_key, without_key}
 use Rattle.ordered_set.proofs.Calls.{length_with}
 use Rattle.ordered_set.proofs.KeyOrder.{key_tie, key_total}
-use Rattle.ordered_set.proofs.Members.{filter_from, with_from, with_keeps, with_self}
+use Rattle.ordered_set.proofs.Members.{every_from, filter_from, with_from, with_keeps, with_self}
 use Rattle.ordered_set.proofs.Orders.{less_from_parts, less_parts}
 use Rattle.ordered_set.proofs.Sorted.{absent, others_is, parts, present}
 use Rattle.bin_book.specs.declared.chart.Chart.{Chart}
 use Rattle.bin_book.specs.declared.table.Table.{Table}
 use Rattle.bin_book.specs.Bins.{meets_slab, place, slab_with_out, with_slab}
 use Rattle.bin_book.specs.Charts.{HasPage}
-use Rattle.bin_book.specs.Tables.{AreCounts, AreFree, IsBinned, IsCharted, IsKept, IsSlabIn, IsTable, bin_key, bin_of, bits_at, left_of, ones, slab_at, slab_of, slabs_in}
-use Rattle.bin_book.proofs.Lists.{any_false, bit, count_map, count_same, count_some, filter_map_is, filter_same, map_has, map_same}
-use Rattle.bin_book.proofs.Places.{length_ones, run_ones}
+use Rattle.bin_book.specs.Holders.{holder_at}
+use Rattle.bin_book.specs.Tables.{AreCounts, AreFree, IsBinned, IsCharted, IsKept, IsSlabIn, IsTable, bin_key, bin_of, bits_at, left_of, ones, region_at, regions_in, regions_of, slab_at, slab_of, slabs_in}
+use Rattle.bin_book.proofs.Lists.{any_false, bit, count_map, count_same, count_some, filter_map_is, filter_same, map_from, map_has, map_same, range_from, range_has}
+use Rattle.bin_book.proofs.Places.{length_ones, place_inside, run_ones}
 use Rattle.bin_book.proofs.Kept.{bits_here, bits_there, same_slab}
 use Rattle.bin_book.proofs.Open.{small_numbers}
+use Rattle.bin_book.proofs.ByAddress.{AreNew}
+use Rattle.bin_book.proofs.Regions.{not_found, out_from, out_has, regions_agree, regions_rise, same_members}
+use Rattle.bin_book.proofs.Landing.{from_rises, landed, landed_from, landed_new, landed_old}
 
 -- ---- a new slab
 
@@ -157,7 +163,7 @@ module _ (t : Table) (i : IsTable t) (class first number : ℕ) (bits : Bits) (i
     | inr d ↦ subst (P k) (sym (bits_there t.slots.items number k.minor bits (other_number k d))) (others k d)
   ]
 
-  kept_added : IsKept slots keys
+  pub kept_added : IsKept slots keys
   kept_added = record {
     slab = by_new (λ k b. IsSlabIn b k.major) new (λ k m. i.kept.slab k m);
     apart = λ k l m n. by_new (λ k b. k.major ≤ l.major → (k ≡ l) ⊎ (k.major + pages_at b.class ≤ l.major))
@@ -251,9 +257,9 @@ module _ (t : Table) (i : IsTable t) (class first number : ℕ) (bits : Bits) (i
       omega arith)
 
   pub table_added : (small : class < 36) → (u : Table) → u.firsts.keys ≡ keys → u.firsts.spare + 1 ≡ t.firsts.spare → IsAscending u.firsts.keys → u.slots.items ≡ slots → vec_len u.slots ≡ vec_len t.slots → u.free.items ≡ rest → vec_len u.free + 1 ≡ vec_len t.free → vec_capacity u.free ≡ vec_capacity t.free
-      → u.counts ≡ set t.counts class (get_or t.counts class 0 + 1) → IsCharted slots keys u.chart → vec_len u.chart.firsts ≡ vec_len t.chart.firsts → u.bins.keys ≡ with_key t.bins.keys (bin_key bits.class (eqb (left_of bits) 0) slab) → u.bins.spare + 1 ≡ t.bins.spare → IsTable u
+      → u.counts ≡ set t.counts class (get_or t.counts class 0 + 1) → IsCharted slots keys u.chart → vec_len u.chart.firsts ≡ vec_len t.chart.firsts → u.bins.keys ≡ with_key t.bins.keys (bin_key bits.class (eqb (left_of bits) 0) slab) → u.bins.spare + 1 ≡ t.bins.spare → vec_len u.holders.codes ≡ vec_len t.holders.codes → IsTable u
   unfolding slabs_in
-  table_added small u firsts spare ascending items len free_items free_len cap counts charted chart_len bins bins_spare =
+  table_added small u firsts spare ascending items len free_items free_len cap counts charted chart_len bins bins_spare codes =
       let more = ap length firsts ∙ length_with t.firsts.keys slab i.ascending new_key in
       let places = i.places in
       let few = i.small in
@@ -274,6 +280,7 @@ module _ (t : Table) (i : IsTable t) (class first number : ℕ) (bits : Bits) (i
         classes = ap length counts ∙ length-set t.counts class (get_or t.counts class 0 + 1) ∙ i.classes;
         counts = rw (counts, items, firsts) (counts_added small);
         places = omega arith;
+        held = rw (len, codes) i.held;
         small = omega arith;
         room = omega arith;
         chart_room = omega arith;
@@ -291,6 +298,76 @@ module _ (t : Table) (i : IsTable t) (class first number : ℕ) (bits : Bits) (i
       let here = ap (λ (b : Bits). slab_of b first) (bits_here t.slots.items number number bits in_items refl) in
       rw (items, firsts) (map-append (slab_at slots) (filter (is_below slab) t.firsts.keys) (slab ∷ filter (is_above slab) t.firsts.keys)
       ∙ (λ x. (same (is_below slab) ∙ sym lower) x ++ here x ∷ (same (is_above slab) ∙ sym upper) x))
+
+  -- the slot has codes
+  pub codes_room : (count : ℕ) → count ≤ regions_at class → 512 * number + count ≤ vec_len t.holders.codes
+  codes_room count most =
+      let few = (slab_filled bits.class new.small).2 in
+      let same = ap regions_at is in
+      let low = i.free.in_slots number was_free in
+      let held = i.held in
+      omega arith
+
+  -- the regions of the slab land among the others
+  pub regions_added : (client count : ℕ) → count ≤ regions_at class → AreFreeFrom count bits → IsAscending keys → (codes : List ℕ) → ((n : ℕ) → n < count → holder_at codes (512 * number + n) ≡ Some client)
+      → ((p : ℕ) → (p < 512 * number) ⊎ (512 * number + count ≤ p) → holder_at codes p ≡ holder_at t.holders.codes.items p) → regions_of slots codes keys ≡ landing (regions_from client class (4096 * first) count) (regions_in t)
+  regions_added client count most run ascending codes here others =
+      let small : class < 36 = subst (λ n. n < 36) is new.small in
+      let size = (size_bounds class (omega arith)).0 in
+      let old = t.slots.items in
+      let was = t.holders.codes.items in
+      let made = λ (n : ℕ). region_of client class (4096 * first + n * size_at class) in
+      let come = regions_from client class (4096 * first) count in
+      let coming = from_rises client class (4096 * first) 0 count (omega arith) in
+      let rising = regions_rise old was t.firsts.keys i.ascending i.kept in
+      let mine = bits_here t.slots.items number number bits in_items refl in
+      let class' = ap (λ (b : Bits). b.class) mine ∙ is in
+      let region : (n : ℕ) → n < count → region_at slots codes slab n ≡ made n = (λ n l x. record { addr = place (class' x) first n; class = class' x; holder = here n l x }) in
+      let theirs : regions_of slots codes t.firsts.keys ≡ regions_in t = regions_agree old slots was codes t.firsts.keys (λ k m. bits_there t.slots.items number k.minor bits (other_number k m)) (λ k n m low.
+      let few = (slab_filled (bits_at old k.minor).class (i.kept.slab k m).small).2 in
+      let few' = (slab_filled class small).2 in
+      let other = other_number k m in
+      others (512 * k.minor + n) (elim (cases_lt k.minor number) [ inl l ↦ inl (omega arith) | inr g ↦ inr (omega arith) ])) in
+      let fresh : AreNew come (regions_in t) = every_from (λ (r : Region). find (starts_at r.addr) (regions_in t) ≡ None) come (λ r m.
+      let p = map_from made (range_with_len 0 count) r m in
+      let low = (range_from 0 count p.0 p.1).1 in
+      let at : place class first p.0 ≡ r.addr = ap (λ (x : Region). x.addr) p.2 in
+      let inside = place_inside class first p.0 small (omega arith) in
+      not_found (regions_in t) r.addr (λ q n e.
+      let o = out_from old was t.firsts.keys q n in
+      let b = bits_at old (o.0).minor in
+      let low' = (i.kept.slab o.0 o.2.there).small in
+      let inside' = place_inside b.class (o.0).major o.1 low' o.2.low in
+      let size' = (size_bounds b.class (omega arith)).0 in
+      let at' : place b.class (o.0).major o.1 ≡ q.addr = ap (λ (x : Region). x.addr) o.2.is in
+      elim (beside o.0 o.2.there) [ inl far ↦ omega arith | inr far ↦ omega arith ])) in
+      same_members (regions_of slots codes keys) (landing come (regions_in t)) (regions_rise slots codes keys ascending kept_added) (landed come (regions_in t) coming rising fresh).rising
+      (λ r m.
+      let p = out_from slots codes keys r m in
+      let o = p.2 in
+      elim (with_from t.firsts.keys slab p.0 o.there) [
+        | inl e ↦
+            let out : get_or bits.free p.1 false ≡ false = ap (λ (b : Bits). get_or b.free p.1 false) (sym mine) ∙ ap (λ (z : Key). get_or (bits_at slots z.minor).free p.1 false) (sym e) ∙ o.out in
+            let low : p.1 < regions_at bits.class = subst (λ (b : Bits). p.1 < regions_at b.class) mine (subst (λ (z : Key). p.1 < regions_at (bits_at slots z.minor).class) e o.low) in
+            let told = run p.1 in
+            let l : p.1 < count = elim (cases_lt p.1 count) [ inl l ↦ l | inr g ↦ absurd (grind (arith, nat_tests)) ] in
+            let it : made p.1 ≡ r = sym (region p.1 l) ∙ ap (λ (z : Key). region_at slots codes z p.1) (sym e) ∙ o.is in
+            landed_new come (regions_in t) coming rising fresh r (subst (Contains come) it (map_has made (range_with_len 0 count) p.1 (range_has 0 count p.1 (omega arith) (omega arith))))
+        | inr d ↦ landed_old come (regions_in t) coming rising fresh r (subst (λ rs. Contains rs r) theirs (out_has slots codes t.firsts.keys r p.0 p.1 (record { there = d; low = o.low; out = o.out; is = o.is })))
+      ])
+      (λ r m. elim (landed_from come (regions_in t) coming rising fresh r m) [
+        | inl d ↦
+            let p = map_from made (range_with_len 0 count) r d in
+            let l = (range_from 0 count p.0 p.1).1 in
+            let same = ap regions_at is in
+            let told = run p.0 in
+            let out : get_or bits.free p.0 false ≡ false = grind (arith, nat_tests) in
+            out_has slots codes keys r slab p.0 (record { there = with_self t.firsts.keys slab; low = subst (λ (b : Bits). p.0 < regions_at b.class) (sym mine) (omega arith); out = ap (λ (b : Bits). get_or b.free p.0 false) mine ∙ out; is = region p.0 (omega arith) ∙ p.2 })
+        | inr d ↦
+            let p = out_from slots codes t.firsts.keys r (subst (λ rs. Contains rs r) (sym theirs) d) in
+            let o = p.2 in
+            out_has slots codes keys r p.0 p.1 (record { there = with_keeps t.firsts.keys slab p.0 o.there; low = o.low; out = o.out; is = o.is })
+      ])
 
 -- how many slabs there are
 pub few_slabs : (t : Table) → IsTable t → (class : ℕ) → class < 36 → get_or t.counts class 0 < 2 ^ 32

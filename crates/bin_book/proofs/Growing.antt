@@ -1,5 +1,5 @@
 -- More slots.
-use Rattle.std.proofs.Common.{nat_cmp, append-nil, append_assoc, ◌≡◌, ℕ, ◌+◌, ◌-◌, ◌^◌, ◌<◌, ◌≤◌, zero, suc, eqb, List, [], ◌∷◌, ◌++◌, length, map, get_or, count_by, inl, inr, sym, ap, ◌∙◌, subst, arith, Contains, Some, None, refl, vec_len, vec_capacity}
+use Rattle.std.proofs.Common.{nat_cmp, append-nil, append_assoc, ◌≡◌, ℕ, ◌+◌, ◌-◌, ◌*◌, ◌^◌, ◌<◌, ◌≤◌, zero, suc, eqb, List, [], ◌∷◌, ◌++◌, length, map, get_or, count_by, inl, inr, sym, ap, ◌∙◌, subst, arith, Contains, Some, None, refl, vec_len, vec_capacity}
 use Rattle.std.specs.FinMap as map_of
 use Rattle.std.specs.List.{range_with_len}
 use Rattle.std.specs.List.Sorted.{IsStrictlySortedBy}
@@ -8,6 +8,7 @@ use Rattle.std.proofs.lemmas.List.{get_or_append_left}
 use Rattle.std.proofs.lemmas.List.Elements.{Contains-append_cases}
 use Rattle.std.proofs.lemmas.List.Sums.{sum_by-append, sum_by-cons}
 use Rattle.size_classes.specs.Classes.{pages_at}
+use Rattle.size_classes.proofs.Table.{slab_filled}
 use Rattle.ordered_set.specs.declared.key.Key.{Key}
 use Rattle.ordered_set.specs.Keys.{IsAscending}
 use Rattle.slab_bits.specs.Slabs.{Slab as Bits}
@@ -15,8 +16,10 @@ use Rattle.bin_book.specs.declared.chart.Chart.{Chart}
 use Rattle.bin_book.specs.declared.table.Table.{Table}
 use Rattle.bin_book.specs.Bins.{Slab}
 use Rattle.bin_book.specs.Charts.{Grows, HasPage}
-use Rattle.bin_book.specs.Tables.{AreFree, IsBinned, IsCharted, IsKept, IsSlabIn, IsTable, bin_key, bits_at, left_of, no_bits, slab_at, slab_of, slabs_in}
+use Rattle.bin_book.specs.Holders.{holder_at}
+use Rattle.bin_book.specs.Tables.{AreFree, IsBinned, IsCharted, IsKept, IsSlabIn, IsTable, bin_key, bits_at, left_of, no_bits, regions_in, regions_of, slab_at, slab_of, slabs_in}
 use Rattle.bin_book.proofs.Lists.{bit, map_same, range_from}
+use Rattle.bin_book.proofs.Regions.{regions_agree}
 use Rattle.bin_book.proofs.Removing.{count_zero}
 
 -- one more number of a range
@@ -45,6 +48,15 @@ count_range a (suc n) m =
       | inl e ↦ let is = eqb-true a m e in let none = count_low (a + 1) n m (omega arith) in let here : bit (eqb a m) ≡ 1 = ap bit e in omega arith
       | inr f ↦ let here : bit (eqb a m) ≡ 0 = ap bit f in let rest = count_range (a + 1) n m in omega arith
     ]
+
+-- the regions of a table with more slots and codes
+pub regions_grown : (t : Table) → IsTable t → (slots : List Bits) (codes : List ℕ) (keys : List Key) → keys ≡ t.firsts.keys → ((n : ℕ) → n < vec_len t.slots → bits_at slots n ≡ bits_at t.slots.items n)
+    → ((p : ℕ) → p < vec_len t.holders.codes → holder_at codes p ≡ holder_at t.holders.codes.items p) → regions_of slots codes keys ≡ regions_in t
+regions_grown t i slots codes keys same agree holders = rw same (regions_agree t.slots.items slots t.holders.codes.items codes t.firsts.keys (λ k m. agree k.minor (i.in_slots k m)) (λ k n m low.
+    let few = (slab_filled (bits_at t.slots.items k.minor).class (i.kept.slab k m).small).2 in
+    let mine = i.in_slots k m in
+    let held = i.held in
+    holders (512 * k.minor + n) (omega arith)))
 
 -- a table with more slots, and more room
 module _ (t u : Table) (i : IsTable t) (firsts : u.firsts.keys ≡ t.firsts.keys) (bins : u.bins.keys ≡ t.bins.keys) (counts : u.counts ≡ t.counts) (agree : (n : ℕ) → n < vec_len t.slots → bits_at u.slots.items n ≡ bits_at t.slots.items n) (chart : Grows t.chart u.chart) where
@@ -96,8 +108,8 @@ module _ (t u : Table) (i : IsTable t) (firsts : u.firsts.keys ≡ t.firsts.keys
   }
 
   pub table_grown : vec_len t.slots ≤ vec_len u.slots → u.free.items ≡ t.free.items ++ range_with_len (vec_len t.slots) (vec_len u.slots - vec_len t.slots) → vec_len u.free + vec_len t.slots ≡ vec_len t.free + vec_len u.slots
-      → vec_len u.slots < 2 ^ 32 → vec_len u.slots ≤ vec_capacity u.free → vec_len u.slots ≤ vec_len u.chart.firsts → vec_len u.free ≤ u.firsts.spare → vec_len u.free ≤ u.bins.spare → IsTable u
-  table_grown le free places small room chart_room firsts_room bins_room =
+      → vec_len u.slots < 2 ^ 32 → vec_len u.slots ≤ vec_capacity u.free → vec_len u.slots ≤ vec_len u.chart.firsts → vec_len u.free ≤ u.firsts.spare → vec_len u.free ≤ u.bins.spare → 512 * vec_len u.slots ≤ vec_len u.holders.codes → IsTable u
+  table_grown le free places small room chart_room firsts_room bins_room held =
       let len = ap length firsts in
       let was = i.places in
       record {
@@ -110,6 +122,7 @@ module _ (t u : Table) (i : IsTable t) (firsts : u.firsts.keys ≡ t.firsts.keys
         classes = ap length counts ∙ i.classes;
         counts = λ class small. ap (λ ns. get_or ns class 0) counts ∙ i.counts class small ∙ sym (ap (count_by (λ (s : Slab). eqb s.class class)) slabs_grown);
         places = omega arith;
+        held = held;
         small = small;
         room = room;
         chart_room = chart_room;
@@ -118,8 +131,8 @@ module _ (t u : Table) (i : IsTable t) (firsts : u.firsts.keys ≡ t.firsts.keys
       }
 
 -- a table whose sets and chart have more room, and that is as it was otherwise
-pub table_roomy : (t u : Table) → IsTable t → u.firsts.keys ≡ t.firsts.keys → t.firsts.spare ≤ u.firsts.spare → u.bins.keys ≡ t.bins.keys → t.bins.spare ≤ u.bins.spare → u.slots ≡ t.slots → u.free ≡ t.free → u.counts ≡ t.counts → Grows t.chart u.chart → IsTable u × (slabs_in u ≡ slabs_in t)
-table_roomy t u i firsts more bins wider slots free counts chart =
+pub table_roomy : (t u : Table) → IsTable t → u.firsts.keys ≡ t.firsts.keys → t.firsts.spare ≤ u.firsts.spare → u.bins.keys ≡ t.bins.keys → t.bins.spare ≤ u.bins.spare → u.slots ≡ t.slots → u.free ≡ t.free → u.counts ≡ t.counts → vec_len t.holders.codes ≤ vec_len u.holders.codes → Grows t.chart u.chart → IsTable u × (slabs_in u ≡ slabs_in t)
+table_roomy t u i firsts more bins wider slots free counts codes chart =
     let items = ap (λ v. v.items) slots in
     let len = ap (λ v. vec_len v) slots in
     let free_items = ap (λ v. v.items) free in
@@ -132,8 +145,9 @@ table_roomy t u i firsts more bins wider slots free counts chart =
     let places = chart.places in
     let firsts_room = i.firsts_room in
     let bins_room = i.bins_room in
+    let held = i.held in
     let none : vec_len u.slots - vec_len t.slots ≡ 0 = omega arith in (
-      table_grown t u i firsts bins counts agree chart (omega arith) (free_items ∙ sym (append-nil t.free.items) ∙ ap (λ n. t.free.items ++ range_with_len (vec_len t.slots) n) (sym none)) (omega arith) (omega arith) (omega arith) (omega arith) (omega arith) (omega arith),
+      table_grown t u i firsts bins counts agree chart (omega arith) (free_items ∙ sym (append-nil t.free.items) ∙ ap (λ n. t.free.items ++ range_with_len (vec_len t.slots) n) (sym none)) (omega arith) (omega arith) (omega arith) (omega arith) (omega arith) (omega arith) (omega arith),
       slabs_grown t u i firsts bins counts agree chart,
     )
 
@@ -163,6 +177,7 @@ empty_table t firsts bins slots free free_len classes zeros chart =
       classes = classes;
       counts = λ class small. zeros class small ∙ sym (ap (count_by (λ (s : Slab). eqb s.class class)) (empty_slabs t firsts));
       places = let len = ap length firsts in omega arith;
+      held = omega arith;
       small = omega arith;
       room = omega arith;
       chart_room = omega arith;

@@ -1,12 +1,17 @@
+pub mod ByAddress
 pub mod Lists
+pub mod Regions
+pub mod Landing
 pub mod Places
 pub mod Charting
 pub mod Kept
 pub mod Open
 pub mod Taking
+pub mod Handing
 pub mod Adding
 pub mod Removing
 pub mod Holding
+pub mod Finding
 pub mod Growing
 pub mod Emptying
 pub mod Rounds

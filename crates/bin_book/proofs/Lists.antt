@@ -1,5 +1,5 @@
 -- Members of lists that are filtered, mapped and searched.
-use Rattle.std.proofs.Common.{◌≡◌, ℕ, ◌+◌, ◌-◌, ◌<◌, ◌≤◌, zero, Bool, true, false, cond, ◌&&◌, ◌||◌, List, [], ◌∷◌, map, filter, get_or, count_by, inl, inr, refl, ap, ◌∙◌, arith, Contains}
+use Rattle.std.proofs.Common.{◌≡◌, ℕ, ◌+◌, ◌-◌, ◌<◌, ◌≤◌, zero, Bool, true, false, cond, ◌&&◌, ◌||◌, List, [], ◌∷◌, map, filter, find, get_or, count_by, is_some, inl, inr, refl, ap, ◌∙◌, arith, Contains}
 use Rattle.std.specs.List.{list_any, range_with_len}
 use Rattle.std.proofs.lemmas.Bool.{cases_Bool}
 use Rattle.std.proofs.lemmas.List.{get_or-map, length-map}
@@ -76,6 +76,11 @@ module _ {X : Type 0} where
 
   pub any_false : (p : X → Bool) (xs : List X) (x : X) → list_any p xs ≡ false → Contains xs x → p x ≡ false
   any_false p xs x f m = elim (cases_Bool (p x)) [ inl t ↦ absurd (let u = any_has p xs x m t in cc) | inr g ↦ g ]
+
+  -- it is told by what is found first
+  pub is_some_find : (p : X → Bool) (xs : List X) → is_some (find p xs) ≡ list_any p xs
+  is_some_find p [] = refl
+  is_some_find p (x ∷ xs) = elim (cases_Bool (p x)) [ inl t ↦ rw t refl | inr f ↦ rw f (is_some_find p xs) ]
 
   module _ {Y : Type 0} where
     pub count_map : (h : X → Y) (p : Y → Bool) (xs : List X) → count_by p (map h xs) ≡ count_by (λ x. p (h x)) xs

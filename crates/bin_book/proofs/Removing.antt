@@ -34,7 +34,7 @@ module _ (t : Table) (i : IsTable t) (slab : Key) (there : Contains t.firsts.key
   keys = without_key t.firsts.keys slab
 
   -- each other slab is as it was
-  kept_less : IsKept t.slots.items keys
+  pub kept_less : IsKept t.slots.items keys
   kept_less = record {
     slab = λ k m. i.kept.slab k (without_from t.firsts.keys slab k m).0;
     apart = λ k l m n. i.kept.apart k l (without_from t.firsts.keys slab k m).0 (without_from t.firsts.keys slab l n).0;
@@ -132,9 +132,9 @@ module _ (t : Table) (i : IsTable t) (slab : Key) (there : Contains t.firsts.key
   room_for_one = let one = fewer_keys in let places = i.places in let room = i.room in omega arith
 
   pub table_less : (u : Table) → u.firsts.keys ≡ keys → u.firsts.spare ≡ t.firsts.spare + 1 → IsAscending u.firsts.keys → u.slots ≡ t.slots → u.free.items ≡ t.free.items ++ slab.minor ∷ [] → vec_len u.free ≡ vec_len t.free + 1 → vec_capacity t.free ≤ vec_capacity u.free
-      → u.counts ≡ set t.counts class_of_slab (get_or t.counts class_of_slab 0 - 1) → IsCharted t.slots.items keys u.chart → vec_len u.chart.firsts ≡ vec_len t.chart.firsts → u.bins.keys ≡ without_key t.bins.keys (bin_of t.slots.items slab) → u.bins.spare ≡ t.bins.spare + 1 → IsTable u
+      → u.counts ≡ set t.counts class_of_slab (get_or t.counts class_of_slab 0 - 1) → IsCharted t.slots.items keys u.chart → vec_len u.chart.firsts ≡ vec_len t.chart.firsts → u.bins.keys ≡ without_key t.bins.keys (bin_of t.slots.items slab) → u.bins.spare ≡ t.bins.spare + 1 → vec_len u.holders.codes ≡ vec_len t.holders.codes → IsTable u
   unfolding slabs_in
-  table_less u firsts spare ascending slots free_items free_len cap counts charted chart_len bins bins_spare =
+  table_less u firsts spare ascending slots free_items free_len cap counts charted chart_len bins bins_spare codes =
       let items = ap (λ v. v.items) slots in
       let len = ap (λ v. vec_len v) slots in
       let fewer = ap length firsts in
@@ -155,6 +155,7 @@ module _ (t : Table) (i : IsTable t) (slab : Key) (there : Contains t.firsts.key
         classes = ap length counts ∙ length-set t.counts class_of_slab (get_or t.counts class_of_slab 0 - 1) ∙ i.classes;
         counts = rw (counts, items, firsts) counts_less;
         places = omega arith;
+        held = rw (len, codes) i.held;
         small = omega arith;
         room = omega arith;
         chart_room = omega arith;

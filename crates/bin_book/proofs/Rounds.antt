@@ -2,6 +2,8 @@
 use Rattle.std.proofs.Common.{◌≡◌, ℕ, ◌+◌, ◌≤◌, Bool, true, false, not, ◌&&◌, ◌||◌, eqb, List, [], ◌∷◌, ◌++◌, length, length-append, map, take, append_assoc, append-nil, refl, sym, ap, ◌∙◌, arith}
 use Rattle.std.proofs.lemmas.List.{length_push, length-take-le, take_all, take_at}
 use Rattle.std.proofs.lemmas.List.Folds.{list_any-append}
+use Rattle.space_model.specs.declared.parts.Region.{Region}
+use Rattle.space_model.specs.Region.{inserted, landing}
 use Rattle.bin_book.specs.Bins.{Slab, is_among, without}
 use Rattle.bin_book.proofs.Lists.{filter_all_of, filter_both, filter_same, map_both}
 
@@ -49,3 +51,8 @@ without_more addrs a slabs = map_both (without addrs) (without (a ∷ [])) (with
   first = s.first;
   free = (filter_same (λ b. not (is_among (addrs ++ a ∷ []) b)) (λ b. not (is_among addrs b) && not (is_among (a ∷ []) b)) s.free (λ b n. among_more addrs a b) ∙ sym (filter_both (λ b. not (is_among addrs b)) (λ b. not (is_among (a ∷ []) b)) s.free)) k;
 })
+
+-- one more region lands
+pub landing_more : (come : List Region) (r : Region) (rs : List Region) → inserted r (landing come rs) ≡ landing (come ++ r ∷ []) rs
+landing_more [] r rs = refl
+landing_more (q ∷ come) r rs = landing_more come r (inserted q rs)

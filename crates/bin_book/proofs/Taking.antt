@@ -77,9 +77,9 @@ module _ (t : Table) (i : IsTable t) (key : Key) (there : Contains t.firsts.keys
   pub in_items : key.minor < length t.slots.items
   in_items = let l = i.in_slots key there in let same = t.slots.ok.0 in omega arith
 
-  pub table_changed : IsSlabIn new key.major → (u : Table) → u.firsts ≡ t.firsts → u.slots.items ≡ after → vec_len u.slots ≡ vec_len t.slots → u.free ≡ t.free → u.counts ≡ t.counts → u.chart ≡ t.chart → IsMoved t.bins.keys u.bins.keys (bin_of t.slots.items key) (bin_key new.class (eqb (left_of new) 0) key) → u.bins.spare ≡ t.bins.spare → IsTable u
+  pub table_changed : IsSlabIn new key.major → (u : Table) → u.firsts ≡ t.firsts → u.slots.items ≡ after → vec_len u.slots ≡ vec_len t.slots → u.free ≡ t.free → u.counts ≡ t.counts → u.chart ≡ t.chart → IsMoved t.bins.keys u.bins.keys (bin_of t.slots.items key) (bin_key new.class (eqb (left_of new) 0) key) → u.bins.spare ≡ t.bins.spare → vec_len u.holders.codes ≡ vec_len t.holders.codes → IsTable u
   unfolding slabs_in
-  table_changed is u firsts items len free counts chart moved spare =
+  table_changed is u firsts items len free counts chart moved spare codes =
       let keys = ap (λ (s : KeySet). s.keys) firsts in
       let firsts_spare = ap (λ (s : KeySet). s.spare) firsts in
       let free_len = ap (λ v. vec_len v) free in
@@ -95,6 +95,7 @@ module _ (t : Table) (i : IsTable t) (key : Key) (there : Contains t.firsts.keys
         classes = rw counts i.classes;
         counts = rw (counts, items, keys) (λ c small. i.counts c small ∙ sym (counts_stay t.slots.items t.firsts.keys i.kept key there in_items new class c));
         places = rw (keys, free_len, len) i.places;
+        held = rw (len, codes) i.held;
         small = rw len i.small;
         room = rw (len, free_cap) i.room;
         chart_room = rw (len, chart) i.chart_room;
@@ -166,10 +167,10 @@ module _ (t : Table) (i : IsTable t) (class : ℕ) (key : Key) (o : IsLowestOpen
   others_lack : (k : Key) → Contains t.firsts.keys k → k ≢ key → (j : ℕ) → j < regions_at (bits_at t.slots.items k.minor).class → place (bits_at t.slots.items k.minor).class k.major j ≢ addr
   others_lack k m ne j l e = ne (one_place t.slots.items t.firsts.keys i.kept k key m o.there j n l low e).0
 
-  within : n < length bits.free
+  pub within : n < length bits.free
   within = (position-Some (λ b. b) bits.free n false found).0
 
-  is_free : get_or bits.free n false ≡ true
+  pub is_free : get_or bits.free n false ≡ true
   is_free = (position-Some (λ b. b) bits.free n false found).1
 
   pub taken_in : IsSlabIn (with_bit bits n false) key.major
@@ -220,13 +221,13 @@ module _ (t : Table) (i : IsTable t) (class addr : ℕ) (key : Key) (n : ℕ) (o
   abbrev old : Bits
   old = bits_at t.slots.items key.minor
 
-  inside_regions : n < regions_at old.class
+  pub inside_regions : n < regions_at old.class
   inside_regions = subst (λ c. n < regions_at c) (sym o.out.of_class) o.out.inside
 
-  within_bits : n < length old.free
+  pub within_bits : n < length old.free
   within_bits = let is = i.kept.slab key o.there in let most = (slab_filled old.class is.small).2 in let long = is.long in let low = inside_regions in omega arith
 
-  at_old : place old.class key.major n ≡ addr
+  pub at_old : place old.class key.major n ≡ addr
   at_old = ap (λ c. place c key.major n) o.out.of_class ∙ o.at
 
   pub put_behind : (j : ℕ) → regions_at old.class ≤ j → get_or (set old.free n true) j false ≡ false

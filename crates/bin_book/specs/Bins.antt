@@ -2,6 +2,7 @@
 use Rattle.std.specs.Prelude.{ℕ, ◌+◌, ◌-◌, ◌*◌, ◌==◌, ◌&&◌, ◌||◌, Bool, not, nat_lt, List, ◌∷◌, ◌++◌, map, filter, length}
 use Rattle.std.specs.List.{flat_map, list_any, range_with_len}
 use Rattle.size_classes.specs.Classes.{size_at, pages_at, regions_at}
+use Rattle.space_model.specs.declared.parts.Region.{Region}
 
 -- a slab of a class from a page on, with the addresses of its free regions, rising
 pub record Slab : Type 0 where
@@ -9,9 +10,10 @@ pub record Slab : Type 0 where
   pub first : ℕ
   pub free : List ℕ
 
--- the slabs in order of first page, and how many more there is a place for
+-- the slabs in order of first page, the regions that are out by address, and how many more slabs there is a place for
 pub record Bins : Type 0 where
   pub slabs : List Slab
+  pub regions : List Region
   pub spare : ℕ
 
 -- the address of a place in a slab of the class from a page on

@@ -1,4 +1,5 @@
 pub mod Bins
 pub mod Charts
+pub mod Holders
 pub mod Shown
 pub mod Tables

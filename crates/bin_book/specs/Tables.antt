@@ -1,8 +1,9 @@
 -- What a table keeps of its slabs.
-use Rattle.std.specs.Prelude.{◌≡◌, ◌≢◌, ◌==◌, ◌⊎◌, ℕ, ◌+◌, ◌*◌, ◌^◌, ◌<◌, ◌≤◌, Bool, false, cond, List, [], map, filter, length, count_by, slice_index_or, Some, vec_len, vec_capacity, Contains}
+use Rattle.std.specs.Prelude.{◌≡◌, ◌≢◌, ◌==◌, ◌⊎◌, ℕ, ◌+◌, ◌*◌, ◌^◌, ◌<◌, ◌≤◌, Bool, false, not, cond, List, [], map, filter, length, count_by, slice_index_or, Some, vec_len, vec_capacity, Contains}
 use Rattle.std.specs.FinMap as map_of
-use Rattle.std.specs.List.{range_with_len}
+use Rattle.std.specs.List.{flat_map, range_with_len}
 use Rattle.size_classes.specs.Classes.{pages_at, regions_at}
+use Rattle.space_model.specs.declared.parts.Region.{Region}
 use Rattle.slab_bits.specs.Slabs.{Slab as Bits}
 use Rattle.ordered_set.specs.declared.key.Key.{Key}
 use Rattle.ordered_set.specs.Keys.{IsAscending, without_key}
@@ -10,6 +11,7 @@ use Rattle.bin_book.specs.declared.chart.Chart.{Chart}
 use Rattle.bin_book.specs.declared.table.Table.{Table}
 use Rattle.bin_book.specs.Bins.{Slab, place}
 use Rattle.bin_book.specs.Charts.{HasPage, first_at}
+use Rattle.bin_book.specs.Holders.{holder_at}
 
 -- what stands in a slot that has no slab
 abbrev pub no_bits : Bits
@@ -42,6 +44,30 @@ slab_at slots key = slab_of (bits_at slots key.minor) key.major
 -- the slabs of a table, in order of first page
 unfoldable pub slabs_in : Table → List Slab
 slabs_in t = map (slab_at t.slots.items) t.firsts.keys
+
+-- the places below a number that are out
+abbrev pub zeros : ℕ → List Bool → List ℕ
+zeros n bits = filter (λ i. not (slice_index_or bits i false)) (range_with_len 0 n)
+
+-- the region at a place of the slab with this key
+abbrev pub region_at : List Bits → List ℕ → Key → ℕ → Region
+region_at slots codes key i = record {
+  addr = place (bits_at slots key.minor).class key.major i;
+  class = (bits_at slots key.minor).class;
+  holder = holder_at codes (512 * key.minor + i);
+}
+
+-- the regions of the slab that are out
+abbrev pub out_of : List Bits → List ℕ → Key → List Region
+out_of slots codes key = map (region_at slots codes key) (zeros (regions_at (bits_at slots key.minor).class) (bits_at slots key.minor).free)
+
+-- the regions that are out of the slabs with these keys
+unfoldable pub regions_of : List Bits → List ℕ → List Key → List Region
+regions_of slots codes keys = flat_map (out_of slots codes) keys
+
+-- the regions that are out of the slabs of a table, by address
+abbrev pub regions_in : Table → List Region
+regions_in t = regions_of t.slots.items t.holders.codes.items t.firsts.keys
 
 -- where a slab stands among those of its class: first those that have free regions, by first page
 abbrev pub bin_key : ℕ → Bool → Key → Key
@@ -102,7 +128,7 @@ pub record IsLastBelow (keys : List Key) (page : ℕ) (key : Key) : Type 0 where
   pub below : key.major < page
   pub last : (k : Key) → Contains keys k → k.major < page → k.major ≤ key.major
 
--- slots, sets, chart and counts keep the slabs, and there is room for as many as there are free slots
+-- slots, sets, chart and counts keep the slabs, each slot has a code for each region, and there is room for as many as there are free slots
 pub record IsTable (t : Table) : Type 0 where
   pub ascending : IsAscending t.firsts.keys
   pub kept : IsKept t.slots.items t.firsts.keys
@@ -113,6 +139,7 @@ pub record IsTable (t : Table) : Type 0 where
   pub classes : length t.counts ≡ 36
   pub counts : AreCounts t.counts (slabs_in t)
   pub places : length t.firsts.keys + vec_len t.free ≡ vec_len t.slots
+  pub held : 512 * vec_len t.slots ≤ vec_len t.holders.codes
   pub small : vec_len t.slots < 2 ^ 32
   pub room : vec_len t.slots ≤ vec_capacity t.free
   pub chart_room : vec_len t.slots ≤ vec_len t.chart.firsts
@@ -141,3 +168,7 @@ pub record IsLowestOpen (t : Table) (class : ℕ) (key : Key) : Type 0 where
 -- the slabs of a table without the one with this key
 abbrev pub slabs_without : Table → Key → List Slab
 slabs_without t key = map (slab_at t.slots.items) (without_key t.firsts.keys key)
+
+-- the regions of these
+abbrev pub regions_without : Table → Key → List Region
+regions_without t key = regions_of t.slots.items t.holders.codes.items (without_key t.firsts.keys key)

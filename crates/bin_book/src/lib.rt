@@ -1,24 +1,27 @@
-//! The slabs of one arena with their free regions, found by class and by address. Of its calls only
+//! The slabs of one arena with their free regions, found by class and by address, and the holders of the others. Of its calls only
 //! `reserve` takes memory.
 #![tactic(auto)]
 
-ghost use Rattle.std.specs.Prelude.{◌≡◌, ◌==◌, ◌+◌, ◌<◌, ◌≤◌, ◌^◌, ℕ, true, false, not, cond, [], ◌++◌, length, max, map, filter, take, count_by, slice_index_or, IsTrue, ◌↔◌, OnOk, OnErr};
+ghost use Rattle.std.specs.Prelude.{◌≡◌, ◌==◌, ◌+◌, ◌*◌, ◌<◌, ◌≤◌, ◌^◌, ℕ, true, false, not, cond, [], ◌++◌, length, max, map, find, filter, take, count_by, slice_index_or, IsTrue, ◌↔◌, IfSome, OnOk, OnErr};
 ghost use Rattle.std.specs.List.{list_any};
 ghost use Rattle.size_classes.specs.Classes.{IsSmall, pages_at, regions_at};
+ghost use Rattle.space_model.specs.Region.{held_anew, landing, region_of, regions_from, starts_at};
 ghost use Rattle.bin_book.specs.Bins.{free_of, is_out, is_unused, meets_slab, slab_with_out, with_free, with_slab, without};
 
 use crate::table::{CLASSES, Table};
 use size_classes::{Addrs, class_pages, slab_regions};
+use space_model::Region;
 use std::alloc::{AllocError as NoMemory, Global};
 use std::marker::Model;
 
 mod changes;
 mod chart;
+mod holders;
 mod table;
 #[cfg(test)]
 mod tests;
 
-/// The slabs of an arena, in order of first page, with the free regions of each.
+/// The slabs of an arena, in order of first page, with the free regions of each and the holders of the others.
 ///
 /// A slab stands in the book as long as a region of it is out. Where the lowest free regions of a
 /// class are is found by searching an ordered set; no slab is looked at that isn't taken from. Which slab
@@ -45,7 +48,7 @@ impl Model for BinBook {
 impl BinBook {
     /// A book without slabs, with no place for one. Takes no memory.
     pub fn new(alloc: Global) -> BinBook
-        ensures { result ≡ record { slabs = []; spare = 0 } }
+        ensures { result ≡ record { slabs = []; regions = []; spare = 0 } }
     {
         BinBook {
             table: Table::new(alloc),
@@ -55,6 +58,7 @@ impl BinBook {
     /// Makes places for at least `more` further slabs. A refusal changes nothing.
     pub fn reserve(&mut self, more: u64) -> Result<(), NoMemory>
         ensures slabs { self.new.slabs ≡ self.old.slabs }
+        ensures regions { self.new.regions ≡ self.old.regions }
         ensures ok { OnOk result (self.new.spare ≡ max self.old.spare more) }
         ensures err { OnErr result (self.new ≡ self.old) }
     {
@@ -101,33 +105,58 @@ impl BinBook {
         self.table.holder(class, addr).is_some()
     }
 
-    /// Adds a slab whose lowest `count` regions are out. It takes a place.
-    pub fn add_slab(&mut self, class: u8, first: u64, count: u32)
+    /// The region that is out at an address.
+    pub fn at(&self, addr: u64) -> Option<Region>
+        ensures at { result ≡ find (starts_at addr) self.now.regions }
+        ensures out { IfSome result (λ r. list_any (is_out r.class addr) self.now.slabs ≡ true) }
+    {
+        self.table.region_at(addr)
+    }
+
+    /// Gives the region that is out at an address another holder.
+    pub fn hand_over(&mut self, addr: u64, holder: Option<u32>)
+        requires there { list_any (starts_at addr) self.old.regions ≡ true }
+        requires client { IfSome holder (λ client. client < 32) }
+        ensures slabs { self.new.slabs ≡ self.old.slabs }
+        ensures regions { self.new.regions ≡ held_anew (starts_at addr) holder self.old.regions }
+        ensures spare { self.new.spare ≡ self.old.spare }
+    {
+        let (slab, region) = self.table.find(addr).unwrap();
+        self.table.hand_over(slab, region, holder);
+    }
+
+    /// Adds a slab whose lowest `count` regions are out, and held by the client. It takes a place.
+    pub fn add_slab(&mut self, client: u32, class: u8, first: u64, count: u32)
         requires room { 0 < self.old.spare }
+        requires client { client < 32 }
         requires class { IsSmall class }
         requires some { 0 < count }
         requires most { count ≤ regions_at class }
         requires inside { first + pages_at class ≤ 2 ^ 32 }
         requires apart { list_any (meets_slab class first) self.old.slabs ≡ false }
         ensures slabs { self.new.slabs ≡ with_slab self.old.slabs (slab_with_out class first count) }
+        ensures regions { self.new.regions ≡ landing (regions_from client class (4096 * first) count) self.old.regions }
         ensures spare { self.new.spare + 1 ≡ self.old.spare }
     {
-        self.table.add(class, first, count);
+        self.table.add(client, class, first, count);
     }
 
-    /// Takes the `n` lowest free regions of a class out, or all if there are fewer. Adds their
+    /// Takes the `n` lowest free regions of a class out, or all if there are fewer. The client holds them. Adds their
     /// addresses, which rise, to a list that has room for so many.
-    pub fn take(&mut self, class: u8, n: u32, out: &mut Addrs)
+    pub fn take(&mut self, client: u32, class: u8, n: u32, out: &mut Addrs)
+        requires client { client < 32 }
         requires class { IsSmall class }
         requires room { n ≤ out.old.room }
         ensures addrs { out.new.items ≡ out.old.items ++ take n (free_of class self.old.slabs) }
         ensures room { out.new.room + length (take n (free_of class self.old.slabs)) ≡ out.old.room }
         ensures slabs { self.new.slabs
             ≡ map (without (take n (free_of class self.old.slabs))) self.old.slabs }
+        ensures regions { self.new.regions
+            ≡ landing (map (region_of client class) (take n (free_of class self.old.slabs))) self.old.regions }
         ensures spare { self.new.spare ≡ self.old.spare }
     {
         for _turn in 0..n {
-            match self.table.take_one(class) {
+            match self.table.take_one(client, class) {
                 Some(addr) => out.push(addr),
                 None => return,
             }
@@ -143,6 +172,7 @@ impl BinBook {
         ensures emptied { result ≡ list_any is_unused (map (with_free addr) self.old.slabs) }
         ensures slabs { self.new.slabs
             ≡ filter (λ s. not (is_unused s)) (map (with_free addr) self.old.slabs) }
+        ensures regions { self.new.regions ≡ filter (λ r. not (starts_at addr r)) self.old.regions }
         ensures spare { self.new.spare ≡ self.old.spare + cond result 1 0 }
     {
         let (slab, region) = self.table.holder(class, addr).unwrap();
@@ -158,6 +188,7 @@ impl BinBook {
     /// Takes all slabs out. Their places are free again.
     pub fn clear(&mut self)
         ensures slabs { self.new.slabs ≡ [] }
+        ensures regions { self.new.regions ≡ [] }
         ensures spare { self.new.spare ≡ self.old.spare + length self.old.slabs }
     {
         self.table.clear();

@@ -1,14 +1,17 @@
 //! The slots of slabs, the sets that find them, and the room in these.
-ghost use Rattle.std.specs.Prelude.{◌≡◌, ◌==◌, ℕ, ◌+◌, ◌-◌, ◌*◌, ◌<◌, ◌≤◌, ◌^◌, ◌&&◌, ◌↔◌, [], ◌++◌, max, nat_lt, is_some, IsTrue, IfNone, IfSome, OnOk, OnErr, length, vec_capacity, vec_len, Contains};
+ghost use Rattle.std.specs.Prelude.{◌≡◌, ◌==◌, ℕ, ◌+◌, ◌-◌, ◌*◌, ◌/◌, ◌<◌, ◌≤◌, ◌^◌, ◌&&◌, ◌↔◌, [], ◌++◌, find, max, nat_lt, true, is_some, IsTrue, IfNone, IfSome, OnOk, OnErr, length, vec_capacity, vec_len, Contains};
 ghost use Rattle.std.specs.List.{list_any, range_with_len};
 ghost use Rattle.size_classes.specs.Classes.{IsSmall, pages_at};
+ghost use Rattle.space_model.specs.Region.{starts_at};
 ghost use Rattle.bin_book.specs.Bins.{free_of, is_out};
-ghost use Rattle.bin_book.specs.Tables.{HasOut, IsLastBelow, IsLowestOpen, IsOutAt, IsTable, bin_key, bits_at, left_of, slabs_in};
+ghost use Rattle.bin_book.specs.Tables.{HasOut, IsLastBelow, IsLowestOpen, IsOutAt, IsTable, bin_key, bits_at, left_of, regions_in, slabs_in};
 
 use crate::chart::Chart;
+use crate::holders::Holders;
 use ordered_set::{Key, OrderedSet};
 use size_classes::{PAGE_BYTES, class_pages, size_of, slab_regions};
 use slab_bits::SlabBits;
+use space_model::Region;
 use std::alloc::{AllocError as NoMemory, Global};
 
 /// How many small classes there are.
@@ -17,7 +20,7 @@ pub const CLASSES: usize = 36;
 // Page numbers and the numbers of slots are below this one.
 const RADIX: u64 = 1 << 32;
 
-/// Each slab has a number, the place of the slot that has its bits. Its number stands in two sets,
+/// Each slab has a number, the place of the slot that has its bits and the holders of its regions. Its number stands in two sets,
 /// by first page and by class, where slabs with free regions come first, and in the chart at each of
 /// its pages. A slot without a slab has its number among the free ones.
 #[derive(Drop)]
@@ -26,6 +29,7 @@ pub struct Table {
     pub bins: OrderedSet,
     pub chart: Chart,
     pub slots: Vec<SlabBits>,
+    pub holders: Holders,
     pub free: Vec<u32>,
     pub counts: [u64; CLASSES],
 }
@@ -57,6 +61,7 @@ impl Table {
     pub fn new(alloc: Global) -> Table
         ensures table { IsTable result }
         ensures slabs { slabs_in result ≡ [] }
+        ensures regions { regions_in result ≡ [] }
         ensures free { vec_len result.free ≡ 0 }
     {
         Table {
@@ -64,6 +69,7 @@ impl Table {
             bins: OrderedSet::new(alloc),
             chart: Chart::new(alloc),
             slots: Vec::new(alloc),
+            holders: Holders::new(alloc),
             free: Vec::new(alloc),
             counts: [0; CLASSES],
         }
@@ -74,6 +80,7 @@ impl Table {
         requires { IsTable self.old }
         ensures table { IsTable self.new }
         ensures slabs { slabs_in self.new ≡ slabs_in self.old }
+        ensures regions { regions_in self.new ≡ regions_in self.old }
         ensures ok { OnOk result (vec_len self.new.free ≡ max (vec_len self.old.free) more) }
         ensures err { OnErr result (vec_len self.new.free ≡ vec_len self.old.free) }
     {
@@ -88,7 +95,7 @@ impl Table {
         self.widen(more, all as usize)
     }
 
-    // Makes room for so many further slabs in the sets and the slots, where the chart has it.
+    // Makes room for so many further slabs in the sets, the codes and the slots, where the chart has it.
     fn widen(&mut self, more: u64, all: usize) -> Result<(), NoMemory>
         requires table { IsTable self.old }
         requires all { all ≡ length self.old.firsts.keys + more }
@@ -97,11 +104,13 @@ impl Table {
         requires chart { all ≤ vec_len self.old.chart.firsts }
         ensures table { IsTable self.new }
         ensures slabs { slabs_in self.new ≡ slabs_in self.old }
+        ensures regions { regions_in self.new ≡ regions_in self.old }
         ensures ok { OnOk result (vec_len self.new.free ≡ more) }
         ensures err { OnErr result (vec_len self.new.free ≡ vec_len self.old.free) }
     {
         self.firsts.reserve(more)?;
         self.bins.reserve(more)?;
+        self.holders.reserve(all)?;
         add_slots(&mut self.slots, &mut self.free, all)
     }
 
@@ -158,10 +167,48 @@ impl Table {
         ensures none { is_some result ≡ list_any (is_out class addr) (slabs_in self.now) }
     {
         let slab = self.last_at(addr / PAGE_BYTES)?;
+        let region = self.out_at(slab, class, addr)?;
+        Some((slab, region))
+    }
+
+    /// The slab in which a region is out at an address, and its place there.
+    pub fn find(&self, addr: u64) -> Option<(Key, u32)>
+        requires table { IsTable self.now }
+        ensures some { IfSome result (λ found. IsOutAt self.now (bits_at self.now.slots.items found.0.minor).class addr found.0 found.1) }
+        ensures none { is_some result ≡ list_any (starts_at addr) (regions_in self.now) }
+    {
+        let slab = self.last_at(addr / PAGE_BYTES)?;
+        let class = self.slots[slab.minor as usize].class();
+        let region = self.out_at(slab, class, addr)?;
+        Some((slab, region))
+    }
+
+    /// The region that is out at an address.
+    pub fn region_at(&self, addr: u64) -> Option<Region>
+        requires table { IsTable self.now }
+        ensures at { result ≡ find (starts_at addr) (regions_in self.now) }
+        ensures out { IfSome result (λ r. list_any (is_out r.class addr) (slabs_in self.now) ≡ true) }
+    {
+        let (slab, region) = self.find(addr)?;
+        Some(Region {
+            addr,
+            class: self.slots[slab.minor as usize].class(),
+            holder: self.holders.at(slab.minor, region),
+        })
+    }
+
+    // The place of the region of the class that is out at an address, in the last slab that begins at its page or below.
+    fn out_at(&self, slab: Key, class: u8, addr: u64) -> Option<u32>
+        requires table { IsTable self.now }
+        requires class { IsSmall class }
+        requires last { IsLastBelow self.now.firsts.keys (addr / 4096 + 1) slab }
+        ensures some { IfSome result (λ region. IsOutAt self.now class addr slab region) }
+        ensures none { is_some result ≡ list_any (is_out class addr) (slabs_in self.now) }
+    {
         let offset = addr - PAGE_BYTES * slab.major;
         let size = size_of(class);
         if self.has_out(slab, class, offset / size) && offset % size == 0 {
-            Some((slab, (offset / size) as u32))
+            Some((offset / size) as u32)
         } else {
             None
         }

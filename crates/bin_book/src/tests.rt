@@ -11,7 +11,7 @@ fn add(book: &mut BinBook, class: u8, first: u64) -> bool {
     let end = first + class_pages(class);
     let regions = slab_regions(class);
     if end <= 1 << 32 && 0 < regions && book.spare() > 0 && !book.meets(class, first) {
-        book.add_slab(class, first, 1);
+        book.add_slab(0, class, first, 1);
         return true;
     }
     false
@@ -20,7 +20,7 @@ fn add(book: &mut BinBook, class: u8, first: u64) -> bool {
 // Takes so many regions, as far as the list has room.
 fn take(book: &mut BinBook, class: u8, count: u32, out: &mut Addrs) -> bool {
     if class < 36 && count as usize <= out.room() {
-        book.take(class, count, out);
+        book.take(1, class, count, out);
         return true;
     }
     false
@@ -151,5 +151,60 @@ fn a_page_without_a_number_is_found(rt: HostRuntime) -> Result<(), Fail> {
     }
     assert!(rt; add(&mut book, 24, 1 << 30));
     assert!(rt; put_back(&mut book, 24, 4096 << 30) == Some(true));
+    Ok(())
+}
+
+// Hands the region at an address over, if one begins there. Whether one does.
+fn hand_over(book: &mut BinBook, addr: u64, holder: Option<u32>) -> bool {
+    if holder.unwrap_or(0) < 32 && book.at(addr).is_some() {
+        book.hand_over(addr, holder);
+        return true;
+    }
+    false
+}
+
+// Who holds the region at an address, which is of the class.
+fn holder(book: &BinBook, class: u8, addr: u64) -> Option<Option<u32>> {
+    let region = book.at(addr)?;
+    (region.addr == addr && region.class == class).then_some(region.holder)
+}
+
+#[test]
+fn each_region_has_its_holder(rt: HostRuntime) -> Result<(), Fail> {
+    let mut book = BinBook::new(rt.alloc());
+    book.reserve(2)?;
+    let (first, other) = (4096 * 512, 4096 * 600);
+    assert!(rt; add(&mut book, 8, 512) && add(&mut book, 24, 600));
+    let mut out = Addrs::new(rt.alloc());
+    out.reserve(2)?;
+    assert!(rt; take(&mut book, 8, 2, &mut out));
+    assert!(rt;
+        holder(&book, 8, first) == Some(Some(0)) && holder(&book, 24, other) == Some(Some(0))
+    );
+    assert!(rt;
+        holder(&book, 8, first + 128) == Some(Some(1))
+            && holder(&book, 8, first + 256) == Some(Some(1))
+    );
+    assert!(rt;
+        book.at(first + 384).is_none() && book.at(first + 64).is_none() && book.at(0).is_none()
+    );
+    assert!(rt;
+        hand_over(&mut book, first + 128, None) && !hand_over(&mut book, first + 384, Some(2))
+    );
+    assert!(rt;
+        holder(&book, 8, first + 128) == Some(None) && holder(&book, 8, first) == Some(Some(0))
+    );
+    assert!(rt;
+        hand_over(&mut book, first + 128, Some(31))
+            && holder(&book, 8, first + 128) == Some(Some(31))
+    );
+    assert!(rt;
+        put_back(&mut book, 8, first + 128) == Some(false) && book.at(first + 128).is_none()
+    );
+    assert!(rt; put_back(&mut book, 24, other) == Some(true) && book.at(other).is_none());
+    out.reserve(1)?;
+    assert!(rt; take(&mut book, 8, 1, &mut out) && holder(&book, 8, first + 128) == Some(Some(1)));
+    book.clear();
+    assert!(rt; book.at(first).is_none());
     Ok(())
 }

@@ -40,10 +40,10 @@ impl Wish {
     }
 
     /// After the split of what stands before the run.
-    fn skipped(self, committed: bool, reply: Reply) -> Next
-        ensures { result ≡ skipped self committed reply }
+    fn skipped(self, committed: bool, reply: &Reply) -> Next
+        ensures { result ≡ skipped self committed reply.now }
     {
-        match reply {
+        match *reply {
             Reply::Cut(high) => self.trim(high, committed),
             Reply::Whole => self.need_chunks(),
             _ => Next::Nowhere,
@@ -51,10 +51,10 @@ impl Wish {
     }
 
     /// After the split of what stands behind the run, or of a grant of more chunks than are needed.
-    fn trimmed(self, committed: bool, reply: Reply) -> Next
-        ensures { result ≡ trimmed self committed reply }
+    fn trimmed(self, committed: bool, reply: &Reply) -> Next
+        ensures { result ≡ trimmed self committed reply.now }
     {
-        match reply {
+        match *reply {
             Reply::Cut(low) => self.commit(low, committed),
             Reply::Whole => self.need_chunks(),
             _ => Next::Nowhere,
@@ -62,11 +62,11 @@ impl Wish {
     }
 
     /// After the alloc of more chunks than are needed.
-    fn grown(self, chunks: u64, answer: Answer, reply: Reply) -> Next
+    fn grown(self, chunks: u64, answer: Answer, reply: &Reply) -> Next
         requires { chunks ≤ 16384 }
-        ensures { result ≡ grown self chunks answer reply }
+        ensures { result ≡ grown self chunks answer reply.now }
     {
-        match reply {
+        match *reply {
             Reply::Refused => self.need_chunks(),
             Reply::Bad(why) => Next::Ends(Answered::BadAnswer {
                 span: answered_span(chunks * CHUNK_PAGES, answer),
@@ -86,12 +86,12 @@ impl Wish {
     }
 
     /// After the alloc of as many chunks as are needed.
-    fn needed(self, asked: Asked, reply: Reply) -> Next
+    fn needed(self, asked: &Asked, reply: &Reply) -> Next
         requires { self.pages ≤ 2 ^ 32 }
-        ensures { result ≡ needed self asked reply }
+        ensures { result ≡ needed self asked.now reply.now }
     {
-        match reply {
-            Reply::Refused => Next::Ends(Answered::Refused(asked)),
+        match *reply {
+            Reply::Refused => Next::Ends(Answered::Refused(*asked)),
             Reply::Bad(why) => Next::Ends(Answered::BadAnswer {
                 span: answered_span(self.chunk_pages(), asked.answer()),
                 why,
@@ -102,23 +102,23 @@ impl Wish {
     }
 
     /// After the split of what that granted.
-    fn granted(self, committed: bool, asked: Asked, reply: Reply) -> Next
-        ensures { result ≡ granted self committed asked reply }
+    fn granted(self, committed: bool, asked: &Asked, reply: &Reply) -> Next
+        ensures { result ≡ granted self committed asked.now reply.now }
     {
-        match reply {
+        match *reply {
             Reply::Cut(low) => self.commit(low, committed),
-            Reply::Whole => Next::Ends(Answered::Refused(asked)),
+            Reply::Whole => Next::Ends(Answered::Refused(*asked)),
             _ => Next::Nowhere,
         }
     }
 
     /// After a commit.
-    fn committed(self, span: Span, asked: Asked, reply: Reply) -> Next
-        ensures { result ≡ committed self span asked reply }
+    fn committed(self, span: Span, asked: &Asked, reply: &Reply) -> Next
+        ensures { result ≡ committed self span asked.now reply.now }
     {
-        match reply {
+        match *reply {
             Reply::Noted => TurnPoint::Landing(self, span).next(),
-            Reply::Whole => Next::Ends(Answered::Refused(asked)),
+            Reply::Whole => Next::Ends(Answered::Refused(*asked)),
             _ => Next::Nowhere,
         }
     }
@@ -126,11 +126,11 @@ impl Wish {
 
 impl AskPoint {
     /// The ask.
-    pub(crate) fn ask(self) -> Ask
-        requires { IsSized self }
-        ensures { result ≡ ask_of self }
+    pub(crate) fn ask(&self) -> Ask
+        requires { IsSized self.now }
+        ensures { result ≡ ask_of self.now }
     {
-        match self {
+        match *self {
             AskPoint::Skipping { span, skip, .. } => Ask::Split { span, left: skip },
             AskPoint::Trimming { wish, span, .. }
             | AskPoint::Paring { wish, span, .. }
@@ -153,11 +153,11 @@ impl AskPoint {
     }
 
     /// The operation that takes its answer in.
-    pub(crate) fn done(self, asked: &Asked) -> Op
-        ensures { result ≡ done_of self asked.now }
+    pub(crate) fn done(&self, asked: &Asked) -> Op
+        ensures { result ≡ done_of self.now asked.now }
     {
         let heard = asked.heard();
-        match self {
+        match *self {
             AskPoint::Skipping { .. } => {
                 let keep_low = false;
                 Op::CutDone { heard, keep_low }
@@ -177,11 +177,11 @@ impl AskPoint {
     }
 
     /// Where the reply to the turn leads that took the answer in.
-    pub(crate) fn told(self, asked: Asked, reply: Reply) -> Next
-        requires { IsSized self }
-        ensures { result ≡ told self asked reply }
+    pub(crate) fn told(&self, asked: &Asked, reply: &Reply) -> Next
+        requires { IsSized self.now }
+        ensures { result ≡ told self.now asked.now reply.now }
     {
-        match self {
+        match *self {
             AskPoint::Skipping {
                 wish,
                 committed,

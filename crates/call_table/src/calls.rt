@@ -12,7 +12,7 @@ ghost use Rattle.call_table.specs.declared.points.Next.TheVariants.{More};
 
 use crate::{Answered, Item, Need, Next, Point, Request, Turn, TurnPoint};
 use size_classes::Addrs;
-use space_model::{Addresses, Ask, Op};
+use space_model::{Addresses, Ask, Op, Span};
 use std::alloc::{AllocError as NoMemory, Global};
 use std::marker::Model;
 use thread_cache::Desk;
@@ -85,28 +85,17 @@ impl TurnPoint {
 
 impl Point {
     /// Where an item leads.
-    fn step(&self, item: Item) -> Next
+    fn step(&self, item: &Item) -> Next
         requires { IsSizedPoint self.now }
-        ensures { result ≡ step self.now item }
+        ensures { result ≡ step self.now item.now }
     {
-        match self {
-            Point::Turns(point) => match item {
-                Item::Replied(reply) => point.turned(reply),
-                Item::Starved => point.starved(),
-                Item::Told(_) => Next::Nowhere,
-            },
-            Point::Asks(point, None) => match item {
-                Item::Told(asked) => Next::Go(Point::Asks(*point, Some(asked))),
-                _ => Next::Nowhere,
-            },
-            Point::Asks(point, Some(asked)) => match item {
-                Item::Replied(reply) => point.told(*asked, reply),
-                _ => Next::Nowhere,
-            },
-            Point::Tells(..) => match item {
-                Item::Told(_) => TurnPoint::Dooming.next(),
-                _ => Next::Nowhere,
-            },
+        match (self, item) {
+            (Point::Turns(point), Item::Replied(reply)) => point.turned(reply),
+            (Point::Turns(point), Item::Starved) => point.starved(),
+            (Point::Asks(point, None), Item::Told(asked)) => point.heard(asked),
+            (Point::Asks(point, Some(asked)), Item::Replied(reply)) => point.told(asked, reply),
+            (Point::Tells(..), Item::Told(_)) => TurnPoint::Dooming.next(),
+            _ => Next::Nowhere,
         }
     }
 
@@ -116,22 +105,17 @@ impl Point {
         ensures need { IfOk result (NeedsWant client arena (want self.now)) }
         ensures few { IsFewAddresses (Next.Go self.now) → IsOk result }
     {
-        Ok(match self {
+        match self {
             Point::Turns(point) => {
                 let op = point.op(alloc)?;
-                turn(arena, client, op, None)
+                Ok(turn(arena, client, op, None))
             }
-            Point::Asks(point, None) => {
-                let ask = point.ask();
-                Need::Ask { arena, ask }
+            Point::Asks(point, None) => Ok(point.need(arena)),
+            Point::Asks(point, Some(asked)) => {
+                Ok(turn(arena, client, point.done(asked), Some(*asked)))
             }
-            Point::Asks(point, Some(asked)) => turn(arena, client, point.done(asked), Some(*asked)),
-            Point::Tells(span, committed) => {
-                let (span, committed) = (*span, *committed);
-                let ask = Ask::Destroy { span, committed };
-                Need::Ask { arena, ask }
-            }
-        })
+            Point::Tells(span, committed) => Ok(told(arena, *span, *committed)),
+        }
     }
 }
 
@@ -147,11 +131,19 @@ fn turn(arena: u32, client: u32, op: Op, asked: Option<hook_api::Asked>) -> Need
     })
 }
 
+/// The ask that destroys an extent.
+fn told(arena: u32, span: Span, committed: bool) -> Need
+    ensures { result ≡ Need.Ask arena (Ask.Destroy span committed) }
+{
+    let ask = Ask::Destroy { span, committed };
+    Need::Ask { arena, ask }
+}
+
 impl Next {
     /// Where an item leads, if it leads on from a point.
-    fn step(&self, item: Item) -> Next
+    fn step(&self, item: &Item) -> Next
         requires { IsSizedNext self.now }
-        ensures { result ≡ step_next self.now item }
+        ensures { result ≡ step_next self.now item.now }
     {
         match self {
             Next::Go(point) => point.step(item),
@@ -174,6 +166,36 @@ impl Request {
 }
 
 impl Stage {
+    /// It stands at a point of the arena with this index.
+    fn go(&mut self, arena: u32, point: Point)
+        ensures { self.new ≡ stage arena (Next.Go point) }
+    {
+        self.arena = arena;
+        self.next = Next::Go(point);
+    }
+
+    /// It ends with an answer.
+    fn end(&mut self, answer: Answered)
+        ensures { self.new ≡ stage self.old.arena (Next.Ends answer) }
+    {
+        self.next = Next::Ends(answer);
+    }
+
+    /// It stands at the next batch of regions that go back, or at the end.
+    fn go_on(&mut self, request: Request, desk: &Desk, alloc: Global) -> Result<(), NoMemory>
+        ensures stage { OnOk result (self.new ≡ settle request desk.now.facts self.old.arena More) }
+        ensures err { OnErr result (self.new ≡ stage self.old.arena (Next.Ends Answered.NoMemory)) }
+    {
+        match desk.batch(desk.hand(), request.flushes(), alloc) {
+            Ok(batch) => *self = Stage::batch(self.arena, batch),
+            Err(error) => {
+                self.end(Answered::NoMemory);
+                return Err(error);
+            }
+        }
+        Ok(())
+    }
+
     /// It stands where a step leads, by what the client has then. `NoMemory` only where there is none to name several regions
     /// that go back: the call has ended with that answer.
     fn settle(
@@ -188,18 +210,9 @@ impl Stage {
         ensures err { OnErr result (self.new ≡ stage self.old.arena (Next.Ends Answered.NoMemory)) }
     {
         match next {
-            Next::Over(arena, point) => {
-                self.arena = arena;
-                self.next = Next::Go(point);
-            }
-            Next::More => match desk.batch(desk.hand(), request.flushes(), alloc) {
-                Ok(batch) => *self = Stage::batch(self.arena, batch),
-                Err(error) => {
-                    *self = Stage::ended(self.arena, Answered::NoMemory);
-                    return Err(error);
-                }
-            },
-            Next::Gone => self.next = Next::Ends(Answered::NoArena(self.arena)),
+            Next::Over(arena, point) => self.go(arena, point),
+            Next::More => return self.go_on(request, desk, alloc),
+            Next::Gone => self.end(Answered::NoArena(self.arena)),
             next => self.next = next,
         }
         Ok(())
@@ -210,13 +223,13 @@ impl Stage {
         &mut self,
         request: Request,
         desk: &Desk,
-        item: Item,
+        item: &Item,
         alloc: Global,
     ) -> Result<(), NoMemory>
         requires { IsSizedNext self.old.next }
-        ensures stage { OnOk result (self.new ≡ settle request desk.now.facts self.old.arena (step_next self.old.next item)) }
+        ensures stage { OnOk result (self.new ≡ settle request desk.now.facts self.old.arena (step_next self.old.next item.now)) }
         ensures sized { IsSizedNext self.new.next }
-        ensures more { OnErr result (step_next self.old.next item ≡ More) }
+        ensures more { OnErr result (step_next self.old.next item.now ≡ More) }
         ensures err { OnErr result (self.new ≡ stage self.old.arena (Next.Ends Answered.NoMemory)) }
     {
         let next = self.next.step(item);
@@ -350,7 +363,7 @@ impl Call {
         ensures room { HasRoom desk.new.room self.new.stage.next }
     {
         self.stage.next.tell(desk, self.stage.arena, &item);
-        let fed = self.stage.feed(self.request, desk, item, alloc);
+        let fed = self.stage.feed(self.request, desk, &item, alloc);
         self.stage.close(self.request, desk);
         fed
     }

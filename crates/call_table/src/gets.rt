@@ -1,9 +1,11 @@
 //! How a call goes on that gets an extent.
 
-ghost use Rattle.std.specs.Prelude.{◌≡◌};
-ghost use Rattle.call_table.specs.Table.{chunks_for, commit, grant, grow, need_chunks, skip_to, trim, turned};
+ghost use Rattle.std.specs.Prelude.{◌≡◌, Some};
+ghost use Rattle.call_table.specs.Table.{ask_of, chunks_for, commit, grant, grow, need_chunks, skip_to, trim, turned};
+ghost use Rattle.call_table.specs.Points.{IsSized};
 
-use crate::{Answered, AskPoint, Given, Next, Point, TurnPoint, Wish};
+use crate::{Answered, AskPoint, Given, Need, Next, Point, TurnPoint, Wish};
+use hook_api::Asked;
 use space_model::{CHUNK_PAGES, MAX_SERIES, Reply, Span};
 
 impl AskPoint {
@@ -12,6 +14,22 @@ impl AskPoint {
         ensures { result ≡ Next.Go (Point.Asks self None) }
     {
         Next::Go(Point::Asks(self, None))
+    }
+
+    /// The ask is answered, and its answer is to be taken in.
+    pub(crate) fn heard(&self, asked: &Asked) -> Next
+        ensures { result ≡ Next.Go (Point.Asks self.now (Some asked.now)) }
+    {
+        Next::Go(Point::Asks(*self, Some(*asked)))
+    }
+
+    /// What is needed: the ask.
+    pub(crate) fn need(&self, arena: u32) -> Need
+        requires { IsSized self.now }
+        ensures { result ≡ Need.Ask arena (ask_of self.now) }
+    {
+        let ask = self.ask();
+        Need::Ask { arena, ask }
     }
 }
 
@@ -103,10 +121,10 @@ impl Wish {
     }
 
     /// After the reply to the look for an unused extent.
-    pub(crate) fn looked(self, reply: Reply) -> Next
-        ensures { result ≡ turned (TurnPoint.Looking self) reply }
+    pub(crate) fn looked(self, reply: &Reply) -> Next
+        ensures { result ≡ turned (TurnPoint.Looking self) reply.now }
     {
-        match reply {
+        match *reply {
             Reply::Took {
                 span,
                 committed,
@@ -129,21 +147,21 @@ impl Wish {
     }
 
     /// After the landing.
-    pub(crate) fn landed(self, span: Span, reply: Reply) -> Next
-        ensures { result ≡ turned (TurnPoint.Landing self span) reply }
+    pub(crate) fn landed(self, span: Span, reply: &Reply) -> Next
+        ensures { result ≡ turned (TurnPoint.Landing self span) reply.now }
     {
-        match reply {
+        match *reply {
             Reply::Landed { first, .. } => self.region(first),
             _ => Next::Nowhere,
         }
     }
 
     /// After free regions of a small class were looked for.
-    pub(crate) fn filled(self, count: u32, reply: Reply) -> Next
-        ensures { result ≡ turned (TurnPoint.Filling self count) reply }
+    pub(crate) fn filled(self, count: u32, reply: &Reply) -> Next
+        ensures { result ≡ turned (TurnPoint.Filling self count) reply.now }
     {
-        match reply {
-            Reply::Regions(addrs) => match addrs.as_slice().first() {
+        match *reply {
+            Reply::Regions(ref addrs) => match addrs.as_slice().first() {
                 Some(addr) => self.region(*addr),
                 None => Next::Nowhere,
             },

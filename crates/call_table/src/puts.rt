@@ -55,13 +55,13 @@ impl Visit {
     }
 
     /// After an extent was taken, if one was.
-    pub(crate) fn took(self, left: Option<u64>, reply: Reply) -> Next
-        ensures { result ≡ turned (TurnPoint.Taking self left) reply }
+    pub(crate) fn took(&self, left: Option<u64>, reply: &Reply) -> Next
+        ensures { result ≡ turned (TurnPoint.Taking self.now left) reply.now }
     {
-        match reply {
+        match *reply {
             Reply::Taken { span, lazy, listed } => {
                 let left = left.unwrap_or(listed).saturating_sub(1);
-                Then::Visiting(self, left).drop_extent(span, lazy)
+                Then::Visiting(*self, left).drop_extent(span, lazy)
             }
             Reply::Nothing => self.later.visited(),
             Reply::NoArena => Next::Gone,
@@ -72,10 +72,10 @@ impl Visit {
 
 impl Then {
     /// What follows once nothing is in flight.
-    fn onward(self) -> Next
-        ensures { result ≡ onward self }
+    fn onward(&self) -> Next
+        ensures { result ≡ onward self.now }
     {
-        match self {
+        match *self {
             Then::Batches => Next::More,
             Then::Visiting(visit, 0) => visit.later.visited(),
             Then::Visiting(visit, left) => TurnPoint::Taking(visit, Some(left)).next(),
@@ -83,21 +83,21 @@ impl Then {
     }
 
     /// An extent in flight looks for a neighbour.
-    fn find(self, own: Span, tries: u8, fresh: bool) -> Next
-        ensures { result ≡ Next.Go (Point.Turns (TurnPoint.Finding own tries fresh self)) }
+    fn find(&self, own: Span, tries: u8, fresh: bool) -> Next
+        ensures { result ≡ Next.Go (Point.Turns (TurnPoint.Finding own tries fresh self.now)) }
     {
         TurnPoint::Finding {
             own,
             tries,
             fresh,
-            then: self,
+            then: *self,
         }
         .next()
     }
 
     /// The next extent in flight is put down, or there is none.
-    pub(crate) fn put_next(self, next: Option<Span>) -> Next
-        ensures { result ≡ put_next self next }
+    pub(crate) fn put_next(&self, next: Option<Span>) -> Next
+        ensures { result ≡ put_next self.now next }
     {
         match next {
             Some(own) => self.find(own, 0, true),
@@ -106,8 +106,8 @@ impl Then {
     }
 
     /// The extent is merged with the neighbour that its look found.
-    fn beside(self, own: Span, tries: u8, fresh: bool, other: Span) -> Next
-        ensures { result ≡ beside own tries fresh other self }
+    fn beside(&self, own: Span, tries: u8, fresh: bool, other: Span) -> Next
+        ensures { result ≡ beside own tries fresh other self.now }
     {
         if tries == 0 && u128::from(other.first) == end_of(own) {
             self.merge(own, other, true, fresh)
@@ -119,49 +119,49 @@ impl Then {
     }
 
     /// Two extents are merged.
-    fn merge(self, low: Span, high: Span, own_low: bool, fresh: bool) -> Next
-        ensures { result ≡ Next.Go (Point.Asks (AskPoint.Merging low high own_low fresh self) None) }
+    fn merge(&self, low: Span, high: Span, own_low: bool, fresh: bool) -> Next
+        ensures { result ≡ Next.Go (Point.Asks (AskPoint.Merging low high own_low fresh self.now) None) }
     {
         AskPoint::Merging {
             low,
             high,
             own_low,
             fresh,
-            then: self,
+            then: *self,
         }
         .first()
     }
 
     /// After a merge the extent that stays in flight looks on.
-    pub(crate) fn look_on(self, own: Span, own_low: bool, fresh: bool) -> Next
-        ensures { result ≡ look_on own own_low fresh self }
+    pub(crate) fn look_on(&self, own: Span, own_low: bool, fresh: bool) -> Next
+        ensures { result ≡ look_on own own_low fresh self.now }
     {
         self.find(own, if own_low { 1 } else { 2 }, fresh)
     }
 
     /// An extent that was purged is put down.
-    pub(crate) fn put_purged(self, own: Span) -> Next
-        ensures { result ≡ put_purged own self }
+    pub(crate) fn put_purged(&self, own: Span) -> Next
+        ensures { result ≡ put_purged own self.now }
     {
         self.find(own, 0, false)
     }
 
     /// An extent is purged lazily, or offered to its hook.
-    pub(crate) fn drop_extent(self, span: Span, lazy: bool) -> Next
-        ensures { result ≡ drop span lazy self }
+    pub(crate) fn drop_extent(&self, span: Span, lazy: bool) -> Next
+        ensures { result ≡ drop span lazy self.now }
     {
         if lazy {
-            AskPoint::Easing(span, self).first()
+            AskPoint::Easing(span, *self).first()
         } else {
-            TurnPoint::Offering(span, self).next()
+            TurnPoint::Offering(span, *self).next()
         }
     }
 
     /// After the look for a neighbour.
-    pub(crate) fn found(self, own: Span, tries: u8, fresh: bool, reply: Reply) -> Next
-        ensures { result ≡ turned (TurnPoint.Finding own tries fresh self) reply }
+    pub(crate) fn found(&self, own: Span, tries: u8, fresh: bool, reply: &Reply) -> Next
+        ensures { result ≡ turned (TurnPoint.Finding own tries fresh self.now) reply.now }
     {
-        match reply {
+        match *reply {
             Reply::Beside(other) => self.beside(own, tries, fresh, other),
             Reply::Next(next) => self.put_next(next),
             Reply::Purge { lazy } if fresh => self.drop_extent(own, lazy),
@@ -170,11 +170,11 @@ impl Then {
     }
 
     /// After the offer of an extent.
-    pub(crate) fn offered(self, span: Span, reply: Reply) -> Next
-        ensures { result ≡ turned (TurnPoint.Offering span self) reply }
+    pub(crate) fn offered(&self, span: Span, reply: &Reply) -> Next
+        ensures { result ≡ turned (TurnPoint.Offering span self.now) reply.now }
     {
-        match reply {
-            Reply::Noted => AskPoint::Returning(span, self).first(),
+        match *reply {
+            Reply::Noted => AskPoint::Returning(span, *self).first(),
             _ => Next::Nowhere,
         }
     }
@@ -182,53 +182,53 @@ impl Then {
 
 impl Then {
     /// After a merge.
-    pub(crate) fn merged(self, own_low: bool, fresh: bool, reply: Reply) -> Next
-        ensures { result ≡ merged own_low fresh self reply }
+    pub(crate) fn merged(&self, own_low: bool, fresh: bool, reply: &Reply) -> Next
+        ensures { result ≡ merged own_low fresh self.now reply.now }
     {
-        match reply {
+        match *reply {
             Reply::Joined(own) => self.look_on(own, own_low, fresh),
             _ => Next::Nowhere,
         }
     }
 
     /// After a lazy purge.
-    pub(crate) fn eased(self, span: Span, reply: Reply) -> Next
-        ensures { result ≡ eased span self reply }
+    pub(crate) fn eased(&self, span: Span, reply: &Reply) -> Next
+        ensures { result ≡ eased span self.now reply.now }
     {
-        match reply {
+        match *reply {
             Reply::Lazy(true) => self.put_purged(span),
-            Reply::Lazy(false) => TurnPoint::Offering(span, self).next(),
+            Reply::Lazy(false) => TurnPoint::Offering(span, *self).next(),
             _ => Next::Nowhere,
         }
     }
 
     /// After a dalloc.
-    pub(crate) fn returned(self, span: Span, reply: Reply) -> Next
-        ensures { result ≡ returned span self reply }
+    pub(crate) fn returned(&self, span: Span, reply: &Reply) -> Next
+        ensures { result ≡ returned span self.now reply.now }
     {
-        match reply {
+        match *reply {
             Reply::Next(next) | Reply::Abandoned(next) => self.put_next(next),
-            Reply::Kept => AskPoint::Decommitting(span, self).first(),
+            Reply::Kept => AskPoint::Decommitting(span, *self).first(),
             _ => Next::Nowhere,
         }
     }
 
     /// After a decommit.
-    pub(crate) fn decommitted(self, span: Span, reply: Reply) -> Next
-        ensures { result ≡ decommitted span self reply }
+    pub(crate) fn decommitted(&self, span: Span, reply: &Reply) -> Next
+        ensures { result ≡ decommitted span self.now reply.now }
     {
-        match reply {
+        match *reply {
             Reply::Decommitted(true) => self.put_purged(span),
-            Reply::Decommitted(false) => AskPoint::Forcing(span, self).first(),
+            Reply::Decommitted(false) => AskPoint::Forcing(span, *self).first(),
             _ => Next::Nowhere,
         }
     }
 
     /// After a forced purge.
-    pub(crate) fn forced(self, span: Span, reply: Reply) -> Next
-        ensures { result ≡ forced span self reply }
+    pub(crate) fn forced(&self, span: Span, reply: &Reply) -> Next
+        ensures { result ≡ forced span self.now reply.now }
     {
-        match reply {
+        match *reply {
             Reply::Noted => self.put_purged(span),
             _ => Next::Nowhere,
         }

@@ -47,10 +47,10 @@ impl Change {
     }
 
     /// After the setting.
-    pub(crate) fn was_set(self, setting: Setting, reply: Reply) -> Next
-        ensures { result ≡ turned (TurnPoint.Changing setting self) reply }
+    pub(crate) fn was_set(self, setting: Setting, reply: &Reply) -> Next
+        ensures { result ≡ turned (TurnPoint.Changing setting self) reply.now }
     {
-        match reply {
+        match *reply {
             Reply::Noted => self.changed(),
             Reply::NoArena => Next::Gone,
             _ => Next::Nowhere,
@@ -73,10 +73,10 @@ fn make_next(index: u32, setting: Setting) -> Next
 }
 
 /// After an arena was to come to be.
-pub(crate) fn made(index: u32, setting: Setting, reply: Reply) -> Next
-    ensures { result ≡ turned (TurnPoint.Making index setting) reply }
+pub(crate) fn made(index: u32, setting: Setting, reply: &Reply) -> Next
+    ensures { result ≡ turned (TurnPoint.Making index setting) reply.now }
 {
-    match reply {
+    match *reply {
         Reply::Noted => Next::Ends(Answered::Ok(Given::Arena(index))),
         Reply::Nothing => make_next(index, setting),
         _ => Next::Nowhere,
@@ -84,10 +84,10 @@ pub(crate) fn made(index: u32, setting: Setting, reply: Reply) -> Next
 }
 
 /// After the decays were told a moment.
-pub(crate) fn advanced(now: u64, reply: Reply) -> Next
-    ensures { result ≡ turned (TurnPoint.Advancing now) reply }
+pub(crate) fn advanced(now: u64, reply: &Reply) -> Next
+    ensures { result ≡ turned (TurnPoint.Advancing now) reply.now }
 {
-    match reply {
+    match *reply {
         Reply::Limits { dirty, muzzy } => limited(dirty, muzzy),
         Reply::NoArena => Next::Gone,
         _ => Next::Nowhere,
@@ -95,10 +95,10 @@ pub(crate) fn advanced(now: u64, reply: Reply) -> Next
 }
 
 /// After all regions were to be discarded.
-pub(crate) fn was_reset(cached: u64, reply: Reply) -> Next
-    ensures { result ≡ turned (TurnPoint.Resetting cached) reply }
+pub(crate) fn was_reset(cached: u64, reply: &Reply) -> Next
+    ensures { result ≡ turned (TurnPoint.Resetting cached) reply.now }
 {
-    match reply {
+    match *reply {
         Reply::Busy {
             held,
             flights,
@@ -116,10 +116,10 @@ pub(crate) fn was_reset(cached: u64, reply: Reply) -> Next
 }
 
 /// After the arena was to end.
-pub(crate) fn ended(cached: u64, reply: Reply) -> Next
-    ensures { result ≡ turned (TurnPoint.Destroying cached) reply }
+pub(crate) fn ended(cached: u64, reply: &Reply) -> Next
+    ensures { result ≡ turned (TurnPoint.Destroying cached) reply.now }
 {
-    match reply {
+    match *reply {
         Reply::Busy {
             held,
             flights,
@@ -136,10 +136,10 @@ pub(crate) fn ended(cached: u64, reply: Reply) -> Next
 }
 
 /// After an extent of an arena that has ended was to go.
-pub(crate) fn doomed(reply: Reply) -> Next
-    ensures { result ≡ turned TurnPoint.Dooming reply }
+pub(crate) fn doomed(reply: &Reply) -> Next
+    ensures { result ≡ turned TurnPoint.Dooming reply.now }
 {
-    match reply {
+    match *reply {
         Reply::Doomed { span, committed } => Next::Go(Point::Tells(span, committed)),
         Reply::Nothing => Next::Ends(Answered::Ok(Given::Done)),
         _ => Next::Nowhere,
@@ -147,20 +147,20 @@ pub(crate) fn doomed(reply: Reply) -> Next
 }
 
 /// After a region was published.
-pub(crate) fn published(addr: u64, reply: Reply) -> Next
-    ensures { result ≡ turned (TurnPoint.Publishing addr) reply }
+pub(crate) fn published(addr: u64, reply: &Reply) -> Next
+    ensures { result ≡ turned (TurnPoint.Publishing addr) reply.now }
 {
-    match reply {
+    match *reply {
         Reply::Noted => Next::Ends(Answered::Ok(Given::Done)),
         _ => Next::Nowhere,
     }
 }
 
 /// After a region was to be taken over.
-pub(crate) fn owned(addr: u64, frees: bool, reply: Reply) -> Next
-    ensures { (published : Bool) → result ≡ turned (TurnPoint.Owning addr frees published) reply }
+pub(crate) fn owned(addr: u64, frees: bool, reply: &Reply) -> Next
+    ensures { (published : Bool) → result ≡ turned (TurnPoint.Owning addr frees published) reply.now }
 {
-    match reply {
+    match *reply {
         Reply::Owned { .. } if frees => Next::More,
         Reply::Owned { class } => Next::Ends(Answered::Ok(Given::Region { addr, class })),
         Reply::Nothing => Next::Ends(Answered::NotHeld(addr)),

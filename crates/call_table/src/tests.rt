@@ -49,7 +49,7 @@ impl Played {
         } = self;
         desk.reserve()?;
         stage.next.tell(&mut desk, stage.arena, &item);
-        stage.feed(request, &desk, item, alloc)?;
+        stage.feed(request, &desk, &item, alloc)?;
         stage.close(request, &mut desk);
         Ok(Played {
             turns,

@@ -8,10 +8,10 @@ use crate::{Answered, Next, Then, TurnPoint};
 use space_model::{Addresses, Reply};
 
 /// After regions went back.
-fn gave(addrs: &Addresses, reply: Reply) -> Next
-    ensures { result ≡ turned (TurnPoint.Giving addrs.now) reply }
+fn gave(addrs: &Addresses, reply: &Reply) -> Next
+    ensures { result ≡ turned (TurnPoint.Giving addrs.now) reply.now }
 {
-    match reply {
+    match *reply {
         Reply::Next(next) => Then::Batches.put_next(next),
         _ => Next::Nowhere,
     }
@@ -19,8 +19,8 @@ fn gave(addrs: &Addresses, reply: Reply) -> Next
 
 impl TurnPoint {
     /// Where the reply to the turn leads.
-    pub(crate) fn turned(&self, reply: Reply) -> Next
-        ensures { result ≡ turned self.now reply }
+    pub(crate) fn turned(&self, reply: &Reply) -> Next
+        ensures { result ≡ turned self.now reply.now }
     {
         match self {
             TurnPoint::Filling(wish, count) => wish.filled(*count, reply),

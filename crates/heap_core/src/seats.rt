@@ -35,6 +35,13 @@ impl Model for Client {
     ghost invariant = { HasDeskRoom };
 }
 
+/// Keeps no call.
+fn close(place: &mut Option<Call>)
+    ensures { place.new ≡ None }
+{
+    *place = None;
+}
+
 /// Keeps a call only while it is open. Gives its answer, once it has ended.
 fn settle(place: &mut Option<Call>) -> Option<Answered>
     ensures open { IfSome place.old (λ call. (desk : DeskFacts) → place.new ≡ open_call call.client (moment_of call desk) call.stage.next) }
@@ -42,7 +49,7 @@ fn settle(place: &mut Option<Call>) -> Option<Answered>
 {
     let ended = place.as_ref()?.answer();
     if ended.is_some() {
-        *place = None;
+        close(place);
     }
     ended
 }

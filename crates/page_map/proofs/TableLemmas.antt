@@ -6,7 +6,7 @@ use Rattle.std.specs.Ordering.{nat_cmp}
 use Rattle.std.specs.Cmp.{unsigned_tied, nat_cmp_total}
 use Rattle.std.specs.FinMap as map
 use Rattle.std.specs.FinSet as set
-use Rattle.std.proofs.lemmas.Bool.{cases_eq, eq-eqb, ne_eqb}
+use Rattle.std.proofs.lemmas.Bool.{cases_eq, cases_lt, eq-eqb, ne_eqb}
 use Rattle.std.proofs.lemmas.List.Sums.{sum_by-set}
 use Rattle.std.proofs.lemmas.Bool.Decides.{nat_tests}
 use Rattle.std.proofs.lemmas.List.{get_or_past, get_or-set_other, get_or-set_same}
@@ -148,6 +148,26 @@ module _ {root places : Places} {spare : ℕ} {pages : Pages} (of : IsTableOf ro
     chunks = of.chunks;
     left = of.left;
   }
+
+  -- a table whose places have nothing in them has the leaves that it had
+  pub emptied : (bare : Places) → length bare ≡ length places → ((k : ℕ) → k < length bare → get_or bare k None ≡ None) → IsTableOf root bare spare (record pages { numbers = map.empty })
+  emptied bare same none = record {
+    table = record {
+      filled = same ∙ of.table.filled;
+      taken = λ c l h. omega (arith, of.table.taken c l h, same);
+      apart = of.table.apart;
+    };
+    numbers = λ q. map.get-empty nat_cmp q ∙ sym (reads (leaf_of root (q / 512)) (q % 512));
+    chunks = of.chunks;
+    left = of.left;
+  }
+    where
+      blank : (k : ℕ) → get_or bare k None ≡ None
+      blank k = elim (cases_lt k (length bare)) [ inl l ↦ none k l | inr ge ↦ get_or_past bare k None ge ]
+
+      reads : (o : Option ℕ) (p : ℕ) → option_and_then (λ l. place_of bare l p) o ≡ None
+      reads None p = refl
+      reads (Some l) p = blank (l * 512 + p)
 
   -- a page whose chunk has a leaf gets a number, or none
   pub written : (leaf page : ℕ) (number : Option ℕ) → leaf_of root (page / 512) ≡ Some leaf → IsTableOf root (put_at places (leaf * 512 + page % 512) number) spare (record pages { numbers = put pages.numbers page number })

@@ -1,6 +1,6 @@
 //! A root with a place for each chunk of pages up to the highest one that was asked for, and leaves, one behind
 //! another, with a place for each page of a chunk.
-ghost use Rattle.std.specs.Prelude.{true, ◌≡◌, ◌+◌, ◌-◌, ◌*◌, ◌/◌, ◌%◌, ◌<◌, ◌≤◌, ℕ, false, None, if◌then◌else◌, count_by, is_some, slice_index_or, vec_capacity, vec_len, IsOkAnd, IsSome, OnOk, OnErr, max};
+ghost use Rattle.std.specs.Prelude.{true, ◌≡◌, ◌+◌, ◌-◌, ◌*◌, ◌/◌, ◌%◌, ◌<◌, ◌≤◌, ℕ, false, None, if◌then◌else◌, count_by, is_some, slice_index_or, vec_capacity, vec_len, EachIndex, IsOkAnd, IsSome, OnOk, OnErr, max};
 ghost use Rattle.std.specs.FinMap as map;
 ghost use Rattle.std.specs.FinSet as set;
 
@@ -105,6 +105,13 @@ impl PageMap {
         }
     }
 
+    /// Takes the numbers of all pages away, by going once through the leaves. Each chunk keeps its leaf.
+    pub fn clear_all(&mut self)
+        ensures { self.new ≡ record self.old { numbers = map.empty } }
+    {
+        blank(&mut self.places);
+    }
+
     /// The number of a page. The chunk of a page that has one has a leaf.
     pub fn get(&self, page: u64) -> Option<u32>
         ensures number { result ≡ map.get self.now.numbers page }
@@ -165,6 +172,15 @@ fn place_at(page: u64) -> usize
     (page % CHUNK_PAGES) as usize
 }
 
+// Takes away what stands at each place.
+fn blank(places: &mut [Option<u32>])
+    ensures { EachIndex places.new (λ k. slice_index_or places.new k None ≡ None) }
+{
+    for place in places.iter_mut() {
+        *place = None;
+    }
+}
+
 // Makes a list at least so long, with places that have nothing in them.
 fn lengthen(list: &mut Vec<Option<u32>>, len: usize)
     requires { len ≤ vec_capacity list.old }
@@ -213,6 +229,11 @@ mod tests {
         pages.reserve(2)?;
         assert_eq!(rt; pages.spare(), 2);
         assert_eq!(rt; pages.get(512), Some(6));
+        pages.clear_all();
+        assert_eq!(rt; pages.spare(), 2);
+        for (page, _) in table {
+            assert_eq!(rt; pages.get(page), None);
+        }
         Ok(())
     }
 }

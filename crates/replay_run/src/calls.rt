@@ -28,6 +28,9 @@ use space_model::Rest;
 use std::alloc::{AllocError as NoMemory, Global};
 use trace_text::Verb;
 
+/// How many bytes a line of a report has room for at first: few have more.
+const LINE_ROOM: usize = 96;
+
 /// How a report names a call. One of `ctl` isn't carried out, and has no name of its own.
 fn head(verb: &Verb) -> Head<'_>
     ensures { (c : ℕ) (answer : Answered) → call_line c result answer ≡ answer_line c verb.now answer }
@@ -94,7 +97,10 @@ fn print_step<K: Sink>(
     ensures cause { IfErr result (λ stop. HasStopCause stop 0 0 (K.faults sink.old) (K.faults sink.new)) }
     ensures counts { K.faults sink.old ≤ K.faults sink.new }
 {
-    let mut text = Vec::new(alloc);
+    if !shown && told.ended.is_none() {
+        return Ok(());
+    }
+    let mut text = Vec::with_capacity(alloc, LINE_ROOM)?;
     write_step(&mut text, shown, client, told.did)?;
     write_end(&mut text, client, verb, told.ended)?;
     print(sink, &text)
@@ -152,7 +158,7 @@ fn answer_call<K: Sink>(
     ensures cause { IfErr result (λ stop. HasStopCause stop 0 0 (K.faults sink.old) (K.faults sink.new)) }
     ensures counts { K.faults sink.old ≤ K.faults sink.new }
 {
-    let mut text = Vec::with_capacity(alloc, 96)?;
+    let mut text = Vec::with_capacity(alloc, LINE_ROOM)?;
     call_line(&mut text, client, head(&verb), &answer)?;
     print(sink, &text)?;
     names.bind_answer(verb, answer)?;

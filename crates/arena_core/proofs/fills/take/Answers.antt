@@ -1,7 +1,7 @@
 use Rattle.std.proofs.Common.{◌∙◌, map, ap, subst, sym, refl}
 use Rattle.space_model.specs.declared.entries.Reply.TheVariants.{Regions}
 use Rattle.space_model.specs.Region.{landing, region_of}
-use Rattle.arena_core.specs.Coming.{CanCome}
+use Rattle.region_book.specs.RegionLists.{CanCome}
 use Rattle.space_model.specs.Slabs.{lowest_free}
 use Rattle.bin_book.specs.Bins.{free_of}
 use Rattle.arena_core.specs.Indexes.{space_of}
@@ -9,29 +9,27 @@ use Rattle.arena_core.specs.Slabs.{slabs_taken}
 use Rattle.arena_core.proofs.Filled.{filled_is, filled_reply, lowest_come, take_none, taken_are}
 use Rattle.arena_core.proofs.fills.take.Goals as goal
 
-pub hold-requires-clause-can_come : goal.hold-requires-clause-can_come
-hold-requires-clause-can_come c =
+pub fill-requires-clause-can_come : goal.fill-requires-clause-can_come
+fill-requires-clause-can_come c =
     let s = space_of c.args.indexes.now in
-    let told = c.as_slice.ensures ∙ c.take.ensures.addrs ∙ taken_are s c.args.client c.args.class c.args.count c.requires.sound c.requires.class c.requires.booked (c.in_ok-reserve.ensures.items ∙ c.new-addrs.ensures.items) in
-    let come = lowest_come c.args.client s c.args.class c.args.count c.requires.sound c.requires.class c.requires.count c.requires.live in
-    subst (λ regions. CanCome (map (region_of c.args.client c.args.class) c.as_slice.result.now) regions) (sym c.in_ok-reserve_more.ensures.regions)
-    (subst (λ addrs. CanCome (map (region_of c.args.client c.args.class) addrs) s.regions) (sym told) come)
+    let is = taken_are s c.args.client c.args.class c.args.count c.requires.sound c.requires.class c.requires.booked refl in
+    subst (λ addrs. CanCome (map (region_of c.args.client c.args.class) addrs) s.regions) (sym is) (lowest_come c.args.client s c.args.class c.args.count c.requires.sound c.requires.class c.requires.count c.requires.live)
 
 pub returns-clause-after : goal.returns-clause-after
 returns-clause-after c =
     let s = space_of c.args.indexes.now in
-    let told = c.as_slice.ensures ∙ c.take.ensures.addrs ∙ taken_are s c.args.client c.args.class c.args.count c.requires.sound c.requires.class c.requires.booked (c.in_ok-reserve.ensures.items ∙ c.new-addrs.ensures.items) in
-    let held = c.hold.ensures.regions ∙ (λ i. landing (map (region_of c.args.client c.args.class) (told i)) (c.in_ok-reserve_more.ensures.regions i)) in
+    let is = taken_are s c.args.client c.args.class c.args.count c.requires.sound c.requires.class c.requires.booked refl in
+    let held = c.fill.ensures.regions ∙ ap (λ addrs. landing (map (region_of c.args.client c.args.class) addrs) s.regions) is in
     (λ i. record s { regions = held i }) ∙ sym (filled_is c.args.client s c.args.class (lowest_free c.args.class c.args.count s))
 
 pub returns-clause-reply : goal.returns-clause-reply
 returns-clause-reply c =
     let s = space_of c.args.indexes.now in
-    let told = c.new.ensures ∙ c.take.ensures.addrs ∙ taken_are s c.args.client c.args.class c.args.count c.requires.sound c.requires.class c.requires.booked (c.in_ok-reserve.ensures.items ∙ c.new-addrs.ensures.items) in
+    let told = c.new.ensures ∙ c.fill.ensures.addrs ∙ taken_are s c.args.client c.args.class c.args.count c.requires.sound c.requires.class c.requires.booked (c.in_ok-reserve.ensures.items ∙ c.new-addrs.ensures.items) in
     let is = taken_are s c.args.client c.args.class c.args.count c.requires.sound c.requires.class c.requires.booked refl in
-    ap Regions told ∙ sym (filled_reply c.args.client s c.args.class (lowest_free c.args.class c.args.count s) (λ none. c.requires.some (take_none c.args.count (free_of c.args.class c.args.bins.now.slabs) c.requires.count (is ∙ none))))
+    ap Regions told ∙ sym (filled_reply c.args.client s c.args.class (lowest_free c.args.class c.args.count s) (λ none. c.requires.some (take_none c.args.count (free_of c.args.class c.args.indexes.now.regions.slabs) c.requires.count (is ∙ none))))
 
 pub returns-clause-slabs : goal.returns-clause-slabs
 returns-clause-slabs c =
     let is = taken_are (space_of c.args.indexes.now) c.args.client c.args.class c.args.count c.requires.sound c.requires.class c.requires.booked refl in
-    c.take.ensures.slabs ∙ ap (λ addrs. slabs_taken addrs c.args.bins.now.slabs) is
+    c.fill.ensures.slabs ∙ ap (λ addrs. slabs_taken addrs c.args.indexes.now.regions.slabs) is

@@ -16,7 +16,6 @@ loop-addr-init c = record {
   few = omega arith;
   places = λ n h. h;
   booked = c.requires.booked;
-  spare = omega arith;
 }
 
 pub give_one-requires-clause-held : goal.give_one-requires-clause-held
@@ -36,5 +35,4 @@ loop-addr-preserved c =
       few = omega (arith, one, most_one c.give_one.result, c.loop-addr.invariant.few);
       places = λ n h. c.give_one.ensures.places n (c.loop-addr.invariant.places n h);
       booked = c.give_one.ensures.booked;
-      spare = omega (arith, c.loop-addr.invariant.spare, c.give_one.ensures.spare);
     }

@@ -10,6 +10,5 @@ invariant-loop-addr l = record {
   rest : Left l.client (drop l.addr-index l.addrs) l.addrs (space_of l.fn.indexes) (space_of l.indexes) l.emptied;
   few : l.emptied ≤ l.addr-index;
   places : (n : ℕ) → HasPlaces l.fn.indexes n → HasPlaces l.indexes n;
-  booked : IsBooked (space_of l.indexes) l.bins.slabs;
-  spare : l.fn.bins.spare ≤ l.bins.spare;
+  booked : IsBooked (space_of l.indexes) l.indexes.regions.slabs;
 }

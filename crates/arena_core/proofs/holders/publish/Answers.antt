@@ -8,9 +8,6 @@ use Rattle.arena_core.proofs.holders.publish.Goals as goal
 pub hand_over-requires-clause-there : goal.hand_over-requires-clause-there
 hand_over-requires-clause-there c = (held_there c.args.client c.args.addr c.args.indexes.now.regions.regions c.requires.held).1
 
-pub hand_over-requires-clause-alone : goal.hand_over-requires-clause-alone
-hand_over-requires-clause-alone c = begins_alone (space_of c.args.indexes.now) c.args.addr c.requires.sound
-
 pub returns-clause-after : goal.returns-clause-after
 returns-clause-after c =
     let s = space_of c.args.indexes.now in

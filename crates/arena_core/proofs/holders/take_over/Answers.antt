@@ -7,14 +7,8 @@ use Rattle.arena_core.proofs.Emptying.{begins_alone}
 use Rattle.arena_core.proofs.Handing.{anew_alone, published_at, published_there}
 use Rattle.arena_core.proofs.holders.take_over.Goals as goal
 
-pub published_at-requires : goal.published_at-requires
-published_at-requires c = record { alone = begins_alone (space_of c.args.indexes.now) c.args.addr c.requires.sound }
-
 pub hand_over-requires-clause-there : goal.hand_over-requires-clause-there
 hand_over-requires-clause-there c = (published_there c.args.addr c.args.indexes.now.regions.regions c.published_at.ensures c.in-Some.is).4
-
-pub hand_over-requires-clause-alone : goal.hand_over-requires-clause-alone
-hand_over-requires-clause-alone c = begins_alone (space_of c.args.indexes.now) c.args.addr c.requires.sound
 
 pub returns-clause-after : goal.returns-clause-after
 returns-clause-after c =

@@ -1,6 +1,9 @@
-use Rattle.std.proofs.Common.{arith}
+use Rattle.std.proofs.Common.{ap, arith, subst, sym, ◌∙◌}
+use Rattle.region_book.specs.RegionLists.{CanBeSlab}
+use Rattle.region_book.specs.Slabs.{slabs_landed}
 use Rattle.arena_core.specs.Indexes.{space_of}
 use Rattle.arena_core.proofs.Landed.{fitting}
+use Rattle.arena_core.proofs.Homes.{in_flight}
 use Rattle.arena_core.proofs.moves.land_done.Goals as goal
 
 pub overflow_mul-first : goal.overflow_mul-first
@@ -9,16 +12,14 @@ overflow_mul-first c = omega (arith, (fitting c.args.client (space_of c.args.ind
 pub land-requires : goal.land-requires
 land-requires c =
     let fit = fitting c.args.client (space_of c.args.indexes.now) c.args.span c.args.class c.args.count c.in-Some.part c.requires.sound c.requires.stands c.in-Some.ensures.flight in record {
+      client = c.requires.client;
+      room = c.requires.room.regions;
       class = fit.low;
-      room = omega (arith, fit.few, c.requires.room.regions);
+      small = λ small. subst (λ n. CanBeSlab c.args.class n c.args.count c.args.indexes.now.regions.slabs) (sym (in_flight c.args.client (space_of c.args.indexes.now) c.args.span c.in-Some.part c.requires.sound c.in-Some.ensures.flight).first) (c.requires.may small);
+      large = fit.large;
       can_come = fit.come c.requires.live;
-      ends = omega (arith, fit.bytes, fit.last);
     }
 
-pub returns-clause-places : goal.returns-clause-places
-returns-clause-places c = λ n h.
-    let fit = fitting c.args.client (space_of c.args.indexes.now) c.args.span c.args.class c.args.count c.in-Some.part c.requires.sound c.requires.stands c.in-Some.ensures.flight in record {
-      extents = omega (arith, h.extents, c.change.ensures.spare);
-      regions = omega (arith, h.regions, fit.few, c.land.ensures.spare);
-      offers = omega (arith, h.offers);
-    }
+pub returns-clause-slabs : goal.returns-clause-slabs
+returns-clause-slabs c =
+    c.land.ensures.slabs ∙ ap (λ n. slabs_landed c.args.class n c.args.count c.args.indexes.now.regions.slabs) (in_flight c.args.client (space_of c.args.indexes.now) c.args.span c.in-Some.part c.requires.sound c.in-Some.ensures.flight).first

@@ -4,7 +4,7 @@ use Rattle.space_model.specs.Part.{is_active, is_listed}
 use Rattle.space_model.specs.Counts.{bytes_where, is_mapped, region_bytes_where}
 use Rattle.arena_core.specs.Indexes.{space_of}
 use Rattle.arena_core.proofs.Books.{slabs_counted}
-use Rattle.arena_core.proofs.ByClass.{both_bytes}
+use Rattle.region_book.proofs.ByClass.{both_bytes}
 use Rattle.arena_core.proofs.Totals.{summed}
 use Rattle.arena_core.proofs.readers.counts.Goals as goal
 
@@ -35,7 +35,7 @@ returns c =
       small = c.small_bytes-small.ensures i;
       large = large i;
       regs = c.small_numbers.ensures i;
-      slabs = slabs_counted (space_of c.args.indexes.now) c.args.bins.now.slabs c.slabs.result c.requires.booked (search rules) c.slabs.ensures i;
+      slabs = slabs_counted (space_of c.args.indexes.now) c.args.indexes.now.regions.slabs c.slabs.result c.requires.booked (search rules) c.slabs.ensures i;
       lextents = c.large_numbers.ensures i;
     }
   where

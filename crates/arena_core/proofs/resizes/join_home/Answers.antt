@@ -5,7 +5,6 @@ use Rattle.space_model.specs.Span.{same_span}
 use Rattle.space_model.specs.Resizing.{widened_at}
 use Rattle.space_model.proofs.Sums.{region_bytes_fits}
 use Rattle.arena_core.specs.Indexes.{space_of}
-use Rattle.arena_core.proofs.Emptying.{begins_alone}
 use Rattle.arena_core.proofs.Resized.{page_begins, page_homed, reclassed_is}
 use Rattle.arena_core.proofs.resizes.join_home.Goals as goal
 
@@ -17,13 +16,13 @@ overflow_mul-first c =
     let h = page_homed c.args.client c.args.low.first (space_of c.args.indexes.now) (λ p. same_span p.span c.args.low) c.requires.sound c.requires.home c.at-part.ensures.at in
     omega (arith, h.1.placed.2, h.1.start)
 
-pub reclass-requires-clause-held : goal.reclass-requires-clause-held
-reclass-requires-clause-held c =
-    let h = page_homed c.args.client c.args.low.first (space_of c.args.indexes.now) (λ p. same_span p.span c.args.low) c.requires.sound c.requires.home c.at-part.ensures.at in
-    h.1.hand
+pub reclass-requires-clause-there : goal.reclass-requires-clause-there
+reclass-requires-clause-there c = (page_homed c.args.client c.args.low.first (space_of c.args.indexes.now) (λ p. same_span p.span c.args.low) c.requires.sound c.requires.home c.at-part.ensures.at).1.large
 
-pub reclass-requires-clause-alone : goal.reclass-requires-clause-alone
-reclass-requires-clause-alone c = begins_alone (space_of c.args.indexes.now) (4096 * c.args.low.first) c.requires.sound
+pub reclass-requires-clause-page : goal.reclass-requires-clause-page
+reclass-requires-clause-page c =
+    let h = page_homed c.args.client c.args.low.first (space_of c.args.indexes.now) (λ p. same_span p.span c.args.low) c.requires.sound c.requires.home c.at-part.ensures.at in
+    omega (arith, h.1.placed.2, h.1.start)
 
 pub reclass-requires-clause-bytes : goal.reclass-requires-clause-bytes
 reclass-requires-clause-bytes c = region_bytes_fits (space_of c.args.indexes.now) c.requires.sound

@@ -12,5 +12,6 @@ returns c =
     let trims = c.remove.ensures ∙ ap (without_client c.args.client) done.trims in record {
       after = (λ i. record (done.after i) { trims = trims i }) ∙ ap (λ step. step.after) aside;
       reply = done.reply ∙ ap (λ step. step.reply) aside;
+      slabs = done.slabs;
       places = λ n h. let k = done.places n h in record { extents = k.extents; regions = k.regions; offers = k.offers };
     }

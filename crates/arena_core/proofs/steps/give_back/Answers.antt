@@ -33,10 +33,7 @@ returns c =
       rooms = c.set.ensures ∙ (λ i. slice_set (rooms i) c.args.client (room i));
       few = omega (arith, counted, c.give_back-emptied.ensures.few, ap length c.as_slice-addrs.ensures);
       err = tt;
-      places = record {
-        indexes = places_fewer c.give_back-emptied.new.indexes (all_rooms c.set.new.self) (all_rooms (slice_set c.args.body.now.rooms c.args.client c.max.result)) (omega (arith, new, fewer))
-            (c.give_back-emptied.ensures.places _ c.in_ok-make_places.ensures.ok.indexes);
-        slabs = omega (arith, new, fewer, c.give_back-emptied.ensures.spare, c.in_ok-make_places.ensures.ok.slabs);
-      };
+      places = places_fewer c.give_back-emptied.new.indexes (all_rooms c.set.new.self) (all_rooms (slice_set c.args.body.now.rooms c.args.client c.max.result)) (omega (arith, new, fewer))
+          (c.give_back-emptied.ensures.places _ c.in_ok-make_places.ensures.ok);
       booked = c.give_back-emptied.ensures.booked;
     }

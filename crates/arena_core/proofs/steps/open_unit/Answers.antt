@@ -1,11 +1,11 @@
 use Rattle.std.proofs.Common.{◌∙◌, ap, slice_set, subst, sym}
 use Rattle.space_model.specs.Step.{step_of}
-use Rattle.arena_core.specs.Arenas.{HasRoom, all_rooms}
-use Rattle.arena_core.specs.Indexes.{space_of}
+use Rattle.arena_core.specs.Arenas.{all_rooms}
+use Rattle.arena_core.specs.Indexes.{HasPlaces, space_of}
 use Rattle.arena_core.specs.Slabs.{slabs_begun}
 use Rattle.arena_core.proofs.BookLaw.{begins_booked}
 use Rattle.arena_core.proofs.Books.{booked_as}
-use Rattle.arena_core.proofs.RoomSums.{room_kept, room_of_all}
+use Rattle.arena_core.proofs.RoomSums.{room_of_all}
 use Rattle.arena_core.proofs.steps.open_unit.Goals as goal
 
 pub returns-in_err-make_places-clause-places : goal.returns-in_err-make_places-clause-places
@@ -13,12 +13,12 @@ returns-in_err-make_places-clause-places c = room_of_all c.make_places.ensures.k
 
 pub returns-in_err-reply-clause-places : goal.returns-in_err-reply-clause-places
 returns-in_err-reply-clause-places c =
-    room_of_all (λ n h. room_kept c.in_err-reply.ensures.places c.in_err-reply.ensures.spare n (c.make_places.ensures.kept n h)) (ap (λ a. a.rooms) c.make_places.ensures.standing) c.requires.body.places
+    room_of_all (λ n h. c.in_err-reply.ensures.places n (c.make_places.ensures.kept n h)) (ap (λ a. a.rooms) c.make_places.ensures.standing) c.requires.body.places
 
 pub returns-clause-places : goal.returns-clause-places
 returns-clause-places c =
-    room_kept c.in_ok-reply.ensures.places c.in_ok-reply.ensures.spare _
-    (subst (λ rooms. HasRoom c.make_places.new.body (all_rooms rooms))
+    c.in_ok-reply.ensures.places _
+    (subst (λ rooms. HasPlaces c.make_places.new.body.indexes (all_rooms rooms))
     (sym (c.set.ensures ∙ (λ i. slice_set (ap (λ a. a.rooms) c.make_places.ensures.standing i) c.args.client c.max-room.result))) c.in_ok-make_places.ensures.ok)
 
 pub returns-in_err-make_places-clause-booked : goal.returns-in_err-make_places-clause-booked
@@ -36,6 +36,6 @@ returns-clause-booked c =
     let op = c.args.op.now in
     let space = ap (λ a. a.space) c.make_places.ensures.standing in
     booked_as
-    (begins_booked c.args.client (space_of c.args.body.now.indexes) op c.args.body.now.bins.slabs c.requires.body.sound c.requires.stands c.requires.opens c.requires.other c.requires.body.booked)
+    (begins_booked c.args.client (space_of c.args.body.now.indexes) op c.args.body.now.indexes.regions.slabs c.requires.body.sound c.requires.stands c.requires.opens c.requires.other c.requires.body.booked)
     (c.in_ok-reply.ensures.after ∙ ap (λ s. (step_of s c.args.client op).after) space)
     (c.in_ok-reply.ensures.slabs ∙ (λ i. slabs_begun c.args.client (space i) op (c.make_places.ensures.slabs i)))

@@ -1,6 +1,6 @@
 use Rattle.std.proofs.Common.{◌≡◌, ◌+◌, ◌-◌, arith, ap, subst}
-use Rattle.arena_core.specs.Arenas.{HasRoom, all_rooms}
-use Rattle.arena_core.specs.Indexes.{space_of}
+use Rattle.arena_core.specs.Arenas.{all_rooms}
+use Rattle.arena_core.specs.Indexes.{HasPlaces, space_of}
 use Rattle.arena_core.proofs.BookLaw.{can_follow, follows_booked}
 use Rattle.arena_core.proofs.Books.{booked_as}
 use Rattle.arena_core.proofs.RoomSums.{rooms_with}
@@ -15,19 +15,13 @@ returns-clause-places c =
     let sums = rooms_with c.args.body.now.rooms c.args.client (c.of-room.result - 1) (omega (arith, c.requires.client, c.requires.body.clients)) in
     let new = ap all_rooms c.set.ensures in
     let one : all_rooms c.args.body.now.rooms ≡ all_rooms c.set.new.self + 1 = omega (arith, sums, new, c.of-room.ensures.room, c.requires.room) in
-    let was = subst (HasRoom c.args.body.now) one c.requires.body.places in
-    record { indexes = c.follow-reply.ensures.places (all_rooms c.set.new.self) was.indexes; slabs = omega (arith, was.slabs, c.follow.ensures.spare) }
+    c.follow-reply.ensures.places (all_rooms c.set.new.self) (subst (HasPlaces c.args.body.now.indexes) one c.requires.body.places)
 
-pub follow-requires : goal.follow-requires
-follow-requires c =
-    let sums = rooms_with c.args.body.now.rooms c.args.client (c.of-room.result - 1) (omega (arith, c.requires.client, c.requires.body.clients)) in
-    record {
-      room = omega (arith, sums, c.of-room.ensures.room, c.requires.room, c.requires.body.places.slabs);
-      may = can_follow c.args.client (space_of c.args.body.now.indexes) c.args.op.now c.args.body.now.bins.slabs c.requires.body.sound c.requires.stands c.requires.body.booked;
-    }
+pub follow-reply-requires-clause-may : goal.follow-reply-requires-clause-may
+follow-reply-requires-clause-may c = can_follow c.args.client (space_of c.args.body.now.indexes) c.args.op.now c.args.body.now.indexes.regions.slabs c.requires.body.sound c.requires.stands c.requires.body.booked
 
 pub returns-clause-booked : goal.returns-clause-booked
 returns-clause-booked c =
     let op = c.args.op.now in
-    booked_as (follows_booked c.args.client (space_of c.args.body.now.indexes) op c.args.body.now.bins.slabs c.requires.body.sound c.requires.stands c.requires.follows c.requires.body.booked)
-    c.follow-reply.ensures.after c.follow.ensures.slabs
+    booked_as (follows_booked c.args.client (space_of c.args.body.now.indexes) op c.args.body.now.indexes.regions.slabs c.requires.body.sound c.requires.stands c.requires.follows c.requires.body.booked)
+    c.follow-reply.ensures.after c.follow-reply.ensures.slabs

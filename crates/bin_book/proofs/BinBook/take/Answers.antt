@@ -1,7 +1,9 @@
 use Rattle.std.proofs.Common.{[], ◌∷◌, ◌++◌, append-nil, append_assoc, map, take, sym, ap, ◌∙◌, arith}
+use Rattle.std.proofs.lemmas.List.{map-append}
+use Rattle.space_model.specs.Region.{inserted, landing, region_of}
 use Rattle.bin_book.specs.Bins.{Bins, free_of, without}
 use Rattle.bin_book.specs.Tables.{slabs_in}
-use Rattle.bin_book.proofs.Rounds.{more_left, rest_next, take_next, without_more, without_none}
+use Rattle.bin_book.proofs.Rounds.{landing_more, more_left, rest_next, take_next, without_more, without_none}
 use Rattle.bin_book.proofs.BinBook.take.Goals as goal
 
 pub loop-turn-init : goal.loop-turn-init
@@ -14,6 +16,7 @@ loop-turn-init c =
       items = sym (append-nil c.args.out.now.items);
       room = omega arith;
       slabs = slabs ∙ without_none c.args.self.now.slabs;
+      regions = ap (λ (b : Bins). b.regions) c.self.view_is;
       spare = ap (λ (b : Bins). b.spare) c.self.view_is;
     }
 
@@ -35,5 +38,8 @@ loop-turn-preserved c =
       items = c.push.ensures.items ∙ ap (λ xs. xs ++ c.in-Some.addr ∷ []) i.items ∙ append_assoc c.args.out.now.items (take turn all) (c.in-Some.addr ∷ []) ∙ ap (λ xs. c.args.out.now.items ++ xs) (sym one);
       room = omega arith;
       slabs = c.in-Some.ensures.slabs ∙ ap (map (without (c.in-Some.addr ∷ []))) i.slabs ∙ sym (without_more (take turn all) c.in-Some.addr c.args.self.now.slabs) ∙ ap (λ xs. map (without xs) c.args.self.now.slabs) (sym one);
+      regions = c.in-Some.ensures.regions ∙ ap (inserted (region_of c.args.client c.args.class c.in-Some.addr)) i.regions
+          ∙ landing_more (map (region_of c.args.client c.args.class) (take turn all)) _ c.args.self.now.regions
+          ∙ ap (λ rs. landing rs c.args.self.now.regions) (sym (ap (map (region_of c.args.client c.args.class)) one ∙ map-append (region_of c.args.client c.args.class) (take turn all) (c.in-Some.addr ∷ [])));
       spare = c.take_one.ensures.free ∙ i.spare;
     }

@@ -1,10 +1,10 @@
 use Rattle.std.proofs.Common.{IsSome, length, vec_len, ◌≡◌, ◌<◌, ◌≤◌, ◌+◌, ◌^◌, ◌∷◌, ◌++◌, [], eqb, set, Contains, option_to_list, Some, refl, sym, ap, ◌∙◌, subst, arith}
 use Rattle.size_classes.specs.Classes.{pages_at, regions_at}
-use Rattle.ordered_set.specs.Keys.{with_key}
+use Rattle.ordered_set.specs.Keys.{IsAscending, with_key}
 use Rattle.bin_book.specs.Bins.{slab_with_out, with_slab}
 use Rattle.bin_book.specs.Charts.{HasPage}
-use Rattle.bin_book.specs.Tables.{IsSlabIn, bin_key, slabs_in}
-use Rattle.bin_book.proofs.Adding.{chart_place, charted_added, few_slabs, in_items, new_bin, new_in, new_key, new_slab, slabs_added, table_added}
+use Rattle.bin_book.specs.Tables.{IsSlabIn, bin_key, regions_of, slabs_in}
+use Rattle.bin_book.proofs.Adding.{chart_place, charted_added, codes_room, few_slabs, in_items, new_bin, new_in, new_key, new_slab, regions_added, slabs_added, table_added}
 use Rattle.bin_book.proofs.Charting.{small_pages}
 use Rattle.bin_book.proofs.table.Table.add.Goals as goal
 
@@ -43,7 +43,7 @@ index_mut-requires c =
 
 pub returns-clause-table : goal.returns-clause-table
 returns-clause-table c =
-    let b = c.before.before.before.before.before.before.before.before.before.before.before.before.before.before in
+    let b = c.before.before.before.before.before.before.before.before.before.before.before.before.before.before.before.before in
     let t = c.args.self.now in
     let bits = c.with_out-bits.result in
     let class = c.with_out-bits.ensures.class in
@@ -51,11 +51,11 @@ returns-clause-table c =
     let key = c.insert-2.ensures.keys ∙ ap (with_key t.bins.keys) (c.bin_key.ensures ∙ (λ k. bin_key (sym class k) (eqb (c.free_count.ensures k) 0) (record { major = c.args.first; minor = c.from.result }))) in
     let charted = charted_added t c.requires.table c.args.class c.args.first c.from.result bits class (new b) c.pop.new.self.items (free b) c.requires.apart c.add.new.self c.add.ensures.firsts (rw c.class_pages.ensures.pages at c.add.ensures.only) in
     table_added t c.requires.table c.args.class c.args.first c.from.result bits class (new b) c.pop.new.self.items (free b) c.requires.apart c.requires.class _ c.insert.ensures.keys c.insert.ensures.spare c.insert.ensures.ascending
-    (ap (λ n. set t.slots.items n bits) (sym c.from.ensures)) refl refl (omega arith) c.pop.ensures.capacity refl charted c.add.ensures.len key c.insert-2.ensures.spare
+    (ap (λ n. set t.slots.items n bits) (sym c.from.ensures)) refl refl (omega arith) c.pop.ensures.capacity refl charted c.add.ensures.len key c.insert-2.ensures.spare c.give.ensures.len
 
 pub returns-clause-slabs : goal.returns-clause-slabs
 returns-clause-slabs c =
-    let b = c.before.before.before.before.before.before.before.before.before.before.before.before.before.before in
+    let b = c.before.before.before.before.before.before.before.before.before.before.before.before.before.before.before.before in
     let t = c.args.self.now in
     let bits = c.with_out-bits.result in
     let class = c.with_out-bits.ensures.class in
@@ -68,3 +68,17 @@ returns-clause-charted c page some low has =
     let few = small_pages c.args.class c.requires.class in
     let pages = c.class_pages.ensures.pages in
     subst IsSome (sym (c.add.ensures.each page some (omega arith) low (subst (λ n. HasPage c.args.first n page) (sym pages) has))) refl
+
+pub give-requires-clause-inside : goal.give-requires-clause-inside
+give-requires-clause-inside c =
+    let b = c.before.before.before.before.before.before.before.before.before.before.before.before.before.before.before in
+    codes_room c.args.self.now c.requires.table c.args.class c.args.first c.from.result c.with_out-bits.result c.with_out-bits.ensures.class (new b) c.pop.new.self.items (free b) c.requires.apart c.args.count c.requires.most
+
+pub returns-clause-regions : goal.returns-clause-regions
+returns-clause-regions c =
+    let b = c.before.before.before.before.before.before.before.before.before.before.before.before.before.before.before.before in
+    let t = c.args.self.now in
+    let bits = c.with_out-bits.result in
+    (λ x. regions_of (set t.slots.items (sym c.from.ensures x) bits) c.give.new.self.codes.items (c.insert.ensures.keys x))
+    ∙ regions_added t c.requires.table c.args.class c.args.first c.from.result bits c.with_out-bits.ensures.class (new b) c.pop.new.self.items (free b) c.requires.apart c.args.client c.args.count c.requires.most c.with_out-bits.ensures.free
+    (subst IsAscending c.insert.ensures.keys c.insert.ensures.ascending) c.give.new.self.codes.items c.give.ensures.here c.give.ensures.others

@@ -1,63 +1,6 @@
-use Rattle.std.proofs.Common.{◌≡◌, ◌-◌, ◌*◌, ◌/◌, ◌%◌, is_some, false, true, sym, ap, ◌∙◌, subst, arith}
-use Rattle.size_classes.proofs.Table.{slab_filled}
-use Rattle.bin_book.specs.Tables.{HasOut, IsOutAt, bits_at}
-use Rattle.bin_book.proofs.Holding.{none_out, out_at, out_not, out_somewhere, pages_far}
+use Rattle.std.proofs.Common.{is_some, ap, ◌∙◌, arith}
+use Rattle.bin_book.proofs.Holding.{none_out, pages_far}
 use Rattle.bin_book.proofs.table.Table.holder.Goals as goal
-use Rattle.bin_book.proofs.table.Table.holder.Goals.{else-has_out-via-then-has_out+else-offset-size-eq0, else-has_out-via-else-has_out}
 
 pub returns-in_err-slab-clause-none : goal.returns-in_err-slab-clause-none
 returns-in_err-slab-clause-none c = ap is_some c.from_residual.ensures ∙ none_out c.args.self.now c.requires.table c.args.class c.args.addr (pages_far c.args.self.now c.requires.table c.args.class c.args.addr (λ k m. let far = c.in_err-slab.ensures.none k m in omega arith))
-
-pub overflow_mul-offset : goal.overflow_mul-offset
-overflow_mul-offset c =
-    let last = c.in_ok-slab.ensures.some in
-    let below = last.below in
-    let fits = c.ranges.addr.fits in
-    record { fits = omega arith }
-
-pub overflow_sub-offset : goal.overflow_sub-offset
-overflow_sub-offset c =
-    let last = c.in_ok-slab.ensures.some in
-    let below = last.below in
-    omega arith
-
-pub has_out-requires-clause-there : goal.has_out-requires-clause-there
-has_out-requires-clause-there c = (c.in_ok-slab.ensures.some).there
-
--- what is out there
-out : (c : goal.Then-offset-size-eq0) → HasOut (bits_at c.args.self.now.slots.items c.in_ok-slab.slab.minor) c.args.class ((c.args.addr - 4096 * c.in_ok-slab.slab.major) / c.size_of-size.result)
-out c = c.has_out.ensures.0 c.if-has_out.true
-
-there : (c : goal.Then-offset-size-eq0) → IsOutAt c.args.self.now c.args.class c.args.addr c.in_ok-slab.slab ((c.args.addr - 4096 * c.in_ok-slab.slab.major) / c.size_of-size.result)
-there c =
-    let t = c.args.self.now in
-    let offset = c.args.addr - 4096 * c.in_ok-slab.slab.major in
-    let last = c.in_ok-slab.ensures.some in
-    let e = c.size_of-size.ensures.size in
-    subst (λ s. IsOutAt t c.args.class c.args.addr c.in_ok-slab.slab (offset / s)) (sym e) (out_at t c.requires.table c.args.class c.args.addr c.requires.class c.in_ok-slab.slab last (subst (λ s. offset % s ≡ 0) e c.if-offset-size-eq0.true)
-    (subst (λ s. HasOut (bits_at t.slots.items c.in_ok-slab.slab.minor) c.args.class (offset / s)) e (out c)))
-
-pub overflow_cast-result : goal.overflow_cast-result
-overflow_cast-result c = let low = (out c).inside in let most = (slab_filled c.args.class c.requires.class).2 in record { fits = omega arith }
-
-pub returns-then-offset-size-eq0-clause-some : goal.returns-then-offset-size-eq0-clause-some
-returns-then-offset-size-eq0-clause-some c = there c
-
-pub returns-then-offset-size-eq0-clause-none : goal.returns-then-offset-size-eq0-clause-none
-returns-then-offset-size-eq0-clause-none c = out_somewhere c.args.self.now c.requires.table c.args.class c.args.addr c.in_ok-slab.slab _ (there c)
-
-pub returns-else-has_out-clause-none : goal.returns-else-has_out-clause-none
-returns-else-has_out-clause-none c =
-    let t = c.args.self.now in
-    let offset = c.args.addr - 4096 * c.in_ok-slab.slab.major in
-    let bits = bits_at t.slots.items c.in_ok-slab.slab.minor in
-    let last = c.in_ok-slab.ensures.some in
-    let e = c.size_of-size.ensures.size in
-    let not_there = out_not t c.requires.table c.args.class c.args.addr c.requires.class c.in_ok-slab.slab last in
-    elim c.else-has_out.branch [
-      | else-has_out-via-then-has_out+else-offset-size-eq0 w ↦ not_there (λ whole out. w.if-offset-size-eq0.false (subst (λ s. offset % s ≡ 0) (sym e) whole))
-      | else-has_out-via-else-has_out w ↦ not_there (λ whole out.
-          let yes = c.has_out.ensures.1 (subst (λ s. HasOut bits c.args.class (offset / s)) (sym e) out) in
-          let no : false ≡ true = sym w.if-has_out.false ∙ yes in
-          cc)
-    ]

@@ -30,4 +30,4 @@ returns-clause-table c =
     let charted = charted_less t c.requires.table c.args.slab c.requires.there c.remove-3.new.self c.remove-3.ensures.firsts (rw pages at c.remove-3.ensures.none) c.remove-3.ensures.only in
     table_less t c.requires.table c.args.slab c.requires.there _ c.remove-2.ensures.keys c.remove-2.ensures.spare c.remove-2.ensures.ascending refl
     (rw c.unwrap.ensures at c.push.ensures.items) (rw c.unwrap.ensures at c.push.ensures.len) c.push.ensures.capacity
-    (ap (λ n. set t.counts n (get_or t.counts n 0 - 1)) (sym c.requires.class)) charted (ap (λ v. vec_len v) c.remove-3.ensures.firsts) (c.remove.ensures.keys ∙ ap (without_key t.bins.keys) key) c.remove.ensures.spare
+    (ap (λ n. set t.counts n (get_or t.counts n 0 - 1)) (sym c.requires.class)) charted (ap (λ v. vec_len v) c.remove-3.ensures.firsts) (c.remove.ensures.keys ∙ ap (without_key t.bins.keys) key) c.remove.ensures.spare refl

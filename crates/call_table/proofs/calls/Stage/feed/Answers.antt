@@ -9,5 +9,5 @@ returns-clause-sized c =
     let was = c.args.self.now in
     let desk = c.args.desk.now.facts in
     let few = subst (λ n. IsSizedNext (settle c.args.request desk was.arena n).next) (sym c.step-next.ensures)
-    (settle_few c.args.request desk was.arena (step_next was.next c.args.item) (next_few was.next c.args.item c.requires)) in
+    (settle_few c.args.request desk was.arena (step_next was.next c.args.item.now) (next_few was.next c.args.item.now c.requires)) in
     led_or_ended IsSizedNext c.settle.result _ _ _ c.settle.new.self c.settle.ensures.stage c.settle.ensures.err few tt

@@ -1,0 +1,189 @@
+-- The regions of slabs that are out: which they are, and that their addresses rise.
+use Rattle.std.proofs.Common.{◌≡◌, ◌≢◌, ℕ, ◌+◌, ◌*◌, ◌<◌, ◌≤◌, zero, suc, Bool, true, false, not, eqb, List, [], ◌∷◌, ◌++◌, map, filter, find, get_or, Option, Some, None, inl, inr, refl, sym, ap, ◌∙◌, subst, arith, Contains, Less}
+use Rattle.std.specs.List.{flat_map, list_any, range_with_len}
+use Rattle.std.specs.List.Sorted.{IsStrictlySortedBy}
+use Rattle.std.proofs.Math.Nat.{mul-le-mul_right}
+use Rattle.std.proofs.lemmas.Bool.{cases_Bool, eq-eqb, eqb-true, false_from_ne_true}
+use Rattle.std.proofs.lemmas.Bool.Decides.{nat_tests}
+use Rattle.std.proofs.lemmas.List.Elements.{Contains-append_cases, Contains-append_left, Contains-append_right}
+use Rattle.size_classes.specs.Classes.{regions_at, size_at}
+use Rattle.size_classes.proofs.Table.{size_bounds}
+use Rattle.space_model.specs.declared.parts.Region.{Region}
+use Rattle.space_model.specs.Region.{starts_at}
+use Rattle.slab_bits.specs.Slabs.{Slab as Bits}
+use Rattle.ordered_set.specs.declared.key.Key.{Key}
+use Rattle.ordered_set.specs.Keys.{IsAscending, key_cmp}
+use Rattle.ordered_set.proofs.Members.{contains_cases, contains_later, every_from, filter_from, filter_has}
+use Rattle.ordered_set.proofs.Orders.{less_major}
+use Rattle.ordered_set.proofs.Sorted.{every_member}
+use Rattle.bin_book.specs.Bins.{place}
+use Rattle.bin_book.specs.Holders.{holder_at}
+use Rattle.bin_book.specs.Tables.{IsKept, bits_at, out_of, region_at, regions_of, zeros}
+use Rattle.bin_book.proofs.ByAddress.{AreBehind, IsRising, first_found, same_finds}
+use Rattle.bin_book.proofs.Lists.{any_has, head, map_from, map_has, map_same, range_from, range_has}
+use Rattle.bin_book.proofs.Open.{found, less_ne}
+use Rattle.bin_book.proofs.Places.{place_inside}
+
+-- ---- members of rising lists
+
+-- all members begin behind an address
+pub behind_members : (addr : ℕ) (rs : List Region) → ((r : Region) → Contains rs r → addr < r.addr) → AreBehind addr rs
+behind_members addr rs all = every_from (λ r. addr < r.addr) rs all
+
+pub member_behind : (addr : ℕ) (rs : List Region) → AreBehind addr rs → (r : Region) → Contains rs r → addr < r.addr
+member_behind addr rs behind r m = every_member (λ r. addr < r.addr) rs behind r m
+
+-- a member is what begins at its address
+pub member_found : (rs : List Region) (r : Region) → IsRising rs → Contains rs r → find (starts_at r.addr) rs ≡ Some r
+member_found [] r rising m = absurd (omega arith)
+member_found (q ∷ rs) r rising m = elim (contains_cases q rs r m) [
+  | inl e ↦ ap (λ (x : Region). find (starts_at x.addr) (q ∷ rs)) (sym e) ∙ first_found q rs ∙ ap (λ x. Some x) e
+  | inr d ↦
+      let later = member_behind q.addr rs rising.0 r d in
+      let other : eqb q.addr r.addr ≡ false = grind (arith, nat_tests) in
+      rw other (member_found rs r rising.1 d)
+]
+
+pub found_member : (rs : List Region) (a : ℕ) (r : Region) → find (starts_at a) rs ≡ Some r → Contains rs r × (r.addr ≡ a)
+found_member rs a r e = let p = found (starts_at a) rs r e in (p.0, eqb-true r.addr a p.1)
+
+-- nothing is found where no member begins
+pub not_found : (rs : List Region) (a : ℕ) → ((r : Region) → Contains rs r → r.addr ≢ a) → find (starts_at a) rs ≡ None
+not_found [] a none = refl
+not_found (r ∷ rs) a none =
+    let other : eqb r.addr a ≡ false = false_from_ne_true _ (λ e. none r (head r rs) (eqb-true r.addr a e)) in
+    rw other (not_found rs a (λ q m. none q (contains_later r rs q m)))
+
+-- rising lists with the same members are equal
+pub same_members : (xs ys : List Region) → IsRising xs → IsRising ys → ((r : Region) → Contains xs r → Contains ys r) → ((r : Region) → Contains ys r → Contains xs r) → xs ≡ ys
+same_members xs ys rising rising' there back = same_finds xs ys rising rising' (λ a. by a (find (starts_at a) xs) refl)
+  where
+    by : (a : ℕ) (o : Option Region) → find (starts_at a) xs ≡ o → find (starts_at a) xs ≡ find (starts_at a) ys
+    by a (Some r) e = let m = found_member xs a r e in e ∙ sym (member_found ys r rising' (there r m.0)) ∙ ap (λ b. find (starts_at b) ys) m.1
+    by a None e = e ∙ sym (not_found ys a (λ r m at. let is = ap (λ b. find (starts_at b) xs) (sym at) ∙ member_found xs r rising (back r m) in let no : None ≡ Some r = sym e ∙ is in cc))
+
+-- one rising list behind another one
+pub rising_both : (xs ys : List Region) → IsRising xs → IsRising ys → ((x y : Region) → Contains xs x → Contains ys y → x.addr < y.addr) → IsRising (xs ++ ys)
+rising_both [] ys rising rising' less = rising'
+rising_both (x ∷ xs) ys rising rising' less = (
+  behind_members x.addr (xs ++ ys) (λ r m. elim (Contains-append_cases xs ys r m) [
+    | inl d ↦ member_behind x.addr xs rising.0 r d
+    | inr d ↦ less x r (head x xs) d
+  ]),
+  rising_both xs ys rising.1 rising' (λ a b m n. less a b (contains_later x xs a m) n),
+)
+
+-- ---- the regions that are out
+
+-- a region that is out at a place of the slab with this key
+pub record IsOutRegion (slots : List Bits) (codes : List ℕ) (keys : List Key) (r : Region) (key : Key) (n : ℕ) : Type 0 where
+  pub there : Contains keys key
+  pub low : n < regions_at (bits_at slots key.minor).class
+  pub out : get_or (bits_at slots key.minor).free n false ≡ false
+  pub is : region_at slots codes key n ≡ r
+
+not_false : (b : Bool) → b ≡ false → not b ≡ true
+not_false b e = ap not e
+
+true_not : (b : Bool) → not b ≡ true → b ≡ false
+true_not true e = sym e
+true_not false e = refl
+
+module _ (slots : List Bits) (codes : List ℕ) where
+  pub out_has : (keys : List Key) (r : Region) (key : Key) (n : ℕ) → IsOutRegion slots codes keys r key n → Contains (regions_of slots codes keys) r
+  unfolding regions_of
+  out_has [] r key n o = absurd (let m = o.there in omega arith)
+  out_has (k ∷ ks) r key n o = elim (contains_cases k ks key o.there) [
+    | inl e ↦
+        let b = bits_at slots key.minor in
+        let m = map_has (region_at slots codes key) (zeros (regions_at b.class) b.free) n (filter_has (λ i. not (get_or b.free i false)) (range_with_len 0 (regions_at b.class)) n (range_has 0 (regions_at b.class) n (omega arith) (let low = o.low in omega arith)) (not_false _ o.out)) in
+        Contains-append_left (out_of slots codes k) (flat_map (out_of slots codes) ks) r (subst (λ x. Contains (out_of slots codes k) x) o.is (subst (λ z. Contains (out_of slots codes z) (region_at slots codes key n)) (sym e) m))
+    | inr d ↦ Contains-append_right (out_of slots codes k) (flat_map (out_of slots codes) ks) r (out_has ks r key n (record { there = d; low = o.low; out = o.out; is = o.is }))
+  ]
+
+  in_slab : (key : Key) (r : Region) → Contains (out_of slots codes key) r → (n : ℕ) × IsOutRegion slots codes (key ∷ []) r key n
+  in_slab key r m =
+      let b = bits_at slots key.minor in
+      let p = map_from (region_at slots codes key) (zeros (regions_at b.class) b.free) r m in
+      let q = filter_from (λ i. not (get_or b.free i false)) (range_with_len 0 (regions_at b.class)) p.0 p.1 in
+      let low = range_from 0 (regions_at b.class) p.0 q.0 in
+      (p.0, record { there = head key []; low = omega (arith, low.1); out = true_not _ q.1; is = p.2 })
+
+  pub out_from : (keys : List Key) (r : Region) → Contains (regions_of slots codes keys) r → (key : Key) × (n : ℕ) × IsOutRegion slots codes keys r key n
+  unfolding regions_of
+  out_from [] r m = absurd (omega arith)
+  out_from (k ∷ ks) r m = elim (Contains-append_cases (out_of slots codes k) (flat_map (out_of slots codes) ks) r m) [
+    | inl d ↦ let p = in_slab k r d in (k, p.0, record { there = head k ks; low = p.1.low; out = p.1.out; is = p.1.is })
+    | inr d ↦ let p = out_from ks r d in (p.0, p.1, record { there = contains_later k ks p.0 p.2.there; low = p.2.low; out = p.2.out; is = p.2.is })
+  ]
+
+  -- a slab's regions rise, place by place
+  slab_rises : (key : Key) (p : ℕ → Bool) (start n : ℕ) → 1 ≤ size_at (bits_at slots key.minor).class → IsRising (map (region_at slots codes key) (filter p (range_with_len start n)))
+  slab_rises key p start zero some = tt
+  slab_rises key p start (suc n) some =
+      let rest = slab_rises key p (start + 1) n some in
+      elim (cases_Bool (p start)) [
+        | inl t ↦ rw t (
+          behind_members _ _ (λ r m.
+              let q = map_from (region_at slots codes key) (filter p (range_with_len (start + 1) n)) r m in
+              let low = (range_from (start + 1) n q.0 (filter_from p (range_with_len (start + 1) n) q.0 q.1).0).0 in
+              let c = (bits_at slots key.minor).class in
+              let more : (start + 1) * size_at c ≤ q.0 * size_at c = mul-le-mul_right (size_at c) low in
+              let at : place c key.major q.0 ≡ r.addr = ap (λ (x : Region). x.addr) q.2 in
+              omega arith),
+          rest,
+        )
+        | inr f ↦ rw f rest
+      ]
+
+  -- and so do those of all slabs
+  pub regions_rise : (keys : List Key) → IsAscending keys → IsKept slots keys → IsRising (regions_of slots codes keys)
+  unfolding regions_of IsStrictlySortedBy
+  regions_rise [] s kept = tt
+  regions_rise (k ∷ ks) s kept =
+      let is = kept.slab k (head k ks) in
+      let b = bits_at slots k.minor in
+      let small = is.small in
+      rising_both (out_of slots codes k) (flat_map (out_of slots codes) ks) (slab_rises k (λ i. not (get_or b.free i false)) 0 (regions_at b.class) (let size = (size_bounds b.class (omega arith)).0 in omega arith))
+      (regions_rise ks s.1 (record {
+        slab = λ l m. kept.slab l (contains_later k ks l m);
+        apart = λ l l' m m'. kept.apart l l' (contains_later k ks l m) (contains_later k ks l' m');
+        numbers = λ l l' m m'. kept.numbers l l' (contains_later k ks l m) (contains_later k ks l' m');
+      }))
+      (λ x y m n.
+      let p = in_slab k x m in
+      let q = out_from ks y n in
+      let less : key_cmp k q.0 ≡ Less = every_member _ ks s.0 q.0 q.2.there in
+      let at : place b.class k.major p.0 ≡ x.addr = ap (λ (r : Region). r.addr) p.1.is in
+      let at' : place (bits_at slots q.0.minor).class q.0.major q.1 ≡ y.addr = ap (λ (r : Region). r.addr) q.2.is in
+      let inside = place_inside b.class k.major p.0 small p.1.low in
+      let size = (size_bounds b.class (omega arith)).0 in
+      elim (kept.apart k q.0 (head k ks) (contains_later k ks q.0 q.2.there) (less_major k q.0 less)) [
+        | inl e ↦ absurd (less_ne k q.0 less e)
+        | inr far ↦ omega arith
+      ])
+
+-- no slabs have no regions
+pub no_regions : (slots : List Bits) (codes : List ℕ) (keys : List Key) → keys ≡ [] → regions_of slots codes keys ≡ []
+unfolding regions_of
+no_regions slots codes keys e = ap (flat_map (out_of slots codes)) e
+
+-- slots and codes that say the same have the same regions
+pub regions_agree : (old new : List Bits) (codes news : List ℕ) (keys : List Key) → ((k : Key) → Contains keys k → bits_at new k.minor ≡ bits_at old k.minor)
+    → ((k : Key) (n : ℕ) → Contains keys k → n < regions_at (bits_at old k.minor).class → holder_at news (512 * k.minor + n) ≡ holder_at codes (512 * k.minor + n)) → regions_of new news keys ≡ regions_of old codes keys
+unfolding regions_of
+regions_agree old new codes news [] bits holders = refl
+regions_agree old new codes news (k ∷ ks) bits holders =
+    let all = regions_agree old new codes news ks (λ l m. bits l (contains_later k ks l m)) (λ l n m. holders l n (contains_later k ks l m)) in
+    let b = bits_at old k.minor in
+    let same = bits k (head k ks) in
+    let first : out_of new news k ≡ out_of old news k = (λ x. map (λ i. record { addr = place (same x).class k.major i; class = (same x).class; holder = holder_at news (512 * k.minor + i) }) (zeros (regions_at (same x).class) (same x).free)) in
+    let second : out_of old news k ≡ out_of old codes k = map_same (region_at old news k) (region_at old codes k) (zeros (regions_at b.class) b.free) (λ n m.
+    let low = (range_from 0 (regions_at b.class) n (filter_from (λ i. not (get_or b.free i false)) (range_with_len 0 (regions_at b.class)) n m).0).1 in
+    let held = holders k n (head k ks) (omega arith) in
+    λ x. record { addr = place b.class k.major n; class = b.class; holder = held x }) in
+    λ x. (first ∙ second) x ++ all x
+
+-- nothing is found where no region passes the test
+pub none_passes : (rs : List Region) (a : ℕ) → false ≡ list_any (starts_at a) rs → None ≡ find (starts_at a) rs
+none_passes rs a e = sym (not_found rs a (λ r m at. let yes = any_has (starts_at a) rs r m (eq-eqb r.addr a at) in let no : false ≡ true = e ∙ yes in cc))

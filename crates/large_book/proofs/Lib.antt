@@ -1,0 +1,2 @@
+pub mod ByAddress
+pub mod Listing

@@ -1,0 +1,8 @@
+use Rattle.std.proofs.Common.{ap, take, drop, ◌∙◌}
+use Rattle.space_model.specs.Counts.{regions_by_class}
+use Rattle.region_book.specs.Books.{regions_in}
+use Rattle.region_book.proofs.ByClass.{large_last}
+use Rattle.region_book.proofs.RegionBook.large_numbers.Goals as goal
+
+pub returns : goal.returns
+returns c = c.copy_from_slice.ensures.after ∙ ap (λ ns. take 85 (drop 36 ns)) c.self.invariant.totals.classes ∙ large_last (regions_in c.self.inside) ∙ ap (λ s. regions_by_class 36 85 s.regions) c.self.view_is

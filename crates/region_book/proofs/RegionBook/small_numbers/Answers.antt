@@ -1,0 +1,8 @@
+use Rattle.std.proofs.Common.{ap, take, ◌∙◌}
+use Rattle.space_model.specs.Counts.{regions_by_class}
+use Rattle.region_book.specs.Books.{regions_in}
+use Rattle.region_book.proofs.ByClass.{small_first}
+use Rattle.region_book.proofs.RegionBook.small_numbers.Goals as goal
+
+pub returns : goal.returns
+returns c = c.copy_from_slice.ensures.after ∙ ap (take 36) c.self.invariant.totals.classes ∙ small_first (regions_in c.self.inside) ∙ ap (λ s. regions_by_class 0 36 s.regions) c.self.view_is

@@ -1,0 +1,4 @@
+pub mod Books
+pub mod RegionLists
+pub mod Slabs
+pub mod Totals
