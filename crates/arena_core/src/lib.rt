@@ -28,8 +28,6 @@ mod resizes;
 mod rooms;
 mod settings;
 mod steps;
-#[cfg(test)]
-mod tests;
 
 use decay_curve::Decay;
 use extents::Extents;

@@ -42,6 +42,3 @@ pub const CHUNK_PAGES: u64 = 512;
 
 /// How many clients there may be. They are numbered from 0.
 pub const CLIENTS: u32 = 32;
-
-#[cfg(test)]
-mod tests;

@@ -1,4 +1,5 @@
-//! Scripts of entries: an entry, and the reply to it, or `bars` where it may not stand; or what is to be seen then.
+//! Scripts of entries, worked out apart from this program: an entry, and the reply to it, or `bars` where it may not stand; or
+//! what is to be seen then. A script that begins with `absent` is of an index without an arena, and each other one of arena 0.
 
 /// One slab of 7 pages serves two regions of 112 bytes.
 pub const TWO_IN_A_SLAB: &str = "
@@ -133,7 +134,7 @@ extents = 519+505 Retained true, 512+7 Active true
 
 /// An arena of its own is emptied, ended and made anew.
 pub const EMPTIED_AND_ENDED: &str = "
-absent = none
+absent
 0 set live 0 10000 0 0 = Noted
 0 set bind = Noted
 0 look 5 1 = Grow { series: 1 }
@@ -380,7 +381,7 @@ regions = none
 
 /// What may stand where there is no arena, and an arena that comes to be.
 pub const NO_ARENA: &str = "
-absent = none
+absent
 0 look 0 1 = bars
 0 look 1 1 = NoArena
 0 fill 7 1 = NoArena
@@ -401,7 +402,21 @@ absent = none
 0 set live 1 0 0 0 = Nothing
 ";
 
-/// All of them.
+/// A chunk that was granted is in flight, uncommitted.
+pub const GRANTED: &str = "
+0 growdone alloc - 512 512 0 placed 512 0 0 - = Grown { span: Span { first: 512, pages: 512 }, committed: false }
+counts = allocated 0 active 0 dirty 0 muzzy 0 retained 0 flight 2097152 mapped 2097152
+extents = 512+512 Flight(0, Retained) false
+";
+
+/// An arena comes to be.
+pub const MADE: &str = "
+absent
+0 set live 7 -1 5000 9 = Noted
+extents = none
+";
+
+/// All but the last two.
 pub const ALL: [&str; 18] = [
     TWO_IN_A_SLAB,
     BETWEEN_TURNS,

@@ -6,7 +6,7 @@ ghost use Rattle.space_model.specs.Step.{stands};
 ghost use Rattle.space_model.specs.Sound.{Sound};
 ghost use Rattle.arena_core.specs.Arenas.{opens, room_after, room_of};
 
-use crate::Arena;
+use arena_core::Arena;
 use space_model::{Entry, Op, Reply, Space, Span, may_stand, plain_counts, plain_step};
 use std::alloc::Global;
 use std::marker::Model;
@@ -66,8 +66,17 @@ impl Trial {
     }
 
     /// An index without an arena.
-    pub(crate) fn of_absent(rt: &impl Abort, alloc: Global) -> Self {
+    fn of_absent(rt: &impl Abort, alloc: Global) -> Self {
         Trial::beside(rt, alloc, Space::absent(alloc), Space::absent(alloc))
+    }
+
+    /// What a script begins with.
+    pub(crate) fn of_script(rt: &impl Abort, alloc: Global, script: &str) -> Self {
+        if script.starts_with("\nabsent\n") {
+            Trial::of_absent(rt, alloc)
+        } else {
+            Trial::of_first(rt, alloc)
+        }
     }
 
     /// The arena.
@@ -76,11 +85,14 @@ impl Trial {
     }
 
     /// The space.
-    pub(crate) fn space(&self) -> &Space {
+    pub(crate) fn space(&self) -> &Space
+        ensures { Sound result.now }
+    {
         &self.space
     }
 
-    /// The reply to an operation of a client, if it may stand. A look that nothing can serve makes room for it.
+    /// The reply to an operation of a client, if it may stand. A look that nothing can serve makes room for it: a client that may
+    /// not even look may do nothing.
     pub(crate) fn attempt(&mut self, rt: &impl Abort, client: u32, op: Op) -> Option<Reply> {
         let look = Entry {
             client,
@@ -89,7 +101,9 @@ impl Trial {
                 align: 1,
             },
         };
-        assert!(rt; may_stand(&self.space, &look));
+        if !may_stand(&self.space, &look) {
+            return None;
+        }
         carry_out(rt, &mut self.arena, &mut self.space, &look);
         let entry = Entry { client, op };
         if !may_stand(&self.space, &entry) {
@@ -102,12 +116,6 @@ impl Trial {
     /// The counts are those of a scan.
     pub(crate) fn counts_agree(&self, rt: &impl Abort) {
         assert_eq!(rt; self.arena.counts(), plain_counts(&self.space));
-    }
-
-    /// An operation of a client has a reply, and the counts are those of a scan.
-    pub(crate) fn tell(&mut self, rt: &impl Abort, client: u32, op: Op, reply: Reply) {
-        assert_eq!(rt; self.attempt(rt, client, op), Some(reply));
-        self.counts_agree(rt);
     }
 
     /// The span of the first extent that the client has in flight, or the first chunk.

@@ -1,7 +1,5 @@
 //! Operations in short, and the spans and classes that they name.
 
-ghost use Rattle.std.specs.Prelude.{◌<◌};
-
 use size_classes::Addrs;
 use space_model::{Addresses, Answer, Ask, Heard, Op, Span};
 use std::alloc::Global;
@@ -20,16 +18,6 @@ pub const CHUNK: Span = Span {
     first: 512,
     pages: 512,
 };
-
-/// So many pages of the first chunk, from one of its pages on.
-pub(crate) fn pages_at(page: u64, pages: u64) -> Span
-    requires { page < 512 }
-{
-    Span {
-        first: 512 + page,
-        pages,
-    }
-}
 
 /// The range of 512 pages that came from a page on.
 pub(crate) fn grown(first: u64, committed: bool) -> Op {

@@ -1,15 +1,9 @@
-//! Scripts of entries, whose replies, extents and counts were worked out apart from this program.
+//! Entries, read from their words.
 
-ghost use Rattle.space_model.specs.Sound.{Sound};
-
-mod scripts;
-
-use super::*;
 use size_classes::Addrs;
+use space_model::{Addresses, Answer, Ask, Entry, Heard, Op, Rest, Setting, Span};
 use std::alloc::Global;
-use std::process::Abort;
 use std::str::SplitWhitespace;
-use std::test::Fail;
 
 /// The next word as a number.
 fn number(words: &mut SplitWhitespace<'_>) -> Option<u64> {
@@ -252,153 +246,9 @@ fn op(alloc: Global, words: &mut SplitWhitespace<'_>) -> Option<Op> {
 }
 
 /// The words of an entry.
-fn entry(alloc: Global, text: &str) -> Option<Entry> {
+pub(crate) fn entry(alloc: Global, text: &str) -> Option<Entry> {
     let mut words = text.split_whitespace();
     let client = half(&mut words)?;
     let op = op(alloc, &mut words)?;
     Some(Entry { client, op })
-}
-
-/// Adds a text behind others, with a comma between.
-fn add(list: &mut String, text: &str) -> Result<(), Fail> {
-    if !list.is_empty() {
-        list.push_str(", ")?;
-    }
-    list.push_str(text)?;
-    Ok(())
-}
-
-/// The text of a list, or `none`.
-fn or_none(alloc: Global, list: String) -> Result<String, Fail> {
-    if list.is_empty() {
-        return Ok(String::from_str(alloc, "none")?);
-    }
-    Ok(list)
-}
-
-/// The extents in their order.
-fn extents(alloc: Global, parts: &[Part]) -> Result<String, Fail> {
-    let mut list = String::new(alloc);
-    for part in parts {
-        let Span { first, pages } = part.span;
-        let text = format!(in alloc; "{first}+{pages} {:?} {}", part.state, part.committed)?;
-        add(&mut list, text.as_str())?;
-    }
-    or_none(alloc, list)
-}
-
-/// The regions in their order.
-fn regions(alloc: Global, regions: &[Region]) -> Result<String, Fail> {
-    let mut list = String::new(alloc);
-    for region in regions {
-        let text = format!(in alloc; "{} {} {:?}", region.addr, region.class, region.holder)?;
-        add(&mut list, text.as_str())?;
-    }
-    or_none(alloc, list)
-}
-
-/// The addresses of a reply.
-fn places(alloc: Global, addrs: &[u64]) -> Result<String, Fail> {
-    let mut list = String::new(alloc);
-    for addr in addrs {
-        let text = format!(in alloc; "{addr}")?;
-        add(&mut list, text.as_str())?;
-    }
-    Ok(format!(in alloc; "Regions({list})")?)
-}
-
-/// The bytes by use.
-fn counts(alloc: Global, space: &Space) -> Result<String, Fail>
-    requires { Sound space.now }
-{
-    let n = plain_counts(space);
-    let used = format!(in alloc;
-        "allocated {} active {} dirty {} muzzy {}",
-        n.allocated, n.active, n.dirty, n.muzzy
-    )?;
-    Ok(format!(in alloc;
-        "{used} retained {} flight {} mapped {}",
-        n.retained, n.flight, n.mapped
-    )?)
-}
-
-/// The numbers that aren't 0, by class.
-fn by_class(alloc: Global, numbers: &[u64]) -> Result<String, Fail> {
-    let mut list = String::new(alloc);
-    for (class, number) in numbers.iter().enumerate() {
-        if *number > 0 {
-            let text = format!(in alloc; " {class}:{number}")?;
-            list.push_str(text.as_str())?;
-        }
-    }
-    if list.is_empty() {
-        list.push_str(" none")?;
-    }
-    Ok(list)
-}
-
-/// The regions and slabs by class.
-fn classes(alloc: Global, space: &Space) -> Result<String, Fail>
-    requires { Sound space.now }
-{
-    let n = plain_counts(space);
-    let regs = by_class(alloc, n.regs.as_slice())?;
-    let slabs = by_class(alloc, n.slabs.as_slice())?;
-    let lextents = by_class(alloc, n.lextents.as_slice())?;
-    let sizes = format!(in alloc; "small {} large {}", n.small, n.large)?;
-    Ok(format!(in alloc; "{sizes} regs{regs} slabs{slabs} lextents{lextents}")?)
-}
-
-/// The reply to an entry, or `bars` where it may not stand.
-fn replied(rt: &impl Abort, alloc: Global, space: &mut Space, text: &str) -> Result<String, Fail>
-    requires { Sound space.old }
-    ensures { Sound space.new }
-{
-    let entry = entry(alloc, text).expect(rt, "an entry");
-    if !may_stand(space, &entry) {
-        return Ok(String::from_str(alloc, "bars")?);
-    }
-    match plain_step(space, &entry)? {
-        Reply::Regions(addrs) => places(alloc, addrs.as_slice()),
-        reply => Ok(format!(in alloc; "{reply:?}")?),
-    }
-}
-
-/// What a line of a script tells.
-fn told(rt: &impl Abort, alloc: Global, space: &mut Space, text: &str) -> Result<String, Fail>
-    requires { Sound space.old }
-    ensures { Sound space.new }
-{
-    match text {
-        "absent" => {
-            *space = Space::absent(alloc);
-            extents(alloc, space.parts.as_slice())
-        }
-        "counts" => counts(alloc, space),
-        "classes" => classes(alloc, space),
-        "extents" => extents(alloc, space.parts.as_slice()),
-        "regions" => regions(alloc, space.regions.as_slice()),
-        _ => replied(rt, alloc, space, text),
-    }
-}
-
-/// Carries out a script from the start of an arena on.
-fn carry_out(rt: &impl Abort, alloc: Global, script: &str) -> Result<(), Fail> {
-    let mut space = Space::first(alloc);
-    for line in script.lines() {
-        let Some((text, wanted)) = line.split_once(" = ") else {
-            continue;
-        };
-        let told = told(rt, alloc, &mut space, text)?;
-        assert!(rt; told.as_str() == wanted, "{line}: {told}");
-    }
-    Ok(())
-}
-
-#[test]
-fn scripts_are_followed(rt: HostRuntime) -> Result<(), Fail> {
-    for script in scripts::ALL {
-        carry_out(&rt, rt.alloc(), script)?;
-    }
-    Ok(())
 }

@@ -1,0 +1,97 @@
+//! The texts of what a space holds.
+
+ghost use Rattle.space_model.specs.Sound.{Sound};
+
+use space_model::{Part, Region, Space, Span, plain_counts};
+use std::alloc::Global;
+use std::test::Fail;
+
+/// Adds a text behind others, with a comma between.
+fn add(list: &mut String, text: &str) -> Result<(), Fail> {
+    if !list.is_empty() {
+        list.push_str(", ")?;
+    }
+    list.push_str(text)?;
+    Ok(())
+}
+
+/// The text of a list, or `none`.
+fn or_none(alloc: Global, list: String) -> Result<String, Fail> {
+    if list.is_empty() {
+        return Ok(String::from_str(alloc, "none")?);
+    }
+    Ok(list)
+}
+
+/// The extents in their order.
+pub(crate) fn extents(alloc: Global, parts: &[Part]) -> Result<String, Fail> {
+    let mut list = String::new(alloc);
+    for part in parts {
+        let Span { first, pages } = part.span;
+        let text = format!(in alloc; "{first}+{pages} {:?} {}", part.state, part.committed)?;
+        add(&mut list, text.as_str())?;
+    }
+    or_none(alloc, list)
+}
+
+/// The regions in their order.
+pub(crate) fn regions(alloc: Global, regions: &[Region]) -> Result<String, Fail> {
+    let mut list = String::new(alloc);
+    for region in regions {
+        let text = format!(in alloc; "{} {} {:?}", region.addr, region.class, region.holder)?;
+        add(&mut list, text.as_str())?;
+    }
+    or_none(alloc, list)
+}
+
+/// The addresses of a reply.
+pub(crate) fn places(alloc: Global, addrs: &[u64]) -> Result<String, Fail> {
+    let mut list = String::new(alloc);
+    for addr in addrs {
+        let text = format!(in alloc; "{addr}")?;
+        add(&mut list, text.as_str())?;
+    }
+    Ok(format!(in alloc; "Regions({list})")?)
+}
+
+/// The bytes by use.
+pub(crate) fn counts(alloc: Global, space: &Space) -> Result<String, Fail>
+    requires { Sound space.now }
+{
+    let n = plain_counts(space);
+    let used = format!(in alloc;
+        "allocated {} active {} dirty {} muzzy {}",
+        n.allocated, n.active, n.dirty, n.muzzy
+    )?;
+    Ok(format!(in alloc;
+        "{used} retained {} flight {} mapped {}",
+        n.retained, n.flight, n.mapped
+    )?)
+}
+
+/// The numbers that aren't 0, by class.
+fn by_class(alloc: Global, numbers: &[u64]) -> Result<String, Fail> {
+    let mut list = String::new(alloc);
+    for (class, number) in numbers.iter().enumerate() {
+        if *number > 0 {
+            let text = format!(in alloc; " {class}:{number}")?;
+            list.push_str(text.as_str())?;
+        }
+    }
+    if list.is_empty() {
+        list.push_str(" none")?;
+    }
+    Ok(list)
+}
+
+/// The regions and slabs by class.
+pub(crate) fn classes(alloc: Global, space: &Space) -> Result<String, Fail>
+    requires { Sound space.now }
+{
+    let n = plain_counts(space);
+    let regs = by_class(alloc, n.regs.as_slice())?;
+    let slabs = by_class(alloc, n.slabs.as_slice())?;
+    let lextents = by_class(alloc, n.lextents.as_slice())?;
+    let sizes = format!(in alloc; "small {} large {}", n.small, n.large)?;
+    Ok(format!(in alloc; "{sizes} regs{regs} slabs{slabs} lextents{lextents}")?)
+}
