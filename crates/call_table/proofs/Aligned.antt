@@ -43,11 +43,7 @@ power_most k align few power = let within : 2 ^ k ≤ 2 ^ 30 = pow-le-pow_right 
 
 -- what fails it is none
 pub failing_is_none : (align : ℕ) → ¬ IsAlignment align → is_alignment align ≡ false
-failing_is_none align none =
-    elim (is_alignment align) as (λ v. is_alignment align ≡ v → v ≡ false) [
-      | true ↦ λ h. let power = power_of align h in absurd (none ((power.0, power.2), power_most power.0 align power.1 power.2))
-      | false ↦ λ h. refl
-    ] refl
+failing_is_none align none = grind (arith, power_of, power_most)
 
 page_powers : passes_below (λ k. is_power_of_two (page_align (2 ^ k))) 31 ≡ true
 unfolding ones
