@@ -1,13 +1,13 @@
 -- What each step of a call keeps is so after all of them: so each step leaves fewer asks, but for those that its reply brings,
 -- and a malloc fewer turns too.
-use Rattle.std.proofs.Common.{◌≡◌, ℕ, ◌+◌, ◌-◌, ◌≤◌, Bool, true, false, cond, List, [], ◌∷◌, ◌++◌, Option, None, Some, sym, subst, arith, append_assoc, append-nil, sum_by, count_by}
+use Rattle.std.proofs.Common.{◌≡◌, ℕ, ◌+◌, ◌-◌, ◌≤◌, Bool, true, false, cond, List, [], ◌∷◌, ◌++◌, Option, None, Some, sym, subst, arith, append_assoc, append-nil, sum_by, count_by, refl, ap, ◌∙◌}
 use Rattle.std.proofs.lemmas.Bool.Decides.{nat_tests}
 use Rattle.std.proofs.lemmas.List.Sums.{sum_by_push}
-use Rattle.call_table.specs.Words.{Request, Item, Replied, Finished, Ok, NoSuchArena, TurnPoint, Filling, Looking, Landing, Giving, Finding, Offering, Point, Turns, Asks, Tells, Next, Go, Over, More, Gone, Ends, Nowhere, Stage, Nothing, BatchFacts, DeskFacts, batch_of, going}
+use Rattle.call_table.specs.Words.{Request, Item, Answered, Replied, Finished, Ok, NoSuchArena, TurnPoint, Filling, Looking, Landing, Giving, Finding, Offering, Point, Turns, Asks, Tells, Next, Go, Over, More, Gone, Ends, Nowhere, Stage, Nothing, BatchFacts, DeskFacts, batch_of, going}
 use Rattle.call_table.specs.Words.{AskPoint, Skipping, Trimming, Growing, Paring, Needing, Granting, Committing, Merging, Easing, Returning, Decommitting, Forcing}
-use Rattle.call_table.specs.Runs.{Moment, after, batch_goes, run, settle, step_next}
+use Rattle.call_table.specs.Runs.{IsRun, begin, Moment, after, batch_goes, run, settle, step_next}
 use Rattle.call_table.specs.Desks.{desk_fed, flushes}
-use Rattle.call_table.specs.Laws.{unheard}
+use Rattle.call_table.specs.Laws.{RunsEndOnce, unheard}
 use Rattle.call_table.specs.Bounds.{is_told, is_turn, brings}
 
 -- a choice of where to begin
@@ -42,6 +42,32 @@ run_keeps C F split P settles steps (item ∷ items) past at all is =
     let stepped = steps past at.stage.next item is one in
     subst (λ xs. P xs (run (after at item) items).stage.next) (append_assoc past (item ∷ []) items)
     (run_keeps C F split P settles steps items (past ++ item ∷ []) (after at item) others (settle_keeps (P (past ++ item ∷ [])) (settles (past ++ item ∷ [])) at.request (desk_fed at.desk at.stage.arena at.stage.next item) at.stage.arena (step_next at.stage.next item) stepped))
+
+-- ---- the end of a run
+
+run_append : (items more : List Item) (at : Moment) → run at (items ++ more) ≡ run (run at items) more
+run_append [] more at = refl
+run_append (item ∷ items) more at = run_append items more (after at item)
+
+-- what leads nowhere stays there, and so does what is fed to a call that has ended
+nowhere_run : (items : List Item) (at : Moment) → at.stage.next ≡ Nowhere → (run at items).stage.next ≡ Nowhere
+nowhere_run [] at is = is
+nowhere_run (item ∷ items) at is =
+    nowhere_run items (after at item) (ap (λ next. (settle at.request (desk_fed at.desk at.stage.arena at.stage.next item) at.stage.arena (step_next next item)).next) is)
+
+ended_run : (item : Item) (items : List Item) (at : Moment) (answer : Answered) → at.stage.next ≡ Ends answer → (run at (item ∷ items)).stage.next ≡ Nowhere
+ended_run item items at answer is =
+    nowhere_run items (after at item) (ap (λ next. (settle at.request (desk_fed at.desk at.stage.arena at.stage.next item) at.stage.arena (step_next next item)).next) is)
+
+pub runs-end_once : RunsEndOnce
+runs-end_once had has last request items [] answer other one two =
+    let same : items ++ [] ≡ items = append-nil items in
+    let again : IsRun had request items other last = subst (λ xs. IsRun had request xs other last) same two in
+    let ends : Ends other ≡ Ends answer = sym again.ends ∙ one.ends in
+    (refl, cc, sym again.leaves ∙ one.leaves)
+runs-end_once had has last request items (item ∷ more) answer other one two =
+    let no : Nowhere ≡ Ends other = sym (ended_run item more (run (begin request had) items) answer one.ends) ∙ sym (ap (λ (m : Moment). m.stage.next) (run_append items (item ∷ more) (begin request had))) ∙ two.ends in
+    absurd (cc)
 
 -- ---- asks and turns
 
