@@ -1,5 +1,5 @@
 -- The alignments that may be asked for, and the classes at them.
-use Rattle.std.proofs.Common.{◌≡◌, ℕ, ◌+◌, ◌^◌, ◌<◌, ◌≤◌, ◌==◌, inl, inr, max, true, false, cond, ◌&&◌, Option, None, Some, IfNone, IfSome, get_or, sym, zero-add, lt-ltb, nat_lt, refl, ◌∙◌, ap, arith, leb, ltb}
+use Rattle.std.proofs.Common.{◌≡◌, ℕ, ◌+◌, ◌^◌, ◌<◌, ◌≤◌, ◌==◌, inl, inr, max, true, false, cond, ◌&&◌, get_or, sym, zero-add, refl, ◌∙◌, ap, arith, leb, ltb}
 use Rattle.std.proofs.Math.Nat.{pow-le-pow_right}
 use Rattle.std.specs.List.{range_with_len}
 use Rattle.std.specs.Int.{is_power_of_two, next_multiple_of}
@@ -10,8 +10,8 @@ use Rattle.std.proofs.lemmas.List.FromFn.{get_or-range_with_len, length-range_wi
 use lib.Count.{ones}
 use Rattle.size_classes.proofs.Least.{class_for_exists}
 use Rattle.size_classes.proofs.Table.{passes_below, at}
-use Rattle.call_table.specs.Words.{Memalign, TooLarge, BadAlign, Ends, Held, DeskFacts, IsAlignment, aligned_for, class_for, hit, hitting}
-use Rattle.call_table.specs.Runs.{begin_desk, begin_get, begin_memalign, desk_got, is_alignment, page_align, small_hit, stage}
+use Rattle.call_table.specs.Words.{IsAlignment, aligned_for, class_for}
+use Rattle.call_table.specs.Runs.{is_alignment, page_align}
 
 -- an alignment passes the test
 pub alignment_passes : (align : ℕ) → IsAlignment align → is_alignment align ≡ true
@@ -43,11 +43,7 @@ power_most k align few power = let within : 2 ^ k ≤ 2 ^ 30 = pow-le-pow_right 
 
 -- what fails it is none
 pub failing_is_none : (align : ℕ) → ¬ IsAlignment align → is_alignment align ≡ false
-failing_is_none align none =
-    elim (is_alignment align) as (λ v. is_alignment align ≡ v → v ≡ false) [
-      | true ↦ λ h. let power = power_of align h in absurd (none ((power.0, power.2), power_most power.0 align power.1 power.2))
-      | false ↦ λ h. refl
-    ] refl
+failing_is_none align none = grind (arith, power_of, power_most)
 
 page_powers : passes_below (λ k. is_power_of_two (page_align (2 ^ k))) 31 ≡ true
 unfolding ones
@@ -73,41 +69,5 @@ aligned_below size align most = chosen_below align (class_for (next_multiple_of 
     chosen_below : (align r c : ℕ) → c < 121 → cond (leb align 4096 && ltb r 36) r (max 36 c) < 121
     chosen_below align r c below = grind (arith, nat_tests)
 
--- ---- where an aligned malloc begins
-
--- with a good alignment and size
-pub memalign_good : (align size : ℕ) (desk : DeskFacts) → IsAlignment align → size ≤ 2 ^ 35 →
-    (begin_memalign align size desk ≡ begin_get (aligned_for size align) (page_align align) (small_hit (aligned_for size align) desk) desk)
-    × (begin_desk (Memalign align size) desk ≡ desk_got (aligned_for size align) (small_hit (aligned_for size align) desk) desk)
-memalign_good align size desk good few = rw (alignment_passes align good, not_above size few) (refl, refl)
-  where
-    not_above : (size : ℕ) → size ≤ 2 ^ 35 → nat_lt (2 ^ 35) size ≡ false
-    not_above size few = grind (arith, nat_tests)
-
--- with a good alignment, and a size that is too large
-pub memalign_large : (align size : ℕ) (desk : DeskFacts) → IsAlignment align → 2 ^ 35 < size →
-    (begin_memalign align size desk ≡ stage desk.arena (Ends TooLarge)) × (begin_desk (Memalign align size) desk ≡ desk)
-memalign_large align size desk good many = rw (alignment_passes align good, lt-ltb _ _ many) (refl, refl)
-
--- with another alignment
-pub memalign_bad : (align size : ℕ) (desk : DeskFacts) → ¬ IsAlignment align →
-    (begin_memalign align size desk ≡ stage desk.arena (Ends BadAlign)) × (begin_desk (Memalign align size) desk ≡ desk)
-memalign_bad align size desk bad = rw (failing_is_none align bad) (refl, refl)
-
--- what is hit is asked of the client's cache alone, and what is got of its desk
-pub get_same : (class align : ℕ) (hit : Option Held) (desk other : DeskFacts) → IfNone hit (desk ≡ other) → begin_get class align hit desk ≡ begin_get class align hit other
-get_same class align None desk other same = ap (begin_get class align None) same
-get_same class align (Some region) desk other same = refl
-
--- a small class is asked of the cache
-pub small_hit_is : (class : ℕ) (desk : DeskFacts) → class < 36 → small_hit class desk ≡ hit class desk
-small_hit_is class desk small = rw (lt-ltb _ _ small) refl
-
--- and a large one isn't
-pub large_missed : (class : ℕ) (desk : DeskFacts) → 36 ≤ class → small_hit class desk ≡ None
-large_missed class desk large = let no_small : nat_lt class 36 ≡ false = grind (arith, nat_tests) in rw no_small refl
-
--- what is left of the cache once it was asked
-pub got_is : (class : ℕ) (hit : Option Held) (desk after : DeskFacts) → IfSome hit (λ _. after ≡ hitting class desk) → IfNone hit (after ≡ desk) → after ≡ desk_got class hit desk
-got_is class None desk after some none = none
-got_is class (Some region) desk after some none = some
+-- what tells where an aligned malloc begins
+pub ruleset alignments = (alignment_passes, failing_is_none, nat_tests)

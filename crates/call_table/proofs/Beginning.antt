@@ -1,5 +1,5 @@
 -- Each request in range begins with what its first point has to know.
-use Rattle.std.proofs.Common.{ℤ, negsuc, ◌≡◌, ℕ, ◌≤◌, ◌<◌, ◌==◌, ◌&&◌, ◌^◌, inl, inr, Bool, true, false, not, min, List, [], ◌∷◌, length, suc, zero, sym, ap, ◌∙◌, Option, None, Some, refl, arith, nat_le, nat_lt, ◌+◌, lt-ltb, le-leb, Contains, int_eq}
+use Rattle.std.proofs.Common.{ℤ, ◌≡◌, ℕ, ◌≤◌, ◌<◌, ◌==◌, ◌&&◌, ◌^◌, inl, inr, Bool, true, false, not, min, List, [], ◌∷◌, length, suc, zero, sym, ap, ◌∙◌, Option, None, Some, refl, arith, nat_le, nat_lt, ◌+◌, Contains}
 use Rattle.std.specs.Int.{is_power_of_two}
 use Rattle.std.proofs.lemmas.Bool.Decides.{nat_tests}
 use Rattle.std.proofs.lemmas.Bool.{cond_both, not-false, ltb-true}
@@ -11,8 +11,8 @@ use Rattle.space_model.specs.Settings.{is_decay_time}
 use Rattle.space_model.specs.Step.{rises_from}
 use Rattle.thread_cache.specs.Desks.{has_slot, older_count, rising_from}
 use Rattle.thread_cache.proofs.Going.{batch_is, cached_is_flat, taken_is_in}
-use Rattle.call_table.specs.Words.{Malloc, Memalign, Free, FreeForeign, Publish, Take, Flush, Cache, PurgeAll, Decay, Time, Reset, Destroy, Create, Bind, HookBox, GrowLimit, TurnPoint, Advancing, Changing, Resetting, Destroying, Owning, Stage}
-use Rattle.call_table.specs.Words.{Rest, ToDirty, ToMuzzy, ToRetained, Mine, Held, DeskFacts, aligned_for, class_for, slots_at, most_regions, cached_in, BatchFacts, batch_of, cached_of, freeing, going, caching, going_with, held_at, hit, is_cacheable}
+use Rattle.call_table.specs.Words.{Malloc, Memalign, Free, Publish, Flush, Cache, Time, Reset, Destroy, Bind, TurnPoint, Changing, Resetting, Destroying, Stage}
+use Rattle.call_table.specs.Words.{Rest, ToDirty, ToMuzzy, ToRetained, Mine, Held, DeskFacts, aligned_for, class_for, most_regions, cached_in, BatchFacts, batch_of, cached_of, freeing, going, caching, going_with, held_at, hit, is_cacheable}
 use Rattle.call_table.specs.Runs.{batch_goes, begin_bind, begin_flush, begin_free, begin_get, begin_malloc, begin_memalign, begin_publish, first_turn, first_turn_but_0, get, is_alignment, page_align, share, small_hit, wish_for, time_of, after_time}
 use Rattle.call_table.specs.Desks.{flushes}
 use Rattle.call_table.specs.Knows.{IsWish, Idle, Gets, KnowsTurn, IsChange, is_held}
@@ -29,12 +29,9 @@ one_fits : (class : ℕ) → 1 ≤ most_regions class
 one_fits class =
     cond_both (nat_lt class 36) _ _ (λ n. 1 ≤ n) (λ h. (slab_filled class (ltb-true _ _ h)).1) (λ _. omega arith)
 
-some_slots : (class : ℕ) → 20 ≤ slots_at class
-some_slots class = cond_both (nat_lt class 36) _ _ (λ n. 20 ≤ n) (λ _. grind arith) (λ _. omega arith)
-
 -- at least one region is got
 some_shared : (class : ℕ) (desk : DeskFacts) → 0 < share class desk
-some_shared class desk = cond_both (desk.caches && nat_lt class 36) _ _ (λ n. 0 < n) (λ _. omega (arith, some_slots class)) (λ _. omega arith)
+some_shared class desk = grind (arith, nat_tests)
 
 wish_is : (class align count : ℕ) → class < 121 → is_power_of_two align ≡ true → 0 < count → IsWish (wish_for class align (min count (most_regions class)))
 wish_is class align count below power some = record {
@@ -73,7 +70,7 @@ memalign_knows m align size desk ready =
     (λ h. got_knows m (aligned_for size align) (page_align align) (small_hit (aligned_for size align) desk) desk (aligned_below size align (grind (arith, nat_tests))) (page_power align (not-false _ good)))) ready
 
 change_is : (rest : Rest) (ms : ℤ) → is_purgeable rest ≡ true → IsChange (after_time rest ms)
-change_is rest ms purgeable = cond_both (int_eq ms (negsuc 0)) _ _ IsChange (λ _. tt) (λ _. purgeable)
+change_is rest ms purgeable = grind arith
 
 time_knows : (m : Mine) (index : ℕ) (rest : Rest) (ms : ℤ) (now : ℕ) → Idle m → is_decay_time ms ≡ true → is_purgeable rest ≡ true → KnowsTurn m (Changing (time_of rest ms now) (after_time rest ms))
 time_knows m index ToDirty ms now idle range purgeable = (idle, range, change_is ToDirty ms purgeable, refl)
@@ -122,7 +119,7 @@ batches-know m request desk arena ready =
 
 -- a region that is cached leaves the hand as it is
 cached_hand : (region own : Held) (desk : DeskFacts) → (caching region desk).hand ≡ Some own → desk.hand ≡ Some own
-cached_hand region own desk is = cond_both (nat_lt region.class 41) _ _ (λ (after : DeskFacts). after.hand ≡ Some own → desk.hand ≡ Some own) (λ _ e. e) (λ _ e. e) is
+cached_hand region own desk is = grind arith
 
 free_knows : (m : Mine) (addr : ℕ) (held : Option Held) (desk : DeskFacts) → held_at addr desk ≡ held → Ready m desk (begin_free addr held desk) → KnowsNext m (begin_free addr held desk).next
 free_knows m addr None desk e ready = ready.idle
@@ -151,18 +148,11 @@ pub begins-know : BeginsKnow
 begins-know m (Malloc size) desk range ready = malloc_knows m size desk ready
 begins-know m (Memalign align size) desk range ready = memalign_knows m align size desk ready
 begins-know m (Free addr) desk range ready = free_knows m addr (held_at addr desk) desk refl ready
-begins-know m (FreeForeign addr index) desk range ready = first_knows m index (Owning addr true false) ready.idle ready.idle
 begins-know m (Publish addr) desk range ready = publish_knows m addr (held_at addr desk) desk refl ready
-begins-know m (Take addr index) desk range ready = first_knows m index (Owning addr false false) ready.idle ready.idle
 begins-know m Flush desk range ready = flush_knows m desk ready
-begins-know m (Cache true) desk range ready = ready.idle
 begins-know m (Cache false) desk range ready = flush_knows m desk ready
-begins-know m (PurgeAll index) desk range ready = first_knows m index _ ready.idle (ready.idle, refl, tt)
-begins-know m (Decay index now) desk range ready = first_knows m index (Advancing now) ready.idle ready.idle
 begins-know m (Time index rest ms now) desk range ready = first_knows m index _ ready.idle (time_knows m index rest ms now ready.idle range.0 range.1)
 begins-know m (Reset index) desk range ready = emptied_knows m desk index Resetting (λ n few. (ready.idle, few)) ready
 begins-know m (Destroy index) desk range ready = emptied_knows m desk index Destroying (λ n few. (ready.idle, few)) ready
-begins-know m (Create box_no dirty_ms muzzy_ms now) desk range ready = (ready.idle, rw (lt-ltb _ _ range.0, range.1, range.2) refl, refl)
 begins-know m (Bind index) desk range ready = bind_knows m desk.arena index ready.idle
-begins-know m (HookBox index box_no) desk range ready = first_knows m index _ ready.idle (ready.idle, lt-ltb _ _ range, tt, refl)
-begins-know m (GrowLimit index chunks) desk range ready = first_knows m index _ ready.idle (ready.idle, rw (le-leb _ _ range.0, le-leb _ _ range.1) refl, tt, refl)
+begins-know m request desk range ready = grind (arith, nat_tests)

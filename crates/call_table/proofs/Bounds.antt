@@ -1,169 +1,163 @@
--- A malloc makes few asks and few turns: each step of it leaves fewer.
-use Rattle.std.proofs.Common.{sym, ◌∙◌, ap, subst, ◌-◌, ◌≡◌, ℕ, ◌+◌, ◌≤◌, ◌^◌, Bool, true, false, cond, not, min, List, [], ◌∷◌, Option, None, Some, refl, arith, nat_lt, count_by}
-use Rattle.std.proofs.lemmas.Bool.{cond_both}
-use Rattle.std.proofs.lemmas.List.Sums.{sum_by-cons}
-use Rattle.call_table.specs.Words.{Request, Malloc, Memalign, Item, Replied, Told, Starved, Answered, Wish, TurnPoint, Filling, Looking, Landing, AskPoint, Skipping, Trimming, Growing, Paring, Needing, Granting, Committing, Turns, Asks, Tells, Next, Go, Over, More, Gone, Ends, Nowhere, Stage}
-use Rattle.call_table.specs.Words.{Reply, Nothing, Noted, Took, Grow, Cut, Refuse, Grown, Landed, Regions, Span, AskFacts, Held, DeskFacts, aligned_for, class_for, max_series, hit}
-use Rattle.call_table.specs.Table.{is_marked, op_of, starved, turned, told, chunks_for, commit, trim}
-use Rattle.call_table.specs.Runs.{begin_get, begin_stage, get, is_alignment, moment, page_align, run, settle, share, small_hit}
-use Rattle.call_table.specs.Desks.{desk_fed}
-use Rattle.call_table.specs.Laws.{unheard}
-use Rattle.call_table.specs.Bounds.{is_malloc, is_told, is_turn, MallocsAreShort}
-
--- the asks and the turns that can still come in a malloc, each ask with the turn behind it
-abbrev pub asks_turn : TurnPoint → ℕ → ℕ → Type 0
-asks_turn (Filling wish count) asks turns = (5 ≤ asks) × (8 ≤ turns)
-asks_turn (Looking wish) asks turns = (5 ≤ asks) × (7 ≤ turns)
-asks_turn (Landing wish span) asks turns = 1 ≤ turns
-asks_turn point asks turns = ⊥
-
-abbrev pub asks_ask : AskPoint → ℕ → ℕ → ℕ → Type 0
-asks_ask (Skipping wish span b skip) one asks turns = (4 + one ≤ asks) × (6 ≤ turns)
-asks_ask (Growing wish chunks) one asks turns = (4 + one ≤ asks) × (6 ≤ turns)
-asks_ask (Trimming wish span b) one asks turns = (3 + one ≤ asks) × (5 ≤ turns)
-asks_ask (Paring wish span b) one asks turns = (3 + one ≤ asks) × (5 ≤ turns)
-asks_ask (Needing wish) one asks turns = (2 + one ≤ asks) × (4 ≤ turns)
-asks_ask (Granting wish span b) one asks turns = (1 + one ≤ asks) × (3 ≤ turns)
-asks_ask (Committing wish span) one asks turns = (one ≤ asks) × (2 ≤ turns)
-asks_ask point one asks turns = ⊥
-
--- there is room for what can still come
-abbrev pub Fits : ℕ → ℕ → Next → Type 0
-Fits asks turns (Go (Turns point)) = asks_turn point asks turns
-Fits asks turns (Go (Asks point heard)) = asks_ask point (unheard heard) asks turns
-Fits asks turns Gone = Unit {0}
-Fits asks turns (Ends answer) = Unit {0}
-Fits asks turns Nowhere = Unit {0}
-Fits asks turns next = ⊥
-
-commit_fits : (wish : Wish) (span : Span) (b : Bool) (asks turns : ℕ) → 1 ≤ asks → 2 ≤ turns → Fits asks turns (commit wish span b)
-commit_fits wish span true asks turns a t = omega arith
-commit_fits wish span false asks turns a t = (omega arith, omega arith)
-
-trim_fits : (wish : Wish) (span : Span) (b : Bool) (asks turns : ℕ) → 4 ≤ asks → 5 ≤ turns → Fits asks turns (trim wish span b)
-trim_fits wish span b asks turns a t = cond_both (nat_lt wish.pages span.pages) _ _ (Fits asks turns) (λ _. (omega arith, omega arith)) (λ _. commit_fits wish span b asks turns (omega arith) (omega arith))
-
-turned_fits : (point : TurnPoint) (reply : Reply) (asks turns : ℕ) → asks_turn point asks (turns + 1) → Fits asks turns (turned point reply)
-turned_fits (Filling wish count) Nothing asks turns fits = (fits.0, omega (arith, fits.1))
-turned_fits (Filling wish count) (Regions []) asks turns fits = tt
-turned_fits (Looking wish) (Took span b skip) asks turns fits =
-    cond_both (nat_lt 0 skip) _ _ (Fits asks turns) (λ _. (omega (arith, fits.0), omega (arith, fits.1))) (λ _. trim_fits wish span b asks turns (omega (arith, fits.0)) (omega (arith, fits.1)))
-turned_fits (Looking wish) (Grow series) asks turns fits =
-    cond_both (nat_lt (chunks_for wish.pages) (min series max_series)) _ _ (Fits asks turns) (λ _. (omega (arith, fits.0), omega (arith, fits.1))) (λ _. (omega (arith, fits.0), omega (arith, fits.1)))
-turned_fits (Landing wish span) (Landed first count) asks turns fits = tt
-turned_fits point reply asks turns fits = grind arith
-
-told_fits : (point : AskPoint) (asked : AskFacts) (reply : Reply) (asks turns : ℕ) → asks_ask point 0 asks (turns + 1) → Fits asks turns (told point asked reply)
-told_fits (Skipping wish span b skip) asked (Cut high) asks turns fits = trim_fits wish high b asks turns (omega (arith, fits.0)) (omega (arith, fits.1))
-told_fits (Trimming wish span b) asked (Cut low) asks turns fits = commit_fits wish low b asks turns (omega (arith, fits.0)) (omega (arith, fits.1))
-told_fits (Growing wish chunks) asked Refuse asks turns fits = (omega (arith, fits.0), omega (arith, fits.1))
-told_fits (Paring wish span b) asked (Cut low) asks turns fits = commit_fits wish low b asks turns (omega (arith, fits.0)) (omega (arith, fits.1))
-told_fits (Needing wish) asked (Grown span b) asks turns fits =
-    cond_both (nat_lt wish.pages span.pages) _ _ (Fits asks turns) (λ _. (omega (arith, fits.0), omega (arith, fits.1))) (λ _. commit_fits wish span b asks turns (omega (arith, fits.0)) (omega (arith, fits.1)))
-told_fits (Granting wish span b) asked (Cut low) asks turns fits = commit_fits wish low b asks turns (omega (arith, fits.0)) (omega (arith, fits.1))
-told_fits (Committing wish span) asked Noted asks turns fits = omega (arith, fits.1)
-told_fits point asked reply asks turns fits = grind arith
-
--- an ask uses up one ask
-heard_fits : (point : AskPoint) (asks turns : ℕ) → asks_ask point 1 (asks + 1) turns → asks_ask point 0 asks turns
-heard_fits (Skipping wish span b skip) asks turns fits = (omega (arith, fits.0), fits.1)
-heard_fits point asks turns fits = grind arith
-
--- ---- the fold
-
-settled_fits : (request : Request) (desk : DeskFacts) (arena asks turns : ℕ) (next : Next) → Fits asks turns next → Fits asks turns (settle request desk arena next).next
-settled_fits request desk arena asks turns (Over index point) fits = absurd fits
-settled_fits request desk arena asks turns More fits = absurd fits
-settled_fits request desk arena asks turns next fits = fits
-
-starved_fits : (v : Bool) (asks turns : ℕ) → Fits asks turns (starved v)
-starved_fits true asks turns = tt
-starved_fits false asks turns = tt
-
--- what leads nowhere ends nowhere
-nowhere_run : (request : Request) (desk : DeskFacts) (arena : ℕ) (items : List Item) → (run (moment request desk arena Nowhere) items).stage.next ≡ Nowhere
-nowhere_run request desk arena [] = refl
-nowhere_run request desk arena (item ∷ items) = nowhere_run request desk arena items
-
-pub never_ends : (request : Request) (desk : DeskFacts) (arena : ℕ) (items : List Item) (answer : Answered) → (run (moment request desk arena Nowhere) items).stage.next ≡ Ends answer → ⊥
-never_ends request desk arena items answer e = let no = nowhere_run request desk arena items in let both : Nowhere ≡ Ends answer = sym no ∙ e in cc
-
--- a turn uses up one turn, and an ask one ask
-turn_some : (point : TurnPoint) (asks turns : ℕ) → asks_turn point asks turns → 1 ≤ turns
-turn_some (Filling wish count) asks turns fits = omega (arith, fits.1)
-turn_some point asks turns fits = omega arith
-
-ask_some : (point : AskPoint) (asks turns : ℕ) → asks_ask point 1 asks turns → 1 ≤ asks
-ask_some (Skipping wish span b skip) asks turns fits = omega (arith, fits.0)
-ask_some point asks turns fits = omega arith
-
-done_some : (point : AskPoint) (asks turns : ℕ) → asks_ask point 0 asks turns → 1 ≤ turns
-done_some (Skipping wish span b skip) asks turns fits = omega (arith, fits.1)
-done_some point asks turns fits = omega arith
-
--- What is left to a run that ends.
-record Few (asks turns : ℕ) (items : List Item) : Type 0 where
-  told_few : count_by is_told items ≤ asks
-  turns_few : count_by is_turn items ≤ turns
-
--- one more item
-one_told : (asks turns : ℕ) (asked : AskFacts) (items : List Item) → 1 ≤ asks → Few (asks - 1) turns items → Few asks turns (Told asked ∷ items)
-one_told asks turns asked items some few = record {
-  told_few = omega (arith, few.told_few, some, sum_by-cons (λ i. cond (is_told i) 1 0) (Told asked) items);
-  turns_few = omega (arith, few.turns_few, sum_by-cons (λ i. cond (is_turn i) 1 0) (Told asked) items);
-}
-
-one_turn : (asks turns : ℕ) (item : Item) (items : List Item) → is_told item ≡ false → is_turn item ≡ true → 1 ≤ turns → Few asks (turns - 1) items → Few asks turns (item ∷ items)
-one_turn asks turns item items not_told is some few =
-    let one : Bool → ℕ = λ v. cond v 1 0 in record {
-      told_few = omega (arith, few.told_few, sum_by-cons (λ i. cond (is_told i) 1 0) item items, ap one not_told);
-      turns_few = omega (arith, few.turns_few, some, sum_by-cons (λ i. cond (is_turn i) 1 0) item items, ap one is);
-    }
-
-run_fits : (items : List Item) (request : Request) (desk : DeskFacts) (arena asks turns : ℕ) (next : Next) (answer : Answered) → Fits asks turns next →
-    (run (moment request desk arena next) items).stage.next ≡ Ends answer → Few asks turns items
-run_fits [] request desk arena asks turns next answer fits e = record { told_few = omega arith; turns_few = omega arith }
-run_fits (Replied reply ∷ items) request desk arena asks turns (Go (Turns point)) answer fits e =
-    let some = turn_some point asks turns fits in
-    let same : turns ≡ turns - 1 + 1 = omega (arith, some) in
-    one_turn asks turns (Replied reply) items refl refl some
-    (run_fits items request _ _ asks (turns - 1) _ answer (settled_fits request (desk_fed desk arena (Go (Turns point)) (Replied reply)) arena asks (turns - 1) (turned point reply) (turned_fits point reply asks (turns - 1) (subst (asks_turn point asks) same fits))) e)
-run_fits (Starved ∷ items) request desk arena asks turns (Go (Turns point)) answer fits e =
-    one_turn asks turns Starved items refl refl (turn_some point asks turns fits)
-    (run_fits items request _ _ asks (turns - 1) _ answer (settled_fits request (desk_fed desk arena (Go (Turns point)) Starved) arena asks (turns - 1) (starved (is_marked (op_of point))) (starved_fits (is_marked (op_of point)) asks (turns - 1))) e)
-run_fits (Told asked ∷ items) request desk arena asks turns (Go (Asks point None)) answer fits e =
-    let some = ask_some point asks turns fits in
-    let same : asks ≡ asks - 1 + 1 = omega (arith, some) in
-    one_told asks turns asked items some (run_fits items request _ arena (asks - 1) turns (Go (Asks point (Some asked))) answer (heard_fits point (asks - 1) turns (subst (λ n. asks_ask point 1 n turns) same fits)) e)
-run_fits (Replied reply ∷ items) request desk arena asks turns (Go (Asks point (Some asked))) answer fits e =
-    let some = done_some point asks turns fits in
-    let same : turns ≡ turns - 1 + 1 = omega (arith, some) in
-    one_turn asks turns (Replied reply) items refl refl some
-    (run_fits items request _ _ asks (turns - 1) _ answer (settled_fits request (desk_fed desk arena (Go (Asks point (Some asked))) (Replied reply)) arena asks (turns - 1) (told point asked reply) (told_fits point asked reply asks (turns - 1) (subst (asks_ask point 0 asks) same fits))) e)
-run_fits (Starved ∷ items) request desk arena asks turns (Go (Asks point None)) answer fits e = absurd (never_ends request _ arena items answer e)
-run_fits (item ∷ items) request desk arena asks turns (Go (Tells span b)) answer fits e = absurd fits
-run_fits (item ∷ items) request desk arena asks turns next answer fits e = absurd (never_ends request _ arena items answer e)
-
-get_fits : (class align count : ℕ) → Fits 5 8 (get class align count)
-get_fits class align count = cond_both (nat_lt class 36) _ _ (Fits 5 8) (λ _. (omega arith, omega arith)) (λ _. (omega arith, omega arith))
-
-got_fits : (class align : ℕ) (hit : Option Held) (desk : DeskFacts) → Fits 5 8 (begin_get class align hit desk).next
-got_fits class align (Some region) desk = tt
-got_fits class align None desk = get_fits class align (share class desk)
+-- What each step of a call keeps is so after all of them: so each step leaves fewer asks, but for those that its reply brings,
+-- and a malloc fewer turns too.
+use Rattle.std.proofs.Common.{◌≡◌, ℕ, ◌+◌, ◌-◌, ◌≤◌, Bool, true, false, cond, List, [], ◌∷◌, ◌++◌, Option, None, Some, sym, subst, arith, append_assoc, append-nil, sum_by, count_by, refl, ap, ◌∙◌}
+use Rattle.std.proofs.lemmas.Bool.Decides.{nat_tests}
+use Rattle.std.proofs.lemmas.List.Sums.{sum_by_push}
+use Rattle.call_table.specs.Words.{Request, Item, Answered, Replied, Finished, Ok, NoSuchArena, TurnPoint, Filling, Looking, Landing, Giving, Finding, Offering, Point, Turns, Asks, Tells, Next, Go, Over, More, Gone, Ends, Nowhere, Stage, Nothing, BatchFacts, DeskFacts, batch_of, going}
+use Rattle.call_table.specs.Words.{AskPoint, Skipping, Trimming, Growing, Paring, Needing, Granting, Committing, Merging, Easing, Returning, Decommitting, Forcing}
+use Rattle.call_table.specs.Runs.{IsRun, begin, Moment, after, batch_goes, run, settle, step_next}
+use Rattle.call_table.specs.Desks.{desk_fed, flushes}
+use Rattle.call_table.specs.Laws.{RunsEndOnce, unheard}
+use Rattle.call_table.specs.Bounds.{is_told, is_turn, brings}
 
 -- a choice of where to begin
 pub chosen_stage : (P : Next → Type 0) (v : Bool) (x y : Stage) → P x.next → P y.next → P (cond v x y).next
 chosen_stage P true x y one other = one
 chosen_stage P false x y one other = other
 
-begin_fits : (request : Request) (desk : DeskFacts) → is_malloc request ≡ true → Fits 5 8 (begin_stage request desk).next
-begin_fits (Malloc size) desk is = chosen_stage (Fits 5 8) (nat_lt (2 ^ 35) size) _ _ tt (got_fits (class_for size) 1 (hit (class_for size) desk) desk)
-begin_fits (Memalign align size) desk is =
-    chosen_stage (Fits 5 8) (not (is_alignment align)) _ _ tt (chosen_stage (Fits 5 8) (nat_lt (2 ^ 35) size) _ _ tt
-    (got_fits (aligned_for size align) (page_align align) (small_hit (aligned_for size align) desk) desk))
-begin_fits request desk is = absurd (cc)
+-- What is so where a step leads is so where the call then stands: at a point, at the next batch, or at its end.
+pub record Settles (P : Next → Type 0) : Type 0 where
+  pub over : (index : ℕ) (point : Point) → P (Over index point) → P (Go point)
+  pub gone : (arena : ℕ) → P Gone → P (Ends (NoSuchArena arena))
+  pub batch : (addrs : List ℕ) → P More → P (Go (Turns (Giving addrs)))
+  pub done : P More → P (Ends (Ok Finished))
 
-pub mallocs-are_short : MallocsAreShort
-mallocs-are_short request desk items answer is e =
-    let few = run_fits items request _ _ 5 8 _ answer (begin_fits request desk is) e in
-    record { asks = few.told_few; turns = few.turns_few }
+pub settle_keeps : (P : Next → Type 0) → Settles P → (request : Request) (desk : DeskFacts) (arena : ℕ) (next : Next) → P next → P (settle request desk arena next).next
+settle_keeps P s request desk arena (Over index point) is = s.over index point is
+settle_keeps P s request desk arena Gone is = s.gone arena is
+settle_keeps P s request desk arena More is = by (batch_of (going (flushes request) desk))
+  where
+    by : (batch : Option BatchFacts) → P (batch_goes arena batch).next
+    by None = s.done is
+    by (Some batch) = s.batch batch.addrs is
+settle_keeps P s request desk arena next is = is
+
+-- what each step keeps of the items so far, where C is so of each item that is still to come
+pub run_keeps : (C : Next → Item → Type 0) (F : Moment → List Item → Type 0) → ((at : Moment) (item : Item) (items : List Item) → F at (item ∷ items) → C at.stage.next item × F (after at item) items) →
+    (P : List Item → Next → Type 0) → ((past : List Item) → Settles (P past)) → ((past : List Item) (next : Next) (item : Item) → P past next → C next item → P (past ++ item ∷ []) (step_next next item)) →
+    (items past : List Item) (at : Moment) → F at items → P past at.stage.next → P (past ++ items) (run at items).stage.next
+run_keeps C F split P settles steps [] past at all is = subst (λ xs. P xs at.stage.next) (sym (append-nil past)) is
+run_keeps C F split P settles steps (item ∷ items) past at all is =
+    let (one, others) = split at item items all in
+    let stepped = steps past at.stage.next item is one in
+    subst (λ xs. P xs (run (after at item) items).stage.next) (append_assoc past (item ∷ []) items)
+    (run_keeps C F split P settles steps items (past ++ item ∷ []) (after at item) others (settle_keeps (P (past ++ item ∷ [])) (settles (past ++ item ∷ [])) at.request (desk_fed at.desk at.stage.arena at.stage.next item) at.stage.arena (step_next at.stage.next item) stepped))
+
+-- ---- the end of a run
+
+run_append : (items more : List Item) (at : Moment) → run at (items ++ more) ≡ run (run at items) more
+run_append [] more at = refl
+run_append (item ∷ items) more at = run_append items more (after at item)
+
+-- what leads nowhere stays there, and so does what is fed to a call that has ended
+nowhere_run : (items : List Item) (at : Moment) → at.stage.next ≡ Nowhere → (run at items).stage.next ≡ Nowhere
+nowhere_run [] at is = is
+nowhere_run (item ∷ items) at is =
+    nowhere_run items (after at item) (ap (λ next. (settle at.request (desk_fed at.desk at.stage.arena at.stage.next item) at.stage.arena (step_next next item)).next) is)
+
+ended_run : (item : Item) (items : List Item) (at : Moment) (answer : Answered) → at.stage.next ≡ Ends answer → (run at (item ∷ items)).stage.next ≡ Nowhere
+ended_run item items at answer is =
+    nowhere_run items (after at item) (ap (λ next. (settle at.request (desk_fed at.desk at.stage.arena at.stage.next item) at.stage.arena (step_next next item)).next) is)
+
+pub runs-end_once : RunsEndOnce
+runs-end_once had has last request items [] answer other one two =
+    let same : items ++ [] ≡ items = append-nil items in
+    let again : IsRun had request items other last = subst (λ xs. IsRun had request xs other last) same two in
+    let ends : Ends other ≡ Ends answer = sym again.ends ∙ one.ends in
+    (refl, cc, sym again.leaves ∙ one.leaves)
+runs-end_once had has last request items (item ∷ more) answer other one two =
+    let no : Nowhere ≡ Ends other = sym (ended_run item more (run (begin request had) items) answer one.ends) ∙ sym (ap (λ (m : Moment). m.stage.next) (run_append items (item ∷ more) (begin request had))) ∙ two.ends in
+    absurd (cc)
+
+-- ---- asks and turns
+
+-- the asks that can come from a point on, but for those that replies bring
+abbrev pub credit_turn : TurnPoint → ℕ
+credit_turn (Filling wish count) = 5
+credit_turn (Looking wish) = 5
+credit_turn (Finding own tries fresh later) = 2 - tries
+credit_turn (Offering span later) = 5
+credit_turn point = 0
+
+abbrev pub credit_ask : AskPoint → ℕ
+credit_ask (Skipping wish span b skip) = 4
+credit_ask (Trimming wish span b) = 3
+credit_ask (Growing wish chunks) = 4
+credit_ask (Paring wish span b) = 3
+credit_ask (Needing wish) = 2
+credit_ask (Granting wish span b) = 1
+credit_ask (Committing wish span) = 0
+credit_ask (Merging low high own_low fresh later) = cond own_low 1 0
+credit_ask (Easing span later) = 5
+credit_ask (Returning span later) = 4
+credit_ask (Decommitting span later) = 3
+credit_ask (Forcing span later) = 2
+
+abbrev pub credit : Point → ℕ
+credit (Turns point) = credit_turn point
+credit (Asks point heard) = credit_ask point + unheard heard
+credit (Tells span b) = 1
+
+-- there is room for the asks that were made and those that can still come
+abbrev pub Left : ℕ → ℕ → Next → Type 0
+Left asks most (Go point) = asks + credit point ≤ most
+Left asks most (Over index point) = asks + credit point ≤ most
+Left asks most Nowhere = Unit {0}
+Left asks most next = asks ≤ most
+
+abbrev one : Bool → ℕ
+one v = cond v 1 0
+
+step_left : (asks most : ℕ) (next : Next) (item : Item) → Left asks most next → Left (asks + one (is_told item)) (most + brings item) (step_next next item)
+step_left asks most (Go (Turns (Filling wish count))) (Replied Nothing) left = grind arith
+step_left asks most (Go (Asks (Skipping wish span b skip) (Some asked))) (Replied Nothing) left = grind arith
+step_left asks most next item left = grind (arith, nat_tests)
+
+-- what the items so far bring beside the asks that a request makes
+abbrev pub AsksLeft : ℕ → List Item → Next → Type 0
+AsksLeft most past next = Left (count_by is_told past) (most + sum_by brings past) next
+
+-- a run makes no more asks than are left to it
+pub run_left : (most : ℕ) (items : List Item) (at : Moment) → AsksLeft most [] at.stage.next → AsksLeft most items (run at items).stage.next
+run_left most items at left =
+    run_keeps (λ _ _. Unit {0}) (λ _ _. Unit {0}) (λ _ _ _ _. (tt, tt)) (AsksLeft most)
+    (λ past. record { over = λ index point is. is; gone = λ arena is. is; batch = λ addrs is. omega arith; done = λ is. is })
+    (λ past next item is _.
+    let stepped = step_left (count_by is_told past) (most + sum_by brings past) next item is in
+    let more : most + sum_by brings past + brings item ≡ most + sum_by brings (past ++ item ∷ []) = omega (arith, sum_by_push brings past item) in
+    rw (sum_by_push (λ i. one (is_told i)) past item) (subst (λ n. Left (count_by is_told past + one (is_told item)) n (step_next next item)) more stepped)) items [] at tt left
+
+-- the turns that can still come in a malloc, of which 8 are too few for what is none
+abbrev pub turns_at : Point → ℕ
+turns_at (Turns (Filling wish count)) = 8
+turns_at (Turns (Looking wish)) = 7
+turns_at (Turns (Landing wish span)) = 1
+turns_at (Asks (Merging low high own_low fresh later) heard) = 9
+turns_at (Asks (Easing span later) heard) = 9
+turns_at (Asks (Returning span later) heard) = 9
+turns_at (Asks (Decommitting span later) heard) = 9
+turns_at (Asks (Forcing span later) heard) = 9
+turns_at (Asks point heard) = credit_ask point + 2
+turns_at point = 9
+
+-- there is room for the asks and the turns of a malloc
+abbrev pub Short : ℕ → ℕ → Next → Type 0
+Short asks turns (Go point) = (asks + credit point ≤ 5) × (turns + turns_at point ≤ 8)
+Short asks turns (Over index point) = ⊥
+Short asks turns More = ⊥
+Short asks turns Nowhere = Unit {0}
+Short asks turns next = (asks ≤ 5) × (turns ≤ 8)
+
+step_short : (asks turns : ℕ) (next : Next) (item : Item) → Short asks turns next → Short (asks + one (is_told item)) (turns + one (is_turn item)) (step_next next item)
+step_short asks turns (Go (Turns (Filling wish count))) (Replied Nothing) short = grind arith
+step_short asks turns (Go (Asks (Skipping wish span b skip) (Some asked))) (Replied Nothing) short = grind arith
+step_short asks turns next item short = grind (arith, nat_tests)
+
+abbrev pub IsShortStill : List Item → Next → Type 0
+IsShortStill past next = Short (count_by is_told past) (count_by is_turn past) next
+
+pub run_short : (items : List Item) (at : Moment) → IsShortStill [] at.stage.next → IsShortStill items (run at items).stage.next
+run_short items at short =
+    run_keeps (λ _ _. Unit {0}) (λ _ _. Unit {0}) (λ _ _ _ _. (tt, tt)) IsShortStill
+    (λ past. record { over = λ index point is. absurd is; gone = λ arena is. is; batch = λ addrs is. absurd is; done = λ is. absurd is })
+    (λ past next item is _. rw (sum_by_push (λ i. one (is_told i)) past item, sum_by_push (λ i. one (is_turn i)) past item) (step_short (count_by is_told past) (count_by is_turn past) next item is)) items [] at tt short

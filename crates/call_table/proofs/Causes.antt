@@ -1,33 +1,22 @@
 -- Every answer has its cause: each step keeps the reasons of the point to which it leads.
-use Rattle.std.proofs.Common.{◌≡◌, ℕ, inl, inr, Bool, false, List, [], ◌∷◌, ◌++◌, Option, None, Some, refl, sym, ◌∙◌, ap, arith, find, Contains}
+use Rattle.std.proofs.Common.{◌≡◌, ℕ, inl, inr, Bool, false, List, [], ◌∷◌, ◌++◌, Option, None, Some, refl, ◌∙◌, ap, arith, Contains}
 use Rattle.std.proofs.lemmas.List.Elements.{Contains-append_left, Contains-append_right}
 use Rattle.std.proofs.lemmas.List.Sums.{fold-append}
-use Rattle.space_model.specs.Part.{is_flight_at}
-use Rattle.space_model.specs.Step.{after_cut, cut_at, after_commit, commit_at, after_grow, grow_unless, why_not}
-use Rattle.call_table.specs.Words.{Item, Replied, Alloc, Commit, Split, Answer, Placed, Done, Refuses, Grow, Whole, Refuse, Bad, Grown, Space, Span, Why}
+use Rattle.space_model.specs.Step.{after_cut, after_commit, after_grow, why_not}
+use Rattle.call_table.specs.Words.{Item, Replied, Alloc, Commit, Split, Answer, Placed, Refuses, Grow, Whole, Refuse, Bad, Grown, Space, Span, Why}
 use Rattle.call_table.specs.Table.{answered_span}
 use Rattle.call_table.specs.Causes.{Extent, extent_after, extent_of, NothingFits}
 
 -- ---- what a reply says of the answer that its turn took in
 
 pub cut_whole : (s : Space) (c : ℕ) (keep_low : Bool) (span : Span) (left : ℕ) (answer : Answer) → Whole ≡ (after_cut s c keep_low (Split span left) answer).reply → answer ≡ Refuses
-cut_whole s c keep_low span left Refuses e = refl
-cut_whole s c keep_low span left (Placed first b z) e = absurd (cc)
-cut_whole s c keep_low span left Done e =
-    elim (find (is_flight_at c span) s.parts) as (λ o. Whole ≡ (cut_at s keep_low left o).reply → Done ≡ Refuses) [ None ↦ λ k. absurd (cc) | Some p ↦ λ k. absurd (cc) ] e
+cut_whole s c keep_low span left answer e = grind arith
 
 pub commit_whole : (s : Space) (c : ℕ) (span : Span) (answer : Answer) → Whole ≡ (after_commit s c (Commit span) answer).reply → answer ≡ Refuses
-commit_whole s c span Refuses e = refl
-commit_whole s c span (Placed first b z) e = absurd (cc)
-commit_whole s c span Done e =
-    elim (find (is_flight_at c span) s.parts) as (λ o. Whole ≡ (commit_at s o).reply → Done ≡ Refuses) [ None ↦ λ k. absurd (cc) | Some p ↦ λ k. absurd (cc) ] e
+commit_whole s c span answer e = grind arith
 
 pub grow_refused : (s : Space) (c : ℕ) (found : Option ℕ) (pages align : ℕ) (answer : Answer) → Refuse ≡ (after_grow s c found (Alloc None pages align false) answer).reply → answer ≡ Refuses
-grow_refused s c found pages align Refuses e = refl
-grow_refused s c found pages align Done e = absurd (cc)
-grow_refused s c found pages align (Placed first b z) e =
-    let span : Span = record { first = first; pages = pages } in
-    elim (why_not found align s.parts span) as (λ o. Refuse ≡ (grow_unless s c span b o).reply → Placed first b z ≡ Refuses) [ None ↦ λ k. absurd (cc) | Some why ↦ λ k. absurd (cc) ] e
+grow_refused s c found pages align answer e = grind arith
 
 -- A placed range that was found bad, or granted.
 pub record WasPlaced (answer : Answer) (pages : ℕ) (span : Span) : Type 0 where
@@ -38,25 +27,13 @@ pub record WasPlaced (answer : Answer) (pages : ℕ) (span : Span) : Type 0 wher
 
 pub grow_bad : (s : Space) (c : ℕ) (found : Option ℕ) (pages align : ℕ) (answer : Answer) (why : Why) → Bad why ≡ (after_grow s c found (Alloc None pages align false) answer).reply →
     WasPlaced answer pages (answered_span pages answer) × (why_not found align s.parts (answered_span pages answer) ≡ Some why)
-grow_bad s c found pages align Refuses why e = absurd (cc)
-grow_bad s c found pages align Done why e = absurd (cc)
-grow_bad s c found pages align (Placed first b z) why e =
-    let span : Span = record { first = first; pages = pages } in
-    elim (why_not found align s.parts span) as (λ o. Bad why ≡ (grow_unless s c span b o).reply → WasPlaced (Placed first b z) pages span × (o ≡ Some why)) [
-      | None ↦ λ k. absurd (cc)
-      | Some other ↦ λ k. (record { is_committed = b; zeroed = z; placed = refl; pages_are = refl }, let same : why ≡ other = cc in ap Some (sym same))
-    ] e
+grow_bad s c found pages align (Placed first b z) why e = (record { is_committed = b; zeroed = z; placed = refl; pages_are = refl }, grind arith)
+grow_bad s c found pages align answer why e = absurd (cc)
 
 pub grow_grown : (s : Space) (c : ℕ) (found : Option ℕ) (pages align : ℕ) (answer : Answer) (span : Span) (b : Bool) → Grown span b ≡ (after_grow s c found (Alloc None pages align false) answer).reply →
     (z : Bool) × (answer ≡ Placed span.first b z)
-grow_grown s c found pages align Refuses span b e = absurd (cc)
-grow_grown s c found pages align Done span b e = absurd (cc)
-grow_grown s c found pages align (Placed first d z) span b e =
-    let own : Span = record { first = first; pages = pages } in
-    elim (why_not found align s.parts own) as (λ o. Grown span b ≡ (grow_unless s c own d o).reply → (z' : Bool) × (Placed first d z ≡ Placed span.first b z')) [
-      | None ↦ λ k. let same : span ≡ own = cc in let alike : b ≡ d = cc in (z, ap (λ (x : Span). Placed x.first d z) (sym same) ∙ ap (λ v. Placed span.first v z) (sym alike))
-      | Some other ↦ λ k. absurd (cc)
-    ] e
+grow_grown s c found pages align (Placed first d z) span b e = (z, grind arith)
+grow_grown s c found pages align answer span b e = absurd (cc)
 
 -- ---- what is among the items
 

@@ -183,8 +183,7 @@ visit_stage visit None = omega arith
 visit_stage visit (Some n) = omega arith
 
 purgeable_backed : (r : Rest) → is_purgeable r ≡ true → is_backed r ≡ true
-purgeable_backed ToRetained h = absurd (cc)
-purgeable_backed r h = refl
+purgeable_backed r h = grind arith
 
 took_goes : (c : ℕ) (s : Space) (visit : Visit) (left : Option ℕ) (o : Option Part) → find (λ p. is_listed visit.rest p.state) s.parts ≡ o → Idle (mine c s) → IsVisit visit → HasLeft left →
     Onto c (turned (Taking visit left)) (stages_visit visit left) (left_visit left) (purge_at s c visit.rest o)

@@ -1,7 +1,6 @@
 -- What the turns of a call leave that gets an extent: what it knows where it goes on.
 use Rattle.std.proofs.Common.{inr, min, ◌≡◌, ◌≢◌, ℕ, ◌+◌, ◌-◌, ◌<◌, ◌≤◌, Bool, true, false, not, cond, List, [], ◌∷◌, ◌++◌, Option, None, Some, refl, sym, ◌∙◌, ap, subst, arith, filter, find, ltb as nat_lt, count_ones}
 use Rattle.std.specs.Int.{is_power_of_two}
-use Rattle.std.specs.Option.{option_or}
 use Rattle.std.proofs.lemmas.Bool.Decides.{nat_tests}
 use Rattle.std.proofs.lemmas.Bool.{cond_both, ltb-true, leb-true, eqb-true}
 use Rattle.std.proofs.lemmas.Nat.{ones_le_self}
@@ -210,16 +209,10 @@ fit_of-holds rest pages align parts p e =
     let best = find_passes (is_best rest pages align parts) parts p e in
     let candidate = (both_true (is_candidate rest pages align p) _ best).0 in (both_true _ (holds_run pages align p.span) candidate).1
 
--- what one of two searches found has what each of them finds
-either_has : {X : Type 0} (P : X → Type 0) (o u : Option X) (x : X) → (o ≡ Some x → P x) → (u ≡ Some x → P x) → option_or o u ≡ Some x → P x
-either_has P (Some y) u x first second e = first e
-either_has P None u x first second e = second e
-
 fit-holds : (pages align : ℕ) (parts : List Part) (p : Part) → fit pages align parts ≡ Some p → holds_run pages align p.span ≡ true
 fit-holds pages align parts p e =
-    let P : Part → Type 0 = λ q. holds_run pages align q.span ≡ true in
-    either_has P _ _ p (fit_of-holds ToDirty pages align parts p)
-    (either_has P _ _ p (fit_of-holds ToMuzzy pages align parts p) (fit_of-holds ToRetained pages align parts p)) e
+    let of : (rest : Rest) → fit_of rest pages align parts ≡ Some p → holds_run pages align p.span ≡ true = λ rest. fit_of-holds rest pages align parts p in
+    grind (arith, of ToDirty, of ToMuzzy, of ToRetained)
 
 -- the run begins at the span's start or above
 run_above : (align : ℕ) (s : Span) → 1 ≤ align → s.first ≤ run_start align s

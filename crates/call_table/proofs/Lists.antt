@@ -10,25 +10,16 @@ use Rattle.space_model.proofs.Lists.{find-le-sum_by}
 -- what passes two tests is sought among what passes the first
 pub find-both : {X : Type 0} (a b : X → Bool) (xs : List X) → find (λ x. a x && b x) xs ≡ find b (filter a xs)
 find-both a b [] = refl
-find-both a b (x ∷ xs) = elim (a x) as (λ v. cond (v && b x) (Some x) (find (λ x. a x && b x) xs) ≡ find b (cond v (x ∷ filter a xs) (filter a xs))) [
-  | true ↦ elim (b x) as (λ w. cond w (Some x) (find (λ x. a x && b x) xs) ≡ cond w (Some x) (find b (filter a xs))) [ true ↦ refl | false ↦ find-both a b xs ]
-  | false ↦ find-both a b xs
-]
+find-both a b (x ∷ xs) = grind (arith, find-both a b xs)
 
 pub any-both : {X : Type 0} (a b : X → Bool) (xs : List X) → list_any (λ x. a x && b x) xs ≡ list_any b (filter a xs)
 any-both a b [] = refl
-any-both a b (x ∷ xs) = elim (a x) as (λ v. ((v && b x) || list_any (λ x. a x && b x) xs) ≡ list_any b (cond v (x ∷ filter a xs) (filter a xs))) [
-  | true ↦ ap (λ w. b x || w) (any-both a b xs)
-  | false ↦ any-both a b xs
-]
+any-both a b (x ∷ xs) = grind (arith, any-both a b xs)
 
 -- two filters are one
 filter-both : {X : Type 0} (a b : X → Bool) (xs : List X) → filter (λ x. a x && b x) xs ≡ filter b (filter a xs)
 filter-both a b [] = refl
-filter-both a b (x ∷ xs) = elim (a x) as (λ v. cond (v && b x) (x ∷ filter (λ x. a x && b x) xs) (filter (λ x. a x && b x) xs) ≡ filter b (cond v (x ∷ filter a xs) (filter a xs))) [
-  | true ↦ ap (λ ys. cond (b x) (x ∷ ys) ys) (filter-both a b xs)
-  | false ↦ filter-both a b xs
-]
+filter-both a b (x ∷ xs) = grind (arith, filter-both a b xs)
 
 -- tests that agree are one test
 by_test : {X Y : Type 0} (F : (X → Bool) → Y) (f g : X → Bool) → ((x : X) → f x ≡ g x) → F f ≡ F g
@@ -79,49 +70,27 @@ passes_alone f xs x e = All-head (λ y. f y ≡ true) x [] (subst (All (λ y. f 
 -- where none of these is there, all others are
 pub filter-none : {X : Type 0} (f : X → Bool) (xs : List X) → filter f xs ≡ [] → filter (λ x. not (f x)) xs ≡ xs
 filter-none f [] e = refl
-filter-none f (x ∷ xs) e =
-    elim (f x) as (λ v. cond v (x ∷ filter f xs) (filter f xs) ≡ [] → cond (not v) (x ∷ filter (λ x. not (f x)) xs) (filter (λ x. not (f x)) xs) ≡ x ∷ xs) [
-      | true ↦ λ k. absurd (cc)
-      | false ↦ λ k. ap (λ l. x ∷ l) (filter-none f xs k)
-    ] e
+filter-none f (x ∷ xs) e = grind (arith, filter-none f xs)
 
 -- the first that passes heads those that pass
 pub first_heads : {X : Type 0} (f : X → Bool) (xs : List X) (x : X) → find f xs ≡ Some x → (ys : List X) × (filter f xs ≡ x ∷ ys)
 first_heads {X} f [] x e = absurd (cc)
 first_heads {X} f (y ∷ ys) x e =
-    elim (f y) as (λ v. cond v (Some y) (find f ys) ≡ Some x → (zs : List X) × (cond v (y ∷ filter f ys) (filter f ys) ≡ x ∷ zs)) [
-      | true ↦ λ k. let same : y ≡ x = cc in (filter f ys, ap (λ z. z ∷ filter f ys) same)
-      | false ↦ λ k. first_heads f ys x k
-    ] e
+    elim (f y) as (λ v. cond v (Some y) (find f ys) ≡ Some x → (zs : List X) × (cond v (y ∷ filter f ys) (filter f ys) ≡ x ∷ zs)) [ true ↦ λ k. (filter f ys, cc) | false ↦ λ k. first_heads f ys x k ] e
 
 pub none_passes : {X : Type 0} (f : X → Bool) (xs : List X) → find f xs ≡ None → filter f xs ≡ []
 none_passes f [] e = refl
-none_passes f (y ∷ ys) e =
-    elim (f y) as (λ v. cond v (Some y) (find f ys) ≡ None → cond v (y ∷ filter f ys) (filter f ys) ≡ []) [
-      | true ↦ λ k. absurd (cc)
-      | false ↦ λ k. none_passes f ys k
-    ] e
+none_passes f (y ∷ ys) e = grind (arith, none_passes f ys)
 
 -- what would be gone isn't found
 pub find-gone : {X : Type 0} (test keep : X → Bool) (xs : List X) → ((x : X) → test x ≡ true → keep x ≡ false) → find test (filter keep xs) ≡ None
 find-gone test keep [] goes = refl
-find-gone test keep (x ∷ xs) goes =
-    elim (keep x) as (λ v. keep x ≡ v → find test (cond v (x ∷ filter keep xs) (filter keep xs)) ≡ None) [
-      | true ↦ λ h. elim (test x) as (λ w. test x ≡ w → cond w (Some x) (find test (filter keep xs)) ≡ None) [
-        | true ↦ λ t. absurd (let no = goes x t in cc)
-        | false ↦ λ t. find-gone test keep xs goes
-      ] refl
-      | false ↦ λ h. find-gone test keep xs goes
-    ] refl
+find-gone test keep (x ∷ xs) goes = grind (arith, find-gone test keep xs goes, goes x)
 
 -- where none is, none passes
 pub any-none : {X : Type 0} (f : X → Bool) (xs : List X) → list_any f xs ≡ false → filter f xs ≡ []
 any-none f [] e = refl
-any-none f (x ∷ xs) e =
-    elim (f x) as (λ v. (v || list_any f xs) ≡ false → cond v (x ∷ filter f xs) (filter f xs) ≡ []) [
-      | true ↦ λ k. absurd (cc)
-      | false ↦ λ k. any-none f xs k
-    ] e
+any-none f (x ∷ xs) e = grind (arith, any-none f xs)
 
 -- of the only one of a kind that is found, none of the kind is left once it is taken out
 pub filter-removed : {X : Type 0} (f test : X → Bool) (xs : List X) (x : X) → filter f xs ≡ x ∷ [] → test x ≡ true → ((y : X) → test y ≡ true → f y ≡ true) →
@@ -129,16 +98,8 @@ pub filter-removed : {X : Type 0} (f test : X → Bool) (xs : List X) (x : X) �
 filter-removed f test [] x e found kind = refl
 filter-removed f test (y ∷ ys) x e found kind =
     elim (test y) as (λ v. test y ≡ v → filter f (remove (y ∷ ys) (cond (not v) (1 + position_or_len test ys) 0)) ≡ []) [
-      | true ↦ λ t.
-          elim (f y) as (λ w. f y ≡ w → cond w (y ∷ filter f ys) (filter f ys) ≡ x ∷ [] → filter f ys ≡ []) [
-            | true ↦ λ h k. cc
-            | false ↦ λ h k. absurd (let is = kind y t in cc)
-          ] refl e
+      | true ↦ λ t. let own = kind y t in grind arith
       | false ↦ λ t.
           let next : suc (position_or_len test ys) ≡ 1 + position_or_len test ys = omega arith in
-          subst (λ i. filter f (remove (y ∷ ys) i) ≡ []) next
-          (elim (f y) as (λ w. f y ≡ w → cond w (y ∷ filter f ys) (filter f ys) ≡ x ∷ [] → cond w (y ∷ filter f (remove ys (position_or_len test ys))) (filter f (remove ys (position_or_len test ys))) ≡ []) [
-            | true ↦ λ h k. absurd (let same : y ≡ x = cc in let no : test y ≡ true = subst (λ z. test z ≡ true) (sym same) found in cc)
-            | false ↦ λ h k. filter-removed f test ys x k found kind
-          ] refl e)
+          subst (λ i. filter f (remove (y ∷ ys) i) ≡ []) next (grind (arith, filter-removed f test ys x))
     ] refl

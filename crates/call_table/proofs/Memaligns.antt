@@ -1,92 +1,52 @@
 -- Where the region of a memalign stands: each step of it keeps what the first page of its extent is a multiple of.
 use Prim.Native.Nat.{◌∣◌}
-use Rattle.std.proofs.Common.{◌≡◌, ℕ, ◌+◌, ◌-◌, ◌*◌, ◌/◌, ◌%◌, ◌<◌, ◌≤◌, ◌^◌, ◌==◌, max, min, Bool, true, false, cond, not, List, [], ◌∷◌, Option, None, Some, refl, sym, ◌∙◌, ap, subst, arith, nat_lt, find, All, rules, slice_get}
-use Rattle.std.proofs.lemmas.Bool.{cond_both, not-false, eqb-true, ltb-true}
+use Rattle.std.proofs.Common.{◌≡◌, ℕ, ◌+◌, ◌*◌, ◌%◌, ◌<◌, ◌≤◌, ◌^◌, max, min, Bool, true, false, cond, not, List, [], ◌∷◌, Option, None, Some, refl, sym, subst, arith, nat_lt, find, All, rules, slice_get}
+use Rattle.std.proofs.lemmas.Bool.{cond_both, not-false, ltb-true}
 use Rattle.std.proofs.lemmas.Bool.Decides.{nat_tests}
 use Rattle.std.proofs.lemmas.List.Elements.{All-head}
 use Rattle.std.proofs.lemmas.Nat.Gcd.{dvd_of_mod-eq-zero, dvd_trans, mod-eq-zero_of_dvd}
 use Rattle.std.proofs.lemmas.Option.{get_or_from_slice_get, slice_get_within}
-use Rattle.space_model.specs.Fit.{fit}
 use Rattle.space_model.specs.Part.{is_flight_at}
 use Rattle.space_model.specs.Region.{region_of}
 use Rattle.space_model.specs.Slabs.{after_fill}
 use Rattle.space_model.specs.Stepped.{Stepped}
-use Rattle.space_model.specs.Step.{after_cut, after_grow, after_look, cut_at, grow_unless, is_in_space, is_live, kept_piece, look_at, stays, step_of, whole_at, why_not}
+use Rattle.space_model.specs.Step.{after_cut, after_grow, after_look, is_live, step_of}
 use Rattle.space_model.proofs.Fills.{Spot, lowest_spots}
 use Rattle.space_model.proofs.Found.{found_span}
 use Rattle.thread_cache.specs.Desks.{before_last}
-use Rattle.call_table.specs.Words.{Request, Memalign, Item, Replied, Told, Starved, Region, Ok, Wish, TurnPoint, Filling, Looking, Landing, AskPoint, Skipping, Trimming, Growing, Paring, Needing, Granting, Committing, Point, Turns, Asks, Tells, Next, Go, Over, More, Ends, Stage}
-use Rattle.call_table.specs.Words.{Alloc, Split, Answer, Placed, Done, Refuses, Reply, NoArena, Noted, Took, Grow, Cut, Grown, Landed, Regions, Space, Part, Span, Sound, AskFacts, Held, DeskFacts, align_at, aligned_for, fill_at, land_at, lowest_free, most_regions, max_series, cached_in, is_cacheable}
-use Rattle.call_table.specs.Table.{alloc_of, ask_of, chunks_for, commit, done_of, is_marked, op_of, starved, step, told, trim, turned, whole_chunks}
-use Rattle.call_table.specs.Runs.{begin_get, begin_memalign, get, is_alignment, moment, page_align, run, settle, share, small_hit, wish_for}
-use Rattle.call_table.specs.Desks.{desk_fed}
+use Rattle.call_table.specs.Words.{Memalign, Item, Replied, Told, Starved, Region, Ok, Wish, TurnPoint, Filling, Looking, Landing, AskPoint, Skipping, Trimming, Growing, Paring, Needing, Granting, Committing, Point, Turns, Asks, Tells, Next, Go, Over, More, Ends, Stage}
+use Rattle.call_table.specs.Words.{Alloc, Split, Answer, Reply, Noted, Took, Grow, Cut, Grown, Landed, Regions, Space, Part, Span, Sound, AskFacts, Held, DeskFacts, align_at, aligned_for, fill_at, land_at, lowest_free, most_regions, max_series, cached_in, is_cacheable}
+use Rattle.call_table.specs.Table.{alloc_of, ask_of, chunks_for, commit, done_of, op_of, told, trim, turned, whole_chunks}
+use Rattle.call_table.specs.Runs.{begin, begin_get, begin_memalign, get, is_alignment, page_align, share, small_hit, step_next, wish_for}
 use Rattle.call_table.specs.Laws.{with_found}
 use Rattle.call_table.specs.Causes.{AllCame, Came}
 use Rattle.call_table.specs.Aligned.{IsCacheAligned, MemalignsAreAligned}
-use Rattle.call_table.proofs.Bounds.{chosen_stage}
+use Rattle.call_table.proofs.Bounds.{chosen_stage, run_keeps}
 use Rattle.call_table.proofs.Multiples.{page_divides, paged_of, run_divides, small_divides}
 
 -- ---- what a reply says of the first page of an extent
 
 -- a run that was found begins at a multiple of the alignment
 took_aligned : (s : Space) (c pages align : ℕ) (span : Span) (b : Bool) (skip : ℕ) → 1 ≤ align → Took span b skip ≡ (after_look s c pages align).reply → align ∣ span.first + skip
-took_aligned s c pages align span b skip some e =
-    elim (is_live s.life) as (λ v. Took span b skip ≡ (cond v (look_at s c align (fit pages align s.parts)) (stays s NoArena)).reply → align ∣ span.first + skip) [
-      | true ↦ elim (fit pages align s.parts) as (λ o. Took span b skip ≡ (look_at s c align o).reply → align ∣ span.first + skip) [
-        | None ↦ λ k. absurd (cc)
-        | Some p ↦ λ k.
-            let same : span ≡ p.span = cc in
-            let at : skip ≡ (p.span.first + (align - 1)) / align * align - p.span.first = cc in
-            run_divides align span.first skip some (subst (λ (x : Span). skip ≡ (x.first + (align - 1)) / align * align - x.first) (sym same) at)
-      ]
-      | false ↦ λ k. absurd (cc)
-    ] e
+took_aligned s c pages align span b skip some e = grind (arith, run_divides)
 
--- a range against which nothing speaks begins at a multiple of the alignment
-why_not-aligned : (found : Option ℕ) (align : ℕ) (s : Space) (span : Span) → why_not found align s.parts span ≡ None → align ∣ span.first
-why_not-aligned found align s span e =
-    cond_both (not (is_in_space span)) _ _ (λ o. o ≡ None → align ∣ span.first) (λ _ k. absurd (cc))
-    (λ _. cond_both (not (span.first % align == 0)) _ _ (λ o. o ≡ None → align ∣ span.first) (λ _ k. absurd (cc)) (λ h _. dvd_of_mod-eq-zero align (eqb-true _ _ (not-false _ h)))) e
-
--- so what an alloc granted does
+-- what an alloc granted begins at a multiple of the alignment
 grown_aligned : (s : Space) (c : ℕ) (found : Option ℕ) (pages align : ℕ) (answer : Answer) (span : Span) (b : Bool) → Grown span b ≡ (after_grow s c found (Alloc None pages align false) answer).reply → align ∣ span.first
-grown_aligned s c found pages align Refuses span b e = absurd (cc)
-grown_aligned s c found pages align Done span b e = absurd (cc)
-grown_aligned s c found pages align (Placed first d z) span b e =
-    let own : Span = record { first = first; pages = pages } in
-    elim (why_not found align s.parts own) as (λ o. why_not found align s.parts own ≡ o → Grown span b ≡ (grow_unless s c own d o).reply → align ∣ span.first) [
-      | None ↦ λ h k. let same : span ≡ own = cc in subst (λ (x : Span). align ∣ x.first) (sym same) (why_not-aligned found align s own h)
-      | Some why ↦ λ h k. absurd (cc)
-    ] refl e
+grown_aligned s c found pages align answer span b e = grind (arith, nat_tests, dvd_of_mod-eq-zero)
 
 -- where the kept piece of a cut begins
 abbrev kept_first : Bool → Span → ℕ → ℕ
 kept_first keep_low span left = cond keep_low span.first (span.first + left)
 
-piece_first : (keep_low : Bool) (left : ℕ) (p : Part) → (kept_piece keep_low left p).span.first ≡ kept_first keep_low p.span left
-piece_first true left p = refl
-piece_first false left p = refl
-
 -- a piece of an extent begins where the extent does, or behind what was cut off
 cut_first : (s : Space) (c : ℕ) (keep_low : Bool) (span : Span) (left : ℕ) (answer : Answer) (kept : Span) → Cut kept ≡ (after_cut s c keep_low (Split span left) answer).reply → kept.first ≡ kept_first keep_low span left
-cut_first s c keep_low span left (Placed first b z) kept e = absurd (cc)
-cut_first s c keep_low span left Refuses kept e =
-    elim (find (is_flight_at c span) s.parts) as (λ o. Cut kept ≡ (whole_at s o).reply → kept.first ≡ kept_first keep_low span left) [ None ↦ λ k. absurd (cc) | Some p ↦ λ k. absurd (cc) ] e
-cut_first s c keep_low span left Done kept e =
-    elim (find (is_flight_at c span) s.parts) as (λ o. find (is_flight_at c span) s.parts ≡ o → Cut kept ≡ (cut_at s keep_low left o).reply → kept.first ≡ kept_first keep_low span left) [
-      | None ↦ λ h k. absurd (cc)
-      | Some p ↦ λ h k.
-          let same : kept ≡ (kept_piece keep_low left p).span = cc in
-          ap (λ (x : Span). x.first) same ∙ piece_first keep_low left p ∙ ap (λ (x : Span). kept_first keep_low x left) (found_span c span s.parts p h).0
-    ] refl e
+cut_first s c keep_low span left answer kept e =
+    let found : (p : Part) → find (is_flight_at c span) s.parts ≡ Some p → p.span ≡ span = λ p h. (found_span c span s.parts p h).0 in grind (arith, found)
 
 -- regions land at the first byte of the extent
 landed_first : (s : Space) (c class count : ℕ) (span : Span) (first come : ℕ) → Landed first come ≡ (land_at s c class count (find (is_flight_at c span) s.parts)).reply → first ≡ 4096 * span.first
 landed_first s c class count span first come e =
-    elim (find (is_flight_at c span) s.parts) as (λ o. find (is_flight_at c span) s.parts ≡ o → Landed first come ≡ (land_at s c class count o).reply → first ≡ 4096 * span.first) [
-      | None ↦ λ h k. absurd (cc)
-      | Some p ↦ λ h k. let at : first ≡ 4096 * p.span.first = cc in at ∙ ap (λ (x : Span). 4096 * x.first) (found_span c span s.parts p h).0
-    ] refl e
+    let found : (p : Part) → find (is_flight_at c span) s.parts ≡ Some p → p.span ≡ span = λ p h. (found_span c span s.parts p h).0 in grind (arith, found)
 
 -- a free region of a slab stands at a multiple of the alignment of its class
 filled_aligned : (s : Space) (c class count addr : ℕ) (others : List ℕ) → Sound s → class < 36 → Regions (addr ∷ others) ≡ (after_fill s c class count).reply → align_at class ∣ addr
@@ -159,11 +119,10 @@ module _ (align size : ℕ) where
   -- ---- where a point leads
 
   commit_aligned : (wish : Wish) (span : Span) (b : Bool) → Starts wish span.first → NextAligned (commit wish span b)
-  commit_aligned wish span true starts = starts
-  commit_aligned wish span false starts = starts
+  commit_aligned wish span b starts = grind arith
 
   trim_aligned : (wish : Wish) (span : Span) (b : Bool) → Starts wish span.first → NextAligned (trim wish span b)
-  trim_aligned wish span b starts = cond_both (nat_lt wish.pages span.pages) _ _ NextAligned (λ _. starts) (λ _. commit_aligned wish span b starts)
+  trim_aligned wish span b starts = grind arith
 
   -- what is skipped is cut off, and otherwise nothing is
   skip_aligned : (wish : Wish) (span : Span) (b : Bool) (skip : ℕ) → Starts wish (span.first + skip) → NextAligned (turned (Looking wish) (Took span b skip))
@@ -212,29 +171,14 @@ module _ (align size : ℕ) where
 
   -- ---- the fold
 
-  starved_aligned : (v : Bool) → NextAligned (starved v)
-  starved_aligned true = tt
-  starved_aligned false = tt
-
-  step_aligned : (c : ℕ) (point : Point) (item : Item) → PointAligned point → Came c (Go point) item → NextAligned (step point item)
-  step_aligned c (Turns point) (Replied reply) knows (s, t, sound, (found, left, replied)) = turned_aligned s c found point reply sound knows replied
-  step_aligned c (Turns point) Starved knows came = starved_aligned (is_marked (op_of point))
-  step_aligned c (Asks point None) (Told asked) knows (s, t, sound, (is, kind, same)) = (knows, is)
-  step_aligned c (Asks point (Some asked)) (Replied reply) (knows, is) (s, t, sound, (found, left, replied)) = told_aligned s c found point asked reply knows is replied
-  step_aligned c (Tells span b) item knows came = absurd knows
-  step_aligned c point item knows came = tt
-
-  settle_aligned : (request : Request) (desk : DeskFacts) (arena : ℕ) (next : Next) → NextAligned next → NextAligned (settle request desk arena next).next
-  settle_aligned request desk arena (Over index point) knows = absurd knows
-  settle_aligned request desk arena More knows = absurd knows
-  settle_aligned request desk arena next knows = knows
-
-  run_aligned : (c : ℕ) (items : List Item) (request : Request) (desk : DeskFacts) (arena : ℕ) (next : Next) → NextAligned next → AllCame c (moment request desk arena next) items →
-      NextAligned (run (moment request desk arena next) items).stage.next
-  run_aligned c [] request desk arena next knows came = knows
-  run_aligned c (item ∷ items) request desk arena (Go point) knows (one, others) =
-      run_aligned c items request _ _ _ (settle_aligned request (desk_fed desk arena (Go point) item) arena (step point item) (step_aligned c point item knows one)) others
-  run_aligned c (item ∷ items) request desk arena next knows (one, others) = absurd one
+  next_aligned : (c : ℕ) (past : List Item) (next : Next) (item : Item) → NextAligned next → Came c next item → NextAligned (step_next next item)
+  next_aligned c past (Go (Turns point)) (Replied reply) knows (s, t, sound, (found, left, replied)) = turned_aligned s c found point reply sound knows replied
+  next_aligned c past (Go (Turns point)) Starved knows came = grind arith
+  next_aligned c past (Go (Asks point None)) (Told asked) knows (s, t, sound, (is, kind, same)) = (knows, is)
+  next_aligned c past (Go (Asks point (Some asked))) (Replied reply) (knows, is) (s, t, sound, (found, left, replied)) = told_aligned s c found point asked reply knows is replied
+  next_aligned c past (Go (Tells span b)) item knows came = absurd knows
+  next_aligned c past (Go point) item knows came = tt
+  next_aligned c past next item knows came = absurd came
 
   -- ---- where the memalign begins
 
@@ -262,4 +206,5 @@ module _ (align size : ℕ) where
 
 pub memaligns-are_aligned : MemalignsAreAligned
 memaligns-are_aligned c align size desk items addr class cached came e =
-    subst (NextAligned align size) e (run_aligned align size c items (Memalign align size) _ _ _ (begin_aligned align size desk cached) came)
+    subst (NextAligned align size) e (run_keeps (Came c) (AllCame c) (λ at item items came. came) (λ past next. NextAligned align size next)
+    (λ past. record { over = λ index point knows. absurd knows; gone = λ arena knows. tt; batch = λ addrs knows. absurd knows; done = λ knows. tt }) (next_aligned align size c) items [] (begin (Memalign align size) desk) came (begin_aligned align size desk cached))

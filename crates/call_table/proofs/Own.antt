@@ -1,10 +1,9 @@
 -- What a client owns, seen in the lists of the space: what the step finds, it finds among the client's own.
-use Rattle.std.proofs.Common.{◌≡◌, ℕ, ◌==◌, ◌||◌, Bool, true, false, not, List, [], ◌∷◌, ◌++◌, All, refl, ◌∙◌, ap, filter, find}
+use Rattle.std.proofs.Common.{arith, ◌≡◌, ℕ, ◌==◌, ◌||◌, Bool, true, false, not, List, [], ◌∷◌, ◌++◌, All, refl, ◌∙◌, ap, filter, find}
 use Rattle.std.specs.List.{list_any}
 use Rattle.std.proofs.lemmas.List.Elements.{All-head, All-tail, filter-append}
 use Rattle.space_model.specs.declared.Region.{Region}
 use Rattle.space_model.specs.declared.State.{State}
-use Rattle.space_model.specs.declared.State.TheVariants.{Flight}
 use Rattle.space_model.specs.declared.Life.{Life}
 use Rattle.space_model.specs.declared.Life.TheVariants.{Live, Absent, Dying}
 use Rattle.space_model.specs.Part.{is_flight, is_flight_at, exchanged}
@@ -39,8 +38,7 @@ flights_exchanged c gone parts pieces =
 -- ---- an arena that isn't live serves nobody
 
 not_mine : (c : ℕ) (state : State) → is_in_flight state ≡ false → is_flight c state ≡ false
-not_mine c (Flight d rest) h = absurd (cc)
-not_mine c state h = refl
+not_mine c state h = grind arith
 
 none_flies : (c : ℕ) (parts : List Part) → All (λ p. is_in_flight p.state ≡ false) parts → filter (λ p. is_flight c p.state) parts ≡ []
 none_flies c [] all = refl
@@ -70,8 +68,4 @@ nothing_at c s (Dying d) quiet h = has_nothing c s quiet.0 quiet.1 quiet.2 (none
 
 -- an arena in which the client has something is live
 pub live_where : (c : ℕ) (s : Space) → Sound s → ¬ Nothing (mine c s) → is_live s.life ≡ true
-live_where c s sound some =
-    elim (is_live s.life) as (λ b. is_live s.life ≡ b → b ≡ true) [
-      | true ↦ λ h. refl
-      | false ↦ λ h. absurd (some (nothing_at c s s.life sound.quiet h))
-    ] refl
+live_where c s sound some = let dead = nothing_at c s s.life sound.quiet in grind arith

@@ -3,7 +3,7 @@ use Rattle.std.proofs.Common.{append-nil, inl, inr, ◌⊎◌, ◌≡◌, ◌≢
 use Rattle.std.specs.Bool.{beq}
 use Rattle.std.specs.Option.{option_map, option_or}
 use Rattle.std.proofs.lemmas.Bool.Decides.{nat_tests}
-use Rattle.std.proofs.lemmas.Bool.{cond_both, eqb-true, ltb-true}
+use Rattle.std.proofs.lemmas.Bool.{cond_both, eqb-true, ltb-true, or_right}
 use Rattle.std.proofs.Math.ListN.{length-append}
 use Rattle.std.proofs.lemmas.List.Folds.{find-append}
 use Rattle.space_model.specs.declared.State.TheVariants.{Dirty}
@@ -33,8 +33,7 @@ Room stage bound later n = (stages_then later < stage) ⊎ ((stages_then later �
 
 -- fewer have room too
 pub fewer_room : (stage bound : ℕ) (later : Then) (m n : ℕ) → m ≤ n → Room stage bound later n → Room stage bound later m
-fewer_room stage bound later m n less (inl early) = inl early
-fewer_room stage bound later m n less (inr same) = inr (same.0, omega (arith, same.1))
+fewer_room stage bound later m n less room = grind arith
 
 -- a point of this stage has it
 pub near : (c : ℕ) (t : Space) (stage bound : ℕ) (later : Then) (point : Point) (n : ℕ) → stages point ≡ stages_then later → left c t point ≤ n + left_then later →
@@ -109,13 +108,10 @@ begins_not span first differ q h = elsewhere q.span.first (eqb-true _ _ (both_tr
 -- ---- the neighbour
 
 listed_itself : (r : Rest) → is_listed r (listed r) ≡ true
-listed_itself ToDirty = refl
-listed_itself r = refl
+listed_itself r = grind arith
 
 same_committed : (a b : Bool) → beq a b ≡ true → a ≡ b
-same_committed true true h = refl
-same_committed false false h = refl
-same_committed a b h = absurd (cc)
+same_committed a b h = grind arith
 
 -- two extents that belong to the same list, and are committed alike, may be merged
 merge_may : (p q : Part) → rest_of p.state ≡ rest_of q.state → p.committed ≡ q.committed → may_merge p q ≡ true
@@ -128,10 +124,6 @@ record Near (tries : ℕ) (p other : Part) (parts : List Part) : Type 0 where
   like : is_like p other ≡ true
   early : tries < 2
   side : ((tries == 0 && other.span.first == end_of p.span) || end_of other.span == p.span.first) ≡ true
-
-or_right : (a b : Bool) → b ≡ true → (a || b) ≡ true
-or_right true b h = refl
-or_right false b h = h
 
 early_first : (tries : ℕ) → (tries == 0) ≡ true → tries < 2
 early_first tries h = grind (arith, nat_tests)
@@ -250,8 +242,7 @@ drop_goes c t stage bound span false later p offers is found dirty backed room =
 )
 
 pub listed_dirty : (r : Rest) → is_listed r Dirty ≡ true → r ≡ ToDirty
-listed_dirty ToDirty h = refl
-listed_dirty r h = absurd (cc)
+listed_dirty r h = grind arith
 
 -- an extent that belongs to the dirty ones, of which none may stay, is dropped
 purge_goes : (c : ℕ) (s : Space) (own : Span) (tries : ℕ) (fresh : Bool) (later : Then) (lazy : Bool) (p : Part) → (mine c s).offers ≡ [] → IsThen later →

@@ -1,17 +1,17 @@
 -- The reasons of each point to which a call comes, and of its answer.
-use Rattle.std.proofs.Common.{rules, ℤ, negsuc, ◌≡◌, ℕ, ◌*◌, ◌≤◌, ◌^◌, ◌==◌, ◌&&◌, ◌⊎◌, inl, inr, Bool, true, false, not, min, max, List, [], ◌∷◌, ◌++◌, Option, None, Some, refl, sym, ◌∙◌, ap, subst, arith, nat_lt, append_assoc, append-nil, Contains, int_eq}
+use Rattle.std.proofs.Common.{rules, negsuc, ◌≡◌, ℕ, ◌*◌, ◌≤◌, ◌^◌, ◌==◌, ◌⊎◌, inl, inr, Bool, true, false, not, min, max, List, [], ◌∷◌, ◌++◌, Option, None, Some, refl, sym, ◌∙◌, ap, subst, arith, nat_lt, append_assoc, Contains, int_eq}
 use Rattle.std.proofs.lemmas.Bool.{cond_both, ltb-true, eqb-true, not-true, not-false}
 use Rattle.std.proofs.lemmas.Bool.Decides.{nat_tests}
 use Rattle.space_model.specs.Step.{step_of, after_cut, after_commit, after_grow}
-use Rattle.call_table.specs.Words.{Request, Malloc, Memalign, Free, FreeForeign, Publish, Take, Flush, Cache, Time, Reset, Destroy, Create, Bind, Item, Replied, Told, Starved, Given, Region, Finished, Arena, Limits, Answered, Refused, BadAnswer, NotHeld, Automatic, aligned_for, class_for, max_series, end_of, most_regions, BatchFacts, batch_of, cached_of, freeing, going, going_with, held_at, hit}
-use Rattle.call_table.specs.Words.{Wish, Later, Answers, DirtyToo, Then, Batches, Visiting, Change, Visits, TurnPoint, Filling, Looking, Landing, Giving, Finding, Taking, Offering, Advancing, Changing, Making, Resetting, Destroying, Dooming, Publishing, Owning, AskPoint, Skipping, Trimming, Growing, Paring, Needing, Granting, Committing, Merging, Easing, Returning, Decommitting, Forcing, Point, Turns, Asks, Tells, Next, Go, Over, More, Gone, Ends, Stage}
-use Rattle.call_table.specs.Words.{Refuses, Reply, NoArena, Nothing, Noted, Took, Grow, Cut, Whole, Refuse, Bad, Grown, Landed, NextFlight, Beside, Purge, Joined, Regions, LimitsAre, Taken, Lazy, Abandoned, Decommitted, Owned, InUse, Rest, Space, Span, Why, AskFacts, Held, DeskFacts}
-use Rattle.call_table.specs.Table.{answered_span, trimmed, alloc_of, ask_of, done_of, op_of, is_marked, starved, chunks_for, whole_chunks, step, turned, told, commit, trim, visited, onward, put_next, drop, limited, changed, took_over}
-use Rattle.call_table.specs.Runs.{batch_goes, begin_bind, begin_free, begin_get, begin_malloc, begin_memalign, begin_publish, begin_stage, first_turn, first_turn_but_0, get, is_alignment, moment, page_align, run, settle, share, small_hit, wish_for, time_of, after_time}
-use Rattle.call_table.specs.Desks.{desk_fed, flushes}
+use Rattle.call_table.specs.Words.{Request, Malloc, Memalign, Free, FreeForeign, Publish, Take, Flush, Cache, Time, Reset, Destroy, Create, Bind, Item, Replied, Told, Starved, Given, Region, Finished, Arena, Limits, Refused, BadAnswer, NotHeld, Automatic, aligned_for, class_for, most_regions, BatchFacts, batch_of, cached_of, freeing, going, going_with, held_at, hit}
+use Rattle.call_table.specs.Words.{Wish, Later, Answers, DirtyToo, Then, Batches, Visiting, Change, Visits, TurnPoint, Filling, Looking, Landing, Finding, Taking, Offering, Changing, Resetting, Destroying, Owning, AskPoint, Skipping, Trimming, Growing, Paring, Needing, Granting, Committing, Merging, Easing, Returning, Decommitting, Forcing, Point, Turns, Asks, Tells, Next, Go, Over, Gone, Ends, Stage}
+use Rattle.call_table.specs.Words.{Refuses, Reply, NoArena, Nothing, Noted, Took, Cut, Whole, Refuse, Bad, Grown, Landed, Regions, LimitsAre, Owned, Space, Span, Why, AskFacts, Held, DeskFacts}
+use Rattle.call_table.specs.Table.{answered_span, alloc_of, ask_of, done_of, op_of, is_marked, starved, whole_chunks, step, turned, told, commit, trim, put_next, took_over}
+use Rattle.call_table.specs.Runs.{batch_goes, begin, begin_free, begin_get, begin_malloc, begin_memalign, begin_publish, begin_stage, first_turn, first_turn_but_0, get, is_alignment, page_align, settle, share, small_hit, step_next, wish_for, time_of, after_time}
 use Rattle.call_table.specs.Laws.{with_found}
 use Rattle.call_table.specs.Causes.{extent, extent_of, NothingFits, WasGranted, IsNeeded, IsWishOf, GotCause, RegionCause, GivenCause, CauseOf, Came, AllCame, AnswersHaveCauses}
 use Rattle.call_table.proofs.Aligned.{failing_is_not, passing_is}
+use Rattle.call_table.proofs.Bounds.{Settles, run_keeps, settle_keeps}
 use Rattle.call_table.proofs.Causes.{cut_whole, commit_whole, grow_refused, grow_bad, grow_grown, last_in, more_in, extent_next, fits_more}
 
 -- what the client had at the start of its call
@@ -122,30 +122,8 @@ module _ (desk : DeskFacts) where
   trim_why : (request : Request) (items : List Item) (wish : Wish) (span : Span) (b : Bool) → Had request items wish span b → NextWhy request items (trim wish span b)
   trim_why request items wish span b had = cond_both (nat_lt wish.pages span.pages) _ _ (NextWhy request items) (λ _. had) (λ _. commit_why request items wish span b had)
 
-  visited_why : (request : Request) (items : List Item) (later : Later) → LaterWhy request items later → NextWhy request items (visited later)
-  visited_why request items (Answers given) why = why
-  visited_why request items (DirtyToo keep given) why = why
-
-  onward_why : (request : Request) (items : List Item) (later : Then) → ThenWhy request items later → NextWhy request items (onward later)
-  onward_why request items Batches why = tt
-  onward_why request items (Visiting visit left) why = cond_both (left == 0) _ _ (NextWhy request items) (λ _. visited_why request items visit.later why) (λ _. why)
-
   put_why : (request : Request) (items : List Item) (later : Then) (next : Option Span) → ThenWhy request items later → NextWhy request items (put_next later next)
-  put_why request items later None why = onward_why request items later why
-  put_why request items later (Some span) why = why
-
-  drop_why : (request : Request) (items : List Item) (span : Span) (lazy : Bool) (later : Then) → ThenWhy request items later → NextWhy request items (drop span lazy later)
-  drop_why request items span true later why = why
-  drop_why request items span false later why = why
-
-  limited_why : (request : Request) (items : List Item) (dirty muzzy : Option ℕ) → Contains items (Replied (LimitsAre dirty muzzy)) → NextWhy request items (limited dirty muzzy)
-  limited_why request items None None has = has
-  limited_why request items (Some d) None has = has
-  limited_why request items dirty muzzy has = has
-
-  changed_why : (request : Request) (items : List Item) (change : Change) → ChangeWhy request items change → NextWhy request items (changed change)
-  changed_why request items (Visits visit) why = why
-  changed_why request items change why = tt
+  put_why request items later next why = grind (arith, nat_tests)
 
   -- a region that landed, or was free in a slab, is of the class of the request
   landed_why : (request : Request) (items : List Item) (wish : Wish) (addr : ℕ) → IsWishOf request wish →
@@ -164,46 +142,20 @@ module _ (desk : DeskFacts) where
   unowned_why (FreeForeign at arena) items addr true is has = (is, has)
   unowned_why request items addr frees is has = absurd is
 
-  found_why : (request : Request) (items : List Item) (own : Span) (tries : ℕ) (fresh : Bool) (later : Then) (reply : Reply) → ThenWhy request (items ++ Replied reply ∷ []) later →
-      NextWhy request (items ++ Replied reply ∷ []) (turned (Finding own tries fresh later) reply)
-  found_why request items own tries fresh later (Beside other) why = cond_both (tries == 0 && other.first == end_of own) _ _ (NextWhy request _) (λ _. why) (λ _. cond_both (nat_lt tries 2) _ _ (NextWhy request _) (λ _. why) (λ _. tt))
-  found_why request items own tries fresh later (NextFlight next) why = put_why request _ later next why
-  found_why request items own tries true later (Purge lazy) why = drop_why request _ own lazy later why
-  found_why request items own tries fresh later reply why = tt
-
   turned_why : (request : Request) (items : List Item) (point : TurnPoint) (reply : Reply) → TurnWhy request items point →
       NextWhy request (items ++ Replied reply ∷ []) (turned point reply)
   turned_why request items (Filling wish count) (Regions []) why = tt
   turned_why request items (Filling wish count) (Regions (addr ∷ addrs)) why = landed_why request _ wish addr why (inr (addrs, last_in items (Replied (Regions (addr ∷ addrs)))))
-  turned_why request items (Filling wish count) Nothing why = why
   turned_why request items (Looking wish) (Took span b skip) why =
       let had : Had request (items ++ Replied (Took span b skip) ∷ []) wish span b = (why, extent_next items (Replied (Took span b skip)) _ refl) in
       cond_both (nat_lt 0 skip) _ _ (NextWhy request _) (λ _. had) (λ _. trim_why request _ wish span b had)
-  turned_why request items (Looking wish) (Grow series) why =
-      let fits : NothingFits (items ++ Replied (Grow series) ∷ []) = inl (series, last_in items (Replied (Grow series))) in
-      cond_both (nat_lt (chunks_for wish.pages) (min series max_series)) _ _ (NextWhy request _) (λ _. (why, fits)) (λ _. (why, fits))
   turned_why request items (Landing wish span) (Landed first count) why = landed_why request _ wish first why (inl (count, last_in items (Replied (Landed first count))))
-  turned_why request items (Landing wish span) reply why = tt
-  turned_why request items (Giving addrs) (NextFlight next) why = put_why request _ Batches next tt
-  turned_why request items (Giving addrs) reply why = tt
-  turned_why request items (Finding own tries fresh later) reply why = found_why request items own tries fresh later reply (then_more request items (Replied reply) later why)
-  turned_why request items (Taking visit left) (Taken span lazy listed) why = drop_why request _ span lazy _ (later_more request items _ visit.later why)
-  turned_why request items (Taking visit left) Nothing why = visited_why request _ visit.later (later_more request items _ visit.later why)
-  turned_why request items (Offering span later) Noted why = then_more request items (Replied Noted) later why
-  turned_why request items (Advancing now) (LimitsAre dirty muzzy) why = limited_why request _ dirty muzzy (last_in items (Replied (LimitsAre dirty muzzy)))
-  turned_why request items (Changing setting change) Noted why = changed_why request _ change (change_more change why)
-    where
-      change_more : (change : Change) → ChangeWhy request items change → ChangeWhy request (items ++ Replied Noted ∷ []) change
-      change_more (Visits visit) why = later_more request items (Replied Noted) visit.later why
-      change_more change why = tt
-  turned_why request items (Making index setting) Nothing why = cond_both (nat_lt index 31) _ _ (NextWhy request _) (λ _. tt) (λ _. last_in items (Replied Nothing))
-  turned_why request items (Resetting cached) (InUse others flights threads) why = last_in items (Replied (InUse others flights threads))
-  turned_why request items (Destroying cached) (InUse others flights threads) why = last_in items (Replied (InUse others flights threads))
-  turned_why request items Dooming Nothing why = tt
-  turned_why request items (Publishing addr) Noted why = tt
   turned_why request items (Owning addr frees past) (Owned class) why = owned_why request _ addr class frees why (last_in items (Replied (Owned class)))
   turned_why request items (Owning addr frees past) Nothing why = unowned_why request _ addr frees why (last_in items (Replied Nothing))
-  turned_why request items point reply why = let last = last_in items (Replied reply) in search rules
+  turned_why request items point Whole why = tt
+  turned_why request items point reply why =
+      let last = last_in items (Replied reply) in
+      first_of (search (rules, given_more, later_more, then_more, put_why), grind (arith, nat_tests, given_more, later_more, then_more))
 
   -- ---- after an answer was taken in
 
@@ -211,13 +163,11 @@ module _ (desk : DeskFacts) where
   abbrev pub Turned : ℕ → AskPoint → AskFacts → Reply → Type 0
   Turned c point asked reply = (s : Space) × (found : Option ℕ) × (reply ≡ (step_of s c (with_found found (done_of point asked))).reply)
 
-  -- the extent is as it was before the answer
-  still_had : (request : Request) (items earlier : List Item) (asked : AskFacts) (wish : Wish) (span : Span) (b : Bool) → items ≡ earlier ++ Told asked ∷ [] → Had request earlier wish span b → Had request items wish span b
-  still_had request items earlier asked wish span b told (wished, had) = (wished, ap extent_of told ∙ extent_next earlier (Told asked) (Some (extent span b)) had)
-
-  -- a piece of it is left after a cut
-  cut_had : (request : Request) (items : List Item) (wish : Wish) (span kept : Span) (b : Bool) → Had request items wish span b → Had request (items ++ Replied (Cut kept) ∷ []) wish kept b
-  cut_had request items wish span kept b (wished, had) = (wished, extent_next items (Replied (Cut kept)) (Some (extent span b)) had)
+  -- a piece of the extent is left after a cut
+  cut_had : (request : Request) (items earlier : List Item) (asked : AskFacts) (wish : Wish) (span kept : Span) (b : Bool) → items ≡ earlier ++ Told asked ∷ [] → Had request earlier wish span b →
+      Had request (items ++ Replied (Cut kept) ∷ []) wish kept b
+  cut_had request items earlier asked wish span kept b told (wished, had) =
+      (wished, extent_next items (Replied (Cut kept)) (Some (extent span b)) (ap extent_of told ∙ extent_next earlier (Told asked) (Some (extent span b)) had))
 
   -- nothing fits after a refused split
   whole_fits : (items : List Item) → NothingFits (items ++ Replied Whole ∷ [])
@@ -266,18 +216,11 @@ module _ (desk : DeskFacts) where
   heard_more request items earlier asked reply later told why =
       then_more request items (Replied reply) later (subst (λ (xs : List Item). ThenWhy request xs later) (sym told) (then_more request earlier (Told asked) later why))
 
-  trimmed_why : (request : Request) (items : List Item) (wish : Wish) (span : Span) (b : Bool) (reply : Reply) → Had request items wish span b → NextWhy request (items ++ Replied reply ∷ []) (trimmed wish b reply)
-  trimmed_why request items wish span b (Cut low) had = commit_why request _ wish low b (cut_had request items wish span low b had)
-  trimmed_why request items wish span b Whole had = (had.0, whole_fits items)
-  trimmed_why request items wish span b reply had = tt
-
   told_why : (request : Request) (items : List Item) (c : ℕ) (point : AskPoint) (asked : AskFacts) (reply : Reply) → HeardWhy request items point asked → Turned c point asked reply →
       NextWhy request (items ++ Replied reply ∷ []) (told point asked reply)
-  told_why request items c (Skipping wish span b skip) asked (Cut high) why came =
-      trim_why request _ wish high b (cut_had request items wish span high b (still_had request items why.earlier asked wish span b why.told why.why))
-  told_why request items c (Skipping wish span b skip) asked Whole why came = (why.why.0, whole_fits items)
-  told_why request items c (Trimming wish span b) asked reply why came = trimmed_why request items wish span b reply (still_had request items why.earlier asked wish span b why.told why.why)
-  told_why request items c (Paring wish span b) asked reply why came = trimmed_why request items wish span b reply (still_had request items why.earlier asked wish span b why.told why.why)
+  told_why request items c (Skipping wish span b skip) asked (Cut high) why came = trim_why request _ wish high b (cut_had request items why.earlier asked wish span high b why.told why.why)
+  told_why request items c (Trimming wish span b) asked (Cut low) why came = commit_why request _ wish low b (cut_had request items why.earlier asked wish span low b why.told why.why)
+  told_why request items c (Paring wish span b) asked (Cut low) why came = commit_why request _ wish low b (cut_had request items why.earlier asked wish span low b why.told why.why)
   told_why request items c (Growing wish chunks) asked Refuse why came =
       (why.why.0, fits_more items (Replied Refuse) (subst NothingFits (sym why.told) (fits_more why.earlier (Told asked) why.why.1)))
   told_why request items c (Growing wish chunks) asked (Bad reason) why (s, found, replied) = bad_why request items (Growing wish chunks) asked wish (chunks * 512) reason why.why.0 why refl s c found replied
@@ -292,33 +235,25 @@ module _ (desk : DeskFacts) where
       cond_both (nat_lt wish.pages span.pages) _ _ (NextWhy request _)
       (λ h. (had, record { asked = asked; told = asked_in request items (Needing wish) asked (Grown span b) why; exact = why.is; is_committed = b; zeroed = placed.0; placed = placed.1; replied = last_in items (Replied (Grown span b)); more = ltb-true _ _ h }))
       (λ h. commit_why request _ wish span b had)
-  told_why request items c (Granting wish span b) asked (Cut low) why came =
-      commit_why request _ wish low b (cut_had request items wish span low b (still_had request items why.earlier asked wish span b why.told why.why.0))
+  told_why request items c (Granting wish span b) asked (Cut low) why came = commit_why request _ wish low b (cut_had request items why.earlier asked wish span low b why.told why.why.0)
   told_why request items c (Granting wish span b) asked Whole why (s, found, replied) =
       refused_why request items (Granting wish span b) asked wish Whole why.why.0.0 why
       (cut_whole s c true span wish.pages asked.answer (subst (λ a. Whole ≡ (after_cut s c true a asked.answer).reply) why.is replied)) (refl, why.why.1)
-  told_why request items c (Committing wish span) asked Noted why came = why.why.0
   told_why request items c (Committing wish span) asked Whole why (s, found, replied) =
       refused_why request items (Committing wish span) asked wish Whole why.why.0 why
       (commit_whole s c span asked.answer (subst (λ a. Whole ≡ (after_commit s c a asked.answer).reply) why.is replied)) why.why.1
-  told_why request items c (Merging low high own_low fresh later) asked (Joined own) why came = heard_more request items why.earlier asked (Joined own) later why.told why.why
-  told_why request items c (Easing span later) asked (Lazy true) why came = heard_more request items why.earlier asked (Lazy true) later why.told why.why
-  told_why request items c (Returning span later) asked (NextFlight next) why came = put_why request _ later next (heard_more request items why.earlier asked (NextFlight next) later why.told why.why)
-  told_why request items c (Returning span later) asked (Abandoned next) why came = put_why request _ later next (heard_more request items why.earlier asked (Abandoned next) later why.told why.why)
-  told_why request items c (Decommitting span later) asked (Decommitted true) why came = heard_more request items why.earlier asked (Decommitted true) later why.told why.why
-  told_why request items c (Forcing span later) asked Noted why came = heard_more request items why.earlier asked Noted later why.told why.why
-  told_why request items c point asked reply why came = let more = λ (later : Then). heard_more request items why.earlier asked reply later why.told in search rules
+  told_why request items c point asked NoArena why came = tt
+  told_why request items c point asked reply why came =
+      let more = λ (later : Then). heard_more request items why.earlier asked reply later why.told in
+      first_of (search (rules, put_why, whole_fits), grind (arith, nat_tests))
 
   -- ---- the fold
 
-  batch_why : (request : Request) (items : List Item) (arena : ℕ) (batch : Option BatchFacts) → NextWhy request items (batch_goes arena batch).next
-  batch_why request items arena None = tt
-  batch_why request items arena (Some batch) = tt
+  settles_why : (request : Request) (items : List Item) → Settles (NextWhy request items)
+  settles_why request items = record { over = λ index point why. why; gone = λ arena why. inr why; batch = λ addrs why. tt; done = λ why. tt }
 
   pub settle_why : (request : Request) (items : List Item) (now : DeskFacts) (arena : ℕ) (next : Next) → NextWhy request items next → NextWhy request items (settle request now arena next).next
-  settle_why request items now arena More why = batch_why request items arena (batch_of (going (flushes request) now))
-  settle_why request items now arena Gone why = inr why
-  settle_why request items now arena next why = why
+  settle_why request items = settle_keeps (NextWhy request items) (settles_why request items) request
 
   starved_why : (request : Request) (items : List Item) (v : Bool) → NextWhy request (items ++ Starved ∷ []) (starved v)
   starved_why request items true = last_in items Starved
@@ -333,14 +268,9 @@ module _ (desk : DeskFacts) where
   step_why request items c (Tells span b) Starved why came = tt
   step_why request items c point item why came = tt
 
-  run_why : (request : Request) (c : ℕ) (items past : List Item) (now : DeskFacts) (arena : ℕ) (next : Next) (answer : Answered) → NextWhy request past next → AllCame c (moment request now arena next) items →
-      (run (moment request now arena next) items).stage.next ≡ Ends answer → CauseOf desk request (past ++ items) answer
-  run_why request c [] past now arena next answer why came e =
-      subst (λ (xs : List Item). CauseOf desk request xs answer) (sym (append-nil past)) (subst (NextWhy request past) e why)
-  run_why request c (item ∷ items) past now arena (Go point) answer why (one, others) e =
-      subst (λ (xs : List Item). CauseOf desk request xs answer) (append_assoc past (item ∷ []) items)
-      (run_why request c items (past ++ item ∷ []) _ _ _ answer (settle_why request _ (desk_fed now arena (Go point) item) arena (step point item) (step_why request past c point item why one)) others e)
-  run_why request c (item ∷ items) past now arena next answer why (one, others) e = absurd one
+  next_why : (request : Request) (c : ℕ) (past : List Item) (next : Next) (item : Item) → NextWhy request past next → Came c next item → NextWhy request (past ++ item ∷ []) (step_next next item)
+  next_why request c past (Go point) item why came = step_why request past c point item why came
+  next_why request c past next item why came = absurd came
 
   -- ---- where a request begins
 
@@ -372,16 +302,13 @@ module _ (desk : DeskFacts) where
       got_why (Some region) e = (refl, inl (region, e, refl))
       got_why None e = get_why (Memalign align size) (aligned_for size align) (page_align align) (share (aligned_for size align) desk) refl
 
-  time_why : (rest : Rest) (ms : ℤ) (request : Request) → ChangeWhy request [] (after_time rest ms)
-  time_why rest ms request = cond_both (int_eq ms (negsuc 0)) _ _ (ChangeWhy request []) (λ _. tt) (λ _. tt)
-
-  bind_why : (arena index : ℕ) → NextWhy (Bind index) [] (begin_bind arena index).next
-  bind_why arena index =
-      cond_both (index == arena) _ _ (λ (at : Stage). NextWhy (Bind index) [] at.next) (λ _. tt) (λ _. first_why (Bind index) index _ tt)
+  batch_why : (request : Request) (arena : ℕ) (batch : Option BatchFacts) → NextWhy request [] (batch_goes arena batch).next
+  batch_why request arena None = tt
+  batch_why request arena (Some batch) = tt
 
   free_why : (addr : ℕ) (held : Option Held) → held_at addr desk ≡ held → NextWhy (Free addr) [] (begin_free addr held desk).next
   free_why addr None e = (refl, e)
-  free_why addr (Some region) e = batch_why (Free addr) [] region.arena (batch_of (going_with (freeing region desk).hand false desk))
+  free_why addr (Some region) e = batch_why (Free addr) region.arena (batch_of (going_with (freeing region desk).hand false desk))
 
   publish_why : (addr : ℕ) (held : Option Held) → held_at addr desk ≡ held → NextWhy (Publish addr) [] (begin_publish addr held).next
   publish_why addr None e = (refl, e)
@@ -394,15 +321,17 @@ module _ (desk : DeskFacts) where
   begin_why (FreeForeign addr index) = first_why (FreeForeign addr index) index (Owning addr true false) refl
   begin_why (Publish addr) = publish_why addr (held_at addr desk) refl
   begin_why (Take addr index) = first_why (Take addr index) index (Owning addr false false) refl
-  begin_why Flush = batch_why Flush [] desk.arena (batch_of (going true desk))
+  begin_why Flush = batch_why Flush desk.arena (batch_of (going true desk))
   begin_why (Cache true) = tt
-  begin_why (Cache false) = batch_why (Cache false) [] desk.arena (batch_of (going true desk))
-  begin_why (Time index rest ms now) = first_why (Time index rest ms now) index (Changing (time_of rest ms now) (after_time rest ms)) (time_why rest ms (Time index rest ms now))
+  begin_why (Cache false) = batch_why (Cache false) desk.arena (batch_of (going true desk))
+  begin_why (Time index rest ms now) =
+      first_why (Time index rest ms now) index (Changing (time_of rest ms now) (after_time rest ms)) (cond_both (int_eq ms (negsuc 0)) _ _ (ChangeWhy (Time index rest ms now) []) (λ _. tt) (λ _. tt))
   begin_why (Reset index) = but_0_why (Reset index) index (Resetting (cached_of index desk)) (λ e. e) tt
   begin_why (Destroy index) = but_0_why (Destroy index) index (Destroying (cached_of index desk)) (λ e. e) tt
   begin_why (Create box_no dirty_ms muzzy_ms now) = tt
-  begin_why (Bind index) = bind_why desk.arena index
+  begin_why (Bind index) = cond_both (index == desk.arena) _ _ (λ (at : Stage). NextWhy (Bind index) [] at.next) (λ _. tt) (λ _. first_why (Bind index) index _ tt)
   begin_why request = first_why request _ _ tt
 
 pub answers-have_causes : AnswersHaveCauses
-answers-have_causes c request desk items answer came e = run_why desk request c items [] _ _ _ answer (begin_why desk request) came e
+answers-have_causes c request desk items answer came e =
+    subst (NextWhy desk request items) e (run_keeps (Came c) (AllCame c) (λ at item items came. came) (NextWhy desk request) (settles_why desk request) (next_why desk request c) items [] (begin request desk) came (begin_why desk request))

@@ -1,81 +1,28 @@
 -- Whoever has the room that is needed at a point has it wherever the call goes.
-use Rattle.std.proofs.Common.{◌≡◌, ℕ, ◌+◌, ◌-◌, ◌*◌, ◌<◌, ◌≤◌, ◌==◌, ◌&&◌, Bool, true, false, cond, max, min, [], Option, None, Some, refl, sym, ap, subst, arith, length, nat_lt, sum_by}
-use Rattle.std.proofs.lemmas.Bool.{cond_both, eqb-true, ltb-true}
+use Rattle.std.proofs.Common.{◌≡◌, ℕ, ◌+◌, ◌-◌, ◌*◌, ◌<◌, ◌≤◌, Bool, true, false, cond, max, [], Option, None, Some, refl, sym, ap, subst, arith, length, sum_by}
 use Rattle.std.proofs.lemmas.Bool.Decides.{nat_tests}
 use Rattle.std.proofs.lemmas.List.Sums.{length-filter}
 use Rattle.space_model.specs.Part.{is_flight}
 use Rattle.space_model.specs.Flights.{flight, lost, won}
 use Rattle.space_model.specs.Step.{op_stands, step_of}
-use Rattle.space_model.proofs.Pieces.{both_true}
 use Rattle.space_model.proofs.Steps.{op_keeps}
-use Rattle.call_table.specs.Words.{Replied, Told, Starved, Op, Reply, Nothing, Noted, Took, Grow, Cut, Refuse, Grown, Landed, NextFlight, Beside, Purge, Joined, Regions, LimitsAre as Limits, Taken, Lazy, Abandoned, Decommitted, Doomed, Owned, Space, Span, Sound, Mine, mine, AskFacts, max_series, end_of, same_span}
-use Rattle.call_table.specs.Words.{Wish, Later, Answers, Then, Batches, Visiting, Change, Stops, TurnPoint, Filling, Looking, Landing, Giving, Finding, Taking, Offering, Advancing, Changing, Making, Resetting, Destroying, Dooming, Publishing, Owning, AskPoint, Skipping, Trimming, Growing, Paring, Needing, Granting, Committing, Merging, Easing, Returning, Decommitting, Forcing, Turns, Asks, Tells, Next, Go}
-use Rattle.call_table.specs.Table.{is_marked, op_of, done_of, starved, turned, told, chunks_for, commit, trim, visited, onward, put_next, drop, limited, changed}
+use Rattle.call_table.specs.Words.{Replied, Told, Starved, Op, Reply, Nothing, Took, Refuse, Regions, Taken, Space, Sound, Mine, mine, AskFacts, same_span}
+use Rattle.call_table.specs.Words.{TurnPoint, Filling, Looking, Landing, Finding, Taking, AskPoint, Skipping, Turns, Asks, Tells, Next, Go}
+use Rattle.call_table.specs.Table.{is_marked, op_of, done_of, starved, turned, told}
 use Rattle.call_table.specs.Knows.{Idle, KnowsTurn}
 use Rattle.call_table.specs.Laws.{Keeps, left, stages, with_found}
-use Rattle.call_table.specs.Rooms.{empties, flying, looks_to_come, needed_ask, needed_next, needed_turn, room_then, RoomsSuffice}
+use Rattle.call_table.specs.Rooms.{empties, flying, needed_ask, needed_next, needed_turn, room_then, RoomsSuffice}
 use Rattle.call_table.proofs.Lists.{filter-fewer}
 use Rattle.call_table.proofs.Standing.{wants-stand}
 use Rattle.call_table.proofs.Steps.{never_starves, starved_keeps, steps-keep}
 
--- ---- where it goes, at most so many turns come
-
--- no more turns than so many come where it goes next
-abbrev pub Most : ℕ → ℕ → Next → Type 0
-Most g n next = needed_next g next ≤ n
-
-commit_most : (g n : ℕ) (wish : Wish) (span : Span) (b : Bool) → 2 ≤ n → Most g n (commit wish span b)
-commit_most g n wish span true some = omega (arith, some)
-commit_most g n wish span false some = some
-
-trim_most : (g n : ℕ) (wish : Wish) (span : Span) (b : Bool) → 5 ≤ n → Most g n (trim wish span b)
-trim_most g n wish span b some = cond_both (nat_lt wish.pages span.pages) _ _ (Most g n) (λ _. some) (λ _. commit_most g n wish span b (omega (arith, some)))
-
-visited_most : (g n : ℕ) (later : Later) → Most g n (visited later)
-visited_most g n (Answers given) = omega arith
-visited_most g n later = omega arith
-
-onward_most : (g n : ℕ) (later : Then) → Most g n (onward later)
-onward_most g n Batches = omega arith
-onward_most g n (Visiting visit left) = cond_both (left == 0) _ _ (Most g n) (λ _. visited_most g n visit.later) (λ _. omega arith)
-
-drop_most : (g n : ℕ) (span : Span) (lazy : Bool) (later : Then) → 16 * (g - 1) + 10 ≤ n → Most g n (drop span lazy later)
-drop_most g n span true later some = some
-drop_most g n span false later some = omega (arith, some)
-
-put_most : (g n : ℕ) (later : Then) (next : Option Span) → 16 * (g - 1) + 15 ≤ n → Most g n (put_next later next)
-put_most g n later None some = onward_most g n later
-put_most g n later (Some span) some = omega (arith, some)
-
-limited_most : (g n : ℕ) (dirty muzzy : Option ℕ) → Most g n (limited dirty muzzy)
-limited_most g n None None = omega arith
-limited_most g n (Some d) None = omega arith
-limited_most g n dirty muzzy = omega arith
-
-changed_most : (g n : ℕ) (change : Change) → Most g n (changed change)
-changed_most g n Stops = omega arith
-changed_most g n change = omega arith
-
 -- ---- a turn that takes memory
 
 -- behind a turn that takes memory come at most 16 turns without by each extent in flight, and 16 where there is none
-marked_most : (g : ℕ) (point : TurnPoint) (reply : Reply) → is_marked (op_of point) ≡ true → Most g (16 * max 1 g) (turned point reply)
+marked_most : (g : ℕ) (point : TurnPoint) (reply : Reply) → is_marked (op_of point) ≡ true → needed_next g (turned point reply) ≤ 16 * max 1 g
 marked_most g (Filling wish count) (Regions []) may = omega arith
-marked_most g (Looking wish) (Took span b skip) may = cond_both (nat_lt 0 skip) _ _ (Most g _) (λ _. omega arith) (λ _. trim_most g _ wish span b (omega arith))
-marked_most g (Looking wish) (Grow series) may = cond_both (nat_lt (chunks_for wish.pages) (min series max_series)) _ _ (Most g _) (λ _. omega arith) (λ _. omega arith)
-marked_most g (Giving addrs) (NextFlight next) may = put_most g _ Batches next (omega arith)
-marked_most g (Taking visit n) (Taken span lazy listed) may = drop_most g _ span lazy _ (omega arith)
-marked_most g (Taking visit n) Nothing may = visited_most g _ visit.later
-marked_most g (Advancing now) (Limits dirty muzzy) may = limited_most g _ dirty muzzy
-marked_most g (Changing setting change) Noted may = changed_most g _ change
-marked_most g (Making index setting) Nothing may = cond_both (nat_lt index 31) _ _ (Most g _) (λ _. omega arith) (λ _. omega arith)
-marked_most g (Resetting cached) (Purge lazy) may = omega arith
-marked_most g (Destroying cached) Noted may = omega arith
-marked_most g Dooming (Doomed span b) may = omega arith
-marked_most g (Publishing addr) Noted may = omega arith
-marked_most g (Owning addr true past) (Owned class) may = omega arith
-marked_most g (Owning addr frees past) Nothing may = omega arith
-marked_most g point reply may = first_of (omega arith, cc)
+marked_most g point Refuse may = omega arith
+marked_most g point reply may = first_of (grind (arith, nat_tests), cc)
 
 -- ---- a turn that takes none
 
@@ -84,57 +31,19 @@ abbrev pub HasNext : ℕ → Next → Type 0
 HasNext g (Go (Turns (Finding own tries fresh later))) = 0 < g
 HasNext g next = Unit {0}
 
-put_spends : (g n : ℕ) (later : Then) (next : Option Span) → HasNext g (put_next later next) → (0 < g → 16 * g ≤ n) → 1 ≤ n → needed_next g (put_next later next) + 1 ≤ n
-put_spends g n later None has much some = let none = onward_most g 0 later in omega (arith, none, some)
-put_spends g n later (Some span) has much some = let all = much has in omega (arith, all, has)
-
-looks_some : (tries : ℕ) → 1 ≤ looks_to_come tries
-looks_some tries = grind (arith, nat_tests)
-
-looks_early : (tries : ℕ) → tries < 2 → 3 ≤ looks_to_come tries
-looks_early tries early = grind (arith, nat_tests)
-
-found_spends : (f g : ℕ) (own : Span) (tries : ℕ) (fresh : Bool) (later : Then) (found : Option ℕ) (c : ℕ) (s : Space) (reply : Reply) →
-    g + lost (with_found found (op_of (Finding own tries fresh later))) reply ≡ f + won c s (with_found found (op_of (Finding own tries fresh later))) reply →
-    HasNext g (turned (Finding own tries fresh later) reply) → 0 < f → needed_next g (turned (Finding own tries fresh later) reply) + 1 ≤ needed_turn f (Finding own tries fresh later)
-found_spends f g own tries fresh later found c s (Beside other) e has some =
-    cond_both (tries == 0 && other.first == end_of own) _ _ (λ next. needed_next g next + 1 ≤ needed_turn f (Finding own tries fresh later))
-    (λ h. let all : looks_to_come tries ≡ 5 = ap looks_to_come (eqb-true _ _ (both_true (tries == 0) _ h).0) in omega (arith, all, e, some))
-    (λ _. cond_both (nat_lt tries 2) _ _ (λ next. needed_next g next + 1 ≤ needed_turn f (Finding own tries fresh later))
-    (λ k. omega (arith, looks_early tries (ltb-true _ _ k), e, some)) (λ _. omega (arith, looks_some tries)))
-found_spends f g own tries fresh later found c s (NextFlight next) e has some =
-    put_spends g _ later next has (λ more. omega (arith, e, more, looks_some tries)) (omega (arith, looks_some tries))
-found_spends f g own tries true later found c s (Purge lazy) e has some =
-    let most = drop_most g (16 * (g - 1) + 10) own lazy later (omega arith) in omega (arith, e, most, looks_some tries)
-found_spends f g own tries fresh later found c s reply e has some = omega (arith, looks_some tries)
-
 turned_spends : (f g : ℕ) (point : TurnPoint) (found : Option ℕ) (c : ℕ) (s : Space) (reply : Reply) → is_marked (op_of point) ≡ false →
     g + lost (with_found found (op_of point)) reply ≡ f + won c s (with_found found (op_of point)) reply →
     HasNext g (turned point reply) → HasNext f (Go (Turns point)) → needed_next g (turned point reply) + 1 ≤ needed_turn f point
-turned_spends f g (Landing wish span) found c s (Landed first count) may e has some = omega arith
-turned_spends f g (Finding own tries fresh later) found c s reply may e has some = found_spends f g own tries fresh later found c s reply e has some
-turned_spends f g (Offering span later) found c s Noted may e has some = omega (arith, e)
-turned_spends f g point found c s reply may e has some = first_of (omega arith, cc)
+turned_spends f g (Landing wish span) found c s Nothing may e has some = omega arith
+turned_spends f g point found c s Nothing may e has some = first_of (grind (arith, nat_tests), cc)
+turned_spends f g point found c s reply may e has some = first_of (grind (arith, nat_tests), cc)
 
 told_spends : (f g : ℕ) (point : AskPoint) (asked : AskFacts) (found : Option ℕ) (c : ℕ) (s : Space) (reply : Reply) →
     g + lost (with_found found (done_of point asked)) reply ≡ f + won c s (with_found found (done_of point asked)) reply →
     HasNext g (told point asked reply) → needed_next g (told point asked reply) + 1 ≤ needed_ask f point
-told_spends f g (Skipping wish span b skip) asked found c s (Cut high) e has = let most = trim_most g 5 wish high b (omega arith) in omega (arith, most)
-told_spends f g (Trimming wish span b) asked found c s (Cut low) e has = let most = commit_most g 2 wish low b (omega arith) in omega (arith, most)
-told_spends f g (Growing wish chunks) asked found c s Refuse e has = omega arith
-told_spends f g (Paring wish span b) asked found c s (Cut low) e has = let most = commit_most g 2 wish low b (omega arith) in omega (arith, most)
-told_spends f g (Needing wish) asked found c s (Grown span b) e has =
-    let most = cond_both (nat_lt wish.pages span.pages) (Go (Asks (Granting wish span b) None)) (commit wish span b) (Most g 3) (λ _. omega arith) (λ _. commit_most g 3 wish span b (omega arith)) in omega (arith, most)
-told_spends f g (Granting wish span b) asked found c s (Cut low) e has = let most = commit_most g 2 wish low b (omega arith) in omega (arith, most)
-told_spends f g (Committing wish span) asked found c s Noted e has = omega arith
-told_spends f g (Merging low high true fresh later) asked found c s (Joined own) e has = omega (arith, e)
-told_spends f g (Merging low high false fresh later) asked found c s (Joined own) e has = omega (arith, e)
-told_spends f g (Easing span later) asked found c s (Lazy true) e has = omega (arith, e)
-told_spends f g (Returning span later) asked found c s (NextFlight next) e has = put_spends g (16 * f + 8) later next has (λ more. omega (arith, e)) (omega arith)
-told_spends f g (Returning span later) asked found c s (Abandoned next) e has = put_spends g (16 * f + 8) later next has (λ more. omega (arith, e)) (omega arith)
-told_spends f g (Decommitting span later) asked found c s (Decommitted true) e has = omega (arith, e)
-told_spends f g (Forcing span later) asked found c s Noted e has = omega (arith, e)
-told_spends f g point asked found c s reply e has = omega (arith, e)
+told_spends f g (Skipping wish span b skip) asked found c s Nothing e has = omega arith
+told_spends f g point asked found c s Nothing e has = grind (arith, nat_tests)
+told_spends f g point asked found c s reply e has = grind (arith, nat_tests)
 
 -- ---- the room
 

@@ -20,3 +20,6 @@ limit_once first behind most = grind arith
 pub all_behind : (place count : ℕ) → place ≤ 1 → place ≤ count → (1 ≤ count → 1 ≤ place) → range_with_len place (count - place) ≡ range_with_len 1 (count - 1)
 all_behind place zero most within some = let none : place ≡ 0 = omega (arith, within) in ap (λ p. range_with_len p (0 - p)) none
 all_behind place (suc count) most within some = let one : place ≡ 1 = omega (arith, most, some (omega arith)) in ap (λ p. range_with_len p (suc count - p)) one
+
+-- what tells where regions that landed are cached
+pub ruleset landings = (landed_more, all_behind)

@@ -1,14 +1,14 @@
 -- What is always true between a call and the space of its arena.
-use Rattle.std.specs.Prelude.{◌≡◌, ℕ, ◌+◌, ◌-◌, ◌*◌, ◌<◌, ◌≤◌, ◌==◌, ◌⊎◌, true, length, Contains, Some, Bool, Option, None, if◌then◌else◌, flat_map}
+use Rattle.std.specs.Prelude.{◌≡◌, List, [], ◌++◌, ℕ, ◌+◌, ◌-◌, ◌*◌, ◌<◌, ◌≤◌, ◌==◌, ◌⊎◌, true, length, Contains, Some, Bool, Option, None, if◌then◌else◌, flat_map}
 use Rattle.space_model.specs.declared.Op.TheVariants.{GrowDone, OfferDone}
 use Rattle.space_model.specs.Step.{step_of, op_stands}
 use Rattle.space_model.specs.Settings.{is_decay_time}
 use Rattle.space_model.specs.Purging.{is_purgeable}
-use Rattle.call_table.specs.Words.{Request, Time, Create, HookBox, GrowLimit as SetGrowLimit, Item, Replied, Told, Starved, Op, Space, Sound, Mine, mine, AskFacts, Held, DeskFacts, max_series, AnswersTo, cached_of, held_at}
+use Rattle.call_table.specs.Words.{Request, Time, Create, HookBox, GrowLimit as SetGrowLimit, Item, Replied, Told, Starved, Answered, Op, Space, Sound, Mine, mine, AskFacts, Held, DeskFacts, max_series, AnswersTo, cached_of, held_at}
 use Rattle.call_table.specs.Words.{Visit, Later, Answers, DirtyToo, Then, Batches, Visiting, Change, Stops, Visits, Leaves, TurnPoint, Filling, Looking, Landing, Giving, Finding, Taking, Offering, Advancing, Changing, Making, Resetting, Destroying, Dooming, AskPoint, Skipping, Trimming, Growing, Paring, Needing, Granting, Committing, Merging, Easing, Returning, Decommitting, Forcing, Point, Turns, Asks, Tells, Next, Go, Over, More, Ends, Nowhere, Stage}
 use Rattle.call_table.specs.Table.{Want, WantTurn, WantAsk, want, step, is_marked}
 use Rattle.call_table.specs.Knows.{Idle, Knows, is_held, is_served}
-use Rattle.call_table.specs.Runs.{begin_stage, settle}
+use Rattle.call_table.specs.Runs.{IsRun, begin_stage, settle}
 
 -- ---- what may be fed
 
@@ -163,6 +163,11 @@ StepsKeep = (c : ℕ) (s t : Space) (point : Point) (item : Item) → Sound s �
 -- what a call knows is of its client's own alone
 abbrev pub KnowledgeIsOwn : Type 0
 KnowledgeIsOwn = (c : ℕ) (s t : Space) (point : Point) → mine c t ≡ mine c s → Knows (mine c s) point → Knows (mine c t) point
+
+-- a whole run has one answer and leaves one desk, and no item comes behind it
+abbrev pub RunsEndOnce : Type 0
+RunsEndOnce = (had has last : DeskFacts) (request : Request) (items more : List Item) (answer other : Answered)
+    → IsRun had request items answer has → IsRun had request (items ++ more) other last → (more ≡ []) × (other ≡ answer) × (last ≡ has)
 
 -- ---- where a request begins
 

@@ -1,9 +1,9 @@
 -- The run of a call: where a request begins, and the fold of the table over what the call is fed.
-use Rattle.std.specs.Prelude.{ℕ, ◌/◌, ◌^◌, ◌==◌, ◌&&◌, Bool, true, false, not, nat_lt, max, min, ℤ, negsuc, List, [], ◌∷◌, Option, None, Some, if◌then◌else◌}
+use Rattle.std.specs.Prelude.{◌≡◌, ℕ, ◌/◌, ◌^◌, ◌==◌, ◌&&◌, Bool, true, false, not, nat_lt, max, min, ℤ, negsuc, List, [], ◌∷◌, Option, None, Some, if◌then◌else◌}
 use Rattle.std.specs.List.{list_any, range_with_len}
 use Rattle.std.specs.Ordering.{int_eq}
 use Rattle.thread_cache.specs.Desks.{not_holding}
-use Rattle.call_table.specs.Words.{Request, Malloc, Memalign, Free, FreeForeign, Publish, Take, Flush, Cache, PurgeAll, Decay, Time, Reset, Destroy, Create, Bind, HookBox, GrowLimit, Item, Region, Finished, Ok, TooLarge, BadAlign, NotHeld, NoSuchArena as NoArena, NoMemory, Automatic}
+use Rattle.call_table.specs.Words.{Request, Malloc, Memalign, Free, FreeForeign, Publish, Take, Flush, Cache, PurgeAll, Decay, Time, Reset, Destroy, Create, Bind, HookBox, GrowLimit, Item, Region, Finished, Answered, Ok, TooLarge, BadAlign, NotHeld, NoSuchArena as NoArena, NoMemory, Automatic}
 use Rattle.call_table.specs.Words.{Wish, Visit, Answers, DirtyToo, Change, Stops, Visits, Leaves, TurnPoint, Filling, Looking, Giving, Taking, Advancing, Changing, Making, Resetting, Destroying, Publishing, Owning, Turns, Next, Go, Over, More, Gone, Ends, Nowhere, Stage}
 use Rattle.call_table.specs.Words.{Rest, ToDirty, ToMuzzy, ToRetained, Setting, DirtyMs, MuzzyMs, SetBox, SetBound, SetLimit, MakeLive, Held, DeskFacts, aligned_for, class_for, pages_at, slots_at, most_regions, BatchFacts, batch_of, cached_of, freeing, going, going_with, held_at, hit, hitting}
 use Rattle.call_table.specs.Table.{step}
@@ -208,3 +208,8 @@ starved_after at item =
 abbrev pub run : Moment → List Item → Moment
 run at [] = at
 run at (item ∷ items) = run (after at item) items
+
+-- A whole run: a client that had this asked for this, and once its call was fed these items it had this answer and left it that.
+pub record IsRun (had : DeskFacts) (request : Request) (items : List Item) (answer : Answered) (has : DeskFacts) : Type 0 where
+  pub ends : (run (begin request had) items).stage.next ≡ Ends answer
+  pub leaves : (run (begin request had) items).desk ≡ has

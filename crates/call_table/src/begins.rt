@@ -112,6 +112,7 @@ impl Stage {
     }
 
     /// A malloc of so many bytes at an alignment in bytes.
+    #[tactic(auto, using(crate::proofs::Aligned::alignments))]
     fn memalign(align: u64, size: u64, desk: &mut Desk) -> Stage
         ensures stage { result ≡ begin_memalign align size desk.old.facts }
         ensures facts { desk.new.facts ≡ begin_desk (Request.Memalign align size) desk.old.facts }

@@ -31,6 +31,7 @@ fn address_behind(first: u64, class: u8, place: u32) -> u64
 }
 
 /// The regions that landed are cached but for the first one, the lowest last.
+#[tactic(auto, using(crate::proofs::Shares::landings))]
 fn share_landed(desk: &mut Desk, arena: u32, class: u8, first: u64, count: u32)
     requires { class < 121 }
     ensures facts { desk.new.facts ≡ sharing arena class (landed_behind first class count) desk.old.facts }

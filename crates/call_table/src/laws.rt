@@ -1,7 +1,7 @@
 //! Laws of calls, as contracts of functions that do nothing.
 #![tactic(auto, using(crate::proofs::Proved::laws))]
 
-ghost use Rattle.call_table.specs.Laws.{BatchesKnow, BeginsKnow, KnowledgeIsOwn, StepsKeep, WantsStand};
+ghost use Rattle.call_table.specs.Laws.{BatchesKnow, BeginsKnow, KnowledgeIsOwn, RunsEndOnce, StepsKeep, WantsStand};
 ghost use Rattle.call_table.specs.Rooms.{RoomsSuffice};
 ghost use Rattle.call_table.specs.Bounds.{AsksAreFew, MallocsAreShort};
 ghost use Rattle.call_table.specs.Causes.{AnswersHaveCauses};
@@ -33,6 +33,11 @@ pub fn steps_keep()
 /// What a call knows is of its client's own alone, so it stands as long as that does.
 pub fn knowledge_is_own()
     ensures { KnowledgeIsOwn }
+{}
+
+/// What a call was fed decides its answer and what its client then has, and nothing comes behind that.
+pub fn runs_end_once()
+    ensures { RunsEndOnce }
 {}
 
 /// A malloc ends after at most 5 asks and 8 turns.

@@ -1,10 +1,8 @@
 -- A request begins, and so does a heap.
 use Rattle.std.proofs.Common.{◌≡◌, ◌≤◌, ◌<◌, ℕ, ◌+◌, List, Option, None, Some, Result, Ok, Err, OnOk, OnErr, length, replicate, slice_set, [], ◌∷◌, ◌++◌, length-append, refl, sym, ap, subst, ◌∙◌, arith}
 use Rattle.std.proofs.lemmas.List.{get_or-replicate, length-replicate, replicate-append-replicate, set-get_or}
-use Rattle.thread_cache.specs.declared.Held.{Held}
-use Rattle.thread_cache.specs.Desks.{held_at}
-use Rattle.call_table.specs.declared.needs.Request.{Request}
-use Rattle.call_table.specs.declared.needs.Request.TheVariants.{Malloc, Free}
+use Rattle.call_table.specs.Words.{Held, held_at}
+use Rattle.heap_core.specs.Words.{Request, Malloc, Free}
 use Rattle.call_table.specs.Laws.{IsInRange}
 use Rattle.call_table.specs.Runs.{begin}
 use Rattle.heap_core.specs.Arenas.{IsArenas, opening_records}

@@ -1,33 +1,18 @@
 -- A client that rests may begin any request.
-use Rattle.std.proofs.Common.{◌≡◌, ℕ, ◌+◌, ◌/◌, ◌<◌, ◌≤◌, ◌^◌, ◌==◌, ◌&&◌, inl, Bool, true, false, not, cond, List, [], ◌∷◌, Option, None, Some, length, refl, sym, ◌∙◌, ap, subst, arith, nat_lt, lt-ltb, min, negsuc, ℤ}
-use Rattle.std.specs.Ordering.{int_eq}
+use Rattle.std.proofs.Common.{◌≡◌, ℕ, ◌+◌, ◌/◌, ◌<◌, ◌≤◌, ◌^◌, ◌==◌, ◌&&◌, inl, true, false, not, cond, List, [], ◌∷◌, Option, None, Some, length, refl, sym, ◌∙◌, ap, subst, arith, nat_lt, lt-ltb, min, ℤ}
 use Rattle.std.proofs.lemmas.Bool.{ltb-true}
 use Rattle.std.proofs.lemmas.Bool.Decides.{nat_tests}
 use Rattle.std.proofs.lemmas.List.Sums.{sum_by-cons}
-use Rattle.size_classes.specs.Classes.{aligned_for, class_for, slots_at}
-use Rattle.space_model.specs.declared.entries.Setting.TheVariants.{HookBox as SetBox, Bind as SetBound, GrowLimit as SetLimit, Live as MakeLive}
-use Rattle.space_model.specs.declared.parts.Rest.{Rest}
-use Rattle.space_model.specs.declared.parts.Rest.TheVariants.{Dirty as ToDirty, Muzzy as ToMuzzy, Retained as ToRetained}
-use Rattle.space_model.specs.Slabs.{most_regions}
-use Rattle.thread_cache.specs.declared.Held.{Held}
-use Rattle.thread_cache.specs.Caches.{cached_in}
-use Rattle.thread_cache.specs.Desks.{DeskFacts, batch_of, cached_of, caching, freeing, going, going_with, has_slot, held_at, hit, hitting, is_cacheable, not_holding}
-use Rattle.call_table.specs.declared.needs.Answered.TheVariants.{Ok, TooLarge, BadAlign, NoArena, NotHeld, Automatic}
-use Rattle.call_table.specs.declared.needs.Given.TheVariants.{Region, Done as Finished}
-use Rattle.call_table.specs.declared.needs.Request.{Request}
-use Rattle.call_table.specs.declared.needs.Request.TheVariants.{Malloc, Memalign, Free, FreeForeign, Publish, Take, Flush, Cache, Purge as PurgeAll, Decay, Time, Reset, Destroy, Create, Bind, HookBox, GrowLimit}
-use Rattle.call_table.specs.declared.points.Change.TheVariants.{Stops, Visits, Leaves}
-use Rattle.call_table.specs.declared.points.TurnPoint.{TurnPoint}
-use Rattle.call_table.specs.declared.points.TurnPoint.TheVariants.{Filling, Looking, Taking, Advancing, Changing, Making, Resetting, Destroying, Publishing, Owning}
-use Rattle.call_table.specs.declared.points.Point.TheVariants.{Turns}
-use Rattle.call_table.specs.declared.points.Next.{Next}
-use Rattle.call_table.specs.declared.points.Next.TheVariants.{Go, Ends}
-use Rattle.call_table.specs.declared.calls.Stage.{Stage}
+use Rattle.thread_cache.specs.Desks.{has_slot, not_holding}
+use Rattle.heap_core.specs.Words.{Request, Malloc, Memalign, Free, FreeForeign, Publish, Take, Flush, Cache, PurgeAll, Decay, Time, Reset, Destroy, Create, Bind, HookBox, GrowLimit, Region, Finished, Ok, TooLarge, BadAlign, NotHeld, NoSuchArena as NoArena, Automatic}
+use Rattle.heap_core.specs.Words.{Stops, Leaves, TurnPoint, Filling, Looking, Taking, Advancing, Changing, Making, Resetting, Destroying, Publishing, Owning, Turns, Next, Go, Ends, Stage}
+use Rattle.call_table.specs.Words.{Rest, SetBox, SetBound, SetLimit, MakeLive, Held, DeskFacts, batch_of, cached_of, caching, freeing, going, going_with, held_at, hit, hitting, is_cacheable, aligned_for, class_for, slots_at, most_regions, cached_in}
 use Rattle.call_table.specs.Desks.{region_at}
 use Rattle.call_table.specs.Laws.{KnowsNext}
 use Rattle.call_table.specs.Rooms.{needed_at}
-use Rattle.call_table.specs.Runs.{after_time, batch_goes, begin, begin_bind, begin_free, begin_get, begin_malloc, begin_memalign, begin_publish, begin_stage, closed, desk_freed, desk_got, desk_published, first_turn, first_turn_but_0, is_alignment, page_align, purge_visit, share, small_hit, stage, time_of, whole_visit, wish_for}
+use Rattle.call_table.specs.Runs.{after_time, batch_goes, begin, begin_bind, begin_free, begin_get, begin_malloc, begin_memalign, begin_publish, begin_stage, closed, desk_freed, desk_got, desk_published, first_turn, first_turn_but_0, is_alignment, page_align, purge_visit, share, small_hit, stage, time_of, wish_for}
 use Rattle.call_table.proofs.Beginning.{begins-know}
+use Rattle.space_model.proofs.Pieces.{both_true}
 use Rattle.heap_core.specs.Arenas.{IsArenas}
 use Rattle.heap_core.specs.Clients.{IsIdle, mine_in}
 use Rattle.heap_core.specs.Records.{Record}
@@ -96,10 +81,6 @@ module _ (records : List Record) (c : ℕ) (is : IsArenas records) (idle : IsIdl
               (omega (arith, small), omega (arith, none))
           | false ↦ λ e some. absurd (omega (arith, some))
         ] refl many
-      where
-        both_true : (a b : Bool) → (a && b) ≡ true → (a ≡ true) × (b ≡ true)
-        both_true true b h = (refl, h)
-        both_true false b h = absurd (cc)
 
     lesser : (a b : ℕ) → min a b ≤ a
     lesser a b = grind arith
@@ -153,7 +134,7 @@ module _ (records : List Record) (c : ℕ) (is : IsArenas records) (idle : IsIdl
         ] knows
       where
         hit_so : (class : ℕ) (r : Held) → small_hit class desk ≡ Some r → hit class desk ≡ Some r
-        hit_so class r e = elim (nat_lt class 36) as (λ v. cond v (hit class desk) None ≡ Some r → hit class desk ≡ Some r) [ true ↦ λ h. h | false ↦ λ h. absurd (cc) ] e
+        hit_so class r e = grind arith
 
     -- ---- regions that go
 
@@ -202,12 +183,7 @@ module _ (records : List Record) (c : ℕ) (is : IsArenas records) (idle : IsIdl
     -- ---- settings
 
     time_suits : (index : ℕ) (rest : Rest) (ms : ℤ) (now : ℕ) → SuitsChange desk index (time_of rest ms now) (after_time rest ms)
-    time_suits index rest ms now = elim (int_eq ms (negsuc 0)) as (λ v. SuitsChange desk index (time_of rest ms now) (cond v Stops (Visits (whole_visit rest)))) [ true ↦ stays rest | false ↦ (stays rest, tt) ]
-      where
-        stays : (rest : Rest) → SuitsChange desk index (time_of rest ms now) Stops
-        stays ToDirty = tt
-        stays ToMuzzy = tt
-        stays ToRetained = tt
+    time_suits index rest ms now = grind arith
 
     bind_comes : (index : ℕ) → KnowsAt (begin_bind desk.arena index) → Comes records c (closed (Bind index) desk (begin_bind desk.arena index))
     bind_comes index knows =

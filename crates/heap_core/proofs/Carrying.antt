@@ -7,33 +7,20 @@ use Rattle.std.proofs.lemmas.List.Elements.{All-cons, All-nil, All-weaker, filte
 use Rattle.std.proofs.lemmas.List.FromFn.{length-range_with_len}
 use Rattle.std.proofs.lemmas.List.Sums.{sum_by-cons}
 use Rattle.size_classes.specs.Classes.{regions_at, size_at}
-use Rattle.space_model.specs.declared.entries.Reply.{Reply}
-use Rattle.space_model.specs.declared.entries.Reply.TheVariants.{NoArena, Noted, Purge, Busy}
-use Rattle.space_model.specs.declared.entries.Setting.{Setting}
-use Rattle.space_model.specs.declared.parts.Part.{Part}
 use Rattle.space_model.specs.declared.parts.Region.{Region}
-use Rattle.space_model.specs.declared.parts.Span.{Span}
-use Rattle.space_model.specs.declared.spaces.Space.{Space}
 use Rattle.space_model.specs.Ending.{emptied, ended, flight_count, held_count, if_free}
 use Rattle.space_model.specs.Holding.{is_published_at, take_over_at}
-use Rattle.space_model.specs.Own.{mine}
 use Rattle.space_model.specs.Part.{is_flight_at}
 use Rattle.space_model.specs.Region.{address_of, is_held_by_other, landing, region_of, regions_from}
-use Rattle.space_model.specs.Slabs.{fill_at, land_at, lowest_free, most_regions}
-use Rattle.space_model.specs.Sound.{Sound}
 use Rattle.space_model.specs.Span.{IsPlaced}
 use Rattle.space_model.specs.Step.{is_live, stays, step_of}
 use Rattle.space_model.specs.Stepped.{Stepped, is_dirty_time_over, is_lazy}
 use Rattle.space_model.proofs.Lists.{find_has}
 use Rattle.space_model.proofs.Pieces.{both_true}
-use Rattle.thread_cache.specs.declared.Held.{Held}
-use Rattle.thread_cache.specs.Desks.{DeskFacts, cached_of, discarding, empty_handed, freeing, gave, going, is_in}
-use Rattle.call_table.specs.declared.needs.Request.{Request}
-use Rattle.call_table.specs.declared.points.Wish.{Wish}
-use Rattle.call_table.specs.declared.points.Change.{Change}
-use Rattle.call_table.specs.declared.points.Change.TheVariants.{Stops, Visits, Leaves}
-use Rattle.call_table.specs.declared.points.TurnPoint.{TurnPoint}
-use Rattle.call_table.specs.declared.points.TurnPoint.TheVariants.{Filling, Looking, Landing, Giving, Finding, Taking, Offering, Advancing, Changing, Making, Resetting, Destroying, Dooming, Publishing, Owning}
+use Rattle.thread_cache.specs.Desks.{discarding, empty_handed, gave, is_in}
+use Rattle.heap_core.specs.Words.{Request}
+use Rattle.heap_core.specs.Words.{Wish, Change, Stops, Visits, Leaves, TurnPoint, Filling, Landing, Giving, Changing, Making, Resetting, Destroying, Publishing, Owning}
+use Rattle.call_table.specs.Words.{Reply, NoArena, Noted, Purge, InUse as Busy, Setting, Space, Part, Span, Sound, mine, Held, DeskFacts, cached_of, freeing, going, most_regions, fill_at, land_at, lowest_free}
 use Rattle.call_table.specs.Desks.{address_behind, desk_turned, flushes, landed_behind, region_at, sharing}
 use Rattle.call_table.specs.Knows.{KnowsTurn}
 use Rattle.call_table.specs.Table.{op_of}
@@ -265,17 +252,12 @@ module _ (n m : Count) (c arena : ℕ) (s : Space) (desk : DeskFacts) (request :
 
   pub carries : (point : TurnPoint) → KnowsTurn (mine c s) point → SuitsTurn desk request arena point → Carries point (step_of s c (op_of point))
   carries (Filling wish count) knows suits now = filling wish count suits.0.slots now
-  carries (Looking wish) knows suits now = stay (left (Looking wish)) (op_steady s c (op_of (Looking wish)) tt).regions now
   carries (Landing wish span) knows suits now = landing_in wish span (find (is_flight_at c span) s.parts) refl knows.0.is.some knows.0.is.fewer suits.slots now
   carries (Giving addrs) knows suits now = giving addrs suits now
-  carries (Finding own tries fresh later) knows suits now = stay (left (Finding own tries fresh later)) (op_steady s c (op_of (Finding own tries fresh later)) tt).regions now
-  carries (Taking visit more) knows suits now = stay (left (Taking visit more)) (op_steady s c (op_of (Taking visit more)) tt).regions now
-  carries (Offering span later) knows suits now = stay (left (Offering span later)) (op_steady s c (op_of (Offering span later)) tt).regions now
-  carries (Advancing moment) knows suits now = stay (left (Advancing moment)) (op_steady s c (op_of (Advancing moment)) tt).regions now
   carries (Changing setting chosen) knows suits now = change setting chosen (step_of s c (op_of (Changing setting chosen))).reply (left (Changing setting chosen)) (set_regions s c setting) now
   carries (Making index setting) knows suits now = stay (left (Making index setting)) (set_regions s c setting) now
   carries (Resetting cached) knows suits now = resetting cached suits now
   carries (Destroying cached) knows suits now = destroying cached suits now
-  carries Dooming knows suits now = stay (left Dooming) (op_steady s c (op_of Dooming) tt).regions now
   carries (Publishing addr) knows suits now = publishing addr suits now
   carries (Owning addr frees past) knows suits now = owning addr frees past suits now
+  carries point knows suits now = stay (left point) (op_steady s c (op_of point) tt).regions now

@@ -2,9 +2,8 @@
 use Rattle.std.proofs.Common.{◌≡◌, ◌≢◌, ◌≤◌, ◌<◌, ℕ, ◌-◌, ◌==◌, Bool, true, false, List, Option, None, Some, length, slice_set, get_or, refl, sym, ap, subst, ◌∙◌, arith}
 use Rattle.std.proofs.lemmas.Bool.Decides.{nat_tests}
 use Rattle.std.proofs.lemmas.List.{get_or_default, get_or-set_other, get_or-set_same, length-set}
-use Rattle.space_model.specs.declared.entries.Op.{Op}
-use Rattle.hook_api.specs.Asked.{AskFacts}
 use Rattle.arena_core.specs.Arenas.{opens, room_after, room_of}
+use Rattle.call_table.specs.Words.{Op, AskFacts}
 use Rattle.call_table.specs.Calls.{CallFacts}
 use Rattle.heap_core.specs.Arenas.{IsArenas, no_record, record_after, record_at, room_in, spaces_of}
 use Rattle.heap_core.specs.Chunks.{settled}
@@ -14,7 +13,7 @@ use Rattle.heap_core.specs.Owing.{IsHeap, asks_next, owing}
 use Rattle.heap_core.specs.Records.{Record}
 use Rattle.heap_core.specs.Seats.{Seat, first_seat, seat_at}
 use Rattle.heap_core.specs.Sitting.{SeatSound}
-use Rattle.heap_core.proofs.Clients.{opens_settled}
+use Rattle.heap_core.proofs.Clients.{at_or_else, elsewhere_is, opens_settled, there_is}
 use Rattle.heap_core.proofs.Sitting.{others-sit}
 
 -- ---- rooms
@@ -22,19 +21,11 @@ use Rattle.heap_core.proofs.Sitting.{others-sit}
 -- a turn leaves the rooms of other clients, and those in other arenas
 pub room_elsewhere : (records : List Record) (arena c i other : ℕ) (op : Op) (asked : Option AskFacts) → IsArenas records → arena < 32 → (arena ≡ i → other ≢ c) →
     room_in (after_turn records arena c op asked) i other ≡ room_in records i other
-room_elsewhere records arena c i other op asked is there differ = by (arena == i) refl
-  where
-    new : Record
-    new = record_after (record_at records arena) c (settled (spaces_of records) arena op) asked
-
-    by : (v : Bool) → (arena == i) ≡ v → room_in (after_turn records arena c op asked) i other ≡ room_in records i other
-    by true e =
-        let same : arena ≡ i = grind (arith, nat_tests) in
-        subst (λ k. room_in (after_turn records arena c op asked) k other ≡ room_in records k other) same
-        (ap (λ (r : Record). room_of other r.rooms) (get_or-set_same records arena new no_record (omega (arith, there, is.number))) ∙ get_or-set_other (record_at records arena).rooms c other _ 0 (differ same))
-    by false e =
-        let far : i ≢ arena = λ same. grind (arith, nat_tests) in
-        ap (λ (r : Record). room_of other r.rooms) (get_or-set_other records arena i new no_record far)
+room_elsewhere records arena c i other op asked is there differ =
+    let new : Record = record_after (record_at records arena) c (settled (spaces_of records) arena op) asked in
+    at_or_else (λ k. room_in (after_turn records arena c op asked) k other ≡ room_in records k other) i arena
+    (λ same. ap (λ (r : Record). room_of other r.rooms) (there_is records arena new is there) ∙ get_or-set_other (record_at records arena).rooms c other _ 0 (differ (sym same)))
+    (λ far. ap (λ (r : Record). room_of other r.rooms) (elsewhere_is records arena i new far))
 
 -- a turn without memory takes one of its client's room
 pub room_used : (records : List Record) (arena c : ℕ) (op : Op) (asked : Option AskFacts) → IsArenas records → arena < 32 → c < 32 → opens op ≡ false →

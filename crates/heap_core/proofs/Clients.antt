@@ -1,30 +1,19 @@
 -- What a turn leaves of the calls of all clients.
 use Rattle.std.proofs.Common.{◌≡◌, ◌≢◌, ℕ, ◌<◌, ◌≤◌, ◌==◌, ◌&&◌, Bool, true, false, List, Option, None, Some, slice_set, refl, sym, ◌∙◌, ap, subst, arith, IsTrue, IfSome, IsSomeAnd, lt-ltb, nat_lt}
+use Rattle.std.proofs.lemmas.Bool.{eqb-true}
 use Rattle.std.proofs.lemmas.Bool.Decides.{nat_tests}
 use Rattle.std.proofs.lemmas.List.{get_or-set_other, get_or-set_same}
-use Rattle.space_model.specs.declared.entries.Op.{Op}
-use Rattle.space_model.specs.declared.entries.Op.TheVariants.{Look, Back, GrowDone, OfferDone, Fill, Advance, PurgeTake, Publish, TakeOver, Reset, Destroy, DestroyTake, Set}
-use Rattle.space_model.specs.declared.entries.Reply.{Reply}
+use Rattle.space_model.specs.declared.entries.Op.TheVariants.{Look, Back, GrowDone, OfferDone}
 use Rattle.space_model.specs.declared.asks.Heard.{Heard}
-use Rattle.space_model.specs.declared.spaces.Space.{Space}
-use Rattle.space_model.specs.Own.{mine}
-use Rattle.space_model.specs.Sound.{Sound}
 use Rattle.space_model.specs.Step.{op_stands, stands, step_of}
 use Rattle.space_model.proofs.Pieces.{both_true}
 use Rattle.space_model.proofs.Steps.{op_keeps}
-use Rattle.hook_api.specs.Asked.{AskFacts, heard_in}
-use Rattle.hook_api.specs.Hooks.{Answers as AnswersTo}
+use Rattle.hook_api.specs.Asked.{heard_in}
 use Rattle.hook_api.specs.Kept.{IsKept, heard_of}
 use Rattle.arena_core.specs.Arenas.{entry_of, opens, room_after, room_of}
-use Rattle.call_table.specs.declared.needs.Item.TheVariants.{Replied}
-use Rattle.call_table.specs.declared.points.TurnPoint.{TurnPoint}
-use Rattle.call_table.specs.declared.points.TurnPoint.TheVariants.{Filling, Looking, Landing, Giving, Finding, Taking, Offering, Advancing, Changing, Making, Resetting, Destroying, Dooming, Publishing, Owning}
-use Rattle.call_table.specs.declared.points.AskPoint.{AskPoint}
-use Rattle.call_table.specs.declared.points.AskPoint.TheVariants.{Skipping, Trimming, Growing, Paring, Needing, Granting, Committing, Merging, Easing, Returning, Decommitting, Forcing}
-use Rattle.call_table.specs.declared.points.Point.{Point}
-use Rattle.call_table.specs.declared.points.Point.TheVariants.{Turns, Asks, Tells}
-use Rattle.call_table.specs.declared.points.Next.{Next}
-use Rattle.call_table.specs.declared.points.Next.TheVariants.{Go, Over, More, Gone, Ends, Nowhere}
+use Rattle.heap_core.specs.Words.{Replied}
+use Rattle.heap_core.specs.Words.{TurnPoint, Filling, AskPoint, Skipping, Point, Turns, Asks, Tells, Next, Go, Over, More, Gone, Ends, Nowhere}
+use Rattle.call_table.specs.Words.{Op, Reply, Space, Sound, mine, AskFacts, AnswersTo}
 use Rattle.call_table.specs.Table.{WantTurn, ask_of, done_of, is_marked, op_of, step, want}
 use Rattle.call_table.specs.Knows.{Idle, Knows}
 use Rattle.call_table.specs.Laws.{Keeps, Moves, Stands, left, stages, with_found}
@@ -46,14 +35,20 @@ there_is records arena new is there = get_or-set_same records arena new no_recor
 pub elsewhere_is : (records : List Record) (arena i : ℕ) (new : Record) → i ≢ arena → record_at (slice_set records arena new) i ≡ record_at records i
 elsewhere_is records arena i new other = get_or-set_other records arena i new no_record other
 
+-- what is so at one index, and at each other one, is so at any
+pub at_or_else : (P : ℕ → Type 0) (i here : ℕ) → (i ≡ here → P here) → (i ≢ here → P i) → P i
+at_or_else P i here own other = by (i == here) refl
+  where
+    by : (v : Bool) → (i == here) ≡ v → P i
+    by true e = let same = eqb-true i here e in subst P (sym same) (own same)
+    by false e = other (λ same. grind (arith, nat_tests))
+
 -- what is so of a value in each arena that a turn leaves alone, and of the one that it leaves in its own
 pub by_arena : (records : List Record) (arena : ℕ) (new : Record) (P : ℕ → Record → Type 0) → IsArenas records → arena < 32 → P arena new → ((i : ℕ) → i ≢ arena → P i (record_at records i)) →
     (i : ℕ) → P i (record_at (slice_set records arena new) i)
-by_arena records arena new P is there own others i = by (arena == i) refl
-  where
-    by : (v : Bool) → (arena == i) ≡ v → P i (record_at (slice_set records arena new) i)
-    by true e = let same : arena ≡ i = grind (arith, nat_tests) in subst (λ k. P k (record_at (slice_set records arena new) k)) same (subst (P arena) (sym (there_is records arena new is there)) own)
-    by false e = let other : i ≢ arena = λ same. grind (arith, nat_tests) in subst (P i) (sym (elsewhere_is records arena i new other)) (others i other)
+by_arena records arena new P is there own others i =
+    at_or_else (λ k. P k (record_at (slice_set records arena new) k)) i arena (λ same. subst (P arena) (sym (there_is records arena new is there)) own)
+    (λ other. subst (P i) (sym (elsewhere_is records arena i new other)) (others i other))
 
 -- ---- other clients
 
@@ -109,34 +104,11 @@ settled_is spaces arena op = refl
 -- the ask that an operation of a point carries is at hand
 carries_none : (point : TurnPoint) → heard_of (op_of point) ≡ None
 carries_none (Filling wish count) = refl
-carries_none (Looking wish) = refl
-carries_none (Landing wish span) = refl
-carries_none (Giving addrs) = refl
-carries_none (Finding own tries fresh later) = refl
-carries_none (Taking visit n) = refl
-carries_none (Offering span later) = refl
-carries_none (Advancing now) = refl
-carries_none (Changing setting change) = refl
-carries_none (Making index setting) = refl
-carries_none (Resetting cached) = refl
-carries_none (Destroying cached) = refl
-carries_none Dooming = refl
-carries_none (Publishing addr) = refl
-carries_none (Owning addr frees past) = refl
+carries_none point = refl
 
 carries_one : (point : AskPoint) (asked : AskFacts) → heard_of (done_of point asked) ≡ Some (heard_in asked)
 carries_one (Skipping wish span b skip) asked = refl
-carries_one (Trimming wish span b) asked = refl
-carries_one (Growing wish chunks) asked = refl
-carries_one (Paring wish span b) asked = refl
-carries_one (Needing wish) asked = refl
-carries_one (Granting wish span b) asked = refl
-carries_one (Committing wish span) asked = refl
-carries_one (Merging low high own_low fresh later) asked = refl
-carries_one (Easing span later) asked = refl
-carries_one (Returning span later) asked = refl
-carries_one (Decommitting span later) asked = refl
-carries_one (Forcing span later) asked = refl
+carries_one point asked = refl
 
 kept_of : (c : ℕ) (op : Op) (asked : Option AskFacts) (o : Option Heard) → heard_of op ≡ o → IfSome o (λ heard. IsSomeAnd asked (λ made. heard_in made ≡ heard)) → IsKept (entry_of c op) asked
 kept_of c op asked o e is = subst (λ o. IfSome o (λ heard. IsSomeAnd asked (λ made. heard_in made ≡ heard))) (sym e) is
@@ -154,28 +126,12 @@ kept_at c (Tells span b) op asked e = absurd (cc)
 
 -- what opens no unit takes no memory
 opens_less : (op : Op) → opens op ≡ false → is_marked op ≡ false
-opens_less op e = by op e
-  where
-    by : (op : Op) → opens op ≡ false → is_marked op ≡ false
-    by (Look pages align) e = absurd (cc)
-    by (Back addrs) e = absurd (cc)
-    by (Fill class count) e = absurd (cc)
-    by (Advance now) e = absurd (cc)
-    by (PurgeTake rest keep) e = absurd (cc)
-    by (Publish addr) e = absurd (cc)
-    by (TakeOver addr) e = absurd (cc)
-    by (Reset cached) e = absurd (cc)
-    by (Destroy cached) e = absurd (cc)
-    by DestroyTake e = absurd (cc)
-    by (Set setting) e = absurd (cc)
-    by op e = refl
+opens_less (Look pages align) e = absurd (cc)
+opens_less op e = first_of (cc, grind arith)
 
 -- an arena leaves its client at least the room that the table reckons with
 room_enough : (s : Space) (c room : ℕ) (spaces : List Space) (arena : ℕ) (op : Op) → room_then c s room op ≤ room_after s room c (settled spaces arena op)
 room_enough s c room spaces arena (Back addrs) = omega arith
-room_enough s c room spaces arena (Look pages align) = omega arith
-room_enough s c room spaces arena (GrowDone heard found) = omega arith
-room_enough s c room spaces arena (OfferDone heard found) = omega arith
 room_enough s c room spaces arena op = omega arith
 
 -- an operation opens a unit with the chunk that was found or without

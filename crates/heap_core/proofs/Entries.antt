@@ -12,7 +12,7 @@ use Rattle.std.proofs.lemmas.List.{get_or-map}
 use Rattle.std.proofs.lemmas.Option.{get_or_from_slice_get}
 use Rattle.std.specs.List.{slice_get}
 use Rattle.indexmap.specs.IndexMap.{insert_entry, swap_remove_entry}
-use Rattle.thread_cache.specs.declared.Held.{Held}
+use Rattle.call_table.specs.Words.{Held}
 
 -- what is summed over regions, over entries with them
 abbrev pub of_entry : (Held → ℕ) → ℕ × Held → ℕ

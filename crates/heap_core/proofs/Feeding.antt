@@ -1,10 +1,7 @@
 -- What is kept of a call that was fed.
 use Rattle.std.proofs.Common.{inl, inr, ◌≡◌, ◌≤◌, ℕ, Option, Some, Result, Ok, Err, OnOk, OnErr, IfSome, sym, subst, ◌∙◌, ap}
-use Rattle.thread_cache.specs.Desks.{DeskFacts}
-use Rattle.call_table.specs.declared.needs.Answered.{Answered}
-use Rattle.call_table.specs.declared.needs.Item.{Item}
-use Rattle.call_table.specs.declared.points.Next.{Next}
-use Rattle.call_table.specs.declared.points.Next.TheVariants.{Go, Over, More, Gone, Ends, Nowhere}
+use Rattle.call_table.specs.Words.{DeskFacts}
+use Rattle.heap_core.specs.Words.{Item, Answered, Next, Go, Over, More, Gone, Ends, Nowhere}
 use Rattle.call_table.specs.Calls.{CallFacts, HasRoom, moment_of}
 use Rattle.call_table.specs.Reads.{ended_by}
 use Rattle.call_table.specs.Runs.{Moment, after, starved_after, step_next}

@@ -1,5 +1,5 @@
 -- The regions that a client has are those that it holds in the arenas, however they are counted there.
-use Rattle.std.proofs.Common.{◌≡◌, ◌≢◌, ℕ, ◌+◌, ◌<◌, ◌≤◌, ◌==◌, ◌&&◌, ◌||◌, inl, inr, Bool, true, false, not, cond, List, [], ◌∷◌, All, None, Some, length, get_or, refl, sym, ◌∙◌, ap, subst, arith, suc, zero, nat_eq, filter}
+use Rattle.std.proofs.Common.{◌≡◌, ◌≢◌, ℕ, ◌+◌, ◌<◌, ◌≤◌, ◌==◌, ◌&&◌, ◌||◌, inl, inr, Bool, true, false, cond, List, [], ◌∷◌, All, None, Some, length, get_or, refl, sym, ◌∙◌, ap, subst, arith, suc, zero, nat_eq, filter}
 use Rattle.std.specs.List.{count_by, flat_map, sum_by}
 use Rattle.std.specs.Map.{lookup}
 use Rattle.std.proofs.lemmas.Bool.{eqb-true}
@@ -9,12 +9,14 @@ use Rattle.std.proofs.lemmas.List.Sums.{get_or-le-sum_by, sum_by-cons}
 use Rattle.space_model.specs.declared.parts.Region.{Region}
 use Rattle.space_model.proofs.Landing.{eqb_itself}
 use Rattle.space_model.proofs.Lists.{ones}
-use Rattle.thread_cache.specs.declared.Held.{Held}
 use Rattle.thread_cache.specs.Caches.{is_elsewhere}
-use Rattle.thread_cache.specs.Desks.{DeskFacts, cached_of, discarding, held_at, holding, is_in}
+use Rattle.thread_cache.specs.Desks.{discarding, holding, is_in}
+use Rattle.call_table.specs.Words.{Held, DeskFacts, cached_of, held_at}
 use Rattle.call_table.specs.Laws.{Has}
 use Rattle.heap_core.specs.Sitting.{is_region}
 use Rattle.heap_core.proofs.Entries.{IsKeyed, none_found, of_entry}
+use Rattle.space_model.proofs.Pieces.{both_true}
+use Rattle.heap_core.proofs.Clients.{at_or_else}
 use Rattle.heap_core.proofs.Having.{Shaped, hold_over, of_hand, over}
 use Rattle.heap_core.proofs.Parting.{Parts}
 use Rattle.heap_core.proofs.Regions.{any_at, one_in}
@@ -94,32 +96,14 @@ hand_alone n desk r single hands is e = stands_alone n [] desk r single hands is
 pub hands_come : (n m : Count) (arena : ℕ) (come extra : List Held) (desk after : DeskFacts) → Hands n [] desk →
     ((f : Held → ℕ) → sum_by f extra + over f after ≡ over f desk + sum_by f come) → ((a k : ℕ) → m arena a k ≡ n arena a k + sum_by (one_in arena a k) come) →
     ((i a k : ℕ) → i ≢ arena → (m i a k ≡ n i a k) × (sum_by (one_in i a k) come ≡ 0)) → Hands m extra after
-hands_come n m arena come extra desk after hands more here others i a k = by (i == arena) refl
-  where
-    by : (v : Bool) → (i == arena) ≡ v → m i a k ≡ sum_by (one_in i a k) extra + over (one_in i a k) after
-    by true e =
-        let same : i ≡ arena = eqb-true i arena e in
-        let now : m i a k ≡ n i a k + sum_by (one_in i a k) come = subst (λ j. m j a k ≡ n j a k + sum_by (one_in j a k) come) (sym same) (here a k) in
-        omega (arith, now, hands i a k, more (one_in i a k))
-    by false e =
-        let differ : i ≢ arena = λ same. grind (arith, nat_tests) in
-        omega (arith, others i a k differ, hands i a k, more (one_in i a k))
+hands_come n m arena come extra desk after hands more here others i a k =
+    at_or_else (λ j. m j a k ≡ sum_by (one_in j a k) extra + over (one_in j a k) after) i arena (λ same. omega (arith, here a k, hands arena a k, more (one_in arena a k)))
+    (λ differ. omega (arith, others i a k differ, hands i a k, more (one_in i a k)))
 
 -- an address is that of none or of some of the regions
 none_at : (i a k : ℕ) (gone : List Held) → any_at a gone ≡ false → sum_by (one_in i a k) gone ≡ 0
 none_at i a k [] none = refl
-none_at i a k (r ∷ gone) none =
-    elim (r.addr == a) as (λ v. (v || any_at a gone) ≡ false → (r.addr == a) ≡ v → sum_by (one_in i a k) (r ∷ gone) ≡ 0) [
-      | true ↦ λ h e. absurd (cc)
-      | false ↦ λ h e.
-          let zero_here : one_in i a k r ≡ 0 = out (r.arena == i) (r.addr == a) (r.class == k) e in
-          omega (arith, zero_here, none_at i a k gone h, sum_by-cons (one_in i a k) r gone)
-    ] none refl
-  where
-    out : (x y z : Bool) → y ≡ false → ones (x && y && z) ≡ 0
-    out true true z e = absurd (cc)
-    out true false z e = refl
-    out false y z e = refl
+none_at i a k (r ∷ gone) none = let sum = sum_by-cons (one_in i a k) r gone in grind (arith, none_at i a k gone)
 
 some_at : (arena a : ℕ) (gone : List Held) → All (λ (r : Held). r.arena ≡ arena) gone → any_at a gone ≡ true → (l : ℕ) × (0 < sum_by (one_in arena a l) gone)
 some_at arena a [] home some = absurd (cc)
@@ -136,16 +120,16 @@ some_at arena a (r ∷ gone) home some =
 none_home : (i arena a k : ℕ) (gone : List Held) → All (λ (r : Held). r.arena ≡ arena) gone → i ≢ arena → sum_by (one_in i a k) gone ≡ 0
 none_home i arena a k [] home differ = refl
 none_home i arena a k (r ∷ gone) home differ =
-    let out : one_in i a k r ≡ 0 = (elim (r.arena == i) as (λ v. (r.arena == i) ≡ v → ones (v && r.addr == a && r.class == k) ≡ 0) [
-      | true ↦ λ e. absurd (differ (sym (eqb-true r.arena i e) ∙ All-head (λ (r : Held). r.arena ≡ arena) r gone home))
-      | false ↦ λ e. refl
-    ] refl) in
-    omega (arith, out, none_home i arena a k gone (All-tail (λ (r : Held). r.arena ≡ arena) r gone home) differ, sum_by-cons (one_in i a k) r gone)
+    let own = All-head (λ (r : Held). r.arena ≡ arena) r gone home in
+    let rest = none_home i arena a k gone (All-tail (λ (r : Held). r.arena ≡ arena) r gone home) differ in
+    let sum = sum_by-cons (one_in i a k) r gone in grind (arith, nat_tests)
 
 -- regions of an arena go, and with them all that the client held at their addresses
 pub hands_part : (n m : Count) (arena : ℕ) (gone : List Held) (desk after : DeskFacts) → Single n → Hands n [] desk → Parts desk after gone → All (λ (r : Held). r.arena ≡ arena) gone →
     ((a k : ℕ) → m arena a k ≡ cond (any_at a gone) 0 (n arena a k)) → ((i a k : ℕ) → i ≢ arena → m i a k ≡ n i a k) → Hands m [] after
-hands_part n m arena gone desk after single hands parts home here others i a k = let at = by (i == arena) refl in omega (arith, at)
+hands_part n m arena gone desk after single hands parts home here others i a k =
+    let at = at_or_else (λ j. m j a k ≡ over (one_in j a k) after) i arena (λ same. at_home (any_at a gone) refl (here a k))
+    (λ differ. omega (arith, others i a k differ, hands i a k, parts.less (one_in i a k), none_home i arena a k gone home differ)) in omega (arith, at)
   where
     at_home : (v : Bool) → any_at a gone ≡ v → m arena a k ≡ cond v 0 (n arena a k) → m arena a k ≡ over (one_in arena a k) after
     at_home false e now = omega (arith, now, none_at arena a k gone e, hands arena a k, parts.less (one_in arena a k))
@@ -168,24 +152,14 @@ hands_part n m arena gone desk after single hands parts home here others i a k =
                 let same : k ≡ l = (single.alone arena arena a k l (omega (arith, z)) there).1 in
                 absurd (let no : (k == l) ≡ true = ap (λ j. j == l) same ∙ eqb_itself l in cc)
 
-    by : (v : Bool) → (i == arena) ≡ v → m i a k ≡ over (one_in i a k) after
-    by true e =
-        let same : i ≡ arena = eqb-true i arena e in
-        subst (λ j. m j a k ≡ over (one_in j a k) after) (sym same) (at_home (any_at a gone) refl (here a k))
-    by false e =
-        let differ : i ≢ arena = λ same. grind (arith, nat_tests) in
-        omega (arith, others i a k differ, hands i a k, parts.less (one_in i a k), none_home i arena a k gone home differ)
-
 -- ---- nothing is left in an arena
 
 -- what no region of a list is of, none is at
 none_of_arena : (arena a k : ℕ) (rs : List Held) → count_by (is_in arena) rs ≡ 0 → sum_by (one_in arena a k) rs ≡ 0
 none_of_arena arena a k [] none = refl
 none_of_arena arena a k (r ∷ rs) none =
-    elim (is_in arena r) as (λ v. ones (is_in arena r) ≡ ones v → one_in arena a k r ≡ ones (v && r.addr == a && r.class == k) → sum_by (one_in arena a k) (r ∷ rs) ≡ 0) [
-      | true ↦ λ e h. absurd (omega (arith, e, none, sum_by-cons (λ (q : Held). ones (is_in arena q)) r rs))
-      | false ↦ λ e h. omega (arith, h, none_of_arena arena a k rs (omega (arith, e, none, sum_by-cons (λ (q : Held). ones (is_in arena q)) r rs)), sum_by-cons (one_in arena a k) r rs)
-    ] refl refl
+    let count = sum_by-cons (λ (q : Held). ones (is_in arena q)) r rs in
+    let sum = sum_by-cons (one_in arena a k) r rs in grind (arith, none_of_arena arena a k rs)
 
 -- what is held elsewhere stays
 elsewhere_sum : (arena i a k : ℕ) (es : List (ℕ × Held)) →
@@ -193,36 +167,23 @@ elsewhere_sum : (arena i a k : ℕ) (es : List (ℕ × Held)) →
 elsewhere_sum arena i a k es = by (i == arena) refl
   where
     here : (x : ℕ × Held) → i ≡ arena → is_elsewhere arena x.1 ≡ true → of_entry (one_in i a k) x ≡ 0
-    here x same out = zero_there (x.1.arena == arena) (x.1.arena == i) (ap (λ j. x.1.arena == j) same) out
-      where
-        zero_there : (p q : Bool) → q ≡ p → not p ≡ true → ones (q && x.1.addr == a && x.1.class == k) ≡ 0
-        zero_there true q e out = absurd (cc)
-        zero_there false true e out = absurd (cc)
-        zero_there false false e out = refl
+    here x same out = grind (arith, nat_tests)
 
     gone : (x : ℕ × Held) → i ≢ arena → is_elsewhere arena x.1 ≡ false → of_entry (one_in i a k) x ≡ 0
-    gone x differ out = zero_there (x.1.arena == arena) (x.1.arena == i) refl refl out
-      where
-        zero_there : (p q : Bool) → (x.1.arena == arena) ≡ p → (x.1.arena == i) ≡ q → not p ≡ false → ones (q && x.1.addr == a && x.1.class == k) ≡ 0
-        zero_there false q e f out = absurd (cc)
-        zero_there true false e f out = refl
-        zero_there true true e f out = absurd (differ (sym (eqb-true x.1.arena i f) ∙ eqb-true x.1.arena arena e))
+    gone x differ out = grind (arith, nat_tests)
 
     sums_here : (xs : List (ℕ × Held)) → i ≡ arena → sum_by (of_entry (one_in i a k)) (filter (λ (e : ℕ × Held). is_elsewhere arena e.1) xs) ≡ 0
     sums_here [] same = refl
     sums_here (x ∷ xs) same =
-        elim (is_elsewhere arena x.1) as (λ v. is_elsewhere arena x.1 ≡ v → sum_by (of_entry (one_in i a k)) (cond v (x ∷ filter (λ (e : ℕ × Held). is_elsewhere arena e.1) xs) (filter (λ (e : ℕ × Held). is_elsewhere arena e.1) xs)) ≡ 0) [
-          | true ↦ λ e. omega (arith, here x same e, sums_here xs same, sum_by-cons (of_entry (one_in i a k)) x (filter (λ (e : ℕ × Held). is_elsewhere arena e.1) xs))
-          | false ↦ λ e. sums_here xs same
-        ] refl
+        let none = here x same in
+        let sum = sum_by-cons (of_entry (one_in i a k)) x (filter (λ (e : ℕ × Held). is_elsewhere arena e.1) xs) in grind (arith, sums_here xs same)
 
     sums_there : (xs : List (ℕ × Held)) → i ≢ arena → sum_by (of_entry (one_in i a k)) (filter (λ (e : ℕ × Held). is_elsewhere arena e.1) xs) ≡ sum_by (of_entry (one_in i a k)) xs
     sums_there [] differ = refl
     sums_there (x ∷ xs) differ =
-        elim (is_elsewhere arena x.1) as (λ v. is_elsewhere arena x.1 ≡ v → sum_by (of_entry (one_in i a k)) (cond v (x ∷ filter (λ (e : ℕ × Held). is_elsewhere arena e.1) xs) (filter (λ (e : ℕ × Held). is_elsewhere arena e.1) xs)) ≡ sum_by (of_entry (one_in i a k)) (x ∷ xs)) [
-          | true ↦ λ e. omega (arith, sums_there xs differ, sum_by-cons (of_entry (one_in i a k)) x (filter (λ (e : ℕ × Held). is_elsewhere arena e.1) xs), sum_by-cons (of_entry (one_in i a k)) x xs)
-          | false ↦ λ e. omega (arith, gone x differ e, sums_there xs differ, sum_by-cons (of_entry (one_in i a k)) x xs)
-        ] refl
+        let none = gone x differ in
+        let sum = sum_by-cons (of_entry (one_in i a k)) x xs in
+        let kept = sum_by-cons (of_entry (one_in i a k)) x (filter (λ (e : ℕ × Held). is_elsewhere arena e.1) xs) in grind (arith, sums_there xs differ)
 
     by : (v : Bool) → (i == arena) ≡ v → sum_by (of_entry (one_in i a k)) (filter (λ (e : ℕ × Held). is_elsewhere arena e.1) es) ≡ cond v 0 (sum_by (of_entry (one_in i a k)) es)
     by true e = sums_here es (eqb-true i arena e)
@@ -284,11 +245,7 @@ no_more arena (r ∷ rs) ys within =
           omega (arith, o, rest, sum_by-cons (λ (q : Held). ones (is_in arena q)) r rs)
     ] refl refl
   where
-    both : (p q : Bool) → (p && q) ≡ true → (p ≡ true) × (q ≡ true)
-    both true q h = (refl, h)
-    both false q h = absurd (cc)
-
     alike : (a k : ℕ) → is_in arena r ≡ true → (x : Region) → is_region r.addr r.class x ≡ true → one_in arena a k r ≡ ones (is_region a k x)
     alike a k e x is =
-        let tests = both (x.addr == r.addr) (x.class == r.class) is in
+        let tests = both_true (x.addr == r.addr) (x.class == r.class) is in
         ap (λ v. ones (v && r.addr == a && r.class == k)) e ∙ sym (ap (λ n. ones (n == a && x.class == k)) (eqb-true x.addr r.addr tests.0) ∙ ap (λ n. ones (r.addr == a && n == k)) (eqb-true x.class r.class tests.1))

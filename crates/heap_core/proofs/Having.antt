@@ -7,10 +7,10 @@ use Rattle.std.proofs.lemmas.Option.{get_or_from_slice_get, slice_get-get_or, sl
 use Rattle.std.proofs.lemmas.List.{drop_more, length-drop, nil_from_length, get_or-set_other, get_or-set_same, length-append, length-set}
 use Rattle.std.proofs.lemmas.List.Elements.{All-append, All-cons, All-filter, All-nil, All-take}
 use Rattle.std.proofs.lemmas.List.Sums.{sum_by-cons, sum_by-take-drop, sum_by_push}
-use Rattle.size_classes.specs.Classes.{slots_at}
-use Rattle.thread_cache.specs.declared.Held.{Held}
-use Rattle.thread_cache.specs.Caches.{cached_in, is_elsewhere, put_in}
-use Rattle.thread_cache.specs.Desks.{DeskFacts, before_last, caching, discarding, freeing, has_slot, held_again, held_again_with, held_at, hit, hitting, holding, is_cacheable, kept, kept_with, not_holding}
+use Rattle.space_model.proofs.Pieces.{both_true}
+use Rattle.thread_cache.specs.Caches.{is_elsewhere, put_in}
+use Rattle.thread_cache.specs.Desks.{before_last, discarding, has_slot, held_again, held_again_with, holding, kept, kept_with, not_holding}
+use Rattle.call_table.specs.Words.{Held, DeskFacts, caching, freeing, held_at, hit, hitting, is_cacheable, slots_at, cached_in}
 use Rattle.call_table.specs.Desks.{region_at, sharing}
 use Rattle.heap_core.proofs.Entries.{IsKeyed, keyed_insert, keyed_remove, of_entry, sum_insert, sum_remove, sum_set}
 
@@ -97,10 +97,10 @@ pub cache_shaped : (r : Held) (desk : DeskFacts) → r.class < 41 → has_slot r
 cache_shaped r desk small slot is = subst Shaped (sym (cached_as r desk small slot)) (with_shaped r desk small is)
 
 pub cache_hand : (r : Held) (desk : DeskFacts) → (caching r desk).hand ≡ desk.hand
-cache_hand r desk = elim (nat_lt r.class 41) as (λ v. (cond v (record desk { cached = slice_set desk.cached r.class (put_in r.class r (cached_in desk.cached r.class)) }) desk).hand ≡ desk.hand) [ true ↦ refl | false ↦ refl ]
+cache_hand r desk = grind arith
 
 pub cache_arena : (r : Held) (desk : DeskFacts) → (caching r desk).arena ≡ desk.arena
-cache_arena r desk = elim (nat_lt r.class 41) as (λ v. (cond v (record desk { cached = slice_set desk.cached r.class (put_in r.class r (cached_in desk.cached r.class)) }) desk).arena ≡ desk.arena) [ true ↦ refl | false ↦ refl ]
+cache_arena r desk = grind arith
 
 -- ---- regions of a class are shared out
 
@@ -150,10 +150,6 @@ pub record Gains (desk after : DeskFacts) (r : Held) : Type 0 where
 pub free_gains : (r : Held) (desk : DeskFacts) → Shaped desk → desk.hand ≡ None → Gains desk (freeing r desk) r
 free_gains r desk is empty = by (is_cacheable r.class desk && has_slot r.class desk) refl
   where
-    both_true : (a b : Bool) → (a && b) ≡ true → (a ≡ true) × (b ≡ true)
-    both_true true b h = (refl, h)
-    both_true false b h = absurd (cc)
-
     by : (v : Bool) → (is_cacheable r.class desk && has_slot r.class desk) ≡ v → Gains desk (cond v (caching r desk) (record desk { hand = Some r })) r
     by true e =
         let both = both_true (is_cacheable r.class desk) (has_slot r.class desk) e in
@@ -242,10 +238,6 @@ hit_is class desk r is found =
       | false ↦ λ e is_it. absurd (cc)
     ] refl found
   where
-    both_true : (a b : Bool) → (a && b) ≡ true → (a ≡ true) × (b ≡ true)
-    both_true true b h = (refl, h)
-    both_true false b h = absurd (cc)
-
     none_behind : (list : List Held) → length list - 1 < length list → drop (length list - 1 + 1) list ≡ []
     none_behind list within = nil_from_length (drop (length list - 1 + 1) list) (length-drop (length list - 1 + 1) list ∙ omega (arith, within))
 

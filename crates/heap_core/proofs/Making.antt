@@ -1,17 +1,10 @@
 -- What a turn, an ask or the want of memory leaves of a heap, and what a step then tells.
 use Rattle.std.proofs.Common.{inl, inr, ◌≡◌, ◌≢◌, ◌⊎◌, ◌≤◌, ◌<◌, ℕ, ◌+◌, Bool, true, false, List, Option, None, Some, Result, Ok, Err, IfSome, IsOk, IsSomeAnd, slice_set, refl, sym, ap, subst, ◌∙◌, arith, ◌++◌, ◌∷◌, []}
-use Rattle.space_model.specs.declared.asks.Ask.{Ask}
-use Rattle.space_model.specs.declared.entries.Op.{Op}
-use Rattle.space_model.specs.declared.entries.Reply.{Reply}
-use Rattle.hook_api.specs.Asked.{AskFacts}
 use Rattle.hook_api.specs.Shelf.{AskStep, Shelf}
 use Rattle.arena_core.specs.Arenas.{opens}
-use Rattle.call_table.specs.declared.needs.Answered.{Answered}
-use Rattle.call_table.specs.declared.needs.Answered.TheVariants.{NoMemory}
-use Rattle.call_table.specs.declared.needs.Item.TheVariants.{Replied, Told, Starved}
+use Rattle.call_table.specs.Words.{Ask, Op, Reply, AskFacts}
+use Rattle.heap_core.specs.Words.{Replied, Told, Starved, Answered, NoMemory, Point, More}
 use Rattle.call_table.specs.declared.needs.Turn.{Turn}
-use Rattle.call_table.specs.declared.points.Point.{Point}
-use Rattle.call_table.specs.declared.points.Next.TheVariants.{More}
 use Rattle.call_table.specs.Calls.{moment_of}
 use Rattle.call_table.specs.Needs.{Goes}
 use Rattle.call_table.specs.Runs.{Moment, after, starved_after}

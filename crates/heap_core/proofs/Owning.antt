@@ -7,21 +7,10 @@ use Rattle.std.specs.List.{list_any, range_with_len}
 use Rattle.std.proofs.lemmas.Bool.{ltb-true}
 use Rattle.std.proofs.lemmas.Bool.Decides.{nat_tests}
 use Rattle.std.proofs.lemmas.List.{get_or-set_other, get_or-set_same}
-use Rattle.space_model.specs.declared.asks.Ask.{Ask}
-use Rattle.space_model.specs.declared.asks.Ask.TheVariants.{Alloc, Dalloc}
-use Rattle.space_model.specs.declared.asks.Answer.{Answer}
-use Rattle.space_model.specs.declared.asks.Answer.TheVariants.{Refused as Refuses, Placed}
-use Rattle.space_model.specs.declared.entries.Op.{Op}
 use Rattle.space_model.specs.declared.entries.Op.TheVariants.{GrowDone, Offer, OfferDone, DestroyTake}
-use Rattle.space_model.specs.declared.entries.Reply.{Reply}
-use Rattle.space_model.specs.declared.entries.Reply.TheVariants.{Doomed, Grown, Kept}
-use Rattle.space_model.specs.declared.parts.Part.{Part}
-use Rattle.space_model.specs.declared.parts.Span.{Span}
-use Rattle.space_model.specs.declared.spaces.Space.{Space}
 use Rattle.space_model.specs.Opening.{absent_space}
 use Rattle.space_model.specs.Part.{holders}
-use Rattle.space_model.specs.Span.{IsPlaced, chunk_span, chunks_of, end_of, has_page, meets}
-use Rattle.space_model.specs.Sound.{Sound}
+use Rattle.space_model.specs.Span.{IsPlaced, chunk_span, chunks_of, has_page, meets}
 use Rattle.space_model.specs.declared.entries.Why.TheVariants.{OffSpace, Unaligned, Meets}
 use Rattle.space_model.specs.Purging.{after_offer, keep_offer, without_offer}
 use Rattle.space_model.specs.Step.{after_grow, grow_unless, is_in_space, is_owned, op_stands, step_of}
@@ -29,6 +18,7 @@ use Rattle.space_model.specs.Journal.{granted_by, is_in_dalloc}
 use Rattle.space_model.proofs.Lists.{ones}
 use Rattle.space_model.proofs.Pieces.{both_true}
 use Rattle.space_model.proofs.Steps.{op_keeps}
+use Rattle.call_table.specs.Words.{Ask, Alloc, Dalloc, Answer, Placed, Refuses, Op, Reply, Grown, Kept, Doomed, Space, Part, Span, Sound, end_of}
 use Rattle.heap_core.specs.Chunks.{Apart, met_by_alloc, met_by_dalloc, met_in, others_of, owns, settled, space_at}
 
 -- ---- tests over lists
@@ -36,21 +26,13 @@ use Rattle.heap_core.specs.Chunks.{Apart, met_by_alloc, met_by_dalloc, met_in, o
 -- where no member passes, the one at a place doesn't, nor what stands for none
 none_at : {X : Type 0} (f : X → Bool) (xs : List X) (i : ℕ) (d : X) → list_any f xs ≡ false → f d ≡ false → f (get_or xs i d) ≡ false
 none_at f [] i d none out = out
-none_at f (x ∷ xs) zero d none out = elim (f x) as (λ v. (v || list_any f xs) ≡ false → v ≡ false) [ true ↦ λ h. absurd (cc) | false ↦ λ h. refl ] none
-none_at f (x ∷ xs) (suc i) d none out =
-    none_at f xs i d (elim (f x) as (λ v. (v || list_any f xs) ≡ false → list_any f xs ≡ false) [ true ↦ λ h. absurd (cc) | false ↦ λ h. h ] none) out
+none_at f (x ∷ xs) zero d none out = grind arith
+none_at f (x ∷ xs) (suc i) d none out = grind (arith, none_at f xs i d)
 
 -- where none is found among numbers one after another, none of these passes
 none_found : (f : ℕ → Bool) (low n k : ℕ) → find f (range_with_len low n) ≡ None → low ≤ k → k < low + n → f k ≡ false
 none_found f low zero k none least most = absurd (omega (arith, least, most))
-none_found f low (suc n) k none least most =
-    elim (f low) as (λ v. f low ≡ v → cond v (Some low) (find f (range_with_len (low + 1) n)) ≡ None → f k ≡ false) [
-      | true ↦ λ h e. absurd (cc)
-      | false ↦ λ h e. elim (low == k) as (λ w. (low == k) ≡ w → f k ≡ false) [
-        | true ↦ λ same. let at : low ≡ k = grind (arith, nat_tests) in subst (λ x. f x ≡ false) at h
-        | false ↦ λ differ. none_found f (low + 1) n k e (grind (arith, nat_tests)) (omega (arith, most))
-      ] refl
-    ] refl none
+none_found f low (suc n) k none least most = grind (arith, nat_tests, none_found f (low + 1) n k)
 
 -- ---- chunks and their pages
 
@@ -90,16 +72,12 @@ owned_page chunk (p ∷ ps) placed h =
 pub page_owned : (chunk page : ℕ) (parts : List Part) → has_page page (chunk_span chunk) ≡ true → 0 < holders page parts → list_any (λ p. meets p.span (chunk_span chunk)) parts ≡ true
 page_owned chunk page [] in_chunk some = absurd (omega (arith, some))
 page_owned chunk page (p ∷ ps) in_chunk some =
-    elim (has_page page p.span) as (λ v. has_page page p.span ≡ v → (meets p.span (chunk_span chunk) || list_any (λ q. meets q.span (chunk_span chunk)) ps) ≡ true) [
-      | true ↦ λ here. rw (met p.span here) refl
-      | false ↦ λ away. later (page_owned chunk page ps in_chunk (omega (arith, sum_by-cons (λ q. ones (has_page page q.span)) p ps, ap ones away, some)))
-    ] refl
+    let count = sum_by-cons (λ q. ones (has_page page q.span)) p ps in
+    let met : has_page page p.span ≡ true → meets p.span (chunk_span chunk) ≡ true = λ here. met_by p.span here in
+    grind (arith, page_owned chunk page ps in_chunk)
   where
-    met : (s : Span) → has_page page s ≡ true → meets s (chunk_span chunk) ≡ true
-    met s here = grind (arith, nat_tests)
-
-    later : list_any (λ q. meets q.span (chunk_span chunk)) ps ≡ true → (meets p.span (chunk_span chunk) || list_any (λ q. meets q.span (chunk_span chunk)) ps) ≡ true
-    later h = elim (meets p.span (chunk_span chunk)) as (λ v. (v || list_any (λ q. meets q.span (chunk_span chunk)) ps) ≡ true) [ true ↦ refl | false ↦ h ]
+    met_by : (s : Span) → has_page page s ≡ true → meets s (chunk_span chunk) ≡ true
+    met_by s here = grind (arith, nat_tests)
 
 -- ---- what a turn grants
 
@@ -110,8 +88,7 @@ Comes page (OfferDone heard found) Kept = is_in_dalloc page heard.ask ≡ true
 Comes page op reply = ⊥
 
 either : (a b : Bool) → (a || b) ≡ true → (a ≡ true) ⊎ (b ≡ true)
-either true b h = inl refl
-either false b h = inr h
+either a b h = grind arith
 
 granted_or : (page : ℕ) (before : Bool) (op : Op) (reply : Reply) → granted_by page before op reply ≡ true → (before ≡ true) ⊎ Comes page op reply
 granted_or page before (GrowDone heard found) (Grown span committed) h = either before (has_page page span) h
@@ -125,8 +102,7 @@ one_or_none : (n : ℕ) → n ≤ 1 → n ≡ ones (nat_lt 0 n)
 one_or_none n few = grind (arith, nat_tests)
 
 some_then : (b : Bool) → 0 < ones b → b ≡ true
-some_then true h = refl
-some_then false h = absurd (omega (arith, h))
+some_then b h = grind arith
 
 -- each page of the arena after an operation was there before, or comes by it
 pub page_comes : (c : ℕ) (s : Space) (op : Op) (page : ℕ) → Sound s → op_stands s c op ≡ true → 0 < holders page (step_of s c op).after.parts →
@@ -145,11 +121,7 @@ page_comes c s op page sound stands some =
 -- a test for one number finds it among numbers one after another
 found_at : (f : ℕ → Bool) (k low n : ℕ) → find f (range_with_len low n) ≡ Some k → (low ≤ k) × (k < low + n)
 found_at f k low zero e = absurd (cc)
-found_at f k low (suc n) e =
-    elim (f low) as (λ v. cond v (Some low) (find f (range_with_len (low + 1) n)) ≡ Some k → (low ≤ k) × (k < low + suc n)) [
-      | true ↦ λ h. let same : low ≡ k = cc in (omega (arith, same), omega (arith, same))
-      | false ↦ λ h. let rest = found_at f k (low + 1) n h in (omega (arith, rest.0), omega (arith, rest.1))
-    ] e
+found_at f k low (suc n) e = grind (arith, found_at f k (low + 1) n)
 
 -- what was found is among them, so where nothing speaks against an answer nothing was found
 nothing_found : (f : ℕ → Bool) (parts : List Part) (low n : ℕ) (o : Option ℕ) → o ≡ find f (range_with_len low n) → find (is_owned o parts) (range_with_len low n) ≡ None → o ≡ None
@@ -160,10 +132,7 @@ nothing_found f parts low n (Some k) e none =
     absurd (self unowned)
   where
     self : is_owned (Some k) parts k ≡ false → ⊥
-    self unowned = elim (k == k) as (λ v. (k == k) ≡ v → (v || list_any (λ p. meets p.span (chunk_span k)) parts) ≡ false → ⊥) [
-      | true ↦ λ h bad. absurd (cc)
-      | false ↦ λ h bad. grind (arith, nat_tests)
-    ] refl unowned
+    self unowned = grind (arith, nat_tests)
 
 -- what an alloc grants is met by no arena
 alloc_meets : (spaces : List Space) (s : Space) (c : ℕ) (ask : Ask) (answer : Answer) (span : Span) (b : Bool) (page chunk : ℕ) →

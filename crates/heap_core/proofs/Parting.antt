@@ -3,9 +3,8 @@ use Rattle.std.proofs.Common.{◌≡◌, ℕ, ◌+◌, ◌<◌, ◌==◌, ◌&&�
 use Rattle.std.specs.BTreeSet.{insert_key}
 use Rattle.std.specs.List.{flat_map, list_any, sum_by}
 use Rattle.std.specs.Option.{option_map}
-use Rattle.std.specs.Ordering.{match_ordering, nat_cmp}
-use Rattle.std.specs.declared.cmp.Ordering.TheVariants.{Less, Equal, Greater}
-use Rattle.std.proofs.lemmas.Bool.{eqb-true, ltb-true}
+use Rattle.std.specs.Ordering.{nat_cmp}
+use Rattle.std.proofs.lemmas.Bool.{ltb-true}
 use Rattle.std.proofs.lemmas.Bool.Decides.{nat_tests}
 use Rattle.std.proofs.lemmas.List.{length-map}
 use Rattle.std.proofs.Math.ListN.{get_or-map}
@@ -13,9 +12,9 @@ use Rattle.std.proofs.lemmas.List.Concat.{flat_map-cons}
 use Rattle.std.proofs.lemmas.List.Elements.{All-append, All-drop, All-filter, All-take, filter-append}
 use Rattle.std.proofs.lemmas.List.Filters.{sum_by-filter_both}
 use Rattle.std.proofs.lemmas.List.Sums.{sum_by-append, sum_by-cons, sum_by-take-drop}
-use Rattle.thread_cache.specs.declared.Held.{Held}
-use Rattle.thread_cache.specs.Caches.{cached_in, gone_from, is_elsewhere}
-use Rattle.thread_cache.specs.Desks.{BatchFacts, DeskFacts, added, addrs_in, batch_of, gave, gave_with, going, going_with, is_cacheable, is_in, least_arena, lesser, older_count}
+use Rattle.thread_cache.specs.Caches.{gone_from, is_elsewhere}
+use Rattle.thread_cache.specs.Desks.{added, addrs_in, gave, gave_with, is_in, least_arena, lesser, older_count}
+use Rattle.call_table.specs.Words.{Held, DeskFacts, BatchFacts, batch_of, going, going_with, is_cacheable, cached_in}
 use Rattle.heap_core.proofs.Entries.{sum_set}
 use Rattle.heap_core.proofs.Having.{Shaped, of_hand, over, set_classed}
 
@@ -24,42 +23,12 @@ use Rattle.heap_core.proofs.Having.{Shaped, of_hand, over, set_classed}
 -- an address is among rising ones once it was added, and every other one as it was
 insert_any : (a b : ℕ) (xs : List ℕ) → list_any (λ x. x == a) (insert_key nat_cmp xs b) ≡ ((b == a) || list_any (λ x. x == a) xs)
 insert_any a b [] = refl
-insert_any a b (x ∷ xs) =
-    elim (nat_lt b x) as (λ v. list_any (λ y. y == a) (match_ordering (cond v Less (cond (b == x) Equal Greater)) (b ∷ x ∷ xs) (x ∷ xs) (x ∷ insert_key nat_cmp xs b)) ≡ ((b == a) || ((x == a) || list_any (λ y. y == a) xs))) [
-      | true ↦ refl
-      | false ↦ elim (b == x) as (λ w. (b == x) ≡ w → list_any (λ y. y == a) (match_ordering (cond w Equal Greater) (b ∷ x ∷ xs) (x ∷ xs) (x ∷ insert_key nat_cmp xs b)) ≡ ((b == a) || ((x == a) || list_any (λ y. y == a) xs))) [
-        | true ↦ λ h. twice (b == a) (x == a) (list_any (λ y. y == a) xs) (ap (λ n. n == a) (eqb-true b x h))
-        | false ↦ λ h. ap (λ v. (x == a) || v) (insert_any a b xs) ∙ swapped (x == a) (b == a) (list_any (λ y. y == a) xs)
-      ] refl
-    ]
-  where
-    twice : (p q r : Bool) → p ≡ q → (q || r) ≡ (p || (q || r))
-    twice true q r e = rw (sym e) refl
-    twice false q r e = refl
-
-    swapped : (p q r : Bool) → (p || (q || r)) ≡ (q || (p || r))
-    swapped true true r = refl
-    swapped true false r = refl
-    swapped false q r = refl
+insert_any a b (x ∷ xs) = grind (arith, nat_tests, insert_any a b xs)
 
 added_any : (arena a : ℕ) (xs : List ℕ) (regions : List Held) →
     list_any (λ x. x == a) (fold (added arena) xs regions) ≡ (list_any (λ x. x == a) xs || list_any (λ r. is_in arena r && r.addr == a) regions)
-added_any arena a xs [] = none (list_any (λ x. x == a) xs)
-  where
-    none : (p : Bool) → p ≡ (p || false)
-    none true = refl
-    none false = refl
-added_any arena a xs (r ∷ rs) =
-    added_any arena a (added arena xs r) rs ∙ elim (is_in arena r) as (λ v. (list_any (λ x. x == a) (cond v (insert_key nat_cmp xs r.addr) xs) || list_any (λ r. is_in arena r && r.addr == a) rs)
-    ≡ (list_any (λ x. x == a) xs || ((v && r.addr == a) || list_any (λ r. is_in arena r && r.addr == a) rs))) [
-      | true ↦ ap (λ v. v || list_any (λ r. is_in arena r && r.addr == a) rs) (insert_any a r.addr xs) ∙ along (r.addr == a) (list_any (λ x. x == a) xs) (list_any (λ r. is_in arena r && r.addr == a) rs)
-      | false ↦ refl
-    ]
-  where
-    along : (p q r : Bool) → ((p || q) || r) ≡ (q || (p || r))
-    along true true r = refl
-    along true false r = refl
-    along false q r = refl
+added_any arena a xs [] = grind arith
+added_any arena a xs (r ∷ rs) = grind (arith, added_any arena a (added arena xs r) rs, insert_any a r.addr xs)
 
 -- an address goes back where a region of the arena is at it
 pub addrs_any : (arena a : ℕ) (regions : List Held) → list_any (λ x. x == a) (addrs_in arena regions) ≡ list_any (λ r. r.addr == a) (filter (is_in arena) regions)
@@ -67,11 +36,7 @@ addrs_any arena a regions = added_any arena a [] regions ∙ kept_any regions
   where
     kept_any : (rs : List Held) → list_any (λ r. is_in arena r && r.addr == a) rs ≡ list_any (λ r. r.addr == a) (filter (is_in arena) rs)
     kept_any [] = refl
-    kept_any (r ∷ rs) =
-        elim (is_in arena r) as (λ v. ((v && r.addr == a) || list_any (λ r. is_in arena r && r.addr == a) rs) ≡ list_any (λ r. r.addr == a) (cond v (r ∷ filter (is_in arena) rs) (filter (is_in arena) rs))) [
-          | true ↦ ap (λ v. (r.addr == a) || v) (kept_any rs)
-          | false ↦ kept_any rs
-        ]
+    kept_any (r ∷ rs) = grind (arith, kept_any rs)
 
 -- what a batch is of
 pub batch_addrs : (regions : List Held) (arena : ℕ) (addrs : List ℕ) → batch_of regions ≡ Some (record { arena = arena; addrs = addrs }) → addrs ≡ addrs_in arena regions

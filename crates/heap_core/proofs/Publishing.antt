@@ -1,41 +1,19 @@
 -- A client may publish a region that it holds at any moment.
-use Rattle.std.proofs.Common.{◌≡◌, ◌≢◌, inl, inr, ℕ, ◌*◌, ◌<◌, ◌≤◌, ◌==◌, ◌&&◌, ◌||◌, Bool, true, false, cond, IsTrue, List, [], ◌∷◌, Option, None, Some, length, max, refl, sym, ◌∙◌, ap, subst, arith, lt-ltb}
+use Rattle.std.proofs.Common.{rules, ◌≡◌, ◌≢◌, inl, inr, ℕ, ◌*◌, ◌<◌, ◌≤◌, ◌==◌, ◌&&◌, ◌||◌, Bool, true, false, cond, IsTrue, List, [], ◌∷◌, Option, None, Some, length, max, refl, sym, ◌∙◌, ap, subst, arith, lt-ltb}
 use Rattle.std.specs.List.{count_by, list_any}
-use Rattle.std.proofs.lemmas.Bool.{eqb-true}
-use Rattle.std.proofs.lemmas.Bool.Decides.{nat_tests}
 use Rattle.std.proofs.lemmas.List.{get_or-set_same}
 use Rattle.std.proofs.lemmas.List.Elements.{All-cons, All-nil}
 use Rattle.std.proofs.lemmas.List.Sums.{sum_by-cons}
-use Rattle.space_model.specs.declared.entries.Setting.{Setting}
-use Rattle.space_model.specs.declared.entries.Setting.TheVariants.{Bind, Unbind}
-use Rattle.space_model.specs.declared.parts.Part.{Part}
-use Rattle.space_model.specs.declared.parts.Span.{Span}
-use Rattle.call_table.specs.declared.needs.Request.TheVariants.{Flush}
-use Rattle.call_table.specs.declared.points.Then.{Then}
-use Rattle.call_table.specs.declared.points.Then.TheVariants.{Batches, Visiting}
-use Rattle.call_table.specs.declared.points.Change.{Change}
-use Rattle.call_table.specs.declared.points.Change.TheVariants.{Stops, Visits, Leaves}
-use Rattle.space_model.specs.declared.entries.Op.{Op}
 use Rattle.space_model.specs.declared.entries.Op.TheVariants.{Publish}
-use Rattle.space_model.specs.declared.spaces.Space.{Space}
-use Rattle.space_model.specs.Own.{Mine, mine}
 use Rattle.space_model.specs.Step.{holds_at, is_live}
 use Rattle.arena_core.specs.Arenas.{emptied_by, room_after, room_of}
-use Rattle.thread_cache.specs.declared.Held.{Held}
-use Rattle.thread_cache.specs.Desks.{BatchFacts, DeskFacts, batch_of, going_with, held_at, not_holding}
-use Rattle.call_table.specs.declared.needs.Request.{Request}
-use Rattle.call_table.specs.declared.points.Wish.{Wish}
-use Rattle.call_table.specs.declared.points.TurnPoint.{TurnPoint}
-use Rattle.call_table.specs.declared.points.TurnPoint.TheVariants.{Filling, Looking, Landing, Giving, Finding, Taking, Offering, Advancing, Changing, Making, Resetting, Destroying, Dooming, Publishing, Owning}
-use Rattle.call_table.specs.declared.points.AskPoint.{AskPoint}
-use Rattle.call_table.specs.declared.points.AskPoint.TheVariants.{Skipping, Trimming, Growing, Paring, Needing, Granting, Committing, Merging, Easing, Returning, Decommitting, Forcing}
-use Rattle.call_table.specs.declared.points.Point.{Point}
-use Rattle.call_table.specs.declared.points.Point.TheVariants.{Turns, Asks, Tells}
-use Rattle.call_table.specs.declared.points.Next.{Next}
-use Rattle.call_table.specs.declared.points.Next.TheVariants.{Go}
+use Rattle.thread_cache.specs.Desks.{not_holding}
+use Rattle.heap_core.specs.Words.{Request, Flush}
+use Rattle.heap_core.specs.Words.{Wish, Then, Batches, Visiting, Change, Stops, Leaves, TurnPoint, Filling, Looking, Landing, Giving, Finding, Changing, Resetting, Destroying, Dooming, Publishing, AskPoint, Skipping, Merging, Point, Turns, Asks, Tells, Next, Go}
+use Rattle.call_table.specs.Words.{Op, Setting, Unbind, SetBound as Bind, Space, Part, Span, Mine, mine, Held, DeskFacts, BatchFacts, batch_of, going_with, held_at}
 use Rattle.call_table.specs.Calls.{CallFacts}
 use Rattle.call_table.specs.Desks.{flushes}
-use Rattle.call_table.specs.Knows.{Alone, Droppable, Flies, Settled, in_flight, Gets, Gives, HasOffered, Idle, Knows, KnowsAsk, KnowsTurn, Pair, is_held}
+use Rattle.call_table.specs.Knows.{Alone, Flies, Settled, in_flight, Gets, Gives, HasOffered, Idle, Knows, KnowsAsk, KnowsTurn, Pair, is_held}
 use Rattle.call_table.specs.Laws.{KnowsNext, Ready}
 use Rattle.call_table.specs.Rooms.{flying, needed_at}
 use Rattle.call_table.specs.Runs.{batch_goes, stage}
@@ -45,7 +23,7 @@ use Rattle.heap_core.specs.Arenas.{IsArenas, record_after, record_at, room_in}
 use Rattle.heap_core.specs.Clients.{CanTurn, IsIdle, after_turn, mine_in}
 use Rattle.heap_core.specs.Records.{Record}
 use Rattle.heap_core.specs.Sitting.{AimsSit, Has, HoldersPublish, IsSeated, IsTheHand, Sits, SitsAt, Suits, SuitsAsk, SuitsChange, SuitsGet, SuitsThen, SuitsTurn, is_region}
-use Rattle.heap_core.proofs.Clients.{elsewhere_is, sound_at, there_is}
+use Rattle.heap_core.proofs.Clients.{at_or_else, by_arena, sound_at}
 use Rattle.heap_core.proofs.Hands.{had_counts, hands_part, held_is}
 use Rattle.heap_core.proofs.Having.{drop_over, drop_shaped}
 use Rattle.heap_core.proofs.Parting.{Parts}
@@ -66,31 +44,16 @@ later_held held desk Batches suits = suits
 later_held held desk (Visiting visit left) suits = suits
 
 change_held : (held : List (ℕ × Held)) (desk : DeskFacts) (arena : ℕ) (setting : Setting) (change : Change) → SuitsChange desk arena setting change → SuitsChange (held_as held desk) arena setting change
-change_held held desk arena Unbind Stops suits = suits
-change_held held desk arena setting Stops suits = tt
-change_held held desk arena Unbind (Visits visit) suits = suits
-change_held held desk arena setting (Visits visit) suits = (tt, suits.1)
 change_held held desk arena Bind (Leaves old) suits = suits
-change_held held desk arena setting (Leaves old) suits = absurd suits
+change_held held desk arena Unbind Stops suits = suits
+change_held held desk arena setting change suits = first_of (search rules, cc)
 
 ask_held : (held : List (ℕ × Held)) (desk : DeskFacts) (arena : ℕ) (point : AskPoint) → SuitsAsk desk arena point → SuitsAsk (held_as held desk) arena point
-ask_held held desk arena (Skipping wish span b skip) suits = get_held held desk arena wish.class wish.count suits
-ask_held held desk arena (Trimming wish span b) suits = get_held held desk arena wish.class wish.count suits
-ask_held held desk arena (Growing wish chunks) suits = get_held held desk arena wish.class wish.count suits
-ask_held held desk arena (Paring wish span b) suits = get_held held desk arena wish.class wish.count suits
-ask_held held desk arena (Needing wish) suits = get_held held desk arena wish.class wish.count suits
-ask_held held desk arena (Granting wish span b) suits = get_held held desk arena wish.class wish.count suits
-ask_held held desk arena (Committing wish span) suits = get_held held desk arena wish.class wish.count suits
 ask_held held desk arena (Merging low high own_low fresh later) suits = later_held held desk later suits
-ask_held held desk arena (Easing span later) suits = later_held held desk later suits
-ask_held held desk arena (Returning span later) suits = later_held held desk later suits
-ask_held held desk arena (Decommitting span later) suits = later_held held desk later suits
-ask_held held desk arena (Forcing span later) suits = later_held held desk later suits
+ask_held held desk arena point suits = search (rules, get_held, later_held)
 
 turn_held : (held : List (ℕ × Held)) (desk : DeskFacts) (request : Request) (arena : ℕ) (point : TurnPoint) → SuitsTurn desk request arena point → SuitsTurn (held_as held desk) request arena point
 turn_held held desk request arena (Filling wish count) suits = (get_held held desk arena wish.class count suits.0, suits.1)
-turn_held held desk request arena (Looking wish) suits = get_held held desk arena wish.class wish.count suits
-turn_held held desk request arena (Landing wish span) suits = get_held held desk arena wish.class wish.count suits
 turn_held held desk request arena (Giving addrs) suits = by desk.hand suits
   where
     by : (hand : Option Held) → batch_of (going_with hand (flushes request) desk) ≡ Some (record { arena = arena; addrs = addrs }) → batch_of (going_with hand (flushes request) (held_as held desk)) ≡ Some (record { arena = arena; addrs = addrs })
@@ -100,17 +63,8 @@ turn_held held desk request arena (Giving addrs) suits = by desk.hand suits
         all true e = e
         all false e = e
     by (Some r) e = e
-turn_held held desk request arena (Finding own tries fresh later) suits = later_held held desk later suits
-turn_held held desk request arena (Taking visit left) suits = suits
-turn_held held desk request arena (Offering span later) suits = later_held held desk later suits
-turn_held held desk request arena (Advancing now) suits = suits
 turn_held held desk request arena (Changing setting change) suits = (suits.0, change_held held desk arena setting change suits.1)
-turn_held held desk request arena (Making index setting) suits = suits
-turn_held held desk request arena (Resetting cached) suits = suits
-turn_held held desk request arena (Destroying cached) suits = suits
-turn_held held desk request arena Dooming suits = suits
-turn_held held desk request arena (Publishing addr) suits = suits
-turn_held held desk request arena (Owning addr frees past) suits = suits
+turn_held held desk request arena point suits = search (rules, get_held, later_held)
 
 suits_held : (held : List (ℕ × Held)) (desk : DeskFacts) (request : Request) (arena : ℕ) (point : Point) → Suits desk request arena point → Suits (held_as held desk) request arena point
 suits_held held desk request arena (Turns point) suits = turn_held held desk request arena point suits
@@ -134,11 +88,7 @@ module _ (records : List Record) (c arena : ℕ) (desk : DeskFacts) (request : R
   m' = mine_in records c arena
 
   all_idle : Idle m' → IsIdle records c
-  all_idle idle i = by (i == arena) refl
-    where
-      by : (v : Bool) → (i == arena) ≡ v → Idle (mine_in records c i)
-      by true e = let home : i ≡ arena = eqb-true i arena e in subst (λ n. Idle (mine_in records c n)) (sym home) idle
-      by false e = others i (λ home. grind (arith, nat_tests))
+  all_idle idle i = at_or_else (λ n. Idle (mine_in records c n)) i arena (λ same. idle) (others i)
 
   ready : Idle m → (next : Next) → Ready m' desk (stage arena next)
   ready idle next = is_ready records c desk (stage arena next) owns (all_idle (idle_again m m' alike idle))
@@ -188,32 +138,17 @@ module _ (records : List Record) (c arena : ℕ) (desk : DeskFacts) (request : R
   turn_again (Landing wish span) suits knows = (gets_again wish wish.count suits knows.0, alone_again span true knows.1, knows.2)
   turn_again (Giving addrs) suits knows = gives_again addrs suits knows
   turn_again (Finding own tries fresh later) suits knows = (knows.0, flies_again own (Settled fresh) knows.1, knows.2)
-  turn_again (Taking visit left) suits knows = (idle_again m m' alike knows.0, knows.1, knows.2)
-  turn_again (Offering span later) suits knows = (flies_again span Droppable knows.0, knows.1)
-  turn_again (Advancing now) suits knows = idle_again m m' alike knows
-  turn_again (Changing setting change) suits knows = (idle_again m m' alike knows.0, knows.1, knows.2, knows.3)
-  turn_again (Making index setting) suits knows = (idle_again m m' alike knows.0, knows.1, knows.2)
   turn_again (Resetting cached) suits knows =
       (idle_again m m' alike knows.0, (let few = (ready knows.0 (Go (Turns (Resetting cached)))).cached in omega (arith, few, suits.1)))
   turn_again (Destroying cached) suits knows =
       (idle_again m m' alike knows.0, (let few = (ready knows.0 (Go (Turns (Destroying cached)))).cached in omega (arith, few, suits.1)))
   turn_again Dooming suits knows = (idle_again m m' alike knows.0, alike.dying ∙ knows.1)
   turn_again (Publishing addr) suits knows = (idle_again m m' alike knows.0, hand_again addr desk.hand refl suits knows.0)
-  turn_again (Owning addr frees past) suits knows = idle_again m m' alike knows
+  turn_again point suits knows = let idle = idle_again m m' alike in search (rules, flies_again)
 
   ask_again : (point : AskPoint) → SuitsAsk desk arena point → KnowsAsk m point → KnowsAsk m' point
   ask_again (Skipping wish span b skip) suits knows = (gets_again wish wish.count suits knows.0, alone_again span b knows.1, knows.2, knows.3)
-  ask_again (Trimming wish span b) suits knows = (gets_again wish wish.count suits knows.0, alone_again span b knows.1, knows.2)
-  ask_again (Growing wish chunks) suits knows = (gets_again wish wish.count suits knows.0, idle_again m m' alike knows.1, knows.2)
-  ask_again (Paring wish span b) suits knows = (gets_again wish wish.count suits knows.0, alone_again span b knows.1, knows.2)
-  ask_again (Needing wish) suits knows = (gets_again wish wish.count suits knows.0, idle_again m m' alike knows.1)
-  ask_again (Granting wish span b) suits knows = (gets_again wish wish.count suits knows.0, alone_again span b knows.1, knows.2)
-  ask_again (Committing wish span) suits knows = (gets_again wish wish.count suits knows.0, alone_again span false knows.1, knows.2)
-  ask_again (Merging low high own_low fresh later) suits knows = (pair_again low high fresh knows.0, knows.1)
-  ask_again (Easing span later) suits knows = (flies_again span _ knows.0, knows.1)
-  ask_again (Returning span later) suits knows = (offered_again span knows.0, knows.1)
-  ask_again (Decommitting span later) suits knows = (flies_again span _ knows.0, knows.1)
-  ask_again (Forcing span later) suits knows = (flies_again span _ knows.0, knows.1)
+  ask_again point suits knows = let idle = idle_again m m' alike in search (rules, gets_again, alone_again, flies_again, pair_again, offered_again)
 
   pub knows_again : (point : Point) → Suits desk request arena point → Knows m point → Knows m' point
   knows_again (Turns point) suits knows = turn_again point suits knows
@@ -280,25 +215,11 @@ module _ (records : List Record) (c : ℕ) (region : Held) (desk : DeskFacts) (i
 
   -- what the client owns in any arena but for its regions
   alike : (i : ℕ) → Alike (mine_in records c i) (mine_in rest c i)
-  alike i = by (i == region.arena) refl
-    where
-      new : Record
-      new = record_after (record_at records region.arena) c op None
-
-      of_record : (r r' : Record) → r' ≡ r → Alike (mine c r.space) (mine c r'.space)
-      of_record r r' e = subst (λ (x : Record). Alike (mine c r.space) (mine c x.space)) (sym e) (record { flights = refl; offers = refl; bound = refl; dying = refl })
-
-      here : Alike (mine c s) (mine c new.space)
-      here = record { flights = refl; offers = refl; bound = refl; dying = refl }
-
-      by : (v : Bool) → (i == region.arena) ≡ v → Alike (mine_in records c i) (mine_in rest c i)
-      by true e =
-          let home : i ≡ region.arena = eqb-true i region.arena e in
-          subst (λ n. Alike (mine_in records c n) (mine_in rest c n)) (sym home) (subst (λ (x : Record). Alike (mine c s) (mine c x.space)) (sym (there_is records region.arena new is low)) here)
-      by false e = of_record (record_at records i) (record_at rest i) (elsewhere_is records region.arena i new (λ home. grind (arith, nat_tests)))
+  alike i = by_arena records region.arena (record_after (record_at records region.arena) c op None) (λ n (r : Record). Alike (mine_in records c n) (mine c r.space)) is low
+      (record { flights = refl; offers = refl; bound = refl; dying = refl }) (λ n other. record { flights = refl; offers = refl; bound = refl; dying = refl }) i
 
   more_room : (i : ℕ) → room_in records i c ≤ room_in rest i c
-  more_room i = by (i == region.arena) refl
+  more_room i = by_arena records region.arena new (λ n (r : Record). room_in records n c ≤ room_of c r.rooms) is low here (λ n other. omega arith) i
     where
       new : Record
       new = record_after (record_at records region.arena) c op None
@@ -306,16 +227,11 @@ module _ (records : List Record) (c : ℕ) (region : Held) (desk : DeskFacts) (i
       grows : (room emptied : ℕ) → room ≤ max (max room 16) (16 * emptied)
       grows room emptied = grind arith
 
-      by : (v : Bool) → (i == region.arena) ≡ v → room_in records i c ≤ room_in rest i c
-      by true e =
-          let home : i ≡ region.arena = eqb-true i region.arena e in
+      here : room_in records region.arena c ≤ room_of c new.rooms
+      here =
           let set : room_of c new.rooms ≡ max (max (room_in records region.arena c) 16) (16 * emptied_by c op s) =
           get_or-set_same (record_at records region.arena).rooms c (room_after s (room_in records region.arena c) c op) 0 (omega (arith, few, is.clients region.arena low)) in
-          let at : room_in rest region.arena c ≡ room_of c new.rooms = ap (λ (x : Record). room_of c x.rooms) (there_is records region.arena new is low) in
-          let grown : room_in records region.arena c ≤ room_in rest region.arena c = omega (arith, set, at, grows (room_in records region.arena c) (emptied_by c op s)) in
-          subst (λ n. room_in records n c ≤ room_in rest n c) (sym home) grown
-      by false e =
-          let same : room_in rest i c ≡ room_in records i c = ap (λ (x : Record). room_of c x.rooms) (elsewhere_is records region.arena i new (λ home. grind (arith, nat_tests))) in omega (arith, same)
+          omega (arith, set, grows (room_in records region.arena c) (emptied_by c op s))
 
   sits_less : (request : Request) (arena : ℕ) (point : Point) → Sits records c desk request arena point → Sits rest c less request arena point
   sits_less request arena point sits =
@@ -370,8 +286,4 @@ aims-sit records c addr arena arena' desk request low sits = record {
 }
   where
     idle : (i : ℕ) → Idle (mine_in records c i)
-    idle i = by (i == arena) refl
-      where
-        by : (v : Bool) → (i == arena) ≡ v → Idle (mine_in records c i)
-        by true e = let home : i ≡ arena = eqb-true i arena e in subst (λ n. Idle (mine_in records c n)) (sym home) sits.waits.knows
-        by false e = sits.waits.elsewhere i (λ home. grind (arith, nat_tests))
+    idle i = at_or_else (λ n. Idle (mine_in records c n)) i arena (λ same. sits.waits.knows) (sits.waits.elsewhere i)

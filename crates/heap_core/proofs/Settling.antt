@@ -1,35 +1,23 @@
 -- Where a call came, its client is as it has to be.
-use Rattle.std.proofs.Common.{◌≡◌, ℕ, ◌+◌, ◌-◌, ◌*◌, ◌/◌, ◌<◌, ◌≤◌, ◌==◌, ◌&&◌, ◌||◌, ◌++◌, Bool, true, false, cond, List, [], ◌∷◌, Option, None, Some, length, map, take, refl, sym, ◌∙◌, ap, subst, arith, min, max, nat_lt}
+use Rattle.std.proofs.Common.{◌≡◌, ℕ, ◌+◌, ◌-◌, ◌/◌, ◌<◌, ◌≤◌, ◌==◌, ◌&&◌, ◌||◌, ◌++◌, Bool, true, false, cond, List, [], ◌∷◌, Option, None, Some, length, map, take, refl, sym, ◌∙◌, ap, subst, arith, min, nat_lt}
 use Rattle.std.specs.List.{count_by, flat_map, list_all, list_any, sum_by}
 use Rattle.std.proofs.lemmas.Bool.{eqb-true, ltb-true}
 use Rattle.std.proofs.lemmas.Bool.Decides.{nat_tests}
 use Rattle.std.proofs.lemmas.List.{length-take}
 use Rattle.std.proofs.lemmas.List.Sums.{sum_by-append, sum_by-cons}
-use Rattle.size_classes.specs.Classes.{regions_at, slots_at}
 use Rattle.space_model.specs.declared.parts.Region.{Region as SpaceRegion}
-use Rattle.space_model.specs.Own.{Mine, mine}
 use Rattle.space_model.specs.Span.{has_page}
 use Rattle.space_model.proofs.Lists.{counted_any, map_terms, ones}
-use Rattle.thread_cache.specs.declared.Held.{Held}
-use Rattle.thread_cache.specs.Caches.{cached_in}
-use Rattle.thread_cache.specs.Desks.{BatchFacts, DeskFacts, batch_of, going, going_with, held_again, holding, is_cacheable, kept, older_count}
-use Rattle.call_table.specs.declared.calls.Stage.{Stage}
-use Rattle.call_table.specs.declared.needs.Answered.{Answered}
-use Rattle.call_table.specs.declared.needs.Answered.TheVariants.{Ok, NoArena}
-use Rattle.call_table.specs.declared.needs.Given.TheVariants.{Region, Done as Finished, Arena, Limits}
-use Rattle.call_table.specs.declared.needs.Request.{Request}
-use Rattle.call_table.specs.declared.needs.Request.TheVariants.{Cache}
-use Rattle.call_table.specs.declared.points.Point.{Point}
-use Rattle.call_table.specs.declared.points.Point.TheVariants.{Turns}
-use Rattle.call_table.specs.declared.points.TurnPoint.TheVariants.{Giving}
-use Rattle.call_table.specs.declared.points.Next.{Next}
-use Rattle.call_table.specs.declared.points.Next.TheVariants.{Go, Over, More, Gone, Ends, Nowhere}
+use Rattle.thread_cache.specs.Desks.{held_again, holding, kept, older_count}
+use Rattle.heap_core.specs.Words.{Request, Cache, Region, Finished, Arena, Limits, Answered, Ok, NoSuchArena as NoArena, Giving, Point, Turns, Next, Go, Over, More, Gone, Ends, Nowhere, Stage}
+use Rattle.call_table.specs.Words.{Mine, mine, Held, DeskFacts, BatchFacts, batch_of, going, going_with, is_cacheable, slots_at, cached_in}
 use Rattle.call_table.specs.Desks.{desk_ended, flushes, region_at, switched}
 use Rattle.call_table.specs.Knows.{Gives, Idle, Knows, is_held, is_served}
 use Rattle.call_table.specs.Laws.{KnowsNext, Ready}
 use Rattle.call_table.specs.Rooms.{flying, needed_at}
 use Rattle.call_table.specs.Runs.{batch_goes, closed, moved, settle}
 use Rattle.call_table.proofs.Beginning.{batches-know}
+use Rattle.space_model.proofs.Pieces.{both_true}
 use Rattle.heap_core.specs.Arenas.{IsArenas, no_record, record_at, room_in}
 use Rattle.heap_core.specs.Clients.{IsIdle, Waits, WaitsNext, mine_in}
 use Rattle.heap_core.specs.Records.{Record}
@@ -231,10 +219,7 @@ no_more_keeps : (desk : DeskFacts) (all : Bool) → batch_of (going all desk) �
 no_more_keeps desk all none = by desk.hand none
   where
     some_slots : (class : ℕ) → 20 ≤ slots_at class
-    some_slots class = elim (nat_lt class 36) as (λ v. 20 ≤ cond v (min 200 (max 20 (2 * regions_at class))) 20) [ true ↦ most_20 (regions_at class) | false ↦ omega arith ]
-      where
-        most_20 : (n : ℕ) → 20 ≤ min 200 (max 20 (2 * n))
-        most_20 n = grind arith
+    some_slots class = grind (arith, nat_tests)
 
     left_slot : (n slots : ℕ) → 20 ≤ slots → 0 ≡ min (n - (slots - slots / 2)) n → nat_lt n slots ≡ true
     left_slot n slots some none = grind (arith, nat_tests)
@@ -246,15 +231,11 @@ no_more_keeps desk all none = by desk.hand none
           | true ↦ λ can none.
               let list : List Held = cached_in desk.cached r.class in
               let empty = no_batch (take (older_count r.class desk) list) none in (
-                small desk.caches (nat_lt r.class 41) can (λ h. ltb-true r.class 41 h),
+                ltb-true r.class 41 (both_true desk.caches (nat_lt r.class 41) can).1,
                 left_slot (length list) (slots_at r.class) (some_slots r.class) (sym (ap length empty) ∙ length-take (older_count r.class desk) list),
               )
           | false ↦ λ can none. absurd (cc)
         ] refl e
-      where
-        small : (a b : Bool) → (a && b) ≡ true → (b ≡ true → r.class < 41) → r.class < 41
-        small true b k then = then k
-        small false b k then = absurd (cc)
 
 -- ---- where a call goes
 

@@ -6,19 +6,17 @@ use Rattle.std.proofs.lemmas.Bool.{eqb-true}
 use Rattle.std.proofs.lemmas.Bool.Decides.{nat_tests}
 use Rattle.std.proofs.lemmas.List.Elements.{All-weaker}
 use Rattle.std.proofs.lemmas.List.Sums.{sum_by-cons}
-use Rattle.size_classes.specs.Classes.{pages_at, regions_at, size_at}
+use Rattle.size_classes.specs.Classes.{regions_at, size_at}
 use Rattle.size_classes.proofs.Table.{pages_bounds, size_bounds, slab_filled}
-use Rattle.space_model.specs.declared.parts.Part.{Part}
 use Rattle.space_model.specs.declared.parts.Region.{Region}
-use Rattle.space_model.specs.declared.spaces.Space.{Space}
 use Rattle.space_model.specs.Holding.{is_published_at}
 use Rattle.space_model.specs.Part.{holders}
 use Rattle.space_model.specs.Region.{covers, held_anew, homes, is_held_by, is_published, sharers}
-use Rattle.space_model.specs.Sound.{Sound}
 use Rattle.space_model.proofs.Landing.{eqb_itself}
 use Rattle.space_model.proofs.Lists.{all_sum_le, find_passes, nothing_sum, ones, only_one, sum_add}
 use Rattle.space_model.proofs.Pieces.{both_true}
 use Rattle.space_model.proofs.Settled.{covered, homes-le-holders}
+use Rattle.call_table.specs.Words.{Space, Part, Sound, pages_at}
 use Rattle.call_table.specs.Desks.{region_at}
 use Rattle.heap_core.specs.Sitting.{is_region}
 use Rattle.heap_core.proofs.Regions.{count_at, count_sum, one_at, one_in}

@@ -6,8 +6,7 @@ use Rattle.std.proofs.lemmas.Bool.Decides.{nat_tests}
 use Rattle.std.proofs.lemmas.List.Elements.{All-nil}
 use Rattle.space_model.specs.Clients.{is_in}
 use Rattle.space_model.specs.Opening.{absent_space, first_space}
-use Rattle.space_model.specs.Own.{Mine, mine}
-use Rattle.thread_cache.specs.declared.Held.{Held}
+use Rattle.call_table.specs.Words.{Mine, mine, Held}
 use Rattle.heap_core.specs.Arenas.{no_record, opening_records}
 use Rattle.heap_core.specs.Clients.{mine_in}
 use Rattle.heap_core.specs.Records.{Record, opening}

@@ -1,20 +1,14 @@
 -- A region that its holder publishes for another client's call.
-use Rattle.std.proofs.Common.{inl, ◌≡◌, ◌≢◌, ◌≤◌, ◌<◌, ℕ, ◌+◌, ◌==◌, Bool, true, false, List, Option, None, Some, Ok, Err, IsSomeAnd, is_some, length, get_or, slice_set, refl, sym, ap, subst, ◌∙◌, arith}
+use Rattle.std.proofs.Common.{inl, ◌≡◌, ◌≢◌, ◌≤◌, ◌<◌, ℕ, ◌+◌, true, false, List, Option, None, Some, Ok, Err, IsSomeAnd, is_some, length, get_or, slice_set, refl, sym, ap, subst, ◌∙◌, arith}
 use Rattle.std.specs.Option.{option_map}
-use Rattle.std.proofs.lemmas.Bool.Decides.{nat_tests}
 use Rattle.std.proofs.lemmas.List.{get_or_default, get_or-set_other, get_or-set_same}
 use Rattle.std.proofs.lemmas.List.Quantifiers.{position-Some}
 use Rattle.space_model.specs.declared.entries.Op.TheVariants.{Publish, TakeOver}
-use Rattle.space_model.specs.declared.entries.Reply.{Reply}
-use Rattle.hook_api.specs.Asked.{AskFacts}
 use Rattle.hook_api.specs.Shelf.{Shelf}
-use Rattle.thread_cache.specs.declared.Held.{Held}
-use Rattle.thread_cache.specs.Desks.{held_at, not_holding}
+use Rattle.thread_cache.specs.Desks.{not_holding}
+use Rattle.call_table.specs.Words.{Reply, AskFacts, Held, held_at}
+use Rattle.heap_core.specs.Words.{Owning, Turns, Next, Go}
 use Rattle.call_table.specs.declared.needs.Turn.{Turn}
-use Rattle.call_table.specs.declared.points.TurnPoint.TheVariants.{Owning}
-use Rattle.call_table.specs.declared.points.Point.TheVariants.{Turns}
-use Rattle.call_table.specs.declared.points.Next.{Next}
-use Rattle.call_table.specs.declared.points.Next.TheVariants.{Go, Over, More, Gone, Ends, Nowhere}
 use Rattle.call_table.specs.Calls.{CallFacts}
 use Rattle.call_table.specs.Reads.{aimed, published_next, taken_next}
 use Rattle.heap_core.specs.Arenas.{IsArenas, room_in, turned}
@@ -30,6 +24,7 @@ use Rattle.heap_core.specs.Seats.{Seat, first_seat, holder_of, seat_at}
 use Rattle.heap_core.specs.Sitting.{IsSeated, SeatSound, Sits, SitsAt}
 use Rattle.heap_core.specs.Stepping.{HolderIs, IsPublished, MadeTurn, StarvesAt, StarvesNext, TakesAt}
 use Rattle.heap_core.proofs.Asking.{few_asks}
+use Rattle.heap_core.proofs.Clients.{at_or_else}
 use Rattle.heap_core.proofs.Changes.{heap_seated, heap_turned, room_elsewhere}
 use Rattle.heap_core.proofs.Sitting.{aims-sit, holders-publish}
 use Rattle.heap_core.proofs.Wanting.{some_call, taken_is}
@@ -53,28 +48,15 @@ publishing holder region = record { arena = region.arena; client = holder; op = 
 
 few_next : (room : ℕ) (next : Next) → asks_next room next ≤ room + 1
 few_next room (Go point) = few_asks room point
-few_next room (Over index point) = omega arith
-few_next room More = omega arith
-few_next room Gone = omega arith
-few_next room (Ends answer) = omega arith
-few_next room Nowhere = omega arith
+few_next room next = omega arith
 
 -- the asks of its own call still have places, wherever that stands
 owes_then : (records records' : List Record) (arena c n n' : ℕ) (call : Option CallFacts) → owing records c call ≤ n → n ≤ n' → room_in records' arena c + 1 ≤ n' →
     ((i : ℕ) → i ≢ arena → room_in records' i c ≡ room_in records i c) → owing records' c call ≤ n'
 owes_then records records' arena c n n' None was more enough same = omega arith
-owes_then records records' arena c n n' (Some call) was more enough same = by (arena == call.stage.arena) refl
-  where
-    by : (v : Bool) → (arena == call.stage.arena) ≡ v → owing records' c (Some call) ≤ n'
-    by true e =
-        let here : arena ≡ call.stage.arena = grind (arith, nat_tests) in
-        let room : room_in records' arena c ≡ room_in records' call.stage.arena c = ap (λ a. room_in records' a c) here in
-        let few = few_next (room_in records' call.stage.arena c) call.stage.next in
-        omega (arith, room, few, enough)
-    by false e =
-        let far : call.stage.arena ≢ arena = λ here. grind (arith, nat_tests) in
-        let is : asks_next (room_in records' call.stage.arena c) call.stage.next ≡ asks_next (room_in records call.stage.arena c) call.stage.next = ap (λ room. asks_next room call.stage.next) (same call.stage.arena far) in
-        omega (arith, is, was, more)
+owes_then records records' arena c n n' (Some call) was more enough same =
+    at_or_else (λ i. asks_next (room_in records' i c) call.stage.next ≤ n') call.stage.arena arena (λ here. let few = few_next (room_in records' arena c) call.stage.next in omega (arith, few, enough))
+    (λ far. let is = ap (λ room. asks_next room call.stage.next) (same call.stage.arena far) in omega (arith, is, was, more))
 
 -- what it may do
 pub holder_led : (records : List Record) (seats : List Seat) (owed : List ℕ) (holder : ℕ) (region : Held) → IsHeap records seats owed → IsArenas records → holder < 32 → held_at region.addr (seat_at seats holder).desk ≡ Some region →
@@ -105,11 +87,7 @@ publish_kept records records' seats owed owed' turn error heap made = subst (λ 
 })
   where
     more : (c : ℕ) → owed_to owed c ≤ owed_to owed' c
-    more c = by (c == turn.client) refl
-      where
-        by : (v : Bool) → (c == turn.client) ≡ v → owed_to owed c ≤ owed_to owed' c
-        by true e = let same : turn.client ≡ c = grind (arith, nat_tests) in subst (λ k. owed_to owed k ≤ owed_to owed' k) same made.kept
-        by false e = let far : c ≢ turn.client = λ same. grind (arith, nat_tests) in let same = made.others c far in omega (arith, same)
+    more c = at_or_else (λ k. owed_to owed k ≤ owed_to owed' k) c turn.client (λ same. made.kept) (λ far. let same = made.others c far in omega (arith, same))
 
 pub published_is : (h now : HeapFacts) (records' : List Record) (seat : Seat) (heard : List AskFacts) (holder : ℕ) (region : Held) → h ≡ now → records' ≡ after_turn h.records region.arena holder (Publish region.addr) None →
     seat ≡ record (seat_at h.seats holder) { desk = not_holding region.addr (seat_at h.seats holder).desk } → heard ≡ h.heard →
@@ -199,19 +177,10 @@ found_starves h c holder region f = subst StarvesAt (sym f.is) (subst StarvesNex
 
 -- a client that parts with a region has the call that it had
 parted_call : (h : HeapFacts) (holder c : ℕ) (region : Held) → length h.seats ≡ 32 → holder < 32 → (seat_at (parted h holder region).seats c).call ≡ (seat_at h.seats c).call
-parted_call h holder c region number few = by (holder == c) refl
-  where
-    new : Seat
-    new = record (seat_at h.seats holder) { desk = not_holding region.addr (seat_at h.seats holder).desk }
-
-    by : (v : Bool) → (holder == c) ≡ v → (seat_at (parted h holder region).seats c).call ≡ (seat_at h.seats c).call
-    by true e =
-        let same : holder ≡ c = grind (arith, nat_tests) in
-        subst (λ k. (seat_at (parted h holder region).seats k).call ≡ (seat_at h.seats k).call) same
-        (ap (λ (s : Seat). s.call) (get_or-set_same h.seats holder new first_seat (omega (arith, few, number))))
-    by false e =
-        let far : c ≢ holder = λ same. grind (arith, nat_tests) in
-        ap (λ (s : Seat). s.call) (get_or-set_other h.seats holder c new first_seat far)
+parted_call h holder c region number few =
+    let new : Seat = record (seat_at h.seats holder) { desk = not_holding region.addr (seat_at h.seats holder).desk } in
+    at_or_else (λ k. (seat_at (parted h holder region).seats k).call ≡ (seat_at h.seats k).call) c holder (λ same. ap (λ (s : Seat). s.call) (get_or-set_same h.seats holder new first_seat (omega (arith, few, number))))
+    (λ far. ap (λ (s : Seat). s.call) (get_or-set_other h.seats holder c new first_seat far))
 
 pub found_takes : (h h1 : HeapFacts) (c holder : ℕ) (region : Held) → length h.seats ≡ 32 → Found h c holder region → IsPublished h holder region h1 → TakesAt (seat_at h1.seats c).call
 found_takes h h1 c holder region number f is =

@@ -9,21 +9,18 @@ use Rattle.hook_api.specs.declared.kept.Journal.{Journal}
 use Rattle.hook_api.specs.Journals.{IsByIndex}
 use Rattle.std.proofs.lemmas.List.{get_or_default, get_or-set_other, get_or-set_same, length-map, length-set, map-set, set-get_or}
 use Rattle.std.proofs.Math.ListN.{get_or-map}
-use Rattle.space_model.specs.declared.entries.Op.{Op}
 use Rattle.space_model.specs.declared.entries.Op.TheVariants.{GrowDone, OfferDone}
-use Rattle.space_model.specs.declared.entries.Reply.{Reply}
-use Rattle.space_model.specs.declared.spaces.Space.{Space}
 use Rattle.arena_core.proofs.Emptying.{any_counts}
 use Rattle.space_model.specs.Span.{chunk_span, has_page, meets}
-use Rattle.space_model.specs.Sound.{Sound}
 use Rattle.space_model.specs.Step.{op_stands, stands, step_of}
 use Rattle.space_model.specs.Journal.{all_stand, replay}
 use Rattle.space_model.specs.Opening.{absent_space, first_space}
 use Rattle.space_model.proofs.LawLemmas.{first_replays_are_good, absent_replays_are_good}
 use Rattle.space_model.proofs.Pieces.{both_true}
-use Rattle.hook_api.specs.Asked.{AskFacts, heard_in}
+use Rattle.hook_api.specs.Asked.{heard_in}
 use Rattle.hook_api.specs.Kept.{IsKept, KeptFacts, heard_of}
 use Rattle.arena_core.specs.Arenas.{all_rooms, room_of, entry_of}
+use Rattle.call_table.specs.Words.{Op, Reply, Space, Sound, AskFacts}
 use Rattle.heap_core.specs.Arenas.{AreRecorded, room_in, IsArenas, journal_of, no_record, opening_record, opening_records, record_after, record_at, spaces_of}
 use Rattle.heap_core.specs.Chunks.{Apart, owns, settled, space_at}
 use Rattle.heap_core.specs.Records.{IsReplayed, most_room, Record, entries_of, opening}

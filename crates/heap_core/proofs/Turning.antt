@@ -4,14 +4,13 @@ use Rattle.std.proofs.lemmas.Bool.{ltb-true}
 use Rattle.std.proofs.lemmas.List.{length-set}
 use Rattle.std.proofs.lemmas.List.Sums.{get_or-le-sum_by}
 use Rattle.space_model.specs.declared.entries.Entry.{Entry}
-use Rattle.space_model.specs.declared.entries.Op.{Op}
-use Rattle.space_model.specs.declared.spaces.Space.{Space}
 use Rattle.space_model.specs.Step.{op_stands, space_after, stands}
 use Rattle.space_model.specs.Journal.{all_stand, replay}
 use Rattle.hook_api.specs.Kept.{KeptFacts}
 use Rattle.arena_core.specs.Arenas.{all_rooms, emptied_by, entry_of, given_by, opens, room_after, room_of, rooms_after}
 use Rattle.space_model.proofs.Pieces.{both_true}
 use Rattle.arena_core.proofs.RoomSums.{rooms_with}
+use Rattle.call_table.specs.Words.{Op, Space}
 use Rattle.heap_core.specs.Records.{IsRecorded, IsReplayed, Record, entries_of, most_room, opening, shown}
 use Rattle.heap_core.specs.declared.records.Recorded.TheInside.{Inside}
 

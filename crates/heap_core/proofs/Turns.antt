@@ -1,38 +1,16 @@
 -- The turn that a call wants leads on, with all that its client has.
-use Rattle.std.proofs.Common.{◌≡◌, ◌≢◌, ◌⊎◌, inl, inr, ℕ, ◌<◌, ◌==◌, ◌&&◌, Bool, true, false, cond, IsTrue, List, [], ◌∷◌, Option, None, Some, Ok, Result, slice_set, refl, sym, ◌∙◌, ap, subst, arith}
+use Rattle.std.proofs.Common.{rules, ◌≡◌, ◌≢◌, ◌⊎◌, inl, inr, ℕ, ◌<◌, true, false, cond, IsTrue, List, [], ◌∷◌, Option, None, Some, Ok, Result, slice_set, refl, sym, ◌∙◌, ap, subst, arith}
 use Rattle.std.specs.List.{count_by}
-use Rattle.std.proofs.lemmas.Bool.Decides.{nat_tests}
-use Rattle.space_model.specs.declared.entries.Op.{Op}
 use Rattle.space_model.specs.declared.entries.Op.TheVariants.{Set}
-use Rattle.space_model.specs.declared.entries.Reply.{Reply}
-use Rattle.space_model.specs.declared.entries.Reply.TheVariants.{NoArena, Noted, Next as NextFlight, Regions, Landed, Purge, Owned}
-use Rattle.space_model.specs.declared.entries.Setting.{Setting}
-use Rattle.space_model.specs.declared.entries.Setting.TheVariants.{DirtyMs, MuzzyMs, HookBox, Bind, Unbind, GrowLimit, Live as MakeLive}
-use Rattle.space_model.specs.declared.spaces.Space.{Space}
 use Rattle.space_model.specs.Clients.{is_in}
-use Rattle.space_model.specs.Own.{Mine, mine}
 use Rattle.space_model.specs.Settings.{with_setting}
 use Rattle.space_model.specs.Step.{is_live, stands, stays, step_of}
 use Rattle.space_model.specs.Stepped.{Stepped}
-use Rattle.hook_api.specs.Asked.{AskFacts}
 use Rattle.arena_core.specs.Arenas.{entry_of}
-use Rattle.thread_cache.specs.declared.Held.{Held}
-use Rattle.thread_cache.specs.Caches.{cached_in, gone_from}
-use Rattle.thread_cache.specs.Desks.{DeskFacts, caching, older_count, freeing, gave, gave_with, has_slot, is_cacheable}
-use Rattle.call_table.specs.declared.needs.Answered.TheVariants.{NoMemory}
-use Rattle.call_table.specs.declared.needs.Item.{Item}
-use Rattle.call_table.specs.declared.needs.Item.TheVariants.{Replied, Told, Starved}
-use Rattle.call_table.specs.declared.needs.Request.{Request}
-use Rattle.call_table.specs.declared.points.Change.{Change}
-use Rattle.call_table.specs.declared.points.Change.TheVariants.{Stops, Visits, Leaves}
-use Rattle.call_table.specs.declared.points.TurnPoint.{TurnPoint}
-use Rattle.call_table.specs.declared.points.TurnPoint.TheVariants.{Filling, Looking, Landing, Giving, Finding, Taking, Offering, Advancing, Changing, Making, Resetting, Destroying, Dooming, Publishing, Owning}
-use Rattle.call_table.specs.declared.points.AskPoint.{AskPoint}
-use Rattle.call_table.specs.declared.points.AskPoint.TheVariants.{Skipping, Trimming, Growing, Paring, Needing, Granting, Committing, Merging, Easing, Returning, Decommitting, Forcing}
-use Rattle.call_table.specs.declared.points.Point.{Point}
-use Rattle.call_table.specs.declared.points.Point.TheVariants.{Turns, Asks, Tells}
-use Rattle.call_table.specs.declared.points.Next.{Next}
-use Rattle.call_table.specs.declared.points.Next.TheVariants.{Go, More, Ends}
+use Rattle.thread_cache.specs.Desks.{gave}
+use Rattle.heap_core.specs.Words.{Request, Item, Replied, Told, Starved, NoMemory}
+use Rattle.heap_core.specs.Words.{Change, Stops, Visits, Leaves, TurnPoint, Filling, Landing, Giving, Changing, Making, Resetting, Destroying, Publishing, Owning, AskPoint, Skipping, Point, Turns, Asks, Tells, Next, Go, More, Ends}
+use Rattle.call_table.specs.Words.{Op, Reply, NoArena, Noted, Landed, NextFlight, Regions, Owned, Setting, Unbind, SetBound as Bind, MakeLive, Space, Mine, mine, AskFacts, Held, DeskFacts, freeing}
 use Rattle.call_table.specs.Calls.{CallFacts}
 use Rattle.call_table.specs.Desks.{desk_fed, desk_turned, landed_behind, region_at, sharing}
 use Rattle.call_table.specs.Knows.{Idle, KnowsTurn, is_of_arena}
@@ -46,7 +24,7 @@ use Rattle.heap_core.specs.Seats.{seat_of}
 use Rattle.heap_core.specs.Sitting.{AsksSit, Comes, Has, IsSeated, OthersSit, SeatSound, Sits, SitsAt, StarvesSit, Suits, SuitsChange, SuitsTurn, TurnsSit, is_region}
 use Rattle.call_table.proofs.Steps.{never_starves}
 use Rattle.heap_core.proofs.Carrying.{carries}
-use Rattle.heap_core.proofs.Clients.{asks-lead_on, elsewhere_is, others-stay, others_own, sound_at, there_is, turns-lead_on}
+use Rattle.heap_core.proofs.Clients.{asks-lead_on, at_or_else, elsewhere_is, others-stay, others_own, sound_at, there_is, turns-lead_on}
 use Rattle.heap_core.proofs.Having.{cache_arena}
 use Rattle.heap_core.proofs.Regions.{count_at}
 use Rattle.heap_core.proofs.Settling.{Owns, comes_on, count_in, ends_rest, has_owns, single_in}
@@ -75,14 +53,10 @@ share_arena arena class [] desk = refl
 share_arena arena class (addr ∷ addrs) desk = cache_arena (region_at arena class addr) (sharing arena class addrs desk) ∙ share_arena arena class addrs desk
 
 gave_arena : (arena : ℕ) (desk : DeskFacts) → (gave arena desk).arena ≡ desk.arena
-gave_arena arena desk = by desk.hand
-  where
-    by : (hand : Option Held) → (gave_with hand arena desk).arena ≡ desk.arena
-    by None = refl
-    by (Some r) = elim (is_cacheable r.class desk) as (λ v. (cond v (record desk { cached = slice_set desk.cached r.class (gone_from arena (older_count r.class desk) (cached_in desk.cached r.class)) }) (record desk { hand = None })).arena ≡ desk.arena) [ true ↦ refl | false ↦ refl ]
+gave_arena arena desk = grind arith
 
 free_arena : (r : Held) (desk : DeskFacts) → (freeing r desk).arena ≡ desk.arena
-free_arena r desk = elim (is_cacheable r.class desk && has_slot r.class desk) as (λ v. (cond v (caching r desk) (record desk { hand = Some r })).arena ≡ desk.arena) [ true ↦ cache_arena r desk | false ↦ refl ]
+free_arena r desk = grind (arith, cache_arena)
 
 -- the client allocates from the same arena after a turn that changes no setting
 pub turned_arena : (desk : DeskFacts) (arena : ℕ) (point : TurnPoint) (reply : Reply) → ((setting : Setting) (change : Change) → point ≡ Changing setting change → ⊥) → (desk_turned desk arena point reply).arena ≡ desk.arena
@@ -90,13 +64,8 @@ turned_arena desk arena (Filling wish count) (Regions (addr ∷ others)) else = 
 turned_arena desk arena (Landing wish span) (Landed first count) else = share_arena arena wish.class (landed_behind first wish.class count) desk
 turned_arena desk arena (Giving addrs) (NextFlight next) else = gave_arena arena desk
 turned_arena desk arena (Changing setting change) reply else = absurd (else setting change refl)
-turned_arena desk arena (Resetting cached) Noted else = refl
-turned_arena desk arena (Resetting cached) (Purge lazy) else = refl
-turned_arena desk arena (Destroying cached) Noted else = refl
-turned_arena desk arena (Publishing addr) Noted else = refl
 turned_arena desk arena (Owning addr true past) (Owned class) else = free_arena (region_at arena class addr) desk
-turned_arena desk arena (Owning addr false past) reply else = refl
-turned_arena desk arena point reply else = refl
+turned_arena desk arena point reply else = grind arith
 
 -- The client is bound to the arena from which it allocates then: to the one that it had, or to that of the turn.
 abbrev pub BindsTo : DeskFacts → DeskFacts → ℕ → ℕ → Space → Type 0
@@ -110,26 +79,16 @@ module _ (s : Space) (c arena : ℕ) (desk : DeskFacts) (request : Request) (was
   same_bound point else same = inl (turned_arena desk arena point (step_of s c (op_of point)).reply else, λ home. ap (is_in c) same ∙ was home)
 
   change_binds : (setting : Setting) (change : Change) → SuitsChange desk arena setting change → Binds (Changing setting change) (step_of s c (Set setting))
-  change_binds Bind Stops suits = inl (refl, λ home. bind_keeps s c (was home))
-  change_binds Bind (Visits visit) suits = inl (refl, λ home. bind_keeps s c (was home))
   change_binds Bind (Leaves old) suits =
       elim (is_live s.life) as (λ v. Binds (Changing Bind (Leaves old)) (cond v (stays (with_setting s c Bind) Noted) (stays s NoArena))) [
         | true ↦ inr (refl, added_in c s.bound)
         | false ↦ inl (refl, was)
       ]
+  change_binds Bind change suits = inl (refl, λ home. bind_keeps s c (was home))
   change_binds Unbind Stops suits = inl (refl, λ home. absurd (suits (sym home)))
   change_binds Unbind (Visits visit) suits = inl (refl, λ home. absurd (suits.0 (sym home)))
-  change_binds (DirtyMs ms now) Stops suits = inl (refl, λ home. ap (is_in c) (set_steady s c (DirtyMs ms now) tt).bound ∙ was home)
-  change_binds (DirtyMs ms now) (Visits visit) suits = inl (refl, λ home. ap (is_in c) (set_steady s c (DirtyMs ms now) tt).bound ∙ was home)
-  change_binds (MuzzyMs ms now) Stops suits = inl (refl, λ home. ap (is_in c) (set_steady s c (MuzzyMs ms now) tt).bound ∙ was home)
-  change_binds (MuzzyMs ms now) (Visits visit) suits = inl (refl, λ home. ap (is_in c) (set_steady s c (MuzzyMs ms now) tt).bound ∙ was home)
-  change_binds (HookBox box_no) Stops suits = inl (refl, λ home. ap (is_in c) (set_steady s c (HookBox box_no) tt).bound ∙ was home)
-  change_binds (HookBox box_no) (Visits visit) suits = inl (refl, λ home. ap (is_in c) (set_steady s c (HookBox box_no) tt).bound ∙ was home)
-  change_binds (GrowLimit chunks) Stops suits = inl (refl, λ home. ap (is_in c) (set_steady s c (GrowLimit chunks) tt).bound ∙ was home)
-  change_binds (GrowLimit chunks) (Visits visit) suits = inl (refl, λ home. ap (is_in c) (set_steady s c (GrowLimit chunks) tt).bound ∙ was home)
-  change_binds (MakeLive box_no dirty_ms muzzy_ms now) Stops suits = inl (refl, λ home. ap (is_in c) (set_steady s c (MakeLive box_no dirty_ms muzzy_ms now) tt).bound ∙ was home)
-  change_binds (MakeLive box_no dirty_ms muzzy_ms now) (Visits visit) suits = inl (refl, λ home. ap (is_in c) (set_steady s c (MakeLive box_no dirty_ms muzzy_ms now) tt).bound ∙ was home)
   change_binds setting (Leaves old) suits = absurd suits
+  change_binds setting change suits = inl (refl, λ home. ap (is_in c) (set_steady s c setting tt).bound ∙ was home)
 
   -- a setting that makes an arena binds nobody
   make_bound : (setting : Setting) → is_of_arena setting ≡ false → (step_of s c (Set setting)).after.bound ≡ s.bound
@@ -137,56 +96,28 @@ module _ (s : Space) (c arena : ℕ) (desk : DeskFacts) (request : Request) (was
   make_bound setting e = absurd (cc)
 
   pub binds : (point : TurnPoint) → KnowsTurn (mine c s) point → SuitsTurn desk request arena point → Binds point (step_of s c (op_of point))
-  binds (Filling wish count) knows suits = same_bound (Filling wish count) (λ x y e. cc) (moves_bound s c (op_of (Filling wish count)) tt)
-  binds (Looking wish) knows suits = same_bound (Looking wish) (λ x y e. cc) (op_steady s c (op_of (Looking wish)) tt).bound
-  binds (Landing wish span) knows suits = same_bound (Landing wish span) (λ x y e. cc) (moves_bound s c (op_of (Landing wish span)) tt)
-  binds (Giving addrs) knows suits = same_bound (Giving addrs) (λ x y e. cc) (moves_bound s c (op_of (Giving addrs)) tt)
-  binds (Finding own tries fresh later) knows suits = same_bound (Finding own tries fresh later) (λ x y e. cc) (op_steady s c (op_of (Finding own tries fresh later)) tt).bound
-  binds (Taking visit left) knows suits = same_bound (Taking visit left) (λ x y e. cc) (op_steady s c (op_of (Taking visit left)) tt).bound
-  binds (Offering span later) knows suits = same_bound (Offering span later) (λ x y e. cc) (op_steady s c (op_of (Offering span later)) tt).bound
-  binds (Advancing now) knows suits = same_bound (Advancing now) (λ x y e. cc) (op_steady s c (op_of (Advancing now)) tt).bound
   binds (Changing setting change) knows suits = change_binds setting change suits.1
   binds (Making index setting) knows suits = same_bound (Making index setting) (λ x y e. cc) (make_bound setting knows.2)
+  binds (Filling wish count) knows suits = same_bound (Filling wish count) (λ x y e. cc) (moves_bound s c (op_of (Filling wish count)) tt)
+  binds (Landing wish span) knows suits = same_bound (Landing wish span) (λ x y e. cc) (moves_bound s c (op_of (Landing wish span)) tt)
+  binds (Giving addrs) knows suits = same_bound (Giving addrs) (λ x y e. cc) (moves_bound s c (op_of (Giving addrs)) tt)
   binds (Resetting cached) knows suits = same_bound (Resetting cached) (λ x y e. cc) (moves_bound s c (op_of (Resetting cached)) tt)
   binds (Destroying cached) knows suits = same_bound (Destroying cached) (λ x y e. cc) (moves_bound s c (op_of (Destroying cached)) tt)
-  binds Dooming knows suits = same_bound Dooming (λ x y e. cc) (op_steady s c (op_of Dooming) tt).bound
   binds (Publishing addr) knows suits = same_bound (Publishing addr) (λ x y e. cc) (moves_bound s c (op_of (Publishing addr)) tt)
   binds (Owning addr frees past) knows suits = same_bound (Owning addr frees past) (λ x y e. cc) (moves_bound s c (op_of (Owning addr frees past)) tt)
+  binds point knows suits = same_bound point (λ x y e. cc) (op_steady s c (op_of point) tt).bound
 
 -- ---- what a client has after its turn
 
 -- the operation of a point enters a journal as it is
 settled_of : (spaces : List Space) (arena : ℕ) (point : TurnPoint) → settled spaces arena (op_of point) ≡ op_of point
 settled_of spaces arena (Filling wish count) = refl
-settled_of spaces arena (Looking wish) = refl
-settled_of spaces arena (Landing wish span) = refl
-settled_of spaces arena (Giving addrs) = refl
-settled_of spaces arena (Finding own tries fresh later) = refl
-settled_of spaces arena (Taking visit left) = refl
-settled_of spaces arena (Offering span later) = refl
-settled_of spaces arena (Advancing now) = refl
-settled_of spaces arena (Changing setting change) = refl
-settled_of spaces arena (Making index setting) = refl
-settled_of spaces arena (Resetting cached) = refl
-settled_of spaces arena (Destroying cached) = refl
-settled_of spaces arena Dooming = refl
-settled_of spaces arena (Publishing addr) = refl
-settled_of spaces arena (Owning addr frees past) = refl
+settled_of spaces arena point = refl
 
 -- an answer that is taken in moves no region
 steady_done : (spaces : List Space) (arena : ℕ) (point : AskPoint) (asked : AskFacts) → IsSteady (settled spaces arena (done_of point asked))
 steady_done spaces arena (Skipping wish span b skip) asked = tt
-steady_done spaces arena (Trimming wish span b) asked = tt
-steady_done spaces arena (Growing wish chunks) asked = tt
-steady_done spaces arena (Paring wish span b) asked = tt
-steady_done spaces arena (Needing wish) asked = tt
-steady_done spaces arena (Granting wish span b) asked = tt
-steady_done spaces arena (Committing wish span) asked = tt
-steady_done spaces arena (Merging low high own_low fresh later) asked = tt
-steady_done spaces arena (Easing span later) asked = tt
-steady_done spaces arena (Returning span later) asked = tt
-steady_done spaces arena (Decommitting span later) asked = tt
-steady_done spaces arena (Forcing span later) asked = tt
+steady_done spaces arena point asked = tt
 
 module _ (records : List Record) (c arena : ℕ) (desk : DeskFacts) (request : Request) (asked : Option AskFacts) (is : IsArenas records) (there : arena < 32) (owns : Owns records c [] desk) where
   abbrev pub s : Space
@@ -217,15 +148,11 @@ module _ (records : List Record) (c arena : ℕ) (desk : DeskFacts) (request : R
   -- the client is bound to the arena from which it allocates then
   pub still_bound : (op : Op) (after : DeskFacts) → BindsTo desk after arena c (step_of s c op).after → (after.arena < 32) × ((mine_in (all_after op) c after.arena).bound ≡ true)
   still_bound op after (inr (home, so)) = (omega (arith, home, there), subst (λ n. (mine_in (all_after op) c n).bound ≡ true) (sym home) (bound_here op ∙ so))
-  still_bound op after (inl (same, so)) = (omega (arith, same, owns.low), subst (λ n. (mine_in (all_after op) c n).bound ≡ true) (sym same) (by (desk.arena == arena) refl))
-    where
-      by : (v : Bool) → (desk.arena == arena) ≡ v → (mine_in (all_after op) c desk.arena).bound ≡ true
-      by true e =
-          let home : desk.arena ≡ arena = grind (arith, nat_tests) in
-          subst (λ n. (mine_in (all_after op) c n).bound ≡ true) (sym home) (bound_here op ∙ so home)
-      by false e =
-          let differ : desk.arena ≢ arena = λ home. grind (arith, nat_tests) in
-          bound_else op desk.arena differ ∙ owns.bound
+  still_bound op after (inl (same, so)) = (
+    omega (arith, same, owns.low),
+    subst (λ n. (mine_in (all_after op) c n).bound ≡ true) (sym same)
+        (at_or_else (λ n. (mine_in (all_after op) c n).bound ≡ true) desk.arena arena (λ home. bound_here op ∙ so home) (λ differ. bound_else op desk.arena differ ∙ owns.bound)),
+  )
 
   pub turn_owns : (point : TurnPoint) → KnowsTurn (mine c s) point → SuitsTurn desk request arena point →
       Owns (all_after (op_of point)) c (came arena point (step_of s c (op_of point)).reply) (desk_turned desk arena point (step_of s c (op_of point)).reply)
@@ -244,19 +171,11 @@ module _ (records : List Record) (c arena : ℕ) (desk : DeskFacts) (request : R
   pub steady_owns : (op : Op) → (step_of s c op).after.regions ≡ s.regions → (step_of s c op).after.bound ≡ s.bound → Owns (all_after op) c [] desk
   steady_owns op regions bound =
       let now = still_bound op desk (inl (refl, λ home. ap (is_in c) bound ∙ was_bound home)) in record {
-        hands = λ i a k. same i a k (i == arena) refl ∙ owns.hands i a k;
+        hands = λ i a k. at_or_else (λ n. count_in (all_after op) c n a k ≡ count_in records c n a k) i arena (λ home. count_here op a k ∙ ap (count_at c a k) regions) (λ differ. count_else op i a k differ) ∙ owns.hands i a k;
         shaped = owns.shaped;
         low = owns.low;
         bound = now.1;
       }
-    where
-      same : (i a k : ℕ) (v : Bool) → (i == arena) ≡ v → count_in (all_after op) c i a k ≡ count_in records c i a k
-      same i a k true e =
-          let home : i ≡ arena = grind (arith, nat_tests) in
-          subst (λ n. count_in (all_after op) c n a k ≡ count_in records c n a k) (sym home) (count_here op a k ∙ ap (count_at c a k) regions)
-      same i a k false e =
-          let differ : i ≢ arena = λ home. grind (arith, nat_tests) in
-          count_else op i a k differ
 
 -- ---- the laws
 
@@ -324,8 +243,7 @@ ask_suits desk request arena (Asks point (Some told_so)) asked wants suits = abs
 
 told_desk : (desk : DeskFacts) (index : ℕ) (point : Point) (asked : AskFacts) → desk_fed desk index (Go point) (Told asked) ≡ desk
 told_desk desk index (Turns point) asked = refl
-told_desk desk index (Asks point heard) asked = refl
-told_desk desk index (Tells span b) asked = refl
+told_desk desk index point asked = refl
 
 pub asks-sit : AsksSit
 asks-sit records c desk call point asked is few at sits wants kind =
@@ -336,21 +254,8 @@ asks-sit records c desk call point asked is few at sits wants kind =
 
 -- a turn that takes memory is wanted with nothing in flight
 marked_idle : (records : List Record) (c arena : ℕ) (point : TurnPoint) → KnowsTurn (mine_in records c arena) point → is_marked (op_of point) ≡ true → Idle (mine_in records c arena)
-marked_idle records c arena (Filling wish count) knows marked = knows.1
-marked_idle records c arena (Looking wish) knows marked = knows.1
-marked_idle records c arena (Giving addrs) knows marked = knows.idle
-marked_idle records c arena (Taking visit left) knows marked = knows.0
-marked_idle records c arena (Advancing now) knows marked = knows
-marked_idle records c arena (Changing setting change) knows marked = knows.0
-marked_idle records c arena (Making index setting) knows marked = knows.0
-marked_idle records c arena (Resetting cached) knows marked = knows.0
-marked_idle records c arena (Destroying cached) knows marked = knows.0
-marked_idle records c arena Dooming knows marked = knows.0
-marked_idle records c arena (Publishing addr) knows marked = knows.0
-marked_idle records c arena (Owning addr frees past) knows marked = knows
 marked_idle records c arena (Landing wish span) knows marked = absurd (cc)
-marked_idle records c arena (Finding own tries fresh later) knows marked = absurd (cc)
-marked_idle records c arena (Offering span later) knows marked = absurd (cc)
+marked_idle records c arena point knows marked = first_of (search rules, cc)
 
 starve_at : (records : List Record) (c : ℕ) (desk : DeskFacts) (call : CallFacts) (point : Point) (op : Op) (asked : Option AskFacts) → IsArenas records → Sits records c desk call.request call.stage.arena point →
     want point ≡ WantTurn op asked → is_marked op ≡ true → Comes records c (moved call.request (desk_fed desk call.stage.arena (Go point) Starved) call.stage.arena (step point Starved))
@@ -359,16 +264,11 @@ starve_at records c desk call (Turns point) op asked is sits wants marked =
     let takes : is_marked (op_of point) ≡ true = ap is_marked same ∙ marked in
     let idle = marked_idle records c call.stage.arena point sits.waits.knows takes in
     subst (λ v. Comes records c (moved call.request desk call.stage.arena (starved v))) (sym takes)
-    (tt, ends_rest records c call.stage.arena call.request desk [] NoMemory is (has_owns records c desk sits.has) (λ i. all_idle idle i (i == call.stage.arena) refl) refl)
-  where
-    all_idle : Idle (mine_in records c call.stage.arena) → (i : ℕ) (v : Bool) → (i == call.stage.arena) ≡ v → Idle (mine_in records c i)
-    all_idle idle i true e = let home : i ≡ call.stage.arena = grind (arith, nat_tests) in subst (λ n. Idle (mine_in records c n)) (sym home) idle
-    all_idle idle i false e = sits.waits.elsewhere i (λ home. grind (arith, nat_tests))
+    (tt, ends_rest records c call.stage.arena call.request desk [] NoMemory is (has_owns records c desk sits.has) (λ i. at_or_else (λ n. Idle (mine_in records c n)) i call.stage.arena (λ home. idle) (sits.waits.elsewhere i)) refl)
 starve_at records c desk call (Asks point (Some told_so)) op asked is sits wants marked =
     let same : done_of point told_so ≡ op = cc in
     let unmarked = never_starves point told_so in absurd (cc)
-starve_at records c desk call (Asks point None) op asked is sits wants marked = absurd (cc)
-starve_at records c desk call (Tells span b) op asked is sits wants marked = absurd (cc)
+starve_at records c desk call point op asked is sits wants marked = absurd (cc)
 
 pub starves-sit : StarvesSit
 starves-sit records c desk call point op asked is few at sits wants marked =

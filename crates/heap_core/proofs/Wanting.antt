@@ -1,26 +1,12 @@
 -- What a client's open call wants, and where a step for it leads.
 use Rattle.std.proofs.Common.{inl, inr, ◌≡◌, ◌⊎◌, ◌≤◌, ◌<◌, ℕ, ◌+◌, true, false, List, Option, None, Some, Result, Ok, IfSome, IsSomeAnd, refl, sym, ap, subst, ◌∙◌, arith}
-use Rattle.space_model.specs.declared.asks.Ask.{Ask}
-use Rattle.space_model.specs.declared.entries.Op.{Op}
-use Rattle.hook_api.specs.Asked.{AskFacts}
 use Rattle.hook_api.specs.Shelf.{Shelf}
 use Rattle.arena_core.specs.Arenas.{opens}
-use Rattle.thread_cache.specs.Desks.{DeskFacts}
-use Rattle.call_table.specs.declared.needs.Answered.{Answered}
-use Rattle.call_table.specs.declared.needs.Answered.TheVariants.{NoMemory}
-use Rattle.call_table.specs.declared.needs.Item.{Item}
-use Rattle.call_table.specs.declared.needs.Item.TheVariants.{Told, Starved}
+use Rattle.heap_core.specs.Words.{Item, Told, Starved, Answered, NoMemory, TurnPoint, Dooming, Owning, AskPoint, Needing, Point, Turns, Asks, Tells, Next, Go, More, Ends}
+use Rattle.call_table.specs.Words.{Ask, Op, AskFacts, DeskFacts}
 use Rattle.call_table.specs.declared.needs.Need.{Need}
 use Rattle.call_table.specs.declared.needs.Need.TheVariants.{Turn as NeedsTurn, Ask as NeedsAsk}
 use Rattle.call_table.specs.declared.needs.Turn.{Turn}
-use Rattle.call_table.specs.declared.points.TurnPoint.{TurnPoint}
-use Rattle.call_table.specs.declared.points.TurnPoint.TheVariants.{Dooming, Owning}
-use Rattle.call_table.specs.declared.points.AskPoint.{AskPoint}
-use Rattle.call_table.specs.declared.points.AskPoint.TheVariants.{Needing}
-use Rattle.call_table.specs.declared.points.Point.{Point}
-use Rattle.call_table.specs.declared.points.Point.TheVariants.{Turns, Asks, Tells}
-use Rattle.call_table.specs.declared.points.Next.{Next}
-use Rattle.call_table.specs.declared.points.Next.TheVariants.{Go, Over, More, Gone, Ends, Nowhere}
 use Rattle.call_table.specs.Calls.{CallFacts, moment_of}
 use Rattle.call_table.specs.Desks.{desk_fed}
 use Rattle.call_table.specs.Needs.{NeedIs, NeedsWant}
@@ -29,6 +15,7 @@ use Rattle.call_table.specs.Runs.{Moment, after, moved, starved_after, step_next
 use Rattle.call_table.specs.Table.{Want, WantTurn, WantAsk, done_of, is_marked, op_of, starved, step, want}
 use Rattle.heap_core.specs.Arenas.{room_in}
 use Rattle.heap_core.specs.Feeding.{FedTo, NeedOf}
+use Rattle.call_table.proofs.Steps.{never_starves}
 use Rattle.heap_core.specs.Heaps.{HeapFacts, IsMade, IsStep, IsSure, SureAt, SureFor, WantedAt}
 use Rattle.heap_core.specs.declared.heaps.Stepped.{Stepped}
 use Rattle.heap_core.specs.Owing.{asks_at, asks_next, owing}
@@ -57,11 +44,7 @@ some_call None P p = absurd p
 goes_on : (records : List Record) (c : ℕ) (desk : DeskFacts) (call : CallFacts) (next : Next) → SitsAt records c desk call next →
     (point : Point) × (next ≡ Go point) × Sits records c desk call.request call.stage.arena point
 goes_on records c desk call (Go point) sits = (point, refl, sits)
-goes_on records c desk call (Over index point) sits = absurd sits
-goes_on records c desk call More sits = absurd sits
-goes_on records c desk call Gone sits = absurd sits
-goes_on records c desk call (Ends answer) sits = absurd sits
-goes_on records c desk call Nowhere sits = absurd sits
+goes_on records c desk call next sits = absurd sits
 
 wanted : (records : List Record) (c : ℕ) (seat : Seat) (wants : Want) (arena : ℕ) (P : CallFacts → Type 0) → SeatSound records c seat → IsSomeAnd seat.call P →
     ((call : CallFacts) (point : Point) → call.stage.next ≡ Go point → P call → (want point ≡ wants) × (arena ≡ call.stage.arena)) → Wanted records c seat wants arena
@@ -93,6 +76,15 @@ ask_wanted records c seat arena ask sound needs =
     wanted records c seat (WantAsk ask) arena (λ call. NeedIs call.client call.stage.arena call.stage.next (NeedsAsk arena ask)) sound needs
     (λ call point goes need. ask_needed call.client call.stage.arena (want point) arena ask (subst (λ next. NeedIs call.client call.stage.arena next (NeedsAsk arena ask)) goes need))
 
+-- likewise where the heap is seen to be so
+pub turn_seen : (h now : HeapFacts) (turn : Turn) → h ≡ now → SeatSound h.records turn.client (seat_at h.seats turn.client) → Needs (seat_at now.seats turn.client).call (NeedsTurn turn) →
+    Wanted h.records turn.client (seat_at h.seats turn.client) (WantTurn turn.op turn.asked) turn.arena
+turn_seen h now turn view sound needs =
+    turn_wanted h.records turn.client (seat_at h.seats turn.client) turn sound (subst (λ (n : HeapFacts). Needs (seat_at n.seats turn.client).call (NeedsTurn turn)) (sym view) needs)
+
+pub ask_seen : (h now : HeapFacts) (c arena : ℕ) (ask : Ask) → h ≡ now → SeatSound h.records c (seat_at h.seats c) → Needs (seat_at now.seats c).call (NeedsAsk arena ask) → Wanted h.records c (seat_at h.seats c) (WantAsk ask) arena
+ask_seen h now c arena ask view sound needs = ask_wanted h.records c (seat_at h.seats c) arena ask sound (subst (λ (n : HeapFacts). Needs (seat_at n.seats c).call (NeedsAsk arena ask)) (sym view) needs)
+
 -- A client's open call wants a turn that may find no memory.
 pub record Starving (records : List Record) (c : ℕ) (seat : Seat) : Type 0 where
   pub op : Op
@@ -118,6 +110,9 @@ starving records c seat sound some =
       marked = m.3;
       wants = record { call = k.0; point = g.0; is = k.1; client = s.0; goes = g.1; sits = g.2; want_is = m.2; arena_is = refl };
     }
+
+pub starving_seen : (h now : HeapFacts) (c : ℕ) → h ≡ now → SeatSound h.records c (seat_at h.seats c) → StarvesAt (seat_at now.seats c).call → Starving h.records c (seat_at h.seats c)
+starving_seen h now c view sound starves = starving h.records c (seat_at h.seats c) sound (subst (λ (n : HeapFacts). StarvesAt (seat_at n.seats c).call) (sym view) starves)
 
 -- ---- what a step is
 
@@ -156,17 +151,12 @@ opens_not_ask : (point : AskPoint) (asked : AskFacts) → opens (done_of point a
 opens_not_ask (Needing wish) asked = refl
 opens_not_ask point asked = refl
 
-marked_not_ask : (point : AskPoint) (asked : AskFacts) → is_marked (done_of point asked) ≡ false
-marked_not_ask (Needing wish) asked = refl
-marked_not_ask point asked = refl
-
 pub opens_marked : (point : Point) (op : Op) (asked : Option AskFacts) → want point ≡ WantTurn op asked → opens op ≡ true → is_marked op ≡ true
 opens_marked (Turns point) op asked wants is =
     let same : op_of point ≡ op = cc in
     subst (λ o. is_marked o ≡ true) same (sym (opens_marked_turn point) ∙ subst (λ o. opens o ≡ true) (sym same) is)
 opens_marked (Asks point (Some told)) op asked wants is = let same : done_of point told ≡ op = cc in let none = opens_not_ask point told in absurd (cc)
-opens_marked (Asks point None) op asked wants is = absurd (cc)
-opens_marked (Tells span b) op asked wants is = absurd (cc)
+opens_marked point op asked wants is = absurd (cc)
 
 -- a turn without memory comes only where places are promised for all the room
 pub room_asked : (room : ℕ) (point : Point) (op : Op) (asked : Option AskFacts) → want point ≡ WantTurn op asked → opens op ≡ false → room ≤ asks_at room point
@@ -175,16 +165,14 @@ room_asked room (Turns point) op asked wants uses =
     let is : opens (op_of point) ≡ false = ap opens same ∙ uses in
     rw is (omega arith)
 room_asked room (Asks point (Some told)) op asked wants uses = omega arith
-room_asked room (Asks point None) op asked wants uses = absurd (cc)
-room_asked room (Tells span b) op asked wants uses = absurd (cc)
+room_asked room point op asked wants uses = absurd (cc)
 
 starves_to : (point : Point) (op : Op) (asked : Option AskFacts) → want point ≡ WantTurn op asked → is_marked op ≡ true → step point Starved ≡ Ends NoMemory
 starves_to (Turns point) op asked wants marked =
     let same : op_of point ≡ op = cc in
     ap (λ (o : Op). starved (is_marked o)) same ∙ ap starved marked
-starves_to (Asks point (Some told)) op asked wants marked = let same : done_of point told ≡ op = cc in let none = marked_not_ask point told in absurd (cc)
-starves_to (Asks point None) op asked wants marked = absurd (cc)
-starves_to (Tells span b) op asked wants marked = absurd (cc)
+starves_to (Asks point (Some told)) op asked wants marked = let same : done_of point told ≡ op = cc in let none = never_starves point told in absurd (cc)
+starves_to point op asked wants marked = absurd (cc)
 
 -- the call has ended
 pub starved_ends : (records : List Record) (c : ℕ) (seat : Seat) (op : Op) (asked : Option AskFacts) (arena : ℕ) (w : Wanted records c seat (WantTurn op asked) arena) → is_marked op ≡ true →
@@ -212,18 +200,16 @@ starved_at records c seat op asked arena ended new w marked fed = by (fed_at rec
 
 -- a place is promised for it
 pub ask_some : (room : ℕ) (point : Point) (ask : Ask) → want point ≡ WantAsk ask → 0 < asks_at room point
-ask_some room (Turns point) ask wants = absurd (cc)
 ask_some room (Asks point None) ask wants = omega arith
-ask_some room (Asks point (Some asked)) ask wants = absurd (cc)
 ask_some room (Tells span b) ask wants = omega arith
+ask_some room point ask wants = absurd (cc)
 
 -- which it takes
 owed_told : (records : List Record) (c n : ℕ) (at : Moment) (point : Point) (ask : Ask) (asked : AskFacts) → want point ≡ WantAsk ask → asks_at (room_in records at.stage.arena c) point ≤ n + 1 →
     owing records c (seat_of c (moved at.request (desk_fed at.desk at.stage.arena at.stage.next (Told asked)) at.stage.arena (step point (Told asked)))).call ≤ n
-owed_told records c n at (Turns point) ask asked wants few = absurd (cc)
 owed_told records c n at (Asks point None) ask asked wants few = omega (arith, few)
-owed_told records c n at (Asks point (Some told)) ask asked wants few = absurd (cc)
 owed_told records c n at (Tells span b) ask asked wants few = omega arith
+owed_told records c n at point ask asked wants few = absurd (cc)
 
 pub owed_asked : (records : List Record) (c n : ℕ) (seat : Seat) (ask : Ask) (asked : AskFacts) (arena : ℕ) (w : Wanted records c seat (WantAsk ask) arena) → owing records c seat.call ≤ n + 1 →
     owing records c (seat_of c (after (moment_of w.call seat.desk) (Told asked))).call ≤ n
@@ -236,18 +222,13 @@ owed_asked records c n seat ask asked arena w few =
 
 -- no more goes back next
 pub told_on : (point : Point) (ask : Ask) (asked : AskFacts) → want point ≡ WantAsk ask → step point (Told asked) ≡ More → ⊥
-told_on (Turns point) ask asked wants more = absurd (cc)
 told_on (Asks point None) ask asked wants more = absurd (cc)
-told_on (Asks point (Some told)) ask asked wants more = absurd (cc)
-told_on (Tells span b) ask asked wants more = absurd (cc)
+told_on point ask asked wants more = absurd (cc)
 
 -- ---- a region that is taken over
 
 pub taken_is : (next : Next) (addr : ℕ) → taken_next next ≡ Some addr → next ≡ Go (Turns (Owning addr true false))
 taken_is (Go (Turns (Owning at true false))) addr is = ap (λ a. Go (Turns (Owning a true false))) (cc)
-taken_is (Go (Turns (Owning at true true))) addr is = absurd (cc)
-taken_is (Go (Turns (Owning at false past))) addr is = absurd (cc)
-taken_is (Go (Turns Dooming)) addr is = absurd (cc)
 taken_is next addr is = absurd (cc)
 
 -- ---- whose turn it is
@@ -306,5 +287,4 @@ unmarked_opens (Turns point) op asked wants is =
     let same : op_of point ≡ op = cc in
     subst (λ o. opens o ≡ false) same (opens_marked_turn point ∙ subst (λ o. is_marked o ≡ false) (sym same) is)
 unmarked_opens (Asks point (Some told)) op asked wants is = let same : done_of point told ≡ op = cc in subst (λ o. opens o ≡ false) same (opens_not_ask point told)
-unmarked_opens (Asks point None) op asked wants is = absurd (cc)
-unmarked_opens (Tells span b) op asked wants is = absurd (cc)
+unmarked_opens point op asked wants is = absurd (cc)

@@ -1,13 +1,10 @@
 -- The arenas of a heap, each with its journal.
 use Rattle.std.specs.Prelude.{◌≡◌, ℕ, ◌<◌, ◌^◌, ◌++◌, ◌∷◌, [], List, Option, length, map, replicate, slice_index_or, slice_set}
 use Rattle.std.specs.List.{range_with_len}
-use Rattle.space_model.specs.declared.entries.Op.{Op}
-use Rattle.space_model.specs.declared.entries.Reply.{Reply}
-use Rattle.space_model.specs.declared.spaces.Space.{Space}
 use Rattle.space_model.specs.Step.{reply_to, space_after}
-use Rattle.hook_api.specs.Asked.{AskFacts}
 use Rattle.hook_api.specs.declared.kept.Journal.{Journal}
 use Rattle.arena_core.specs.Arenas.{entry_of, room_of, rooms_after}
+use Rattle.call_table.specs.Words.{Op, Reply, Space, AskFacts}
 use Rattle.heap_core.specs.Chunks.{Apart}
 use Rattle.heap_core.specs.Records.{IsReplayed, Record, opening}
 

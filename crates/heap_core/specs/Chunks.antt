@@ -1,17 +1,11 @@
 -- Which arenas own a chunk, and the chunk that speaks against an answer.
 use Rattle.std.specs.Prelude.{◌≡◌, ℕ, ◌%◌, ◌==◌, ◌&&◌, Bool, true, List, Option, None, find, slice_index_or, slice_set, if◌then◌else◌}
 use Rattle.std.specs.List.{list_any}
-use Rattle.space_model.specs.declared.asks.Ask.{Ask}
-use Rattle.space_model.specs.declared.asks.Ask.TheVariants.{Alloc, Dalloc}
-use Rattle.space_model.specs.declared.asks.Answer.{Answer}
-use Rattle.space_model.specs.declared.asks.Answer.TheVariants.{Refused, Placed}
-use Rattle.space_model.specs.declared.entries.Op.{Op}
 use Rattle.space_model.specs.declared.entries.Op.TheVariants.{GrowDone, OfferDone}
-use Rattle.space_model.specs.declared.parts.Span.{Span}
-use Rattle.space_model.specs.declared.spaces.Space.{Space}
 use Rattle.space_model.specs.Opening.{absent_space}
 use Rattle.space_model.specs.Span.{chunk_span, chunks_of, meets}
 use Rattle.space_model.specs.Step.{is_in_space}
+use Rattle.call_table.specs.Words.{Ask, Alloc, Dalloc, Answer, Placed, Refuses as Refused, Op, Space, Span}
 
 -- the space of the arena with an index; where there is none, it is that of an index without an arena
 abbrev pub space_at : List Space → ℕ → Space

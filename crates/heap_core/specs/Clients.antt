@@ -1,16 +1,10 @@
 -- What is so of a client's call among the arenas of a heap, whoever takes a turn.
 use Rattle.std.specs.Prelude.{◌≡◌, ◌≢◌, ℕ, ◌<◌, ◌≤◌, false, IsTrue, List, Option}
-use Rattle.space_model.specs.declared.entries.Op.{Op}
-use Rattle.space_model.specs.Own.{Mine, mine}
 use Rattle.space_model.specs.Step.{stands}
-use Rattle.hook_api.specs.Asked.{AskFacts}
-use Rattle.hook_api.specs.Hooks.{Answers as AnswersTo}
 use Rattle.hook_api.specs.Kept.{IsKept}
 use Rattle.arena_core.specs.Arenas.{entry_of, opens}
-use Rattle.call_table.specs.declared.needs.Item.TheVariants.{Replied, Told}
-use Rattle.call_table.specs.declared.points.Point.{Point}
-use Rattle.call_table.specs.declared.points.Next.{Next}
-use Rattle.call_table.specs.declared.points.Next.TheVariants.{Go, Over, More, Gone, Ends, Nowhere}
+use Rattle.call_table.specs.Words.{Op, Mine, mine, AskFacts, AnswersTo}
+use Rattle.heap_core.specs.Words.{Replied, Told, Point, Next, Go, Over, More, Gone, Ends, Nowhere}
 use Rattle.call_table.specs.Table.{WantTurn, WantAsk, step, want}
 use Rattle.call_table.specs.Knows.{Idle, Knows}
 use Rattle.call_table.specs.Rooms.{flying, needed_at}

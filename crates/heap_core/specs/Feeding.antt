@@ -1,12 +1,9 @@
 -- A client, and its call as that is fed.
 use Rattle.std.specs.Prelude.{◌≡◌, ◌⊎◌, ◌≤◌, ℕ, Option, Some, Result, IfOk, IfSome, IsOk, IsSomeAnd}
 use Rattle.std.specs.Option.{option_map}
-use Rattle.thread_cache.specs.Desks.{DeskFacts}
-use Rattle.call_table.specs.declared.needs.Answered.{Answered}
-use Rattle.call_table.specs.declared.needs.Answered.TheVariants.{NoMemory}
-use Rattle.call_table.specs.declared.needs.Item.{Item}
+use Rattle.call_table.specs.Words.{DeskFacts}
+use Rattle.heap_core.specs.Words.{Item, Answered, NoMemory, More}
 use Rattle.call_table.specs.declared.needs.Need.{Need}
-use Rattle.call_table.specs.declared.points.Next.TheVariants.{More}
 use Rattle.call_table.specs.Calls.{CallFacts, moment_of}
 use Rattle.call_table.specs.Needs.{IsFewAddresses, NeedIs}
 use Rattle.call_table.specs.Reads.{aimed}

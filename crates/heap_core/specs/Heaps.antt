@@ -1,18 +1,10 @@
 -- A heap, and what a step of a client does to it.
 use Rattle.std.specs.Prelude.{◌≡◌, ◌⊎◌, ℕ, false, List, [], ◌∷◌, ◌++◌, Option, None, Some, replicate, slice_set}
-use Rattle.space_model.specs.declared.entries.Op.{Op}
 use Rattle.space_model.specs.declared.entries.Op.TheVariants.{Publish}
-use Rattle.hook_api.specs.Asked.{AskFacts}
 use Rattle.hook_api.specs.Shelf.{AskStep, Shelf}
-use Rattle.thread_cache.specs.declared.Held.{Held}
-use Rattle.thread_cache.specs.Desks.{held_at, not_holding}
-use Rattle.call_table.specs.declared.needs.Answered.{Answered}
-use Rattle.call_table.specs.declared.needs.Answered.TheVariants.{NoMemory}
-use Rattle.call_table.specs.declared.needs.Item.{Item}
-use Rattle.call_table.specs.declared.needs.Item.TheVariants.{Replied, Told, Starved}
-use Rattle.call_table.specs.declared.needs.Request.{Request}
-use Rattle.call_table.specs.declared.points.Next.{Next}
-use Rattle.call_table.specs.declared.points.Next.TheVariants.{Go}
+use Rattle.thread_cache.specs.Desks.{not_holding}
+use Rattle.call_table.specs.Words.{Op, AskFacts, Held, held_at}
+use Rattle.heap_core.specs.Words.{Request, Item, Replied, Told, Starved, Answered, NoMemory, Next, Go}
 use Rattle.call_table.specs.Calls.{CallFacts, moment_of}
 use Rattle.call_table.specs.Reads.{aimed, taken_next}
 use Rattle.call_table.specs.Runs.{Moment, after, starved_after}

@@ -1,3 +1,4 @@
+pub mod Words
 pub mod Arenas
 pub mod Chunks
 pub mod Clients

@@ -1,10 +1,7 @@
 -- How many asks a client may make until its next turn that takes memory, and what is so of a heap's clients.
 use Rattle.std.specs.Prelude.{◌≡◌, ◌<◌, ◌≤◌, ℕ, ◌+◌, List, Option, None, Some, length, if◌then◌else◌}
 use Rattle.arena_core.specs.Arenas.{opens}
-use Rattle.call_table.specs.declared.points.Point.{Point}
-use Rattle.call_table.specs.declared.points.Point.TheVariants.{Turns, Asks, Tells}
-use Rattle.call_table.specs.declared.points.Next.{Next}
-use Rattle.call_table.specs.declared.points.Next.TheVariants.{Go}
+use Rattle.heap_core.specs.Words.{Point, Turns, Asks, Tells, Next, Go}
 use Rattle.call_table.specs.Calls.{CallFacts}
 use Rattle.call_table.specs.Table.{op_of}
 use Rattle.heap_core.specs.Arenas.{room_in}

@@ -1,13 +1,8 @@
 -- The clients of a heap: what each has, its open call, and how both change.
 use Rattle.std.specs.Prelude.{ℕ, false, List, [], Option, None, Some, is_some, replicate, slice_index_or}
 use Rattle.std.specs.List.{position}
-use Rattle.thread_cache.specs.declared.Held.{Held}
-use Rattle.thread_cache.specs.Desks.{DeskFacts, held_at}
-use Rattle.call_table.specs.declared.needs.Answered.{Answered}
-use Rattle.call_table.specs.declared.needs.Request.{Request}
-use Rattle.call_table.specs.declared.needs.Request.TheVariants.{Free, FreeForeign}
-use Rattle.call_table.specs.declared.points.Next.{Next}
-use Rattle.call_table.specs.declared.points.Next.TheVariants.{Go}
+use Rattle.call_table.specs.Words.{Held, DeskFacts, held_at}
+use Rattle.heap_core.specs.Words.{Request, Free, FreeForeign, Answered, Next, Go}
 use Rattle.call_table.specs.Calls.{CallFacts}
 use Rattle.call_table.specs.Reads.{ended_by}
 use Rattle.call_table.specs.Runs.{Moment, begin}

@@ -2,38 +2,14 @@
 -- open call knows what it has to.
 use Rattle.std.specs.Prelude.{◌≡◌, ◌≢◌, ℕ, ◌+◌, ◌<◌, ◌≤◌, ◌==◌, ◌&&◌, ◌++◌, ◌∷◌, [], Bool, true, false, IsTrue, List, Option, None, Some, count_by, length, map, All}
 use Rattle.std.specs.List.{flat_map}
-use Rattle.size_classes.specs.Classes.{slots_at}
-use Rattle.space_model.specs.declared.entries.Op.{Op}
 use Rattle.space_model.specs.declared.entries.Op.TheVariants.{Publish}
-use Rattle.space_model.specs.declared.entries.Setting.{Setting}
-use Rattle.space_model.specs.declared.entries.Setting.TheVariants.{Bind, Unbind}
 use Rattle.space_model.specs.declared.parts.Region.{Region as SpaceRegion}
 use Rattle.space_model.specs.Step.{stands}
-use Rattle.hook_api.specs.Asked.{AskFacts}
-use Rattle.hook_api.specs.Hooks.{Answers as AnswersTo}
 use Rattle.arena_core.specs.Arenas.{entry_of}
-use Rattle.thread_cache.specs.declared.Held.{Held}
-use Rattle.thread_cache.specs.Caches.{cached_in}
-use Rattle.thread_cache.specs.Desks.{DeskFacts, batch_of, cached_of, going, held_at, not_holding}
-use Rattle.call_table.specs.declared.needs.Given.{Given}
-use Rattle.call_table.specs.declared.needs.Given.TheVariants.{Region}
-use Rattle.call_table.specs.declared.needs.Item.{Item}
-use Rattle.call_table.specs.declared.needs.Item.TheVariants.{Replied, Told, Starved}
-use Rattle.call_table.specs.declared.needs.Request.{Request}
-use Rattle.call_table.specs.declared.points.Later.{Later}
-use Rattle.call_table.specs.declared.points.Later.TheVariants.{Answers, DirtyToo}
-use Rattle.call_table.specs.declared.points.Then.{Then}
-use Rattle.call_table.specs.declared.points.Then.TheVariants.{Batches, Visiting}
-use Rattle.call_table.specs.declared.points.Change.{Change}
-use Rattle.call_table.specs.declared.points.Change.TheVariants.{Stops, Visits, Leaves}
-use Rattle.call_table.specs.declared.points.TurnPoint.{TurnPoint}
-use Rattle.call_table.specs.declared.points.TurnPoint.TheVariants.{Filling, Looking, Landing, Giving, Finding, Taking, Offering, Changing, Resetting, Destroying, Publishing, Owning}
-use Rattle.call_table.specs.declared.points.AskPoint.{AskPoint}
-use Rattle.call_table.specs.declared.points.AskPoint.TheVariants.{Skipping, Trimming, Growing, Paring, Needing, Granting, Committing, Merging, Easing, Returning, Decommitting, Forcing}
-use Rattle.call_table.specs.declared.points.Point.{Point}
-use Rattle.call_table.specs.declared.points.Point.TheVariants.{Turns, Asks, Tells}
-use Rattle.call_table.specs.declared.points.Next.{Next}
-use Rattle.call_table.specs.declared.points.Next.TheVariants.{Go, More}
+use Rattle.thread_cache.specs.Desks.{not_holding}
+use Rattle.heap_core.specs.Words.{Request, Item, Replied, Told, Starved, Given, Region}
+use Rattle.heap_core.specs.Words.{Later, Answers, DirtyToo, Then, Batches, Visiting, Change, Stops, Visits, Leaves, TurnPoint, Filling, Looking, Landing, Giving, Finding, Taking, Offering, Changing, Resetting, Destroying, Publishing, Owning, AskPoint, Skipping, Trimming, Growing, Paring, Needing, Granting, Committing, Merging, Easing, Returning, Decommitting, Forcing, Point, Turns, Asks, Tells, Next, Go, More}
+use Rattle.call_table.specs.Words.{Op, Setting, Unbind, SetBound as Bind, AskFacts, Held, DeskFacts, batch_of, cached_of, going, held_at, AnswersTo, slots_at, cached_in}
 use Rattle.call_table.specs.Calls.{CallFacts, moment_of}
 use Rattle.call_table.specs.Desks.{flushes}
 use Rattle.call_table.specs.Laws.{IsInRange}

@@ -1,13 +1,9 @@
 -- What the parts of a step of a client rest on.
 use Rattle.std.specs.Prelude.{◌≡◌, ◌≢◌, ◌+◌, ◌<◌, ◌≤◌, ℕ, true, false, List, Option, None, Some, Result, Ok, Err, IfOk, IsOk, IsSomeAnd, OnOk, OnErr}
 use Rattle.space_model.specs.declared.entries.Op.TheVariants.{Publish}
-use Rattle.space_model.specs.declared.entries.Reply.{Reply}
-use Rattle.thread_cache.specs.declared.Held.{Held}
-use Rattle.call_table.specs.declared.needs.Item.{Item}
-use Rattle.call_table.specs.declared.needs.Item.TheVariants.{Replied, Starved}
+use Rattle.call_table.specs.Words.{Reply, Held}
+use Rattle.heap_core.specs.Words.{Item, Replied, Starved, Next, Go}
 use Rattle.call_table.specs.declared.needs.Need.{Need}
-use Rattle.call_table.specs.declared.points.Next.{Next}
-use Rattle.call_table.specs.declared.points.Next.TheVariants.{Go}
 use Rattle.call_table.specs.Calls.{CallFacts}
 use Rattle.call_table.specs.Needs.{NeedIs}
 use Rattle.call_table.specs.Reads.{taken_next}

@@ -1,4 +1,4 @@
-use Rattle.call_table.proofs.Bounds.{mallocs-are_short}
+use Rattle.call_table.proofs.Credits.{mallocs-are_short}
 use Rattle.call_table.proofs.laws.mallocs_are_short.Goals as goal
 
 pub returns : goal.returns

@@ -1,7 +1,6 @@
 use Rattle.std.proofs.Common.{◌<◌, ◌∙◌, IfSome, IsSomeAnd, ap, slice_set, subst, sym}
-use Rattle.space_model.specs.declared.spaces.Space.{Space}
-use Rattle.call_table.specs.declared.needs.Item.TheVariants.{Told}
-use Rattle.call_table.specs.declared.needs.Need.TheVariants.{Ask as NeedsAsk}
+use Rattle.call_table.specs.Words.{Space}
+use Rattle.heap_core.specs.Words.{Told}
 use Rattle.call_table.specs.Calls.{moment_of}
 use Rattle.call_table.specs.Needs.{Goes}
 use Rattle.call_table.specs.Runs.{after}
@@ -9,10 +8,9 @@ use Rattle.heap_core.specs.Feeding.{FedTo}
 use Rattle.heap_core.specs.Heaps.{HeapFacts, IsSure}
 use Rattle.heap_core.specs.Seats.{Seat, seat_at}
 use Rattle.call_table.specs.Table.{WantAsk}
-use Rattle.heap_core.specs.Stepping.{Needs}
 use Rattle.heap_core.proofs.Changes.{seat_is}
 use Rattle.heap_core.proofs.Making.{ask_goes, ask_heap, ask_place, ask_step_at}
-use Rattle.heap_core.proofs.Wanting.{ask_wanted, sure_made}
+use Rattle.heap_core.proofs.Wanting.{ask_seen, sure_made}
 use Rattle.heap_core.proofs.heaps.Heap.ask.Goals as goal
 
 pub at-requires : goal.at-requires
@@ -20,8 +18,7 @@ at-requires g c =
     let client = c.args.client in
     let inside = c.self.inside in
     let seats = inside.clients.items in
-    let needs = subst (λ (h : HeapFacts). Needs (seat_at h.seats client).call (NeedsAsk c.args.arena c.args.ask)) (sym c.self.view_is) c.requires.needs in
-    let w = ask_wanted inside.arenas client (seat_at seats client) c.args.arena c.args.ask (c.self.invariant.sound client c.requires.client) needs in
+    let w = ask_seen _ _ client c.args.arena c.args.ask c.self.view_is (c.self.invariant.sound client c.requires.client) c.requires.needs in
     subst (λ a. a < 32) (sym w.arena_is) w.sits.waits.there
 
 pub push-requires-clause-place : goal.push-requires-clause-place
@@ -29,8 +26,7 @@ push-requires-clause-place g c =
     let client = c.args.client in
     let inside = c.self.inside in
     let seats = inside.clients.items in
-    let needs = subst (λ (h : HeapFacts). Needs (seat_at h.seats client).call (NeedsAsk c.args.arena c.args.ask)) (sym c.self.view_is) c.requires.needs in
-    let w = ask_wanted inside.arenas client (seat_at seats client) c.args.arena c.args.ask (c.self.invariant.sound client c.requires.client) needs in
+    let w = ask_seen _ _ client c.args.arena c.args.ask c.self.view_is (c.self.invariant.sound client c.requires.client) c.requires.needs in
     ask_place inside.arenas seats inside.log.owed client c.args.arena c.args.ask c.self.invariant c.requires.client w
 
 pub feed-ended-requires : goal.feed-ended-requires
@@ -38,8 +34,7 @@ feed-ended-requires g c =
     let client = c.args.client in
     let inside = c.self.inside in
     let seats = inside.clients.items in
-    let needs = subst (λ (h : HeapFacts). Needs (seat_at h.seats client).call (NeedsAsk c.args.arena c.args.ask)) (sym c.self.view_is) c.requires.needs in
-    let w = ask_wanted inside.arenas client (seat_at seats client) c.args.arena c.args.ask (c.self.invariant.sound client c.requires.client) needs in
+    let w = ask_seen _ _ client c.args.arena c.args.ask c.self.view_is (c.self.invariant.sound client c.requires.client) c.requires.needs in
     subst (λ (seat : Seat). IsSomeAnd seat.call (λ call. Goes (after (moment_of call seat.desk) (Told c.ask-asked.result)).stage.next))
     (sym (seat_is seats client c.index_mut.result.now c.self.invariant.number c.requires.client c.index_mut.ensures.value))
     (ask_goes inside.arenas seats inside.log.owed client c.args.arena c.args.ask _ _ c.ask-asked.result c.self.invariant c.are_apart.ensures.arenas c.requires.client w c.ask-asked.ensures.of_ask c.ask-asked.ensures.step)
@@ -49,8 +44,7 @@ invariant_of-self g c =
     let client = c.args.client in
     let inside = c.self.inside in
     let seats = inside.clients.items in
-    let needs = subst (λ (h : HeapFacts). Needs (seat_at h.seats client).call (NeedsAsk c.args.arena c.args.ask)) (sym c.self.view_is) c.requires.needs in
-    let w = ask_wanted inside.arenas client (seat_at seats client) c.args.arena c.args.ask (c.self.invariant.sound client c.requires.client) needs in
+    let w = ask_seen _ _ client c.args.arena c.args.ask c.self.view_is (c.self.invariant.sound client c.requires.client) c.requires.needs in
     let fed = subst (λ (seat : Seat). IfSome seat.call (λ call. FedTo call seat.desk (Told c.ask-asked.result) c.feed-ended.result c.feed-ended.new.self))
     (seat_is seats client c.index_mut.result.now c.self.invariant.number c.requires.client c.index_mut.ensures.value) c.feed-ended.ensures in
     ask_heap inside.arenas seats inside.log.owed client c.args.arena c.args.ask _ _ c.ask-asked.result c.self.invariant c.are_apart.ensures.arenas c.requires.client w c.push.new.self.owed c.feed-ended.result c.feed-ended.new.self
@@ -61,8 +55,7 @@ returns-clause-step g c =
     let client = c.args.client in
     let inside = c.self.inside in
     let seats = inside.clients.items in
-    let needs = subst (λ (h : HeapFacts). Needs (seat_at h.seats client).call (NeedsAsk c.args.arena c.args.ask)) (sym c.self.view_is) c.requires.needs in
-    let w = ask_wanted inside.arenas client (seat_at seats client) c.args.arena c.args.ask (c.self.invariant.sound client c.requires.client) needs in
+    let w = ask_seen _ _ client c.args.arena c.args.ask c.self.view_is (c.self.invariant.sound client c.requires.client) c.requires.needs in
     let fed = subst (λ (seat : Seat). IfSome seat.call (λ call. FedTo call seat.desk (Told c.ask-asked.result) c.feed-ended.result c.feed-ended.new.self))
     (seat_is seats client c.index_mut.result.now c.self.invariant.number c.requires.client c.index_mut.ensures.value) c.feed-ended.ensures in
     ask_step_at (record { records = inside.arenas; seats = seats; heard = inside.log.asks }) c.args.self.now c.push.new.self.asks client c.args.arena c.args.ask c.ask-asked.result c.feed-ended.new.self c.feed-ended.result _ _
@@ -75,7 +68,6 @@ returns-clause-sure g c =
     let inside = c.self.inside in
     let seats = inside.clients.items in
     let h : HeapFacts = record { records = inside.arenas; seats = seats; heard = inside.log.asks } in
-    let needs = subst (λ (h : HeapFacts). Needs (seat_at h.seats client).call (NeedsAsk c.args.arena c.args.ask)) (sym c.self.view_is) c.requires.needs in
-    let w = ask_wanted inside.arenas client (seat_at seats client) c.args.arena c.args.ask (c.self.invariant.sound client c.requires.client) needs in
+    let w = ask_seen _ _ client c.args.arena c.args.ask c.self.view_is (c.self.invariant.sound client c.requires.client) c.requires.needs in
     let new : HeapFacts = record { records = inside.arenas; seats = slice_set seats client c.feed-ended.new.self; heard = c.push.new.self.asks } in
     subst (λ (h : HeapFacts). IsSure h client (seat_at h.seats client).call new) c.self.view_is (sure_made h new client (WantAsk c.args.ask) c.args.arena w tt)

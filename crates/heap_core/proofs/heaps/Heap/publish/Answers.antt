@@ -1,5 +1,6 @@
 use Rattle.std.proofs.Common.{◌≡◌, ◌∙◌, Some, ap, sym, subst}
-use Rattle.thread_cache.specs.Desks.{held_at, not_holding}
+use Rattle.thread_cache.specs.Desks.{not_holding}
+use Rattle.call_table.specs.Words.{held_at}
 use Rattle.heap_core.specs.Heaps.{HeapFacts}
 use Rattle.heap_core.specs.Seats.{Seat, seat_at}
 use Rattle.heap_core.specs.Stepping.{MadeTurn}

@@ -1,5 +1,5 @@
 use Rattle.std.proofs.Common.{IfSome, IsSomeAnd, slice_set, subst, sym}
-use Rattle.call_table.specs.declared.needs.Item.TheVariants.{Starved}
+use Rattle.heap_core.specs.Words.{Starved}
 use Rattle.call_table.specs.Calls.{moment_of}
 use Rattle.call_table.specs.Needs.{Goes}
 use Rattle.call_table.specs.Runs.{after}
@@ -7,10 +7,9 @@ use Rattle.heap_core.specs.Feeding.{FedTo}
 use Rattle.heap_core.specs.Heaps.{HeapFacts, IsStep, IsSure}
 use Rattle.heap_core.specs.declared.heaps.Did.TheVariants.{Turn as DidTurn}
 use Rattle.heap_core.specs.Seats.{Seat, seat_at}
-use Rattle.heap_core.specs.Stepping.{StarvesAt}
 use Rattle.heap_core.proofs.Changes.{seat_is}
 use Rattle.heap_core.proofs.Making.{starve_goes, starve_heap, starve_step}
-use Rattle.heap_core.proofs.Wanting.{starving, starving_sure}
+use Rattle.heap_core.proofs.Wanting.{starving_seen, starving_sure}
 use Rattle.heap_core.proofs.heaps.Heap.starve.Goals as goal
 
 pub feed-ended-requires : goal.feed-ended-requires
@@ -18,8 +17,7 @@ feed-ended-requires c =
     let client = c.args.client in
     let inside = c.self.inside in
     let seats = inside.clients.items in
-    let starves = subst (λ (h : HeapFacts). StarvesAt (seat_at h.seats client).call) (sym c.self.view_is) c.requires.starves in
-    let s = starving inside.arenas client (seat_at seats client) (c.self.invariant.sound client c.requires.client) starves in
+    let s = starving_seen _ _ client c.self.view_is (c.self.invariant.sound client c.requires.client) c.requires.starves in
     subst (λ (seat : Seat). IsSomeAnd seat.call (λ call. Goes (after (moment_of call seat.desk) Starved).stage.next))
     (sym (seat_is seats client c.index_mut.result.now c.self.invariant.number c.requires.client c.index_mut.ensures.value))
     (starve_goes inside.arenas client (seat_at seats client) c.are_apart.ensures.arenas c.requires.client s)
@@ -29,8 +27,7 @@ invariant_of-self c =
     let client = c.args.client in
     let inside = c.self.inside in
     let seats = inside.clients.items in
-    let starves = subst (λ (h : HeapFacts). StarvesAt (seat_at h.seats client).call) (sym c.self.view_is) c.requires.starves in
-    let s = starving inside.arenas client (seat_at seats client) (c.self.invariant.sound client c.requires.client) starves in
+    let s = starving_seen _ _ client c.self.view_is (c.self.invariant.sound client c.requires.client) c.requires.starves in
     let fed = subst (λ (seat : Seat). IfSome seat.call (λ call. FedTo call seat.desk Starved c.feed-ended.result c.feed-ended.new.self))
     (seat_is seats client c.index_mut.result.now c.self.invariant.number c.requires.client c.index_mut.ensures.value) c.feed-ended.ensures in
     starve_heap inside.arenas seats inside.log.owed client c.feed-ended.new.self c.feed-ended.result c.self.invariant c.are_apart.ensures.arenas c.requires.client s fed
@@ -40,8 +37,7 @@ returns-clause-step c =
     let client = c.args.client in
     let inside = c.self.inside in
     let seats = inside.clients.items in
-    let starves = subst (λ (h : HeapFacts). StarvesAt (seat_at h.seats client).call) (sym c.self.view_is) c.requires.starves in
-    let s = starving inside.arenas client (seat_at seats client) (c.self.invariant.sound client c.requires.client) starves in
+    let s = starving_seen _ _ client c.self.view_is (c.self.invariant.sound client c.requires.client) c.requires.starves in
     let fed = subst (λ (seat : Seat). IfSome seat.call (λ call. FedTo call seat.desk Starved c.feed-ended.result c.feed-ended.new.self))
     (seat_is seats client c.index_mut.result.now c.self.invariant.number c.requires.client c.index_mut.ensures.value) c.feed-ended.ensures in
     λ shelf. subst (λ (h : HeapFacts). IsStep h shelf client (seat_at h.seats client).call (record { did = DidTurn; ended = c.feed-ended.result })
@@ -54,7 +50,6 @@ returns-clause-sure c =
     let inside = c.self.inside in
     let seats = inside.clients.items in
     let h : HeapFacts = record { records = inside.arenas; seats = seats; heard = inside.log.asks } in
-    let starves = subst (λ (h : HeapFacts). StarvesAt (seat_at h.seats client).call) (sym c.self.view_is) c.requires.starves in
-    let s = starving inside.arenas client (seat_at seats client) (c.self.invariant.sound client c.requires.client) starves in
+    let s = starving_seen _ _ client c.self.view_is (c.self.invariant.sound client c.requires.client) c.requires.starves in
     let new : HeapFacts = record { records = inside.arenas; seats = slice_set seats client c.feed-ended.new.self; heard = inside.log.asks } in
     subst (λ (h : HeapFacts). IsSure h client (seat_at h.seats client).call new) c.self.view_is (starving_sure h new client s)

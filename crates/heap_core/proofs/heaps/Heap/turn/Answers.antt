@@ -1,5 +1,4 @@
 use Rattle.std.proofs.Common.{None, IfSome, IsSomeAnd, slice_set, subst, sym}
-use Rattle.call_table.specs.declared.needs.Need.TheVariants.{Turn as NeedsTurn}
 use Rattle.call_table.specs.Calls.{moment_of}
 use Rattle.call_table.specs.Needs.{Goes}
 use Rattle.call_table.specs.Runs.{after}
@@ -7,10 +6,10 @@ use Rattle.heap_core.specs.Feeding.{FedTo}
 use Rattle.heap_core.specs.Heaps.{HeapFacts, IsStep}
 use Rattle.heap_core.specs.declared.heaps.Did.TheVariants.{Turn as DidTurn}
 use Rattle.heap_core.specs.Seats.{Seat, seat_at}
-use Rattle.heap_core.specs.Stepping.{HolderIs, Needs, item_of}
+use Rattle.heap_core.specs.Stepping.{HolderIs, item_of}
 use Rattle.heap_core.proofs.Changes.{seat_is}
 use Rattle.heap_core.proofs.Making.{turn_can, turn_goes, turn_heap, turn_step, turn_sure, turn_there}
-use Rattle.heap_core.proofs.Wanting.{turn_wanted}
+use Rattle.heap_core.proofs.Wanting.{turn_seen}
 use Rattle.heap_core.proofs.heaps.Heap.turn.Goals as goal
 
 pub make_turn-made-requires-clause-can : goal.make_turn-made-requires-clause-can
@@ -18,8 +17,7 @@ make_turn-made-requires-clause-can c =
     let turn = c.args.turn.now in
     let inside = c.self.inside in
     let seats = inside.clients.items in
-    let needs = subst (λ (h : HeapFacts). Needs (seat_at h.seats turn.client).call (NeedsTurn turn)) (sym c.self.view_is) c.requires.needs in
-    let w = turn_wanted inside.arenas turn.client (seat_at seats turn.client) turn (c.self.invariant.sound turn.client c.requires.client) needs in
+    let w = turn_seen _ _ turn c.self.view_is (c.self.invariant.sound turn.client c.requires.client) c.requires.needs in
     turn_can inside.arenas turn.client (seat_at seats turn.client) turn.op turn.asked turn.arena c.are_apart.ensures.arenas c.requires.client w
 
 pub make_turn-made-requires-clause-arena : goal.make_turn-made-requires-clause-arena
@@ -27,8 +25,7 @@ make_turn-made-requires-clause-arena c =
     let turn = c.args.turn.now in
     let inside = c.self.inside in
     let seats = inside.clients.items in
-    let needs = subst (λ (h : HeapFacts). Needs (seat_at h.seats turn.client).call (NeedsTurn turn)) (sym c.self.view_is) c.requires.needs in
-    let w = turn_wanted inside.arenas turn.client (seat_at seats turn.client) turn (c.self.invariant.sound turn.client c.requires.client) needs in
+    let w = turn_seen _ _ turn c.self.view_is (c.self.invariant.sound turn.client c.requires.client) c.requires.needs in
     turn_there inside.arenas turn.client (seat_at seats turn.client) turn.op turn.asked turn.arena c.are_apart.ensures.arenas c.requires.client w
 
 pub feed-ended-requires : goal.feed-ended-requires
@@ -36,8 +33,7 @@ feed-ended-requires c =
     let turn = c.args.turn.now in
     let inside = c.self.inside in
     let seats = inside.clients.items in
-    let needs = subst (λ (h : HeapFacts). Needs (seat_at h.seats turn.client).call (NeedsTurn turn)) (sym c.self.view_is) c.requires.needs in
-    let w = turn_wanted inside.arenas turn.client (seat_at seats turn.client) turn (c.self.invariant.sound turn.client c.requires.client) needs in
+    let w = turn_seen _ _ turn c.self.view_is (c.self.invariant.sound turn.client c.requires.client) c.requires.needs in
     let goes = subst (λ (seat : Seat). IsSomeAnd seat.call (λ call. Goes (after (moment_of call seat.desk) (item_of c.make_turn-made.result)).stage.next))
     (sym (seat_is seats turn.client c.index_mut.result.now c.self.invariant.number c.requires.client c.index_mut.ensures.value))
     (turn_goes inside.arenas c.make_turn-made.new.arenas inside.log.owed c.make_turn-made.new.log.owed (seat_at seats turn.client) turn c.make_turn-made.result c.are_apart.ensures.arenas c.requires.client w c.make_turn-made.ensures.turn) in
@@ -48,8 +44,7 @@ invariant_of-self c =
     let turn = c.args.turn.now in
     let inside = c.self.inside in
     let seats = inside.clients.items in
-    let needs = subst (λ (h : HeapFacts). Needs (seat_at h.seats turn.client).call (NeedsTurn turn)) (sym c.self.view_is) c.requires.needs in
-    let w = turn_wanted inside.arenas turn.client (seat_at seats turn.client) turn (c.self.invariant.sound turn.client c.requires.client) needs in
+    let w = turn_seen _ _ turn c.self.view_is (c.self.invariant.sound turn.client c.requires.client) c.requires.needs in
     let fed = subst (λ (seat : Seat). IfSome seat.call (λ call. FedTo call seat.desk (item_of c.make_turn-made.result) c.feed-ended.result c.feed-ended.new.self))
     (seat_is seats turn.client c.index_mut.result.now c.self.invariant.number c.requires.client c.index_mut.ensures.value)
     (subst (λ item. IfSome c.index_mut.result.now.call (λ call. FedTo call c.index_mut.result.now.desk item c.feed-ended.result c.feed-ended.new.self)) c.item_of.ensures c.feed-ended.ensures) in
@@ -61,8 +56,7 @@ returns-clause-step c =
     let turn = c.args.turn.now in
     let inside = c.self.inside in
     let seats = inside.clients.items in
-    let needs = subst (λ (h : HeapFacts). Needs (seat_at h.seats turn.client).call (NeedsTurn turn)) (sym c.self.view_is) c.requires.needs in
-    let w = turn_wanted inside.arenas turn.client (seat_at seats turn.client) turn (c.self.invariant.sound turn.client c.requires.client) needs in
+    let w = turn_seen _ _ turn c.self.view_is (c.self.invariant.sound turn.client c.requires.client) c.requires.needs in
     let fed = subst (λ (seat : Seat). IfSome seat.call (λ call. FedTo call seat.desk (item_of c.make_turn-made.result) c.feed-ended.result c.feed-ended.new.self))
     (seat_is seats turn.client c.index_mut.result.now c.self.invariant.number c.requires.client c.index_mut.ensures.value)
     (subst (λ item. IfSome c.index_mut.result.now.call (λ call. FedTo call c.index_mut.result.now.desk item c.feed-ended.result c.feed-ended.new.self)) c.item_of.ensures c.feed-ended.ensures) in
@@ -80,7 +74,6 @@ returns-clause-sure c =
     let turn = c.args.turn.now in
     let inside = c.self.inside in
     let seats = inside.clients.items in
-    let needs = subst (λ (h : HeapFacts). Needs (seat_at h.seats turn.client).call (NeedsTurn turn)) (sym c.self.view_is) c.requires.needs in
-    let w = turn_wanted inside.arenas turn.client (seat_at seats turn.client) turn (c.self.invariant.sound turn.client c.requires.client) needs in
+    let w = turn_seen _ _ turn c.self.view_is (c.self.invariant.sound turn.client c.requires.client) c.requires.needs in
     turn_sure (record { records = inside.arenas; seats = seats; heard = inside.log.asks }) c.args.self.now c.make_turn-made.new.arenas (slice_set seats turn.client c.feed-ended.new.self) c.make_turn-made.new.log.asks inside.log.owed
     c.make_turn-made.new.log.owed turn c.make_turn-made.result c.self.view_is w c.make_turn-made.ensures.turn
