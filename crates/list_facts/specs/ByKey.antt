@@ -1,5 +1,5 @@
 -- Lists of things that have a number each, their key, as a region has its address.
-use Rattle.std.specs.Prelude.{◌≡◌, ℕ, ◌<◌, ◌==◌, Bool, List, [], ◌∷◌, find, fold, map, nat_lt, Option, None, if◌then◌else◌}
+use Rattle.std.specs.Prelude.{◌≡◌, ◌⊎◌, ℕ, ◌<◌, ◌==◌, Bool, List, [], ◌∷◌, find, fold, map, nat_lt, Option, None, if◌then◌else◌}
 use Rattle.std.specs.List.{AllByRecursion as Every, insert, position_or_len}
 
 -- whether the key of a thing is this one
@@ -27,6 +27,12 @@ AreNew key come xs = Every (λ x. found key (key x) xs ≡ None) come
 abbrev pub AreDistinct : {A : Type 0} → (A → ℕ) → List A → Type 0
 AreDistinct key [] = Unit {0}
 AreDistinct key (x ∷ xs) = (found key (key x) xs ≡ None) × AreDistinct key xs
+
+-- two rising lists, and things of a key in one of them at most
+pub record AreApart {A : Type 0} (key : A → ℕ) (xs ys : List A) : Type 0 where
+  pub left : IsRising key xs
+  pub right : IsRising key ys
+  pub one : (k : ℕ) → (found key k xs ≡ None) ⊎ (found key k ys ≡ None)
 
 -- the list with one more, which stands before the first of a higher key
 abbrev pub inserted : {A : Type 0} → (A → ℕ) → A → List A → List A
