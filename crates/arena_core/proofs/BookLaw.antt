@@ -29,11 +29,10 @@ use Rattle.region_book.specs.RegionLists.{CanBeSlab}
 use Rattle.region_book.specs.Slabs.{slabs_landed}
 use Rattle.arena_core.proofs.Booked.{fills_taken, stay_handed}
 use Rattle.arena_core.proofs.BookLands.{Lands, can_land, landed_booked}
-use Rattle.arena_core.proofs.BookResizes.{join_step, trim_step}
+use Rattle.arena_core.proofs.Resized.{join_step, trim_step}
 use Rattle.arena_core.proofs.Books.{nothing_booked, still_booked}
-use Rattle.arena_core.proofs.Filled.{filled_is, may_fill}
+use Rattle.arena_core.proofs.Landed.{filled_is, may_fill, fitting, may_land}
 use Rattle.arena_core.proofs.Homes.{in_flight}
-use Rattle.arena_core.proofs.Landed.{fitting, may_land}
 use Rattle.arena_core.proofs.Still.{commit_still, cut_still, decommit_still, doom_still, grow_still, lazy_still, live_still, look_still, merge_still, offer_done_still, offer_still, purge_still, put_still, same, set_still, still, widen_still}
 
 -- ---- Land

@@ -25,17 +25,15 @@ use Rattle.space_model.proofs.Lists.{only_one}
 use Rattle.space_model.proofs.Pieces.{both_true}
 use Rattle.space_model.proofs.Turned.{All-turned, turned_sum}
 use Rattle.bin_book.specs.Bins.{Slab, is_out, is_unused, of_class, with_free}
-use Rattle.bin_book.proofs.Lists.{any_from, any_has, any_map, filter_all_of, filter_both, filter_map_is, filter_none_of, filter_same, head, map_both, map_from, map_same}
-use Rattle.part_book.proofs.Lists.{filter_swap}
+use Rattle.list_facts.proofs.Members.{any_from, any_has, any_map, filter_all_of, filter_both, filter_map_is, filter_none_of, filter_same, filter_swap, head, map_both, map_from, map_same}
 use Rattle.arena_core.specs.Booked.{slab_of}
 use Rattle.arena_core.specs.Slabs.{IsBooked, NothingIsBooked, slabs_left}
 use Rattle.region_book.specs.Slabs.{is_last, slabs_returned}
-use Rattle.arena_core.proofs.Booked.{among_kept, both_ways, freed, idle_no_slab, serves_none, stay_still}
+use Rattle.arena_core.proofs.Booked.{among_kept, both_ways, freed, idle_no_slab, serves_none, stay_still, SlabAt, slab_at, starts_served, still_slab, unused_is}
 use Rattle.arena_core.proofs.Emptying.{Empties, Gives, any_counts, begins_alone, counts_any, empties, given_parts, gives, is_left, ones}
 use Rattle.region_book.proofs.ByClass.{at_tally, tally}
 use Rattle.arena_core.proofs.Finds.{find_alone}
 use Rattle.arena_core.proofs.InOrder.{order_stays}
-use Rattle.arena_core.proofs.Served.{SlabAt, slab_at, starts_served, still_slab, unused_is}
 use Rattle.arena_core.proofs.Still.{Still, kept_exchanged}
 
 -- ---- the extents of a book's slabs

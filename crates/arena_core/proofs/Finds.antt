@@ -16,7 +16,7 @@ use Rattle.space_model.proofs.Exchange.{filter-begins_at}
 use Rattle.space_model.proofs.Settled.{some_pages}
 use Rattle.space_model.proofs.Pieces.{fit-listed}
 use Rattle.part_book.specs.Books.{Book, IsFirstFrom, ends_at, is_beside}
-use Rattle.part_book.proofs.Lists.{find_is, only_one}
+use Rattle.list_facts.proofs.Members.{find_is, only_one}
 use Rattle.arena_core.specs.Extents.{IsApart, IsThere, kept}
 
 -- ---- what is found is there

@@ -1,25 +1,47 @@
--- What is said of regions of a class that land in an extent.
-use Rattle.std.proofs.Common.{◌≡◌, ℕ, ◌+◌, ◌*◌, ◌<◌, ◌≤◌, true, cond, IsTrue, find, Some, refl, sym, ◌∙◌, subst, arith, ◌&&◌, eqb, ltb as nat_lt, leb as nat_le, inl, inr}
-use Rattle.std.proofs.lemmas.Bool.{cases_lt, eqb-true, le-ltb, leb-true, lt-ltb}
+-- Regions of a class that land in an extent, or are taken as the lowest free ones.
+use Rattle.std.proofs.Common.{◌≡◌, ℕ, ◌+◌, ◌<◌, ◌≤◌, ◌^◌, false, List, [], ◌∷◌, length, get_or, drop, sym, ap, ◌∙◌, subst, arith, ltb as nat_lt, ◌*◌, true, cond, IsTrue, find, Some, refl, ◌&&◌, eqb, leb as nat_le, inl, inr, zero, suc, Bool, ◌↔◌, ◌++◌, map, take, lt-ltb}
+use Rattle.std.specs.List.{count_by, list_any, position_or_len, sum_by}
+use Rattle.std.proofs.lemmas.Bool.{false_from_ne_true, cases_lt, eqb-true, le-ltb, leb-true, lt-ltb, ltb-true}
+use Rattle.std.proofs.lemmas.List.{drop_all, drop_more, get_or-map}
+use Rattle.std.proofs.lemmas.List.Sums.{sum_by-cons, sum_by-insert}
+use Rattle.size_classes.specs.Classes.{size_at, pages_at, regions_at}
+use Rattle.space_model.specs.declared.parts.Region.{Region}
+use Rattle.space_model.specs.declared.spaces.Space.{Space}
+use Rattle.space_model.specs.Counts.{region_bytes}
+use Rattle.space_model.specs.Region.{inserted, landing, starts_at, address_of, regions_from, region_of}
+use Rattle.space_model.specs.Sound.{Sound}
+use Rattle.space_model.proofs.Landing.{eqb_itself}
+use Rattle.space_model.proofs.Sums.{region_bytes_fits}
+use Rattle.region_book.specs.RegionLists.{CanCome}
+use Rattle.arena_core.proofs.Emptying.{any_counts, begins_alone, ones}
 use Rattle.std.proofs.lemmas.Bool.Decides.{nat_tests}
 use Rattle.std.proofs.Math.Nat.{mul-le-mul_left}
-use Rattle.size_classes.specs.Classes.{pages_at, regions_at, size_at}
 use Rattle.size_classes.proofs.Table.{large_size, slab_filled}
-use Rattle.space_model.specs.declared.entries.Op.TheVariants.{Land}
+use Rattle.space_model.specs.declared.entries.Op.TheVariants.{Land, Fill}
 use Rattle.space_model.specs.declared.parts.Part.{Part}
 use Rattle.space_model.specs.declared.parts.Span.{Span}
-use Rattle.space_model.specs.declared.spaces.Space.{Space}
 use Rattle.space_model.specs.Part.{is_flight_at}
 use Rattle.space_model.specs.Span.{pages_end}
-use Rattle.space_model.specs.Region.{address_of, regions_from}
-use Rattle.space_model.specs.Slabs.{land_at, land_stands, most_regions}
+use Rattle.space_model.specs.Slabs.{land_at, land_stands, most_regions, after_fill, fill_at, lowest_free}
 use Rattle.space_model.specs.Step.{is_live, op_stands}
-use Rattle.space_model.specs.Sound.{Sound}
 use Rattle.space_model.proofs.Pieces.{both_true}
 use Rattle.space_model.proofs.Steps.{op_keeps}
-use Rattle.region_book.specs.RegionLists.{CanCome}
-use Rattle.arena_core.proofs.Coming.{can_come}
 use Rattle.arena_core.proofs.Homes.{in_flight}
+use Rattle.space_model.specs.declared.entries.Reply.TheVariants.{NoArena, Nothing, Regions}
+use Rattle.space_model.specs.Stepped.{stays}
+use Rattle.bin_book.specs.Bins.{Slab, free_of, without}
+use Rattle.list_facts.proofs.Members.{filter_all_of}
+use Rattle.arena_core.specs.Booked.{filled}
+use Rattle.arena_core.specs.Slabs.{IsBooked, slabs_filled, slabs_taken}
+use Rattle.arena_core.proofs.Booked.{fills_taken}
+use Rattle.arena_core.proofs.Books.{map_itself}
+
+-- those that make a sound space can come
+pub can_come : (s t : Space) (come : List Region) → Sound t → t.regions ≡ landing come s.regions → CanCome come s.regions
+can_come s t come sound same = record {
+  alone = λ addr. subst (λ rs. count_by (starts_at addr) rs ≤ 1) same (begins_alone t addr sound);
+  fits = subst (λ rs. region_bytes rs < 2 ^ 64) same (omega (arith, region_bytes_fits t sound));
+}
 
 -- what is said of a land that may stand
 pub may_land : (s : Space) (c : ℕ) (span : Span) (class count : ℕ) → land_stands s c span class count ≡ true → (class < 121) × (span.pages ≡ pages_at class) × (0 < count) × (count ≤ most_regions class)
@@ -75,3 +97,64 @@ fitting c s span class count p sound stands found =
           let one : count ≤ 1 = subst (λ b. count ≤ cond b (regions_at class) 1) (le-ltb class 36 large) most in
           (omega (arith, one), omega (arith, large_size class large low, times_le count 1 (size_at class) one))
     ]
+
+-- what is said of a fill that may stand
+pub may_fill : (s : Space) (c class count : ℕ) → op_stands s c (Fill class count) ≡ true → (class < 36) × (0 < count)
+may_fill s c class count stands = let both = both_true (nat_lt class 36) _ stands in (ltb-true _ _ both.0, ltb-true _ _ both.1)
+
+-- the regions at the addresses land, also where there is none
+pub filled_is : (c : ℕ) (s : Space) (class : ℕ) (addrs : List ℕ) → (fill_at s c class addrs).after ≡ filled s c class addrs
+filled_is c s class [] = refl
+filled_is c s class (addr ∷ addrs) = refl
+
+-- and some addresses are told
+pub filled_reply : (c : ℕ) (s : Space) (class : ℕ) (addrs : List ℕ) → (addrs ≡ [] → ⊥) → (fill_at s c class addrs).reply ≡ Regions addrs
+filled_reply c s class [] some = absurd (some refl)
+filled_reply c s class (addr ∷ addrs) some = refl
+
+-- the first few are none only where there is none
+pub take_none : {X : Type 0} (n : ℕ) (xs : List X) → 0 < n → take n xs ≡ [] → xs ≡ []
+take_none zero xs some e = absurd (omega (arith, some))
+take_none (suc n) [] some e = refl
+take_none (suc n) (x ∷ xs) some e = absurd (cc)
+
+-- the lowest free regions of a class can come
+pub lowest_come : (c : ℕ) (s : Space) (class count : ℕ) → Sound s → class < 36 → 0 < count → is_live s.life ≡ true → CanCome (map (region_of c class) (lowest_free class count s)) s.regions
+lowest_come c s class count sound low some live =
+    let stands : op_stands s c (Fill class count) ≡ true = rw (lt-ltb class 36 low, lt-ltb 0 count some) refl in
+    let addrs = lowest_free class count s in
+    let after : Sound (fill_at s c class addrs).after = subst (λ b. Sound (cond b (fill_at s c class addrs) (stays s NoArena)).after) live (op_keeps c s (Fill class count) sound stands).sound in
+    can_come s (filled s c class addrs) (map (region_of c class) addrs) (subst Sound (filled_is c s class addrs) after) refl
+
+-- an address among them as the region there
+pub held_at : (c class i : ℕ) (addrs : List ℕ) → i < length addrs → get_or (map (region_of c class) addrs) i (region_of c class (get_or addrs i 0)) ≡ region_of c class (get_or addrs i 0)
+held_at c class i addrs lt = get_or-map (region_of c class) addrs i 0 (region_of c class (get_or addrs i 0)) lt
+
+-- what a book gives is what is taken
+pub taken_are : (s : Space) (c class count : ℕ) {slabs : List Slab} {before : List ℕ} → Sound s → class < 36 → IsBooked s slabs → before ≡ [] → before ++ take count (free_of class slabs) ≡ lowest_free class count s
+taken_are s c class count {slabs} {before} sound low book none = ap (λ xs. xs ++ take count (free_of class slabs)) none ∙ (fills_taken s slabs c class count sound low book.booked).addrs
+
+-- a list that is not said to have members has none
+pub no_free : {b : Bool} (xs : List ℕ) → (IsTrue b ↔ (xs ≡ [] → ⊥)) → b ≡ false → xs ≡ []
+no_free [] told none = refl
+no_free {b} (x ∷ xs) told none = absurd (let t : b ≡ true = told.1 (λ e. cc) in cc)
+
+-- Where no region of the class is free, nothing happens.
+pub record NothingFree (c : ℕ) (s : Space) (class count : ℕ) (slabs : List Slab) : Type 0 where
+  pub after : s ≡ (after_fill s c class count).after
+  pub reply : Nothing ≡ (after_fill s c class count).reply
+  pub slabs_stay : slabs ≡ slabs_filled s class count slabs
+
+pub nothing_free : (c : ℕ) (s : Space) (class count : ℕ) (slabs : List Slab) → Sound s → class < 36 → IsBooked s slabs → is_live s.life ≡ true → free_of class slabs ≡ [] → NothingFree c s class count slabs
+nothing_free c s class count slabs sound low book live none =
+    let addrs = lowest_free class count s in
+    let is : addrs ≡ [] = sym (taken_are s c class count sound low book refl) ∙ ap (take count) none ∙ take_nothing count in
+    let same : slabs ≡ slabs_taken addrs slabs = sym (map_itself (without []) slabs (λ x m k. record x { free = filter_all_of (λ a. true) x.free (λ a there. refl) k })) ∙ ap (λ xs. slabs_taken xs slabs) (sym is) in record {
+      after = subst (λ b. s ≡ (cond b (fill_at s c class addrs) (stays s NoArena)).after) (sym live) (subst (λ xs. s ≡ (fill_at s c class xs).after) (sym is) refl);
+      reply = subst (λ b. Nothing ≡ (cond b (fill_at s c class addrs) (stays s NoArena)).reply) (sym live) (subst (λ xs. Nothing ≡ (fill_at s c class xs).reply) (sym is) refl);
+      slabs_stay = subst (λ b. slabs ≡ cond b (slabs_taken addrs slabs) slabs) (sym live) same;
+    }
+  where
+    take_nothing : (n : ℕ) → take {A = ℕ} n [] ≡ []
+    take_nothing zero = refl
+    take_nothing (suc n) = refl

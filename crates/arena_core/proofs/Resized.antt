@@ -1,34 +1,48 @@
--- The extent of a client's large region is the one that begins at its address.
-use Rattle.std.proofs.Common.{◌≡◌, ℕ, ◌*◌, ◌/◌, ◌<◌, ◌≤◌, ◌==◌, Bool, true, false, not, cond, IsTrue, List, [], ◌∷◌, get_or, find, filter, Option, None, Some, refl, sym, ◌∙◌, ap, subst, arith, ◌&&◌, ◌||◌, leb as nat_le}
-use Rattle.std.specs.List.{count_by, list_any}
+-- A large region that takes another class: its extent is the one that begins at its address, and the slabs stay.
+use Rattle.std.proofs.Common.{◌≡◌, ℕ, ◌*◌, ◌/◌, ◌<◌, ◌≤◌, ◌==◌, Bool, true, false, not, cond, IsTrue, List, [], ◌∷◌, get_or, find, filter, Option, None, Some, refl, sym, ◌∙◌, ap, subst, arith, ◌&&◌, ◌||◌, leb as nat_le, ◌+◌, All, Contains, take, drop, eqb, ltb as nat_lt}
+use Rattle.std.specs.List.{count_by, list_any, position_or_len, sum_by}
 use Rattle.std.specs.Option.{IsSome, option_map}
-use Rattle.std.proofs.lemmas.Bool.{eqb-true}
+use Rattle.std.proofs.lemmas.Bool.{eqb-true, leb-true, ltb-true}
 use Rattle.std.proofs.lemmas.Bool.Decides.{nat_tests}
 use Rattle.std.proofs.lemmas.List.Filters.{sum_by-filter_both}
-use Rattle.std.proofs.lemmas.List.Sums.{sum_by-cons}
+use Rattle.std.proofs.lemmas.List.Sums.{sum_by-cons, sum_by-insert}
 use Rattle.size_classes.specs.Classes.{pages_at, size_at}
 use Rattle.size_classes.proofs.Table.{large_size, size_bounds}
 use Rattle.space_model.specs.declared.asks.Ask.{Ask}
-use Rattle.space_model.specs.declared.asks.Ask.TheVariants.{Split}
+use Rattle.space_model.specs.declared.asks.Ask.TheVariants.{Split, Merge}
 use Rattle.space_model.specs.declared.asks.Answer.{Answer}
-use Rattle.space_model.specs.declared.asks.Answer.TheVariants.{Done, Refused as Refuses}
+use Rattle.space_model.specs.declared.asks.Answer.TheVariants.{Done, Refused as Refuses, Refused}
 use Rattle.space_model.specs.declared.parts.Span.{Span}
 use Rattle.space_model.specs.declared.parts.Part.{Part}
 use Rattle.space_model.specs.declared.parts.Region.{Region}
 use Rattle.space_model.specs.declared.spaces.Space.{Space}
-use Rattle.space_model.specs.Span.{IsPlaced, same_span}
-use Rattle.space_model.specs.Part.{begins_at, is_active}
-use Rattle.space_model.specs.Region.{houses, inserted, is_held_by, starts_at}
+use Rattle.space_model.specs.Span.{IsPlaced, same_span, end_of}
+use Rattle.space_model.specs.Part.{begins_at, is_active, exchanged, is_flight_at, taken_out}
+use Rattle.space_model.specs.Region.{houses, inserted, is_held_by, starts_at, address_of, is_slab, lies_in}
 use Rattle.space_model.specs.Counts.{region_bytes}
-use Rattle.space_model.specs.Resizing.{has_large, is_large_at, large_home, reclassed, trim_answered, trim_done_stands, trimmed_at}
+use Rattle.space_model.specs.Resizing.{has_large, is_large_at, large_home, reclassed, trim_answered, trim_done_stands, trimmed_at, after_join, after_trim_done, is_large_class, join_stands, widened_at}
 use Rattle.space_model.specs.Step.{holds_at, is_given_back, staying}
-use Rattle.space_model.specs.Stepped.{found_passes}
+use Rattle.space_model.specs.Stepped.{found_passes, begins_either, high_piece, is_yes_or_no, joined, low_piece}
 use Rattle.space_model.specs.Sound.{Sound}
-use Rattle.space_model.proofs.Lists.{find_passes}
-use Rattle.space_model.proofs.Pieces.{both_true}
+use Rattle.space_model.proofs.Lists.{find_passes, nothing_sum, only_one}
+use Rattle.space_model.proofs.Pieces.{both_true, two_left}
 use Rattle.space_model.proofs.Resizes.{home_found, housed}
-use Rattle.arena_core.proofs.Emptying.{any_counts}
+use Rattle.arena_core.proofs.Emptying.{any_counts, begins_alone, ones}
 use Rattle.arena_core.proofs.Finds.{fewer_pass, found_there}
+use Rattle.std.proofs.lemmas.List.Elements.{All-cons, All-contains_itself, All-nil, Contains-append_right}
+use Rattle.space_model.specs.Settings.{is_in, without_client}
+use Rattle.space_model.proofs.Changes.{one_left}
+use Rattle.space_model.proofs.Exchange.{filter_nothing, find_has, find_passes}
+use Rattle.space_model.proofs.Landing.{eqb_itself, lies_between}
+use Rattle.bin_book.specs.Bins.{Slab}
+use Rattle.list_facts.proofs.Members.{filter_same, head}
+use Rattle.arena_core.specs.Booked.{slab_of}
+use Rattle.arena_core.specs.Slabs.{IsBooked}
+use Rattle.space_model.specs.Slabs.{places}
+use Rattle.arena_core.proofs.Booked.{idle_no_slab, no_slab}
+use Rattle.arena_core.proofs.Books.{class_stays, same_any, still_booked}
+use Rattle.arena_core.proofs.Homes.{in_flight}
+use Rattle.arena_core.proofs.Still.{Idle, kept_exchanged, still, whole_still}
 
 -- What is known of a client's large region at an address, and of its extent, which passes a test.
 pub record Homed (c addr : ℕ) (s : Space) (test : Part → Bool) (home : Region × Part) : Type 0 where
@@ -108,35 +122,10 @@ page_homed {p} c page s test sound h read =
 
 -- ---- another class
 
--- where no more pass a weaker test, the same are left by both
-same_left : {X : Type 0} (f g : X → Bool) (xs : List X) → ((x : X) → g x ≡ true → f x ≡ true) → count_by f xs ≤ count_by g xs →
-    filter (λ x. not (g x)) xs ≡ filter (λ x. not (f x)) xs
-same_left f g [] weaker few = refl
-same_left f g (x ∷ xs) weaker few =
-    grind (arith, same_left f g xs weaker, fewer_pass g f xs (λ k d h. weaker (get_or xs k d)), sum_by-cons (λ y. cond (f y) 1 0) x xs, sum_by-cons (λ y. cond (g y) 1 0) x xs, weaker x)
-
--- where a client holds the only region at an address, all but that stay when it goes
-pub all_others : (c addr : ℕ) (regions : List Region) → count_by (λ r. r.addr == addr) regions ≤ 1 → holds_at c regions addr ≡ true →
-    staying c (addr ∷ []) regions ≡ filter (λ r. not (starts_at addr r)) regions
-all_others c addr regions few held =
-    let t = is_given_back c (addr ∷ []) in
-    let same : (r : Region) → (is_held_by c r && (r.addr == addr)) ≡ t r = λ r. both (is_held_by c r) r.addr in
-    let some : 0 < count_by t regions = any_counts t regions (sym (λ i. list_any (λ r. same r i) regions) ∙ held) in
-    same_left (starts_at addr) t regions (λ r h. starts r h) (omega (arith, some, few))
-  where
-    both : (b : Bool) (m : ℕ) → (b && (m == addr)) ≡ (b && ((addr == m) || false))
-    both b m = grind (arith, nat_tests)
-
-    starts : (r : Region) → is_given_back c (addr ∷ []) r ≡ true → starts_at addr r ≡ true
-    starts r h = grind (arith, nat_tests)
-
--- none of those is at the address, and they have no more bytes
+-- none of those is at the address
 pub none_at : (addr : ℕ) (regions : List Region) → list_any (λ r. r.addr == addr) (filter (λ r. not (starts_at addr r)) regions) ≡ false
 none_at addr [] = refl
 none_at addr (r ∷ rs) = grind (arith, none_at addr rs)
-
-pub fewer_bytes : (addr : ℕ) (regions : List Region) → region_bytes (filter (λ r. not (starts_at addr r)) regions) ≤ region_bytes regions
-fewer_bytes addr regions = omega (arith, sum_by-filter_both (starts_at addr) (λ r. not (starts_at addr r)) (λ _. refl) (λ (r : Region). size_at r.class) regions)
 
 -- the region of a client, as it is put in with another class
 pub reclassed_is : (c addr class : ℕ) (r : Region) (regions : List Region) → r.addr ≡ addr → r.holder ≡ Some c →
@@ -175,3 +164,189 @@ shrinks c class s ask answer span left is stands =
       large = large;
       within = within;
     }
+
+-- whether the extent serves the region, which is of the class
+abbrev serves_class : ℕ → Part → Region → Bool
+serves_class class p r = eqb r.class class && houses p r
+
+-- a region that is found is the only one at its address
+alone_at : (s : Space) (test : Region → Bool) (r : Region) → Sound s → find test s.regions ≡ Some r → filter (starts_at r.addr) s.regions ≡ r ∷ []
+alone_at s test r sound found = only_one (starts_at r.addr) test s.regions r (begins_alone s r.addr sound) found (eqb_itself r.addr)
+
+-- What a resize does: a large region takes another large class in the first of the new extents, and the others that go or
+-- come serve none.
+record Resized (s t : Space) (test : Region → Bool) (r : Region) (p new : Part) (class : ℕ) (gone : Part → Bool) (others more : List Part) : Type 0 where
+  sound : Sound s
+  also : Sound t
+  region : find test s.regions ≡ Some r
+  home : find (λ q. houses q r) s.parts ≡ Some p
+  large : 36 ≤ r.class
+  big : 36 ≤ class
+  within : class < 121
+  parts : t.parts ≡ exchanged gone s.parts (new ∷ more)
+  regions : t.regions ≡ reclassed r class s.regions
+  left : (f : Part → ℕ) → sum_by f (filter gone s.parts) ≡ f p + sum_by f others
+  idle : All Idle others
+  still : All Idle more
+  active : is_active new.state ≡ true
+  committed : new.committed ≡ true
+  start : r.addr ≡ address_of new.span.first
+  pages : new.span.pages ≡ pages_at class
+
+resized_booked : {s t : Space} {test : Region → Bool} {r : Region} {p new : Part} {class : ℕ} {gone : Part → Bool} {others more : List Part} (slabs : List Slab) → Resized s t test r p new class gone others more →
+    IsBooked s slabs → IsBooked t slabs
+resized_booked {s} {t} {test} {r} {p} {new} {class} {gone} {others} {more} slabs x book = record { small = book.small; booked = λ k low. class_stays s t slabs k (parts k low) (λ q m slab. same k q) (book.booked k low) }
+  where
+    now : Region
+    now = record r { class = class }
+
+    rest : List Region
+    rest = filter (λ q. not (starts_at r.addr q)) s.regions
+
+    sums : (f : Region → ℕ) → sum_by f t.regions ≡ sum_by f rest + f now
+    sums f = ap (sum_by f) x.regions ∙ sum_by-insert f rest (position_or_len (λ (q : Region). nat_lt now.addr q.addr) rest) now
+
+    was : (f : Region → ℕ) → sum_by f s.regions ≡ sum_by f rest + f r
+    was f =
+        omega (arith, sum_by-filter_both (starts_at r.addr) (λ q. not (starts_at r.addr q)) (λ _. refl) f s.regions, ap (sum_by f) (alone_at s test r x.sound x.region), sum_by-cons f r [])
+
+    -- neither class is small, so nothing is a slab that wasn't
+    neither : (k : ℕ) → k < 36 → (q : Part) → is_slab k t.regions q ≡ is_slab k s.regions q
+    neither k low q =
+        same_any (serves_class k q) t.regions s.regions
+        (omega (arith, sums (λ y. ones (serves_class k q y)), was (λ y. ones (serves_class k q y)), other k class (houses q now) low x.big, other k r.class (houses q r) low x.large))
+      where
+        other : (k class : ℕ) (h : Bool) → k < 36 → 36 ≤ class → ones (eqb class k && h) ≡ 0
+        other k class h low big = grind (arith, nat_tests)
+
+    -- a region begins where one did
+    same : (k : ℕ) (q : Part) → slab_of t.regions k q ≡ slab_of s.regions k q
+    same k q = λ i. record {
+      class = k;
+      first = q.span.first;
+      free = filter_same (λ a. not (list_any (starts_at a) t.regions)) (λ a. not (list_any (starts_at a) s.regions)) (places k q)
+          (λ a m. ap not (same_any (starts_at a) t.regions s.regions (omega (arith, sums (λ y. ones (starts_at a y)), was (λ y. ones (starts_at a y)))))) i;
+    }
+
+    -- the extent of the large region was no slab, and is none
+    old : (k : ℕ) → k < 36 → is_slab k s.regions p ≡ false
+    old k low =
+        no_slab s k p x.sound low (find_has (Contains s.parts) (λ q. houses q r) s.parts p (All-contains_itself s.parts) x.home) r (find_has (Contains s.regions) test s.regions r (All-contains_itself s.regions) x.region)
+        (find_passes (λ q. houses q r) s.parts p x.home) (λ e. omega (arith, e, low, x.large))
+
+    come : (k : ℕ) → k < 36 → is_slab k s.regions new ≡ false
+    come k low =
+        let n = position_or_len (λ (q : Region). nat_lt now.addr q.addr) rest in
+        let there = subst (λ xs. Contains xs new) (sym x.parts) (Contains-append_right (filter (λ q. not (gone q)) s.parts) (new ∷ more) new (head new more)) in
+        let region = subst (λ xs. Contains xs now) (sym x.regions) (Contains-append_right (take n rest) (now ∷ drop n rest) now (head now (drop n rest))) in
+        let inside : lies_in new.span now ≡ true = lies_between new.span now (omega (arith, x.start)) (omega (arith, x.start, x.pages, large_size class x.big x.within)) in
+        sym (neither k low new) ∙ no_slab t k new x.also low there now region (rw (x.active, x.committed, inside) refl) (λ e. omega (arith, e, low, x.big))
+
+    parts : (k : ℕ) → k < 36 → filter (is_slab k t.regions) t.parts ≡ filter (is_slab k s.regions) s.parts
+    parts k low =
+        let f : Part → Bool = is_slab k s.regions in
+        let none = nothing_sum (λ q. ones (f q)) others (λ j d h. ap ones (idle_no_slab k s.regions (get_or others j d) (x.idle j d h))) in
+        let empty = filter_nothing f (filter gone s.parts) (omega (arith, x.left (λ q. ones (f q)), ap ones (old k low), none)) in
+        filter_same (is_slab k t.regions) f t.parts (λ q m. neither k low q) ∙ ap (filter f) x.parts
+        ∙ kept_exchanged f gone s.parts (new ∷ more) empty (All-cons (λ q. f q ≡ false) new more (come k low) (λ j d h. idle_no_slab k s.regions (get_or more j d) (x.still j d h)))
+
+-- ---- the answers
+
+-- what is said of a class that is large
+is_large : (class : ℕ) → is_large_class class ≡ true → (36 ≤ class) × (class < 121)
+is_large class h = let both = both_true (nat_le 36 class) _ h in (leb-true _ _ both.0, ltb-true _ _ both.1)
+
+-- the extent of a region that was found passes what was tested
+home_passes : (c addr : ℕ) (s : Space) (span : Span) (home : Region × Part) → large_home s c addr ≡ Some home → has_large s c addr (λ p. same_span p.span span) ≡ true → home.1.span.pages ≡ span.pages
+home_passes c addr s span home e h =
+    let passes : same_span home.1.span span ≡ true = subst (λ o. found_passes (λ p. same_span p.span span) (option_map (λ x. x.1) o) ≡ true) e h in
+    eqb-true _ _ (both_true (eqb home.1.span.first span.first) _ passes).1
+
+home_first : (c addr : ℕ) (s : Space) (span : Span) (home : Region × Part) → large_home s c addr ≡ Some home → has_large s c addr (λ p. same_span p.span span) ≡ true → home.1.span.first ≡ span.first
+home_first c addr s span home e h =
+    let passes : same_span home.1.span span ≡ true = subst (λ o. found_passes (λ p. same_span p.span span) (option_map (λ x. x.1) o) ≡ true) e h in
+    eqb-true _ _ (both_true (eqb home.1.span.first span.first) _ passes).0
+
+join_by : (c : ℕ) (s : Space) (class : ℕ) (low high : Span) (o : Option (Region × Part)) (u : Option Part) (slabs : List Slab) → large_home s c (address_of low.first) ≡ o →
+    find (is_flight_at c high) s.parts ≡ u → Sound s → Sound (widened_at s class o u).after → join_stands s c class (Merge low high) Done ≡ true → IsBooked s slabs →
+    IsBooked (widened_at s class o u).after slabs
+join_by c s class low high None u slabs e f sound also stands are = are
+join_by c s class low high (Some home) None slabs e f sound also stands are = are
+join_by c s class low high (Some home) (Some q) slabs e f sound also stands are =
+    let t1 = both_true (is_large_class class && eqb (low.pages + high.pages) (pages_at class) && eqb (end_of low) high.first && has_large s c (address_of low.first) (λ p. same_span p.span low)) _ stands in
+    let t2 = both_true (is_large_class class && eqb (low.pages + high.pages) (pages_at class) && eqb (end_of low) high.first) _ t1.0 in
+    let t3 = both_true (is_large_class class && eqb (low.pages + high.pages) (pages_at class)) _ t2.0 in
+    let t4 = both_true (is_large_class class) _ t3.0 in
+    let p : Part = home.1 in
+    let found = home_found c s (address_of low.first) home e in
+    let at = housed s (is_large_at c (address_of low.first)) home.0 p sound found.region found.house found.large in
+    let to = in_flight c s high q sound (sym f) in
+    let pages = home_passes c (address_of low.first) s low home e t2.1 in
+    let first = home_first c (address_of low.first) s low home e t2.1 in
+    let whole : low.pages + high.pages ≡ pages_at class = eqb-true _ _ t4.1 in
+    let side : end_of low ≡ high.first = eqb-true _ _ t3.1 in
+    let beside : end_of p.span ≡ q.span.first = omega (arith, first, pages, to.first, side) in
+    resized_booked {p = p} {new = joined p q} {gone = begins_either p q} {others = q ∷ []} {more = []} slabs (record {
+      sound = sound;
+      also = also;
+      region = found.region;
+      home = found.house;
+      large = found.large;
+      big = (is_large class t4.0).0;
+      within = (is_large class t4.0).1;
+      parts = refl;
+      regions = refl;
+      left = λ g. omega (arith, two_left s (λ x. houses x home.0) (is_flight_at c high) p q sound found.house f beside g, sum_by-cons g p (q ∷ []));
+      idle = All-cons Idle q [] to.idle (All-nil Idle);
+      still = All-nil Idle;
+      active = at.active;
+      committed = at.committed;
+      start = at.start;
+      pages = omega (arith, pages, to.pages, whole);
+    }) are
+
+pub join_step : (c : ℕ) (s : Space) (class : ℕ) (ask : Ask) (answer : Answer) (slabs : List Slab) → Sound s → Sound (after_join s c class ask answer).after → join_stands s c class ask answer ≡ true →
+    IsBooked s slabs → IsBooked (after_join s c class ask answer).after slabs
+join_step c s class (Merge low high) Done slabs sound also stands are =
+    join_by c s class low high (large_home s c (address_of low.first)) (find (is_flight_at c high) s.parts) slabs refl refl sound also stands are
+join_step c s class (Merge low high) Refused slabs sound also stands are = still_booked s _ slabs are (whole_still s c high (find (is_flight_at c high) s.parts) refl sound)
+join_step c s class ask answer slabs sound also stands are = are
+
+trim_by : (c : ℕ) (s : Space) (class : ℕ) (span : Span) (left : ℕ) (o : Option (Region × Part)) (slabs : List Slab) → large_home s c (address_of span.first) ≡ o → Sound s →
+    Sound (trimmed_at (record s { trims = without_client c s.trims }) c left class o).after → trim_done_stands s c class (Split span left) Done ≡ true → IsBooked s slabs →
+    IsBooked (trimmed_at (record s { trims = without_client c s.trims }) c left class o).after slabs
+trim_by c s class span left None slabs e sound also stands are = still_booked s _ slabs are (still s _ refl refl)
+trim_by c s class span left (Some home) slabs e sound also stands are =
+    let t1 = both_true (is_yes_or_no Done && is_in c s.trims && is_large_class class && eqb left (pages_at class) && nat_lt left span.pages) _ stands in
+    let t2 = both_true (is_yes_or_no Done && is_in c s.trims && is_large_class class && eqb left (pages_at class)) _ t1.0 in
+    let t3 = both_true (is_yes_or_no Done && is_in c s.trims && is_large_class class) _ t2.0 in
+    let class_is = (both_true (is_yes_or_no Done && is_in c s.trims) _ t3.0).1 in
+    let p : Part = home.1 in
+    let found = home_found c s (address_of span.first) home e in
+    let at = housed s (is_large_at c (address_of span.first)) home.0 p sound found.region found.house found.large in
+    let high : Part = taken_out c (high_piece left p) in
+    resized_booked {p = p} {new = low_piece left p} {gone = begins_at p.span.first} {others = []} {more = high ∷ []} slabs (record {
+      sound = sound;
+      also = also;
+      region = found.region;
+      home = found.house;
+      large = found.large;
+      big = (is_large class class_is).0;
+      within = (is_large class class_is).1;
+      parts = refl;
+      regions = refl;
+      left = λ g. omega (arith, one_left s (λ x. houses x home.0) p sound found.house g, sum_by-cons g p []);
+      idle = All-nil Idle;
+      still = All-cons Idle high [] refl (All-nil Idle);
+      active = at.active;
+      committed = at.committed;
+      start = at.start;
+      pages = eqb-true _ _ t3.1;
+    }) are
+
+pub trim_step : (c : ℕ) (s : Space) (class : ℕ) (ask : Ask) (answer : Answer) (slabs : List Slab) → Sound s → Sound (after_trim_done s c class ask answer).after → trim_done_stands s c class ask answer ≡ true →
+    IsBooked s slabs → IsBooked (after_trim_done s c class ask answer).after slabs
+trim_step c s class (Split span left) Done slabs sound also stands are =
+    trim_by c s class span left (large_home s c (address_of span.first)) slabs refl sound also stands are
+trim_step c s class (Split span left) Refused slabs sound also stands are = still_booked s _ slabs are (still s _ refl refl)
+trim_step c s class ask answer slabs sound also stands are = still_booked s _ slabs are (still s _ refl refl)

@@ -24,16 +24,17 @@ use Rattle.ordered_set.proofs.Orders.{less_from_parts, less_parts}
 use Rattle.ordered_set.proofs.Sorted.{absent, others_is, parts, present}
 use Rattle.bin_book.specs.declared.chart.Chart.{Chart}
 use Rattle.bin_book.specs.declared.table.Table.{Table}
-use Rattle.bin_book.specs.Bins.{meets_slab, place, slab_with_out, with_slab}
+use Rattle.bin_book.specs.Bins.{addr_of, meets_slab, place, slab_with_out, with_slab}
 use Rattle.bin_book.specs.Charts.{HasPage}
 use Rattle.bin_book.specs.Holders.{holder_at}
 use Rattle.bin_book.specs.Tables.{AreCounts, AreFree, IsBinned, IsCharted, IsKept, IsSlabIn, IsTable, bin_key, bin_of, bits_at, left_of, ones, region_at, regions_in, regions_of, slab_at, slab_of, slabs_in}
-use Rattle.bin_book.proofs.Lists.{any_false, bit, count_map, count_same, count_some, filter_map_is, filter_same, map_from, map_has, map_same, range_from, range_has}
+use Rattle.list_facts.proofs.Members.{any_false, bit, count_map, count_same, count_some, filter_map_is, filter_same, map_from, map_has, map_same, range_from, range_has}
 use Rattle.bin_book.proofs.Places.{length_ones, place_inside, run_ones}
 use Rattle.bin_book.proofs.Kept.{bits_here, bits_there, same_slab}
 use Rattle.bin_book.proofs.Open.{small_numbers}
-use Rattle.bin_book.proofs.ByAddress.{AreNew}
-use Rattle.bin_book.proofs.Regions.{not_found, out_from, out_has, regions_agree, regions_rise, same_members}
+use Rattle.list_facts.specs.ByKey.{AreNew}
+use Rattle.list_facts.proofs.ByKey.{not_found, same_members}
+use Rattle.bin_book.proofs.Regions.{out_from, out_has, regions_agree, regions_rise}
 use Rattle.bin_book.proofs.Landing.{from_rises, landed, landed_from, landed_new, landed_old}
 
 -- ---- a new slab
@@ -328,12 +329,12 @@ module _ (t : Table) (i : IsTable t) (class first number : ℕ) (bits : Bits) (i
       let few' = (slab_filled class small).2 in
       let other = other_number k m in
       others (512 * k.minor + n) (elim (cases_lt k.minor number) [ inl l ↦ inl (omega arith) | inr g ↦ inr (omega arith) ])) in
-      let fresh : AreNew come (regions_in t) = every_from (λ (r : Region). find (starts_at r.addr) (regions_in t) ≡ None) come (λ r m.
+      let fresh : AreNew addr_of come (regions_in t) = every_from (λ (r : Region). find (starts_at r.addr) (regions_in t) ≡ None) come (λ r m.
       let p = map_from made (range_with_len 0 count) r m in
       let low = (range_from 0 count p.0 p.1).1 in
       let at : place class first p.0 ≡ r.addr = ap (λ (x : Region). x.addr) p.2 in
       let inside = place_inside class first p.0 small (omega arith) in
-      not_found (regions_in t) r.addr (λ q n e.
+      not_found addr_of (regions_in t) r.addr (λ q n e.
       let o = out_from old was t.firsts.keys q n in
       let b = bits_at old (o.0).minor in
       let low' = (i.kept.slab o.0 o.2.there).small in
@@ -341,7 +342,7 @@ module _ (t : Table) (i : IsTable t) (class first number : ℕ) (bits : Bits) (i
       let size' = (size_bounds b.class (omega arith)).0 in
       let at' : place b.class (o.0).major o.1 ≡ q.addr = ap (λ (x : Region). x.addr) o.2.is in
       elim (beside o.0 o.2.there) [ inl far ↦ omega arith | inr far ↦ omega arith ])) in
-      same_members (regions_of slots codes keys) (landing come (regions_in t)) (regions_rise slots codes keys ascending kept_added) (landed come (regions_in t) coming rising fresh).rising
+      same_members addr_of (regions_of slots codes keys) (landing come (regions_in t)) (regions_rise slots codes keys ascending kept_added) (landed come (regions_in t) coming rising fresh).rising
       (λ r m.
       let p = out_from slots codes keys r m in
       let o = p.2 in

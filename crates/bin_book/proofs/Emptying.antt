@@ -12,7 +12,7 @@ use Rattle.ordered_set.proofs.Members.{other_from, without_from}
 use Rattle.bin_book.specs.declared.table.Table.{Table}
 use Rattle.bin_book.specs.Bins.{Slab, is_unused, place, with_free}
 use Rattle.bin_book.specs.Tables.{IsOutAt, IsTable, bits_at, left_of, ones, slab_at, slabs_in, slabs_without}
-use Rattle.bin_book.proofs.Lists.{any_has, any_map, any_none, filter_all_of, filter_map_is, filter_same, map_from, map_has, map_same}
+use Rattle.list_facts.proofs.Members.{any_has, any_map, any_none, filter_all_of, filter_map_is, filter_same, map_from, map_has, map_same}
 use Rattle.bin_book.proofs.Kept.{key_cases}
 use Rattle.bin_book.proofs.Open.{length_free}
 use Rattle.bin_book.proofs.Places.{length_ones}

@@ -6,11 +6,12 @@ use Rattle.space_model.specs.declared.parts.Region.{Region}
 use Rattle.space_model.specs.Region.{starts_at}
 use Rattle.ordered_set.specs.declared.key.Key.{Key}
 use Rattle.bin_book.specs.declared.table.Table.{Table}
-use Rattle.bin_book.specs.Bins.{is_out}
+use Rattle.bin_book.specs.Bins.{addr_of, is_out}
 use Rattle.bin_book.specs.Tables.{IsLastBelow, IsOutAt, IsTable, bits_at, region_at, regions_in, slabs_in}
 use Rattle.bin_book.proofs.Holding.{only_holder, out_somewhere}
-use Rattle.bin_book.proofs.Lists.{any_has, any_none}
-use Rattle.bin_book.proofs.Regions.{member_found, out_from, out_has, regions_rise}
+use Rattle.list_facts.proofs.ByKey.{member_found}
+use Rattle.list_facts.proofs.Members.{any_has, any_none}
+use Rattle.bin_book.proofs.Regions.{out_from, out_has, regions_rise}
 
 -- where a slab has no region out at an address, none begins there
 pub none_starts : (t : Table) (addr : ℕ) → ((k : Key) (n : ℕ) → IsOutAt t (bits_at t.slots.items k.minor).class addr k n → ⊥) → false ≡ list_any (starts_at addr) (regions_in t)
@@ -39,4 +40,4 @@ module _ (t : Table) (i : IsTable t) (addr : ℕ) (key : Key) where
   some_starts n o = sym (any_has (starts_at addr) (regions_in t) _ (starts n o) (eq-eqb _ addr o.at))
 
   pub found_there : (n : ℕ) → IsOutAt t class addr key n → find (starts_at addr) (regions_in t) ≡ Some (region_at t.slots.items t.holders.codes.items key n)
-  found_there n o = ap (λ a. find (starts_at a) (regions_in t)) (sym o.at) ∙ member_found (regions_in t) _ (regions_rise t.slots.items t.holders.codes.items t.firsts.keys i.ascending i.kept) (starts n o)
+  found_there n o = ap (λ a. find (starts_at a) (regions_in t)) (sym o.at) ∙ member_found addr_of (regions_in t) _ (regions_rise t.slots.items t.holders.codes.items t.firsts.keys i.ascending i.kept) (starts n o)

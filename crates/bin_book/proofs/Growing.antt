@@ -18,7 +18,7 @@ use Rattle.bin_book.specs.Bins.{Slab}
 use Rattle.bin_book.specs.Charts.{Grows, HasPage}
 use Rattle.bin_book.specs.Holders.{holder_at}
 use Rattle.bin_book.specs.Tables.{AreFree, IsBinned, IsCharted, IsKept, IsSlabIn, IsTable, bin_key, bits_at, left_of, no_bits, regions_in, regions_of, slab_at, slab_of, slabs_in}
-use Rattle.bin_book.proofs.Lists.{bit, map_same, range_from}
+use Rattle.list_facts.proofs.Members.{bit, map_same, range_from}
 use Rattle.bin_book.proofs.Regions.{regions_agree}
 use Rattle.bin_book.proofs.Removing.{count_zero}
 

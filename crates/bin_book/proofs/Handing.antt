@@ -18,15 +18,16 @@ use Rattle.ordered_set.specs.Keys.{IsAscending, is_other, key_cmp, without_key}
 use Rattle.ordered_set.proofs.Members.{contains_cases, filter_from, filter_has, without_from, without_keeps}
 use Rattle.bin_book.specs.declared.holders.Holders.{Holders}
 use Rattle.bin_book.specs.declared.table.Table.{Table}
-use Rattle.bin_book.specs.Bins.{place}
+use Rattle.bin_book.specs.Bins.{addr_of, place}
 use Rattle.bin_book.specs.Holders.{holder_at}
 use Rattle.bin_book.specs.Tables.{IsKept, IsSlabIn, IsTable, bits_at, left_of, region_at, regions_in, regions_of, regions_without, slabs_in}
-use Rattle.bin_book.proofs.ByAddress.{AreNew, rising_filter, rising_held}
+use Rattle.list_facts.specs.ByKey.{AreNew}
+use Rattle.list_facts.proofs.ByKey.{not_found, rising_changed, rising_filter, same_members}
 use Rattle.bin_book.proofs.Kept.{by_key, class_stays, is_new, kept_changed, one_place}
 use Rattle.bin_book.proofs.Landing.{landed, landed_from, landed_new, landed_old}
-use Rattle.bin_book.proofs.Lists.{head, map_from, map_has}
+use Rattle.list_facts.proofs.Members.{head, map_from, map_has}
 use Rattle.bin_book.proofs.Places.{length_ones}
-use Rattle.bin_book.proofs.Regions.{not_found, out_from, out_has, regions_rise, same_members}
+use Rattle.bin_book.proofs.Regions.{out_from, out_has, regions_rise}
 use Rattle.bin_book.proofs.Removing.{kept_less}
 use Rattle.bin_book.proofs.Taking.{in_items, more_left, with_bit}
 
@@ -102,8 +103,8 @@ module _ (old new : List Bits) (codes news : List ℕ) (keys : List Key) (ascend
       let r = region_at new news key n in
       let rising = regions_rise old codes keys ascending kept in
       let free : (q : Region) → Contains before q → q.addr ≢ r.addr = (λ q m e. let none = (at_place old codes keys kept key there n low q m (e ∙ addr')).0 in let no : false ≡ true = sym none ∙ was in cc) in
-      let fresh : AreNew (r ∷ []) before = (not_found before r.addr free, tt) in
-      same_members after (landing (r ∷ []) before) (regions_rise new news keys ascending kept') (landed (r ∷ []) before (tt, tt) rising fresh).rising
+      let fresh : AreNew addr_of (r ∷ []) before = (not_found addr_of before r.addr free, tt) in
+      same_members addr_of after (landing (r ∷ []) before) (regions_rise new news keys ascending kept') (landed (r ∷ []) before (tt, tt) rising fresh).rising
       (λ q m. dite (ℕ_discrete q.addr addr)
       (λ e. landed_new (r ∷ []) before (tt, tt) rising fresh q (subst (Contains (r ∷ [])) ((at_place new news keys kept' key there n low' q m (e ∙ sym addr')).1) (head r [])))
       (λ ne. landed_old (r ∷ []) before (tt, tt) rising fresh q (earlier q m ne)))
@@ -116,7 +117,7 @@ module _ (old new : List Bits) (codes news : List ℕ) (keys : List Key) (ascend
   pub place_freed : get_or (bits_at new key.minor).free n false ≡ true → after ≡ filter (λ r. not (starts_at addr r)) before
   place_freed now =
       let p = λ (r : Region). not (starts_at addr r) in
-      same_members after (filter p before) (regions_rise new news keys ascending kept') (rising_filter p before (regions_rise old codes keys ascending kept))
+      same_members addr_of after (filter p before) (regions_rise new news keys ascending kept') (rising_filter addr_of p before (regions_rise old codes keys ascending kept))
       (λ q m.
       let other : q.addr ≢ addr = (λ e. let none = (at_place new news keys kept' key there n low' q m (e ∙ sym addr')).0 in let no : false ≡ true = sym none ∙ now in cc) in
       filter_has p before q (earlier q m other) (ap not (false_from_ne_true _ (λ e. other (eqb-true q.addr addr e)))))
@@ -132,7 +133,7 @@ module _ (old new : List Bits) (codes news : List ℕ) (keys : List Key) (ascend
       let there_before : Contains before r = out_has old codes keys r key n (record { there = there; low = low; out = was; is = refl }) in
       let here : f r ≡ region_at new news key n = ap (λ b. cond b (record r { holder = holder }) r) (eq-eqb addr addr refl) ∙ (λ x. record { addr = sym addr' x; class = sym (a.class key there) x; holder = sym held x }) in
       let stays : (q : Region) → q.addr ≢ addr → f q ≡ q = (λ q ne. ap (λ b. cond b (record q { holder = holder }) q) (false_from_ne_true _ (λ e. ne (eqb-true q.addr addr e)))) in
-      same_members after (map f before) (regions_rise new news keys ascending kept') (rising_held (starts_at addr) holder before (regions_rise old codes keys ascending kept))
+      same_members addr_of after (map f before) (regions_rise new news keys ascending kept') (rising_changed addr_of (λ r. record r { holder = holder }) (λ r. refl) (starts_at addr) before (regions_rise old codes keys ascending kept))
       (λ q m. dite (ℕ_discrete q.addr addr)
       (λ e. subst (Contains (map f before)) (here ∙ (at_place new news keys kept' key there n low' q m (e ∙ sym addr')).1) (map_has f before r there_before))
       (λ ne. subst (Contains (map f before)) (stays q ne) (map_has f before q (earlier q m ne))))
@@ -249,8 +250,8 @@ module _ (t : Table) (i : IsTable t) (key : Key) (there : Contains t.firsts.keys
       let other : q.0 ≢ key = (λ e. ne (sym (ap (λ (x : Region). x.addr) o.is) ∙ (λ x. place (bits_at slots (e x).minor).class (e x).major q.1)
       ∙ ap (place bits.class key.major) (only_out bits key.major n q.1 (i.kept.slab key there) low out last (subst (λ (z : Key). q.1 < regions_at (bits_at slots z.minor).class) e o.low) (subst (λ (z : Key). get_or (bits_at slots z.minor).free q.1 false ≡ false) e o.out)))) in
       out_has slots codes keys r q.0 q.1 (record { there = without_keeps t.firsts.keys key q.0 o.there other; low = o.low; out = o.out; is = o.is })) in
-      same_members (regions_of slots codes keys) (filter p (regions_in t))
-      (regions_rise slots codes keys (IsStrictlySortedBy-filter key_cmp (is_other key) t.firsts.keys i.ascending) (kept_less t i key there)) (rising_filter p (regions_in t) (regions_rise slots codes t.firsts.keys i.ascending i.kept))
+      same_members addr_of (regions_of slots codes keys) (filter p (regions_in t))
+      (regions_rise slots codes keys (IsStrictlySortedBy-filter key_cmp (is_other key) t.firsts.keys i.ascending) (kept_less t i key there)) (rising_filter addr_of p (regions_in t) (regions_rise slots codes t.firsts.keys i.ascending i.kept))
       (λ r m.
       let q = out_from slots codes keys r m in
       let o = q.2 in

@@ -19,7 +19,7 @@ use Rattle.ordered_set.proofs.Sorted.{every_member, less_from_lt}
 use Rattle.bin_book.specs.declared.table.Table.{Table}
 use Rattle.bin_book.specs.Bins.{Slab, is_among, is_out, place, places}
 use Rattle.bin_book.specs.Tables.{HasOut, IsLastBelow, IsOutAt, IsTable, bits_at, ones, slab_at, slabs_in}
-use Rattle.bin_book.proofs.Lists.{any_from, any_has, any_map, any_none, map_from, map_has, range_from, range_has}
+use Rattle.list_facts.proofs.Members.{any_from, any_has, any_map, any_none, map_from, map_has, range_from, range_has}
 use Rattle.bin_book.proofs.Places.{among_ones, place_inside}
 
 below_page : (k : Key) (page : ℕ) → k.major < page → is_below (start page) k ≡ true

@@ -14,7 +14,7 @@ use Rattle.bin_book.specs.declared.chart.Chart.{Chart}
 use Rattle.bin_book.specs.Bins.{place}
 use Rattle.bin_book.specs.Charts.{HasPage}
 use Rattle.bin_book.specs.Tables.{IsBinned, IsCharted, IsKept, IsMoved, IsSlabIn, bin_key, bin_of, bits_at, left_of, no_bits, slab_at}
-use Rattle.bin_book.proofs.Lists.{count_map, count_same}
+use Rattle.list_facts.proofs.Members.{count_map, count_same}
 use Rattle.bin_book.proofs.Places.{place_inside, same_place}
 
 -- ---- keys

@@ -1,5 +1,3 @@
-pub mod ByAddress
-pub mod Lists
 pub mod Regions
 pub mod Landing
 pub mod Places

@@ -16,16 +16,8 @@ use Rattle.size_classes.specs.Classes.{regions_at}
 use Rattle.bin_book.specs.declared.table.Table.{Table}
 use Rattle.bin_book.specs.Bins.{free_of, place}
 use Rattle.bin_book.specs.Tables.{IsLowestOpen, IsTable, bin_of, bits_at, left_of, no_bits, ones, slab_at, slabs_in}
-use Rattle.bin_book.proofs.Lists.{head}
+use Rattle.list_facts.proofs.Members.{found, head}
 use Rattle.bin_book.proofs.Places.{length_ones}
-
--- what a search finds is in the list and passes
-pub found : {X : Type 0} (p : X → Bool) (xs : List X) (x : X) → find p xs ≡ Some x → Contains xs x × (p x ≡ true)
-found p [] x e = absurd (cc)
-found p (y ∷ ys) x e = elim (cases_Bool (p y)) [
-  | inl t ↦ let first : Some y ≡ Some x = rw t at e in let same : y ≡ x = cc in ((zero, omega arith, same), ap p (sym same) ∙ t)
-  | inr f ↦ let deep = found p ys x (rw f at e) in (contains_later y ys x deep.0, deep.1)
-]
 
 -- a key below another one is another one
 pub less_ne : (a b : Key) → key_cmp a b ≡ Less → a ≢ b

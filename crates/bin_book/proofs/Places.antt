@@ -13,7 +13,7 @@ use Rattle.size_classes.proofs.Table.{size_bounds, slab_filled}
 use Rattle.ordered_set.proofs.Members.{filter_from, filter_has}
 use Rattle.bin_book.specs.Bins.{is_among, place, with_free, without}
 use Rattle.bin_book.specs.Tables.{ones, slab_of}
-use Rattle.bin_book.proofs.Lists.{any_has, any_none, bit, filter_both, filter_map_is, filter_same, map_has, map_from, range_from, range_has}
+use Rattle.list_facts.proofs.Members.{any_has, any_none, bit, filter_both, filter_map_is, filter_same, map_has, map_from, range_from, range_has}
 
 -- ---- free places, by their numbers
 

@@ -16,62 +16,14 @@ use Rattle.ordered_set.specs.Keys.{IsAscending, key_cmp}
 use Rattle.ordered_set.proofs.Members.{contains_cases, contains_later, every_from, filter_from, filter_has}
 use Rattle.ordered_set.proofs.Orders.{less_major}
 use Rattle.ordered_set.proofs.Sorted.{every_member}
-use Rattle.bin_book.specs.Bins.{place}
+use Rattle.bin_book.specs.Bins.{addr_of, place}
 use Rattle.bin_book.specs.Holders.{holder_at}
 use Rattle.bin_book.specs.Tables.{IsKept, bits_at, out_of, region_at, regions_of, zeros}
-use Rattle.bin_book.proofs.ByAddress.{AreBehind, IsRising, first_found, same_finds}
-use Rattle.bin_book.proofs.Lists.{any_has, head, map_from, map_has, map_same, range_from, range_has}
-use Rattle.bin_book.proofs.Open.{found, less_ne}
+use Rattle.list_facts.specs.ByKey.{IsRising}
+use Rattle.list_facts.proofs.ByKey.{behind_members, not_found, rising_both}
+use Rattle.list_facts.proofs.Members.{any_has, found, head, map_from, map_has, map_same, range_from, range_has}
+use Rattle.bin_book.proofs.Open.{less_ne}
 use Rattle.bin_book.proofs.Places.{place_inside}
-
--- ---- members of rising lists
-
--- all members begin behind an address
-pub behind_members : (addr : ℕ) (rs : List Region) → ((r : Region) → Contains rs r → addr < r.addr) → AreBehind addr rs
-behind_members addr rs all = every_from (λ r. addr < r.addr) rs all
-
-pub member_behind : (addr : ℕ) (rs : List Region) → AreBehind addr rs → (r : Region) → Contains rs r → addr < r.addr
-member_behind addr rs behind r m = every_member (λ r. addr < r.addr) rs behind r m
-
--- a member is what begins at its address
-pub member_found : (rs : List Region) (r : Region) → IsRising rs → Contains rs r → find (starts_at r.addr) rs ≡ Some r
-member_found [] r rising m = absurd (omega arith)
-member_found (q ∷ rs) r rising m = elim (contains_cases q rs r m) [
-  | inl e ↦ ap (λ (x : Region). find (starts_at x.addr) (q ∷ rs)) (sym e) ∙ first_found q rs ∙ ap (λ x. Some x) e
-  | inr d ↦
-      let later = member_behind q.addr rs rising.0 r d in
-      let other : eqb q.addr r.addr ≡ false = grind (arith, nat_tests) in
-      rw other (member_found rs r rising.1 d)
-]
-
-pub found_member : (rs : List Region) (a : ℕ) (r : Region) → find (starts_at a) rs ≡ Some r → Contains rs r × (r.addr ≡ a)
-found_member rs a r e = let p = found (starts_at a) rs r e in (p.0, eqb-true r.addr a p.1)
-
--- nothing is found where no member begins
-pub not_found : (rs : List Region) (a : ℕ) → ((r : Region) → Contains rs r → r.addr ≢ a) → find (starts_at a) rs ≡ None
-not_found [] a none = refl
-not_found (r ∷ rs) a none =
-    let other : eqb r.addr a ≡ false = false_from_ne_true _ (λ e. none r (head r rs) (eqb-true r.addr a e)) in
-    rw other (not_found rs a (λ q m. none q (contains_later r rs q m)))
-
--- rising lists with the same members are equal
-pub same_members : (xs ys : List Region) → IsRising xs → IsRising ys → ((r : Region) → Contains xs r → Contains ys r) → ((r : Region) → Contains ys r → Contains xs r) → xs ≡ ys
-same_members xs ys rising rising' there back = same_finds xs ys rising rising' (λ a. by a (find (starts_at a) xs) refl)
-  where
-    by : (a : ℕ) (o : Option Region) → find (starts_at a) xs ≡ o → find (starts_at a) xs ≡ find (starts_at a) ys
-    by a (Some r) e = let m = found_member xs a r e in e ∙ sym (member_found ys r rising' (there r m.0)) ∙ ap (λ b. find (starts_at b) ys) m.1
-    by a None e = e ∙ sym (not_found ys a (λ r m at. let is = ap (λ b. find (starts_at b) xs) (sym at) ∙ member_found xs r rising (back r m) in let no : None ≡ Some r = sym e ∙ is in cc))
-
--- one rising list behind another one
-pub rising_both : (xs ys : List Region) → IsRising xs → IsRising ys → ((x y : Region) → Contains xs x → Contains ys y → x.addr < y.addr) → IsRising (xs ++ ys)
-rising_both [] ys rising rising' less = rising'
-rising_both (x ∷ xs) ys rising rising' less = (
-  behind_members x.addr (xs ++ ys) (λ r m. elim (Contains-append_cases xs ys r m) [
-    | inl d ↦ member_behind x.addr xs rising.0 r d
-    | inr d ↦ less x r (head x xs) d
-  ]),
-  rising_both xs ys rising.1 rising' (λ a b m n. less a b (contains_later x xs a m) n),
-)
 
 -- ---- the regions that are out
 
@@ -118,13 +70,13 @@ module _ (slots : List Bits) (codes : List ℕ) where
   ]
 
   -- a slab's regions rise, place by place
-  slab_rises : (key : Key) (p : ℕ → Bool) (start n : ℕ) → 1 ≤ size_at (bits_at slots key.minor).class → IsRising (map (region_at slots codes key) (filter p (range_with_len start n)))
+  slab_rises : (key : Key) (p : ℕ → Bool) (start n : ℕ) → 1 ≤ size_at (bits_at slots key.minor).class → IsRising addr_of (map (region_at slots codes key) (filter p (range_with_len start n)))
   slab_rises key p start zero some = tt
   slab_rises key p start (suc n) some =
       let rest = slab_rises key p (start + 1) n some in
       elim (cases_Bool (p start)) [
         | inl t ↦ rw t (
-          behind_members _ _ (λ r m.
+          behind_members addr_of _ _ (λ r m.
               let q = map_from (region_at slots codes key) (filter p (range_with_len (start + 1) n)) r m in
               let low = (range_from (start + 1) n q.0 (filter_from p (range_with_len (start + 1) n) q.0 q.1).0).0 in
               let c = (bits_at slots key.minor).class in
@@ -137,14 +89,14 @@ module _ (slots : List Bits) (codes : List ℕ) where
       ]
 
   -- and so do those of all slabs
-  pub regions_rise : (keys : List Key) → IsAscending keys → IsKept slots keys → IsRising (regions_of slots codes keys)
+  pub regions_rise : (keys : List Key) → IsAscending keys → IsKept slots keys → IsRising addr_of (regions_of slots codes keys)
   unfolding regions_of IsStrictlySortedBy
   regions_rise [] s kept = tt
   regions_rise (k ∷ ks) s kept =
       let is = kept.slab k (head k ks) in
       let b = bits_at slots k.minor in
       let small = is.small in
-      rising_both (out_of slots codes k) (flat_map (out_of slots codes) ks) (slab_rises k (λ i. not (get_or b.free i false)) 0 (regions_at b.class) (let size = (size_bounds b.class (omega arith)).0 in omega arith))
+      rising_both addr_of (out_of slots codes k) (flat_map (out_of slots codes) ks) (slab_rises k (λ i. not (get_or b.free i false)) 0 (regions_at b.class) (let size = (size_bounds b.class (omega arith)).0 in omega arith))
       (regions_rise ks s.1 (record {
         slab = λ l m. kept.slab l (contains_later k ks l m);
         apart = λ l l' m m'. kept.apart l l' (contains_later k ks l m) (contains_later k ks l' m');
@@ -186,4 +138,4 @@ regions_agree old new codes news (k ∷ ks) bits holders =
 
 -- nothing is found where no region passes the test
 pub none_passes : (rs : List Region) (a : ℕ) → false ≡ list_any (starts_at a) rs → None ≡ find (starts_at a) rs
-none_passes rs a e = sym (not_found rs a (λ r m at. let yes = any_has (starts_at a) rs r m (eq-eqb r.addr a at) in let no : false ≡ true = e ∙ yes in cc))
+none_passes rs a e = sym (not_found addr_of rs a (λ r m at. let yes = any_has (starts_at a) rs r m (eq-eqb r.addr a at) in let no : false ≡ true = e ∙ yes in cc))

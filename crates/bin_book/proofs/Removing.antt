@@ -17,7 +17,7 @@ use Rattle.bin_book.specs.declared.chart.Chart.{Chart}
 use Rattle.bin_book.specs.declared.table.Table.{Table}
 use Rattle.bin_book.specs.Charts.{HasPage}
 use Rattle.bin_book.specs.Tables.{AreCounts, AreFree, IsBinned, IsCharted, IsKept, IsTable, bin_of, bits_at, slab_at, slabs_in, slabs_without}
-use Rattle.bin_book.proofs.Lists.{bit, count_map}
+use Rattle.list_facts.proofs.Members.{bit, count_map}
 use Rattle.bin_book.proofs.Adding.{count_without}
 use Rattle.bin_book.proofs.Kept.{same_slab}
 use Rattle.bin_book.proofs.Open.{small_numbers}
@@ -127,9 +127,6 @@ module _ (t : Table) (i : IsTable t) (slab : Key) (there : Contains t.firsts.key
 
   pub fewer_keys : length keys + 1 ≡ length t.firsts.keys
   fewer_keys = length_without t.firsts.keys slab i.ascending there
-
-  pub room_for_one : vec_len t.free < vec_capacity t.free
-  room_for_one = let one = fewer_keys in let places = i.places in let room = i.room in omega arith
 
   pub table_less : (u : Table) → u.firsts.keys ≡ keys → u.firsts.spare ≡ t.firsts.spare + 1 → IsAscending u.firsts.keys → u.slots ≡ t.slots → u.free.items ≡ t.free.items ++ slab.minor ∷ [] → vec_len u.free ≡ vec_len t.free + 1 → vec_capacity t.free ≤ vec_capacity u.free
       → u.counts ≡ set t.counts class_of_slab (get_or t.counts class_of_slab 0 - 1) → IsCharted t.slots.items keys u.chart → vec_len u.chart.firsts ≡ vec_len t.chart.firsts → u.bins.keys ≡ without_key t.bins.keys (bin_of t.slots.items slab) → u.bins.spare ≡ t.bins.spare + 1 → vec_len u.holders.codes ≡ vec_len t.holders.codes → IsTable u

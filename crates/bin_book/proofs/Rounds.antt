@@ -5,7 +5,7 @@ use Rattle.std.proofs.lemmas.List.Folds.{list_any-append}
 use Rattle.space_model.specs.declared.parts.Region.{Region}
 use Rattle.space_model.specs.Region.{inserted, landing}
 use Rattle.bin_book.specs.Bins.{Slab, is_among, without}
-use Rattle.bin_book.proofs.Lists.{filter_all_of, filter_both, filter_same, map_both}
+use Rattle.list_facts.proofs.Members.{filter_all_of, filter_both, filter_same, map_both}
 
 -- one more of a list whose rest begins with it
 pub take_next : (xs rest : List ℕ) (i a : ℕ) → i ≤ length xs → take i xs ++ a ∷ rest ≡ xs → take (i + 1) xs ≡ take i xs ++ a ∷ []
@@ -25,13 +25,6 @@ more_left xs rest next i a le e f =
     let len = length-take-le i xs le in
     let some = ap length f in
     omega arith
-
--- where there is no rest, all are taken
-pub taken_all : (xs : List ℕ) (i n : ℕ) → i ≤ length xs → i ≤ n → take i xs ++ [] ≡ xs → take i xs ≡ take n xs
-taken_all xs i n le more e =
-    let all = sym (append-nil (take i xs)) ∙ e in
-    let len = sym (length-take-le i xs le) ∙ ap length all in
-    all ∙ sym (take_all n xs (omega arith))
 
 -- slabs without no address, and without one more
 pub without_none : (slabs : List Slab) → slabs ≡ map (without []) slabs

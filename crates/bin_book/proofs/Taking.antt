@@ -20,7 +20,7 @@ use Rattle.ordered_set.proofs.Sorted.{every_member}
 use Rattle.bin_book.specs.declared.table.Table.{Table}
 use Rattle.bin_book.specs.Bins.{Slab, free_of, place, with_free, without}
 use Rattle.bin_book.specs.Tables.{IsLowestOpen, IsMoved, IsOutAt, IsSlabIn, IsTable, bin_key, bin_of, bits_at, left_of, slab_at, slab_of, slabs_in}
-use Rattle.bin_book.proofs.Lists.{bit, head, map_both, map_same}
+use Rattle.list_facts.proofs.Members.{bit, head, map_both, map_same}
 use Rattle.bin_book.proofs.Places.{freed_slab, lowest_one, same_place, taken_slab}
 use Rattle.bin_book.proofs.Kept.{binned_changed, charted_changed, by_key, counts_stay, is_new, kept_changed, one_place, others_stay}
 use Rattle.bin_book.proofs.Open.{full_free, less_ne, small_numbers}

@@ -16,6 +16,10 @@ pub record Bins : Type 0 where
   pub regions : List Region
   pub spare : ℕ
 
+-- the address at which a region begins
+abbrev pub addr_of : Region → ℕ
+addr_of r = r.addr
+
 -- the address of a place in a slab of the class from a page on
 abbrev pub place : ℕ → ℕ → ℕ → ℕ
 place class first i = 4096 * first + i * size_at class

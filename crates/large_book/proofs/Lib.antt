@@ -1,2 +1,1 @@
-pub mod ByAddress
 pub mod Listing

@@ -8,26 +8,28 @@ use Rattle.std.specs.Ordering.{nat_cmp}
 use Rattle.std.proofs.lemmas.Bool.Decides.{nat_tests}
 use Rattle.space_model.specs.declared.parts.Region.{Region}
 use Rattle.space_model.specs.Region.{address_of, held_anew, inserted, starts_at}
-use Rattle.large_book.specs.Larges.{Numbers, code_of, holder_of, number_of, region_at, region_of, listed, larges_in}
-use Rattle.large_book.proofs.ByAddress.{AreBehind, IsRising, held_by, same_finds, inserts, finds_without, rising_filter, finds_held, rising_held}
+use Rattle.list_facts.specs.ByKey.{AreBehind, IsRising}
+use Rattle.list_facts.specs.Codes.{code_of, of_code}
+use Rattle.list_facts.proofs.ByKey.{absent_filter, finds_changed, finds_without, is_inserted, rising_changed, rising_filter, same_finds}
+use Rattle.large_book.specs.Larges.{Numbers, addr_of, number_of, region_at, region_of, listed, larges_in}
 
 -- ---- what is listed
 
 -- the regions from a page on begin at that page or behind it
-behind_page : (numbers : Numbers) (addr page more : ℕ) → addr < 4096 * page → AreBehind addr (listed numbers page more)
+behind_page : (numbers : Numbers) (addr page more : ℕ) → addr < 4096 * page → AreBehind addr_of addr (listed numbers page more)
 unfolding listed
 behind_page numbers addr page zero low = tt
 behind_page numbers addr page (suc more) low =
-    elim (map.get numbers page) as (λ o. AreBehind addr (cons_option (option_map (region_at page) o) (listed numbers (page + 1) more))) [
+    elim (map.get numbers page) as (λ o. AreBehind addr_of addr (cons_option (option_map (region_at page) o) (listed numbers (page + 1) more))) [
       | None ↦ behind_page numbers addr (page + 1) more (omega (arith, low))
       | Some number ↦ (low, behind_page numbers addr (page + 1) more (omega (arith, low)))
     ]
 
-rises : (numbers : Numbers) (page more : ℕ) → IsRising (listed numbers page more)
+rises : (numbers : Numbers) (page more : ℕ) → IsRising addr_of (listed numbers page more)
 unfolding listed
 rises numbers page zero = tt
 rises numbers page (suc more) =
-    elim (map.get numbers page) as (λ o. IsRising (cons_option (option_map (region_at page) o) (listed numbers (page + 1) more))) [
+    elim (map.get numbers page) as (λ o. IsRising addr_of (cons_option (option_map (region_at page) o) (listed numbers (page + 1) more))) [
       | None ↦ rises numbers (page + 1) more
       | Some number ↦ (behind_page numbers (4096 * page) (page + 1) more (omega arith), rises numbers (page + 1) more)
     ]
@@ -52,7 +54,7 @@ finds numbers addr page (suc more) =
 abbrev pub found : Numbers → ℕ → Option Region
 found numbers addr = cond (is_among addr 0 536870912) (region_of numbers (addr / 4096)) None
 
-pub larges_rise : (numbers : Numbers) → IsRising (larges_in numbers)
+pub larges_rise : (numbers : Numbers) → IsRising addr_of (larges_in numbers)
 unfolding larges_in
 larges_rise numbers = rises numbers 0 536870912
 
@@ -63,7 +65,7 @@ larges_found numbers addr = finds numbers addr 0 536870912
 -- ---- numbers and regions
 
 -- a holder's number gives the holder back
-holder_back : (class : ℕ) (holder : Option ℕ) → class < 256 → holder_of ((class + 256 * code_of holder) / 256) ≡ holder
+holder_back : (class : ℕ) (holder : Option ℕ) → class < 256 → of_code ((class + 256 * code_of holder) / 256) ≡ holder
 holder_back class None low = let is : (class + 256 * 0) / 256 ≡ 0 = omega (arith, low) in rw is refl
 holder_back class (Some client) low = let is : (class + 256 * (client + 1)) / 256 ≡ client + 1 = omega (arith, low) in rw is (grind (arith, nat_tests))
 
@@ -97,15 +99,22 @@ stands numbers addr there =
     record { page = grind (arith, nat_tests); low = grind (arith, nat_tests); number = grind (arith, nat_tests) }
 
 -- a rising list in which the same is found is that of the numbers
-same_larges : (numbers : Numbers) (rs : List Region) → IsRising rs → ((a : ℕ) → found numbers a ≡ find (starts_at a) rs) → larges_in numbers ≡ rs
-same_larges numbers rs rising same = same_finds _ _ (larges_rise numbers) rising (λ a. larges_found numbers a ∙ same a)
+same_larges : (numbers : Numbers) (rs : List Region) → IsRising addr_of rs → ((a : ℕ) → found numbers a ≡ find (starts_at a) rs) → larges_in numbers ≡ rs
+same_larges numbers rs rising same = same_finds addr_of _ _ (larges_rise numbers) rising (λ a. larges_found numbers a ∙ same a)
+
+-- where a page is written, its region stands in the place of what began there
+write_is : (numbers : Numbers) (r : Region) → r.class < 256 → r.addr % 4096 ≡ 0 → r.addr < 4096 * 536870912
+    → larges_in (map.insert numbers (r.addr / 4096) (number_of r)) ≡ inserted r (filter (λ q. not (starts_at r.addr q)) (larges_in numbers))
+write_is numbers r class page low = is_inserted addr_of r (larges_in numbers) _ (larges_rise numbers) (larges_rise _) (λ a.
+    larges_found _ a ∙ found_put numbers r.addr (number_of r) a page low ∙ rw (region_back r (r.addr / 4096) class (omega (arith, page)), ← larges_found numbers a) refl)
 
 pub add_is : (numbers : Numbers) (r : Region) → r.class < 256 → r.addr % 4096 ≡ 0 → r.addr < 4096 * 536870912 → find (starts_at r.addr) (larges_in numbers) ≡ None
     → larges_in (map.insert numbers (r.addr / 4096) (number_of r)) ≡ inserted r (larges_in numbers)
-add_is numbers r class page low free =
-    let put = inserts r (larges_in numbers) (larges_rise numbers) free in
-    same_larges _ _ put.rising (λ a.
-    found_put numbers r.addr (number_of r) a page low ∙ rw (region_back r (r.addr / 4096) class (omega (arith, page)), ← larges_found numbers a) (sym (put.finds a)))
+add_is numbers r class page low free = write_is numbers r class page low ∙ ap (inserted r) (absent_filter addr_of r.addr (larges_in numbers) free)
+
+-- the region with another holder
+abbrev pub held_by : Option ℕ → Region → Region
+held_by holder r = record r { holder = holder }
 
 pub hand_over_is : (numbers : Numbers) (addr number : ℕ) (holder : Option ℕ) → Stands numbers addr → map.get numbers (addr / 4096) ≡ Some number
     → larges_in (map.insert numbers (addr / 4096) (number_of (held_by holder (region_at (addr / 4096) number)))) ≡ held_anew (starts_at addr) holder (larges_in numbers)
@@ -113,31 +122,18 @@ hand_over_is numbers addr number holder stood has =
     let next = held_by holder (region_at (addr / 4096) number) in
     let page = stood.page in
     let low = stood.low in
-    same_larges _ _ (rising_held (starts_at addr) holder (larges_in numbers) (larges_rise numbers)) (λ a.
+    same_larges _ _ (rising_changed addr_of (held_by holder) (λ r. refl) (starts_at addr) (larges_in numbers) (larges_rise numbers)) (λ a.
     found_put numbers addr (number_of next) a page low
-    ∙ grind (arith, nat_tests, region_back next (addr / 4096) (omega arith) refl, larges_found numbers a, finds_held addr holder a (larges_in numbers)))
+    ∙ grind (arith, nat_tests, region_back next (addr / 4096) (omega arith) refl, larges_found numbers a, finds_changed addr_of (held_by holder) (λ r. refl) addr a (larges_in numbers)))
 
 pub replace_is : (numbers : Numbers) (r : Region) → r.class < 256 → Stands numbers r.addr
     → larges_in (map.insert numbers (r.addr / 4096) (number_of r)) ≡ inserted r (filter (λ q. not (starts_at r.addr q)) (larges_in numbers))
-replace_is numbers r class stood =
-    let rest = filter (λ q. not (starts_at r.addr q)) (larges_in numbers) in
-    let itself : eqb r.addr r.addr ≡ true = grind (arith, nat_tests) in
-    let free : find (starts_at r.addr) rest ≡ None = finds_without r.addr r.addr (larges_in numbers) ∙ rw itself refl in
-    let put = inserts r rest (rising_filter (λ q. not (starts_at r.addr q)) (larges_in numbers) (larges_rise numbers)) free in
-    let page = stood.page in
-    same_larges _ _ put.rising (λ a.
-    found_put numbers r.addr (number_of r) a page stood.low
-    ∙ rw (region_back r (r.addr / 4096) class (omega (arith, page))) (among a (eqb r.addr a) refl)
-    ∙ sym (put.finds a ∙ ap (cond (eqb r.addr a) (Some r)) (finds_without r.addr a (larges_in numbers))))
-  where
-    among : (a : ℕ) (b : Bool) → eqb r.addr a ≡ b → cond (eqb r.addr a) (Some r) (found numbers a) ≡ cond (eqb r.addr a) (Some r) (cond (eqb r.addr a) None (find (starts_at a) (larges_in numbers)))
-    among a true e = rw e refl
-    among a false e = rw e (sym (larges_found numbers a))
+replace_is numbers r class stood = write_is numbers r class stood.page stood.low
 
 pub take_is : (numbers : Numbers) (addr : ℕ) → is_some (find (starts_at addr) (larges_in numbers)) ≡ true → larges_in (map.remove numbers (addr / 4096)) ≡ filter (λ r. not (starts_at addr r)) (larges_in numbers)
 take_is numbers addr there =
-    same_larges _ _ (rising_filter (λ r. not (starts_at addr r)) (larges_in numbers) (larges_rise numbers)) (λ a.
-    found_cleared numbers addr a (stands numbers addr there).page ∙ ap (cond (eqb addr a) None) (sym (larges_found numbers a)) ∙ sym (finds_without addr a (larges_in numbers)))
+    same_larges _ _ (rising_filter addr_of (λ r. not (starts_at addr r)) (larges_in numbers) (larges_rise numbers)) (λ a.
+    found_cleared numbers addr a (stands numbers addr there).page ∙ ap (cond (eqb addr a) None) (sym (larges_found numbers a)) ∙ sym (finds_without addr_of addr a (larges_in numbers)))
 
 pub none_listed : larges_in map.empty ≡ []
 none_listed = same_larges _ _ tt (λ a. rw (map.get-empty nat_cmp (a / 4096)) (none (is_among a 0 536870912)))

@@ -1,9 +1,10 @@
 -- Regions that begin with a page, each as a number of that page.
-use Rattle.std.specs.Prelude.{ℕ, zero, suc, ◌+◌, ◌-◌, ◌*◌, ◌/◌, ◌%◌, ◌<◌, ◌==◌, List, [], Option, None, Some, if◌then◌else◌}
+use Rattle.std.specs.Prelude.{ℕ, zero, suc, ◌+◌, ◌*◌, ◌/◌, ◌%◌, ◌<◌, List, [], Option, None, Some}
 use Rattle.std.specs.List.{cons_option}
 use Rattle.std.specs.Option.{option_map}
 use Rattle.std.specs.Ordering.{nat_cmp}
 use Rattle.std.specs.FinMap as map
+use Rattle.list_facts.specs.Codes.{code_of, of_code}
 use Rattle.space_model.specs.declared.parts.Region.{Region}
 use Rattle.space_model.specs.Region.{address_of}
 use Rattle.page_map.specs.declared.table.TheConstants.{PAGES}
@@ -14,6 +15,10 @@ pub record Larges : Type 0 where
   pub regions : List Region
   pub spare : ℕ
 
+-- the address at which a region begins
+abbrev pub addr_of : Region → ℕ
+addr_of r = r.addr
+
 -- the numbers of pages
 abbrev pub Numbers : Type 0
 Numbers = map.FinMap nat_cmp ℕ
@@ -23,22 +28,13 @@ abbrev pub IsHolder : Option ℕ → Type 0
 IsHolder None = Unit {0}
 IsHolder (Some client) = client < 32
 
--- a holder as a number: 0 for nobody, and else one more than the client's
-abbrev pub code_of : Option ℕ → ℕ
-code_of None = 0
-code_of (Some client) = client + 1
-
--- the holder of such a number
-abbrev pub holder_of : ℕ → Option ℕ
-holder_of code = if code == 0 then None else Some (code - 1)
-
 -- a region's class and holder in one number
 abbrev pub number_of : Region → ℕ
 number_of r = r.class + 256 * code_of r.holder
 
 -- the region at a page that has such a number
 abbrev pub region_at : ℕ → ℕ → Region
-region_at page number = record { addr = address_of page; class = number % 256; holder = holder_of (number / 256) }
+region_at page number = record { addr = address_of page; class = number % 256; holder = of_code (number / 256) }
 
 -- the region at a page, if the page has a number
 abbrev pub region_of : Numbers → ℕ → Option Region

@@ -1,6 +1,7 @@
 //! A region's class and holder in the number of a page.
 ghost use Rattle.std.specs.Prelude.{◌≡◌, ◌*◌, ◌/◌, ◌<◌, ◌≤◌, ◌^◌};
-ghost use Rattle.large_book.specs.Larges.{IsHolder, code_of, holder_of, number_of, region_at};
+ghost use Rattle.list_facts.specs.Codes.{code_of, of_code};
+ghost use Rattle.large_book.specs.Larges.{IsHolder, number_of, region_at};
 
 use page_map::PAGES;
 use size_classes::PAGE_BYTES;

@@ -25,7 +25,7 @@ use Rattle.part_book.specs.Rows.{IsApart, IsKeyed, Row, first_key, is_edge, keys
 use Rattle.part_book.specs.Tables.{CanLower, HasListRoom, IsIndexed, IsListOf, IsSlotted, IsTable, Keeps, parts_of, rows_of}
 use Rattle.part_book.proofs.Indexes.{IsLeafed, in_slot, in_slots, keeps, parts_in}
 use Rattle.part_book.proofs.Keyed.{first_own, key_absent, keyed_more, size_own}
-use Rattle.part_book.proofs.Lists.{all_from, bit, count_some, find_none, map_has, map_same}
+use Rattle.list_facts.proofs.Members.{all_from, bit, count_some, find_none, map_has, map_same}
 use Rattle.part_book.proofs.Parts.{edge_has}
 use Rattle.part_book.proofs.Rowed.{apart_more, page_meets, pages_most, row_placed}
 

@@ -14,7 +14,7 @@ use Rattle.part_book.specs.Books.{AreBeside, joined}
 use Rattle.part_book.specs.Leaves.{leaves_for}
 use Rattle.part_book.specs.Rows.{IsApart}
 use Rattle.part_book.proofs.Chunks.{leaves_both, leaves_none}
-use Rattle.part_book.proofs.Lists.{all_from, filter_both, filter_swap, find_kept, found}
+use Rattle.list_facts.proofs.Members.{all_from, filter_neither, filter_swap, find_kept, found}
 use Rattle.part_book.proofs.Parts.{placed}
 
 -- ---- an exchange
@@ -132,5 +132,5 @@ pub join_parts : (old now t v : List Part) (low high at : ℕ) (p q : Part) → 
 join_parts old now t v low high at p q same e f less is more =
     rw (sym (ap (find (begins_at low)) same) ∙ e, sym (ap (find (begins_at high)) same) ∙ f) (
     more ∙ ap (λ n. exchanged (begins_at n) t (joined p q ∷ [])) is ∙ ap (λ xs. exchanged (begins_at low) xs (joined p q ∷ [])) less
-    ∙ ap (λ xs. xs ++ joined p q ∷ []) (filter_swap (λ x. not (begins_at low x)) (λ x. not (begins_at high x)) old ∙ filter_both (begins_at low) (begins_at high) old)
+    ∙ ap (λ xs. xs ++ joined p q ∷ []) (filter_swap (λ x. not (begins_at low x)) (λ x. not (begins_at high x)) old ∙ filter_neither (begins_at low) (begins_at high) old)
     ∙ ap (λ xs. exchanged (λ r. begins_at low r || begins_at high r) xs (joined p q ∷ [])) same)

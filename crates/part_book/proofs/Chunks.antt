@@ -14,7 +14,7 @@ use Rattle.page_map.specs.declared.table.TheConstants.{CHUNKS}
 use Rattle.space_model.specs.declared.parts.Span.{Span}
 use Rattle.space_model.specs.Span.{IsPlaced, end_of}
 use Rattle.part_book.specs.Leaves.{HasLeaves, HasMore, leaves_for, missing}
-use Rattle.part_book.proofs.Lists.{bit, count_some, filter_both}
+use Rattle.list_facts.proofs.Members.{bit, count_some, filter_neither}
 
 -- a chunk is in a set to which another one was added where it is that one or was in it
 pub contains_more : (s : set.FinSet nat_cmp) (k q : ℕ) → set.contains (set.insert s k) q ≡ (eqb q k || set.contains s q)
@@ -38,7 +38,7 @@ lacking_after s c chunks =
     let lacks = λ (k : ℕ). not (set.contains s k) in
     let lacks_then = λ (k : ℕ). not (set.contains (set.insert s c) k) in
     let others = filter (λ k. not (eqb k c)) chunks in
-    let left = filter_agree lacks_then (λ k. not (eqb k c || set.contains s k)) (λ k. ap not (contains_more s c k)) chunks ∙ sym (filter_both (λ k. eqb k c) (set.contains s) chunks) in
+    let left = filter_agree lacks_then (λ k. not (eqb k c || set.contains s k)) (λ k. ap not (contains_more s c k)) chunks ∙ sym (filter_neither (λ k. eqb k c) (set.contains s) chunks) in
     let same = ap length left in
     let split = sum_by-filter_both (λ k. eqb k c) (λ k. not (eqb k c)) (λ k. refl) (λ k. bit (lacks k)) chunks in
     omega (arith, length-filter lacks_then chunks, length-filter lacks others)

@@ -17,7 +17,7 @@ use Rattle.part_book.specs.Tables.{CanLower, HasListRoom, IsIndexed, IsLifted, I
 use Rattle.part_book.proofs.Additions.{IsAdded, IsFresh, added, can_lower, numbers_more, rows_added}
 use Rattle.part_book.proofs.Indexes.{IsLeafed, in_slots, keeps, parts_in}
 use Rattle.part_book.proofs.Keyed.{keyed_same}
-use Rattle.part_book.proofs.Lists.{bit, find_is}
+use Rattle.list_facts.proofs.Members.{bit, find_is}
 use Rattle.part_book.proofs.Parts.{edge_has}
 use Rattle.part_book.proofs.Removals.{count_fewer, fewer, numbers_less, one, removed, rows_removed}
 use Rattle.part_book.proofs.Rowed.{one_row, other_row, others, others_begin, row_placed}

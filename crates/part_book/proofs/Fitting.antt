@@ -24,7 +24,7 @@ use Rattle.space_model.specs.Fit.{fit_of, is_best, is_better, is_candidate}
 use Rattle.part_book.specs.Rows.{IsApart, IsKeyed, Row, key_span, listed_in, numbers_of, pages_in, rank, rank_of, ranked_key, size_key}
 use Rattle.part_book.proofs.Walks.{find_some}
 use Rattle.part_book.proofs.Indexes.{parts_in}
-use Rattle.part_book.proofs.Lists.{all_from, find_is, find_none, head, map_from, map_has, mapped_some, none_found}
+use Rattle.list_facts.proofs.Members.{all_from, find_is, find_none, head, map_from, map_has, mapped_some, none_found}
 use Rattle.part_book.proofs.Parts.{one_owner, placed}
 use Rattle.part_book.proofs.Rowed.{row_placed}
 

@@ -28,7 +28,7 @@ use Rattle.part_book.specs.declared.table.Table.{Table}
 use Rattle.part_book.specs.Books.{IsFirstFrom}
 use Rattle.part_book.specs.Rows.{IsKeyed, IsLastBelow, Row, first_key, flights_in, is_edge, part_at, row_at, size_key}
 use Rattle.part_book.specs.Tables.{IsIndexed, IsListOf, IsSlotted, IsTable, Keeps, rows_of}
-use Rattle.part_book.proofs.Lists.{all_from, count_some, find_map, find_none, found, map_from, map_has, mapped_none, mapped_some, none_found}
+use Rattle.list_facts.proofs.Members.{all_from, count_some, find_map, find_none, found, map_from, map_has, mapped_none, mapped_some, none_found}
 use Rattle.part_book.proofs.Walks.{find_some}
 
 -- the extents of some rows

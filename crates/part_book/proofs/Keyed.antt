@@ -5,7 +5,7 @@ use Rattle.std.proofs.lemmas.List.Elements.{Contains-append_left, Contains-push,
 use Rattle.ordered_set.specs.declared.key.Key.{Key}
 use Rattle.ordered_set.proofs.Members.{filter_has, with_from, with_keeps, with_self, without_from, without_keeps}
 use Rattle.part_book.specs.Rows.{IsKeyed, Row, first_key, keys_with, keys_without, rank_of, ranked_key, size_key}
-use Rattle.part_book.proofs.Lists.{mapped_some}
+use Rattle.list_facts.proofs.Members.{mapped_some}
 use Rattle.part_book.proofs.Rowed.{other_row, others}
 
 module _ (key_of : Row → Option Key) (rows : List Row) (row : Row) (keys : List Key) (i : IsKeyed key_of rows keys) where
@@ -45,14 +45,6 @@ module _ (key_of : Row → Option Key) (rows : List Row) (row : Row) (keys : Lis
       by (Some key) e = λ m. let p = i.from key m in new p.0 p.1 (own p.0 key p.1 p.2 e)
 
   module _ (m : Contains rows row) where
-    -- the key of an extent is in the set
-    pub key_there : IfSome (key_of row) (λ k. Contains keys k)
-    key_there = by (key_of row) refl
-      where
-        by : (o : Option Key) → key_of row ≡ o → IfSome o (λ k. Contains keys k)
-        by None e = tt
-        by (Some key) e = i.has row key m e
-
     module _ (one : (r : Row) → Contains rows r → r.number ≡ row.number → r ≡ row) where
       -- the set loses the key of an extent that goes
       pub keyed_less : Owned → IsKeyed key_of (others row.number rows) (keys_without keys (key_of row))

@@ -6,7 +6,6 @@ pub mod Walks
 pub mod Fitting
 pub mod Indexes
 pub mod Keyed
-pub mod Lists
 pub mod Parts
 pub mod Removals
 pub mod Rooms

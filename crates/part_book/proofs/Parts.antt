@@ -11,7 +11,7 @@ use Rattle.space_model.specs.Span.{IsPlaced, end_of, has_page, meets, pages_end}
 use Rattle.space_model.specs.Part.{begins_at}
 use Rattle.part_book.specs.Books.{ends_at}
 use Rattle.part_book.specs.Rows.{IsApart, IsLastBelow, is_edge}
-use Rattle.part_book.proofs.Lists.{all_from, find_closer, find_is, find_none, only_one}
+use Rattle.list_facts.proofs.Members.{all_from, find_closer, find_is, find_none, only_one}
 
 pub placed : (parts : List Part) (p : Part) → IsApart parts → Contains parts p → IsPlaced p.span
 placed parts p apart m = All-contains (λ q. IsPlaced q.span) parts p apart.placed m

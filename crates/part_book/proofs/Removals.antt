@@ -24,7 +24,7 @@ use Rattle.part_book.specs.Tables.{IsIndexed, IsListOf, IsRowAt, IsSlotted, IsTa
 use Rattle.part_book.proofs.Additions.{edge_test, twice}
 use Rattle.part_book.proofs.Indexes.{IsLeafed, edge_none, edge_part, edge_row, keeps, slot_of, small_numbers}
 use Rattle.part_book.proofs.Keyed.{first_own, keyed_less, size_own}
-use Rattle.part_book.proofs.Lists.{bit, count_less_one, count_kept, count_map, count_some, filter_all_of, filter_map_is, filter_none_of, filter_swap, find_kept, find_none, found, kept_length, map_has, only}
+use Rattle.list_facts.proofs.Members.{bit, count_less_one, count_kept, count_map, count_some, filter_all_of, filter_map_is, filter_none_of, filter_swap, find_kept, find_none, found, kept_length, map_has, only}
 use Rattle.part_book.proofs.Parts.{begins_by_edge, edge_has}
 use Rattle.part_book.proofs.Rowed.{apart_less, numbers_most, one_number, one_row, other_row, others, others_apart, others_begin, row_placed}
 

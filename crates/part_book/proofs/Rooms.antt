@@ -7,7 +7,7 @@ use Rattle.part_book.specs.Lists.{Grows}
 use Rattle.part_book.specs.Rows.{IsKeyed, Row, first_key, part_at, row_at, size_key}
 use Rattle.part_book.specs.Tables.{HasRoom, IsTable, Keeps, parts_of, rows_of}
 use Rattle.part_book.proofs.Indexes.{IsLeafed, in_slot, in_slots, keeps}
-use Rattle.part_book.proofs.Lists.{all_from, bit, map_has, map_same}
+use Rattle.list_facts.proofs.Members.{all_from, bit, map_has, map_same}
 
 -- each index of the second table has the same
 pub record IsSame (t u : Table) : Type 0 where

@@ -13,7 +13,7 @@ use Rattle.part_book.specs.declared.table.Table.{Table}
 use Rattle.part_book.specs.Rows.{IsApart, Row, pages_in}
 use Rattle.part_book.specs.Tables.{IsSlotted, IsTable}
 use Rattle.part_book.proofs.Indexes.{parts_in}
-use Rattle.part_book.proofs.Lists.{all_from, bit, count_kept, count_map, count_none, filter_map_is, filter_same, map_from, map_has, only_one}
+use Rattle.list_facts.proofs.Members.{all_from, bit, count_kept, count_map, count_none, filter_map_is, filter_same, map_from, map_has, only_one}
 use Rattle.part_book.proofs.Parts.{begins_has, placed}
 
 pub row_placed : (rows : List Row) (r : Row) → IsApart (parts_in rows) → Contains rows r → IsPlaced r.part.span

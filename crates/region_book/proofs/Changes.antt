@@ -1,73 +1,49 @@
--- What coming, going and other holders do to the regions of two books together.
-use Rattle.std.proofs.Common.{◌≡◌, ◌≢◌, ℕ, suc, ◌+◌, ◌*◌, ◌<◌, ◌≤◌, Bool, true, false, not, cond, eqb, eq-eqb, eqb-true, List, [], ◌∷◌, length, map, filter, find, Option, None, Some, refl, sym, ◌∙◌, ap, subst, arith, ◌&&◌, count_by}
-use Rattle.std.specs.List.{AllByRecursion as Every, list_any, sum_by}
-use Rattle.std.specs.Option.{option_map, option_or}
+-- What is told of regions by address: what a client gives back, what is published, and what can come.
+use Rattle.std.proofs.Common.{◌≡◌, ℕ, ◌+◌, ◌*◌, ◌≤◌, Bool, true, false, not, eqb, eqb-true, List, [], ◌∷◌, length, filter, find, Option, None, Some, refl, sym, ◌∙◌, ap, arith, ◌&&◌, count_by, Contains}
+use Rattle.std.specs.List.{list_any}
 use Rattle.std.proofs.lemmas.Bool.Decides.{nat_tests}
 use Rattle.std.proofs.lemmas.List.Sums.{sum_by-cons}
 use Rattle.size_classes.specs.Classes.{size_at}
 use Rattle.space_model.specs.declared.parts.Region.{Region}
-use Rattle.space_model.specs.Region.{held_anew, inserted, is_held_by, is_held_by_other, is_published, landing, region_of, regions_from, starts_at}
+use Rattle.space_model.specs.Region.{is_held_by, is_held_by_other, landing, region_of, regions_from, starts_at}
 use Rattle.space_model.specs.Holding.{is_published_at}
 use Rattle.space_model.specs.Step.{holds_at, is_given_back, staying}
-use Rattle.region_book.specs.RegionLists.{AreApart, AreBehind, AreNew, IsRising, code_of, if_published}
-use Rattle.region_book.proofs.ByAddress.{AreDistinct, first_found, held_by, later_found, none_behind}
-use Rattle.region_book.proofs.Summed.{landing_sum, others_stay}
-
--- ---- regions that can come
-
--- 1 where the region begins at the address, and else 0
-abbrev one_at : ℕ → Region → ℕ
-one_at a r = cond (eqb r.addr a) 1 0
-
-none_counted : (a : ℕ) (rs : List Region) → count_by (starts_at a) rs ≡ 0 → find (starts_at a) rs ≡ None
-none_counted a [] none = refl
-none_counted a (r ∷ rs) none =
-    let sums = sum_by-cons (one_at a) r rs in
-    let rest = none_counted a rs (omega (arith, sums, none)) in
-    go (eqb r.addr a) refl (omega (arith, sums, none)) rest
-  where
-    go : (b : Bool) → eqb r.addr a ≡ b → one_at a r ≡ 0 → find (starts_at a) rs ≡ None → find (starts_at a) (r ∷ rs) ≡ None
-    go true is zero_here rest = let one : one_at a r ≡ 1 = rw is refl in absurd (omega (arith, one, zero_here))
-    go false is zero_here rest = rw is rest
+use Rattle.list_facts.specs.ByKey.{AreDistinct, AreNew, IsRising}
+use Rattle.list_facts.specs.Codes.{code_of}
+use Rattle.list_facts.proofs.ByKey.{distinct_new, found_alone, member_found}
+use Rattle.list_facts.proofs.Members.{any_from, bit, filter_same, find_closer, found}
+use Rattle.large_book.specs.Larges.{addr_of}
+use Rattle.region_book.specs.RegionLists.{if_published}
+use Rattle.region_book.proofs.Tallies.{landing_sum}
 
 -- where no two begin at one address afterwards, what comes is distinct and new
-distinct_new : (come rs : List Region) → ((a : ℕ) → count_by (starts_at a) rs + count_by (starts_at a) come ≤ 1) → AreDistinct come × AreNew come rs
-distinct_new [] rs alone = (tt, tt)
-distinct_new (r ∷ come) rs alone =
-    let here : one_at r.addr r ≡ 1 = ap (λ (b : Bool). cond {A = ℕ} b 1 0) (eq-eqb r.addr r.addr refl) in
-    let both = alone r.addr in
-    let sums = sum_by-cons (one_at r.addr) r come in
-    let rest = distinct_new come rs (λ a. let s = sum_by-cons (one_at a) r come in let l = alone a in omega (arith, s, l)) in
-    ((none_counted r.addr come (omega (arith, here, both, sums)), rest.0), (none_counted r.addr rs (omega (arith, here, both, sums)), rest.1))
-
-pub can_come : (come rs : List Region) → ((a : ℕ) → count_by (starts_at a) (landing come rs) ≤ 1) → AreDistinct come × AreNew come rs
-can_come come rs alone = distinct_new come rs (λ a. let s = landing_sum (one_at a) come rs in let l = alone a in omega (arith, s, l))
+pub can_come : (come rs : List Region) → ((a : ℕ) → count_by (starts_at a) (landing come rs) ≤ 1) → AreDistinct addr_of come × AreNew addr_of come rs
+can_come come rs alone = distinct_new addr_of come rs (λ a. let s = landing_sum (λ r. bit (starts_at a r)) come rs in let l = alone a in omega (arith, s, l))
 
 -- one region of a class from an address on
 pub one_from : (client class first : ℕ) → regions_from client class first 1 ≡ region_of client class first ∷ []
 one_from client class first = let at : first + 0 * size_at class ≡ first = omega arith in ap (λ a. region_of client class a ∷ []) at
 
--- ---- what isn't there stays away
+-- regions that begin at one address are one
+same_region : (rs : List Region) (q r : Region) → IsRising addr_of rs → Contains rs q → Contains rs r → q.addr ≡ r.addr → q ≡ r
+same_region rs q r rising m n e =
+    let both : Some q ≡ Some r = sym (member_found addr_of rs q rising m) ∙ ap (λ a. find (starts_at a) rs) e ∙ member_found addr_of rs r rising n in
+    cc
 
-pub filter_absent : (a : ℕ) (rs : List Region) → find (starts_at a) rs ≡ None → filter (λ r. not (starts_at a r)) rs ≡ rs
-filter_absent a [] none = refl
-filter_absent a (r ∷ rs) none = go (eqb r.addr a) none (filter_absent a rs)
+-- a region that passes a test and begins at an address is what begins there
+pub found_so : (test : Region → Bool) (addr : ℕ) (rs : List Region) → IsRising addr_of rs → list_any (λ r. test r && starts_at addr r) rs ≡ true → (r : Region) × Contains rs r × (test r ≡ true) × (find (starts_at addr) rs ≡ Some r)
+found_so test addr rs rising there =
+    let m = any_from (λ r. test r && starts_at addr r) rs there in
+    let at = eqb-true (m.0).addr addr (and_right (test m.0) (starts_at addr m.0) m.2) in
+    (m.0, m.1, and_left (test m.0) (starts_at addr m.0) m.2, ap (λ a. find (starts_at a) rs) (sym at) ∙ member_found addr_of rs m.0 rising m.1)
   where
-    go : (b : Bool) → cond b (Some r) (find (starts_at a) rs) ≡ None → (find (starts_at a) rs ≡ None → filter (λ q. not (starts_at a q)) rs ≡ rs) →
-        cond (not b) (r ∷ filter (λ q. not (starts_at a q)) rs) (filter (λ q. not (starts_at a q)) rs) ≡ r ∷ rs
-    go true e later = absurd (cc)
-    go false e later = ap (λ qs. r ∷ qs) (later e)
+    and_left : (a b : Bool) → (a && b) ≡ true → a ≡ true
+    and_left true b e = refl
+    and_left false b e = e
 
-pub held_absent : (a : ℕ) (holder : Option ℕ) (rs : List Region) → find (starts_at a) rs ≡ None → held_anew (starts_at a) holder rs ≡ rs
-held_absent a holder [] none = refl
-held_absent a holder (r ∷ rs) none = go (eqb r.addr a) none (held_absent a holder rs)
-  where
-    go : (b : Bool) → cond b (Some r) (find (starts_at a) rs) ≡ None → (find (starts_at a) rs ≡ None → held_anew (starts_at a) holder rs ≡ rs) →
-        cond b (held_by holder r) r ∷ held_anew (starts_at a) holder rs ≡ r ∷ rs
-    go true e later = absurd (cc)
-    go false e later = ap (λ qs. r ∷ qs) (later e)
-
--- ---- what a client gives back
+    and_right : (a b : Bool) → (a && b) ≡ true → b ≡ true
+    and_right true b e = e
+    and_right false b e = absurd (cc)
 
 -- What the client's region at an address is, and what stays without it.
 pub record Given (c addr : ℕ) (rs : List Region) (r : Region) : Type 0 where
@@ -75,89 +51,43 @@ pub record Given (c addr : ℕ) (rs : List Region) (r : Region) : Type 0 where
   pub stay : staying c (addr ∷ []) rs ≡ filter (λ q. not (starts_at addr q)) rs
   pub gone : filter (is_given_back c (addr ∷ [])) rs ≡ r ∷ []
 
--- where all begin behind an address, none is given back there
-none_given : (c addr : ℕ) (rs : List Region) → AreBehind addr rs → (staying c (addr ∷ []) rs ≡ rs) × (filter (is_given_back c (addr ∷ [])) rs ≡ []) × (holds_at c rs addr ≡ false)
-none_given c addr [] behind = (refl, refl, refl)
-none_given c addr (r ∷ rs) behind =
-    let rest = none_given c addr rs behind.1 in
-    (grind (arith, nat_tests, behind.0, rest.0), grind (arith, nat_tests, behind.0, rest.1), grind (arith, nat_tests, behind.0, rest.2))
-
-pub gives : (c addr : ℕ) (rs : List Region) → IsRising rs → holds_at c rs addr ≡ true → (r : Region) × Given c addr rs r
-gives c addr [] rising held = absurd (cc)
-gives c addr (q ∷ qs) rising held = go (eqb q.addr addr) refl (gives c addr qs rising.1)
+pub gives : (c addr : ℕ) (rs : List Region) → IsRising addr_of rs → holds_at c rs addr ≡ true → (r : Region) × Given c addr rs r
+gives c addr rs rising held =
+    let r = found_so (is_held_by c) addr rs rising held in
+    let is = found (starts_at addr) rs r.0 r.3 in
+    let same : (q : Region) → Contains rs q → is_given_back c (addr ∷ []) q ≡ starts_at addr q = λ q m. each q (eqb q.addr addr) refl (λ e. ap (is_held_by c) (same_region rs q r.0 rising m r.1 (e ∙ sym (eqb-true _ _ is.1))) ∙ r.2) in (
+      r.0,
+      record {
+        found = r.3;
+        stay = filter_same (λ q. not (is_given_back c (addr ∷ []) q)) (λ q. not (starts_at addr q)) rs (λ q m. ap not (same q m));
+        gone = filter_same (is_given_back c (addr ∷ [])) (starts_at addr) rs same ∙ found_alone addr_of rs addr r.0 rising r.3;
+      },
+    )
   where
-    go : (b : Bool) → eqb q.addr addr ≡ b → (holds_at c qs addr ≡ true → (r : Region) × Given c addr qs r) → (r : Region) × Given c addr (q ∷ qs) r
-    go true is later =
-        let behind = subst (λ n. AreBehind n qs) (eqb-true _ _ is) rising.0 in
-        let none = none_given c addr qs behind in
-        let mine : is_held_by c q ≡ true = grind (arith, nat_tests, none.2, held) in
-        let given : is_given_back c (addr ∷ []) q ≡ true = grind (arith, nat_tests, mine, is) in (
-          q,
-          record {
-            found = rw is refl;
-            stay = rw (given, is) (none.0 ∙ sym (others_stay addr qs behind));
-            gone = rw given (ap (λ rs. q ∷ rs) none.1);
-          },
-        )
-    go false is later =
-        let rest = later (grind (arith, nat_tests, is, held)) in
-        let given : is_given_back c (addr ∷ []) q ≡ false = grind (arith, nat_tests, is) in (
-          rest.0,
-          record {
-            found = rw is rest.1.found;
-            stay = rw (given, is) (ap (λ rs. q ∷ rs) rest.1.stay);
-            gone = rw given rest.1.gone;
-          },
-        )
+    each : (q : Region) (b : Bool) → eqb q.addr addr ≡ b → (q.addr ≡ addr → is_held_by c q ≡ true) → is_given_back c (addr ∷ []) q ≡ starts_at addr q
+    each q true e mine = let m = mine (eqb-true _ _ e) in grind (arith, nat_tests, m, e)
+    each q false e mine = grind (arith, nat_tests, e)
 
--- ---- a published region
-
-none_published : (addr : ℕ) (rs : List Region) → AreBehind addr rs → find (is_published_at addr) rs ≡ None
-none_published addr [] behind = refl
-none_published addr (r ∷ rs) behind = grind (arith, nat_tests, behind.0, none_published addr rs behind.1)
-
-pub published : (addr : ℕ) (rs : List Region) → IsRising rs → find (is_published_at addr) rs ≡ if_published (find (starts_at addr) rs)
-published addr [] rising = refl
-published addr (r ∷ rs) rising = go (eqb r.addr addr) refl (published addr rs rising.1)
+-- what is published at an address is what begins there, if that is published
+pub published : (addr : ℕ) (rs : List Region) → IsRising addr_of rs → find (is_published_at addr) rs ≡ if_published (find (starts_at addr) rs)
+published addr rs rising = by (find (starts_at addr) rs) refl
   where
-    go : (b : Bool) → eqb r.addr addr ≡ b → find (is_published_at addr) rs ≡ if_published (find (starts_at addr) rs) → find (is_published_at addr) (r ∷ rs) ≡ if_published (find (starts_at addr) (r ∷ rs))
-    go true is later =
-        let none = none_published addr rs (subst (λ n. AreBehind n rs) (eqb-true _ _ is) rising.0) in
-        rw is (own (is_published r) refl none)
-      where
-        own : (p : Bool) → is_published r ≡ p → find (is_published_at addr) rs ≡ None → cond (p && true) (Some r) (find (is_published_at addr) rs) ≡ cond p (Some r) None
-        own true e none = refl
-        own false e none = none
-    go false is later =
-        let other : is_published_at addr r ≡ false = grind (arith, nat_tests, is) in
-        rw (other, is) later
+    closer : (x : Region) → is_published_at addr x ≡ true → starts_at addr x ≡ true
+    closer x t = grind (arith, t)
 
--- where some region begins at an address, it is found
-pub there_found : (a : ℕ) (rs : List Region) → list_any (starts_at a) rs ≡ true → (r : Region) × (find (starts_at a) rs ≡ Some r)
-there_found a [] there = absurd (cc)
-there_found a (r ∷ rs) there = go (eqb r.addr a) refl (there_found a rs)
-  where
-    go : (b : Bool) → eqb r.addr a ≡ b → (list_any (starts_at a) rs ≡ true → (q : Region) × (find (starts_at a) rs ≡ Some q)) → (q : Region) × (find (starts_at a) (r ∷ rs) ≡ Some q)
-    go true is later = (r, rw is refl)
-    go false is later = let rest = later (grind (arith, nat_tests, is, there)) in (rest.0, rw is rest.1)
+    own : (x y : Region) → Contains rs x → Contains rs y → starts_at addr x ≡ true → starts_at addr y ≡ true → y ≡ x
+    own x y m n t u = same_region rs y x rising n m (eqb-true _ _ u ∙ sym (eqb-true _ _ t))
 
-pub found_any : (a : ℕ) (rs : List Region) (r : Region) → find (starts_at a) rs ≡ Some r → list_any (starts_at a) rs ≡ true
-found_any a [] r e = absurd (cc)
-found_any a (q ∷ qs) r e = go (eqb q.addr a) refl e (found_any a qs r)
-  where
-    go : (b : Bool) → eqb q.addr a ≡ b → cond b (Some q) (find (starts_at a) qs) ≡ Some r → (find (starts_at a) qs ≡ Some r → list_any (starts_at a) qs ≡ true) → list_any (starts_at a) (q ∷ qs) ≡ true
-    go true is f later = rw is refl
-    go false is f later = rw is (later f)
+    by : (o : Option Region) → find (starts_at addr) rs ≡ o → find (is_published_at addr) rs ≡ if_published o
+    by None e = find_closer (is_published_at addr) (starts_at addr) rs (λ x m. closer x) own None e
+    by (Some y) e = let t = (found (starts_at addr) rs y e).1 in find_closer (is_published_at addr) (starts_at addr) rs (λ x m. closer x) own (Some y) e ∙ grind (arith, t)
 
 -- every region is held by nobody, by a client, or by another one
 pub all_held : (client : ℕ) (rs : List Region) → count_by (λ r. eqb (code_of r.holder) 0) rs + count_by (λ r. eqb (code_of r.holder) (client + 1)) rs + count_by (is_held_by_other client) rs ≡ length rs
 all_held client [] = refl
 all_held client (r ∷ rs) =
-    omega (arith, all_held client rs, sum_by-cons (λ (q : Region). one (eqb (code_of q.holder) 0)) r rs, sum_by-cons (λ (q : Region). one (eqb (code_of q.holder) (client + 1))) r rs, sum_by-cons (λ (q : Region). one (is_held_by_other client q)) r rs, here r.holder)
+    omega (arith, all_held client rs, sum_by-cons (λ (q : Region). bit (eqb (code_of q.holder) 0)) r rs, sum_by-cons (λ (q : Region). bit (eqb (code_of q.holder) (client + 1))) r rs, sum_by-cons (λ (q : Region). bit (is_held_by_other client q)) r rs, here r.holder)
   where
-    one : Bool → ℕ
-    one b = cond b 1 0
-
-    here : (o : Option ℕ) → one (eqb (code_of o) 0) + one (eqb (code_of o) (client + 1)) + one (is_held_by_other client (record { addr = r.addr; class = r.class; holder = o })) ≡ 1
+    here : (o : Option ℕ) → bit (eqb (code_of o) 0) + bit (eqb (code_of o) (client + 1)) + bit (is_held_by_other client (record { addr = r.addr; class = r.class; holder = o })) ≡ 1
     here None = grind (arith, nat_tests)
     here (Some c) = grind (arith, nat_tests)

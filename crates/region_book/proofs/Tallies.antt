@@ -1,146 +1,122 @@
--- The totals of regions as some come, one goes, or one gets another holder.
-use Rattle.std.proofs.Common.{◌≡◌, ◌≢◌, ℕ, ◌+◌, ◌-◌, ◌*◌, ◌<◌, ◌≤◌, ◌^◌, Bool, true, false, not, cond, eqb, eq-eqb, ne_eqb, ltb as nat_lt, List, [], ◌∷◌, get_or, set, map, length, count_by, Option, None, Some, sym, refl, ap, ◌∙◌, arith, subst}
-use mathlib.Core.Logic.{dite}
-use native.Mathlib.Decide.{ℕ_discrete}
-use Rattle.std.specs.List.{AllByRecursion as Every, range_with_len, sum_by}
-use Rattle.std.proofs.lemmas.Bool.Decides.{nat_tests}
-use Rattle.std.proofs.lemmas.List.Sums.{sum_by-cons, sum_by-le-sum_by}
+-- The totals of regions as some come or go.
+use Rattle.std.proofs.Common.{◌≡◌, ◌≢◌, ℕ, ◌+◌, ◌*◌, ◌<◌, ◌≤◌, ◌^◌, Bool, true, false, cond, eqb, eq-eqb, ne_eqb, ltb as nat_lt, List, [], ◌∷◌, get_or, map, length, count_by, Option, Some, sym, refl, ap, ◌∙◌, arith}
+use Rattle.std.specs.List.{AllByRecursion as Every, position_or_len, sum_by}
+use Rattle.std.proofs.lemmas.List.Sums.{sum_by-cons, sum_by-insert, sum_by-le-sum_by}
 use Rattle.size_classes.specs.Classes.{size_at}
 use Rattle.size_classes.proofs.Table.{size_bounds}
 use Rattle.space_model.specs.declared.parts.Region.{Region}
-use Rattle.space_model.specs.Counts.{region_bytes, region_bytes_where, regions_by_class}
+use Rattle.space_model.specs.Region.{inserted, landing, region_of}
+use Rattle.space_model.specs.Counts.{region_bytes, region_bytes_where}
+use Rattle.list_facts.specs.Codes.{code_of}
+use Rattle.list_facts.proofs.Members.{bit}
 use Rattle.region_book.specs.declared.totals.Totals.{Totals}
-use Rattle.region_book.specs.RegionLists.{IsOf, code_of}
-use Rattle.region_book.specs.Totals.{AreTotals, regions_by_holder, small_size_at}
-use Rattle.region_book.proofs.ByClass.{at_tally, number_of, tally, written}
+use Rattle.region_book.specs.RegionLists.{IsOf}
+use Rattle.region_book.specs.Totals.{AreMore, AreTotals, CanGrow, CanShrink, small_size_at}
+use Rattle.region_book.proofs.ByClass.{at_tally, tally_less, tally_more}
 
--- so many regions of a class came, with one holder
-abbrev pub HaveCome : ℕ → Option ℕ → ℕ → List Region → List Region → Type 0
-HaveCome class holder count old new = (f : Region → ℕ) (k : ℕ) → ((a : ℕ) → f (record { addr = a; class = class; holder = holder }) ≡ k) → sum_by f new ≡ sum_by f old + count * k
+-- how many regions are of a class, and how many a holder has
+abbrev pub number_of : List Region → ℕ → ℕ
+number_of regions class = count_by (λ r. eqb r.class class) regions
 
--- a region went
-abbrev pub HasGone : Region → List Region → List Region → Type 0
-HasGone r old new = (f : Region → ℕ) → sum_by f new + f r ≡ sum_by f old
-
--- 1 where it is so, and else 0
-abbrev one_if : Bool → ℕ
-one_if b = cond b 1 0
-
-one_at : (k : ℕ) → one_if (eqb k k) ≡ 1
-one_at k = ap one_if (eq-eqb k k refl)
-
-none_at : (k j : ℕ) → k ≢ j → one_if (eqb k j) ≡ 0
-none_at k j other = ap one_if (ne_eqb k j other)
-
--- how many regions a holder has
 abbrev pub held_of : List Region → ℕ → ℕ
 held_of regions code = count_by (λ r. eqb (code_of r.holder) code) regions
 
--- where each counts one at most, there are no more than all have bytes
-pub at_most_bytes : (f : Region → ℕ) (rs : List Region) → ((r : Region) → f r ≤ 1) → Every (IsOf 0 121) rs → sum_by f rs ≤ region_bytes rs
-at_most_bytes f [] one of = omega arith
-at_most_bytes f (r ∷ rs) one of =
-    omega (arith, one r, size_bounds r.class of.0.class, at_most_bytes f rs one of.1, sum_by-cons f r rs, sum_by-cons (λ (q : Region). size_at q.class) r rs)
+-- so many regions of a class and a holder are there besides
+abbrev pub HaveCome : ℕ → Option ℕ → ℕ → List Region → List Region → Type 0
+HaveCome class holder count old new = (f : Region → ℕ) (k : ℕ) → ((a : ℕ) → f (record { addr = a; class = class; holder = holder }) ≡ k) → sum_by f new ≡ sum_by f old + count * k
 
-one_most : (b : Bool) → one_if b ≤ 1
-one_most true = omega arith
-one_most false = omega arith
+-- ---- regions that come
+
+pub one_comes : (r : Region) (rs : List Region) → HaveCome r.class r.holder 1 rs (inserted r rs)
+one_comes r rs f k same = omega (arith, same r.addr, sum_by-insert f rs (position_or_len (λ (q : Region). nat_lt r.addr q.addr) rs) r)
+
+pub landing_sum : (f : Region → ℕ) (come rs : List Region) → sum_by f (landing come rs) ≡ sum_by f rs + sum_by f come
+landing_sum f [] rs = omega arith
+landing_sum f (r ∷ come) rs = omega (arith, landing_sum f come (inserted r rs), sum_by-insert f rs (position_or_len (λ (q : Region). nat_lt r.addr q.addr) rs) r, sum_by-cons f r come)
+
+pub some_come : {X : Type 0} (client class : ℕ) (g : X → ℕ) (xs : List X) (rs : List Region) → HaveCome class (Some client) (length xs) rs (landing (map (λ x. region_of client class (g x)) xs) rs)
+some_come client class g xs rs f k same = landing_sum f (map (λ x. region_of client class (g x)) xs) rs ∙ ap (λ n. sum_by f rs + n) (alike xs)
+  where
+    alike : (xs : List _) → sum_by f (map (λ x. region_of client class (g x)) xs) ≡ length xs * k
+    alike [] = omega arith
+    alike (x ∷ xs) = let n = length xs in omega (arith, sum_by-cons f (region_of client class (g x)) (map (λ y. region_of client class (g y)) xs), same (g x), alike xs)
+
+-- ---- the totals afterwards, and before
+
+one_at : (k : ℕ) → bit (eqb k k) ≡ 1
+one_at k = ap bit (eq-eqb k k refl)
+
+none_at : (k j : ℕ) → k ≢ j → bit (eqb k j) ≡ 0
+none_at k j other = ap bit (ne_eqb k j other)
 
 -- as many ones as regions
 all_count : (rs : List Region) → sum_by (λ r. 1) rs ≡ length rs
 all_count [] = refl
 all_count (r ∷ rs) = omega (arith, all_count rs, sum_by-cons (λ (q : Region). 1) r rs)
 
--- ---- some come
+module _ (class : ℕ) (holder : Option ℕ) (count : ℕ) (less more : List Region) (come : HaveCome class holder count less more) where
+  number : length more ≡ length less + count
+  number = sym (all_count more) ∙ (let n = come (λ r. 1) 1 (λ a. refl) in omega (arith, n, all_count less))
 
-pub classes_come : (class : ℕ) (holder : Option ℕ) (count : ℕ) (old new : List Region) → class < 121 → HaveCome class holder count old new →
-    set (regions_by_class 0 121 old) class (get_or (regions_by_class 0 121 old) class 0 + count) ≡ regions_by_class 0 121 new
-classes_come class holder count old new low come =
-    written (number_of old) (number_of new) 121 class _ low
-    (let was = at_tally (number_of old) 121 class low in let more = come (λ r. one_if (eqb r.class class)) 1 (λ a. one_at class) in omega (arith, was, more))
-    (λ k lt other. let more = come (λ r. one_if (eqb r.class k)) 0 (λ a. none_at class k (λ e. other (sym e))) in omega (arith, more))
+  of_class : number_of more class ≡ number_of less class + count
+  of_class = let n = come (λ r. bit (eqb r.class class)) 1 (λ a. one_at class) in omega (arith, n)
 
-pub holders_come : (class : ℕ) (holder : Option ℕ) (count : ℕ) (old new : List Region) → code_of holder < 33 → HaveCome class holder count old new →
-    set (regions_by_holder old) (code_of holder) (get_or (regions_by_holder old) (code_of holder) 0 + count) ≡ regions_by_holder new
-holders_come class holder count old new low come =
-    written (held_of old) (held_of new) 33 (code_of holder) _ low
-    (let was = at_tally (held_of old) 33 (code_of holder) low in let more = come (λ r. one_if (eqb (code_of r.holder) (code_of holder))) 1 (λ a. one_at (code_of holder)) in omega (arith, was, more))
-    (λ k lt other. let more = come (λ r. one_if (eqb (code_of r.holder) k)) 0 (λ a. none_at (code_of holder) k (λ e. other (sym e))) in omega (arith, more))
+  other_class : (k : ℕ) → k ≢ class → number_of more k ≡ number_of less k
+  other_class k other = let n = come (λ r. bit (eqb r.class k)) 0 (λ a. none_at class k (λ e. other (sym e))) in omega (arith, n)
 
--- What is asked of totals before regions come, and what they are then.
-pub record Comes (class : ℕ) (holder : Option ℕ) (count : ℕ) (t : Totals) (new : List Region) : Type 0 where
-  pub bytes : t.bytes + count * size_at class < 2 ^ 64
-  pub small : t.small + count * small_size_at class < 2 ^ 64
-  pub of_class : get_or t.classes class 0 + count < 2 ^ 64
-  pub of_holder : get_or t.holders (code_of holder) 0 + count < 2 ^ 64
-  pub number : t.number + count < 2 ^ 64
-  pub are : (u : Totals) → u.number ≡ t.number + count → u.bytes ≡ t.bytes + count * size_at class → u.small ≡ t.small + count * small_size_at class →
-      u.classes ≡ set t.classes class (get_or t.classes class 0 + count) → u.holders ≡ set t.holders (code_of holder) (get_or t.holders (code_of holder) 0 + count) → AreTotals u new
+  of_holder : held_of more (code_of holder) ≡ held_of less (code_of holder) + count
+  of_holder = let n = come (λ r. bit (eqb (code_of r.holder) (code_of holder))) 1 (λ a. one_at (code_of holder)) in omega (arith, n)
 
-pub comes : (class : ℕ) (holder : Option ℕ) (count : ℕ) (t : Totals) (old new : List Region) → class < 121 → code_of holder < 33 → Every (IsOf 0 121) new →
-    AreTotals t old → HaveCome class holder count old new → region_bytes new < 2 ^ 64 → Comes class holder count t new
-comes class holder count t old new low held of are come fits =
-    let bytes = come (λ r. size_at r.class) (size_at class) (λ a. refl) in
-    let small = come (λ r. small_size_at r.class) (small_size_at class) (λ a. refl) in
-    let of_class = come (λ r. one_if (eqb r.class class)) 1 (λ a. one_at class) in
-    let of_holder = come (λ r. one_if (eqb (code_of r.holder) (code_of holder))) 1 (λ a. one_at (code_of holder)) in
-    let number : length new ≡ length old + count = sym (all_count new) ∙ (let n = come (λ r. 1) 1 (λ a. refl) in omega (arith, n, all_count old)) in
-    record {
-      number = omega (arith, number, are.number, at_most_bytes (λ r. 1) new (λ r. omega arith) of, all_count new, fits);
-      bytes = omega (arith, bytes, are.bytes, fits);
-      small = omega (arith, small, are.small, fits, small_few new);
-      of_class = omega (arith, of_class, ap (λ l. get_or l class 0) are.classes, at_tally (number_of old) 121 class low, at_most_bytes (λ r. one_if (eqb r.class class)) new (λ r. one_most (eqb r.class class)) of, fits);
-      of_holder = omega (arith, of_holder, ap (λ l. get_or l (code_of holder) 0) are.holders, at_tally (held_of old) 33 (code_of holder) held, at_most_bytes (λ r. one_if (eqb (code_of r.holder) (code_of holder))) new (λ r. one_most (eqb (code_of r.holder) (code_of holder))) of, fits);
-      are = λ u m b s c h. record {
-        number = omega (arith, m, number, are.number);
-        bytes = omega (arith, b, bytes, are.bytes);
-        small = omega (arith, s, small, are.small);
-        classes = c ∙ ap (λ l. set l class (get_or l class 0 + count)) are.classes ∙ classes_come class holder count old new low come;
-        holders = h ∙ ap (λ l. set l (code_of holder) (get_or l (code_of holder) 0 + count)) are.holders ∙ holders_come class holder count old new held come;
-      };
-    }
-  where
-    small_few : (rs : List Region) → region_bytes_where (λ c. nat_lt c 36) rs ≤ region_bytes rs
-    small_few rs = sum_by-le-sum_by (λ r. small_size_at r.class) (λ r. size_at r.class) rs (λ r. elim (nat_lt r.class 36) as (λ b. cond b (size_at r.class) 0 ≤ size_at r.class) [ true ↦ omega arith | false ↦ omega arith ])
+  other_holder : (k : ℕ) → k ≢ code_of holder → held_of more k ≡ held_of less k
+  other_holder k other = let n = come (λ r. bit (eqb (code_of r.holder) k)) 0 (λ a. none_at (code_of holder) k (λ e. other (sym e))) in omega (arith, n)
 
--- ---- one goes
+  pub totals_more : (t u : Totals) → AreMore class holder count t u → AreTotals t less → AreTotals u more
+  totals_more t u are totals = record {
+    bytes = let n = come (λ r. size_at r.class) (size_at class) (λ a. refl) in omega (arith, n, are.bytes, totals.bytes);
+    small = let n = come (λ r. small_size_at r.class) (small_size_at class) (λ a. refl) in omega (arith, n, are.small, totals.small);
+    classes = tally_more (number_of less) (number_of more) 121 class count t.classes u.classes are.classes of_class other_class totals.classes;
+    number = omega (arith, number, are.number, totals.number);
+    holders = tally_more (held_of less) (held_of more) 33 (code_of holder) count t.holders u.holders are.holders of_holder other_holder totals.holders;
+  }
 
--- What is asked of totals before a region goes, and what they are then.
-pub record Leaves (r : Region) (t : Totals) (new : List Region) : Type 0 where
-  pub bytes : size_at r.class ≤ t.bytes
-  pub small : small_size_at r.class ≤ t.small
-  pub of_class : 0 < get_or t.classes r.class 0
-  pub of_holder : 0 < get_or t.holders (code_of r.holder) 0
-  pub number : 0 < t.number
-  pub are : (u : Totals) → u.number + 1 ≡ t.number → u.bytes + size_at r.class ≡ t.bytes → u.small + small_size_at r.class ≡ t.small →
-      u.classes ≡ set t.classes r.class (get_or t.classes r.class 0 - 1) → u.holders ≡ set t.holders (code_of r.holder) (get_or t.holders (code_of r.holder) 0 - 1) → AreTotals u new
+  pub totals_less : (t u : Totals) → AreMore class holder count t u → AreTotals u more → AreTotals t less
+  totals_less t u are totals = record {
+    bytes = let n = come (λ r. size_at r.class) (size_at class) (λ a. refl) in omega (arith, n, are.bytes, totals.bytes);
+    small = let n = come (λ r. small_size_at r.class) (small_size_at class) (λ a. refl) in omega (arith, n, are.small, totals.small);
+    classes = tally_less (number_of less) (number_of more) 121 class count t.classes u.classes are.classes of_class other_class totals.classes;
+    number = omega (arith, number, are.number, totals.number);
+    holders = tally_less (held_of less) (held_of more) 33 (code_of holder) count t.holders u.holders are.holders of_holder other_holder totals.holders;
+  }
 
-pub leaves : (r : Region) (t : Totals) (old new : List Region) → r.class < 121 → code_of r.holder < 33 → AreTotals t old → HasGone r old new → Leaves r t new
-leaves r t old new low held are gone =
-    let bytes = gone (λ q. size_at q.class) in
-    let small = gone (λ q. small_size_at q.class) in
-    let class_was = at_tally (number_of old) 121 r.class low in
-    let holder_was = at_tally (held_of old) 33 (code_of r.holder) held in
-    let class_one = one_at r.class in
-    let holder_one = one_at (code_of r.holder) in
-    let of_class = gone (λ q. one_if (eqb q.class r.class)) in
-    let of_holder = gone (λ q. one_if (eqb (code_of q.holder) (code_of r.holder))) in
-    let number : length new + 1 ≡ length old = let n = gone (λ q. 1) in omega (arith, n, all_count old, all_count new) in
-    record {
-      number = omega (arith, number, are.number);
-      bytes = omega (arith, bytes, are.bytes);
-      small = omega (arith, small, are.small);
-      of_class = omega (arith, of_class, class_one, class_was, ap (λ l. get_or l r.class 0) are.classes);
-      of_holder = omega (arith, of_holder, holder_one, holder_was, ap (λ l. get_or l (code_of r.holder) 0) are.holders);
-      are = λ u m b s c h. record {
-        number = omega (arith, m, number, are.number);
-        bytes = omega (arith, b, bytes, are.bytes);
-        small = omega (arith, s, small, are.small);
-        classes = c ∙ ap (λ l. set l r.class (get_or l r.class 0 - 1)) are.classes
-            ∙ written (number_of old) (number_of new) 121 r.class _ low (omega (arith, of_class, class_one, class_was))
-            (λ k lt other. let less = gone (λ q. one_if (eqb q.class k)) in omega (arith, less, none_at r.class k (λ e. other (sym e))));
-        holders = h ∙ ap (λ l. set l (code_of r.holder) (get_or l (code_of r.holder) 0 - 1)) are.holders
-            ∙ written (held_of old) (held_of new) 33 (code_of r.holder) _ held (omega (arith, of_holder, holder_one, holder_was))
-            (λ k lt other. let less = gone (λ q. one_if (eqb (code_of q.holder) k)) in omega (arith, less, none_at (code_of r.holder) k (λ e. other (sym e))));
-      };
-    }
+  -- where each counts one at most, there are no more than all have bytes
+  few : (f : Region → ℕ) (rs : List Region) → ((r : Region) → f r ≤ 1) → Every (IsOf 0 121) rs → sum_by f rs ≤ region_bytes rs
+  few f [] one of = omega arith
+  few f (r ∷ rs) one of = omega (arith, one r, size_bounds r.class of.0.class, few f rs one of.1, sum_by-cons f r rs, sum_by-cons (λ (q : Region). size_at q.class) r rs)
+
+  one_most : (b : Bool) → bit b ≤ 1
+  one_most b = grind arith
+
+  pub can_grow : (t : Totals) → class < 121 → code_of holder < 33 → AreTotals t less → Every (IsOf 0 121) more → region_bytes more < 2 ^ 64 → CanGrow class holder count t
+  can_grow t low held totals of fits = record {
+    low = low;
+    known = held;
+    number = omega (arith, number, totals.number, few (λ r. 1) more (λ r. omega arith) of, all_count more, fits);
+    bytes = let n = come (λ r. size_at r.class) (size_at class) (λ a. refl) in omega (arith, n, totals.bytes, fits);
+    small = let n = come (λ r. small_size_at r.class) (small_size_at class) (λ a. refl) in omega (arith, n, totals.small, fits, small_few more);
+    of_class = omega (arith, of_class, ap (λ l. get_or l class 0) totals.classes, at_tally (number_of less) 121 class low, few (λ r. bit (eqb r.class class)) more (λ r. one_most (eqb r.class class)) of, fits);
+    of_holder = omega (arith, of_holder, ap (λ l. get_or l (code_of holder) 0) totals.holders, at_tally (held_of less) 33 (code_of holder) held, few (λ r. bit (eqb (code_of r.holder) (code_of holder))) more (λ r. one_most (eqb (code_of r.holder) (code_of holder))) of, fits);
+  }
+    where
+      small_few : (rs : List Region) → region_bytes_where (λ c. nat_lt c 36) rs ≤ region_bytes rs
+      small_few rs = sum_by-le-sum_by (λ r. small_size_at r.class) (λ r. size_at r.class) rs (λ r. elim (nat_lt r.class 36) as (λ b. cond b (size_at r.class) 0 ≤ size_at r.class) [ true ↦ omega arith | false ↦ omega arith ])
+
+pub can_shrink : (class : ℕ) (holder : Option ℕ) (less more : List Region) (t : Totals) → HaveCome class holder 1 less more → class < 121 → code_of holder < 33 → AreTotals t more → CanShrink class holder t
+can_shrink class holder less more t come low held totals = record {
+  low = low;
+  known = held;
+  number = omega (arith, number class holder 1 less more come, totals.number);
+  bytes = let n = come (λ r. size_at r.class) (size_at class) (λ a. refl) in omega (arith, n, totals.bytes);
+  small = let n = come (λ r. small_size_at r.class) (small_size_at class) (λ a. refl) in omega (arith, n, totals.small);
+  of_class = omega (arith, of_class class holder 1 less more come, ap (λ l. get_or l class 0) totals.classes, at_tally (number_of more) 121 class low);
+  of_holder = omega (arith, of_holder class holder 1 less more come, ap (λ l. get_or l (code_of holder) 0) totals.holders, at_tally (held_of more) 33 (code_of holder) held);
+}

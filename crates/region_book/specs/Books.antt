@@ -1,9 +1,11 @@
 -- What a book shows of its regions.
-use Rattle.std.specs.Prelude.{ℕ, min, List}
+use Rattle.std.specs.Prelude.{min, List}
 use Rattle.std.specs.List.{AllByRecursion as Every}
 use Rattle.space_model.specs.declared.parts.Region.{Region}
 use Rattle.space_model.specs.Region.{landing}
-use Rattle.region_book.specs.RegionLists.{AreApart, IsOf, Regions}
+use Rattle.list_facts.specs.ByKey.{AreApart}
+use Rattle.large_book.specs.Larges.{addr_of}
+use Rattle.region_book.specs.RegionLists.{IsOf, Regions}
 use Rattle.region_book.specs.Totals.{AreTotals}
 use Rattle.region_book.specs.declared.RegionBook.TheInside.{Inside}
 
@@ -17,7 +19,7 @@ shown book = record { regions = regions_in book; slabs = book.bins.slabs; places
 
 -- no region is in both books, those in slabs are small, and the totals are those of all
 pub record IsBook (book : Inside) : Type 0 where
-  pub apart : AreApart book.larges.regions book.bins.regions
+  pub apart : AreApart addr_of book.larges.regions book.bins.regions
   pub larges : Every (IsOf 36 121) book.larges.regions
   pub smalls : Every (IsOf 0 36) book.bins.regions
   pub totals : AreTotals book.totals (regions_in book)

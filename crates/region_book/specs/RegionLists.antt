@@ -1,9 +1,10 @@
 -- The regions of an arena as contracts see them, by address.
-use Rattle.std.specs.Prelude.{◌≡◌, ℕ, ◌+◌, ◌<◌, ◌≤◌, ◌^◌, false, List, [], ◌∷◌, find, count_by, Option, None, Some, if◌then◌else◌}
-use Rattle.std.specs.List.{AllByRecursion as Every, list_any}
+use Rattle.std.specs.Prelude.{◌≡◌, ℕ, ◌+◌, ◌<◌, ◌≤◌, ◌^◌, false, List, count_by, Option, None, Some, if◌then◌else◌}
+use Rattle.std.specs.List.{list_any}
 use Rattle.size_classes.specs.Classes.{pages_at, regions_at}
 use Rattle.space_model.specs.declared.parts.Region.{Region}
 use Rattle.space_model.specs.Region.{is_published, landing, starts_at}
+use Rattle.large_book.specs.Larges.{IsHolder}
 use Rattle.space_model.specs.Counts.{region_bytes}
 use Rattle.bin_book.specs.Bins.{Slab, meets_slab}
 
@@ -12,30 +13,6 @@ pub record Regions : Type 0 where
   pub regions : List Region
   pub slabs : List Slab
   pub places : ℕ
-
--- a holder as a number: 0 for none, and else one more than the client's
-abbrev pub code_of : Option ℕ → ℕ
-code_of None = 0
-code_of (Some client) = client + 1
-
--- all regions of the list begin behind an address
-abbrev pub AreBehind : ℕ → List Region → Type 0
-AreBehind addr rs = Every (λ r. addr < r.addr) rs
-
--- each region begins behind the one before it
-abbrev pub IsRising : List Region → Type 0
-IsRising [] = Unit {0}
-IsRising (r ∷ rs) = AreBehind r.addr rs × IsRising rs
-
--- none of the regions begins where one of the others does
-abbrev pub AreNew : List Region → List Region → Type 0
-AreNew come rs = Every (λ (r : Region). find (starts_at r.addr) rs ≡ None) come
-
--- two rising lists without a common address
-pub record AreApart (xs ys : List Region) : Type 0 where
-  pub left : IsRising xs
-  pub right : IsRising ys
-  pub new : AreNew xs ys
 
 -- regions can come where no two begin at one address afterwards, and the bytes of all are a number
 pub record CanCome (come regions : List Region) : Type 0 where
@@ -53,11 +30,6 @@ pub record CanBeSlab (class first count : ℕ) (slabs : List Slab) : Type 0 wher
 abbrev pub if_published : Option Region → Option Region
 if_published None = None
 if_published (Some r) = if is_published r then Some r else None
-
--- nobody, or one of the 32 clients
-abbrev pub IsHolder : Option ℕ → Type 0
-IsHolder None = Unit {0}
-IsHolder (Some client) = client < 32
 
 -- the region is of a class from one on and below another, and held by nobody or one of the clients
 pub record IsOf (low high : ℕ) (r : Region) : Type 0 where

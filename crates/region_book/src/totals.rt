@@ -1,9 +1,8 @@
 //! What the regions of an arena come to.
 
-ghost use Rattle.std.specs.Prelude.{◌≡◌, ◌+◌, ◌-◌, ◌*◌, ◌<◌, ◌≤◌, ◌^◌, [], Option, Some, None, IfSome, nat_lt, slice_index_or, slice_set, if◌then◌else◌};
-ghost use Rattle.size_classes.specs.Classes.{size_at};
-ghost use Rattle.region_book.specs.RegionLists.{code_of};
-ghost use Rattle.region_book.specs.Totals.{AreTotals, small_size_at};
+ghost use Rattle.std.specs.Prelude.{◌≡◌, ◌<◌, ◌≤◌, ◌^◌, []};
+ghost use Rattle.list_facts.specs.Codes.{code_of};
+ghost use Rattle.region_book.specs.Totals.{AreMore, AreTotals, CanGrow, CanShrink, small_size_at};
 
 use size_classes::{CLASSES, SMALL_CLASSES, size_of};
 
@@ -62,18 +61,8 @@ impl Totals {
 
     /// So many regions of a class come, with this holder.
     pub fn add(&mut self, class: u8, holder: Option<u32>, count: u64)
-        requires class { class < 121 }
-        requires holder { code_of holder < 33 }
-        requires number { self.old.number + count < 2 ^ 64 }
-        requires bytes { self.old.bytes + count * size_at class < 2 ^ 64 }
-        requires small { self.old.small + count * small_size_at class < 2 ^ 64 }
-        requires of_class { slice_index_or self.old.classes class 0 + count < 2 ^ 64 }
-        requires of_holder { slice_index_or self.old.holders (code_of holder) 0 + count < 2 ^ 64 }
-        ensures number { self.new.number ≡ self.old.number + count }
-        ensures bytes { self.new.bytes ≡ self.old.bytes + count * size_at class }
-        ensures small { self.new.small ≡ self.old.small + count * small_size_at class }
-        ensures classes { self.new.classes ≡ slice_set self.old.classes class (slice_index_or self.old.classes class 0 + count) }
-        ensures holders { self.new.holders ≡ slice_set self.old.holders (code_of holder) (slice_index_or self.old.holders (code_of holder) 0 + count) }
+        requires { CanGrow class holder count self.old }
+        ensures { AreMore class holder count self.old self.new }
     {
         self.number += count;
         self.bytes += count * size_of(class);
@@ -84,18 +73,8 @@ impl Totals {
 
     /// A region of a class goes, which had this holder.
     pub fn remove(&mut self, class: u8, holder: Option<u32>)
-        requires class { class < 121 }
-        requires holder { code_of holder < 33 }
-        requires number { 0 < self.old.number }
-        requires bytes { size_at class ≤ self.old.bytes }
-        requires small { small_size_at class ≤ self.old.small }
-        requires of_class { 0 < slice_index_or self.old.classes class 0 }
-        requires of_holder { 0 < slice_index_or self.old.holders (code_of holder) 0 }
-        ensures number { self.new.number + 1 ≡ self.old.number }
-        ensures bytes { self.new.bytes + size_at class ≡ self.old.bytes }
-        ensures small { self.new.small + small_size_at class ≡ self.old.small }
-        ensures classes { self.new.classes ≡ slice_set self.old.classes class (slice_index_or self.old.classes class 0 - 1) }
-        ensures holders { self.new.holders ≡ slice_set self.old.holders (code_of holder) (slice_index_or self.old.holders (code_of holder) 0 - 1) }
+        requires { CanShrink class holder self.old }
+        ensures { AreMore class holder 1 self.new self.old }
     {
         self.number -= 1;
         self.bytes -= size_of(class);

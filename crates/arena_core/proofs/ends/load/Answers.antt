@@ -1,7 +1,7 @@
 use Rattle.std.proofs.Common.{arith}
 use Rattle.space_model.proofs.Bounds.{cached_least, held_apart}
 use Rattle.arena_core.specs.Indexes.{space_of}
-use Rattle.arena_core.proofs.Loads.{flights_few, flights_of_others}
+use Rattle.arena_core.proofs.Totals.{flights_few, flights_of_others}
 use Rattle.arena_core.proofs.ends.load.Goals as goal
 
 pub overflow_add-held : goal.overflow_add-held

@@ -5,7 +5,7 @@ use Rattle.space_model.specs.declared.parts.Rest.TheVariants.{Dirty, Muzzy, Reta
 use Rattle.space_model.specs.Part.{listed, moved_to}
 use Rattle.arena_core.specs.Extents.{goes_to}
 use Rattle.arena_core.proofs.Swaps.{there_placed}
-use Rattle.arena_core.proofs.Turns.{none_ahead, walk_begins, walk_ends, walk_goes}
+use Rattle.arena_core.proofs.Rounds.{none_ahead, walk_begins, walk_ends, walk_goes}
 use Rattle.arena_core.proofs.ends.move_all.Goals as goal
 
 -- what is listed somewhere doesn't go there

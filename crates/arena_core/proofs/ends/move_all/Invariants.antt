@@ -2,7 +2,7 @@ use Rattle.std.proofs.Common.{◌≡◌, ◌-◌}
 use Rattle.space_model.specs.Span.{pages_end}
 use Rattle.space_model.specs.Part.{moved_to}
 use Rattle.arena_core.specs.Extents.{goes_to}
-use Rattle.arena_core.proofs.Turns.{Walk}
+use Rattle.arena_core.proofs.Rounds.{Walk}
 use Rattle.arena_core.proofs.ends.move_all.Given as goal
 
 abbrev pub invariant-loop-part : goal.invariant-loop-part

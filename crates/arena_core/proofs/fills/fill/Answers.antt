@@ -1,7 +1,7 @@
 use Rattle.std.proofs.Common.{◌∙◌, sym}
 use Rattle.bin_book.specs.Bins.{free_of}
 use Rattle.arena_core.specs.Indexes.{space_of}
-use Rattle.arena_core.proofs.Filled.{no_free, nothing_free}
+use Rattle.arena_core.proofs.Landed.{no_free, nothing_free}
 use Rattle.arena_core.proofs.fills.fill.Goals as goal
 
 pub returns-then-not-has_free-clause-after : goal.returns-then-not-has_free-clause-after

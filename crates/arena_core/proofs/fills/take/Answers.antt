@@ -6,7 +6,7 @@ use Rattle.space_model.specs.Slabs.{lowest_free}
 use Rattle.bin_book.specs.Bins.{free_of}
 use Rattle.arena_core.specs.Indexes.{space_of}
 use Rattle.arena_core.specs.Slabs.{slabs_taken}
-use Rattle.arena_core.proofs.Filled.{filled_is, filled_reply, lowest_come, take_none, taken_are}
+use Rattle.arena_core.proofs.Landed.{filled_is, filled_reply, lowest_come, take_none, taken_are}
 use Rattle.arena_core.proofs.fills.take.Goals as goal
 
 pub fill-requires-clause-can_come : goal.fill-requires-clause-can_come

@@ -1,4 +1,4 @@
-use Rattle.arena_core.proofs.FirstPlaces.{lands_first}
+use Rattle.arena_core.proofs.BookLands.{lands_first}
 use Rattle.arena_core.proofs.laws.lands_take_the_first.Goals as goal
 
 pub returns : goal.returns

@@ -1,5 +1,5 @@
 use Rattle.std.proofs.Common.{is_some, sym, ap, ◌∙◌}
-use Rattle.bin_book.proofs.Lists.{is_some_find}
+use Rattle.list_facts.proofs.Members.{is_some_find}
 use Rattle.bin_book.proofs.tests.hand_over.Goals as goal
 
 pub hand_over-requires-clause-there : goal.hand_over-requires-clause-there

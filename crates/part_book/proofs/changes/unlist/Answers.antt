@@ -5,7 +5,7 @@ use Rattle.space_model.specs.Part.{is_listed}
 use Rattle.part_book.specs.declared.table.AgeList.{AgeList}
 use Rattle.part_book.specs.Lists.{CanUnlist, Loses}
 use Rattle.part_book.specs.Rows.{Row}
-use Rattle.part_book.proofs.Lists.{kept_length}
+use Rattle.list_facts.proofs.Members.{kept_length}
 use Rattle.part_book.proofs.changes.unlist.Goals as goal
 
 -- a list loses an extent that it has

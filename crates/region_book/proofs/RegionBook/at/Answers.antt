@@ -4,17 +4,16 @@ use Rattle.space_model.specs.Region.{starts_at}
 use Rattle.space_model.specs.Holding.{is_published_at}
 use Rattle.region_book.specs.Books.{regions_in}
 use Rattle.region_book.specs.RegionLists.{if_published}
+use Rattle.region_book.proofs.Answered.{both}
 use Rattle.region_book.proofs.Changes.{published}
-use Rattle.region_book.proofs.Merged.{merged}
 use Rattle.region_book.proofs.RegionBook.at.Goals as goal
 
 pub returns-clause-at : goal.returns-clause-at
 returns-clause-at c =
-    c.or.ensures ∙ (λ i. option_or (c.at.ensures i) (c.at-2.ensures.at i)) ∙ sym ((merged c.self.inside.larges.regions c.self.inside.bins.regions c.self.invariant.apart).finds c.args.addr)
-    ∙ ap (λ s. find (starts_at c.args.addr) s.regions) c.self.view_is
+    c.or.ensures ∙ (λ i. option_or (c.at.ensures i) (c.at-2.ensures.at i)) ∙ sym ((both c.self.inside c.self.invariant).finds c.args.addr) ∙ ap (λ s. find (starts_at c.args.addr) s.regions) c.self.view_is
 
 pub returns-clause-published : goal.returns-clause-published
 returns-clause-published c =
-    let both = merged c.self.inside.larges.regions c.self.inside.bins.regions c.self.invariant.apart in
-    ap (λ s. find (is_published_at c.args.addr) s.regions) (sym c.self.view_is) ∙ published c.args.addr (regions_in c.self.inside) both.rising
-    ∙ ap if_published (both.finds c.args.addr ∙ sym (c.or.ensures ∙ (λ i. option_or (c.at.ensures i) (c.at-2.ensures.at i))))
+    let all = both c.self.inside c.self.invariant in
+    ap (λ s. find (is_published_at c.args.addr) s.regions) (sym c.self.view_is) ∙ published c.args.addr (regions_in c.self.inside) all.rising
+    ∙ ap if_published (all.finds c.args.addr ∙ sym (c.or.ensures ∙ (λ i. option_or (c.at.ensures i) (c.at-2.ensures.at i))))
