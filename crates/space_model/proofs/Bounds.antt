@@ -1,8 +1,10 @@
 -- What the slow machine's arithmetic needs: that what it adds and multiplies fits.
-use Rattle.std.proofs.Common.{◌≡◌, ℕ, ◌+◌, ◌*◌, ◌^◌, ◌<◌, ◌≤◌, Bool, true, false, cond, ◌&&◌, ◌==◌, not, IsTrue, List, [], ◌∷◌, length, Some, None, refl, sym, ◌∙◌, ap, subst, arith, All, ltb as nat_lt, leb as nat_le, ltb-true, leb-true, ltb-false, ◌++◌, suc, drop, append-nil, take_all, drop_of_length-le, Result, Ok, Err, IfOk}
+use Rattle.std.proofs.Common.{get_or, ◌≡◌, ℕ, ◌+◌, ◌*◌, ◌^◌, ◌<◌, ◌≤◌, Bool, true, false, cond, ◌&&◌, ◌==◌, not, IsTrue, List, [], ◌∷◌, length, Some, None, refl, sym, ◌∙◌, ap, subst, arith, All, ltb as nat_lt, leb as nat_le, ltb-true, leb-true, ltb-false, ◌++◌, suc, drop, append-nil, take_all, drop_of_length-le, Result, Ok, Err, IfOk}
 use Rattle.space_model.proofs.Words.{count_by, find, position, position_or_len, remove, mul-le-mul, sum_by-cons, size_at, pages_at, regions_at, size_bounds, slab_filled, Part, Region, Span, Space, IsPlaced, is_flight_at, houses, is_held_by, is_held_by_other, reset_stands, most_regions, land_stands, large_home, Sound}
 use Rattle.space_model.proofs.Pieces.{both_true, found_fits}
 use Rattle.space_model.proofs.Resizes.{home_found}
+use Rattle.space_model.proofs.Lists.{sum_add}
+use Rattle.std.proofs.lemmas.List.Sums.{sum_by-le}
 use Rattle.std.proofs.lemmas.Option.{cond_some}
 
 -- ---- Land
@@ -53,15 +55,9 @@ held_once c r =
 
 -- the regions of others and of the client are no more than there are
 pub held_apart : (c : ℕ) (regions : List Region) → count_by (is_held_by_other c) regions + count_by (is_held_by c) regions ≤ length regions
-held_apart c [] = omega arith
-held_apart c (r ∷ rs) =
-    omega (
-      arith,
-      held_once c r,
-      held_apart c rs,
-      sum_by-cons (λ r. cond (is_held_by_other c r) 1 0) r rs,
-      sum_by-cons (λ r. cond (is_held_by c r) 1 0) r rs,
-    )
+held_apart c regions =
+    let both : Region → ℕ = λ r. cond (is_held_by_other c r) 1 0 + cond (is_held_by c r) 1 0 in
+    omega (arith, sum_add (λ r. cond (is_held_by_other c r) 1 0) (λ r. cond (is_held_by c r) 1 0) regions, sum_by-le both 1 regions (λ k d h. held_once c (get_or regions k d)))
 
 -- no more regions are cached than the client holds
 pub cached_least : (s : Space) (c cached : ℕ) → IsTrue (reset_stands s c cached) → cached ≤ count_by (is_held_by c) s.regions

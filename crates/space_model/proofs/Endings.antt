@@ -1,13 +1,14 @@
 -- What a reset, a destroy and the takes after it do.
-use Rattle.std.proofs.Common.{true, false, ◌≡◌, ◌≢◌, ℕ, Bool, not, cond, IsTrue, List, [], ◌∷◌, length, Option, Some, None, refl, sym, ◌∙◌, ap, subst, arith, All, filter, find, ◌&&◌, ◌==◌}
-use Rattle.space_model.proofs.Words.{sum_by, count_by, list_any, eqb-true, not-false, not-true, nil_from_length, All-weaker, All-append, All-filter, All-nil, All-head, filter_passes, Op, Reset, Destroy, DestroyTake, Reply, Noted, Nothing, Purge, Busy, Offered, Part, Region, ToDirty, ToRetained, State, Active, Retained, Flight, Life, Live, Absent, Dying, Space, begins_at, is_active, is_flight, is_in_flight, is_listed, is_backed, rest_of, moved_to, turned, turned_in_order, homes, residents, is_held_by, is_held_by_other, is_dying, Stepped, stays, is_live, is_dirty_time_over, is_lazy, held_count, flight_count, if_free, emptied, after_reset, reset_stands, ended, after_destroy, doom_at, after_destroy_take, flight, Sound, IsQuiet}
+use Rattle.std.proofs.Common.{true, false, ◌≡◌, ◌≢◌, ℕ, Bool, not, cond, IsTrue, List, ◌∷◌, length, Option, Some, None, refl, sym, ◌∙◌, ap, subst, arith, All, filter, find, ◌&&◌, ◌==◌, []}
+use Rattle.space_model.proofs.Words.{sum_by, count_by, list_any, eqb-true, not-false, not-true, nil_from_length, All-weaker, All-append, All-filter, All-nil, All-head, filter_passes, Op, Reset, Destroy, DestroyTake, Reply, Noted, Nothing, Purge, Busy, Offered, Part, Region, ToDirty, ToRetained, State, Active, Retained, Flight, Life, Live, Absent, Dying, Space, begins_at, is_active, is_flight, is_in_flight, is_listed, is_backed, rest_of, moved_to, turned, turned_in_order, homes, residents, is_held_by, is_held_by_other, is_dying, Stepped, stays, is_live, is_dirty_time_over, is_lazy, held_count, flight_count, if_free, emptied, after_reset, reset_stands, ended, after_destroy, doom_at, after_destroy_take, flight, Sound, IsQuiet, DestroyBusy, DestroyNoArena, DestroyNoted, DoomDoomed, DoomNothing, Outcome, ResetBusy, ResetNoArena, ResetNoted, ResetPurge}
 use Rattle.space_model.proofs.Lists.{false_true, not_true, none_counted, nothing_left, nothing_sum, ones, sum_nothing, apart_count}
 use Rattle.space_model.proofs.Mixes.{mix_sum, mixed_second, mixed_filter}
 use Rattle.space_model.proofs.Settled.{Used}
 use Rattle.space_model.proofs.Changes.{Does, Fits, all_fit, frame_does, kept_frame, live_quiet, sound_ranges, go_does}
 use Rattle.space_model.proofs.Pieces.{both_true, different, not_both, active_own}
 use Rattle.space_model.proofs.Turned.{turned_does, All-turned}
-use Rattle.space_model.proofs.Moves.{live_is, Same, still, live_does}
+use Rattle.space_model.proofs.Outcomes.{Goes, goes, still_goes, live_goes}
+use Rattle.space_model.proofs.Moves.{live_is, Same}
 
 -- ---- nobody else
 
@@ -16,15 +17,15 @@ abbrev Free : ℕ → ℕ → ℕ → Type 0
 Free held flights threads = (held ≡ 0) × (flights ≡ 0) × (threads ≡ 0)
 
 -- a step that only an arena makes which is in nobody's use
-free_does : (c : ℕ) (s : Space) (op : Op) (held flights threads : ℕ) (step : Stepped) → Sound s → Same c s op (Busy held flights threads) →
-    (Free held flights threads → Does c s op step) → Does c s op (if_free s held flights threads step)
-free_does c s op held flights threads step sound same does =
-    elim (held == 0 && flights == 0 && threads == 0) as (λ b. (held == 0 && flights == 0 && threads == 0) ≡ b → Does c s op (cond b step (stays s (Busy held flights threads)))) [
-      | false ↦ λ h. still c s op _ sound same
+free_goes : (c : ℕ) (s : Space) (op : Op) (held flights threads : ℕ) (step : Stepped) → Sound s → Same c s op (Busy held flights threads) → Outcome c s s op (Busy held flights threads) →
+    (Free held flights threads → Goes c s op step) → Goes c s op (if_free s held flights threads step)
+free_goes c s op held flights threads step sound same busy free =
+    elim (held == 0 && flights == 0 && threads == 0) as (λ b. (held == 0 && flights == 0 && threads == 0) ≡ b → Goes c s op (cond b step (stays s (Busy held flights threads)))) [
+      | false ↦ λ h. still_goes c s op _ sound same busy
       | true ↦ λ h.
           let last = both_true (held == 0 && flights == 0) _ h in
           let first = both_true (held == 0) _ last.0 in
-          does (eqb-true _ _ first.0, eqb-true _ _ first.1, eqb-true _ _ last.1)
+          free (eqb-true _ _ first.0, eqb-true _ _ first.1, eqb-true _ _ last.1)
     ] refl
 
 -- where others hold no region, no other client does
@@ -84,14 +85,14 @@ emptied_does c cached s reply sound live none same =
     }) sound (Reset cached) reply same.0
     (omega (arith, zero_fly c (moved_to ToDirty) (filter test s.parts) (λ p. refl), none_active_flies c s.parts, same.1, same.2))
 
-pub reset_does : (c : ℕ) (s : Space) (cached : ℕ) → Sound s → Does c s (Reset cached) (after_reset s c cached)
-reset_does c s cached sound =
-    live_does c s (Reset cached) _ sound (λ page before. refl, refl, refl)
-    (λ live. free_does c s (Reset cached) (held_count s c cached) (flight_count s c) 0 (emptied s) sound (λ page before. refl, refl, refl)
-    (λ free. elim (is_dirty_time_over s) as (λ b. Does c s (Reset cached) (record { after = (emptied s).after; reply = cond b (Purge (is_lazy s)) Noted })) [
-      | true ↦ emptied_does c cached s _ sound live free.0 (λ page before. refl, refl, refl)
-      | false ↦ emptied_does c cached s Noted sound live free.0 (λ page before. refl, refl, refl)
-    ]))
+pub reset_goes : (c : ℕ) (s : Space) (cached : ℕ) → Sound s → Goes c s (Reset cached) (after_reset s c cached)
+reset_goes c s cached sound =
+    live_goes c s (Reset cached) _ sound (λ page before. refl, refl, refl) (λ h. ResetNoArena h refl)
+    (λ live. free_goes c s (Reset cached) (held_count s c cached) (flight_count s c) 0 (emptied s) sound (λ page before. refl, refl, refl) (ResetBusy _ _ _ refl)
+    (λ free. elim (is_dirty_time_over s) as (λ b. is_dirty_time_over s ≡ b → Goes c s (Reset cached) (record { after = (emptied s).after; reply = cond b (Purge (is_lazy s)) Noted })) [
+      | true ↦ λ over. goes sound (emptied_does c cached s _ sound live free.0 (λ page before. refl, refl, refl)) (λ after. ResetPurge refl over)
+      | false ↦ λ over. goes sound (emptied_does c cached s Noted sound live free.0 (λ page before. refl, refl, refl)) (λ after. ResetNoted refl)
+    ] refl))
 
 -- ---- Destroy
 
@@ -162,11 +163,11 @@ ended_does c cached s sound live stands free =
     }) sound (Destroy cached) Noted (λ page before. refl)
     (omega (arith, zero_fly c (moved_to ToRetained) (filter test s.parts) (λ p. refl), some_count (flight c) test s.parts grounded))
 
-pub destroy_does : (c : ℕ) (s : Space) (cached : ℕ) → Sound s → reset_stands s c cached ≡ true → Does c s (Destroy cached) (after_destroy s c cached)
-destroy_does c s cached sound stands =
-    live_does c s (Destroy cached) _ sound (λ page before. refl, refl, refl)
-    (λ live. free_does c s (Destroy cached) (held_count s c cached) (flight_count s c) (length s.bound) (ended s c) sound (λ page before. refl, refl, refl)
-    (λ free. ended_does c cached s sound live stands free))
+pub destroy_goes : (c : ℕ) (s : Space) (cached : ℕ) → Sound s → reset_stands s c cached ≡ true → Goes c s (Destroy cached) (after_destroy s c cached)
+destroy_goes c s cached sound stands =
+    live_goes c s (Destroy cached) _ sound (λ page before. refl, refl, refl) (λ h. DestroyNoArena h refl)
+    (λ live. free_goes c s (Destroy cached) (held_count s c cached) (flight_count s c) (length s.bound) (ended s c) sound (λ page before. refl, refl, refl) (DestroyBusy _ _ _ refl)
+    (λ free. goes sound (ended_does c cached s sound live stands free) (λ after. DestroyNoted refl)))
 
 -- ---- DestroyTake
 
@@ -190,18 +191,18 @@ grounded_own d state h = refl
 quiet_dying : (s : Space) (c : ℕ) → Sound s → s.life ≡ Dying c → IsQuiet (Dying c) s
 quiet_dying s c sound is = subst (λ (l : Life). IsQuiet l s) is sound.quiet
 
-doom_does : (c : ℕ) (s : Space) (parts : List Part) → s.parts ≡ parts → Sound s → s.life ≡ Dying c → Does c s DestroyTake (doom_at s parts)
-doom_does c s [] e sound is =
+doom_goes : (c : ℕ) (s : Space) (parts : List Part) → s.parts ≡ parts → Sound s → s.life ≡ Dying c → Goes c s DestroyTake (doom_at s parts)
+doom_goes c s [] e sound is =
     let still = quiet_dying s c sound is in
-    frame_does c s (record s { life = Absent }) DestroyTake Nothing sound refl refl (record {
+    goes sound (frame_does c s (record s { life = Absent }) DestroyTake Nothing sound refl refl (record {
       offered = sound.offered;
       ranges = sound_ranges s sound;
       offers = λ d other. refl;
       bound = λ d other. refl;
       trims = λ d other. refl;
       dying = λ d other. sym (ap (is_dying d) is ∙ not_both d c other);
-    }) (still.0, still.1, still.2, e) (λ page before. refl) refl
-doom_does c s (p ∷ ps) e sound is =
+    }) (still.0, still.1, still.2, e) (λ page before. refl) refl) (λ after. DoomNothing refl)
+doom_goes c s (p ∷ ps) e sound is =
     let still = quiet_dying s c sound is in
     let gone = begins_at p.span.first in
     let stay : List Part = filter (λ q. not (gone q)) s.parts in
@@ -210,11 +211,11 @@ doom_does c s (p ∷ ps) e sound is =
     let grounded : is_in_flight p.state ≡ false = All-head (λ q. is_in_flight q.state ≡ false) p ps (subst (All (λ (q : Part). is_in_flight q.state ≡ false)) e still.3) in
     let idle : is_active p.state ≡ false = idle_there s.regions p still.0 (All-head (Used s.regions) p ps (subst (All (Used s.regions)) e sound.used)) in
     let lands : flight c p ≡ 0 = ap ones (grounded_own c p.state grounded) in
-    go_does c s t DestroyTake _ (λ q. true) p sound (ap (find (λ q. true)) e)
+    goes sound (go_does c s t DestroyTake _ (λ q. true) p sound (ap (find (λ q. true)) e)
     (record { idle = idle; fits = fits; own = λ d other. grounded_own d p.state grounded }) refl refl (kept_frame c s t.parts s.regions sound)
     (subst (λ (l : Life). IsQuiet l t) (sym is)
     (still.0, still.1, still.2, All-append (λ q. is_in_flight q.state ≡ false) stay [] (All-filter (λ q. not (gone q)) (λ q. is_in_flight q.state ≡ false) s.parts still.3) (All-nil (λ q. is_in_flight q.state ≡ false))))
-    (λ page before. refl) (omega (arith, lands))
+    (λ page before. refl) (omega (arith, lands))) (λ after. DoomDoomed p.span p.committed refl)
 
-pub destroy_take_does : (c : ℕ) (s : Space) → Sound s → is_dying c s.life ≡ true → Does c s DestroyTake (after_destroy_take s)
-destroy_take_does c s sound h = doom_does c s s.parts refl sound (dying_is c s.life h)
+pub destroy_take_goes : (c : ℕ) (s : Space) → Sound s → is_dying c s.life ≡ true → Goes c s DestroyTake (after_destroy_take s)
+destroy_take_goes c s sound h = doom_goes c s s.parts refl sound (dying_is c s.life h)

@@ -1,15 +1,17 @@
 -- Regions that land in slabs: several in a new extent, and the free ones of all slabs of a class.
-use Rattle.std.proofs.Common.{true, false, ◌≡◌, ◌≢◌, ℕ, zero, suc, inl, inr, ◌+◌, ◌*◌, ◌/◌, ◌%◌, ◌<◌, ◌≤◌, Bool, not, cond, IsTrue, List, [], ◌∷◌, ◌++◌, get_or, take, map, Option, Some, None, refl, sym, ◌∙◌, ap, subst, arith, All, find, filter, ◌&&◌, ◌==◌, lt-ltb, leb as nat_le, ltb as nat_lt}
-use Rattle.space_model.proofs.Words.{sum_by, list_any, flat_map, position_or_len, range_with_len, cases_lt, eqb-true, leb-true, ltb-true, nat_tests, get_or-range_with_len, length-range_with_len, Any-from_list_any, sum_by-cons, sum_by-insert, sum_by-append, get_or-le-sum_by, All-weaker, All-append, All-cons, All-nil, All-head, All-tail, All-filter, All-map, All-take, filter_passes, row_fits, size_at, pages_at, regions_at, align_at, size_bounds, slab_filled, Land, Fill, Nothing, Landed, Part, Region, Span, Active, Space, has_page, holders, is_active, is_flight_at, begins_at, address_of, covers, sharers, lies_in, houses, homes, inserted, landing, region_of, is_slab, is_held_by, starts_at, places, free_places, slabs_of, lowest_free, fill_at, after_fill, fill_stands, land_at, land_stands, most_regions, is_live, found_passes, Sound, IsInSlab}
-use Rattle.space_model.proofs.Lists.{All-flat_map, All-insert, all_sum_le, none_passes, not_true, nothing_sum, ones, sole, sum_add, sum_nothing}
+use Rattle.std.proofs.Common.{true, false, ◌≡◌, ◌≢◌, ℕ, zero, suc, inl, inr, ◌+◌, ◌*◌, ◌/◌, ◌%◌, ◌<◌, ◌≤◌, Bool, not, cond, IsTrue, List, ◌∷◌, ◌++◌, get_or, take, map, Some, refl, sym, ◌∙◌, ap, subst, arith, All, find, filter, ◌&&◌, ◌==◌, lt-ltb, leb as nat_le, ltb as nat_lt, []}
+use Rattle.space_model.proofs.Words.{sum_by, count_by, list_any, flat_map, position_or_len, range_with_len, cases_lt, eqb-true, leb-true, ltb-true, nat_tests, get_or-range_with_len, length-range_with_len, Any-from_list_any, sum_by-cons, sum_by-insert, sum_by-append, get_or-le-sum_by, All-weaker, All-append, All-nil, All-head, All-tail, All-filter, All-map, All-take, filter_passes, row_fits, size_at, pages_at, regions_at, align_at, size_bounds, slab_filled, Land, Fill, Nothing, Landed, Part, Region, Span, Active, Space, has_page, holders, is_active, is_flight_at, begins_at, address_of, covers, sharers, lies_in, houses, homes, inserted, landing, region_of, is_slab, is_held_by, starts_at, places, free_places, slabs_of, lowest_free, fill_at, after_fill, fill_stands, land_at, land_stands, most_regions, is_live, Sound, IsInSlab, FillNoArena, FillNothing, FillRegions, LandLanded, holds_at}
+use Rattle.space_model.proofs.Lists.{All-flat_map, All-insert, all_sum_le, counted_any, none_passes, not_true, nothing_sum, ones, sole, sum_add, map_terms}
 use Rattle.space_model.proofs.Exchange.{share}
-use Rattle.space_model.proofs.Mixes.{mix_sum, mix_filter, mixed_filter, mixed_insert}
+use Rattle.space_model.proofs.Mixes.{mix_sum, mix_filter, mix_second, mixed_append, mixed_filter, mixed_insert}
 use Rattle.space_model.proofs.Ordered.{ordered-landing}
-use Rattle.space_model.proofs.Settled.{Settled, Used, LargeAt, SmallAt, serves, serves_by, covered, covers_start, serves-le-share, serves_none, idle-serves, homes-le-holders, sound_settled}
+use Rattle.space_model.proofs.Settled.{Settled, Used, LargeAt, SmallAt, serves, serves_by, covered, covers_start, serves-le-share, idle-serves, homes-le-holders, sound_settled}
 use Rattle.space_model.proofs.Changes.{Does, regions_does, whole, whole_lawful, lawful_sound, all_fit, one_left, kept_frame, live_quiet}
 use Rattle.space_model.proofs.Pieces.{both_true, not_both}
-use Rattle.space_model.proofs.Landing.{lies_between, place_aligned, ones_most, land_does}
-use Rattle.space_model.proofs.Moves.{live_is, flight_at, still, live_does}
+use Rattle.space_model.proofs.Landing.{eqb_itself, lies_between, place_aligned, ones_most, land_does}
+use Rattle.space_model.proofs.Found.{found_span}
+use Rattle.space_model.proofs.Outcomes.{Goes, goes, Comes, live_goes, on_found}
+use Rattle.space_model.proofs.Moves.{live_is, itself, flight_at, still}
 use Rattle.space_model.proofs.Turned.{turned_sum, All-turned}
 
 -- ---- one more region in a slab
@@ -269,16 +271,17 @@ place_served c class p a small active committed pages place =
     let inside : lies_in p.span (region_of c class a) ≡ true = lies_between p.span (region_of c class a) (omega (arith, place.2)) (omega (arith, place.2, pages, fits, (slab_filled class small).0)) in
     rw (active, committed, inside) refl
 
--- each free place of a slab is a spot
-free_spots : (c class : ℕ) (parts : List Part) (regions : List Region) → class < 36 → ((page : ℕ) → holders page parts ≤ 1) → Settled parts regions →
-    All (λ p. is_slab class regions p ≡ true → All (λ a. Spot parts regions (region_of c class a)) (free_places class regions p)) parts
-free_spots c class parts regions small owners all = λ j e i h k d within.
+-- a place of a slab at which no region begins is a spot
+abbrev Takes : ℕ → ℕ → List Part → List Region → Part → Type 0
+Takes c class parts regions p =
+    is_slab class regions p ≡ true → (a : ℕ) → InPlace class p a → All (λ q. starts_at a q ≡ false) regions → Spot parts regions (region_of c class a)
+
+place_spots : (c class : ℕ) (parts : List Part) (regions : List Region) → class < 36 → ((page : ℕ) → holders page parts ≤ 1) → Settled parts regions →
+    All (Takes c class parts regions) parts
+place_spots c class parts regions small owners all = λ j e i h a place free.
     let p : Part = get_or parts j e in
     let slab = slab_is class parts regions small all j e i h in
-    let test : ℕ → Bool = λ a. not (list_any (starts_at a) regions) in
-    let a : ℕ = get_or (free_places class regions p) k d in
     let r : Region = region_of c class a in
-    let place = All-filter test (InPlace class p) (places class p) (in_places class p) k d within in
     let here : houses p r ≡ true = place_served c class p a small slab.active slab.committed slab.pages place in
     let one : serves r p ≡ 1 = ap ones here in
     let has = covers_start r (size_bounds class (omega (arith, small))).0 in
@@ -296,11 +299,22 @@ free_spots c class parts regions small owners all = λ j e i h k d within.
             place = (place.0, place.1, place.2 ∙ ap (λ n. address_of n + place.0 * size_at class) (sym first));
           };
       aligned = subst (λ n. n % align_at class ≡ 0) (sym place.2) (place_aligned p.span.first place.0 class (omega (arith, small)));
-      free = (λ m f g. none_passes (starts_at a) regions m f (not_true _ (filter_passes test (places class p) k d within)) g);
+      free = free;
     }
   where
     begins_self : (p : Part) → begins_at p.span.first p ≡ true
     begins_self p = grind (arith, nat_tests)
+
+-- so each free place of a slab is
+free_spots : (c class : ℕ) (parts : List Part) (regions : List Region) → class < 36 → ((page : ℕ) → holders page parts ≤ 1) → Settled parts regions →
+    All (λ p. is_slab class regions p ≡ true → All (λ a. Spot parts regions (region_of c class a)) (free_places class regions p)) parts
+free_spots c class parts regions small owners all = λ j e i h k d within.
+    let p : Part = get_or parts j e in
+    let test : ℕ → Bool = λ a. not (list_any (starts_at a) regions) in
+    let a : ℕ = get_or (free_places class regions p) k d in
+    let place = All-filter test (InPlace class p) (places class p) (in_places class p) k d within in
+    place_spots c class parts regions small owners all j e i h a place
+    (λ m f g. none_passes (starts_at a) regions m f (not_true _ (filter_passes test (places class p) k d within)) g)
 
 -- a place of a slab is in a page of it
 free_inside : (class : ℕ) (parts : List Part) (regions : List Region) → class < 36 → Settled parts regions →
@@ -340,6 +354,31 @@ lowest_distinct class count s small sound =
     Distinct-filter (λ a. not (list_any (starts_at a) s.regions)) (steps_distinct (λ a. a) (λ i. address_of p.span.first + i * size_at class) (address_of p.span.first) (size_at class) (λ i. refl) some 0 (regions_at class)))
     (in_order class s (λ p. All (λ a. share (a / 4096) p ≡ 1) (free_places class s.regions p)) (free_inside class s.parts s.regions small (sound_settled s sound)))).0
 
+-- ---- what the client holds then
+
+-- a sum over regions that land
+landing_sum : (f : Region → ℕ) (come regions : List Region) → sum_by f (landing come regions) ≡ sum_by f regions + sum_by f come
+landing_sum f [] regions = omega arith
+landing_sum f (r ∷ rs) regions =
+    omega (arith, landing_sum f rs (inserted r regions), sum_by-insert f regions (position_or_len (λ (q : Region). nat_lt r.addr q.addr) regions) r, sum_by-cons f r rs)
+
+-- the client holds regions of it that landed
+landing_holds : {X : Type 0} (c class : ℕ) (f : X → ℕ) (xs : List X) (regions : List Region) →
+    All (λ x. holds_at c (landing (map (λ y. region_of c class (f y)) xs) regions) (f x) ≡ true) xs
+landing_holds c class f xs regions = λ k d h.
+    let a : ℕ = f (get_or xs k d) in
+    let come : List Region = map (λ y. region_of c class (f y)) xs in
+    let test : Region → Bool = λ r. is_held_by c r && r.addr == a in
+    let one : ones (test (region_of c class a)) ≡ 1 = rw (itself c, eqb_itself a) refl in
+    counted_any test (landing come regions)
+    (omega (
+      arith,
+      one,
+      landing_sum (λ r. ones (test r)) come regions,
+      map_terms (λ r. ones (test r)) (λ y. region_of c class (f y)) xs,
+      get_or-le-sum_by (λ x. ones (test (region_of c class (f x)))) xs k d h,
+    ))
+
 -- ---- Fill
 
 fill_at_does : (c : ℕ) (s : Space) (class count : ℕ) (addrs : List ℕ) → lowest_free class count s ≡ addrs → class < 36 → Sound s → is_live s.life ≡ true →
@@ -355,10 +394,14 @@ fill_at_does c s class count (addr ∷ addrs) e small sound live =
     (λ d other. landing_held d come s.regions (All-map (λ r. is_held_by d r ≡ false) (region_of c class) (addr ∷ addrs) (λ k x h. not_both d c other)))
     (ordered-landing come s.regions sound.ordered) (λ page before. refl) refl
 
-pub fill_does : (c : ℕ) (s : Space) (class count : ℕ) → Sound s → fill_stands class count ≡ true → Does c s (Fill class count) (after_fill s c class count)
-fill_does c s class count sound h =
-    live_does c s (Fill class count) _ sound (λ page before. refl, refl, refl)
-    (λ live. fill_at_does c s class count (lowest_free class count s) refl (ltb-true _ _ (both_true (nat_lt class 36) _ h).0) sound live)
+fill_at_comes : (c : ℕ) (s : Space) (class count : ℕ) (addrs : List ℕ) → Comes c s (Fill class count) (fill_at s c class addrs)
+fill_at_comes c s class count [] sound = FillNothing refl
+fill_at_comes c s class count (addr ∷ addrs) sound = FillRegions (addr ∷ addrs) (landing_holds c class (λ a. a) (addr ∷ addrs) s.regions)
+
+pub fill_goes : (c : ℕ) (s : Space) (class count : ℕ) → Sound s → fill_stands class count ≡ true → Goes c s (Fill class count) (after_fill s c class count)
+fill_goes c s class count sound h =
+    live_goes c s (Fill class count) _ sound (λ page before. refl, refl, refl) (λ h. FillNoArena h refl)
+    (λ live. goes sound (fill_at_does c s class count (lowest_free class count s) refl (ltb-true _ _ (both_true (nat_lt class 36) _ h).0) sound live) (fill_at_comes c s class count (lowest_free class count s)))
 
 -- ---- Land
 
@@ -389,29 +432,14 @@ row_spot : {c : ℕ} {s t : Space} {class : ℕ} {p : Part} {stay : List Part} �
 row_spot {c} {s} {t} {class} {p} {stay} one i some within =
     let a : ℕ = address_of p.span.first + i * size_at class in
     let r : Region = region_of c class a in
-    let first : Region = region_of c class (address_of p.span.first + 0 * size_at class) in
+    let start : ℕ = address_of p.span.first + 0 * size_at class in
+    let first : Region = region_of c class start in
     let n : ℕ = position_or_len (λ (q : Region). nat_lt first.addr q.addr) s.regions in
-    let here : houses p r ≡ true = place_served c class p a one.small one.active one.committed one.pages (i, within, refl) in
-    let serve : serves r p ≡ 1 = ap ones here in
     let bounds = (size_bounds class (omega (arith, one.small))).0 in
-    let has = covers_start r bounds in
-    let few : homes r t.parts ≤ 1 = omega (arith, homes-le-holders a r t.parts has, one.sound.owners (a / 4096)) in
-    let none : All (λ q. serves r q ≡ 0) stay = sum_nothing (serves r) stay (omega (arith, few, serve, landed_holders one (serves r))) in
-    let at : share (a / 4096) p ≡ 1 = omega (arith, serve, serves-le-share a r p has, ones_most (has_page (a / 4096) p.span)) in
-    let alike : All (λ q. IsTrue (houses p q) → q.class ≡ class) s.regions =
-    λ k d h home.
-    let q : Region = get_or s.regions k d in
-    let is : serves q p ≡ 1 = ap ones home in
-    let byte = covers_start q (size_bounds q.class (one.classes k d h)).0 in
-    absurd (omega (
-      arith,
-      is,
-      one.homes k d h,
-      homes-le-holders q.addr q stay byte,
-      serves-le-share q.addr q p byte,
-      landed_holders one (share (q.addr / 4096)),
-      one.sound.owners (q.addr / 4096),
-    )) in
+    let served : (j : ℕ) → j < regions_at class → houses p (region_of c class (address_of p.span.first + j * size_at class)) ≡ true =
+    λ j below. place_served c class p _ one.small one.active one.committed one.pages (j, below, refl) in
+    let serve : serves r p ≡ 1 = ap ones (served i within) in
+    let at : share (a / 4096) p ≡ 1 = omega (arith, serve, serves-le-share a r p (covers_start r bounds), ones_most (has_page (a / 4096) p.span)) in
     let free : All (λ q. starts_at a q ≡ false) s.regions =
     λ k d h.
     let q : Region = get_or s.regions k d in
@@ -423,20 +451,13 @@ row_spot {c} {s} {t} {class} {p} {stay} one i some within =
           let there : homes q stay ≤ holders (a / 4096) stay = subst (λ m. homes q stay ≤ holders (m / 4096) stay) same (homes-le-holders q.addr q stay byte) in
           absurd (omega (arith, one.homes k d h, there, at, landed_holders one (share (a / 4096)), one.sound.owners (a / 4096)))
     ] refl in
-    let differ : starts_at a first ≡ false = other_start (address_of p.span.first) i (size_at class) some bounds in record {
-      small = one.small;
-      home = omega (arith, few, serve, landed_holders one (serves r));
-      slab = subst (All (λ q. IsTrue (houses q r) → IsInSlab t.regions q r)) (sym one.parts)
-          (All-append (λ q. IsTrue (houses q r) → IsInSlab t.regions q r) stay (p ∷ [])
-          (λ j e h home. absurd (serves_none r (get_or stay j e) (none j e h) home))
-          (All-cons (λ q. IsTrue (houses q r) → IsInSlab t.regions q r) p [] (λ home. record {
-            pages = one.pages;
-            alike = subst (All (λ q. IsTrue (houses p q) → q.class ≡ class)) (sym one.regions) (All-insert (λ q. IsTrue (houses p q) → q.class ≡ class) s.regions n first alike (λ u. refl));
-            place = (i, within, refl);
-          }) (All-nil (λ q. IsTrue (houses q r) → IsInSlab t.regions q r))));
-      aligned = place_aligned p.span.first i class (omega (arith, one.small));
-      free = subst (All (λ q. starts_at a q ≡ false)) (sym one.regions) (All-insert (λ q. starts_at a q ≡ false) s.regions n first free differ);
-    }
+    let differ : starts_at a first ≡ false = other_start (address_of p.span.first) i (size_at class) some bounds in
+    let test : Region → Bool = λ q. q.class == class && houses p q in
+    let here : ones (test first) ≡ 1 = rw (eqb_itself class, served 0 (omega (arith, within))) refl in
+    let slab : is_slab class t.regions p ≡ true = counted_any test t.regions (omega (arith, ap (count_by test) one.regions, sum_by-insert (λ q. ones (test q)) s.regions n first, here)) in
+    let spots = subst (All (Takes c class t.parts t.regions)) one.parts (place_spots c class t.parts t.regions one.small one.sound.owners (sound_settled t one.sound)) in
+    All-head (Takes c class t.parts t.regions) p [] (mix_second (Takes c class t.parts t.regions) (mixed_append stay (p ∷ [])) spots) slab a (i, within, refl)
+    (subst (All (λ q. starts_at a q ≡ false)) (sym one.regions) (All-insert (λ q. starts_at a q ≡ false) s.regions n first free differ))
   where
     other_start : (base i size : ℕ) → 0 < i → 8 ≤ size → ((base + 0 * size) == (base + i * size)) ≡ false
     other_start base i size some large =
@@ -462,12 +483,10 @@ row_settled {c} {s} {t} {class} {p} {stay} one n within =
     (sound_settled t one.sound)
 
 -- several regions land: one after the other behind the first
-land_at_does : (c : ℕ) (s : Space) (span : Span) (class count : ℕ) (o : Option Part) → find (is_flight_at c span) s.parts ≡ o → Sound s → is_live s.life ≡ true →
-    class < 121 → 0 < count → count ≤ most_regions class → span.pages ≡ pages_at class → found_passes (λ p. p.committed) o ≡ true →
-    Does c s (Land span class count) (land_at s c class count o)
-land_at_does c s span class count None e sound live within some few pages committed = absurd (cc)
-land_at_does c s span class zero (Some p) e sound live within some few pages committed = absurd (omega arith)
-land_at_does c s span class (suc n) (Some p) e sound live within some few pages committed =
+land_at_does : (c : ℕ) (s : Space) (span : Span) (class count : ℕ) (p : Part) → find (is_flight_at c span) s.parts ≡ Some p → Sound s → is_live s.life ≡ true →
+    class < 121 → 0 < count → count ≤ most_regions class → span.pages ≡ pages_at class → p.committed ≡ true → Does c s (Land span class count) (land_at s c class count (Some p))
+land_at_does c s span class zero p e sound live within some few pages committed = absurd (omega arith)
+land_at_does c s span class (suc n) p e sound live within some few pages committed =
     let at = flight_at c s span p sound live e in
     let addr : ℕ = address_of p.span.first in
     let first : Region = region_of c class (addr + 0 * size_at class) in
@@ -517,11 +536,15 @@ land_at_does c s span class (suc n) (Some p) e sound live within some few pages 
     most_large class large = elim (nat_lt class 36) as (λ b. nat_lt class 36 ≡ b → cond b (regions_at class) 1 ≡ 1)
         [ false ↦ λ h. refl | true ↦ λ h. absurd (omega (arith, ltb-true class 36 h, large)) ] refl
 
-pub land_done_does : (c : ℕ) (s : Space) (span : Span) (class count : ℕ) → Sound s → is_live s.life ≡ true → land_stands s c span class count ≡ true →
-    Does c s (Land span class count) (land_at s c class count (find (is_flight_at c span) s.parts))
-land_done_does c s span class count sound live h =
+pub land_goes : (c : ℕ) (s : Space) (span : Span) (class count : ℕ) → Sound s → is_live s.life ≡ true → land_stands s c span class count ≡ true →
+    Goes c s (Land span class count) (land_at s c class count (find (is_flight_at c span) s.parts))
+land_goes c s span class count sound live h =
     let a = both_true (nat_lt class 121 && nat_lt 0 count && nat_le count (most_regions class) && span.pages == pages_at class) _ h in
     let b = both_true (nat_lt class 121 && nat_lt 0 count && nat_le count (most_regions class)) _ a.0 in
     let d = both_true (nat_lt class 121 && nat_lt 0 count) _ b.0 in
     let f = both_true (nat_lt class 121) _ d.0 in
-    land_at_does c s span class count (find (is_flight_at c span) s.parts) refl sound live (ltb-true _ _ f.0) (ltb-true _ _ f.1) (leb-true _ _ d.1) (eqb-true _ _ b.1) a.1
+    on_found (λ o. Goes c s (Land span class count) (land_at s c class count o)) (λ p. p.committed) (find (is_flight_at c span) s.parts) a.1
+    (λ p e committed.
+    let addr : ℕ = address_of p.span.first in
+    goes sound (land_at_does c s span class count p e sound live (ltb-true _ _ f.0) (ltb-true _ _ f.1) (leb-true _ _ d.1) (eqb-true _ _ b.1) committed)
+    (λ after. LandLanded addr (ap (λ (k : Span). address_of k.first) (found_span c span s.parts p e).0) (landing_holds c class (λ i. addr + i * size_at class) (range_with_len 0 count) s.regions)))

@@ -1,7 +1,7 @@
 -- An answered span against which nothing speaks shares no page with the extents.
 use Rattle.std.proofs.Common.{◌≡◌, ℕ, ◌+◌, ◌-◌, ◌/◌, ◌%◌, ◌<◌, ◌≤◌, true, false, not, cond, ◌==◌, List, [], ◌∷◌, get_or, Option, Some, None, refl, ◌∙◌, subst, arith, find, ◌||◌}
 use Rattle.space_model.proofs.Words.{list_any, option_map, sum_by-cons, get_or-range_with_len, length-range_with_len, nat_tests, OffSpace, Unaligned, Meets, Part, Span, has_page, meets, chunk_span, chunks_of, end_of, holders, is_owned, is_found, is_in_space, why_not}
-use Rattle.space_model.proofs.Lists.{find_nothing, or_false}
+use Rattle.space_model.proofs.Lists.{find_nothing, none_passes, nothing_sum, or_false}
 use Rattle.space_model.proofs.Exchange.{share}
 
 -- an extent that doesn't meet a span has no page of it
@@ -10,12 +10,7 @@ apart-share page s p apart has = grind (arith, nat_tests)
 
 -- where no extent meets a span, none has a page of it
 pub nobody_holds : (page : ℕ) (s : Span) (ps : List Part) → list_any (λ p. meets p.span s) ps ≡ false → has_page page s ≡ true → holders page ps ≡ 0
-nobody_holds page s [] apart has = refl
-nobody_holds page s (p ∷ ps) apart has =
-    elim (meets p.span s) as (λ b. meets p.span s ≡ b → (b || list_any (λ q. meets q.span s) ps) ≡ false → holders page (p ∷ ps) ≡ 0) [
-      | true ↦ λ h i. absurd (cc)
-      | false ↦ λ h i. omega (arith, sum_by-cons (share page) p ps, apart-share page s p h has, nobody_holds page s ps i has)
-    ] refl apart
+nobody_holds page s ps apart has = nothing_sum (share page) ps (λ k d h. apart-share page s (get_or ps k d) (none_passes (λ p. meets p.span s) ps k d apart h) has)
 
 -- a page lies in the chunk of its number
 in_its_chunk : (page : ℕ) → has_page page (chunk_span (page / 512)) ≡ true

@@ -1,11 +1,13 @@
 -- Regions that change their holder alone.
-use Rattle.std.proofs.Common.{true, false, ◌≡◌, ℕ, ◌%◌, ◌<◌, Bool, cond, IsTrue, List, [], ◌∷◌, Option, Some, None, refl, ◌∙◌, ap, arith, All, filter, find, get_or}
-use Rattle.space_model.proofs.Words.{sum_by, is_none, sum_by-cons, All-weaker, All-map, align_at, Publish, TakeOver, Noted, Nothing, Part, Region, Space, homes, houses, residents, held_anew, is_held_by, is_published, is_live, is_held_at, is_published_at, after_publish, take_over_at, after_take_over, Sound, IsInSlab}
+use Rattle.std.proofs.Common.{true, false, ◌≡◌, ℕ, ◌%◌, ◌<◌, Bool, cond, IsTrue, List, ◌∷◌, Option, Some, None, refl, ◌∙◌, ap, arith, All, filter, find, get_or, [], ◌&&◌, ◌||◌, ◌==◌}
+use Rattle.space_model.proofs.Words.{sum_by, is_none, sum_by-cons, All-weaker, All-map, align_at, Publish, TakeOver, Noted, Nothing, Part, Region, Space, homes, houses, residents, held_anew, is_held_by, is_published, is_live, is_held_at, is_published_at, after_publish, take_over_at, after_take_over, Sound, IsInSlab, PublishNoted, TakeNoArena, TakeNothing, TakeOwned, holds_at, list_any, starts_at}
 use Rattle.space_model.proofs.Ordered.{ordered-held_anew}
 use Rattle.space_model.proofs.Settled.{Settled, Used, LargeAt, SmallAt, covered, serves_by, sound_settled}
-use Rattle.space_model.proofs.Changes.{Does, regions_does}
+use Rattle.space_model.proofs.Changes.{regions_does}
 use Rattle.space_model.proofs.Pieces.{both_true, not_both, held_by_one}
-use Rattle.space_model.proofs.Moves.{live_is, still, live_does}
+use Rattle.std.proofs.Math.Bool.{or-true}
+use Rattle.space_model.proofs.Outcomes.{Goes, goes, still_goes, live_goes}
+use Rattle.space_model.proofs.Moves.{live_is, itself}
 
 -- the region with another holder, if it passes the test
 abbrev anew : (Region → Bool) → Option ℕ → Region → Region
@@ -75,23 +77,32 @@ published_apart d r h = apart r.holder h
     apart None h = refl
     apart (Some e) h = absurd (cc)
 
-pub publish_does : (c : ℕ) (s : Space) (addr : ℕ) → Sound s → is_live s.life ≡ true → Does c s (Publish addr) (after_publish s c addr)
-publish_does c s addr sound live =
+pub publish_goes : (c : ℕ) (s : Space) (addr : ℕ) → Sound s → is_live s.life ≡ true → Goes c s (Publish addr) (after_publish s c addr)
+publish_goes c s addr sound live =
     let test = is_held_at c addr in
-    regions_does c s (Publish addr) Noted (held_anew test None s.regions) sound (live_is s.life live)
+    goes sound (regions_does c s (Publish addr) Noted (held_anew test None s.regions) sound (live_is s.life live)
     (anew_settled test None s.parts s.regions (sound_settled s sound))
     (λ d other. anew_held d test None s.regions (λ r h. held_by_one c d r other (both_true (is_held_by c r) _ h).0) (λ r. refl))
-    (ordered-held_anew test None s.regions sound.ordered) (λ page before. refl) refl
+    (ordered-held_anew test None s.regions sound.ordered) (λ page before. refl) refl) (λ after. PublishNoted)
 
-take_over_at_does : (c : ℕ) (s : Space) (addr : ℕ) (o : Option Region) → Sound s → is_live s.life ≡ true → Does c s (TakeOver addr) (take_over_at s c addr o)
-take_over_at_does c s addr None sound live = still c s (TakeOver addr) Nothing sound (λ page before. refl, refl, refl)
-take_over_at_does c s addr (Some r) sound live =
+take_over_at_goes : (c : ℕ) (s : Space) (addr : ℕ) (o : Option Region) → find (is_published_at addr) s.regions ≡ o → Sound s → is_live s.life ≡ true → Goes c s (TakeOver addr) (take_over_at s c addr o)
+take_over_at_goes c s addr None e sound live = still_goes c s (TakeOver addr) Nothing sound (λ page before. refl, refl, refl) (TakeNothing refl)
+take_over_at_goes c s addr (Some r) e sound live =
     let test = is_published_at addr in
-    regions_does c s (TakeOver addr) _ (held_anew test (Some c) s.regions) sound (live_is s.life live)
+    goes sound (regions_does c s (TakeOver addr) _ (held_anew test (Some c) s.regions) sound (live_is s.life live)
     (anew_settled test (Some c) s.parts s.regions (sound_settled s sound))
     (λ d other. anew_held d test (Some c) s.regions (λ q h. published_apart d q (both_true (is_published q) _ h).0) (λ q. not_both d c other))
-    (ordered-held_anew test (Some c) s.regions sound.ordered) (λ page before. refl) refl
+    (ordered-held_anew test (Some c) s.regions sound.ordered) (λ page before. refl) refl) (λ after. TakeOwned r.class (taken s.regions e))
+  where
+    taken : (regions : List Region) → find (is_published_at addr) regions ≡ Some r → holds_at c (held_anew (is_published_at addr) (Some c) regions) addr ≡ true
+    taken [] k = absurd (cc)
+    taken (q ∷ qs) k =
+        elim (is_published_at addr q) as (λ b. is_published_at addr q ≡ b → cond b (Some q) (find (is_published_at addr) qs) ≡ Some r →
+        list_any (λ x. is_held_by c x && x.addr == addr) (cond b (record q { holder = Some c }) q ∷ held_anew (is_published_at addr) (Some c) qs) ≡ true) [
+          | true ↦ λ h m. rw (itself c, (both_true _ (starts_at addr q) h).1) refl
+          | false ↦ λ h m. rw (taken qs m) (or-true _)
+        ] refl k
 
-pub take_over_does : (c : ℕ) (s : Space) (addr : ℕ) → Sound s → Does c s (TakeOver addr) (after_take_over s c addr)
-take_over_does c s addr sound =
-    live_does c s (TakeOver addr) _ sound (λ page before. refl, refl, refl) (λ live. take_over_at_does c s addr (find (is_published_at addr) s.regions) sound live)
+pub take_over_goes : (c : ℕ) (s : Space) (addr : ℕ) → Sound s → Goes c s (TakeOver addr) (after_take_over s c addr)
+take_over_goes c s addr sound =
+    live_goes c s (TakeOver addr) _ sound (λ page before. refl, refl, refl) (λ h. TakeNoArena h refl) (λ live. take_over_at_goes c s addr (find (is_published_at addr) s.regions) refl sound live)

@@ -53,13 +53,6 @@ Same c s op reply = Plain op reply × (lost op reply ≡ 0) × (won c s op reply
 pub still : (c : ℕ) (s : Space) (op : Op) (reply : Reply) → Sound s → Same c s op reply → Does c s op (stays s reply)
 still c s op reply sound same = stays_does c s op reply sound same.0 (same.1 ∙ sym same.2)
 
--- a step that only a live arena makes
-pub live_does : (c : ℕ) (s : Space) (op : Op) (step : Stepped) → Sound s → Same c s op NoArena → (is_live s.life ≡ true → Does c s op step) →
-    Does c s op (if_live s step)
-live_does c s op step sound same does =
-    elim (is_live s.life) as (λ b. is_live s.life ≡ b → Does c s op (cond b step (stays s NoArena)))
-    [ false ↦ λ h. still c s op NoArena sound same | true ↦ λ h. does h ] refl
-
 -- a listed extent is taken out
 pub taken_does : (c : ℕ) (s : Space) (op : Op) (reply : Reply) (p : Part) → Sound s → is_live s.life ≡ true → Listed s.parts p → More c s op reply →
     Does c s op (replaced s p (taken_out c p ∷ []) reply)
@@ -78,9 +71,3 @@ down_does c s op reply span p sound at fewer =
     let lands : flight c (put_down p) ≡ 0 = ap ones (put_down-nobody c (rest_of p.state)) in
     put_does c s op reply (is_flight_at c span) p (put_down p) sound at.live at.found at.piece (Piece-down c p at.piece.fits) refl fewer.0
     (omega (arith, flies, lands, fewer.1, fewer.2))
-
--- an extent whose hook refused is put down whole
-pub whole_does : (c : ℕ) (s : Space) (op : Op) (span : Span) (o : Option Part) → find (is_flight_at c span) s.parts ≡ o → Sound s → is_live s.life ≡ true →
-    Same c s op Noted → Fewer c s op Whole → Does c s op (whole_at s o)
-whole_does c s op span None e sound live same fewer = still c s op Noted sound same
-whole_does c s op span (Some p) e sound live same fewer = down_does c s op Whole span p sound (flight_at c s span p sound live e) fewer

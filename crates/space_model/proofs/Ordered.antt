@@ -17,18 +17,15 @@ lowest r regions h k d lt = h 0 (suc k) d (omega arith) (omega arith)
 rest : (r : Region) (regions : List Region) → Ordered (r ∷ regions) → Ordered regions
 rest r regions h i j d lt within = h (suc i) (suc j) d (omega arith) (omega arith)
 
--- the place behind one more region
-next : (r : Region) (regions : List Region) → 1 + position_or_len (λ x. nat_lt r.addr x.addr) regions ≡ suc (position_or_len (λ x. nat_lt r.addr x.addr) regions)
-next r regions = omega arith
-
 pub ordered-inserted : (r : Region) (regions : List Region) → Ordered regions → Ordered (inserted r regions)
 ordered-inserted r [] h = AllPairs-cons (λ q r. q.addr ≤ r.addr) r [] (λ k d lt. absurd (omega arith)) h
 ordered-inserted r (q ∷ qs) h =
     let up : All (λ x. q.addr ≤ x.addr) qs = lowest q qs h in
+    let next : 1 + position_or_len (λ x. nat_lt r.addr x.addr) qs ≡ suc (position_or_len (λ x. nat_lt r.addr x.addr) qs) = omega arith in
     elim (nat_lt r.addr q.addr) as (λ b. nat_lt r.addr q.addr ≡ b → Ordered (insert (q ∷ qs) (cond (not b) (1 + position_or_len (λ x. nat_lt r.addr x.addr) qs) 0) r)) [
       | true ↦ λ below. AllPairs-cons (λ q r. q.addr ≤ r.addr) r (q ∷ qs)
           (All-cons (λ x. r.addr ≤ x.addr) q qs (grind (arith, nat_tests)) (λ k d lt. let low : r.addr < q.addr = ltb-true _ _ below in omega (arith, up k d lt))) h
-      | false ↦ λ above. rw (next r qs) (AllPairs-cons (λ q r. q.addr ≤ r.addr) q (inserted r qs) (All-insert (λ x. q.addr ≤ x.addr) qs (position_or_len (λ x. nat_lt r.addr x.addr) qs) r up (grind (arith, nat_tests))) (ordered-inserted r qs (rest q qs h)))
+      | false ↦ λ above. rw next (AllPairs-cons (λ q r. q.addr ≤ r.addr) q (inserted r qs) (All-insert (λ x. q.addr ≤ x.addr) qs (position_or_len (λ x. nat_lt r.addr x.addr) qs) r up (grind (arith, nat_tests))) (ordered-inserted r qs (rest q qs h)))
     ] refl
 
 pub ordered-landing : (come regions : List Region) → Ordered regions → Ordered (landing come regions)

@@ -1,30 +1,40 @@
--- What the operations of a purge do: an extent is taken out by age, changes its list or its commit state, is offered, or comes back.
-use Rattle.std.proofs.Common.{true, false, ◌≡◌, ◌≢◌, ℕ, ◌+◌, ◌≤◌, Bool, not, cond, IsTrue, List, [], ◌∷◌, ◌++◌, Option, Some, None, refl, sym, ◌∙◌, ap, subst, arith, All, filter, find, suc, take, drop, ◌&&◌, ◌||◌, ◌==◌, ltb as nat_lt, append-nil}
-use Rattle.space_model.proofs.Words.{list_any, position_or_len, is_some, eqb-true, All-cons, All-nil, All-append, All-head, All-tail, All-take, All-drop, filter-append, Ask, Dalloc, Decommit, PurgeLazy, Answer, Done, Refuses, Heard, Op, PurgeTake, LazyDone, Offer, OfferDone, DecommitDone, Reply, Noted, Nothing, Kept, Abandoned, Offered, Part, Rest, ToDirty, ToMuzzy, ToRetained, Span, Flight as InFlight, Space, IsPlaced, has_page, meets, same_span, holders, is_listed, is_flight_at, is_backed, listed, rest_of, next_flight, pages_listed, stays, replaced, is_live, found_passes, purge_at, after_purge_take, lazy_at, after_lazy, lazy_stands, offer_of, offer_at, is_offer, without_offer, is_regranted, after_offer, offer_stands, decommit_at, after_decommit, decommit_stands, granted_by, is_in_dalloc, flight, lost, won, Sound}
+-- What the operations of a purge do and tell: an extent is taken out by age, changes its list or its commit state, is offered, or comes back.
+use Rattle.std.proofs.Common.{true, false, ◌≡◌, ◌≢◌, ℕ, ◌+◌, ◌≤◌, Bool, not, cond, IsTrue, List, ◌∷◌, ◌++◌, Option, Some, None, refl, sym, ◌∙◌, ap, subst, arith, All, filter, find, suc, take, drop, ◌&&◌, ◌||◌, ◌==◌, ltb as nat_lt, append-nil, []}
+use Rattle.space_model.proofs.Words.{Any-from_list_any, list_any, position_or_len, is_some, eqb-true, All-cons, All-nil, All-append, All-head, All-tail, All-take, All-drop, filter-append, Ask, Dalloc, Decommit, PurgeLazy, Answer, Done, Refuses, Heard, Op, PurgeTake, LazyDone, Offer, OfferDone, DecommitDone, Reply, Noted, Nothing, Kept, Abandoned, Offered, Part, Rest, ToDirty, ToMuzzy, ToRetained, Span, Flight as InFlight, Space, IsPlaced, has_page, meets, same_span, holders, is_listed, is_flight_at, is_backed, listed, rest_of, next_flight, pages_listed, stays, replaced, is_live, found_passes, purge_at, after_purge_take, lazy_at, after_lazy, lazy_stands, offer_of, offer_at, is_offer, without_offer, is_regranted, after_offer, offer_stands, decommit_at, after_decommit, decommit_stands, granted_by, is_in_dalloc, flight, lost, won, Sound, DecommitDid, Flying, ForcedDone, ForcedNoted, LazyDid, OfferAbandoned, OfferKept, OfferNext, OfferNoted, PurgeForced, PurgeNoArena, PurgeNothing, PurgeTaken, forced_stands, is_flight, is_in, is_purgeable, is_yes_or_no, list_any-append, taken_out}
 use Rattle.space_model.proofs.Lists.{false_true, find_passes, ones, without_first, or_false}
 use Rattle.space_model.proofs.Exchange.{share}
 use Rattle.space_model.proofs.Growth.{nobody_holds}
 use Rattle.space_model.proofs.Changes.{Does, Frame, Piece, put_does, frame_does, live_quiet, sound_ranges, go_does, come_does}
-use Rattle.space_model.proofs.Pieces.{both_true, different, not_both}
-use Rattle.space_model.proofs.Moves.{Flight, flight_at, live_is, itself, still, live_does, taken_does}
+use Rattle.space_model.proofs.Pieces.{both_true, different, not_both, found_fits}
+use Rattle.std.proofs.Math.Bool.{or-true}
+use Rattle.space_model.proofs.Found.{found_span, last_flies, span_is}
+use Rattle.space_model.proofs.Outcomes.{Goes, goes, still_goes, live_goes, on_found, put_flies, found_flies, next_flies, belongs, beq_itself}
+use Rattle.space_model.proofs.Moves.{Flight, flight_at, live_is, itself, taken_does}
 
 -- ---- PurgeTake
 
-purge_at_does : (c : ℕ) (s : Space) (rest : Rest) (keep : ℕ) (o : Option Part) → find (λ p. is_listed rest p.state) s.parts ≡ o → Sound s → is_live s.life ≡ true →
-    Does c s (PurgeTake rest keep) (purge_at s c rest o)
-purge_at_does c s rest keep None e sound live = still c s (PurgeTake rest keep) Nothing sound (λ page before. refl, refl, refl)
-purge_at_does c s rest keep (Some p) e sound live =
-    taken_does c s (PurgeTake rest keep) _ p sound live
-    (record { test = λ q. is_listed rest q.state; found = e; rest = rest; is_in = find_passes (λ q. is_listed rest q.state) s.parts p e })
-    (λ page before. refl, refl, refl)
+purge_at_goes : (c : ℕ) (s : Space) (rest : Rest) (keep : ℕ) (o : Option Part) → find (λ p. is_listed rest p.state) s.parts ≡ o → Sound s → is_live s.life ≡ true → is_purgeable rest ≡ true →
+    Goes c s (PurgeTake rest keep) (purge_at s c rest o)
+purge_at_goes c s rest keep None e sound live h = still_goes c s (PurgeTake rest keep) Nothing sound (λ page before. refl, refl, refl) (PurgeNothing refl)
+purge_at_goes c s rest keep (Some p) e sound live h =
+    let is_in = find_passes (λ q. is_listed rest q.state) s.parts p e in
+    let is : rest_of p.state ≡ rest = belongs rest p.state is_in in
+    let committed : p.committed ≡ true = (found_fits s (λ q. is_listed rest q.state) p sound e).backed (subst (λ r. IsTrue (is_backed r)) (sym is) (purge_backed rest h)) in
+    goes sound (taken_does c s (PurgeTake rest keep) _ p sound live (record { test = λ q. is_listed rest q.state; found = e; rest = rest; is_in = is_in }) (λ page before. refl, refl, refl))
+    (λ after. PurgeTaken p.span _ _ (subst (λ (b : Bool). Flying c (purge_at s c rest (Some p)).after p.span b) committed (put_flies c s p (taken_out c p) after (itself c))))
+  where
+    purge_backed : (r : Rest) → is_purgeable r ≡ true → IsTrue (is_backed r)
+    purge_backed ToDirty k = refl
+    purge_backed ToMuzzy k = refl
+    purge_backed ToRetained k = absurd (cc)
 
-pub purge_take_does : (c : ℕ) (s : Space) (rest : Rest) (keep : ℕ) → Sound s → Does c s (PurgeTake rest keep) (after_purge_take s c rest keep)
-purge_take_does c s rest keep sound =
+pub purge_take_goes : (c : ℕ) (s : Space) (rest : Rest) (keep : ℕ) → Sound s → is_purgeable rest ≡ true → Goes c s (PurgeTake rest keep) (after_purge_take s c rest keep)
+purge_take_goes c s rest keep sound h =
     let op : Op = PurgeTake rest keep in
-    live_does c s op _ sound (λ page before. refl, refl, refl)
-    (λ live. elim (nat_lt keep (pages_listed rest s.parts)) as (λ b. Does c s op (cond b (purge_at s c rest (find (λ p. is_listed rest p.state) s.parts)) (stays s Nothing))) [
-      | true ↦ purge_at_does c s rest keep (find (λ p. is_listed rest p.state) s.parts) refl sound live
-      | false ↦ still c s op Nothing sound (λ page before. refl, refl, refl)
+    live_goes c s op _ sound (λ page before. refl, refl, refl) (λ h. PurgeNoArena h refl)
+    (λ live. elim (nat_lt keep (pages_listed rest s.parts)) as (λ b. Goes c s op (cond b (purge_at s c rest (find (λ p. is_listed rest p.state) s.parts)) (stays s Nothing))) [
+      | true ↦ purge_at_goes c s rest keep (find (λ p. is_listed rest p.state) s.parts) refl sound live h
+      | false ↦ still_goes c s op Nothing sound (λ page before. refl, refl, refl) (PurgeNothing refl)
     ])
 
 -- ---- LazyDone and DecommitDone
@@ -38,7 +48,7 @@ turned_flight c s op reply span p q sound at fits same flies plain lose win =
     put_does c s op reply (is_flight_at c span) p q sound at.live at.found at.piece fits same plain (omega (arith, flew, flies, lose, win))
 
 -- a dirty extent is committed
-pub dirty_backed : (rest : Rest) → is_listed ToDirty (listed rest) ≡ true → IsTrue (is_backed rest)
+dirty_backed : (rest : Rest) → is_listed ToDirty (listed rest) ≡ true → IsTrue (is_backed rest)
 dirty_backed ToDirty h = refl
 dirty_backed ToMuzzy h = absurd (cc)
 dirty_backed ToRetained h = absurd (cc)
@@ -49,36 +59,54 @@ retained_free ToDirty h = absurd (cc)
 retained_free ToMuzzy h = absurd (cc)
 retained_free ToRetained h = refl
 
-lazy_at_does : (c : ℕ) (s : Space) (heard : Heard) (span : Span) (o : Option Part) → find (is_flight_at c span) s.parts ≡ o → Sound s → is_live s.life ≡ true →
-    found_passes (λ p. is_listed ToDirty (listed (rest_of p.state))) o ≡ true → Does c s (LazyDone heard) (lazy_at s c o)
-lazy_at_does c s heard span None e sound live h = absurd (cc)
-lazy_at_does c s heard span (Some p) e sound live h =
-    let at = flight_at c s span p sound live e in
-    turned_flight c s (LazyDone heard) _ span p (record p { state = InFlight c ToMuzzy }) sound at
-    (record { idle = refl; fits = record { placed = at.piece.fits.placed; backed = λ _. at.piece.fits.backed (dirty_backed (rest_of p.state) h) }; own = λ d other. not_both d c other })
-    refl (ap ones (itself c)) (λ page before. refl) refl refl
+-- so is one in flight that belongs there
+dirty_committed : (c : ℕ) (s : Space) (span : Span) (p : Part) → Sound s → find (is_flight_at c span) s.parts ≡ Some p → is_listed ToDirty (listed (rest_of p.state)) ≡ true → p.committed ≡ true
+dirty_committed c s span p sound e h = (found_fits s (is_flight_at c span) p sound e).backed (dirty_backed (rest_of p.state) h)
 
-pub lazy_does : (c : ℕ) (s : Space) (heard : Heard) (ask : Ask) (answer : Answer) → Sound s → is_live s.life ≡ true → lazy_stands s c ask answer ≡ true →
-    Does c s (LazyDone heard) (after_lazy s c ask answer)
-lazy_does c s heard (PurgeLazy span) Done sound live h = lazy_at_does c s heard span (find (is_flight_at c span) s.parts) refl sound live h
-lazy_does c s heard (PurgeLazy span) Refuses sound live h = still c s (LazyDone heard) _ sound (λ page before. refl, refl, refl)
-lazy_does c s heard ask answer sound live h = still c s (LazyDone heard) Noted sound (λ page before. refl, refl, refl)
-
-decommit_at_does : (c : ℕ) (s : Space) (heard : Heard) (span : Span) (o : Option Part) → find (is_flight_at c span) s.parts ≡ o → Sound s → is_live s.life ≡ true →
-    found_passes (λ p. p.committed && is_listed ToRetained (listed (rest_of p.state))) o ≡ true → Does c s (DecommitDone heard) (decommit_at s o)
-decommit_at_does c s heard span None e sound live h = absurd (cc)
-decommit_at_does c s heard span (Some p) e sound live h =
+pub lazy_goes : (c : ℕ) (s : Space) (heard : Heard) (ask : Ask) (answer : Answer) → heard.ask ≡ ask → Sound s → is_live s.life ≡ true → lazy_stands s c ask answer ≡ true →
+    Goes c s (LazyDone heard) (after_lazy s c ask answer)
+lazy_goes c s heard (PurgeLazy span) Done is sound live h =
+    on_found (λ o. Goes c s (LazyDone heard) (lazy_at s c o)) (λ p. is_listed ToDirty (listed (rest_of p.state))) (find (is_flight_at c span) s.parts) h
+    (λ p e k.
     let at = flight_at c s span p sound live e in
-    let free = retained_free (rest_of p.state) (both_true p.committed _ h).1 in
-    turned_flight c s (DecommitDone heard) _ span p (record p { committed = false }) sound at
+    let q : Part = record p { state = InFlight c ToMuzzy } in
+    let t : Space = (lazy_at s c (Some p)).after in
+    goes sound (turned_flight c s (LazyDone heard) _ span p q sound at
+    (record { idle = refl; fits = record { placed = at.piece.fits.placed; backed = λ _. at.piece.fits.backed (dirty_backed (rest_of p.state) k) }; own = λ d other. not_both d c other })
+    refl (ap ones (itself c)) (λ page before. refl) refl refl)
+    (λ after. LazyDid span true is (subst (λ (k : Span). Flying c t k true) (found_span c span s.parts p e).0
+    (subst (λ (b : Bool). Flying c t p.span b) (dirty_committed c s span p sound e k) (put_flies c s p q after (itself c)))) (λ k. absurd (cc))))
+lazy_goes c s heard (PurgeLazy span) Refuses is sound live h =
+    still_goes c s (LazyDone heard) _ sound (λ page before. refl, refl, refl)
+    (LazyDid span false is (on_found (λ _. Flying c s span true) (λ p. is_listed ToDirty (listed (rest_of p.state))) (find (is_flight_at c span) s.parts) h
+    (λ p e k. record { part = p; found = e; committed = dirty_committed c s span p sound e k })) (λ k. refl))
+lazy_goes c s heard ask answer is sound live h = absurd (cc)
+
+pub decommit_goes : (c : ℕ) (s : Space) (heard : Heard) (ask : Ask) (answer : Answer) → heard.ask ≡ ask → Sound s → is_live s.life ≡ true → decommit_stands s c ask answer ≡ true →
+    Goes c s (DecommitDone heard) (after_decommit s c ask answer)
+decommit_goes c s heard (Decommit span) Done is sound live h =
+    on_found (λ o. Goes c s (DecommitDone heard) (decommit_at s o)) (λ p. p.committed && is_listed ToRetained (listed (rest_of p.state))) (find (is_flight_at c span) s.parts) h
+    (λ p e k.
+    let at = flight_at c s span p sound live e in
+    let q : Part = record p { committed = false } in
+    let free = retained_free (rest_of p.state) (both_true p.committed _ k).1 in
+    goes sound (turned_flight c s (DecommitDone heard) _ span p q sound at
     (record { idle = at.piece.idle; fits = record { placed = at.piece.fits.placed; backed = λ b. absurd (false_true (subst IsTrue free b)) }; own = at.piece.own })
-    refl (ap ones at.own) (λ page before. refl) refl refl
+    refl (ap ones at.own) (λ page before. refl) refl refl)
+    (λ after. DecommitDid span true is (subst (λ (k : Span). Flying c (decommit_at s (Some p)).after k false) (found_span c span s.parts p e).0 (put_flies c s p q after at.own)) (λ k. absurd (cc))))
+decommit_goes c s heard (Decommit span) Refuses is sound live h =
+    still_goes c s (DecommitDone heard) _ sound (λ page before. refl, refl, refl)
+    (DecommitDid span false is (on_found (λ _. Flying c s span true) (λ p. p.committed && is_listed ToRetained (listed (rest_of p.state))) (find (is_flight_at c span) s.parts) h
+    (λ p e k. record { part = p; found = e; committed = (both_true p.committed _ k).0 })) (λ k. refl))
+decommit_goes c s heard ask answer is sound live h = absurd (cc)
 
-pub decommit_does : (c : ℕ) (s : Space) (heard : Heard) (ask : Ask) (answer : Answer) → Sound s → is_live s.life ≡ true → decommit_stands s c ask answer ≡ true →
-    Does c s (DecommitDone heard) (after_decommit s c ask answer)
-decommit_does c s heard (Decommit span) Done sound live h = decommit_at_does c s heard span (find (is_flight_at c span) s.parts) refl sound live h
-decommit_does c s heard (Decommit span) Refuses sound live h = still c s (DecommitDone heard) _ sound (λ page before. refl, refl, refl)
-decommit_does c s heard ask answer sound live h = still c s (DecommitDone heard) Noted sound (λ page before. refl, refl, refl)
+-- ---- ForcedDone
+
+pub forced_goes : (c : ℕ) (s : Space) (heard : Heard) (ask : Ask) (answer : Answer) → heard.ask ≡ ask → Sound s → forced_stands s c ask answer ≡ true → Goes c s (ForcedDone heard) (stays s Noted)
+forced_goes c s heard (PurgeForced span) answer is sound h =
+    on_found (λ _. Goes c s (ForcedDone heard) (stays s Noted)) (λ _. true) (find (is_flight_at c span) s.parts) (both_true (is_yes_or_no answer) _ h).1
+    (λ p e _. still_goes c s (ForcedDone heard) Noted sound (λ page before. refl, refl, refl) (ForcedNoted span p.committed is (found_flies c s span p e) refl))
+forced_goes c s heard ask answer is sound h = absurd (cc)
 
 -- ---- Offer
 
@@ -100,18 +128,22 @@ offer_frame c s parts offers sound placed same = record {
 }
 
 -- an extent in flight goes, and is an offer from now on
-pub offer_does : (c : ℕ) (s : Space) (span : Span) (o : Option Part) → find (is_flight_at c span) s.parts ≡ o → Sound s → is_live s.life ≡ true →
-    found_passes (λ _. true) o ≡ true → Does c s (Offer span) (offer_at s c o)
-offer_does c s span None e sound live h = absurd (cc)
-offer_does c s span (Some p) e sound live h =
+pub offer_goes : (c : ℕ) (s : Space) (span : Span) → Sound s → is_live s.life ≡ true → found_passes (λ _. true) (find (is_flight_at c span) s.parts) ≡ true →
+    Goes c s (Offer span) (offer_at s c (find (is_flight_at c span) s.parts))
+offer_goes c s span sound live h =
+    on_found (λ o. Goes c s (Offer span) (offer_at s c o)) (λ _. true) (find (is_flight_at c span) s.parts) h
+    (λ p e _.
     let at = flight_at c s span p sound live e in
     let t : Space = (offer_at s c (Some p)).after in
     let flies : flight c p ≡ 1 = ap ones at.own in
-    go_does c s t (Offer span) Noted (is_flight_at c span) p sound e at.piece refl refl
+    let same = (both_true (is_flight c p.state) _ (find_passes (is_flight_at c span) s.parts p e)).1 in
+    let is : is_offer c span p.committed (offer_of c p) ≡ true = rw (itself c, same, beq_itself p.committed) refl in
+    goes sound (go_does c s t (Offer span) Noted (is_flight_at c span) p sound e at.piece refl refl
     (offer_frame c s t.parts t.offers sound
     (All-append (λ o. IsPlaced o.span) s.offers (offer_of c p ∷ []) sound.offered (All-cons (λ o. IsPlaced o.span) (offer_of c p) [] at.piece.fits.placed (All-nil (λ o. IsPlaced o.span))))
     (λ d other. filter-append (λ o. o.client == d) s.offers (offer_of c p ∷ []) ∙ ap (λ b. filter (λ (o : Offered). o.client == d) s.offers ++ cond b (offer_of c p ∷ []) []) (not_both d c other) ∙ append-nil _))
-    (live_quiet s t at.live refl) (λ page before. ap (λ b. before && not b) (sym (same_page page p.span span at.first at.pages))) (omega (arith, flies))
+    (live_quiet s t at.live refl) (λ page before. ap (λ b. before && not b) (sym (same_page page p.span span at.first at.pages))) (omega (arith, flies)))
+    (λ after. OfferNoted p.committed (list_any-append (is_offer c span p.committed) s.offers (offer_of c p ∷ []) ∙ rw is (or-true _))))
 
 -- ---- OfferDone
 
@@ -121,17 +153,11 @@ others_offer c d span committed o other h = different o.client c d (both_true (o
 
 -- a span that is offered is placed
 offer_placed : (c : ℕ) (span : Span) (committed : Bool) (offers : List Offered) → All (λ o. IsPlaced o.span) offers → list_any (is_offer c span committed) offers ≡ true → IsPlaced span
-offer_placed c span committed [] placed h = absurd (cc)
-offer_placed c span committed (o ∷ os) placed h =
-    elim (is_offer c span committed o) as (λ b. is_offer c span committed o ≡ b → (b || list_any (is_offer c span committed) os) ≡ true → IsPlaced span) [
-      | true ↦ λ e k.
-          let at : IsPlaced o.span = All-head (λ o. IsPlaced o.span) o os placed in
-          let same = both_true (o.span.first == span.first) (o.span.pages == span.pages) (both_true (o.client == c) _ (both_true (o.client == c && same_span o.span span) _ e).0).1 in
-          let first = eqb-true o.span.first span.first same.0 in
-          let pages = eqb-true o.span.pages span.pages same.1 in
-          (omega (arith, at.0, pages), omega (arith, at.1, first), omega (arith, at.2, first, pages))
-      | false ↦ λ e k. offer_placed c span committed os (All-tail (λ o. IsPlaced o.span) o os placed) k
-    ] refl h
+offer_placed c span committed offers placed h =
+    let there = Any-from_list_any (is_offer c span committed) offers h in
+    let o : Offered = there.1 in
+    let at : IsPlaced o.span = subst (λ (x : Offered). IsPlaced x.span) there.3 (placed there.0 o there.2) in
+    subst IsPlaced (span_is o.span span (both_true (o.client == c) _ (both_true (o.client == c && same_span o.span span) _ there.4).0).1) at
 
 -- the offer goes, and the extents are as they were or have one more
 taken_frame : (c : ℕ) (s : Space) (span : Span) (committed : Bool) (parts : List Part) → Sound s →
@@ -163,19 +189,21 @@ kept_does c s heard found span committed is sound live placed fresh =
     (record { idle = refl; fits = record { placed = placed; backed = λ h. absurd (false_true h) }; own = λ d other. not_both d c other }) most
     (taken_frame c s span committed t.parts sound) (live_quiet s t (live_is s.life live) refl) (λ page before. ap (λ ask. before || is_in_dalloc page ask) is) (omega (arith, flies))
 
-pub offer_done_does : (c : ℕ) (s : Space) (heard : Heard) (found : Option ℕ) (ask : Ask) (answer : Answer) → heard.ask ≡ ask → Sound s → is_live s.life ≡ true →
-    offer_stands s c ask answer ≡ true → Does c s (OfferDone heard found) (after_offer s c found ask answer)
-offer_done_does c s heard found (Dalloc span committed) Done is sound live h =
-    frame_does c s (record s { offers = without_offer c span committed s.offers }) (OfferDone heard found) _ sound refl refl
-    (taken_frame c s span committed s.parts sound) (live_quiet s _ (live_is s.life live) refl) (λ page before. refl) refl
-offer_done_does c s heard found (Dalloc span committed) Refuses is sound live h =
+pub offer_done_goes : (c : ℕ) (s : Space) (heard : Heard) (found : Option ℕ) (ask : Ask) (answer : Answer) → heard.ask ≡ ask → Sound s → is_live s.life ≡ true →
+    offer_stands s c ask answer ≡ true → Goes c s (OfferDone heard found) (after_offer s c found ask answer)
+offer_done_goes c s heard found (Dalloc span committed) Done is sound live h =
     let t : Space = record s { offers = without_offer c span committed s.offers } in
+    goes sound (frame_does c s t (OfferDone heard found) _ sound refl refl (taken_frame c s span committed s.parts sound) (live_quiet s t (live_is s.life live) refl) (λ page before. refl) refl)
+    (λ after. OfferNext (next_flight c s.parts) (next_flies c t))
+offer_done_goes c s heard found (Dalloc span committed) Refuses is sound live h =
+    let t : Space = record s { offers = without_offer c span committed s.offers } in
+    let p : Part = record { span = span; state = InFlight c ToRetained; committed = committed } in
     let op : Op = OfferDone heard found in
-    elim (is_regranted found span s.parts) as (λ b. is_regranted found span s.parts ≡ b → Does c s op (cond b (stays t (Abandoned (next_flight c s.parts))) (record {
-      after = record t { parts = s.parts ++ record { span = span; state = InFlight c ToRetained; committed = committed } ∷ [] };
-      reply = Kept;
-    }))) [
-      | true ↦ λ e. frame_does c s t op _ sound refl refl (taken_frame c s span committed s.parts sound) (live_quiet s t (live_is s.life live) refl) (λ page before. refl) refl
-      | false ↦ λ e. kept_does c s heard found span committed is sound live (offer_placed c span committed s.offers sound.offered h) e
+    elim (is_regranted found span s.parts) as (λ b. is_regranted found span s.parts ≡ b →
+    Goes c s op (cond b (stays t (Abandoned (next_flight c s.parts))) (record { after = record t { parts = s.parts ++ p ∷ [] }; reply = Kept }))) [
+      | true ↦ λ e. goes sound (frame_does c s t op _ sound refl refl (taken_frame c s span committed s.parts sound) (live_quiet s t (live_is s.life live) refl) (λ page before. refl) refl)
+          (λ after. OfferAbandoned (next_flight c s.parts) (next_flies c t))
+      | false ↦ λ e. goes sound (kept_does c s heard found span committed is sound live (offer_placed c span committed s.offers sound.offered h) e)
+          (λ after. OfferKept span committed is (last_flies c (record t { parts = s.parts ++ p ∷ [] }) s.parts p committed after refl (itself c) refl))
     ] refl
-offer_done_does c s heard found ask answer is sound live h = still c s (OfferDone heard found) Noted sound (λ page before. refl, refl, refl)
+offer_done_goes c s heard found ask answer is sound live h = absurd (cc)

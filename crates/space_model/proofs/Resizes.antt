@@ -1,15 +1,17 @@
 -- What the operations of a resize do: they look for pages behind a large region, join them to it, or cut some off.
-use Rattle.std.proofs.Common.{true, false, ◌≡◌, ◌≢◌, ℕ, ◌+◌, ◌-◌, ◌<◌, ◌≤◌, Bool, not, cond, List, [], ◌∷◌, get_or, Option, Some, None, refl, sym, ◌∙◌, ap, subst, arith, All, find, filter, ◌&&◌, ◌==◌, leb as nat_le, ltb as nat_lt}
-use Rattle.space_model.proofs.Words.{sum_by, count_by, position_or_len, option_map, option_and_then, eqb-true, leb-true, ltb-true, sum_by-cons, All-weaker, All-cons, All-nil, pages_at, size_bounds, large_size, Ask, Merge, Split, Answer, Done, Refuses, Heard, Reply, Widen, JoinDone, TrimDone, Noted, Nothing, Whole, Part, Region, Span, State, Active, Flight as InFlight, Space, IsPlaced, end_of, has_page, same_span, holders, exchanged, begins_at, is_active, is_flight, is_flight_at, taken_out, is_listed, is_unused, rest_of, address_of, houses, homes, residents, is_held_by, starts_at, is_in, without_client, stays, is_live, is_yes_or_no, found_passes, low_piece, high_piece, joined, begins_either, flight, lost, won, is_large_at, with_home, large_home, reclassed, is_spare, is_open, widen_by, widen_at, after_widen, is_large_class, has_large, widened_at, after_join, join_stands, trimmed_at, after_trim_done, trim_done_stands, Sound, IsQuiet}
-use Rattle.space_model.proofs.Lists.{all_sum_le, find_has, find_passes, ones, only_one, sum_nothing}
+use Rattle.std.proofs.Common.{true, false, ◌≡◌, ◌≢◌, ℕ, ◌+◌, ◌-◌, ◌<◌, ◌≤◌, Bool, not, cond, List, ◌∷◌, get_or, Option, Some, None, refl, sym, ◌∙◌, ap, subst, arith, All, find, filter, ◌&&◌, ◌==◌, leb as nat_le, ltb as nat_lt, [], ◌++◌, append_assoc}
+use Rattle.space_model.proofs.Words.{sum_by, count_by, position_or_len, option_map, option_and_then, eqb-true, leb-true, ltb-true, sum_by-cons, All-weaker, All-cons, All-nil, pages_at, size_bounds, large_size, Ask, Merge, Split, Answer, Done, Refuses, Heard, Widen, JoinDone, TrimDone, Noted, Nothing, Whole, Part, Region, Span, State, Active, Flight as InFlight, Space, IsPlaced, end_of, has_page, same_span, holders, exchanged, begins_at, is_active, is_flight, is_flight_at, taken_out, is_listed, is_unused, rest_of, address_of, houses, homes, residents, is_held_by, starts_at, is_in, without_client, stays, is_live, is_yes_or_no, found_passes, low_piece, high_piece, joined, begins_either, flight, is_large_at, with_home, large_home, reclassed, is_spare, is_open, widen_by, widen_at, is_large_class, has_large, widened_at, after_join, join_stands, trimmed_at, after_trim_done, trim_done_stands, Sound, IsQuiet, JoinLanded, JoinWhole, TrimCut, TrimWhole, WidenNoted, WidenNothing, WidenTook, inserted, sum_by-insert}
+use Rattle.space_model.proofs.Lists.{all_sum_le, find_has, find_passes, ones, only_one, sum_nothing, counted_any}
 use Rattle.space_model.proofs.Exchange.{share}
 use Rattle.space_model.proofs.Mixes.{Mix, mix_sum, mix_first, mix_filter, mixed_first, mixed_filter, mixed_append, mixed_insert}
 use Rattle.space_model.proofs.Ordered.{Ordered, ordered-filter, ordered-inserted}
 use Rattle.space_model.proofs.Settled.{Settled, Used, LargeAt, serves, serves_by, covered, covers_start, idle_settled, both_settled}
-use Rattle.space_model.proofs.Changes.{Does, Plain, IsLawful, Frame, Fits, Piece, pieces_home, pieces_own, one_left, lawful_sums, kept_frame, live_quiet, sound_ranges}
+use Rattle.space_model.proofs.Changes.{Does, IsLawful, Frame, Fits, Piece, pieces_home, pieces_own, one_left, lawful_sums, kept_frame, live_quiet, sound_ranges}
 use Rattle.space_model.proofs.Pieces.{both_true, Listed, found_fits, two_left, joined_share, cut_shares, Fits-joined, Fits-low, Fits-high, Piece-taken, active_own, held_by_one}
 use Rattle.space_model.proofs.Landing.{eqb_itself, ones_most, one_settled}
-use Rattle.space_model.proofs.Moves.{live_is, itself, flight_at, still, taken_does, whole_does}
+use Rattle.space_model.proofs.Found.{last_flies}
+use Rattle.space_model.proofs.Outcomes.{Comes, Goes, goes, still_goes, on_found, put_flies, whole_goes, any_found}
+use Rattle.space_model.proofs.Moves.{live_is, itself, flight_at, taken_does}
 use Rattle.space_model.proofs.Settings.{client_does, without_others}
 
 -- ---- Widen
@@ -25,22 +27,22 @@ spare_listed page pages parts p e =
     let passes = both_true (is_unused p.state && begins_at page p) _ (find_passes (is_spare page pages) parts p e) in
     record { test = is_spare page pages; found = e; rest = rest_of p.state; is_in = unused_listed p.state (both_true (is_unused p.state) _ passes.0).0 }
 
-widen_by_does : (c : ℕ) (s : Space) (addr pages page lacking : ℕ) (o : Option Part) → find (is_spare page lacking) s.parts ≡ o → Sound s → is_live s.life ≡ true →
-    Does c s (Widen addr pages) (widen_by s c page o)
-widen_by_does c s addr pages page lacking (Some p) e sound live =
-    taken_does c s (Widen addr pages) _ p sound live (spare_listed page lacking s.parts p e) (λ page before. refl, refl, refl)
-widen_by_does c s addr pages page lacking None e sound live =
-    elim (is_open s.parts page) as (λ b. Does c s (Widen addr pages) (stays s (cond b Noted Nothing)))
-    [ true ↦ still c s (Widen addr pages) Noted sound (λ page before. refl, refl, refl) | false ↦ still c s (Widen addr pages) Nothing sound (λ page before. refl, refl, refl) ]
+widen_by_goes : (c : ℕ) (s : Space) (addr pages page lacking : ℕ) (o : Option Part) → find (is_spare page lacking) s.parts ≡ o → Sound s → is_live s.life ≡ true →
+    Goes c s (Widen addr pages) (widen_by s c page o)
+widen_by_goes c s addr pages page lacking (Some p) e sound live =
+    goes sound (taken_does c s (Widen addr pages) _ p sound live (spare_listed page lacking s.parts p e) (λ page before. refl, refl, refl))
+    (λ after. WidenTook p.span p.committed (put_flies c s p (taken_out c p) after (itself c)))
+widen_by_goes c s addr pages page lacking None e sound live =
+    elim (is_open s.parts page) as (λ b. Goes c s (Widen addr pages) (stays s (cond b Noted Nothing))) [
+      | true ↦ still_goes c s (Widen addr pages) Noted sound (λ page before. refl, refl, refl) (WidenNoted refl)
+      | false ↦ still_goes c s (Widen addr pages) Nothing sound (λ page before. refl, refl, refl) (WidenNothing refl)
+    ]
 
-widen_at_does : (c : ℕ) (s : Space) (addr pages : ℕ) (o : Option (Region × Part)) → Sound s → is_live s.life ≡ true → Does c s (Widen addr pages) (widen_at s c pages o)
-widen_at_does c s addr pages None sound live = still c s (Widen addr pages) Noted sound (λ page before. refl, refl, refl)
-widen_at_does c s addr pages (Some home) sound live =
+pub widen_goes : (c : ℕ) (s : Space) (addr pages : ℕ) (o : Option (Region × Part)) → Sound s → is_live s.life ≡ true → Goes c s (Widen addr pages) (widen_at s c pages o)
+widen_goes c s addr pages None sound live = still_goes c s (Widen addr pages) Noted sound (λ page before. refl, refl, refl) (WidenNoted refl)
+widen_goes c s addr pages (Some home) sound live =
     let span : Span = home.1.span in
-    widen_by_does c s addr pages (end_of span) (pages - span.pages) (find (is_spare (end_of span) (pages - span.pages)) s.parts) refl sound live
-
-pub widen_does : (c : ℕ) (s : Space) (addr pages : ℕ) → Sound s → is_live s.life ≡ true → Does c s (Widen addr pages) (after_widen s c addr pages)
-widen_does c s addr pages sound live = widen_at_does c s addr pages (large_home s c addr) sound live
+    widen_by_goes c s addr pages (end_of span) (pages - span.pages) (find (is_spare (end_of span) (pages - span.pages)) s.parts) refl sound live
 
 -- ---- a large region that takes another class
 
@@ -184,13 +186,11 @@ large_passes c s addr test home e h =
 
 -- ---- JoinDone
 
-joined_does : (c : ℕ) (s : Space) (heard : Heard) (class : ℕ) (low high : Span) (o : Option (Region × Part)) (u : Option Part) →
-    large_home s c (address_of low.first) ≡ o → find (is_flight_at c high) s.parts ≡ u → Sound s → is_live s.life ≡ true → 36 ≤ class → class < 121 →
+joined_does : (c : ℕ) (s : Space) (heard : Heard) (class : ℕ) (low high : Span) (home : Region × Part) (q : Part) →
+    large_home s c (address_of low.first) ≡ Some home → find (is_flight_at c high) s.parts ≡ Some q → Sound s → is_live s.life ≡ true → 36 ≤ class → class < 121 →
     low.pages + high.pages ≡ pages_at class → end_of low ≡ high.first → has_large s c (address_of low.first) (λ p. same_span p.span low) ≡ true →
-    Does c s (JoinDone heard class) (widened_at s class o u)
-joined_does c s heard class low high None u e f sound live big within whole side fits = still c s (JoinDone heard class) Noted sound (λ page before. refl, refl, refl)
-joined_does c s heard class low high (Some home) None e f sound live big within whole side fits = still c s (JoinDone heard class) Noted sound (λ page before. refl, refl, refl)
-joined_does c s heard class low high (Some home) (Some q) e f sound live big within whole side fits =
+    Does c s (JoinDone heard class) (widened_at s class (Some home) (Some q))
+joined_does c s heard class low high home q e f sound live big within whole side fits =
     let r : Region = home.0 in
     let p : Part = home.1 in
     let both : Part = joined p q in
@@ -239,19 +239,41 @@ joined_does c s heard class low high (Some home) (Some q) e f sound live big wit
       flew = omega (arith, moved (flight c), lands, flies, sum_by-cons (flight c) q [], sum_by-cons (flight c) both []);
     }
 
-pub join_done_does : (c : ℕ) (s : Space) (heard : Heard) (class : ℕ) (ask : Ask) (answer : Answer) → Sound s → is_live s.life ≡ true → join_stands s c class ask answer ≡ true →
-    Does c s (JoinDone heard class) (after_join s c class ask answer)
-join_done_does c s heard class (Merge low high) Done sound live h =
-    let a = both_true (is_large_class class && low.pages + high.pages == pages_at class && end_of low == high.first && has_large s c (address_of low.first) (λ p. same_span p.span low)) _ h in
+-- and its client holds it
+joined_comes : (c : ℕ) (s : Space) (heard : Heard) (class addr : ℕ) (home : Region × Part) (q : Part) → large_home s c addr ≡ Some home → Comes c s (JoinDone heard class) (widened_at s class (Some home) (Some q))
+joined_comes c s heard class addr home q e after =
+    let r : Region = home.0 in
+    let other : Region = record r { class = class } in
+    let rest : List Region = filter (λ x. not (starts_at r.addr x)) s.regions in
+    let held = (home_found c s addr home e).held in
+    let is : Region → Bool = λ x. is_held_by c x && x.addr == r.addr in
+    let one : ones (is other) ≡ 1 = rw (held, eqb_itself r.addr) refl in
+    JoinLanded r.addr (counted_any is (inserted other rest)
+    (omega (arith, one, sum_by-insert (λ x. ones (is x)) rest (position_or_len (λ (x : Region). nat_lt other.addr x.addr) rest) other)))
+
+-- what is so of a large region and its extent is so of what was found, where the extent passes a test
+on_home : (P : Option (Region × Part) → Type 0) (test : Part → Bool) (o : Option (Region × Part)) → found_passes test (option_map (λ home. home.1) o) ≡ true →
+    ((home : Region × Part) → o ≡ Some home → P (Some home)) → P o
+on_home P test None h each = absurd (cc)
+on_home P test (Some home) h each = each home refl
+
+pub join_done_goes : (c : ℕ) (s : Space) (heard : Heard) (class : ℕ) (ask : Ask) (answer : Answer) → heard.ask ≡ ask → Sound s → is_live s.life ≡ true → join_stands s c class ask answer ≡ true →
+    Goes c s (JoinDone heard class) (after_join s c class ask answer)
+join_done_goes c s heard class (Merge low high) Done is sound live h =
+    let same : Part → Bool = λ p. same_span p.span low in
+    let a = both_true (is_large_class class && low.pages + high.pages == pages_at class && end_of low == high.first && has_large s c (address_of low.first) same) _ h in
     let b = both_true (is_large_class class && low.pages + high.pages == pages_at class && end_of low == high.first) _ a.0 in
     let d = both_true (is_large_class class && low.pages + high.pages == pages_at class) _ b.0 in
     let e = both_true (is_large_class class) _ d.0 in
     let f = both_true (nat_le 36 class) _ e.0 in
-    joined_does c s heard class low high (large_home s c (address_of low.first)) (find (is_flight_at c high) s.parts) refl refl sound live
-    (leb-true _ _ f.0) (ltb-true _ _ f.1) (eqb-true _ _ e.1) (eqb-true _ _ d.1) b.1
-join_done_does c s heard class (Merge low high) Refuses sound live h =
-    whole_does c s (JoinDone heard class) high (find (is_flight_at c high) s.parts) refl sound live (λ page before. refl, refl, refl) (λ page before. refl, refl, refl)
-join_done_does c s heard class ask answer sound live h = still c s (JoinDone heard class) Noted sound (λ page before. refl, refl, refl)
+    on_home (λ o. Goes c s (JoinDone heard class) (widened_at s class o (find (is_flight_at c high) s.parts))) same (large_home s c (address_of low.first)) b.1
+    (λ home k. on_found (λ u. Goes c s (JoinDone heard class) (widened_at s class (Some home) u)) (λ p. p.committed) (find (is_flight_at c high) s.parts) a.1
+    (λ q m _. goes sound (joined_does c s heard class low high home q k m sound live (leb-true _ _ f.0) (ltb-true _ _ f.1) (eqb-true _ _ e.1) (eqb-true _ _ d.1) b.1)
+    (joined_comes c s heard class (address_of low.first) home q k)))
+join_done_goes c s heard class (Merge low high) Refuses is sound live h =
+    let a = both_true (is_large_class class && low.pages + high.pages == pages_at class && end_of low == high.first && has_large s c (address_of low.first) (λ p. same_span p.span low)) _ h in
+    whole_goes c s (JoinDone heard class) high sound live (any_found (λ p. p.committed) (find (is_flight_at c high) s.parts) a.1) (λ page before. refl, refl, refl) (λ t. JoinWhole low high is)
+join_done_goes c s heard class ask answer is sound live h = absurd (cc)
 
 -- ---- TrimDone
 
@@ -331,23 +353,30 @@ trimmed_does c s heard class span left home e sound live big within exact fewer 
       flew = omega (arith, moved (flight c), lands, stands, flies);
     }
 
--- nothing but the end of the shrinking
-shrunk : (c : ℕ) (s : Space) (heard : Heard) (class : ℕ) (reply : Reply) → Sound s → is_live s.life ≡ true → Plain (TrimDone heard class) reply →
-    lost (TrimDone heard class) reply ≡ won c s (TrimDone heard class) reply → Does c s (TrimDone heard class) (stays (record s { trims = without_client c s.trims }) reply)
-shrunk c s heard class reply sound live plain same =
-    client_does c s s.bound (without_client c s.trims) (TrimDone heard class) reply sound live (λ d other. refl) (λ d other. without_others d c s.trims other) plain same
+-- and the pages that were cut off are in flight
+trimmed_comes : (c : ℕ) (s : Space) (heard : Heard) (class left addr : ℕ) (home : Region × Part) → Sound s → large_home s c addr ≡ Some home →
+    Comes c s (TrimDone heard class) (trimmed_at (record s { trims = without_client c s.trims }) c left class (Some home))
+trimmed_comes c s heard class left addr home sound e after =
+    let p : Part = home.1 in
+    let found = home_found c s addr home e in
+    let at = housed s _ home.0 p sound found.region found.house found.large in
+    let front : List Part = filter (λ q. not (begins_at p.span.first q)) s.parts in
+    let low : Part = low_piece left p in
+    let high : Part = taken_out c (high_piece left p) in
+    TrimCut high.span (last_flies c (trimmed_at (record s { trims = without_client c s.trims }) c left class (Some home)).after (front ++ low ∷ []) high true after
+    (sym (append_assoc front (low ∷ []) (high ∷ []))) (itself c) at.committed)
 
-pub trim_done_does : (c : ℕ) (s : Space) (heard : Heard) (class : ℕ) (ask : Ask) (answer : Answer) → Sound s → is_live s.life ≡ true → trim_done_stands s c class ask answer ≡ true →
-    Does c s (TrimDone heard class) (after_trim_done s c class ask answer)
-trim_done_does c s heard class (Split span left) Done sound live h =
+pub trim_done_goes : (c : ℕ) (s : Space) (heard : Heard) (class : ℕ) (ask : Ask) (answer : Answer) → Sound s → is_live s.life ≡ true → trim_done_stands s c class ask answer ≡ true →
+    Goes c s (TrimDone heard class) (after_trim_done s c class ask answer)
+trim_done_goes c s heard class (Split span left) Done sound live h =
     let a = both_true (is_yes_or_no Done && is_in c s.trims && is_large_class class && left == pages_at class && nat_lt left span.pages) _ h in
     let b = both_true (is_yes_or_no Done && is_in c s.trims && is_large_class class && left == pages_at class) _ a.0 in
     let d = both_true (is_yes_or_no Done && is_in c s.trims && is_large_class class) _ b.0 in
     let f = both_true (nat_le 36 class) _ (both_true (is_yes_or_no Done && is_in c s.trims) _ d.0).1 in
-    elim (large_home s c (address_of span.first)) as (λ o. large_home s c (address_of span.first) ≡ o →
-    Does c s (TrimDone heard class) (trimmed_at (record s { trims = without_client c s.trims }) c left class o)) [
-      | None ↦ λ e. shrunk c s heard class Noted sound live (λ page before. refl) refl
-      | Some home ↦ λ e. trimmed_does c s heard class span left home e sound live (leb-true _ _ f.0) (ltb-true _ _ f.1) (eqb-true _ _ d.1) (ltb-true _ _ b.1) a.1
-    ] refl
-trim_done_does c s heard class (Split span left) Refuses sound live h = shrunk c s heard class Whole sound live (λ page before. refl) refl
-trim_done_does c s heard class ask answer sound live h = shrunk c s heard class Noted sound live (λ page before. refl) refl
+    on_home (λ o. Goes c s (TrimDone heard class) (trimmed_at (record s { trims = without_client c s.trims }) c left class o)) (λ p. same_span p.span span) (large_home s c (address_of span.first)) a.1
+    (λ home e. goes sound (trimmed_does c s heard class span left home e sound live (leb-true _ _ f.0) (ltb-true _ _ f.1) (eqb-true _ _ d.1) (ltb-true _ _ b.1) a.1)
+    (trimmed_comes c s heard class left (address_of span.first) home sound e))
+trim_done_goes c s heard class (Split span left) Refuses sound live h =
+    goes sound (client_does c s s.bound (without_client c s.trims) (TrimDone heard class) Whole sound live (λ d other. refl) (λ d other. without_others d c s.trims other) (λ page before. refl) refl)
+    (λ after. TrimWhole refl)
+trim_done_goes c s heard class ask answer sound live h = absurd (cc)

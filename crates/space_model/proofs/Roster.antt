@@ -1,35 +1,19 @@
 -- Lists of clients: that each is in them once, and how many there may be.
-use Rattle.std.proofs.Common.{◌≡◌, ℕ, zero, suc, ◌+◌, ◌<◌, ◌≤◌, Bool, true, false, cond, ◌||◌, List, [], ◌∷◌, ◌++◌, filter, length, nat_eq, refl, sym, ◌∙◌, arith, length-append}
-use Rattle.space_model.proofs.Words.{list_any, AllByRecursion, range_with_len, eqb-true, nat_tests, list_any-append, length-le_from_distinct_below, is_in, IsRoster, recursion_from_All, All-from_recursion, All-filter, All-push}
-use Rattle.space_model.proofs.Lists.{counted_any, any_counts}
+use Rattle.std.proofs.Common.{◌≢◌, ◌==◌, ◌≡◌, ℕ, zero, suc, ◌+◌, ◌<◌, ◌≤◌, Bool, true, false, cond, ◌||◌, List, [], ◌∷◌, ◌++◌, filter, length, nat_eq, refl, sym, ◌∙◌, arith, length-append}
+use Rattle.space_model.proofs.Words.{list_any, range_with_len, eqb-true, nat_tests, list_any-append, length-le_from_distinct_below, is_in, IsRoster, AllPairs-filter, all_pairs_push}
+use Rattle.space_model.proofs.Lists.{counted_any, any_counts, none_passes}
 use Rattle.space_model.proofs.Mixes.{mix_sum, mixed_filter}
 use Rattle.std.specs.List.{IsDistinct}
+use Rattle.std.proofs.lemmas.Map.Made.{AllPairs-from_IsDistinct, IsDistinct-from_AllPairs}
+use Rattle.std.proofs.lemmas.Bool.Decides.{Decides-eqb}
 
--- what holds of all elements holds of those that a filter keeps
-each-filter : {X : Type 0} (P : X → Type 0) (test : X → Bool) (xs : List X) → AllByRecursion P xs → AllByRecursion P (filter test xs)
-each-filter P test xs h = recursion_from_All P (filter test xs) (All-filter test P xs (All-from_recursion P xs h))
-
--- and of one more where it holds of that
-each-push : {X : Type 0} (P : X → Type 0) (xs : List X) (y : X) → AllByRecursion P xs → P y → AllByRecursion P (xs ++ y ∷ [])
-each-push P xs y h here = recursion_from_All P (xs ++ y ∷ []) (All-push P xs y (All-from_recursion P xs h) here)
-
+-- numbers that are told apart differ
 distinct-filter : (test : ℕ → Bool) (xs : List ℕ) → IsDistinct nat_eq xs → IsDistinct nat_eq (filter test xs)
-unfolding IsDistinct
-distinct-filter test [] h = tt
-distinct-filter test (x ∷ xs) h =
-    elim (test x) as (λ b. IsDistinct nat_eq (cond b (x ∷ filter test xs) (filter test xs))) [
-      | true ↦ (each-filter (λ y. nat_eq x y ≡ false) test xs h.0, distinct-filter test xs h.1)
-      | false ↦ distinct-filter test xs h.1
-    ]
+distinct-filter test xs h = IsDistinct-from_AllPairs Decides-eqb _ (AllPairs-filter (λ x y. x ≢ y) test xs (AllPairs-from_IsDistinct Decides-eqb xs h))
 
 distinct-push : (c : ℕ) (xs : List ℕ) → IsDistinct nat_eq xs → is_in c xs ≡ false → IsDistinct nat_eq (xs ++ c ∷ [])
-unfolding IsDistinct
-distinct-push c [] h new = (tt, tt)
-distinct-push c (x ∷ xs) h new =
-    elim (nat_eq x c) as (λ b. nat_eq x c ≡ b → (b || is_in c xs) ≡ false → IsDistinct nat_eq (x ∷ (xs ++ c ∷ []))) [
-      | true ↦ λ same k. cc
-      | false ↦ λ apart k. (each-push (λ y. nat_eq x y ≡ false) xs c h.0 apart, distinct-push c xs h.1 k)
-    ] refl new
+distinct-push c xs h new =
+    IsDistinct-from_AllPairs Decides-eqb _ (all_pairs_push (λ x y. x ≢ y) xs c (AllPairs-from_IsDistinct Decides-eqb xs h) (λ k d lt e. let apart = none_passes (λ b. b == c) xs k d new lt in grind (arith, nat_tests)))
 
 -- a member of a filtered list is one of the list
 member-filter : (c : ℕ) (test : ℕ → Bool) (xs : List ℕ) → list_any (nat_eq c) (filter test xs) ≡ true → list_any (nat_eq c) xs ≡ true

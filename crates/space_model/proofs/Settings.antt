@@ -1,10 +1,11 @@
 -- What settings, moments and trims do: nothing to extents and regions.
-use Rattle.std.proofs.Common.{true, false, ◌≡◌, ◌≢◌, ℕ, ◌+◌, ◌<◌, ◌≤◌, not, cond, List, [], ◌∷◌, ◌++◌, refl, sym, ap, subst, arith, ℤ, pos, negsuc, ◌≤ℤ◌, All, AllPairs, rules, Some, None, ◌*◌, ◌/◌, ◌-◌, ◌&&◌, ◌||◌, ◌==◌, ltb as nat_lt, leb as nat_le}
-use Rattle.space_model.proofs.Words.{list_any, eqb-true, ltb-true, leb-true, nat_tests, All-weaker, All-push, all_pairs_push, Op, Set, Trim, Advance, Reply, Noted, Nothing, Setting, DirtyMs, MuzzyMs, HookBox, Bind, Unbind, GrowLimit, MakeLive, ToDirty, ToMuzzy, Added, Pace, Life, Live, Absent, Dying, Space, pages_end, pages_listed, with_new, passed, passed_if_any, advanced_in, advance_all, after_advance, new_pace, is_dying, stays, is_live, is_in, with_client, without_client, is_absent, made_live, after_set, is_decay_time, setting_stands, after_trim, Sound, IsPaced, lost, won}
+use Rattle.std.proofs.Common.{◌∙◌, true, false, ◌≡◌, ◌≢◌, ℕ, ◌+◌, ◌<◌, ◌≤◌, not, cond, List, ◌∷◌, ◌++◌, refl, sym, ap, subst, arith, ℤ, pos, negsuc, ◌≤ℤ◌, All, AllPairs, rules, Some, None, ◌*◌, ◌/◌, ◌-◌, ◌&&◌, ◌||◌, ◌==◌, ltb as nat_lt, leb as nat_le, []}
+use Rattle.space_model.proofs.Words.{list_any, eqb-true, ltb-true, leb-true, nat_tests, All-weaker, All-push, all_pairs_push, Op, Set, Trim, Advance, Reply, Noted, Nothing, Setting, DirtyMs, MuzzyMs, HookBox, Bind, Unbind, GrowLimit, MakeLive, ToDirty, ToMuzzy, Added, Pace, Life, Live, Absent, Dying, Space, pages_end, pages_listed, with_new, passed, passed_if_any, advanced_in, advance_all, after_advance, new_pace, is_dying, stays, is_live, is_in, with_client, without_client, is_absent, made_live, after_set, is_decay_time, setting_stands, after_trim, Sound, IsPaced, lost, won, AdvanceLimits, AdvanceNoArena, SetNoArena, SetNoted, SetNothing, TrimNoted, list_any-append, with_setting}
 use Rattle.space_model.proofs.Sums.{listed_fit_space}
-use Rattle.space_model.proofs.Changes.{Does, Plain, Ranges, frame_does, range_frame, sound_ranges, live_quiet}
+use Rattle.space_model.proofs.Changes.{Does, Plain, Ranges, frame_does, range_frame, sound_ranges, live_quiet, kept_frame}
 use Rattle.space_model.proofs.Pieces.{both_true, different, not_both}
-use Rattle.space_model.proofs.Moves.{live_is, still, live_does}
+use Rattle.space_model.proofs.Moves.{live_is, itself}
+use Rattle.space_model.proofs.Outcomes.{Goes, goes, still_goes, live_goes}
 
 -- a new pace of a decay time is in range
 pub new_paced : (ms : ℤ) (now : ℕ) → is_decay_time ms ≡ true → IsPaced (new_pace ms now)
@@ -75,16 +76,16 @@ client_does c s bound trims op reply sound live kept shrinking plain none =
     }) (live_quiet s t (live_is s.life live) refl) plain none
 
 -- an index without an arena gets one
-made_live_does : (c : ℕ) (s : Space) (box_no : ℕ) (dirty_ms muzzy_ms : ℤ) (now : ℕ) → Sound s → setting_stands (MakeLive box_no dirty_ms muzzy_ms now) ≡ true →
-    Does c s (Set (MakeLive box_no dirty_ms muzzy_ms now)) (after_set s c (MakeLive box_no dirty_ms muzzy_ms now))
-made_live_does c s box_no dirty_ms muzzy_ms now sound h =
+made_live_goes : (c : ℕ) (s : Space) (box_no : ℕ) (dirty_ms muzzy_ms : ℤ) (now : ℕ) → Sound s → setting_stands (MakeLive box_no dirty_ms muzzy_ms now) ≡ true →
+    Goes c s (Set (MakeLive box_no dirty_ms muzzy_ms now)) (after_set s c (MakeLive box_no dirty_ms muzzy_ms now))
+made_live_goes c s box_no dirty_ms muzzy_ms now sound h =
     let op : Op = Set (MakeLive box_no dirty_ms muzzy_ms now) in
     let t : Space = made_live s box_no dirty_ms muzzy_ms now in
     let last = both_true (nat_lt box_no 32 && is_decay_time dirty_ms) _ h in
     let first = both_true (nat_lt box_no 32) _ last.0 in
-    elim (is_absent s.life) as (λ b. is_absent s.life ≡ b → Does c s op (cond b (stays t Noted) (stays s Nothing))) [
-      | false ↦ λ e. still c s op Nothing sound (λ page before. refl, refl, refl)
-      | true ↦ λ e. frame_does c s t op Noted sound refl refl (record {
+    elim (is_absent s.life) as (λ b. is_absent s.life ≡ b → Goes c s op (cond b (stays t Noted) (stays s Nothing))) [
+      | false ↦ λ e. still_goes c s op Nothing sound (λ page before. refl, refl, refl) (SetNothing refl)
+      | true ↦ λ e. goes sound (frame_does c s t op Noted sound refl refl (record {
         offered = sound.offered;
         ranges = record {
           box = ltb-true _ _ first.0;
@@ -97,7 +98,7 @@ made_live_does c s box_no dirty_ms muzzy_ms now sound h =
         bound = λ d other. refl;
         trims = λ d other. refl;
         dying = λ d other. sym (absent_undying d s.life e);
-      }) tt (λ page before. refl) refl
+      }) tt (λ page before. refl) refl) (λ after. SetNoted)
     ] refl
   where
     absent_undying : (d : ℕ) (life : Life) → is_absent life ≡ true → is_dying d life ≡ false
@@ -105,26 +106,37 @@ made_live_does c s box_no dirty_ms muzzy_ms now sound h =
     absent_undying d Live e = absurd (cc)
     absent_undying d (Dying x) e = absurd (cc)
 
-pub set_does : (c : ℕ) (s : Space) (setting : Setting) → Sound s → setting_stands setting ≡ true → Does c s (Set setting) (after_set s c setting)
-set_does c s (DirtyMs ms now) sound h = live_does c s (Set (DirtyMs ms now)) _ sound (λ page before. refl, refl, refl)
-    (λ live. range_does c s (record s { dirty = new_pace ms now }) _ sound live refl (record { box = sound.box; dirty = new_paced ms now h; muzzy = sound.muzzy; grow = sound.grow; grow_limit = sound.grow_limit }) refl (λ page before. refl))
-set_does c s (MuzzyMs ms now) sound h = live_does c s (Set (MuzzyMs ms now)) _ sound (λ page before. refl, refl, refl)
-    (λ live. range_does c s (record s { muzzy = new_pace ms now }) _ sound live refl (record { box = sound.box; dirty = sound.dirty; muzzy = new_paced ms now h; grow = sound.grow; grow_limit = sound.grow_limit }) refl (λ page before. refl))
-set_does c s (HookBox box_no) sound h = live_does c s (Set (HookBox box_no)) _ sound (λ page before. refl, refl, refl)
-    (λ live. range_does c s (record s { box_no = box_no }) _ sound live refl (record { box = ltb-true _ _ h; dirty = sound.dirty; muzzy = sound.muzzy; grow = sound.grow; grow_limit = sound.grow_limit }) refl (λ page before. refl))
-set_does c s (GrowLimit chunks) sound h =
+change_does : (c : ℕ) (s : Space) (setting : Setting) → Sound s → is_live s.life ≡ true → setting_stands setting ≡ true → Does c s (Set setting) (stays (with_setting s c setting) Noted)
+change_does c s (DirtyMs ms now) sound live h =
+    range_does c s (record s { dirty = new_pace ms now }) _ sound live refl (record { box = sound.box; dirty = new_paced ms now h; muzzy = sound.muzzy; grow = sound.grow; grow_limit = sound.grow_limit }) refl (λ page before. refl)
+change_does c s (MuzzyMs ms now) sound live h =
+    range_does c s (record s { muzzy = new_pace ms now }) _ sound live refl (record { box = sound.box; dirty = sound.dirty; muzzy = new_paced ms now h; grow = sound.grow; grow_limit = sound.grow_limit }) refl (λ page before. refl)
+change_does c s (HookBox box_no) sound live h =
+    range_does c s (record s { box_no = box_no }) _ sound live refl (record { box = ltb-true _ _ h; dirty = sound.dirty; muzzy = sound.muzzy; grow = sound.grow; grow_limit = sound.grow_limit }) refl (λ page before. refl)
+change_does c s (GrowLimit chunks) sound live h =
     let both = both_true (nat_le 1 chunks) _ h in
-    live_does c s (Set (GrowLimit chunks)) _ sound (λ page before. refl, refl, refl)
-    (λ live. range_does c s (record s { grow_limit = chunks }) _ sound live refl (record { box = sound.box; dirty = sound.dirty; muzzy = sound.muzzy; grow = sound.grow; grow_limit = (leb-true _ _ both.0, leb-true _ _ both.1) }) refl (λ page before. refl))
-set_does c s Bind sound h = live_does c s (Set Bind) _ sound (λ page before. refl, refl, refl)
-    (λ live. client_does c s (with_client c s.bound) s.trims (Set Bind) Noted sound live (λ d other. with_others d c s.bound other) (λ d other. refl) (λ page before. refl) refl)
-set_does c s Unbind sound h = live_does c s (Set Unbind) _ sound (λ page before. refl, refl, refl)
-    (λ live. client_does c s (without_client c s.bound) s.trims (Set Unbind) Noted sound live (λ d other. without_others d c s.bound other) (λ d other. refl) (λ page before. refl) refl)
-set_does c s (MakeLive box_no dirty_ms muzzy_ms now) sound h = made_live_does c s box_no dirty_ms muzzy_ms now sound h
+    range_does c s (record s { grow_limit = chunks }) _ sound live refl (record { box = sound.box; dirty = sound.dirty; muzzy = sound.muzzy; grow = sound.grow; grow_limit = (leb-true _ _ both.0, leb-true _ _ both.1) }) refl (λ page before. refl)
+change_does c s Bind sound live h = client_does c s (with_client c s.bound) s.trims (Set Bind) Noted sound live (λ d other. with_others d c s.bound other) (λ d other. refl) (λ page before. refl) refl
+change_does c s Unbind sound live h = client_does c s (without_client c s.bound) s.trims (Set Unbind) Noted sound live (λ d other. without_others d c s.bound other) (λ d other. refl) (λ page before. refl) refl
+change_does c s (MakeLive box_no dirty_ms muzzy_ms now) sound live h = frame_does c s s (Set (MakeLive box_no dirty_ms muzzy_ms now)) Noted sound refl refl (kept_frame c s s.parts s.regions sound) sound.quiet (λ page before. refl) refl
 
-pub trim_does : (c : ℕ) (s : Space) (addr class : ℕ) → Sound s → is_live s.life ≡ true → Does c s (Trim addr class) (after_trim s c)
-trim_does c s addr class sound live =
-    client_does c s s.bound (with_client c s.trims) (Trim addr class) Noted sound live (λ d other. refl) (λ d other. with_others d c s.trims other) (λ page before. refl) refl
+pub set_goes : (c : ℕ) (s : Space) (setting : Setting) → Sound s → setting_stands setting ≡ true → Goes c s (Set setting) (after_set s c setting)
+set_goes c s (MakeLive box_no dirty_ms muzzy_ms now) sound h = made_live_goes c s box_no dirty_ms muzzy_ms now sound h
+set_goes c s setting sound h =
+    live_goes c s (Set setting) _ sound (λ page before. refl, refl, refl) (λ h. SetNoArena h refl) (λ live. goes sound (change_does c s setting sound live h) (λ after. SetNoted))
+
+-- the client is in the list once it is put there
+with_client-there : (c : ℕ) (clients : List ℕ) → is_in c (with_client c clients) ≡ true
+with_client-there c clients =
+    elim (is_in c clients) as (λ b. is_in c clients ≡ b → is_in c (cond b clients (clients ++ c ∷ [])) ≡ true) [
+      | true ↦ λ h. h
+      | false ↦ λ h. list_any-append (λ b. b == c) clients (c ∷ []) ∙ rw (h, itself c) refl
+    ] refl
+
+pub trim_goes : (c : ℕ) (s : Space) (addr class : ℕ) → Sound s → is_live s.life ≡ true → Goes c s (Trim addr class) (after_trim s c)
+trim_goes c s addr class sound live =
+    goes sound (client_does c s s.bound (with_client c s.trims) (Trim addr class) Noted sound live (λ d other. refl) (λ d other. with_others d c s.trims other) (λ page before. refl) refl)
+    (λ after. TrimNoted (with_client-there c s.trims))
 
 -- ---- Advance
 
@@ -177,14 +189,14 @@ advanced_paced pace (pos ms) now current is paced fits =
     elim (ms == 0) as (λ b. IsPaced (cond b (record { pace = pace; limit = Some 0 }) (passed_if_any pace (ms * 5000) ((now - pace.start) / (ms * 5000)) current)).pace)
     [ true ↦ paced | false ↦ passed_if_paced pace ms ((now - pace.start) / (ms * 5000)) current paced is fits ]
 
-pub advance_does : (c : ℕ) (s : Space) (now : ℕ) → Sound s → Does c s (Advance now) (after_advance s now)
-advance_does c s now sound =
+pub advance_goes : (c : ℕ) (s : Space) (now : ℕ) → Sound s → Goes c s (Advance now) (after_advance s now)
+advance_goes c s now sound =
     let t : Space = (advance_all s now).after in
-    live_does c s (Advance now) _ sound (λ page before. refl, refl, refl)
-    (λ live. frame_does c s t (Advance now) _ sound refl refl (range_frame c s t sound (record {
+    live_goes c s (Advance now) _ sound (λ page before. refl, refl, refl) (λ h. AdvanceNoArena h refl)
+    (λ live. goes sound (frame_does c s t (Advance now) _ sound refl refl (range_frame c s t sound (record {
       box = sound.box;
       dirty = advanced_paced s.dirty s.dirty.ms now (pages_listed ToDirty s.parts) refl sound.dirty (listed_fit_space ToDirty s sound);
       muzzy = advanced_paced s.muzzy s.muzzy.ms now (pages_listed ToMuzzy s.parts) refl sound.muzzy (listed_fit_space ToMuzzy s sound);
       grow = sound.grow;
       grow_limit = sound.grow_limit;
-    }) refl refl refl refl) (live_quiet s t (live_is s.life live) refl) (λ page before. refl) refl)
+    }) refl refl refl refl) (live_quiet s t (live_is s.life live) refl) (λ page before. refl) refl) (λ after. AdvanceLimits _ _))

@@ -1,6 +1,7 @@
 -- Sums of bytes: how those of the states add up, and that none is more than the space.
 use Rattle.std.proofs.Common.{◌-◌, inl, inr, ◌<◌, ◌≡◌, ℕ, ◌+◌, ◌*◌, ◌^◌, ◌≤◌, Bool, true, false, cond, List, [], ◌∷◌, refl, sym, ◌∙◌, arith, All}
 use Rattle.space_model.proofs.Words.{sum_by, sum_by-cons, sum_by-le-sum_by, All-weaker, All-head, All-tail, All-cons, cases_lt, nat_tests, size_at, Part, Region, Rest, ToDirty, ToMuzzy, ToRetained, State, Active, Retained, Space, IsPlaced, pages_end, holders, is_active, is_listed, pages_listed, houses, homes, Sound, is_in_flight, bytes_of, bytes_where, region_bytes, region_bytes_where, is_mapped, BytesFitSpace}
+use Rattle.space_model.proofs.Lists.{nothing_sum}
 use Rattle.space_model.proofs.Exchange.{share}
 use Rattle.space_model.proofs.Intervals.{lengths-le}
 use Rattle.space_model.proofs.Settled.{serves}
@@ -54,52 +55,11 @@ pub bytes_pages : (parts : List Part) → sum_by bytes_of parts ≡ 4096 * sum_b
 bytes_pages [] = refl
 bytes_pages (p ∷ ps) = omega (arith, sum_by-cons bytes_of p ps, sum_by-cons (λ p. p.span.pages) p ps, bytes_pages ps)
 
--- the extents have at most all pages
-pub bytes_le : (s : Space) → Sound s → sum_by bytes_of s.parts ≤ 4096 * pages_end
-bytes_le s sound =
-    omega (
-      arith,
-      bytes_pages s.parts,
-      lengths-le (λ (p : Part). p.span.first) (λ p. p.span.pages) pages_end s.parts
-          (All-weaker (λ p. IsPlaced p.span) (λ p. p.span.first + p.span.pages ≤ pages_end) (λ p h. h.2) s.parts sound.placed)
-          sound.owners,
-    )
-
--- a part of a number is at most that
-if_le : (b : Bool) (n : ℕ) → cond b n 0 ≤ n
-if_le true n = omega arith
-if_le false n = omega arith
-
--- the bytes of some of the extents fit
-pub bytes_where_fits : (test : State → Bool) (s : Space) → Sound s → bytes_where test s.parts ≤ 2 ^ 41
-bytes_where_fits test s sound =
-    omega (arith, bytes_le s sound, sum_by-le-sum_by (bytes_if test) bytes_of s.parts (λ p. if_le (test p.state) (bytes_of p)))
-
--- a region that has a home ends within the space
-region_end : (r : Region) (parts : List Part) → All (λ p. IsPlaced p.span) parts → homes r parts ≡ 1 → r.addr + size_at r.class ≤ 4096 * pages_end
-region_end r [] placed home = absurd (omega arith)
-region_end r (p ∷ ps) placed home =
-    elim (houses p r) as (λ b. houses p r ≡ b → cond b 1 0 + homes r ps ≡ 1 → r.addr + size_at r.class ≤ 4096 * pages_end) [
-      | true ↦ λ h k. let here : IsPlaced p.span = All-head (λ p. IsPlaced p.span) p ps placed in grind (arith, nat_tests)
-      | false ↦ λ h k. region_end r ps (All-tail (λ p. IsPlaced p.span) p ps placed) (omega arith)
-    ] refl (sym (sum_by-cons (serves r) p ps) ∙ home)
-
--- the regions have at most all bytes
-pub region_bytes_fits : (s : Space) → Sound s → region_bytes s.regions ≤ 2 ^ 41
-region_bytes_fits s sound =
-    lengths-le (λ (r : Region). r.addr) (λ r. size_at r.class) (4096 * pages_end) s.regions
-    (All-weaker (λ r. homes r s.parts ≡ 1) (λ r. r.addr + size_at r.class ≤ 4096 * pages_end) (λ r h. region_end r s.parts sound.placed h) s.regions sound.homes)
-    sound.apart
-
 -- ---- the space
 
 -- no extent has a page below the first one
 none_below : (page : ℕ) (parts : List Part) → page < 512 → All (λ p. IsPlaced p.span) parts → holders page parts ≡ 0
-none_below page [] low placed = refl
-none_below page (p ∷ ps) low placed =
-    let here : IsPlaced p.span = All-head (λ p. IsPlaced p.span) p ps placed in
-    let nothing : share page p ≡ 0 = grind (arith, nat_tests) in
-    omega (arith, sum_by-cons (share page) p ps, none_below page ps low (All-tail (λ p. IsPlaced p.span) p ps placed))
+none_below page parts low placed = nothing_sum (share page) parts (All-weaker (λ p. IsPlaced p.span) (λ p. share page p ≡ 0) (λ p here. grind (arith, nat_tests)) parts placed)
 
 -- what lies below the first page, as if it were an extent
 below : Part
@@ -130,7 +90,38 @@ pages_fit_space s sound =
 pub bytes_fit_space : BytesFitSpace
 bytes_fit_space s sound = omega (arith, bytes_pages s.parts, pages_fit_space s sound)
 
--- and those of one list no more
+pub bytes_le : (s : Space) → Sound s → sum_by bytes_of s.parts ≤ 4096 * pages_end
+bytes_le s sound = omega (arith, bytes_fit_space s sound)
+
+-- ---- some of them
+
+-- a part of a number is at most that
+if_le : (b : Bool) (n : ℕ) → cond b n 0 ≤ n
+if_le true n = omega arith
+if_le false n = omega arith
+
+-- the bytes of some of the extents fit
+pub bytes_where_fits : (test : State → Bool) (s : Space) → Sound s → bytes_where test s.parts ≤ 2 ^ 41
+bytes_where_fits test s sound =
+    omega (arith, bytes_le s sound, sum_by-le-sum_by (bytes_if test) bytes_of s.parts (λ p. if_le (test p.state) (bytes_of p)))
+
+-- a region that has a home ends within the space
+region_end : (r : Region) (parts : List Part) → All (λ p. IsPlaced p.span) parts → homes r parts ≡ 1 → r.addr + size_at r.class ≤ 4096 * pages_end
+region_end r [] placed home = absurd (omega arith)
+region_end r (p ∷ ps) placed home =
+    elim (houses p r) as (λ b. houses p r ≡ b → cond b 1 0 + homes r ps ≡ 1 → r.addr + size_at r.class ≤ 4096 * pages_end) [
+      | true ↦ λ h k. let here : IsPlaced p.span = All-head (λ p. IsPlaced p.span) p ps placed in grind (arith, nat_tests)
+      | false ↦ λ h k. region_end r ps (All-tail (λ p. IsPlaced p.span) p ps placed) (omega arith)
+    ] refl (sym (sum_by-cons (serves r) p ps) ∙ home)
+
+-- the regions have at most all bytes
+pub region_bytes_fits : (s : Space) → Sound s → region_bytes s.regions ≤ 2 ^ 41
+region_bytes_fits s sound =
+    lengths-le (λ (r : Region). r.addr) (λ r. size_at r.class) (4096 * pages_end) s.regions
+    (All-weaker (λ r. homes r s.parts ≡ 1) (λ r. r.addr + size_at r.class ≤ 4096 * pages_end) (λ r h. region_end r s.parts sound.placed h) s.regions sound.homes)
+    sound.apart
+
+-- the pages of one list are no more than those of the space
 pub listed_fit_space : (rest : Rest) (s : Space) → Sound s → pages_listed rest s.parts ≤ pages_end - 512
 listed_fit_space rest s sound =
     omega (

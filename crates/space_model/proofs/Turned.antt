@@ -1,12 +1,16 @@
 -- Extents that all change at once, and stand last in order of address from then on.
-use Rattle.std.proofs.Common.{◌≡◌, ℕ, ◌+◌, ◌≢◌, Bool, true, not, List, [], ◌∷◌, refl, sym, ◌∙◌, ap, subst, arith, All, filter, fold, ltb as nat_lt}
-use Rattle.space_model.proofs.Words.{sum_by, count_by, position_or_len, sum_by-cons, sum_by-insert, All-weaker, All-filter, All-head, All-tail, All-nil, filter_passes, Op, Reply, Part, Region, Span, Space, has_page, holders, is_flight, placed, turned, turned_in_order, homes, is_held_by, flight, lost, won, Sound, IsQuiet}
+use Rattle.std.proofs.Common.{◌≡◌, ℕ, ◌+◌, ◌≢◌, map, Bool, true, not, List, [], ◌∷◌, refl, sym, ◌∙◌, ap, subst, arith, All, filter, fold, ltb as nat_lt}
+use Rattle.space_model.proofs.Words.{fold-map, sum_by, count_by, position_or_len, sum_by-cons, sum_by-insert, All-weaker, All-filter, All-head, All-tail, All-nil, filter_passes, Op, Reply, Part, Region, Span, Space, has_page, holders, is_flight, placed, turned, turned_in_order, homes, is_held_by, flight, lost, won, Sound, IsQuiet}
 use Rattle.space_model.proofs.Lists.{All-insert, ones}
 use Rattle.space_model.proofs.Exchange.{share}
 use Rattle.space_model.proofs.Mixes.{Mix, mix_sum, mix_filter, mixed_filter, mixed_append, mixed_first}
 use Rattle.space_model.proofs.Ordered.{Ordered}
 use Rattle.space_model.proofs.Settled.{Used, idle_settled}
 use Rattle.space_model.proofs.Changes.{Does, Plain, Fits, Piece, Frame, pieces_idle, pieces_own, all_fit}
+
+-- extents that are turned first come in the same order
+pub turned_first : (turn : Part → Part) (ps : List Part) → turned_in_order (λ p. p) (map turn ps) ≡ turned_in_order turn ps
+turned_first turn ps = fold-map (λ done (p : Part). placed p done) turn [] ps
 
 -- a sum over the extents as they are turned
 pub turned_sum : (turn : Part → Part) (f : Part → ℕ) (before ps : List Part) →

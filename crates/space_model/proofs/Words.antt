@@ -36,7 +36,7 @@ pub use Rattle.space_model.specs.Part.{begins_at, is_flight, is_flight_at, is_li
 pub use Rattle.space_model.specs.Purging.{is_purgeable, purge_at, after_purge_take, lazy_at, after_lazy, lazy_stands, offer_of, offer_at, is_offer, without_offer, is_regranted, after_offer, offer_stands, decommit_at, after_decommit, decommit_stands, forced_stands}
 pub use Rattle.space_model.specs.Region.{address_of, inserted, landing, region_of, is_held_by, held_anew, starts_at, houses, is_held_by_other, homes, residents, covers, sharers, lies_in, is_slab, is_published, fills, regions_from}
 pub use Rattle.space_model.specs.Resizing.{is_large_class, large_home, has_large, is_spare, is_open, widen_by, widen_at, widened_at, after_join, join_stands, trimmed_at, after_trim_done, trim_done_stands, is_large_at, with_home, reclassed, after_widen, after_trim}
-pub use Rattle.space_model.specs.Settings.{is_absent, made_live, after_set, is_decay_time, setting_stands}
+pub use Rattle.space_model.specs.Settings.{is_absent, made_live, with_setting, after_set, is_decay_time, setting_stands}
 pub use Rattle.space_model.specs.Slabs.{lowest_free, land_at, fill_at, most_regions, land_stands, places, free_places, slabs_of, after_fill, fill_stands}
 pub use Rattle.space_model.specs.Sound.{Sound, IsQuiet, IsPaced, IsInSlab}
 pub use Rattle.space_model.specs.Span.{end_of, same_span, IsPlaced, has_page, max_series, pages_end, meets, chunk_span, chunks_of, run_start, holds_run}

@@ -16,6 +16,11 @@ mod slabs;
 mod stands;
 mod sums;
 
+use crate::Reply;
 pub use moves::plain_step;
 pub use stands::may_stand;
+use std::alloc::AllocError;
 pub use sums::plain_counts;
+
+/// The reply to an operation, unless memory is wanting.
+type Replied = Result<Reply, AllocError>;

@@ -33,10 +33,7 @@ impl State {
     pub fn is_flight_of(self, client: u32) -> bool
         ensures { result ≡ is_flight client self }
     {
-        match self {
-            State::Flight(owner, _) => owner == client,
-            _ => false,
-        }
+        matches!(self, State::Flight(owner, _) if owner == client)
     }
 
     /// Whether some client has an extent in this state out of its list.
@@ -69,12 +66,7 @@ impl State {
     pub fn is_listed(self, rest: Rest) -> bool
         ensures { result ≡ is_listed rest self }
     {
-        match (rest, self) {
-            (Rest::Dirty, State::Dirty)
-            | (Rest::Muzzy, State::Muzzy)
-            | (Rest::Retained, State::Retained) => true,
-            _ => false,
-        }
+        self == rest.state()
     }
 }
 
@@ -116,19 +108,13 @@ impl Life {
     pub fn is_live(self) -> bool
         ensures { result ≡ is_live self }
     {
-        match self {
-            Life::Live => true,
-            Life::Absent | Life::Dying(_) => false,
-        }
+        matches!(self, Life::Live)
     }
 
     /// Whether the client is destroying the arena.
     pub fn is_dying(self, client: u32) -> bool
         ensures { result ≡ is_dying client self }
     {
-        match self {
-            Life::Dying(by) => by == client,
-            Life::Live | Life::Absent => false,
-        }
+        matches!(self, Life::Dying(by) if by == client)
     }
 }

@@ -8,6 +8,7 @@ ghost use Rattle.space_model.specs.Ending.{held_count, flight_count, if_free, re
 ghost use Rattle.space_model.specs.Stepped.{IsMade};
 ghost use Rattle.space_model.specs.Sound.{Sound};
 
+use super::Replied;
 use super::frees::{in_order, is_dirty_time_over, is_lazy};
 use super::moves::replace;
 use super::stands::is_held_by;
@@ -18,34 +19,40 @@ use std::alloc::{AllocError as NoMemory, Global};
 fn is_held_by_other(client: u32, region: &Region) -> bool
     ensures { result ≡ is_held_by_other client region.now }
 {
-    match region.holder {
-        Some(holder) => holder != client,
-        None => false,
-    }
-}
-
-/// How many regions the client holds.
-fn own_count(space: &Space, client: u32) -> u64
-    ensures { result ≡ count_by (is_held_by client) space.now.regions }
-{
-    space
-        .regions
-        .as_slice()
-        .iter()
-        .filter(|region| is_held_by(client, region))
-        .count() as u64
+    matches!(region.holder, Some(holder) if holder != client)
 }
 
 /// How many regions other clients hold.
 fn others_count(space: &Space, client: u32) -> u64
     ensures { result ≡ count_by (is_held_by_other client) space.now.regions }
 {
-    space
-        .regions
-        .as_slice()
-        .iter()
-        .filter(|region| is_held_by_other(client, region))
+    let all = space.regions.as_slice().iter();
+    all.filter(|region| is_held_by_other(client, region))
         .count() as u64
+}
+
+/// How many regions the client holds.
+fn own_count(space: &Space, client: u32) -> u64
+    ensures { result ≡ count_by (is_held_by client) space.now.regions }
+{
+    let all = space.regions.as_slice().iter();
+    all.filter(|region| is_held_by(client, region)).count() as u64
+}
+
+/// Whether the client has an extent in flight.
+fn has_flights(space: &Space, client: u32) -> bool
+    ensures { result ≡ list_any (λ p. is_flight client p.state) space.now.parts }
+{
+    let mut all = space.parts.as_slice().iter();
+    all.any(|part| part.state.is_flight_of(client))
+}
+
+/// Whether the client has made an offer that isn't answered.
+fn has_offers(space: &Space, client: u32) -> bool
+    ensures { result ≡ list_any (λ o. o.client == client) space.now.offers }
+{
+    let mut all = space.offers.as_slice().iter();
+    all.any(|offer| offer.client == client)
 }
 
 /// Whether the client may end what is in the arena.
@@ -55,37 +62,12 @@ pub fn reset_stands(space: &Space, client: u32, cached: u64) -> bool
     !has_flights(space, client) && !has_offers(space, client) && cached <= own_count(space, client)
 }
 
-/// Whether the client has an extent in flight.
-fn has_flights(space: &Space, client: u32) -> bool
-    ensures { result ≡ list_any (λ p. is_flight client p.state) space.now.parts }
-{
-    space
-        .parts
-        .as_slice()
-        .iter()
-        .any(|part| part.state.is_flight_of(client))
-}
-
-/// Whether the client has made an offer that isn't answered.
-fn has_offers(space: &Space, client: u32) -> bool
-    ensures { result ≡ list_any (λ o. o.client == client) space.now.offers }
-{
-    space
-        .offers
-        .as_slice()
-        .iter()
-        .any(|offer| offer.client == client)
-}
-
 /// How many extents others have in flight.
 fn part_count(space: &Space, client: u32) -> u64
     ensures { result ≡ count_by (λ p. is_in_flight p.state && not (is_flight client p.state)) space.now.parts }
 {
-    space
-        .parts
-        .as_slice()
-        .iter()
-        .filter(|part| part.state.is_in_flight() && !part.state.is_flight_of(client))
+    let all = space.parts.as_slice().iter();
+    all.filter(|part| part.state.is_in_flight() && !part.state.is_flight_of(client))
         .count() as u64
 }
 
@@ -93,12 +75,8 @@ fn part_count(space: &Space, client: u32) -> u64
 fn offer_count(space: &Space, client: u32) -> u64
     ensures { result ≡ count_by (λ o. not (o.client == client)) space.now.offers }
 {
-    space
-        .offers
-        .as_slice()
-        .iter()
-        .filter(|offer| offer.client != client)
-        .count() as u64
+    let all = space.offers.as_slice().iter();
+    all.filter(|offer| offer.client != client).count() as u64
 }
 
 /// What others have in the arena, or the client in its cache: how many regions, and how many extents in flight or
@@ -131,10 +109,8 @@ fn moved_to(rest: Rest, part: Part) -> Part
 fn all_moved(alloc: Global, rest: Rest, parts: &[Part]) -> Result<Vec<Part>, NoMemory>
     ensures { IfOk result (λ moved. moved.items ≡ map (moved_to rest) parts.now) }
 {
-    parts
-        .iter()
-        .map(|part| moved_to(rest, *part))
-        .collect(alloc)
+    let all = parts.iter();
+    all.map(|part| moved_to(rest, *part)).collect(alloc)
 }
 
 /// The extents as they go to the list of a rest, in order of address.
@@ -151,21 +127,13 @@ fn active_to_dirty(parts: &Parts) -> Result<Vec<Part>, NoMemory>
     ensures { IfOk result (λ all. all.items ≡ turned (λ p. is_active p.state) (moved_to Rest.Dirty) parts.now) }
 {
     let alloc = *parts.items.allocator();
-    let gone: Vec<Part> = parts
-        .as_slice()
-        .iter()
-        .copied()
-        .filter(|part| part.state.is_active())
-        .collect(alloc)?;
-    let mut all: Vec<Part> = parts
-        .as_slice()
-        .iter()
-        .copied()
-        .filter(|part| !part.state.is_active())
-        .collect(alloc)?;
+    let all = parts.as_slice().iter().copied();
+    let mut others: Vec<Part> = all.filter(|part| !part.state.is_active()).collect(alloc)?;
+    let all = parts.as_slice().iter().copied();
+    let gone: Vec<Part> = all.filter(|part| part.state.is_active()).collect(alloc)?;
     let pieces = moved_in_order(Rest::Dirty, &gone)?;
-    all.extend_from_slice(pieces.as_slice())?;
-    Ok(all)
+    others.extend_from_slice(pieces.as_slice())?;
+    Ok(others)
 }
 
 /// The extents after all have become retained.
@@ -173,25 +141,21 @@ fn all_to_retained(parts: &Parts) -> Result<Vec<Part>, NoMemory>
     ensures { IfOk result (λ all. all.items ≡ turned (λ p. not (is_listed Rest.Retained p.state)) (moved_to Rest.Retained) parts.now) }
 {
     let alloc = *parts.items.allocator();
-    let gone: Vec<Part> = parts
-        .as_slice()
-        .iter()
-        .copied()
+    let all = parts.as_slice().iter().copied();
+    let gone: Vec<Part> = all
         .filter(|part| !part.state.is_listed(Rest::Retained))
         .collect(alloc)?;
-    let mut all: Vec<Part> = parts
-        .as_slice()
-        .iter()
-        .copied()
+    let all = parts.as_slice().iter().copied();
+    let mut others: Vec<Part> = all
         .filter(|part| part.state.is_listed(Rest::Retained))
         .collect(alloc)?;
     let pieces = moved_in_order(Rest::Retained, &gone)?;
-    all.extend_from_slice(pieces.as_slice())?;
-    Ok(all)
+    others.extend_from_slice(pieces.as_slice())?;
+    Ok(others)
 }
 
 /// All regions go, and each extent that served them is dirty.
-fn empty(space: &mut Space) -> Result<Reply, NoMemory>
+fn empty(space: &mut Space) -> Replied
     ensures { IsMade space.old space.new result (emptied space.old) }
 {
     let alloc = *space.regions.items.allocator();
@@ -199,15 +163,14 @@ fn empty(space: &mut Space) -> Result<Reply, NoMemory>
     space.parts = Seq::from_vec(parts);
     space.regions = Seq::new(alloc);
     if is_dirty_time_over(space) {
-        return Ok(Reply::Purge {
-            lazy: is_lazy(space),
-        });
+        let lazy = is_lazy(space);
+        return Ok(Reply::Purge { lazy });
     }
     Ok(Reply::Noted)
 }
 
 /// Discards all regions, unless the arena is in use.
-pub fn reset(space: &mut Space, client: u32, cached: u64) -> Result<Reply, NoMemory>
+pub fn reset(space: &mut Space, client: u32, cached: u64) -> Replied
     requires { IsTrue (reset_stands space.old client cached) }
     ensures { IsMade space.old space.new result (after_reset space.old client cached) }
 {
@@ -226,7 +189,7 @@ pub fn reset(space: &mut Space, client: u32, cached: u64) -> Result<Reply, NoMem
 }
 
 /// All regions go, each extent is retained, and the client is destroying the arena.
-fn end(space: &mut Space, client: u32) -> Result<Reply, NoMemory>
+fn end(space: &mut Space, client: u32) -> Replied
     ensures { IsMade space.old space.new result (ended space.old client) }
 {
     let alloc = *space.regions.items.allocator();
@@ -238,7 +201,7 @@ fn end(space: &mut Space, client: u32) -> Result<Reply, NoMemory>
 }
 
 /// Ends the arena, unless it is in use.
-pub fn destroy(space: &mut Space, client: u32, cached: u64) -> Result<Reply, NoMemory>
+pub fn destroy(space: &mut Space, client: u32, cached: u64) -> Replied
     requires { IsTrue (reset_stands space.old client cached) }
     ensures { IsMade space.old space.new result (after_destroy space.old client cached) }
 {
@@ -258,7 +221,7 @@ pub fn destroy(space: &mut Space, client: u32, cached: u64) -> Result<Reply, NoM
 }
 
 /// Takes the oldest extent off an arena that is being destroyed; after the last one it is absent.
-pub fn destroy_take(space: &mut Space) -> Result<Reply, NoMemory>
+pub fn destroy_take(space: &mut Space) -> Replied
     ensures { IsMade space.old space.new result (after_destroy_take space.old) }
 {
     let Some(part) = space.parts.as_slice().first().copied() else {

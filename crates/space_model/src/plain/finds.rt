@@ -7,38 +7,22 @@ ghost use Rattle.space_model.specs.Part.{is_listed, is_flight, is_flight_at, lis
 ghost use Rattle.space_model.specs.Fit.{is_candidate, is_better, is_best, fit_of, fit};
 ghost use Rattle.space_model.specs.Step.{is_found, is_owned, is_in_space, next_flight, is_like, is_right_of, is_left_of, neighbour, why_not};
 
-use crate::{CHUNK_PAGES, Part, Rest, Span, State, Why};
-
-/// Whether it is the client's extent in flight with just this span.
-fn is_flight_at(client: u32, span: Span, part: &Part) -> bool
-    ensures { result ≡ is_flight_at client span part.now }
-{
-    match part.state {
-        State::Flight(owner, _) => {
-            owner == client && part.span.first == span.first && part.span.pages == span.pages
-        }
-        _ => false,
-    }
-}
+use crate::{CHUNK_PAGES, Part, Rest, Span, Why};
 
 /// The client's extent in flight with just this span.
 pub fn flight(parts: &[Part], client: u32, span: Span) -> Option<Part>
     ensures { result ≡ find (is_flight_at client span) parts.now }
 {
-    parts
-        .iter()
-        .copied()
-        .find(|part| is_flight_at(client, span, part))
+    let mut all = parts.iter().copied();
+    all.find(|part| part.state.is_flight_of(client) && part.span == span)
 }
 
 /// The first extent that the client has in flight.
 fn first_flight(client: u32, parts: &[Part]) -> Option<Part>
     ensures { result ≡ find (λ p. is_flight client p.state) parts.now }
 {
-    parts
-        .iter()
-        .copied()
-        .find(|part| part.state.is_flight_of(client))
+    let mut all = parts.iter().copied();
+    all.find(|part| part.state.is_flight_of(client))
 }
 
 /// The span of the first extent that the client has in flight.
@@ -51,49 +35,31 @@ pub fn next_flight(client: u32, parts: &[Part]) -> Option<Span>
     }
 }
 
-/// Whether it begins where the extent in flight ends.
-fn is_right_of(part: &Part, other: &Part) -> bool
-    ensures { result ≡ is_right_of part.now other.now }
-{
-    part.is_like(other) && u128::from(other.span.first) == part.span.end()
-}
-
-/// Whether it ends where the extent in flight begins.
-fn is_left_of(part: &Part, other: &Part) -> bool
-    ensures { result ≡ is_left_of part.now other.now }
-{
-    part.is_like(other) && other.span.end() == u128::from(part.span.first)
-}
-
 /// The right neighbour that a merge may join to the extent.
 fn right_of(part: &Part, parts: &[Part]) -> Option<Part>
     ensures { result ≡ find (is_right_of part.now) parts.now }
 {
-    parts.iter().copied().find(|other| is_right_of(part, other))
+    let (mut all, end) = (parts.iter().copied(), part.span.end());
+    all.find(|other| part.is_like(other) && u128::from(other.span.first) == end)
 }
 
 /// The left neighbour that a merge may join to the extent.
 fn left_of(part: &Part, parts: &[Part]) -> Option<Part>
     ensures { result ≡ find (is_left_of part.now) parts.now }
 {
-    parts.iter().copied().find(|other| is_left_of(part, other))
+    let (mut all, first) = (parts.iter().copied(), u128::from(part.span.first));
+    all.find(|other| part.is_like(other) && other.span.end() == first)
 }
 
 /// The neighbour that a merge may join to the extent: the right one at the first try, and the left one at the first two.
 pub fn neighbour(tries: u8, part: &Part, parts: &[Part]) -> Option<Part>
     ensures { result ≡ neighbour tries part.now parts.now }
 {
-    let right = if tries == 0 {
-        right_of(part, parts)
-    } else {
-        None
-    };
-    let left = if tries < 2 {
-        left_of(part, parts)
-    } else {
-        None
-    };
-    right.or(left)
+    match tries {
+        0 => right_of(part, parts).or(left_of(part, parts)),
+        1 => left_of(part, parts),
+        _ => None,
+    }
 }
 
 /// Whether the extent is listed among those of the rest and holds the run.
@@ -112,20 +78,13 @@ fn is_better(part: &Part, other: &Part) -> bool
         || (part.span.pages == other.span.pages && part.span.first < other.span.first)
 }
 
-/// Whether the other extent is a candidate too, and a better one.
-fn is_better_candidate(rest: Rest, pages: u64, align: u64, other: &Part, part: &Part) -> bool
-    requires { 1 ≤ align }
-    ensures { result ≡ (is_candidate rest pages align other.now && is_better other.now part.now) }
-{
-    is_candidate(rest, pages, align, other) && is_better(other, part)
-}
-
 /// Whether some candidate is better than the extent.
 fn has_better(rest: Rest, pages: u64, align: u64, parts: &[Part], part: &Part) -> bool
     requires { 1 ≤ align }
     ensures { result ≡ list_any (λ q. is_candidate rest pages align q && is_better q part.now) parts.now }
 {
-    parts.iter().any(|other| is_better_candidate(rest, pages, align, other, part))
+    let mut all = parts.iter();
+    all.any(|other| is_candidate(rest, pages, align, other) && is_better(other, part))
 }
 
 /// Whether the extent is a candidate, and no candidate is better.
@@ -141,10 +100,8 @@ fn fit_of(rest: Rest, pages: u64, align: u64, parts: &[Part]) -> Option<Part>
     requires { 1 ≤ align }
     ensures { result ≡ fit_of rest pages align parts.now }
 {
-    parts
-        .iter()
-        .copied()
-        .find(|part| is_best(rest, pages, align, parts, part))
+    let mut all = parts.iter().copied();
+    all.find(|part| is_best(rest, pages, align, parts, part))
 }
 
 /// The extent that serves a request: a dirty one if any fits, else a muzzy one, else a retained one.
@@ -164,16 +121,6 @@ fn meets(span: Span, other: Span) -> bool
     u128::from(span.first) < other.end() && u128::from(other.first) < span.end()
 }
 
-/// Whether this is the chunk that was found in another arena.
-fn is_found(found: Option<u64>, chunk: u64) -> bool
-    ensures { result ≡ is_found found chunk }
-{
-    match found {
-        Some(other) => other == chunk,
-        None => false,
-    }
-}
-
 /// Whether some extent meets the span.
 pub fn any_meets(parts: &[Part], span: Span) -> bool
     ensures { result ≡ list_any (λ p. meets p.span span) parts.now }
@@ -186,7 +133,7 @@ fn is_owned(found: Option<u64>, parts: &[Part], chunk: u64) -> bool
     requires { chunk < 2 ^ 32 }
     ensures { result ≡ is_owned found parts.now chunk }
 {
-    is_found(found, chunk) || any_meets(parts, Span::of_chunk(chunk))
+    found == Some(chunk) || any_meets(parts, Span::of_chunk(chunk))
 }
 
 /// The least chunk of a span in the space that has an owner.
@@ -211,8 +158,6 @@ pub fn why_not(found: Option<u64>, align: u64, parts: &[Part], span: Span) -> Op
     if span.first % align != 0 {
         return Some(Why::Unaligned);
     }
-    match owned_chunk(found, parts, span) {
-        Some(chunk) => Some(Why::Meets(Span::of_chunk(chunk))),
-        None => None,
-    }
+    let chunk = owned_chunk(found, parts, span)?;
+    Some(Why::Meets(Span::of_chunk(chunk)))
 }

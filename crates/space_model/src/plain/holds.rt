@@ -5,16 +5,10 @@ ghost use Rattle.space_model.specs.Region.{held_anew};
 ghost use Rattle.space_model.specs.Stepped.{IsMade};
 ghost use Rattle.space_model.specs.Holding.{is_held_at, is_published_at, after_publish, after_take_over};
 
-use super::stands::is_held_by;
+use super::Replied;
+use super::stands::is_held_at;
 use crate::{Region, Regions, Reply, Seq, Space};
 use std::alloc::AllocError as NoMemory;
-
-/// Whether it is the client's region at the address.
-fn is_held_at(client: u32, addr: u64, region: &Region) -> bool
-    ensures { result ≡ is_held_at client addr region.now }
-{
-    is_held_by(client, region) && region.addr == addr
-}
 
 /// Whether it is a published region at the address.
 fn is_published_at(addr: u64, region: &Region) -> bool
@@ -55,15 +49,13 @@ fn taken_over(client: u32, addr: u64, region: Region) -> Region
 fn all_published(client: u32, addr: u64, regions: &Regions) -> Result<Vec<Region>, NoMemory>
     ensures { IfOk result (λ all. all.items ≡ held_anew (is_held_at client addr) None regions.now) }
 {
-    regions
-        .as_slice()
-        .iter()
-        .map(|region| published(client, addr, *region))
-        .collect(*regions.items.allocator())
+    let (alloc, all) = (*regions.items.allocator(), regions.as_slice().iter());
+    all.map(|region| published(client, addr, *region))
+        .collect(alloc)
 }
 
 /// Nobody holds the client's region at the address any more.
-pub fn publish(space: &mut Space, client: u32, addr: u64) -> Result<Reply, NoMemory>
+pub fn publish(space: &mut Space, client: u32, addr: u64) -> Replied
     ensures { IsMade space.old space.new result (after_publish space.old client addr) }
 {
     let regions = all_published(client, addr, &space.regions)?;
@@ -75,26 +67,21 @@ pub fn publish(space: &mut Space, client: u32, addr: u64) -> Result<Reply, NoMem
 fn all_taken_over(client: u32, addr: u64, regions: &Regions) -> Result<Vec<Region>, NoMemory>
     ensures { IfOk result (λ all. all.items ≡ held_anew (is_published_at addr) (Some client) regions.now) }
 {
-    regions
-        .as_slice()
-        .iter()
-        .map(|region| taken_over(client, addr, *region))
-        .collect(*regions.items.allocator())
+    let (alloc, all) = (*regions.items.allocator(), regions.as_slice().iter());
+    all.map(|region| taken_over(client, addr, *region))
+        .collect(alloc)
 }
 
 /// The published region at the address.
 fn published_at(addr: u64, regions: &Regions) -> Option<Region>
     ensures { result ≡ find (is_published_at addr) regions.now }
 {
-    regions
-        .as_slice()
-        .iter()
-        .copied()
-        .find(|region| is_published_at(addr, region))
+    let mut all = regions.as_slice().iter().copied();
+    all.find(|region| is_published_at(addr, region))
 }
 
 /// The client holds the published region at the address from now on, if there is one.
-pub fn take_over(space: &mut Space, client: u32, addr: u64) -> Result<Reply, NoMemory>
+pub fn take_over(space: &mut Space, client: u32, addr: u64) -> Replied
     ensures { IsMade space.old space.new result (after_take_over space.old client addr) }
 {
     if !space.life.is_live() {

@@ -10,6 +10,7 @@ ghost use Rattle.space_model.specs.Journal.{Good};
 ghost use Rattle.space_model.specs.Stepped.{IsMade};
 ghost use Rattle.space_model.specs.Own.{mine};
 
+use super::Replied;
 use super::ends::{destroy, destroy_take, reset};
 use super::finds::{fit, flight, why_not};
 use super::frees::{give_back, merge_done, put_look};
@@ -30,11 +31,8 @@ use std::alloc::{AllocError as NoMemory, Global};
 pub fn not_beginning_at(alloc: Global, first: u64, parts: &[Part]) -> Result<Vec<Part>, NoMemory>
     ensures { IfOk result (λ all. all.items ≡ filter (λ p. not (begins_at first p)) parts.now) }
 {
-    parts
-        .iter()
-        .copied()
-        .filter(|part| part.span.first != first)
-        .collect(alloc)
+    let all = parts.iter().copied();
+    all.filter(|part| part.span.first != first).collect(alloc)
 }
 
 /// The extents that begin at a page go, and pieces come last.
@@ -50,12 +48,7 @@ pub fn exchange(parts: &mut Parts, first: u64, pieces: &[Part]) -> Result<(), No
 }
 
 /// One extent goes, and pieces come last.
-pub fn replace(
-    space: &mut Space,
-    part: &Part,
-    pieces: &[Part],
-    reply: Reply,
-) -> Result<Reply, NoMemory>
+pub fn replace(space: &mut Space, part: &Part, pieces: &[Part], reply: Reply) -> Replied
     ensures { IsMade space.old space.new result (replaced space.old part.now pieces.now reply) }
 {
     exchange(&mut space.parts, part.span.first, pieces)?;
@@ -83,7 +76,7 @@ pub fn put_down(part: Part) -> Part
 }
 
 /// Looks for the extent that serves a request.
-fn look(space: &mut Space, client: u32, pages: u64, align: u64) -> Result<Reply, NoMemory>
+fn look(space: &mut Space, client: u32, pages: u64, align: u64) -> Replied
     requires align { 1 ≤ align }
     requires sound { Sound space.old }
     ensures { IsMade space.old space.new result (after_look space.old client pages align) }
@@ -92,9 +85,8 @@ fn look(space: &mut Space, client: u32, pages: u64, align: u64) -> Result<Reply,
         return Ok(Reply::NoArena);
     }
     let Some(part) = fit(pages, align, space.parts.as_slice()) else {
-        return Ok(Reply::Grow {
-            series: space.grow.min(space.grow_limit),
-        });
+        let series = space.grow.min(space.grow_limit);
+        return Ok(Reply::Grow { series });
     };
     let reply = Reply::Took {
         span: part.span,
@@ -105,7 +97,7 @@ fn look(space: &mut Space, client: u32, pages: u64, align: u64) -> Result<Reply,
 }
 
 /// An extent in flight whose hook refused is put down whole.
-pub fn put_whole(space: &mut Space, found: Option<Part>) -> Result<Reply, NoMemory>
+pub fn put_whole(space: &mut Space, found: Option<Part>) -> Replied
     ensures { IsMade space.old space.new result (whole_at space.old found) }
 {
     match found {
@@ -115,7 +107,7 @@ pub fn put_whole(space: &mut Space, found: Option<Part>) -> Result<Reply, NoMemo
 }
 
 /// An extent is two from now on: the piece that stays in flight comes last, behind the other one, which is put down.
-fn cut(space: &mut Space, keep_low: bool, left: u64, part: Part) -> Result<Reply, NoMemory>
+fn cut(space: &mut Space, keep_low: bool, left: u64, part: Part) -> Replied
     requires cut { left ≤ part.span.pages }
     requires fits { part.span.first + part.span.pages < 2 ^ 64 }
     ensures { IsMade space.old space.new result (cut_at space.old keep_low left (Some part)) }
@@ -133,7 +125,7 @@ fn cut(space: &mut Space, keep_low: bool, left: u64, part: Part) -> Result<Reply
 
 /// Takes in the answer to a split.
 #[tactic(auto, using(crate::proofs::Steps::cut_bounds))]
-fn cut_done(space: &mut Space, client: u32, heard: Heard, keep_low: bool) -> Result<Reply, NoMemory>
+fn cut_done(space: &mut Space, client: u32, heard: Heard, keep_low: bool) -> Replied
     requires stands { IsTrue (cut_stands space.old client heard.ask heard.answer) }
     requires sound { Sound space.old }
     ensures { IsMade space.old space.new result (after_cut space.old client keep_low heard.ask heard.answer) }
@@ -150,7 +142,7 @@ fn cut_done(space: &mut Space, client: u32, heard: Heard, keep_low: bool) -> Res
 }
 
 /// Takes in the answer to a commit.
-fn commit_done(space: &mut Space, client: u32, heard: Heard) -> Result<Reply, NoMemory>
+fn commit_done(space: &mut Space, client: u32, heard: Heard) -> Replied
     ensures { IsMade space.old space.new result (after_commit space.old client heard.ask heard.answer) }
 {
     let Ask::Commit(span) = heard.ask else {
@@ -196,13 +188,7 @@ fn grow_after(grow: u64, span: Span) -> u64
 }
 
 /// The answered span joins the arena, unless something speaks against it.
-fn grow(
-    space: &mut Space,
-    client: u32,
-    span: Span,
-    committed: bool,
-    why: Option<Why>,
-) -> Result<Reply, NoMemory>
+fn grow(space: &mut Space, client: u32, span: Span, committed: bool, why: Option<Why>) -> Replied
     ensures { IsMade space.old space.new result (grow_unless space.old client span committed why) }
 {
     if let Some(why) = why {
@@ -214,35 +200,29 @@ fn grow(
 }
 
 /// Takes in the answer to an alloc.
-fn grow_done(
-    space: &mut Space,
-    client: u32,
-    heard: Heard,
-    found: Option<u64>,
-) -> Result<Reply, NoMemory>
+fn grow_done(space: &mut Space, client: u32, heard: Heard, found: Option<u64>) -> Replied
     requires { IsTrue (grow_stands space.old client heard.ask heard.answer) }
     ensures { IsMade space.old space.new result (after_grow space.old client found heard.ask heard.answer) }
 {
-    match (heard.ask, heard.answer) {
-        (
-            Ask::Alloc { pages, align, .. },
-            Answer::Placed {
-                first,
-                committed,
-                ..
-            },
-        ) => {
-            let span = Span { first, pages };
-            let why = why_not(found, align, space.parts.as_slice(), span);
-            grow(space, client, span, committed, why)
-        }
-        (Ask::Alloc { .. }, Answer::Refused) => Ok(Reply::Refused),
-        _ => Ok(Reply::Noted),
-    }
+    let Ask::Alloc { pages, align, .. } = heard.ask else {
+        return Ok(Reply::Noted);
+    };
+    let (first, committed) = match heard.answer {
+        Answer::Placed {
+            first,
+            committed,
+            ..
+        } => (first, committed),
+        Answer::Refused => return Ok(Reply::Refused),
+        Answer::Done => return Ok(Reply::Noted),
+    };
+    let span = Span { first, pages };
+    let why = why_not(found, align, space.parts.as_slice(), span);
+    grow(space, client, span, committed, why)
 }
 
 /// What an operation does that may stand.
-fn step(space: &mut Space, client: u32, op: &Op) -> Result<Reply, NoMemory>
+fn step(space: &mut Space, client: u32, op: &Op) -> Replied
     requires client { client < 32 }
     requires stands { IsTrue (op_stands space.old client op.now) }
     requires sound { Sound space.old }

@@ -8,6 +8,7 @@ ghost use Rattle.space_model.specs.Pace.{weight, weighed, limit_at, with_new, pa
 ghost use Rattle.space_model.specs.Stepped.{IsMade};
 ghost use Rattle.space_model.specs.Sound.{Sound, IsPaced};
 
+use super::Replied;
 use crate::{Added, Pace, Part, Reply, Rest, Seq, Space};
 use std::alloc::AllocError as NoMemory;
 
@@ -164,19 +165,18 @@ pub fn pages_listed(rest: Rest, space: &Space) -> u64
     ensures pages { result ≡ pages_listed rest space.now.parts }
     ensures within { result ≤ pages_end - 512 }
 {
-    space
-        .parts
-        .as_slice()
-        .iter()
-        .map(|part| pages_if(rest, part))
-        .sum()
+    let all = space.parts.as_slice().iter();
+    all.map(|part| pages_if(rest, part)).sum()
 }
 
-/// Both decays of an arena go on to a moment.
-fn advance_all(space: &mut Space, now: u64) -> Result<Reply, NoMemory>
+/// Tells both decays what time it is.
+pub fn advance(space: &mut Space, now: u64) -> Replied
     requires { Sound space.old }
-    ensures { IsMade space.old space.new result (advance_all space.old now) }
+    ensures { IsMade space.old space.new result (after_advance space.old now) }
 {
+    if !space.life.is_live() {
+        return Ok(Reply::NoArena);
+    }
     let dirty = advanced(&space.dirty, now, pages_listed(Rest::Dirty, space))?;
     let muzzy = advanced(&space.muzzy, now, pages_listed(Rest::Muzzy, space))?;
     let Paced { pace, limit } = dirty;
@@ -184,19 +184,6 @@ fn advance_all(space: &mut Space, now: u64) -> Result<Reply, NoMemory>
     let dirty = limit;
     let Paced { pace, limit } = muzzy;
     space.muzzy = pace;
-    Ok(Reply::Limits {
-        dirty,
-        muzzy: limit,
-    })
-}
-
-/// Tells both decays what time it is.
-pub fn advance(space: &mut Space, now: u64) -> Result<Reply, NoMemory>
-    requires { Sound space.old }
-    ensures { IsMade space.old space.new result (after_advance space.old now) }
-{
-    if !space.life.is_live() {
-        return Ok(Reply::NoArena);
-    }
-    advance_all(space, now)
+    let muzzy = limit;
+    Ok(Reply::Limits { dirty, muzzy })
 }

@@ -8,6 +8,7 @@ ghost use Rattle.space_model.specs.Purging.{count_listed, purge_at, after_purge_
 ghost use Rattle.space_model.specs.Stepped.{IsMade};
 ghost use Rattle.space_model.specs.Sound.{Sound};
 
+use super::Replied;
 use super::finds::{any_meets, flight, next_flight};
 use super::frees::is_lazy;
 use super::moves::{add_retained, not_beginning_at, replace, taken_out};
@@ -22,51 +23,32 @@ use std::alloc::AllocError as NoMemory;
 pub fn is_purgeable(rest: Rest) -> bool
     ensures { result ≡ is_purgeable rest }
 {
-    match rest {
-        Rest::Dirty | Rest::Muzzy => true,
-        Rest::Retained => false,
-    }
-}
-
-/// How many extents are listed among those of the rest.
-fn count_listed(rest: Rest, parts: &Parts) -> u64
-    ensures { result ≡ count_listed rest parts.now }
-{
-    parts
-        .as_slice()
-        .iter()
-        .filter(|part| part.state.is_listed(rest))
-        .count() as u64
+    matches!(rest, Rest::Dirty | Rest::Muzzy)
 }
 
 /// The oldest extent that is listed among those of the rest.
 fn oldest(rest: Rest, parts: &Parts) -> Option<Part>
     ensures { result ≡ find (λ p. is_listed rest p.state) parts.now }
 {
-    parts
-        .as_slice()
-        .iter()
-        .copied()
-        .find(|part| part.state.is_listed(rest))
+    let mut all = parts.as_slice().iter().copied();
+    all.find(|part| part.state.is_listed(rest))
 }
 
 /// An extent leaves its list to be purged.
-fn purge(space: &mut Space, client: u32, rest: Rest, found: Option<Part>) -> Result<Reply, NoMemory>
-    ensures { IsMade space.old space.new result (purge_at space.old client rest found) }
+fn purge(space: &mut Space, client: u32, rest: Rest, part: Part) -> Replied
+    ensures { IsMade space.old space.new result (purge_at space.old client rest (Some part)) }
 {
-    let Some(part) = found else {
-        return Ok(Reply::Nothing);
-    };
+    let all = space.parts.as_slice().iter();
     let reply = Reply::Taken {
         span: part.span,
         lazy: Rest::Dirty.state().is_listed(rest) && is_lazy(space),
-        listed: count_listed(rest, &space.parts),
+        listed: all.filter(|part| part.state.is_listed(rest)).count() as u64,
     };
     replace(space, &part, &[taken_out(client, part)], reply)
 }
 
 /// Takes the oldest extent of the rest out, where more pages are listed than may stay.
-pub fn purge_take(space: &mut Space, client: u32, rest: Rest, keep: u64) -> Result<Reply, NoMemory>
+pub fn purge_take(space: &mut Space, client: u32, rest: Rest, keep: u64) -> Replied
     requires { Sound space.old }
     ensures { IsMade space.old space.new result (after_purge_take space.old client rest keep) }
 {
@@ -76,8 +58,10 @@ pub fn purge_take(space: &mut Space, client: u32, rest: Rest, keep: u64) -> Resu
     if pages_listed(rest, space) <= keep {
         return Ok(Reply::Nothing);
     }
-    let found = oldest(rest, &space.parts);
-    purge(space, client, rest, found)
+    match oldest(rest, &space.parts) {
+        Some(part) => purge(space, client, rest, part),
+        None => Ok(Reply::Nothing),
+    }
 }
 
 /// Whether the extent belongs among those of the rest.
@@ -95,14 +79,11 @@ pub fn lazy_stands(space: &Space, client: u32, heard: Heard) -> bool
         return false;
     };
     is_yes_or_no(heard.answer)
-        && match flight(space.parts.as_slice(), client, span) {
-            Some(part) => belongs(Rest::Dirty, &part),
-            None => false,
-        }
+        && matches!(flight(space.parts.as_slice(), client, span), Some(part) if belongs(Rest::Dirty, &part))
 }
 
 /// Takes in the answer to a lazy purge.
-pub fn lazy_done(space: &mut Space, client: u32, heard: Heard) -> Result<Reply, NoMemory>
+pub fn lazy_done(space: &mut Space, client: u32, heard: Heard) -> Replied
     ensures { IsMade space.old space.new result (after_lazy space.old client heard.ask heard.answer) }
 {
     let Ask::PurgeLazy(span) = heard.ask else {
@@ -123,7 +104,7 @@ pub fn lazy_done(space: &mut Space, client: u32, heard: Heard) -> Result<Reply, 
 }
 
 /// An extent in flight is offered to the dalloc hook.
-pub fn offer(space: &mut Space, client: u32, span: Span) -> Result<Reply, NoMemory>
+pub fn offer(space: &mut Space, client: u32, span: Span) -> Replied
     ensures { IsMade space.old space.new result (offer_at space.old client (find (is_flight_at client span) space.old.parts)) }
 {
     let Some(part) = flight(space.parts.as_slice(), client, span) else {
@@ -151,10 +132,8 @@ fn is_offer(client: u32, span: Span, committed: bool, offer: &Offered) -> bool
 fn has_offer(offers: &Offers, client: u32, span: Span, committed: bool) -> bool
     ensures { result ≡ list_any (is_offer client span committed) offers.now }
 {
-    offers
-        .as_slice()
-        .iter()
-        .any(|offer| is_offer(client, span, committed, offer))
+    let mut all = offers.as_slice().iter();
+    all.any(|offer| is_offer(client, span, committed, offer))
 }
 
 /// Whether the answer to a dalloc may be taken in.
@@ -171,9 +150,8 @@ pub fn offer_stands(space: &Space, client: u32, heard: Heard) -> bool
 fn offer_place(offers: &[Offered], client: u32, span: Span, committed: bool) -> Option<usize>
     ensures { result ≡ position (is_offer client span committed) offers.now }
 {
-    offers
-        .iter()
-        .position(|offer| is_offer(client, span, committed, offer))
+    let mut all = offers.iter();
+    all.position(|offer| is_offer(client, span, committed, offer))
 }
 
 /// Takes the client's first offer of the span off, if there is one.
@@ -193,7 +171,7 @@ fn keep_offer(
     found: Option<u64>,
     span: Span,
     committed: bool,
-) -> Result<Reply, NoMemory>
+) -> Replied
     ensures { IsMade space.old space.new result (keep_offer space.old client found span committed) }
 {
     if found.is_some() || any_meets(space.parts.as_slice(), span) {
@@ -205,12 +183,7 @@ fn keep_offer(
 }
 
 /// Takes in the answer to the dalloc of an offer, which is no offer any more.
-pub fn offer_done(
-    space: &mut Space,
-    client: u32,
-    heard: Heard,
-    found: Option<u64>,
-) -> Result<Reply, NoMemory>
+pub fn offer_done(space: &mut Space, client: u32, heard: Heard, found: Option<u64>) -> Replied
     ensures after { OnOk result (space.new ≡ (after_offer space.old client found heard.ask heard.answer).after) }
     ensures reply { IfOk result (λ told. told ≡ (after_offer space.old client found heard.ask heard.answer).reply) }
     ensures err { OnErr result (space.new ≡ space.old) }
@@ -235,14 +208,11 @@ pub fn decommit_stands(space: &Space, client: u32, heard: Heard) -> bool
         return false;
     };
     is_yes_or_no(heard.answer)
-        && match flight(space.parts.as_slice(), client, span) {
-            Some(part) => part.committed && belongs(Rest::Retained, &part),
-            None => false,
-        }
+        && matches!(flight(space.parts.as_slice(), client, span), Some(part) if part.committed && belongs(Rest::Retained, &part))
 }
 
 /// Takes in the answer to a decommit.
-pub fn decommit_done(space: &mut Space, client: u32, heard: Heard) -> Result<Reply, NoMemory>
+pub fn decommit_done(space: &mut Space, client: u32, heard: Heard) -> Replied
     ensures { IsMade space.old space.new result (after_decommit space.old client heard.ask heard.answer) }
 {
     let Ask::Decommit(span) = heard.ask else {

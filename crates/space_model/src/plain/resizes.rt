@@ -8,6 +8,7 @@ ghost use Rattle.space_model.specs.Resizing.{is_large_class, is_large_at, large_
 ghost use Rattle.space_model.specs.Stepped.{IsMade};
 ghost use Rattle.space_model.specs.Sound.{Sound};
 
+use super::Replied;
 use super::finds::flight;
 use super::frees::{exchange_both, houses, joined};
 use super::moves::{exchange, put_whole, replace, taken_out};
@@ -26,13 +27,6 @@ fn is_large_class(class: u8) -> bool
     SMALL_CLASSES <= class && class < CLASSES
 }
 
-/// Whether it is the client's large region at the address.
-fn is_large_at(client: u32, addr: u128, region: &Region) -> bool
-    ensures { result ≡ is_large_at client addr region.now }
-{
-    is_held_by(client, region) && u128::from(region.addr) == addr && SMALL_CLASSES <= region.class
-}
-
 /// The address of a page's first byte.
 fn address_of(page: u64) -> u128
     ensures { result ≡ address_of page }
@@ -44,24 +38,20 @@ fn address_of(page: u64) -> u128
 fn large_at(space: &Space, client: u32, addr: u128) -> Option<Region>
     ensures { result ≡ find (is_large_at client addr) space.now.regions }
 {
-    space
-        .regions
-        .as_slice()
-        .iter()
-        .copied()
-        .find(|region| is_large_at(client, addr, region))
+    let mut all = space.regions.as_slice().iter().copied();
+    all.find(|region| {
+        is_held_by(client, region)
+            && u128::from(region.addr) == addr
+            && SMALL_CLASSES <= region.class
+    })
 }
 
 /// The extent that serves a region.
 fn home_of(space: &Space, region: &Region) -> Option<Part>
     ensures { result ≡ find (λ p. houses p region.now) space.now.parts }
 {
-    space
-        .parts
-        .as_slice()
-        .iter()
-        .copied()
-        .find(|part| houses(part, region))
+    let mut all = space.parts.as_slice().iter().copied();
+    all.find(|part| houses(part, region))
 }
 
 /// The client's large region at an address, with the extent that serves it.
@@ -77,12 +67,13 @@ fn large_home(space: &Space, client: u32, addr: u128) -> Option<(Region, Part)>
 fn reclassed(region: Region, class: u8, regions: &Regions) -> Result<Vec<Region>, NoMemory>
     ensures { IfOk result (λ all. all.items ≡ reclassed region class regions.now) }
 {
-    let mut all: Vec<Region> = regions
-        .as_slice()
-        .iter()
-        .copied()
+    let (alloc, all) = (
+        *regions.items.allocator(),
+        regions.as_slice().iter().copied(),
+    );
+    let mut all: Vec<Region> = all
         .filter(|other| other.addr != region.addr)
-        .collect(*regions.items.allocator())?;
+        .collect(alloc)?;
     insert(&mut all, Region { class, ..region })?;
     Ok(all)
 }
@@ -91,43 +82,25 @@ fn reclassed(region: Region, class: u8, regions: &Regions) -> Result<Vec<Region>
 pub fn widen_stands(space: &Space, client: u32, addr: u64, pages: u64) -> bool
     ensures { result ≡ widen_stands space.now client addr pages }
 {
-    match large_home(space, client, u128::from(addr)) {
-        Some((_, part)) => part.span.pages < pages,
-        None => false,
-    }
-}
-
-/// Whether the extent is unused, begins at the page and has so many pages.
-fn is_spare(page: u128, pages: u64, part: &Part) -> bool
-    ensures { result ≡ is_spare page pages part.now }
-{
-    part.state.is_unused() && u128::from(part.span.first) == page && pages <= part.span.pages
+    matches!(large_home(space, client, u128::from(addr)), Some((_, part)) if part.span.pages < pages)
 }
 
 /// The extent that is unused, begins at the page and has so many pages.
 fn spare(space: &Space, page: u128, pages: u64) -> Option<Part>
     ensures { result ≡ find (is_spare page pages) space.now.parts }
 {
-    space
-        .parts
-        .as_slice()
-        .iter()
-        .copied()
-        .find(|part| is_spare(page, pages, part))
-}
-
-/// Whether the span has the page.
-fn has_page(page: u128, span: Span) -> bool
-    ensures { result ≡ has_page page span }
-{
-    u128::from(span.first) <= page && page < span.end()
+    let mut all = space.parts.as_slice().iter().copied();
+    all.find(|part| {
+        part.state.is_unused() && u128::from(part.span.first) == page && pages <= part.span.pages
+    })
 }
 
 /// Whether some extent has the page.
 fn any_has(parts: &[Part], page: u128) -> bool
     ensures { result ≡ list_any (λ p. has_page page p.span) parts.now }
 {
-    parts.iter().any(|part| has_page(page, part.span))
+    let mut all = parts.iter();
+    all.any(|part| u128::from(part.span.first) <= page && page < part.span.end())
 }
 
 /// Whether a chunk begins at the page, in the space, and no extent has the page.
@@ -140,12 +113,7 @@ fn is_open(space: &Space, page: u128) -> bool
 }
 
 /// Looks for the pages that a region's extent lacks.
-fn widen_at(
-    space: &mut Space,
-    client: u32,
-    pages: u64,
-    home: (Region, Part),
-) -> Result<Reply, NoMemory>
+fn widen_at(space: &mut Space, client: u32, pages: u64, home: (Region, Part)) -> Replied
     requires { home.1.span.pages ≤ pages }
     ensures { IsMade space.old space.new result (widen_at space.old client pages (Some home)) }
 {
@@ -166,7 +134,7 @@ fn widen_at(
 }
 
 /// Looks for pages behind a large region.
-pub fn widen(space: &mut Space, client: u32, addr: u64, pages: u64) -> Result<Reply, NoMemory>
+pub fn widen(space: &mut Space, client: u32, addr: u64, pages: u64) -> Replied
     requires stands { IsTrue (widen_stands space.old client addr pages) }
     requires sound { Sound space.old }
     ensures { IsMade space.old space.new result (after_widen space.old client addr pages) }
@@ -181,10 +149,7 @@ pub fn widen(space: &mut Space, client: u32, addr: u64, pages: u64) -> Result<Re
 fn has_large(space: &Space, client: u32, span: Span) -> bool
     ensures { result ≡ has_large space.now client (address_of span.first) (λ p. same_span p.span span) }
 {
-    match large_home(space, client, address_of(span.first)) {
-        Some((_, part)) => part.span == span,
-        None => false,
-    }
+    matches!(large_home(space, client, address_of(span.first)), Some((_, part)) if part.span == span)
 }
 
 /// Whether the answer to a merge with the extent behind a large region may be taken in.
@@ -199,20 +164,11 @@ pub fn join_stands(space: &Space, client: u32, heard: Heard, class: u8) -> bool
         && u128::from(low.pages) + u128::from(high.pages) == u128::from(class_pages(class))
         && low.end() == u128::from(high.first)
         && has_large(space, client, low)
-        && match flight(space.parts.as_slice(), client, high) {
-            Some(part) => part.committed,
-            None => false,
-        }
+        && matches!(flight(space.parts.as_slice(), client, high), Some(part) if part.committed)
 }
 
 /// Two extents are one from now on, and the region takes the class.
-fn widen_by(
-    space: &mut Space,
-    class: u8,
-    region: Region,
-    low: &Part,
-    high: &Part,
-) -> Result<Reply, NoMemory>
+fn widen_by(space: &mut Space, class: u8, region: Region, low: &Part, high: &Part) -> Replied
     requires { low.now.span.pages + high.now.span.pages < 2 ^ 64 }
     ensures { IsMade space.old space.new result (widened_at space.old class (Some (region, low.now)) (Some high.now)) }
 {
@@ -227,7 +183,7 @@ fn widen_by(
 }
 
 /// Takes in the answer to a merge of a large region's extent with the extent in flight behind it.
-pub fn join_done(space: &mut Space, client: u32, heard: Heard, class: u8) -> Result<Reply, NoMemory>
+pub fn join_done(space: &mut Space, client: u32, heard: Heard, class: u8) -> Replied
     requires stands { IsTrue (join_stands space.old client class heard.ask heard.answer) }
     requires sound { Sound space.old }
     ensures { IsMade space.old space.new result (after_join space.old client class heard.ask heard.answer) }
@@ -252,10 +208,7 @@ pub fn trim_stands(space: &Space, client: u32, addr: u64, class: u8) -> bool
 {
     is_large_class(class)
         && !space.trims.contains(client)
-        && match large_home(space, client, u128::from(addr)) {
-            Some((_, part)) => class_pages(class) < part.span.pages,
-            None => false,
-        }
+        && matches!(large_home(space, client, u128::from(addr)), Some((_, part)) if class_pages(class) < part.span.pages)
 }
 
 /// The client begins to shrink a large region.
@@ -291,7 +244,7 @@ fn cut_off(
     class: u8,
     region: Region,
     part: Part,
-) -> Result<Reply, NoMemory>
+) -> Replied
     requires cut { left ≤ part.span.pages }
     requires fits { part.span.first + part.span.pages < 2 ^ 64 }
     ensures { IsMade space.old space.new result (trimmed_at space.old client left class (Some (region, part))) }
@@ -306,7 +259,7 @@ fn cut_off(
 
 /// Takes in the answer to a split of a large region's extent, which ends the client's shrinking.
 #[tactic(auto, using(crate::proofs::Bounds::home_placed))]
-pub fn trim_done(space: &mut Space, client: u32, heard: Heard, class: u8) -> Result<Reply, NoMemory>
+pub fn trim_done(space: &mut Space, client: u32, heard: Heard, class: u8) -> Replied
     requires stands { IsTrue (trim_done_stands space.old client class heard.ask heard.answer) }
     requires sound { Sound space.old }
     ensures { IsMade space.old space.new result (after_trim_done space.old client class heard.ask heard.answer) }

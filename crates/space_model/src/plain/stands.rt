@@ -17,30 +17,14 @@ use crate::{Answer, Ask, CLIENTS, Entry, Heard, Op, Part, Region, Space, Span};
 pub fn is_yes_or_no(answer: Answer) -> bool
     ensures { result ≡ is_yes_or_no answer }
 {
-    match answer {
-        Answer::Done | Answer::Refused => true,
-        Answer::Placed { .. } => false,
-    }
-}
-
-/// Whether the answer is one to an alloc.
-fn is_range_or_no(answer: Answer) -> bool
-    ensures { result ≡ is_range_or_no answer }
-{
-    match answer {
-        Answer::Placed { .. } | Answer::Refused => true,
-        Answer::Done => false,
-    }
+    matches!(answer, Answer::Done | Answer::Refused)
 }
 
 /// Whether the client holds the region.
 pub fn is_held_by(client: u32, region: &Region) -> bool
     ensures { result ≡ is_held_by client region.now }
 {
-    match region.holder {
-        Some(holder) => holder == client,
-        None => false,
-    }
+    region.holder == Some(client)
 }
 
 /// Whether the client holds a region among these.
@@ -68,15 +52,11 @@ pub fn has_flight(space: &Space, client: u32, span: Span) -> bool
 fn cut_stands(space: &Space, client: u32, heard: Heard) -> bool
     ensures { result ≡ cut_stands space.now client heard.ask heard.answer }
 {
-    match heard.ask {
-        Ask::Split { span, left } => {
-            is_yes_or_no(heard.answer)
-                && 0 < left
-                && left < span.pages
-                && has_flight(space, client, span)
-        }
-        _ => false,
-    }
+    let Ask::Split { span, left } = heard.ask else {
+        return false;
+    };
+    let cuts = 0 < left && left < span.pages;
+    is_yes_or_no(heard.answer) && cuts && has_flight(space, client, span)
 }
 
 /// Whether the answer to an alloc may be taken in.
@@ -85,7 +65,7 @@ fn grow_stands(space: &Space, client: u32, heard: Heard) -> bool
 {
     match heard.ask {
         Ask::Alloc { pages, align, .. } => {
-            is_range_or_no(heard.answer)
+            heard.answer != Answer::Done
                 && 0 < pages
                 && align.is_power_of_two()
                 && is_customer(space, client)
@@ -98,16 +78,11 @@ fn grow_stands(space: &Space, client: u32, heard: Heard) -> bool
 fn commit_stands(space: &Space, client: u32, heard: Heard) -> bool
     ensures { result ≡ commit_stands space.now client heard.ask heard.answer }
 {
-    match heard.ask {
-        Ask::Commit(span) => {
-            is_yes_or_no(heard.answer)
-                && match flight(space.parts.as_slice(), client, span) {
-                    Some(part) => !part.committed,
-                    None => false,
-                }
-        }
-        _ => false,
-    }
+    let Ask::Commit(span) = heard.ask else {
+        return false;
+    };
+    is_yes_or_no(heard.answer)
+        && matches!(flight(space.parts.as_slice(), client, span), Some(part) if !part.committed)
 }
 
 /// Whether each address is above the one before it.
@@ -125,7 +100,7 @@ fn rises(addrs: &[u64]) -> bool
 }
 
 /// Whether the client holds this region at the address.
-fn is_held_at(client: u32, addr: u64, region: &Region) -> bool
+pub fn is_held_at(client: u32, addr: u64, region: &Region) -> bool
     ensures { result ≡ (is_held_by client region.now && region.now.addr == addr) }
 {
     is_held_by(client, region) && region.addr == addr
@@ -135,9 +110,8 @@ fn is_held_at(client: u32, addr: u64, region: &Region) -> bool
 pub fn holds_at(client: u32, regions: &[Region], addr: u64) -> bool
     ensures { result ≡ holds_at client regions.now addr }
 {
-    regions
-        .iter()
-        .any(|region| is_held_at(client, addr, region))
+    let mut all = regions.iter();
+    all.any(|region| is_held_at(client, addr, region))
 }
 
 /// Whether the client holds a region at each of the addresses.
@@ -154,13 +128,6 @@ fn back_stands(space: &Space, client: u32, addrs: &[u64]) -> bool
     0 < addrs.len() && rises(addrs) && holds_all(client, space.regions.as_slice(), addrs)
 }
 
-/// Whether two extents may be merged: they belong to the same list, and are committed alike.
-fn may_merge(low: &Part, high: &Part) -> bool
-    ensures { result ≡ may_merge low.now high.now }
-{
-    high.state.rest().state().is_listed(low.state.rest()) && low.committed == high.committed
-}
-
 /// Whether the answer to a merge may be taken in.
 fn merge_stands(space: &Space, client: u32, heard: Heard) -> bool
     ensures { result ≡ merge_stands space.now client heard.ask heard.answer }
@@ -169,10 +136,14 @@ fn merge_stands(space: &Space, client: u32, heard: Heard) -> bool
         return false;
     };
     let parts = space.parts.as_slice();
+    let both = (flight(parts, client, low), flight(parts, client, high));
     is_yes_or_no(heard.answer)
         && low.end() == u128::from(high.first)
-        && match (flight(parts, client, low), flight(parts, client, high)) {
-            (Some(low), Some(high)) => may_merge(&low, &high),
+        && match both {
+            (Some(low), Some(high)) => {
+                high.state.rest().state().is_listed(low.state.rest())
+                    && low.committed == high.committed
+            }
             _ => false,
         }
 }
@@ -181,47 +152,33 @@ fn merge_stands(space: &Space, client: u32, heard: Heard) -> bool
 fn op_stands(space: &Space, client: u32, op: &Op) -> bool
     ensures { result ≡ op_stands space.now client op.now }
 {
+    let live = space.life.is_live();
     match op {
         Op::Look { pages, align } => 0 < *pages && align.is_power_of_two(),
-        Op::CutDone { heard, .. } => space.life.is_live() && cut_stands(space, client, *heard),
-        Op::GrowDone { heard, .. } => space.life.is_live() && grow_stands(space, client, *heard),
-        Op::CommitDone { heard } => space.life.is_live() && commit_stands(space, client, *heard),
-        Op::Land { span, class, count } => {
-            space.life.is_live() && land_stands(space, client, *span, *class, *count)
-        }
-        Op::Back { addrs } => space.life.is_live() && back_stands(space, client, addrs.as_slice()),
-        Op::PutLook { span, tries } => {
-            space.life.is_live() && *tries < 3 && has_flight(space, client, *span)
-        }
-        Op::MergeDone { heard, .. } => space.life.is_live() && merge_stands(space, client, *heard),
+        Op::CutDone { heard, .. } => live && cut_stands(space, client, *heard),
+        Op::GrowDone { heard, .. } => live && grow_stands(space, client, *heard),
+        Op::CommitDone { heard } => live && commit_stands(space, client, *heard),
+        Op::Land { span, class, count } => live
+            && land_stands(space, client, *span, *class, *count),
+        Op::Back { addrs } => live && back_stands(space, client, addrs.as_slice()),
+        Op::PutLook { span, tries } => live && *tries < 3 && has_flight(space, client, *span),
+        Op::MergeDone { heard, .. } => live && merge_stands(space, client, *heard),
         Op::Fill { class, count } => fill_stands(*class, *count),
         Op::Advance { .. } | Op::TakeOver { .. } | Op::Counts => true,
         Op::PurgeTake { rest, .. } => is_purgeable(*rest),
-        Op::LazyDone { heard } => space.life.is_live() && lazy_stands(space, client, *heard),
-        Op::Offer { span } => space.life.is_live() && has_flight(space, client, *span),
-        Op::OfferDone { heard, .. } => space.life.is_live() && offer_stands(space, client, *heard),
-        Op::DecommitDone { heard } => {
-            space.life.is_live() && decommit_stands(space, client, *heard)
-        }
-        Op::ForcedDone { heard } => space.life.is_live() && forced_stands(space, client, *heard),
-        Op::Publish { addr } => {
-            space.life.is_live() && holds_at(client, space.regions.as_slice(), *addr)
-        }
+        Op::LazyDone { heard } => live && lazy_stands(space, client, *heard),
+        Op::Offer { span } => live && has_flight(space, client, *span),
+        Op::OfferDone { heard, .. } => live && offer_stands(space, client, *heard),
+        Op::DecommitDone { heard } => live && decommit_stands(space, client, *heard),
+        Op::ForcedDone { heard } => live && forced_stands(space, client, *heard),
+        Op::Publish { addr } => live && holds_at(client, space.regions.as_slice(), *addr),
         Op::Reset { cached } | Op::Destroy { cached } => reset_stands(space, client, *cached),
         Op::DestroyTake => space.life.is_dying(client),
         Op::Set(setting) => setting_stands(*setting),
-        Op::Widen { addr, pages } => {
-            space.life.is_live() && widen_stands(space, client, *addr, *pages)
-        }
-        Op::JoinDone { heard, class } => {
-            space.life.is_live() && join_stands(space, client, *heard, *class)
-        }
-        Op::Trim { addr, class } => {
-            space.life.is_live() && trim_stands(space, client, *addr, *class)
-        }
-        Op::TrimDone { heard, class } => {
-            space.life.is_live() && trim_done_stands(space, client, *heard, *class)
-        }
+        Op::Widen { addr, pages } => live && widen_stands(space, client, *addr, *pages),
+        Op::JoinDone { heard, class } => live && join_stands(space, client, *heard, *class),
+        Op::Trim { addr, class } => live && trim_stands(space, client, *addr, *class),
+        Op::TrimDone { heard, class } => live && trim_done_stands(space, client, *heard, *class),
     }
 }
 

@@ -8,6 +8,7 @@ ghost use Rattle.space_model.specs.Region.{is_slab};
 ghost use Rattle.space_model.specs.Stepped.{if_live, stays};
 ghost use Rattle.space_model.specs.Sound.{Sound};
 
+use super::Replied;
 use super::slabs::is_slab;
 use crate::{Boxed, Counts, Part, Region, Reply, Rest, Space, State};
 use size_classes::{PAGE_BYTES, SMALL_CLASSES, size_of};
@@ -53,12 +54,8 @@ fn bytes_in(kind: Use, space: &Space) -> u64
     ensures bytes { result ≡ bytes_where (is_of kind) space.now.parts }
     ensures within { result ≤ 2 ^ 41 }
 {
-    space
-        .parts
-        .as_slice()
-        .iter()
-        .map(|part| bytes_if(kind, part))
-        .sum()
+    let all = space.parts.as_slice().iter();
+    all.map(|part| bytes_if(kind, part)).sum()
 }
 
 /// The sizes of the regions.
@@ -66,23 +63,8 @@ fn region_bytes(space: &Space) -> u64
     requires { Sound space.now }
     ensures { result ≡ region_bytes space.now.regions }
 {
-    space
-        .regions
-        .as_slice()
-        .iter()
-        .map(|region| size_of(region.class))
-        .sum()
-}
-
-/// Whether a class is small, or whether it is large.
-fn is_of_size(small: bool, class: u8) -> bool
-    ensures { result ≡ (if small then nat_lt class 36 else not (nat_lt class 36)) }
-{
-    if small {
-        class < SMALL_CLASSES
-    } else {
-        SMALL_CLASSES <= class
-    }
+    let all = space.regions.as_slice().iter();
+    all.map(|region| size_of(region.class)).sum()
 }
 
 /// The size of a region, if it is small or large as asked.
@@ -90,7 +72,7 @@ fn size_if(small: bool, region: &Region) -> u64
     requires { region.now.class < 121 }
     ensures { result ≡ (if (if small then nat_lt region.now.class 36 else not (nat_lt region.now.class 36)) then size_at region.now.class else 0) }
 {
-    if is_of_size(small, region.class) {
+    if small == (region.class < SMALL_CLASSES) {
         size_of(region.class)
     } else {
         0
@@ -102,22 +84,16 @@ fn region_bytes_of(small: bool, space: &Space) -> u64
     requires { Sound space.now }
     ensures { result ≡ region_bytes_where (λ class. if small then nat_lt class 36 else not (nat_lt class 36)) space.now.regions }
 {
-    space
-        .regions
-        .as_slice()
-        .iter()
-        .map(|region| size_if(small, region))
-        .sum()
+    let all = space.regions.as_slice().iter();
+    all.map(|region| size_if(small, region)).sum()
 }
 
 /// How many regions there are of a class.
 fn count_of(class: u8, regions: &[Region]) -> u64
     ensures { result ≡ count_by (λ r. r.class == class) regions.now }
 {
-    regions
-        .iter()
-        .filter(|region| region.class == class)
-        .count() as u64
+    let all = regions.iter();
+    all.filter(|region| region.class == class).count() as u64
 }
 
 /// How many regions there are of each class, from one on.
@@ -137,13 +113,8 @@ fn slab_count(class: u8, space: &Space) -> u64
     requires { Sound space.now }
     ensures { result ≡ count_by (is_slab class space.now.regions) space.now.parts }
 {
-    let regions = space.regions.as_slice();
-    space
-        .parts
-        .as_slice()
-        .iter()
-        .filter(|part| is_slab(class, regions, part))
-        .count() as u64
+    let (all, regions) = (space.parts.as_slice().iter(), space.regions.as_slice());
+    all.filter(|part| is_slab(class, regions, part)).count() as u64
 }
 
 /// How many slabs there are of each small class.
@@ -168,7 +139,7 @@ fn boxed_counts(space: &Space) -> Result<Boxed<Counts>, NoMemory>
 }
 
 /// The counts of a live arena.
-pub fn counts(space: &Space) -> Result<Reply, NoMemory>
+pub fn counts(space: &Space) -> Replied
     requires { Sound space.now }
     ensures reply { IfOk result (λ told. told ≡ (if_live space.now (stays space.now (Reply.Counted (counts_of space.now)))).reply) }
     ensures same { (if_live space.now (stays space.now (Reply.Counted (counts_of space.now)))).after ≡ space.now }
