@@ -11,42 +11,38 @@ mod trials;
 use space_model::Life;
 use std::alloc::Global;
 use std::process::Abort;
-use std::test::Fail;
 use trials::Trial;
 
 /// An arena as a script leaves it.
-fn after(rt: &impl Abort, alloc: Global, script: &str) -> Result<Trial, Fail> {
+fn after(rt: &impl Abort, alloc: Global, script: &str) -> Trial {
     let mut trial = Trial::of_script(rt, alloc, script);
-    scripts::carry_out(rt, alloc, &mut trial, script)?;
-    Ok(trial)
+    scripts::carry_out(rt, alloc, &mut trial, script);
+    trial
 }
 
 #[test]
-fn scripts_are_followed(rt: HostRuntime) -> Result<(), Fail> {
+fn scripts_are_followed(rt: HostRuntime) {
     for script in rows::ALL {
-        after(&rt, rt.alloc(), script)?;
+        after(&rt, rt.alloc(), script);
     }
-    Ok(())
 }
 
 #[test]
-fn an_arena_tells_what_it_holds(rt: HostRuntime) -> Result<(), Fail> {
-    let trial = after(&rt, rt.alloc(), rows::GRANTED)?;
+fn an_arena_tells_what_it_holds(rt: HostRuntime) {
+    let trial = after(&rt, rt.alloc(), rows::GRANTED);
     let arena = trial.arena();
     assert!(&rt; arena.owns_chunk(1) && !arena.owns_chunk(2));
     assert!(&rt; arena.holds_page(1023) && !arena.holds_page(1024));
     assert!(&rt; arena.next_flight(0).is_some() && arena.next_flight(1).is_none());
-    Ok(())
 }
 
 #[test]
-fn an_arena_tells_how_it_was_made(rt: HostRuntime) -> Result<(), Fail> {
-    let trial = after(&rt, rt.alloc(), rows::MADE)?;
+fn an_arena_tells_how_it_was_made(rt: HostRuntime) {
+    let trial = after(&rt, rt.alloc(), rows::MADE);
     let arena = trial.arena();
     assert_eq!(&rt; arena.life(), Life::Live);
     assert_eq!(&rt; (arena.box_no(), arena.grow_limit()), (7, 16384));
     assert_eq!(&rt; arena.times(), (-1, 5000));
-    Ok(())
 }
 
 #[test]

@@ -6,12 +6,11 @@ use super::entries::entry;
 use super::texts::{classes, counts, extents, places, regions};
 use super::trials::Trial;
 use space_model::{Entry, Reply, Space};
-use std::alloc::Global;
+use std::alloc::{AllocError as NoMemory, Global};
 use std::process::Abort;
-use std::test::Fail;
 
 /// The text of a reply, or `bars` where the entry may not stand.
-fn text_of(alloc: Global, reply: Option<Reply>) -> Result<String, Fail> {
+fn text_of(alloc: Global, reply: Option<Reply>) -> Result<String, NoMemory> {
     match reply {
         None => Ok(String::from_str(alloc, "bars")?),
         Some(Reply::Regions(addrs)) => places(alloc, addrs.as_slice()),
@@ -20,7 +19,7 @@ fn text_of(alloc: Global, reply: Option<Reply>) -> Result<String, Fail> {
 }
 
 /// What is seen of a space, where a line of a script asks for that.
-fn seen(alloc: Global, space: &Space, text: &str) -> Option<Result<String, Fail>>
+fn seen(alloc: Global, space: &Space, text: &str) -> Option<Result<String, NoMemory>>
     requires { Sound space.now }
 {
     match text {
@@ -39,32 +38,31 @@ fn replied(rt: &impl Abort, alloc: Global, trial: &mut Trial, text: &str) -> Opt
 }
 
 /// What a line of a script tells.
-fn told(rt: &impl Abort, alloc: Global, trial: &mut Trial, text: &str) -> Result<String, Fail> {
-    match seen(alloc, trial.space(), text) {
+fn told(rt: &impl Abort, alloc: Global, trial: &mut Trial, text: &str) -> String {
+    let told = match seen(alloc, trial.space(), text) {
         Some(told) => told,
         None => text_of(alloc, replied(rt, alloc, trial, text)),
-    }
+    };
+    told.expect(rt, "memory for a text")
 }
 
-/// A line of a script tells what stands behind it.
-fn check(rt: &impl Abort, alloc: Global, trial: &mut Trial, line: &str) -> Result<(), Fail> {
+/// A line of a script told what stands behind it.
+fn agrees(rt: &impl Abort, line: &str, told: &str, wanted: &str) {
+    assert!(rt; told == wanted, "{line}: {told}");
+}
+
+/// Carries out a line of a script: what it tells stands behind it.
+fn check(rt: &impl Abort, alloc: Global, trial: &mut Trial, line: &str) {
     if let Some((text, wanted)) = line.split_once(" = ") {
-        let told = told(rt, alloc, trial, text)?;
-        assert!(rt; told.as_str() == wanted, "{line}: {told}");
+        let told = told(rt, alloc, trial, text);
+        agrees(rt, line, told.as_str(), wanted);
         trial.counts_agree(rt);
     }
-    Ok(())
 }
 
 /// Carries out a script.
-pub(crate) fn carry_out(
-    rt: &impl Abort,
-    alloc: Global,
-    trial: &mut Trial,
-    script: &str,
-) -> Result<(), Fail> {
+pub(crate) fn carry_out(rt: &impl Abort, alloc: Global, trial: &mut Trial, script: &str) {
     for line in script.lines() {
-        check(rt, alloc, trial, line)?;
+        check(rt, alloc, trial, line);
     }
-    Ok(())
 }

@@ -3,11 +3,10 @@
 ghost use Rattle.space_model.specs.Sound.{Sound};
 
 use space_model::{Part, Region, Space, Span, plain_counts};
-use std::alloc::Global;
-use std::test::Fail;
+use std::alloc::{AllocError as NoMemory, Global};
 
 /// Adds a text behind others, with a comma between.
-fn add(list: &mut String, text: &str) -> Result<(), Fail> {
+fn add(list: &mut String, text: &str) -> Result<(), NoMemory> {
     if !list.is_empty() {
         list.push_str(", ")?;
     }
@@ -16,7 +15,7 @@ fn add(list: &mut String, text: &str) -> Result<(), Fail> {
 }
 
 /// The text of a list, or `none`.
-fn or_none(alloc: Global, list: String) -> Result<String, Fail> {
+fn or_none(alloc: Global, list: String) -> Result<String, NoMemory> {
     if list.is_empty() {
         return Ok(String::from_str(alloc, "none")?);
     }
@@ -24,7 +23,7 @@ fn or_none(alloc: Global, list: String) -> Result<String, Fail> {
 }
 
 /// The extents in their order.
-pub(crate) fn extents(alloc: Global, parts: &[Part]) -> Result<String, Fail> {
+pub(crate) fn extents(alloc: Global, parts: &[Part]) -> Result<String, NoMemory> {
     let mut list = String::new(alloc);
     for part in parts {
         let Span { first, pages } = part.span;
@@ -35,7 +34,7 @@ pub(crate) fn extents(alloc: Global, parts: &[Part]) -> Result<String, Fail> {
 }
 
 /// The regions in their order.
-pub(crate) fn regions(alloc: Global, regions: &[Region]) -> Result<String, Fail> {
+pub(crate) fn regions(alloc: Global, regions: &[Region]) -> Result<String, NoMemory> {
     let mut list = String::new(alloc);
     for region in regions {
         let text = format!(in alloc; "{} {} {:?}", region.addr, region.class, region.holder)?;
@@ -45,7 +44,7 @@ pub(crate) fn regions(alloc: Global, regions: &[Region]) -> Result<String, Fail>
 }
 
 /// The addresses of a reply.
-pub(crate) fn places(alloc: Global, addrs: &[u64]) -> Result<String, Fail> {
+pub(crate) fn places(alloc: Global, addrs: &[u64]) -> Result<String, NoMemory> {
     let mut list = String::new(alloc);
     for addr in addrs {
         let text = format!(in alloc; "{addr}")?;
@@ -55,7 +54,7 @@ pub(crate) fn places(alloc: Global, addrs: &[u64]) -> Result<String, Fail> {
 }
 
 /// The bytes by use.
-pub(crate) fn counts(alloc: Global, space: &Space) -> Result<String, Fail>
+pub(crate) fn counts(alloc: Global, space: &Space) -> Result<String, NoMemory>
     requires { Sound space.now }
 {
     let n = plain_counts(space);
@@ -70,7 +69,7 @@ pub(crate) fn counts(alloc: Global, space: &Space) -> Result<String, Fail>
 }
 
 /// The numbers that aren't 0, by class.
-fn by_class(alloc: Global, numbers: &[u64]) -> Result<String, Fail> {
+fn by_class(alloc: Global, numbers: &[u64]) -> Result<String, NoMemory> {
     let mut list = String::new(alloc);
     for (class, number) in numbers.iter().enumerate() {
         if *number > 0 {
@@ -85,7 +84,7 @@ fn by_class(alloc: Global, numbers: &[u64]) -> Result<String, Fail> {
 }
 
 /// The regions and slabs by class.
-pub(crate) fn classes(alloc: Global, space: &Space) -> Result<String, Fail>
+pub(crate) fn classes(alloc: Global, space: &Space) -> Result<String, NoMemory>
     requires { Sound space.now }
 {
     let n = plain_counts(space);
