@@ -3,6 +3,7 @@ use Rattle.std.proofs.Common.{Bool, leb, ◌≡◌, ℕ, ◌+◌, ◌-◌, ◌/�
 use Rattle.std.specs.Cmp.{nat_cmp_total, unsigned_tied}
 use Rattle.std.specs.FinMap as map_of
 use Rattle.std.specs.FinSet as set_of
+use Rattle.std.proofs.lemmas.Bool.Decides.{nat_tests}
 use Rattle.std.proofs.lemmas.Bool.{cases_Bool, cases_lt, leb-true, eq-eqb, eqb-true}
 use Rattle.size_classes.specs.Classes.{class_sizes, least_pages, pages_at}
 use Rattle.size_classes.proofs.Table.{at, passes_below}
@@ -11,9 +12,6 @@ use Rattle.bin_book.specs.Charts.{HasPage}
 
 get_set : (m : map_of.FinMap nat_cmp ℕ) (p v q : ℕ) → map_of.get (map_of.insert m p v) q ≡ cond (eqb q p) (Some v) (map_of.get m q)
 get_set m p v q = map_of.get-insert nat_cmp_total m p v q ∙ ap (λ b. cond b (Some v) (map_of.get m q)) (unsigned_tied q p)
-
-get_cleared : (m : map_of.FinMap nat_cmp ℕ) (p q : ℕ) → map_of.get (map_of.remove m p) q ≡ cond (eqb q p) None (map_of.get m q)
-get_cleared m p q = map_of.get-remove nat_cmp_total m p q ∙ ap (λ b. cond b None (map_of.get m q)) (unsigned_tied q p)
 
 -- each number is that of the slab at one of its pages, or was there
 abbrev pub AreOwn : (old new : map_of.FinMap nat_cmp ℕ) (first pages slab : ℕ) → Type 0
@@ -29,19 +27,10 @@ own_set old m first pages slab p own has page n e = elim (cases_Bool (eqb page p
 
 -- a page that is cleared has no number, and the others have theirs
 pub only_cleared : (m : map_of.FinMap nat_cmp ℕ) (p page n : ℕ) → map_of.get (map_of.remove m p) page ≡ Some n → map_of.get m page ≡ Some n
-only_cleared m p page n e = elim (cases_Bool (eqb page p)) [
-  | inl t ↦ absurd (let no : None ≡ Some n = sym (get_cleared m p page ∙ ap (λ b. cond b None (map_of.get m page)) t) ∙ e in cc)
-  | inr f ↦ sym (get_cleared m p page ∙ ap (λ b. cond b None (map_of.get m page)) f) ∙ e
-]
+only_cleared m p page n e = grind (arith, nat_tests, map_of.gets, unsigned_tied, e)
 
 pub none_cleared : (m : map_of.FinMap nat_cmp ℕ) (p page : ℕ) → (page < p → map_of.get m page ≡ None) → page < p + 1 → map_of.get (map_of.remove m p) page ≡ None
-none_cleared m p page none l = get_cleared m p page ∙ elim (cases_Bool (eqb page p)) [
-  | inl t ↦ ap (λ b. cond b None (map_of.get m page)) t
-  | inr f ↦ ap (λ b. cond b None (map_of.get m page)) f ∙ elim (cases_lt page p) [
-    | inl low ↦ none low
-    | inr high ↦ absurd (let is = eq-eqb page p (omega arith) in let no : true ≡ false = sym is ∙ f in cc)
-  ]
-]
+none_cleared m p page none l = grind (arith, nat_tests, map_of.gets, unsigned_tied, none)
 
 -- the pages from the first one up to another one have a number, and took no more leaves than they have chunks
 pub record HasRun (old new : Pages) (first slab page : ℕ) : Type 0 where
@@ -60,13 +49,7 @@ some_leaf old new first slab page run some inside = elim (cases_lt first page) [
 pub longer_run : (old new next : Pages) (first slab page : ℕ) → HasRun old new first slab page → first ≤ page → 0 < new.spare → next.numbers ≡ map_of.insert new.numbers page slab → next.chunks ≡ set_of.insert new.chunks (page / 512)
     → next.spare ≡ (if set_of.contains new.chunks (page / 512) then new.spare else new.spare - 1) → HasRun old next first slab (page + 1)
 longer_run old new next first slab page run from some numbers chunks spare = record {
-  numbers = λ p low l. ap (λ m. map_of.get m p) numbers ∙ get_set new.numbers page slab p ∙ elim (cases_Bool (eqb p page)) [
-    | inl t ↦ ap (λ b. cond b (Some slab) (map_of.get new.numbers p)) t
-    | inr f ↦ ap (λ b. cond b (Some slab) (map_of.get new.numbers p)) f ∙ elim (cases_lt p page) [
-      | inl below ↦ run.numbers p low below
-      | inr high ↦ absurd (let is = eq-eqb p page (omega arith) in let no : true ≡ false = sym is ∙ f in cc)
-    ]
-  ];
+  numbers = λ p low l. ap (λ m. map_of.get m p) numbers ∙ get_set new.numbers page slab p ∙ by p low (eqb p page) refl l;
   none_yet = λ l. absurd (omega arith);
   leaf = λ l. let at : page + 1 - 1 ≡ page = omega arith in ap (λ s. set_of.contains s ((page + 1 - 1) / 512)) chunks ∙ ap (λ p. set_of.contains (set_of.insert new.chunks (page / 512)) (p / 512)) at ∙ contains_new new.chunks (page / 512);
   leaves = λ l. elim (cases_Bool (set_of.contains new.chunks (page / 512))) [
@@ -92,6 +75,10 @@ longer_run old new next first slab page run from some numbers chunks spare = rec
   ];
 }
   where
+    by : (p : ℕ) → first ≤ p → (b : Bool) → eqb p page ≡ b → p < page + 1 → cond b (Some slab) (map_of.get new.numbers p) ≡ Some slab
+    by p low true t l = refl
+    by p low false f l = run.numbers p low (grind (arith, nat_tests, f))
+
     contains_new : (s : set_of.FinSet nat_cmp) (k : ℕ) → set_of.contains (set_of.insert s k) k ≡ true
     contains_new s k = set_of.contains-insert nat_cmp_total s k k ∙ ap (λ b. b || set_of.contains s k) (unsigned_tied k k ∙ eq-eqb k k refl)
 

@@ -20,7 +20,7 @@ use Rattle.bin_book.specs.Holders.{holder_at}
 use Rattle.bin_book.specs.Tables.{AreFree, IsBinned, IsCharted, IsKept, IsSlabIn, IsTable, bin_key, bits_at, left_of, no_bits, regions_in, regions_of, slab_at, slab_of, slabs_in}
 use Rattle.list_facts.proofs.Members.{bit, map_same, range_from}
 use Rattle.bin_book.proofs.Regions.{regions_agree}
-use Rattle.bin_book.proofs.Removing.{count_zero}
+use Rattle.bin_book.proofs.Adding.{count_zero}
 
 -- one more number of a range
 pub range_more : (a n : ℕ) → range_with_len a (suc n) ≡ range_with_len a n ++ (a + n) ∷ []
@@ -55,7 +55,6 @@ pub regions_grown : (t : Table) → IsTable t → (slots : List Bits) (codes : L
 regions_grown t i slots codes keys same agree holders = rw same (regions_agree t.slots.items slots t.holders.codes.items codes t.firsts.keys (λ k m. agree k.minor (i.in_slots k m)) (λ k n m low.
     let few = (slab_filled (bits_at t.slots.items k.minor).class (i.kept.slab k m).small).2 in
     let mine = i.in_slots k m in
-    let held = i.held in
     holders (512 * k.minor + n) (omega arith)))
 
 -- a table with more slots, and more room
@@ -111,7 +110,6 @@ module _ (t u : Table) (i : IsTable t) (firsts : u.firsts.keys ≡ t.firsts.keys
       → vec_len u.slots < 2 ^ 32 → vec_len u.slots ≤ vec_capacity u.free → vec_len u.slots ≤ vec_len u.chart.firsts → vec_len u.free ≤ u.firsts.spare → vec_len u.free ≤ u.bins.spare → 512 * vec_len u.slots ≤ vec_len u.holders.codes → IsTable u
   table_grown le free places small room chart_room firsts_room bins_room held =
       let len = ap length firsts in
-      let was = i.places in
       record {
         ascending = rw firsts i.ascending;
         kept = rw firsts kept_grown;
@@ -139,13 +137,7 @@ table_roomy t u i firsts more bins wider slots free counts codes chart =
     let free_len = ap (λ v. vec_len v) free in
     let cap = ap (λ v. vec_capacity v) free in
     let agree = (λ (n : ℕ) (l : n < vec_len t.slots). ap (λ xs. bits_at xs n) items) in
-    let small = i.small in
-    let room = i.room in
-    let chart_room = i.chart_room in
     let places = chart.places in
-    let firsts_room = i.firsts_room in
-    let bins_room = i.bins_room in
-    let held = i.held in
     let none : vec_len u.slots - vec_len t.slots ≡ 0 = omega arith in (
       table_grown t u i firsts bins counts agree chart (omega arith) (free_items ∙ sym (append-nil t.free.items) ∙ ap (λ n. t.free.items ++ range_with_len (vec_len t.slots) n) (sym none)) (omega arith) (omega arith) (omega arith) (omega arith) (omega arith) (omega arith) (omega arith),
       slabs_grown t u i firsts bins counts agree chart,

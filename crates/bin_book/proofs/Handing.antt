@@ -23,12 +23,10 @@ use Rattle.bin_book.specs.Holders.{holder_at}
 use Rattle.bin_book.specs.Tables.{IsKept, IsSlabIn, IsTable, bits_at, left_of, region_at, regions_in, regions_of, regions_without, slabs_in}
 use Rattle.list_facts.specs.ByKey.{AreNew}
 use Rattle.list_facts.proofs.ByKey.{not_found, rising_changed, rising_filter, same_members}
-use Rattle.bin_book.proofs.Kept.{by_key, class_stays, is_new, kept_changed, one_place}
-use Rattle.bin_book.proofs.Landing.{landed, landed_from, landed_new, landed_old}
+use Rattle.bin_book.proofs.Places.{by_key, class_stays, is_new, kept_changed, one_place, length_ones}
+use Rattle.bin_book.proofs.Regions.{landed, landed_from, landed_new, landed_old, out_from, out_has, regions_rise}
 use Rattle.list_facts.proofs.Members.{head, map_from, map_has}
-use Rattle.bin_book.proofs.Places.{length_ones}
-use Rattle.bin_book.proofs.Regions.{out_from, out_has, regions_rise}
-use Rattle.bin_book.proofs.Removing.{kept_less}
+use Rattle.bin_book.proofs.Adding.{kept_less}
 use Rattle.bin_book.proofs.Taking.{in_items, more_left, with_bit}
 
 -- ---- slots and codes that change at one place
@@ -181,7 +179,6 @@ only_out bits first n j is here out last low out' = dite (ℕ_discrete j n) (λ 
     let two = set one j true in
     let few = (slab_filled bits.class is.small).2 in
     let long = length-set bits.free n true in
-    let whole = is.long in
     let first = more_left bits.free n (omega arith) out in
     let second = more_left one j (omega arith) (get_or-set_other bits.free n j true false ne ∙ out') in
     let behind : (k : ℕ) → regions_at bits.class ≤ k → get_or two k false ≡ false = (λ k far. get_or-set_other one j k true false (λ e. omega arith) ∙ get_or-set_other bits.free n k true false (λ e. omega arith) ∙ is.behind k far) in
@@ -202,7 +199,6 @@ module _ (t : Table) (i : IsTable t) (key : Key) (there : Contains t.firsts.keys
   code_inside =
       let few = (slab_filled bits.class (i.kept.slab key there).small).2 in
       let mine = i.in_slots key there in
-      let held = i.held in
       omega arith
 
   pub region_held : get_or bits.free n false ≡ false → (codes : List ℕ) (holder : Option ℕ) → holder_at codes (512 * key.minor + n) ≡ holder → ((p : ℕ) → p ≢ 512 * key.minor + n → holder_at codes p ≡ holder_at t.holders.codes.items p)

@@ -1,5 +1,5 @@
--- The slab that has an address, and those that share pages with a span.
-use Rattle.std.proofs.Common.{Option, IfNone, IfSome, ◌≡◌, ℕ, ◌+◌, ◌-◌, ◌*◌, ◌/◌, ◌%◌, ◌<◌, ◌≤◌, Bool, true, false, not, ◌&&◌, eqb, ltb, List, length, map, filter, get_or, Some, None, ◌⊎◌, inl, inr, refl, sym, ap, ◌∙◌, subst, arith, Contains, is_lt, vec_len}
+-- Which slab has an address, and the region that begins there, or none.
+use Rattle.std.proofs.Common.{Option, IfNone, IfSome, ◌≡◌, ℕ, ◌+◌, ◌-◌, ◌*◌, ◌/◌, ◌%◌, ◌<◌, ◌≤◌, Bool, true, false, not, ◌&&◌, eqb, ltb, List, length, map, filter, get_or, Some, None, ◌⊎◌, inl, inr, refl, sym, ap, ◌∙◌, subst, arith, Contains, is_lt, vec_len, find}
 use Rattle.std.specs.FinMap as map_of
 use Rattle.std.specs.Option.{option_map}
 use Rattle.std.specs.List.{list_any, range_with_len}
@@ -17,10 +17,14 @@ use Rattle.ordered_set.proofs.Members.{filter_from, filter_has}
 use Rattle.ordered_set.proofs.Orders.{last_greatest, less_from_parts, less_parts, start}
 use Rattle.ordered_set.proofs.Sorted.{every_member, less_from_lt}
 use Rattle.bin_book.specs.declared.table.Table.{Table}
-use Rattle.bin_book.specs.Bins.{Slab, is_among, is_out, place, places}
-use Rattle.bin_book.specs.Tables.{HasOut, IsLastBelow, IsOutAt, IsTable, bits_at, ones, slab_at, slabs_in}
+use Rattle.bin_book.specs.Bins.{Slab, is_among, is_out, place, places, addr_of}
+use Rattle.bin_book.specs.Tables.{HasOut, IsLastBelow, IsOutAt, IsTable, bits_at, ones, slab_at, slabs_in, region_at, regions_in}
 use Rattle.list_facts.proofs.Members.{any_from, any_has, any_map, any_none, map_from, map_has, range_from, range_has}
 use Rattle.bin_book.proofs.Places.{among_ones, place_inside}
+use Rattle.space_model.specs.declared.parts.Region.{Region}
+use Rattle.space_model.specs.Region.{starts_at}
+use Rattle.list_facts.proofs.ByKey.{member_found}
+use Rattle.bin_book.proofs.Regions.{out_from, out_has, regions_rise}
 
 below_page : (k : Key) (page : ℕ) → k.major < page → is_below (start page) k ≡ true
 below_page k page l = ap is_lt (less_from_parts k (start page) (inl l))
@@ -101,7 +105,6 @@ module _ (t : Table) (i : IsTable t) where
   charted_place page number e =
       let h = i.charted.holders page number e in
       let low = i.in_slots h.0 h.1.there in
-      let room = i.chart_room in
       omega (arith, h.1.at)
 
   -- ---- sharing pages
@@ -149,19 +152,21 @@ module _ (t : Table) (i : IsTable t) where
   out_somewhere class addr key n o = sym (any_has (is_out class addr) (map (slab_at t.slots.items) t.firsts.keys) (slab_at t.slots.items key) (map_has (slab_at t.slots.items) t.firsts.keys key o.there) (out_here class addr key n o))
 
   -- and where it is, a slab shows it
-  pub out_from : (class addr : ℕ) (key : Key) → Contains t.firsts.keys key → is_out class addr (slab_at t.slots.items key) ≡ true → (n : ℕ) × IsOutAt t class addr key n
-  out_from class addr key m e =
+  pub out_shown : (class addr : ℕ) (key : Key) → Contains t.firsts.keys key → is_out class addr (slab_at t.slots.items key) ≡ true → (n : ℕ) × IsOutAt t class addr key n
+  out_shown class addr key m e =
       let b = bits_at t.slots.items key.minor in
       let small = (i.kept.slab key m).small in
-      let parts = and_parts _ _ e in
-      let more = and_parts _ _ parts.1 in
-      let of_class = eqb-true b.class class parts.0 in
-      let a = any_from (λ a. eqb a addr) (places b.class key.major) more.0 in
+      let shown = map (place b.class key.major) (ones (regions_at b.class) b.free) in
+      let one : eqb b.class class ≡ true = grind (arith, e) in
+      let two : is_among (places b.class key.major) addr ≡ true = grind (arith, e) in
+      let three : is_among shown addr ≡ false = grind (arith, e) in
+      let of_class = eqb-true b.class class one in
+      let a = any_from (λ a. eqb a addr) (places b.class key.major) two in
       let p = map_from (place b.class key.major) (range_with_len 0 (regions_at b.class)) a.0 a.1 in
       let r = range_from 0 (regions_at b.class) p.0 p.1 in
       let low : p.0 < regions_at b.class = (let l = r.1 in omega arith) in
       let at : place b.class key.major p.0 ≡ addr = p.2 ∙ eqb-true _ _ a.2 in
-      let free = ap (is_among (map (place b.class key.major) (ones (regions_at b.class) b.free))) (sym at) ∙ among_ones b.class key.major (regions_at b.class) p.0 b.free small low in (
+      let free = ap (is_among shown) (sym at) ∙ among_ones b.class key.major (regions_at b.class) p.0 b.free small low in (
         p.0,
         record {
           there = m;
@@ -169,18 +174,10 @@ module _ (t : Table) (i : IsTable t) where
           out = record {
             of_class = of_class;
             inside = subst (λ c. p.0 < regions_at c) of_class low;
-            out = sym free ∙ false_from_not _ more.1;
+            out = sym free ∙ three;
           };
         },
       )
-    where
-      and_parts : (a b : Bool) → (a && b) ≡ true → (a ≡ true) × (b ≡ true)
-      and_parts true b e = (refl, e)
-      and_parts false b e = absurd (cc)
-
-      false_from_not : (a : Bool) → not a ≡ true → a ≡ false
-      false_from_not true e = absurd (cc)
-      false_from_not false e = refl
 
   -- the slab of an address is the last one that begins at its page or below
   pub only_holder : (class addr : ℕ) (key : Key) → IsLastBelow t.firsts.keys (addr / 4096 + 1) key → (k : Key) (n : ℕ) → IsOutAt t class addr k n → k ≡ key
@@ -202,7 +199,7 @@ module _ (t : Table) (i : IsTable t) where
   pub none_out : (class addr : ℕ) → ((k : Key) (n : ℕ) → IsOutAt t class addr k n → ⊥) → false ≡ list_any (is_out class addr) (slabs_in t)
   unfolding slabs_in
   none_out class addr none = sym (any_map (slab_at t.slots.items) (is_out class addr) t.firsts.keys ∙ any_none (λ k. is_out class addr (slab_at t.slots.items k)) t.firsts.keys (λ k m.
-      false_from_ne_true _ (λ e. let o = out_from class addr k m e in none k o.0 o.1)))
+      false_from_ne_true _ (λ e. let o = out_shown class addr k m e in none k o.0 o.1)))
 
 -- ---- the region at an address
 
@@ -235,3 +232,32 @@ module _ (t : Table) (i : IsTable t) (class addr : ℕ) (small : class < 36) (ke
 -- where no slab begins at the page of an address or below, no region stands there
 pub pages_far : (t : Table) → IsTable t → (class addr : ℕ) → ((k : Key) → Contains t.firsts.keys k → addr / 4096 + 1 ≤ k.major) → (k : Key) (n : ℕ) → IsOutAt t class addr k n → ⊥
 pages_far t i class addr far k n o = let at = o.at in let above = far k o.there in omega arith
+
+-- where a slab has no region out at an address, none begins there
+pub none_starts : (t : Table) (addr : ℕ) → ((k : Key) (n : ℕ) → IsOutAt t (bits_at t.slots.items k.minor).class addr k n → ⊥) → false ≡ list_any (starts_at addr) (regions_in t)
+none_starts t addr none = sym (any_none (starts_at addr) (regions_in t) (λ r m.
+    let p = out_from t.slots.items t.holders.codes.items t.firsts.keys r m in
+    let o = p.2 in
+    false_from_ne_true _ (λ e. none p.0 p.1 (record { there = o.there; at = ap (λ (x : Region). x.addr) o.is ∙ eqb-true r.addr addr e; out = record { of_class = refl; inside = o.low; out = o.out } }))))
+
+module _ (t : Table) (i : IsTable t) (addr : ℕ) (key : Key) where
+  abbrev class : ℕ
+  class = (bits_at t.slots.items key.minor).class
+
+  -- none does where the last slab that begins at its page or below has none out there
+  pub none_last : IsLastBelow t.firsts.keys (addr / 4096 + 1) key → false ≡ list_any (is_out class addr) (slabs_in t) → false ≡ list_any (starts_at addr) (regions_in t)
+  none_last last none = none_starts t addr (λ k n o.
+      let is = only_holder t i (bits_at t.slots.items k.minor).class addr key last k n o in
+      let yes = out_somewhere t i class addr key n (subst (λ (z : Key). IsOutAt t (bits_at t.slots.items z.minor).class addr z n) is o) in
+      let no : false ≡ true = none ∙ sym yes in
+      cc)
+
+  -- a region that is out is what begins at its address
+  pub starts : (n : ℕ) → IsOutAt t class addr key n → Contains (regions_in t) (region_at t.slots.items t.holders.codes.items key n)
+  starts n o = out_has t.slots.items t.holders.codes.items t.firsts.keys _ key n (record { there = o.there; low = o.out.inside; out = o.out.out; is = refl })
+
+  pub some_starts : (n : ℕ) → IsOutAt t class addr key n → true ≡ list_any (starts_at addr) (regions_in t)
+  some_starts n o = sym (any_has (starts_at addr) (regions_in t) _ (starts n o) (eq-eqb _ addr o.at))
+
+  pub found_there : (n : ℕ) → IsOutAt t class addr key n → find (starts_at addr) (regions_in t) ≡ Some (region_at t.slots.items t.holders.codes.items key n)
+  found_there n o = ap (λ a. find (starts_at a) (regions_in t)) (sym o.at) ∙ member_found addr_of (regions_in t) _ (regions_rise t.slots.items t.holders.codes.items t.firsts.keys i.ascending i.kept) (starts n o)

@@ -1,15 +1,9 @@
 pub mod Regions
-pub mod Landing
-pub mod Places
 pub mod Charting
-pub mod Kept
-pub mod Open
-pub mod Taking
+pub mod Places
 pub mod Handing
 pub mod Adding
-pub mod Removing
 pub mod Holding
-pub mod Finding
 pub mod Growing
-pub mod Emptying
+pub mod Taking
 pub mod Rounds

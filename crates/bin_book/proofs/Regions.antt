@@ -1,5 +1,5 @@
--- The regions of slabs that are out: which they are, and that their addresses rise.
-use Rattle.std.proofs.Common.{◌≡◌, ◌≢◌, ℕ, ◌+◌, ◌*◌, ◌<◌, ◌≤◌, zero, suc, Bool, true, false, not, eqb, List, [], ◌∷◌, ◌++◌, map, filter, find, get_or, Option, Some, None, inl, inr, refl, sym, ap, ◌∙◌, subst, arith, Contains, Less}
+-- The regions that are out, by address, and some that land among others.
+use Rattle.std.proofs.Common.{◌≡◌, ◌≢◌, ℕ, ◌+◌, ◌*◌, ◌<◌, ◌≤◌, zero, suc, Bool, true, false, not, eqb, List, [], ◌∷◌, ◌++◌, map, filter, find, get_or, Option, Some, None, inl, inr, refl, sym, ap, ◌∙◌, subst, arith, Contains, Less, ◌⊎◌}
 use Rattle.std.specs.List.{flat_map, list_any, range_with_len}
 use Rattle.std.specs.List.Sorted.{IsStrictlySortedBy}
 use Rattle.std.proofs.Math.Nat.{mul-le-mul_right}
@@ -9,7 +9,7 @@ use Rattle.std.proofs.lemmas.List.Elements.{Contains-append_cases, Contains-appe
 use Rattle.size_classes.specs.Classes.{regions_at, size_at}
 use Rattle.size_classes.proofs.Table.{size_bounds}
 use Rattle.space_model.specs.declared.parts.Region.{Region}
-use Rattle.space_model.specs.Region.{starts_at}
+use Rattle.space_model.specs.Region.{starts_at, landing, region_of}
 use Rattle.slab_bits.specs.Slabs.{Slab as Bits}
 use Rattle.ordered_set.specs.declared.key.Key.{Key}
 use Rattle.ordered_set.specs.Keys.{IsAscending, key_cmp}
@@ -19,11 +19,12 @@ use Rattle.ordered_set.proofs.Sorted.{every_member}
 use Rattle.bin_book.specs.Bins.{addr_of, place}
 use Rattle.bin_book.specs.Holders.{holder_at}
 use Rattle.bin_book.specs.Tables.{IsKept, bits_at, out_of, region_at, regions_of, zeros}
-use Rattle.list_facts.specs.ByKey.{IsRising}
-use Rattle.list_facts.proofs.ByKey.{behind_members, not_found, rising_both}
+use Rattle.list_facts.specs.ByKey.{IsRising, AreNew}
+use Rattle.list_facts.proofs.ByKey.{behind_members, not_found, rising_both, Landed, found_member, lands, member_found, rising_distinct}
 use Rattle.list_facts.proofs.Members.{any_has, found, head, map_from, map_has, map_same, range_from, range_has}
-use Rattle.bin_book.proofs.Open.{less_ne}
+use Rattle.bin_book.proofs.Taking.{less_ne}
 use Rattle.bin_book.proofs.Places.{place_inside}
+use Rattle.std.specs.Option.{option_or}
 
 -- ---- the regions that are out
 
@@ -34,13 +35,6 @@ pub record IsOutRegion (slots : List Bits) (codes : List ℕ) (keys : List Key) 
   pub out : get_or (bits_at slots key.minor).free n false ≡ false
   pub is : region_at slots codes key n ≡ r
 
-not_false : (b : Bool) → b ≡ false → not b ≡ true
-not_false b e = ap not e
-
-true_not : (b : Bool) → not b ≡ true → b ≡ false
-true_not true e = sym e
-true_not false e = refl
-
 module _ (slots : List Bits) (codes : List ℕ) where
   pub out_has : (keys : List Key) (r : Region) (key : Key) (n : ℕ) → IsOutRegion slots codes keys r key n → Contains (regions_of slots codes keys) r
   unfolding regions_of
@@ -48,7 +42,7 @@ module _ (slots : List Bits) (codes : List ℕ) where
   out_has (k ∷ ks) r key n o = elim (contains_cases k ks key o.there) [
     | inl e ↦
         let b = bits_at slots key.minor in
-        let m = map_has (region_at slots codes key) (zeros (regions_at b.class) b.free) n (filter_has (λ i. not (get_or b.free i false)) (range_with_len 0 (regions_at b.class)) n (range_has 0 (regions_at b.class) n (omega arith) (let low = o.low in omega arith)) (not_false _ o.out)) in
+        let m = map_has (region_at slots codes key) (zeros (regions_at b.class) b.free) n (filter_has (λ i. not (get_or b.free i false)) (range_with_len 0 (regions_at b.class)) n (range_has 0 (regions_at b.class) n (omega arith) (let low = o.low in omega arith)) (ap not o.out)) in
         Contains-append_left (out_of slots codes k) (flat_map (out_of slots codes) ks) r (subst (λ x. Contains (out_of slots codes k) x) o.is (subst (λ z. Contains (out_of slots codes z) (region_at slots codes key n)) (sym e) m))
     | inr d ↦ Contains-append_right (out_of slots codes k) (flat_map (out_of slots codes) ks) r (out_has ks r key n (record { there = d; low = o.low; out = o.out; is = o.is }))
   ]
@@ -59,7 +53,8 @@ module _ (slots : List Bits) (codes : List ℕ) where
       let p = map_from (region_at slots codes key) (zeros (regions_at b.class) b.free) r m in
       let q = filter_from (λ i. not (get_or b.free i false)) (range_with_len 0 (regions_at b.class)) p.0 p.1 in
       let low = range_from 0 (regions_at b.class) p.0 q.0 in
-      (p.0, record { there = head key []; low = omega (arith, low.1); out = true_not _ q.1; is = p.2 })
+      let out : get_or b.free p.0 false ≡ false = grind (arith, q.1) in
+      (p.0, record { there = head key []; low = omega (arith, low.1); out = out; is = p.2 })
 
   pub out_from : (keys : List Key) (r : Region) → Contains (regions_of slots codes keys) r → (key : Key) × (n : ℕ) × IsOutRegion slots codes keys r key n
   unfolding regions_of
@@ -139,3 +134,42 @@ regions_agree old new codes news (k ∷ ks) bits holders =
 -- nothing is found where no region passes the test
 pub none_passes : (rs : List Region) (a : ℕ) → false ≡ list_any (starts_at a) rs → None ≡ find (starts_at a) rs
 none_passes rs a e = sym (not_found addr_of rs a (λ r m at. let yes = any_has (starts_at a) rs r m (eq-eqb r.addr a at) in let no : false ≡ true = e ∙ yes in cc))
+
+-- regions of a class, one behind the other
+pub from_rises : (client class addr start n : ℕ) → 1 ≤ size_at class → IsRising addr_of (map (λ i. region_of client class (addr + i * size_at class)) (range_with_len start n))
+from_rises client class addr start zero some = tt
+from_rises client class addr start (suc n) some = (
+  behind_members addr_of _ _ (λ r m.
+      let q = map_from (λ i. region_of client class (addr + i * size_at class)) (range_with_len (start + 1) n) r m in
+      let low = (range_from (start + 1) n q.0 q.1).0 in
+      let more : (start + 1) * size_at class ≤ q.0 * size_at class = mul-le-mul_right (size_at class) low in
+      let at : addr + q.0 * size_at class ≡ r.addr = ap (λ (x : Region). x.addr) q.2 in
+      omega arith),
+  from_rises client class addr (start + 1) n some,
+)
+
+module _ (come rs : List Region) (coming : IsRising addr_of come) (rising : IsRising addr_of rs) (new : AreNew addr_of come rs) where
+  pub landed : Landed addr_of come rs
+  landed = lands addr_of come rs (rising_distinct addr_of come coming) rising new
+
+  pub landed_new : (r : Region) → Contains come r → Contains (landing come rs) r
+  landed_new r m = (found_member addr_of (landing come rs) r.addr r (landed.finds r.addr ∙ ap (λ o. option_or o (find (starts_at r.addr) rs)) (member_found addr_of come r coming m))).0
+
+  pub landed_old : (r : Region) → Contains rs r → Contains (landing come rs) r
+  landed_old r m =
+      let here = member_found addr_of rs r rising m in
+      let none = not_found addr_of come r.addr (λ q n at.
+      let free = every_member (λ (x : Region). find (starts_at x.addr) rs ≡ None) come new q n in
+      let no : None ≡ Some r = sym free ∙ ap (λ a. find (starts_at a) rs) at ∙ here in
+      cc) in
+      (found_member addr_of (landing come rs) r.addr r (landed.finds r.addr ∙ ap (λ o. option_or o (find (starts_at r.addr) rs)) none ∙ here)).0
+
+  pub landed_from : (r : Region) → Contains (landing come rs) r → Contains come r ⊎ Contains rs r
+  landed_from r m = by (find (starts_at r.addr) come) refl
+    where
+      all : option_or (find (starts_at r.addr) come) (find (starts_at r.addr) rs) ≡ Some r
+      all = sym (landed.finds r.addr) ∙ member_found addr_of (landing come rs) r landed.rising m
+
+      by : (o : Option Region) → find (starts_at r.addr) come ≡ o → Contains come r ⊎ Contains rs r
+      by (Some q) e = inl (found_member addr_of come r.addr r (e ∙ sym (ap (λ o. option_or o (find (starts_at r.addr) rs)) e) ∙ all)).0
+      by None e = inr (found_member addr_of rs r.addr r (sym (ap (λ o. option_or o (find (starts_at r.addr) rs)) e) ∙ all)).0

@@ -32,11 +32,7 @@ without_none [] = refl
 without_none (s ∷ slabs) = λ k. record { class = s.class; first = s.first; free = sym (filter_all_of (λ a. not (is_among [] a)) s.free (λ a m. refl)) k } ∷ without_none slabs k
 
 among_more : (addrs : List ℕ) (a b : ℕ) → not (is_among (addrs ++ a ∷ []) b) ≡ (not (is_among addrs b) && not (is_among (a ∷ []) b))
-among_more addrs a b = ap not (list_any-append (λ x. eqb x b) addrs (a ∷ [])) ∙ not_or (is_among addrs b) (is_among (a ∷ []) b)
-  where
-    not_or : (x y : Bool) → not (x || y) ≡ (not x && not y)
-    not_or true y = refl
-    not_or false y = refl
+among_more addrs a b = ap not (list_any-append (λ x. eqb x b) addrs (a ∷ [])) ∙ grind arith
 
 pub without_more : (addrs : List ℕ) (a : ℕ) (slabs : List Slab) → map (without (addrs ++ a ∷ [])) slabs ≡ map (without (a ∷ [])) (map (without addrs) slabs)
 without_more addrs a slabs = map_both (without addrs) (without (a ∷ [])) (without (addrs ++ a ∷ [])) slabs (λ s m k. record {

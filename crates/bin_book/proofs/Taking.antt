@@ -1,29 +1,172 @@
--- A free region is taken out of a slab, or one is put back.
-use Rattle.std.proofs.Common.{◌≡◌, ◌≢◌, ℕ, ◌+◌, ◌<◌, ◌≤◌, suc, Bool, true, false, ◌&&◌, eqb, ltb, List, [], ◌∷◌, ◌++◌, length, length-set, map, get_or, set, count_by, position, Option, Some, inl, inr, refl, sym, ap, ◌∙◌, subst, arith, Contains, Less, vec_len, vec_capacity, IsSome, IfSome}
-use mathlib.Core.Logic.{dite}
-use native.Mathlib.Decide.{ℕ_discrete}
-use Rattle.std.specs.List.{position_or_len}
+-- The lowest slab with a free region, a region that is taken out of it or put back, and a slab that leaves.
+use Rattle.std.proofs.Common.{◌≡◌, ◌≢◌, ℕ, ◌+◌, ◌*◌, ◌^◌, ◌<◌, zero, Bool, true, false, eqb, List, [], ◌∷◌, ◌++◌, length, length-append, map, find, get_or, Option, Some, None, ◌⊎◌, inl, inr, refl, sym, ap, ◌∙◌, subst, arith, Contains, Less, Equal, vec_len, is_some, IfNone, IfSome, ◌≤◌, suc, ◌&&◌, ltb, length-set, set, count_by, position, vec_capacity, IsSome, not, filter, is_eq}
 use Rattle.std.specs.List.Sorted.{IsStrictlySortedBy}
 use Rattle.std.proofs.lemmas.Bool.{cases_Bool, cases_lt, eq-eqb, eqb-true, false_from_ne_true}
 use Rattle.std.proofs.lemmas.Bool.Decides.{nat_tests}
-use Rattle.std.proofs.lemmas.List.{get_or-set_other, get_or-set_same}
+use Rattle.std.proofs.lemmas.Cmp.{tied_itself}
+use Rattle.std.proofs.lemmas.List.{get_or_read_under, length-map, get_or-set_other, get_or-set_same}
+use Rattle.ordered_set.specs.declared.key.Key.{Key}
+use Rattle.ordered_set.specs.Keys.{IsAscending, is_from, key_cmp, KeySet, is_other, without_key}
+use Rattle.ordered_set.proofs.KeyOrder.{key_total}
+use Rattle.ordered_set.proofs.Members.{contains_cases, contains_later, other_from, without_from}
+use Rattle.ordered_set.proofs.Orders.{first_of, less_parts, start, start_from, less_major}
+use Rattle.ordered_set.proofs.Sorted.{every_member}
+use Rattle.slab_bits.specs.Slabs.{Slab as Bits}
+use Rattle.size_classes.specs.Classes.{regions_at}
+use Rattle.bin_book.specs.declared.table.Table.{Table}
+use Rattle.bin_book.specs.Bins.{free_of, place, Slab, with_free, without, is_unused}
+use Rattle.bin_book.specs.Tables.{IsLowestOpen, IsTable, bin_of, bits_at, left_of, no_bits, ones, slab_at, slabs_in, IsMoved, IsOutAt, IsSlabIn, bin_key, slab_of, slabs_without}
+use Rattle.list_facts.proofs.Members.{found, head, bit, map_both, map_same, any_has, any_map, any_none, filter_all_of, filter_map_is, filter_same, map_from, map_has}
+use Rattle.bin_book.proofs.Places.{length_ones, freed_slab, lowest_one, same_place, taken_slab, binned_changed, charted_changed, by_key, counts_stay, is_new, kept_changed, one_place, others_stay, key_cases}
+use mathlib.Core.Logic.{dite}
+use native.Mathlib.Decide.{ℕ_discrete}
+use Rattle.std.specs.List.{position_or_len, list_any}
 use Rattle.std.proofs.lemmas.List.Quantifiers.{position-Some}
 use Rattle.size_classes.proofs.Table.{pages_bounds, slab_filled}
 use Rattle.std.proofs.lemmas.List.Sums.{fails_before_first, sum_by-cons, sum_by-set}
-use Rattle.size_classes.specs.Classes.{regions_at}
-use Rattle.slab_bits.specs.Slabs.{Slab as Bits}
-use Rattle.ordered_set.specs.declared.key.Key.{Key}
-use Rattle.ordered_set.specs.Keys.{IsAscending, KeySet, key_cmp}
-use Rattle.ordered_set.proofs.Members.{contains_cases, contains_later}
-use Rattle.ordered_set.proofs.Orders.{less_major}
-use Rattle.ordered_set.proofs.Sorted.{every_member}
-use Rattle.bin_book.specs.declared.table.Table.{Table}
-use Rattle.bin_book.specs.Bins.{Slab, free_of, place, with_free, without}
-use Rattle.bin_book.specs.Tables.{IsLowestOpen, IsMoved, IsOutAt, IsSlabIn, IsTable, bin_key, bin_of, bits_at, left_of, slab_at, slab_of, slabs_in}
-use Rattle.list_facts.proofs.Members.{bit, head, map_both, map_same}
-use Rattle.bin_book.proofs.Places.{freed_slab, lowest_one, same_place, taken_slab}
-use Rattle.bin_book.proofs.Kept.{binned_changed, charted_changed, by_key, counts_stay, is_new, kept_changed, one_place, others_stay}
-use Rattle.bin_book.proofs.Open.{full_free, less_ne, small_numbers}
+
+-- a key below another one is another one
+pub less_ne : (a b : Key) → key_cmp a b ≡ Less → a ≢ b
+less_ne a b l e = let same : key_cmp a b ≡ Equal = subst (λ z. key_cmp a z ≡ Equal) e (tied_itself key_total a) in cc
+
+-- the first key from a start on is below each other one from there on
+pub least : (ks : List Key) (first y x : Key) → IsAscending ks → find (is_from first) ks ≡ Some y → Contains ks x → is_from first x ≡ true → (y ≡ x) ⊎ (key_cmp y x ≡ Less)
+unfolding IsStrictlySortedBy
+least [] first y x s e m t = absurd (omega arith)
+least (k ∷ ks) first y x s e m t = elim (cases_Bool (is_from first k)) [
+  | inl u ↦
+      let one : Some k ≡ Some y = rw u at e in
+      let same : k ≡ y = cc in
+      elim (contains_cases k ks x m) [
+        | inl h ↦ inl (sym same ∙ h)
+        | inr d ↦ inr (subst (λ z. key_cmp z x ≡ Less) same (every_member _ ks s.0 x d))
+      ]
+  | inr f ↦
+      let rest : find (is_from first) ks ≡ Some y = rw f at e in
+      elim (contains_cases k ks x m) [
+        | inl h ↦ absurd (let g : is_from first x ≡ false = ap (is_from first) (sym h) ∙ f in cc)
+        | inr d ↦ least ks first y x s.1 rest d t
+      ]
+]
+
+-- slots that have no free places have no free regions
+pub no_ones : {X : Type 0} (xs : List X) → length xs ≡ 0 → xs ≡ []
+no_ones [] e = refl
+no_ones (x ∷ xs) e = absurd (omega arith)
+
+pub free_none : (slots : List Bits) (class : ℕ) (keys : List Key) → ((k : Key) → Contains keys k → (bits_at slots k.minor).class ≡ class → (slab_at slots k).free ≡ []) → free_of class (map (slab_at slots) keys) ≡ []
+free_none slots class [] none = refl
+free_none slots class (k ∷ ks) none =
+    let rest = free_none slots class ks (λ l m. none l (contains_later k ks l m)) in
+    elim (cases_Bool (eqb (bits_at slots k.minor).class class)) [
+      | inl t ↦ rw t (λ i. none k (head k ks) (eqb-true _ _ t) i ++ rest i)
+      | inr f ↦ rw f rest
+    ]
+
+-- the free places of a slab are as many as its bits say
+pub length_free : (t : Table) → IsTable t → (k : Key) → Contains t.firsts.keys k → length (ones (regions_at (bits_at t.slots.items k.minor).class) (bits_at t.slots.items k.minor).free) ≡ left_of (bits_at t.slots.items k.minor)
+length_free t i k m = length_ones (bits_at t.slots.items k.minor).free (regions_at (bits_at t.slots.items k.minor).class) (i.kept.slab k m).behind
+
+pub small_numbers : (t : Table) → IsTable t → (k : Key) → Contains t.firsts.keys k → k.minor < 2 ^ 32
+small_numbers t i k m = let low = i.in_slots k m in let small = i.small in omega arith
+
+-- what is read of the slot of a slab
+pub read_bits : (t : Table) → IsTable t → (k : Key) → Contains t.firsts.keys k → (x : Bits) → x ≡ get_or t.slots.items k.minor x → x ≡ bits_at t.slots.items k.minor
+read_bits t i k m x e = get_or_read_under t.slots.items k.minor (vec_len t.slots) x no_bits e (i.in_slots k m) t.slots.ok.0
+
+-- a full slab has no free regions
+pub full_free : (t : Table) → IsTable t → (k : Key) → Contains t.firsts.keys k → left_of (bits_at t.slots.items k.minor) ≡ 0 → (slab_at t.slots.items k).free ≡ []
+full_free t i k m e = ap (map (place (bits_at t.slots.items k.minor).class k.major)) (no_ones _ (length_free t i k m ∙ e))
+
+-- a slab of a class with free regions has a key from the start of the class on
+pub open_key : (t : Table) (class : ℕ) (k : Key) → (bits_at t.slots.items k.minor).class ≡ class → 0 < left_of (bits_at t.slots.items k.minor) → (bin_of t.slots.items k).major ≡ 2 * class
+open_key t class k e some = let f : eqb (left_of (bits_at t.slots.items k.minor)) 0 ≡ false = grind (arith, nat_tests) in rw f (omega arith)
+
+-- where there is no such key, no region of the class is free
+pub none_open : (t : Table) → IsTable t → (class : ℕ) → ((b : Key) → Contains t.bins.keys b → b.major ≢ 2 * class) → free_of class (slabs_in t) ≡ []
+unfolding slabs_in
+none_open t i class none = free_none t.slots.items class t.firsts.keys (λ k m e. elim (cases_lt 0 (left_of (bits_at t.slots.items k.minor))) [
+  | inl some ↦ absurd (none (bin_of t.slots.items k) (i.binned.has k m) (open_key t class k e some))
+  | inr few ↦ full_free t i k m (omega arith)
+])
+
+-- no key is found from the start of the class on, or one of a later class
+pub not_found : (t : Table) → IsTable t → (class : ℕ) → IsAscending t.bins.keys → find (is_from (start (2 * class))) t.bins.keys ≡ None → free_of class (slabs_in t) ≡ []
+not_found t i class s e = none_open t i class (λ b m major. let p = first_of t.bins.keys (2 * class) b s m major in let no : None ≡ Some p.0 = sym e ∙ p.1 in cc)
+
+pub found_later : (t : Table) → IsTable t → (class : ℕ) → IsAscending t.bins.keys → (bin : Key) → find (is_from (start (2 * class))) t.bins.keys ≡ Some bin → bin.major ≢ 2 * class → free_of class (slabs_in t) ≡ []
+found_later t i class s bin e other = none_open t i class (λ b m major.
+    let p = first_of t.bins.keys (2 * class) b s m major in
+    let one : Some bin ≡ Some p.0 = sym e ∙ p.1 in
+    let same : bin ≡ p.0 = cc in
+    other (ap (λ (k : Key). k.major) same ∙ p.3))
+
+-- the key that is found is that of the lowest slab
+pub found_open : (t : Table) → IsTable t → (class : ℕ) → IsAscending t.bins.keys → (bin key : Key) → find (is_from (start (2 * class))) t.bins.keys ≡ Some bin → bin.major ≡ 2 * class → key.major * 2 ^ 32 + key.minor ≡ bin.minor → key.minor < 2 ^ 32 → IsLowestOpen t class key
+found_open t i class s bin key e major minor low =
+    let b = found (is_from (start (2 * class))) t.bins.keys bin e in
+    let p = i.binned.from bin b.0 in
+    let small = small_numbers t i p.0 p.1 in
+    let minors : p.0.major * 2 ^ 32 + p.0.minor ≡ bin.minor = ap (λ (k : Key). k.minor) p.2 in
+    let first : p.0.major ≡ key.major = omega arith in
+    let second : p.0.minor ≡ key.minor = omega arith in
+    let is : p.0 ≡ key = (λ k. record { major = first k; minor = second k }) in
+    let majors : (bin_of t.slots.items p.0).major ≡ 2 * class = ap (λ (k : Key). k.major) p.2 ∙ major in
+    subst (IsLowestOpen t class) is (elim (cases_Bool (eqb (left_of (bits_at t.slots.items p.0.minor)) 0)) [
+      | inl full ↦ absurd (let odd : 2 * (bits_at t.slots.items p.0.minor).class + 1 ≡ 2 * class = rw full at majors in omega arith)
+      | inr some ↦
+          let even : 2 * (bits_at t.slots.items p.0.minor).class + 0 ≡ 2 * class = rw some at majors in
+          record {
+            there = p.1;
+            of_class = omega arith;
+            some_free = grind (arith, nat_tests);
+            lowest = λ k m c free.
+                let mine = open_key t class k c free in
+                let fits = small_numbers t i k m in
+                elim (least t.bins.keys (start (2 * class)) bin (bin_of t.slots.items k) s e (i.binned.has k m) (start_from (bin_of t.slots.items k) (2 * class) (omega arith))) [
+                  | inl same ↦ let equal : bin.minor ≡ k.major * 2 ^ 32 + k.minor = ap (λ (z : Key). z.minor) same in omega arith
+                  | inr less ↦ elim (less_parts bin (bin_of t.slots.items k) less) [
+                    | inl lt ↦ absurd (omega arith)
+                    | inr both ↦ let later : bin.minor < k.major * 2 ^ 32 + k.minor = both.1 in omega arith
+                  ]
+                ];
+          }
+    ])
+
+-- lists that are nothing together
+tail_nil : (xs ys : List ℕ) → xs ++ ys ≡ [] → ys ≡ []
+tail_nil [] ys e = e
+tail_nil (x ∷ xs) ys e = absurd (let l : length (x ∷ (xs ++ ys)) ≡ 0 = ap length e in omega arith)
+
+-- and its class has a free region
+pub some_open : (t : Table) → IsTable t → (class : ℕ) (key : Key) → IsLowestOpen t class key → free_of class (slabs_in t) ≡ [] → ⊥
+unfolding slabs_in
+some_open t i class key o none = by t.firsts.keys o.there none
+  where
+    by : (ks : List Key) → Contains ks key → free_of class (map (slab_at t.slots.items) ks) ≡ [] → ⊥
+    by [] m e = omega arith
+    by (k ∷ ks) m e = elim (cases_Bool (eqb (bits_at t.slots.items k.minor).class class)) [
+      | inl u ↦
+          let whole : (slab_at t.slots.items k).free ++ free_of class (map (slab_at t.slots.items) ks) ≡ [] = rw u at e in
+          elim (contains_cases k ks key m) [
+            | inl is ↦
+                let many = length-map (ones (regions_at (bits_at t.slots.items key.minor).class) (bits_at t.slots.items key.minor).free) (place (bits_at t.slots.items key.minor).class key.major) ∙ length_free t i key o.there in
+                let none = sym (length-append (slab_at t.slots.items key).free (free_of class (map (slab_at t.slots.items) ks)))
+                ∙ ap (λ (z : Key). length ((slab_at t.slots.items z).free ++ free_of class (map (slab_at t.slots.items) ks))) (sym is) ∙ ap length whole in
+                omega arith
+            | inr d ↦ by ks d (tail_nil _ _ whole)
+          ]
+      | inr f ↦ elim (contains_cases k ks key m) [
+        | inl is ↦ absurd (let same : eqb (bits_at t.slots.items key.minor).class class ≡ true = eq-eqb _ _ o.of_class in let no : eqb (bits_at t.slots.items key.minor).class class ≡ false = ap (λ (z : Key). eqb (bits_at t.slots.items z.minor).class class) (sym is) ∙ f in cc)
+        | inr d ↦ by ks d (rw f at e)
+      ]
+    ]
+
+-- so what is found tells whether a region is free
+pub free_told : (t : Table) → IsTable t → (class : ℕ) (r : Option Key) (told : Bool) (free : List ℕ) → free_of class (slabs_in t) ≡ free → told ≡ is_some r → IfNone r (free_of class (slabs_in t) ≡ []) → IfSome r (λ key. IsLowestOpen t class key)
+    → (told ≡ true → free ≡ [] → ⊥) × ((free ≡ [] → ⊥) → told ≡ true)
+free_told t i class None told free e is none some = ((λ yes nothing. let no : false ≡ true = sym is ∙ yes in cc), (λ more. absurd (more (sym e ∙ none))))
+free_told t i class (Some key) told free e is none some = ((λ yes nothing. some_open t i class key some (e ∙ nothing)), (λ more. is))
 
 -- the bits with one written
 abbrev pub with_bit : Bits → ℕ → Bool → Bits
@@ -114,14 +257,6 @@ module _ (t : Table) (i : IsTable t) (key : Key) (there : Contains t.firsts.keys
 
 -- ---- a region is taken
 
-and_false : (b : Bool) → false ≡ (b && false)
-and_false true = refl
-and_false false = refl
-
-and_true : (b : Bool) → b ≡ (b && true)
-and_true true = refl
-and_true false = refl
-
 -- the free regions of a class, as the first one of the first slab that has one is taken
 taken_first : (old new : List Bits) (class a : ℕ) (key : Key) (ks : List Key) → IsAscending ks → Contains ks key
     → ((k : Key) → Contains ks k → key_cmp k key ≡ Less → (bits_at old k.minor).class ≡ class → (slab_at old k).free ≡ [])
@@ -183,16 +318,16 @@ module _ (t : Table) (i : IsTable t) (class : ℕ) (key : Key) (o : IsLowestOpen
   taken_here = taken_slab bits.class key.major (addr ∷ []) bits.free (set bits.free n false) (λ j l. dite (ℕ_discrete j n)
       (λ e. let same : eqb addr (place bits.class key.major j) ≡ true = eq-eqb _ _ (ap (place bits.class key.major) (sym e)) in
       let gone : get_or (set bits.free n false) j false ≡ false = ap (λ m. get_or (set bits.free n false) m false) e ∙ get_or-set_same bits.free n false false within in
-      rw (gone, same) (and_false (get_or bits.free j false)))
+      rw (gone, same) (grind arith))
       (λ other. let differ : eqb addr (place bits.class key.major j) ≡ false = false_from_ne_true _ (λ e. other (sym (same_place bits.class key.major n j (i.kept.slab key o.there).small (eqb-true _ _ e)))) in
-      rw (get_or-set_other bits.free n j false false other, differ) (and_true (get_or bits.free j false))))
+      rw (get_or-set_other bits.free n j false false other, differ) (grind arith)))
 
   pub taken_slabs : (u : Table) → u.firsts ≡ t.firsts → u.slots.items ≡ set t.slots.items key.minor (with_bit bits n false) → slabs_in u ≡ map (without (addr ∷ [])) (slabs_in t)
   taken_slabs = slabs_changed t i key o.there (with_bit bits n false) refl (without (addr ∷ [])) taken_here (λ k m ne.
       let b = bits_at t.slots.items k.minor in
       taken_slab b.class k.major (addr ∷ []) b.free b.free (λ j l.
       let differ : eqb addr (place b.class k.major j) ≡ false = false_from_ne_true _ (λ e. others_lack k m ne j l (sym (eqb-true _ _ e))) in
-      rw differ (and_true (get_or b.free j false))))
+      rw differ (grind arith)))
 
   -- the address comes first among the free ones of the class
   pub taken_lowest : (u : Table) → u.firsts ≡ t.firsts → u.slots.items ≡ set t.slots.items key.minor (with_bit bits n false) → free_of class (slabs_in t) ≡ addr ∷ free_of class (slabs_in u)
@@ -258,3 +393,55 @@ module _ (t : Table) (i : IsTable t) (class addr : ℕ) (key : Key) (n : ℕ) (o
 
   pub put_slabs : (u : Table) → u.firsts ≡ t.firsts → u.slots.items ≡ set t.slots.items key.minor (with_bit old n true) → slabs_in u ≡ map (with_free addr) (slabs_in t)
   put_slabs = slabs_changed t i key o.there (with_bit old n true) refl (with_free addr) put_here put_others
+
+-- a slab of a table has a region that is out
+slab_used : (t : Table) → IsTable t → (k : Key) → Contains t.firsts.keys k → is_unused (slab_at t.slots.items k) ≡ false
+slab_used t i k m =
+    let b = bits_at t.slots.items k.minor in
+    let many = length-map (ones (regions_at b.class) b.free) (place b.class k.major) ∙ length_free t i k m in
+    let some = (i.kept.slab k m).some_out in
+    grind (arith, nat_tests)
+
+pub none_unused : (t : Table) → IsTable t → list_any is_unused (slabs_in t) ≡ false
+unfolding slabs_in
+none_unused t i = any_map (slab_at t.slots.items) is_unused t.firsts.keys ∙ any_none (λ k. is_unused (slab_at t.slots.items k)) t.firsts.keys (slab_used t i)
+
+pub all_used : (t : Table) → IsTable t → filter (λ s. not (is_unused s)) (slabs_in t) ≡ slabs_in t
+unfolding slabs_in
+all_used t i = filter_all_of (λ s. not (is_unused s)) (map (slab_at t.slots.items) t.firsts.keys) (λ s m.
+    let p = map_from (slab_at t.slots.items) t.firsts.keys s m in
+    ap (λ (s : Slab). not (is_unused s)) (sym p.2) ∙ ap not (slab_used t i p.0 p.1))
+
+module _ (t : Table) (i : IsTable t) (class addr : ℕ) (key : Key) (n : ℕ) (o : IsOutAt t class addr key n) (last : left_of (bits_at t.slots.items key.minor) + 1 ≡ regions_at class) where
+  -- the slab would be unused
+  emptied : is_unused (with_free addr (slab_at t.slots.items key)) ≡ true
+  emptied =
+      let b = bits_at t.slots.items key.minor in
+      let bits = set b.free n true in
+      let count = length-map (ones (regions_at b.class) bits) (place b.class key.major) ∙ length_ones bits (regions_at b.class) (put_behind t i class addr key n o) ∙ left_put t i class addr key n o ∙ last ∙ ap regions_at (sym o.out.of_class) in
+      ap is_unused (sym (put_here t i class addr key n o)) ∙ grind (arith, nat_tests)
+
+  pub one_unused : list_any is_unused (map (with_free addr) (slabs_in t)) ≡ true
+  unfolding slabs_in
+  one_unused = any_has is_unused (map (with_free addr) (map (slab_at t.slots.items) t.firsts.keys)) (with_free addr (slab_at t.slots.items key))
+      (map_has (with_free addr) (map (slab_at t.slots.items) t.firsts.keys) (slab_at t.slots.items key) (map_has (slab_at t.slots.items) t.firsts.keys key o.there)) emptied
+
+  used_is_other : (k : Key) → Contains t.firsts.keys k → not (is_unused (with_free addr (slab_at t.slots.items k))) ≡ is_other key k
+  used_is_other k m = elim (key_cases k key) [
+    | inl e ↦
+        let same : key_cmp key key ≡ Equal = tied_itself key_total key in
+        let other : is_other key key ≡ false = ap (λ r. not (is_eq r)) same in
+        ap (λ (z : Key). not (is_unused (with_free addr (slab_at t.slots.items z)))) e ∙ ap not emptied ∙ sym (ap (is_other key) e ∙ other)
+    | inr ne ↦ ap (λ (s : Slab). not (is_unused s)) (sym (put_others t i class addr key n o k m ne)) ∙ ap not (slab_used t i k m) ∙ sym (other_from key k ne)
+  ]
+
+  pub others_used : slabs_without t key ≡ filter (λ s. not (is_unused s)) (map (with_free addr) (slabs_in t))
+  unfolding slabs_in
+  others_used =
+      let f = with_free addr in
+      let p = λ (s : Slab). not (is_unused s) in
+      let slab = slab_at t.slots.items in
+      let first = filter_map_is f p (map slab t.firsts.keys) ∙ ap (map f) (filter_map_is slab (λ s. p (f s)) t.firsts.keys) in
+      let kept = filter_same (λ k. p (f (slab k))) (is_other key) t.firsts.keys used_is_other in
+      let same = map_same slab (λ k. f (slab k)) (without_key t.firsts.keys key) (λ k m. let q = without_from t.firsts.keys key k m in put_others t i class addr key n o k q.0 q.1) in
+      same ∙ sym (first ∙ ap (λ ks. map f (map slab ks)) kept ∙ sym (map_both slab f (λ k. f (slab k)) (without_key t.firsts.keys key) (λ k m. refl)))

@@ -1,12 +1,10 @@
-pub mod Additions
-pub mod Changed
 pub mod Chunks
-pub mod Exchanges
+pub mod Changed
 pub mod Walks
 pub mod Fitting
 pub mod Indexes
 pub mod Keyed
 pub mod Parts
-pub mod Removals
+pub mod Additions
 pub mod Rooms
 pub mod Rowed

@@ -78,7 +78,6 @@ grown t u i slots free flights a =
     let dirty = x.dirty.places in
     let muzzy = x.muzzy.places in
     let retained = x.retained.places in
-    let small = i.slots.small in
     same_table t u i a (record {
       flights = ap (λ v. v.items) flights;
       kept = λ number l. ap (λ v. part_at v.items number) slots;

@@ -29,8 +29,6 @@ loop-turn-preserved c =
     let next = free_of c.args.class (slabs_in c.take_one.new.self) in
     let lowest = c.in-Some.ensures.lowest in
     let one = take_next all next turn c.in-Some.addr i.few (ap (λ xs. take turn all ++ xs) (sym lowest) ∙ i.rest) in
-    let room = i.room in
-    let pushed = c.push.ensures.room in
     record {
       table = c.take_one.ensures.table;
       few = more_left all rest next turn c.in-Some.addr i.few i.rest lowest;

@@ -1,6 +1,6 @@
 use Rattle.std.proofs.Common.{subst, Contains}
 use Rattle.ordered_set.proofs.Members.{without_from}
-use Rattle.bin_book.proofs.Kept.{moved}
+use Rattle.bin_book.proofs.Places.{moved}
 use Rattle.bin_book.proofs.changes.move_key.Goals as goal
 
 pub insert-requires-clause-absent : goal.insert-requires-clause-absent

@@ -7,11 +7,8 @@ loop-number-preserved c =
     let i = c.loop-number.invariant in
     let free = rw c.unwrap.ensures at c.push.ensures.items in
     let free_len = rw c.unwrap.ensures at c.push.ensures.len in
-    let free_room = c.push.ensures.capacity in
     let slots = rw c.unwrap-in-loop-number.ensures at c.push-in-loop-number.ensures.items in
     let slots_len = rw c.unwrap-in-loop-number.ensures at c.push-in-loop-number.ensures.len in
-    let slots_room = c.push-in-loop-number.ensures.capacity in
-    let same = c.loop-number.slots.ok.0 in
     record {
       len = omega arith;
       more = omega arith;

@@ -45,7 +45,6 @@ invariant_of-self c =
     let p = c.extent_at-number.result.1 in
     let there = leaves_none t.edges p.span c.extent_at-number.ensures.leaves in
     let low = leaves_first t.edges c.low_piece.result.span (rw c.low_piece.ensures there.0) in
-    let left = c.self.invariant.leaves in
     let next = c.exchange.ensures.leaves (2 * n - 1) (omega arith) in
     let fewer = rw (sym (ap (λ b. find (begins_at c.args.first) b.parts) c.self.view_is) ∙ c.extent_at-number.ensures.at.found) at c.requires.fewer in
     let same : end_of (high_piece c.args.left p).span ≡ end_of p.span = omega arith in

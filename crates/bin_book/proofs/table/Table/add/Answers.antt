@@ -37,8 +37,6 @@ pub index_mut-requires : goal.index_mut-requires
 index_mut-requires c =
     let b = c.before.before.before.before.before.before.before.before.before.before in
     let low = in_items c.args.self.now c.requires.table c.args.class c.args.first c.from.result c.with_out-bits.result c.with_out-bits.ensures.class (new b) c.pop.new.self.items (free b) c.requires.apart in
-    let same = c.args.self.now.slots.ok.0 in
-    let is = c.from.ensures in
     omega arith
 
 pub returns-clause-table : goal.returns-clause-table

@@ -1,8 +1,8 @@
 use Rattle.std.proofs.Common.{length, sym, ap, ◌∙◌, arith}
 use Rattle.slab_bits.specs.Slabs.{Slab as Bits}
-use Rattle.bin_book.proofs.Open.{read_bits}
+use Rattle.bin_book.proofs.Taking.{read_bits}
 use Rattle.bin_book.proofs.Regions.{no_regions}
-use Rattle.bin_book.proofs.Removing.{first_there, length_slabs, no_slabs, none_there}
+use Rattle.bin_book.proofs.Adding.{first_there, length_slabs, no_slabs, none_there}
 use Rattle.bin_book.proofs.table.Table.clear.Goals as goal
 
 pub index-requires : goal.index-requires
@@ -23,7 +23,6 @@ returns-clause-slabs c = no_slabs _ c.loop-slab.invariant.table (none_there c.lo
 
 pub returns-clause-free : goal.returns-clause-free
 returns-clause-free c =
-    let free = c.loop-slab.invariant.free in
     let none = ap length (none_there c.loop-slab.self.firsts.keys (sym c.first.ensures.first ∙ c.in_default.is)) in
     omega (arith, length_slabs c.args.self.now)
 

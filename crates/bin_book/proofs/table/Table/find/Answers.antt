@@ -3,9 +3,8 @@ use Rattle.std.specs.List.{list_any}
 use Rattle.slab_bits.specs.Slabs.{Slab as Bits}
 use Rattle.bin_book.specs.Bins.{is_out}
 use Rattle.bin_book.specs.Tables.{IsOutAt, bits_at, slabs_in}
-use Rattle.bin_book.proofs.Finding.{none_last, none_starts, some_starts}
-use Rattle.bin_book.proofs.Holding.{pages_far}
-use Rattle.bin_book.proofs.Open.{read_bits}
+use Rattle.bin_book.proofs.Holding.{none_last, none_starts, some_starts, pages_far}
+use Rattle.bin_book.proofs.Taking.{read_bits}
 use Rattle.bin_book.proofs.table.Table.find.Goals as goal
 
 pub returns-in_err-slab-clause-none : goal.returns-in_err-slab-clause-none

@@ -2,7 +2,7 @@ use Rattle.std.proofs.Common.{◌+◌, ltb, sym, ap, ◌∙◌, arith}
 use Rattle.size_classes.specs.Classes.{pages_at}
 use Rattle.slab_bits.specs.Slabs.{Slab as Bits}
 use Rattle.bin_book.proofs.Holding.{last_below, meets_last, meets_none, none_below}
-use Rattle.bin_book.proofs.Open.{read_bits}
+use Rattle.bin_book.proofs.Taking.{read_bits}
 use Rattle.bin_book.proofs.table.Table.meets.Goals as goal
 
 pub returns-in-None : goal.returns-in-None
@@ -15,7 +15,6 @@ pub overflow_add-result : goal.overflow_add-result
 overflow_add-result c =
     let last = last_below c.args.self.now.firsts.keys c.args.end c.in-Some.slab c.in-Some.ensures.ascending (sym c.in-Some.ensures.found) in
     let inside = (c.requires.table.kept.slab c.in-Some.slab last.there).inside in
-    let few = c.class_pages.ensures.at_most in
     record { fits = omega arith }
 
 pub returns-in-Some : goal.returns-in-Some

@@ -1,7 +1,7 @@
 use Rattle.std.proofs.Common.{◌≡◌, ◌*◌, find, None, Some, sym, subst, arith}
 use Rattle.ordered_set.specs.Keys.{is_from}
 use Rattle.ordered_set.proofs.Orders.{start}
-use Rattle.bin_book.proofs.Open.{found_later, found_open, not_found}
+use Rattle.bin_book.proofs.Taking.{found_later, found_open, not_found}
 use Rattle.bin_book.proofs.table.Table.open_slab.Goals as goal
 
 pub returns-in_err-bin-clause-none : goal.returns-in_err-bin-clause-none

@@ -6,9 +6,8 @@ use Rattle.ordered_set.specs.declared.key.Key.{Key}
 use Rattle.space_model.specs.Region.{starts_at}
 use Rattle.bin_book.specs.Bins.{place}
 use Rattle.bin_book.specs.Tables.{IsMoved, bin_key, bin_of, bits_at, left_of, regions_in, regions_of}
-use Rattle.bin_book.proofs.Kept.{bin_absent}
-use Rattle.bin_book.proofs.Open.{read_bits, small_numbers}
-use Rattle.bin_book.proofs.Taking.{in_items, inside_regions, left_put, put_in, put_slabs, table_changed, with_bit, within_bits}
+use Rattle.bin_book.proofs.Places.{bin_absent}
+use Rattle.bin_book.proofs.Taking.{read_bits, small_numbers, in_items, inside_regions, left_put, put_in, put_slabs, table_changed, with_bit, within_bits}
 use Rattle.bin_book.proofs.Handing.{region_put}
 use Rattle.bin_book.proofs.table.Table.put.Goals as goal
 
@@ -52,24 +51,18 @@ move_key-requires-clause-absent c ne m =
     bin_absent t.slots.items t.firsts.keys c.requires.table.kept c.args.slab there (in_items t c.requires.table c.args.slab there b refl) b refl (small_numbers t c.requires.table) t.bins.keys c.requires.table.binned _ (λ e. ne (now c ∙ e ∙ sym (was c)))
     (subst (Contains t.bins.keys) (now c) m)
 
-pub returns-clause-table : goal.returns-clause-table
-returns-clause-table c =
-    let t = c.args.self.now in
-    let there = c.requires.out.there in
-    let moved = subst (λ (k : Key). IsMoved t.bins.keys c.move_key.new.bins.keys k c.bin_key.result) (was c.before) c.move_key.ensures.keys in
-    table_changed t c.requires.table c.args.slab there (with_bit (bits_at t.slots.items c.args.slab.minor) c.args.region true) refl (put_in t c.requires.table c.args.class _ c.args.slab c.args.region c.requires.out c.requires.others)
-    _ refl (ap (set t.slots.items c.args.slab.minor) (new c.before)) refl refl refl refl (subst (IsMoved t.bins.keys c.move_key.new.bins.keys (bin_of t.slots.items c.args.slab)) (now c.before) moved) c.move_key.ensures.spare refl
-
-pub returns-clause-slabs : goal.returns-clause-slabs
-returns-clause-slabs c =
-    let t = c.args.self.now in
-    put_slabs t c.requires.table c.args.class _ c.args.slab c.args.region c.requires.out _ refl (ap (set t.slots.items c.args.slab.minor) (new c.before))
-
-pub returns-clause-regions : goal.returns-clause-regions
-returns-clause-regions c =
+pub returns : goal.returns
+returns c =
     let t = c.args.self.now in
     let o = c.requires.out in
-    ap (λ b. regions_of (set t.slots.items c.args.slab.minor b) t.holders.codes.items t.firsts.keys) (new c.before)
-    ∙ region_put t c.requires.table c.args.slab o.there c.args.region (inside_regions t c.requires.table c.args.class _ c.args.slab c.args.region o) (within_bits t c.requires.table c.args.class _ c.args.slab c.args.region o)
-    (put_in t c.requires.table c.args.class _ c.args.slab c.args.region o c.requires.others)
-    ∙ ap (λ n. filter (λ r. not (starts_at (place n c.args.slab.major c.args.region) r)) (regions_in t)) o.out.of_class
+    let b = with_bit (bits_at t.slots.items c.args.slab.minor) c.args.region true in
+    let moved = subst (λ (k : Key). IsMoved t.bins.keys c.move_key.new.bins.keys k c.bin_key.result) (was c.before) c.move_key.ensures.keys in
+    let within = put_in t c.requires.table c.args.class _ c.args.slab c.args.region o c.requires.others in
+    let slots = ap (set t.slots.items c.args.slab.minor) (new c.before) in record {
+      table = table_changed t c.requires.table c.args.slab o.there b refl within _ refl slots refl refl refl refl (subst (IsMoved t.bins.keys c.move_key.new.bins.keys (bin_of t.slots.items c.args.slab)) (now c.before) moved) c.move_key.ensures.spare refl;
+      slabs = put_slabs t c.requires.table c.args.class _ c.args.slab c.args.region o _ refl slots;
+      regions = ap (λ b. regions_of (set t.slots.items c.args.slab.minor b) t.holders.codes.items t.firsts.keys) (new c.before)
+          ∙ region_put t c.requires.table c.args.slab o.there c.args.region (inside_regions t c.requires.table c.args.class _ c.args.slab c.args.region o) (within_bits t c.requires.table c.args.class _ c.args.slab c.args.region o) within
+          ∙ ap (λ n. filter (λ r. not (starts_at (place n c.args.slab.major c.args.region) r)) (regions_in t)) o.out.of_class;
+      free = refl;
+    }

@@ -3,10 +3,9 @@ use Rattle.slab_bits.specs.Slabs.{Slab as Bits}
 use Rattle.std.specs.List.{list_any}
 use Rattle.bin_book.specs.Bins.{is_out}
 use Rattle.bin_book.specs.Tables.{regions_in, slabs_in}
-use Rattle.bin_book.proofs.Finding.{found_there}
-use Rattle.bin_book.proofs.Holding.{out_somewhere}
+use Rattle.bin_book.proofs.Holding.{found_there, out_somewhere}
 use Rattle.bin_book.proofs.Handing.{code_inside}
-use Rattle.bin_book.proofs.Open.{read_bits}
+use Rattle.bin_book.proofs.Taking.{read_bits}
 use Rattle.bin_book.proofs.Regions.{none_passes}
 use Rattle.bin_book.proofs.table.Table.region_at.Goals as goal
 

@@ -5,10 +5,8 @@ use Rattle.slab_bits.specs.Slabs.{Slab as Bits}
 use Rattle.ordered_set.specs.declared.key.Key.{Key}
 use Rattle.bin_book.specs.Bins.{place}
 use Rattle.bin_book.specs.Tables.{IsMoved, bin_key, bin_of, bits_at, left_of, regions_of}
-use Rattle.bin_book.proofs.Kept.{bin_absent}
-use Rattle.bin_book.proofs.Open.{read_bits, small_numbers}
-use Rattle.bin_book.proofs.Places.{place_inside}
-use Rattle.bin_book.proofs.Taking.{in_items, some_position, table_changed, taken_bits, is_free, taken_in, taken_lowest, taken_slabs, with_bit, within}
+use Rattle.bin_book.proofs.Places.{bin_absent, place_inside}
+use Rattle.bin_book.proofs.Taking.{read_bits, small_numbers, in_items, some_position, table_changed, taken_bits, is_free, taken_in, taken_lowest, taken_slabs, with_bit, within}
 use Rattle.bin_book.proofs.Handing.{region_taken}
 use Rattle.bin_book.proofs.table.Table.take_one.Goals as goal
 
@@ -68,41 +66,28 @@ overflow_add-result c =
     let o = c.in_ok-slab.ensures.some in
     let is = c.requires.table.kept.slab c.in_ok-slab.slab o.there in
     let low = place_inside (bits_at t.slots.items c.in_ok-slab.slab.minor).class c.in_ok-slab.slab.major c.unwrap-region.result is.small (bits c.before.before.before.before.before.before).1 in
-    let inside = is.inside in
     let at = addr c in
     record { fits = omega arith }
 
-pub returns-clause-table : goal.returns-clause-table
-returns-clause-table c =
-    let t = c.args.self.now in
-    let o = c.in_ok-slab.ensures.some in
-    let b = bits c.before.before.before.before.before.before in
-    let moved = subst (λ (k : Key). IsMoved t.bins.keys c.move_key.new.bins.keys k c.bin_key.result) (was c.before.before.before.before.before.before) c.move_key.ensures.keys in
-    table_changed t c.requires.table c.in_ok-slab.slab o.there (with_bit (bits_at t.slots.items c.in_ok-slab.slab.minor) c.unwrap-region.result false) refl (taken_in t c.requires.table c.args.class c.in_ok-slab.slab o c.unwrap-region.result b.0 b.1)
-    _ refl (ap (set t.slots.items c.in_ok-slab.slab.minor) b.2) refl refl refl refl (subst (IsMoved t.bins.keys c.move_key.new.bins.keys (bin_of t.slots.items c.in_ok-slab.slab)) (now c.before.before.before.before.before.before) moved) c.move_key.ensures.spare c.set.ensures.len
-
-pub returns-clause-lowest : goal.returns-clause-lowest
-returns-clause-lowest c =
-    let t = c.args.self.now in
-    let o = c.in_ok-slab.ensures.some in
-    let b = bits c.before.before.before.before.before.before in
-    rw (addr c) (taken_lowest t c.requires.table c.args.class c.in_ok-slab.slab o c.unwrap-region.result b.0 b.1 _ refl (ap (set t.slots.items c.in_ok-slab.slab.minor) b.2))
-
-pub returns-clause-slabs : goal.returns-clause-slabs
-returns-clause-slabs c =
-    let t = c.args.self.now in
-    let o = c.in_ok-slab.ensures.some in
-    let b = bits c.before.before.before.before.before.before in
-    rw (addr c) (taken_slabs t c.requires.table c.args.class c.in_ok-slab.slab o c.unwrap-region.result b.0 b.1 _ refl (ap (set t.slots.items c.in_ok-slab.slab.minor) b.2))
-
-pub returns-clause-regions : goal.returns-clause-regions
-returns-clause-regions c =
+pub returns : goal.returns
+returns c =
     let t = c.args.self.now in
     let slab = c.in_ok-slab.slab in
     let o = c.in_ok-slab.ensures.some in
-    let b = bits c.before.before.before.before.before.before in
+    let d = c.before.before.before.before.before.before in
+    let b = bits d in
     let n = c.unwrap-region.result in
     let codes = c.set.new.self.codes.items in
-    rw (addr c) (ap (λ b. regions_of (set t.slots.items slab.minor b) codes t.firsts.keys) b.2
-    ∙ region_taken t c.requires.table slab o.there n b.1 c.args.client c.args.class o.of_class (within t c.requires.table c.args.class slab o n b.0 b.1) (is_free t c.requires.table c.args.class slab o n b.0 b.1)
-    (taken_in t c.requires.table c.args.class slab o n b.0 b.1) codes c.set.ensures.here c.set.ensures.others)
+    let slots = ap (set t.slots.items slab.minor) b.2 in
+    let is = taken_in t c.requires.table c.args.class slab o n b.0 b.1 in
+    let moved = subst (λ (k : Key). IsMoved t.bins.keys c.move_key.new.bins.keys k c.bin_key.result) (was d) c.move_key.ensures.keys in record {
+      table = table_changed t c.requires.table slab o.there (with_bit (bits_at t.slots.items slab.minor) n false) refl is _ refl slots refl refl refl refl (subst (IsMoved t.bins.keys c.move_key.new.bins.keys (bin_of t.slots.items slab)) (now d) moved) c.move_key.ensures.spare c.set.ensures.len;
+      none = tt;
+      unchanged = tt;
+      held = tt;
+      lowest = rw (addr c) (taken_lowest t c.requires.table c.args.class slab o n b.0 b.1 _ refl slots);
+      slabs = rw (addr c) (taken_slabs t c.requires.table c.args.class slab o n b.0 b.1 _ refl slots);
+      regions = rw (addr c) (ap (λ b. regions_of (set t.slots.items slab.minor b) codes t.firsts.keys) b.2
+          ∙ region_taken t c.requires.table slab o.there n b.1 c.args.client c.args.class o.of_class (within t c.requires.table c.args.class slab o n b.0 b.1) (is_free t c.requires.table c.args.class slab o n b.0 b.1) is codes c.set.ensures.here c.set.ensures.others);
+      free = refl;
+    }

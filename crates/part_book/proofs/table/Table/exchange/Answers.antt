@@ -4,7 +4,7 @@ use Rattle.page_map.specs.Pages.{Pages}
 use Rattle.part_book.specs.Leaves.{HasMore}
 use Rattle.part_book.specs.Rows.{with_edges, without_edges}
 use Rattle.part_book.specs.Tables.{rows_of}
-use Rattle.part_book.proofs.Exchanges.{lowerable, own, table_exchanged}
+use Rattle.part_book.proofs.Changed.{lowerable, own, table_exchanged}
 use Rattle.part_book.proofs.Rowed.{row_placed}
 use Rattle.part_book.proofs.table.Table.exchange.Goals as goal
 

@@ -1,7 +1,7 @@
 use Rattle.std.proofs.Common.{refl, sym, ◌∙◌}
 use Rattle.part_book.specs.Tables.{rows_of}
 use Rattle.part_book.proofs.Indexes.{in_slots}
-use Rattle.part_book.proofs.Removals.{leaves_there, row_apart, row_first, row_read, some_number}
+use Rattle.part_book.proofs.Additions.{leaves_there, row_apart, row_first, row_read, some_number}
 use Rattle.part_book.proofs.Rowed.{row_placed}
 use Rattle.part_book.proofs.table.Table.extent_at.Goals as goal
 

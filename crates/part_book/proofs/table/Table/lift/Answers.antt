@@ -1,8 +1,7 @@
 use Rattle.std.proofs.Common.{arith}
 use Rattle.space_model.specs.declared.parts.Rest.TheVariants.{Dirty as ToDirty, Muzzy as ToMuzzy, Retained as ToRetained}
 use Rattle.part_book.specs.Tables.{rows_of}
-use Rattle.part_book.proofs.Additions.{one_rest}
-use Rattle.part_book.proofs.Removals.{can_unlist, order_fewer}
+use Rattle.part_book.proofs.Additions.{one_rest, can_unlist, order_fewer}
 use Rattle.part_book.proofs.Rowed.{row_placed}
 use Rattle.part_book.proofs.table.Table.lift.Goals as goal
 
@@ -24,7 +23,6 @@ returns-clause-room c n room =
     let fewer = order_fewer t _ c.requires.table c.requires.there c.remove.ensures.numbers in
     let rests = one_rest (record { number = c.args.number; part = c.args.part.now }) in
     let spare = rw c.size_key.ensures at c.drop_key.ensures.spare in
-    let flights = c.unlist.ensures.room in
     record {
       sizes = omega (arith, room.sizes, c.unlist.ensures.dirty.len, c.unlist.ensures.muzzy.len, c.unlist.ensures.retained.len);
       flights = omega (arith, room.flights);

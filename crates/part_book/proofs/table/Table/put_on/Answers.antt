@@ -28,7 +28,6 @@ returns-clause-kept c =
     let len = ap (λ v. vec_len v) l.free in
     let capacity = ap (λ v. vec_capacity v) l.free in
     let fewer = rw c.unwrap-number.ensures at c.pop.ensures.len in
-    let room = c.pop.ensures.capacity in
     table_added t _ _ c.requires.table new (record {
       order = l.order;
       places = l.places;
@@ -52,7 +51,6 @@ returns-clause-room c n room =
     let len = ap (λ v. vec_len v) l.free in
     let firsts = ap (λ k. k.spare) l.firsts in
     let fewer = rw c.unwrap-number.ensures at c.pop.ensures.len in
-    let spare = c.insert.ensures.spare in
     record {
       firsts = omega (arith, room.firsts);
       free = omega (arith, room.free);

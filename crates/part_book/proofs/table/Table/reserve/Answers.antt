@@ -71,10 +71,6 @@ returns-in_err-reserve-3-clause-kept c =
 pub returns-clause-kept : goal.returns-clause-kept
 returns-clause-kept c =
     let numbers = c.reserve_numbers.ensures in
-    let order = c.requires.indexes.places in
-    let dirty = c.requires.indexes.dirty.places in
-    let muzzy = c.requires.indexes.muzzy.places in
-    let retained = c.requires.indexes.retained.places in
     let rings = c.in_ok-reserve_rings.ensures in
     same_table c.args.self.now _ c.requires (record {
       order = c.reserve_rings.ensures.order;

@@ -3,7 +3,7 @@ use Rattle.ordered_set.specs.declared.key.Key.{Key}
 use Rattle.ordered_set.specs.Keys.{without_key}
 use Rattle.part_book.specs.Rows.{without_edges}
 use Rattle.part_book.specs.Tables.{rows_of}
-use Rattle.part_book.proofs.Removals.{apart_removed, leaves_there, table_removed}
+use Rattle.part_book.proofs.Additions.{apart_removed, leaves_there, table_removed}
 use Rattle.part_book.proofs.Rowed.{row_placed}
 use Rattle.part_book.proofs.table.Table.take_off.Goals as goal
 
@@ -27,7 +27,6 @@ returns-clause-kept c =
     let l = c.lift.ensures.lists in
     let free = rw c.unwrap.ensures at c.push.ensures.items in
     let free_len = rw c.unwrap.ensures at c.push.ensures.len in
-    let room = c.push.ensures.capacity in
     let lifted_len = ap (λ v. vec_len v) l.free in
     let lifted_room = ap (λ v. vec_capacity v) l.free in
     table_removed c.args.self.now _ _ c.args.first c.requires.table c.extent_at-number.ensures.at (record {
@@ -52,7 +51,6 @@ returns-clause-room c n room =
     let free = rw c.unwrap.ensures at c.push.ensures.len in
     let lifted = ap (λ v. vec_len v) l.free in
     let firsts = ap (λ k. k.spare) l.firsts in
-    let spare = c.remove.ensures.spare in
     let lists = c.lift.ensures.room n room.lists in
     record {
       firsts = omega (arith, room.firsts);
