@@ -44,8 +44,8 @@ use steps::Body;
 ///
 /// Contracts see the space, and beside it the room of each of the 32 clients: how many more operations the client may
 /// make that take no memory. A step moves no list and scans none; what it costs grows by the logarithms of the indexes
-/// and by what the operation itself names (the addresses of a return, the chunks of an answered range, the regions of a
-/// reset, the regions and extents of a destroy).
+/// and by what the operation itself names (the addresses of a return, the chunks of an answered range, the slabs and
+/// extents of a reset or a destroy).
 #[derive(Drop)]
 pub struct Arena {
     body: Body,
