@@ -1,5 +1,6 @@
 //! Scripts of entries, whose replies, extents and counts were worked out apart from this program.
 
+ghost use Rattle.std.specs.Prelude.{◌<◌};
 ghost use Rattle.space_model.specs.Sound.{Sound};
 
 mod scripts;
@@ -8,303 +9,219 @@ use super::*;
 use size_classes::Addrs;
 use std::alloc::Global;
 use std::process::Abort;
-use std::str::SplitWhitespace;
 use std::test::Fail;
 
-/// The next word as a number.
-fn number(words: &mut SplitWhitespace<'_>) -> Option<u64> {
-    words.next()?.parse().ok()
+/// The words of an entry: its client and the other numbers, and its names.
+#[derive(Drop)]
+struct Words<'a> {
+    numbers: Vec<u64>,
+    names: Vec<&'a str>,
 }
 
-/// The next word as a number, or none for a dash.
-fn chance(words: &mut SplitWhitespace<'_>) -> Option<Option<u64>> {
-    match words.next()? {
-        "-" => Some(None),
-        word => Some(Some(word.parse().ok()?)),
+impl Words<'_> {
+    /// The name at a place, or an empty one.
+    fn name(&self, place: usize) -> &str {
+        match self.names.get(place) {
+            Some(name) => *name,
+            None => "",
+        }
+    }
+
+    /// The number at a place, or 0.
+    fn number(&self, place: usize) -> u64 {
+        self.numbers.get(place).copied().unwrap_or(0)
+    }
+
+    /// The last number.
+    fn last(&self) -> u64 {
+        self.numbers.last().copied().unwrap_or(0)
+    }
+
+    /// The last number as a class, or as a number of tries.
+    fn class(&self) -> u8 {
+        u8::try_from(self.last()).unwrap_or(0)
+    }
+
+    /// Two numbers as a span.
+    fn span(&self, place: usize) -> Span
+        requires { place < 8 }
+    {
+        let (first, pages) = (self.number(place), self.number(place + 1));
+        Span { first, pages }
+    }
+
+    /// The name at a place as a decay time, as in `-1ms`.
+    fn millis(&self, place: usize) -> Option<i64> {
+        self.name(place).strip_suffix("ms")?.parse().ok()
     }
 }
 
-/// The next word as a decay time.
-fn millis(words: &mut SplitWhitespace<'_>) -> Option<i64> {
-    words.next()?.parse().ok()
+/// The words of a text.
+fn words_of(alloc: Global, text: &str) -> Result<Words<'_>, Fail> {
+    let mut numbers = Vec::new(alloc);
+    let mut names = Vec::new(alloc);
+    for word in text.split_whitespace() {
+        match word.parse() {
+            Ok(number) => numbers.push(number)?,
+            Err(_) => names.push(word)?,
+        }
+    }
+    Ok(Words { numbers, names })
 }
 
-/// The next word as a small number.
-fn byte(words: &mut SplitWhitespace<'_>) -> Option<u8> {
-    words.next()?.parse().ok()
-}
-
-/// The next word as a number of clients, boxes or regions.
-fn half(words: &mut SplitWhitespace<'_>) -> Option<u32> {
-    words.next()?.parse().ok()
-}
-
-/// The next word as a truth value.
-fn flag(words: &mut SplitWhitespace<'_>) -> Option<bool> {
-    Some(number(words)? == 1)
-}
-
-/// The next two words as a span.
-fn span(words: &mut SplitWhitespace<'_>) -> Option<Span> {
-    let first = number(words)?;
-    let pages = number(words)?;
-    Some(Span { first, pages })
-}
-
-/// The next words as a call of a hook.
-fn ask(words: &mut SplitWhitespace<'_>) -> Option<Ask> {
-    let ask = match words.next()? {
+/// A call of a hook.
+fn ask(words: &Words<'_>) -> Option<Ask> {
+    let (span, left) = (words.span(1), words.number(3));
+    let committed = left == 1;
+    Some(match words.name(1) {
         "alloc" => Ask::Alloc {
-            at: chance(words)?,
-            pages: number(words)?,
-            align: number(words)?,
-            commit: flag(words)?,
+            at: None,
+            pages: words.number(1),
+            align: words.number(2),
+            commit: false,
         },
-        "dalloc" => Ask::Dalloc {
-            span: span(words)?,
-            committed: flag(words)?,
-        },
-        "commit" => Ask::Commit(span(words)?),
-        "decommit" => Ask::Decommit(span(words)?),
-        "purge_lazy" => Ask::PurgeLazy(span(words)?),
-        "purge_forced" => Ask::PurgeForced(span(words)?),
-        "split" => Ask::Split {
-            span: span(words)?,
-            left: number(words)?,
-        },
+        "dalloc" => Ask::Dalloc { span, committed },
+        "commit" => Ask::Commit(span),
+        "decommit" => Ask::Decommit(span),
+        "purge_lazy" => Ask::PurgeLazy(span),
+        "split" => Ask::Split { span, left },
         "merge" => Ask::Merge {
-            low: span(words)?,
-            high: span(words)?,
+            low: span,
+            high: words.span(3),
         },
         _ => return None,
-    };
-    Some(ask)
+    })
 }
 
-/// The next words as a call of a hook and its answer.
-fn heard(words: &mut SplitWhitespace<'_>) -> Option<Heard> {
+/// A call of a hook and its answer.
+fn heard(words: &Words<'_>) -> Option<Heard> {
     let ask = ask(words)?;
-    let answer = match words.next()? {
+    let answer = match words.name(2) {
         "done" => Answer::Done,
         "refused" => Answer::Refused,
-        "placed" => Answer::Placed {
-            first: number(words)?,
-            committed: flag(words)?,
-            zeroed: flag(words)?,
+        _ => Answer::Placed {
+            first: words.number(3),
+            committed: true,
+            zeroed: true,
         },
-        _ => return None,
     };
     Some(Heard { ask, answer })
 }
 
-/// The next words as addresses, after their number.
-fn addresses(alloc: Global, words: &mut SplitWhitespace<'_>) -> Option<Addresses> {
-    let count = number(words)?;
+/// An operation that takes an answer in: behind the call stands a truth value, a class, or a chunk that was found.
+fn op_of_answer(words: &Words<'_>) -> Option<Op> {
+    let heard = heard(words)?;
+    let (last, class) = (words.last(), words.class());
+    let (keep_low, own_low) = (last == 1, last == 1);
+    let found = if last > 0 { Some(last) } else { None };
+    Some(match words.name(0) {
+        "cutdone" => Op::CutDone { heard, keep_low },
+        "growdone" => Op::GrowDone { heard, found },
+        "commitdone" => Op::CommitDone { heard },
+        "mergedone" => Op::MergeDone { heard, own_low },
+        "lazydone" => Op::LazyDone { heard },
+        "offerdone" => Op::OfferDone { heard, found },
+        "decommitdone" => Op::DecommitDone { heard },
+        "joindone" => Op::JoinDone { heard, class },
+        "trimdone" => Op::TrimDone { heard, class },
+        _ => return None,
+    })
+}
+
+/// A setting.
+fn setting(words: &Words<'_>) -> Option<Setting> {
+    let (chunks, now) = (words.last(), words.last());
+    let ms = words.millis(2).unwrap_or(0);
+    Some(match words.name(1) {
+        "dirtyms" => Setting::DirtyMs { ms, now },
+        "muzzyms" => Setting::MuzzyMs { ms, now },
+        "bind" => Setting::Bind,
+        "unbind" => Setting::Unbind,
+        "growlimit" => Setting::GrowLimit { chunks },
+        "live" => Setting::Live {
+            box_no: u32::try_from(words.number(1)).ok()?,
+            dirty_ms: ms,
+            muzzy_ms: words.millis(3)?,
+            now,
+        },
+        _ => return None,
+    })
+}
+
+/// A list of addresses.
+fn addresses(alloc: Global, numbers: &[u64]) -> Option<Addresses> {
     let mut list = Addrs::new(alloc);
-    for _ in 0..count {
+    for number in numbers {
         list.reserve(1).ok()?;
-        list.push(number(words)?);
+        list.push(*number);
     }
     Some(Addresses::new(list))
 }
 
-/// The next word as a list of unused extents.
-fn rest(words: &mut SplitWhitespace<'_>) -> Option<Rest> {
-    match words.next()? {
-        "dirty" => Some(Rest::Dirty),
-        "muzzy" => Some(Rest::Muzzy),
-        "retained" => Some(Rest::Retained),
-        _ => None,
-    }
-}
-
-/// The next words as a setting.
-fn setting(words: &mut SplitWhitespace<'_>) -> Option<Setting> {
-    let setting = match words.next()? {
-        "dirtyms" => Setting::DirtyMs {
-            ms: millis(words)?,
-            now: number(words)?,
-        },
-        "muzzyms" => Setting::MuzzyMs {
-            ms: millis(words)?,
-            now: number(words)?,
-        },
-        "hookbox" => Setting::HookBox(half(words)?),
-        "bind" => Setting::Bind,
-        "unbind" => Setting::Unbind,
-        "growlimit" => Setting::GrowLimit {
-            chunks: number(words)?,
-        },
-        "live" => Setting::Live {
-            box_no: half(words)?,
-            dirty_ms: millis(words)?,
-            muzzy_ms: millis(words)?,
-            now: number(words)?,
-        },
-        _ => return None,
+/// An operation, in which a count of regions stands before their class.
+fn op(alloc: Global, words: &Words<'_>) -> Option<Op> {
+    let (span, class) = (words.span(1), words.class());
+    let count = u32::try_from(words.number(3)).unwrap_or(0);
+    let rest = match words.name(1) {
+        "dirty" => Rest::Dirty,
+        "muzzy" => Rest::Muzzy,
+        _ => Rest::Retained,
     };
-    Some(setting)
+    Some(match (words.name(0), words.numbers.as_slice()) {
+        ("look", &[_, pages, align]) => Op::Look { pages, align },
+        ("land", _) => Op::Land { span, class, count },
+        ("fill", &[_, count, _]) => Op::Fill {
+            class,
+            count: u32::try_from(count).ok()?,
+        },
+        ("back", [_, addrs @ ..]) => Op::Back {
+            addrs: addresses(alloc, addrs)?,
+        },
+        ("putlook", _) => Op::PutLook { span, tries: class },
+        ("advance", &[_, now]) => Op::Advance { now },
+        ("purgetake", &[_, keep]) => Op::PurgeTake { rest, keep },
+        ("offer", _) => Op::Offer { span },
+        ("publish", &[_, addr]) => Op::Publish { addr },
+        ("takeover", &[_, addr]) => Op::TakeOver { addr },
+        ("reset", &[_, cached]) => Op::Reset { cached },
+        ("destroy", &[_, cached]) => Op::Destroy { cached },
+        ("destroytake", _) => Op::DestroyTake,
+        ("counts", _) => Op::Counts,
+        ("set", _) => Op::Set(setting(words)?),
+        ("widen", &[_, addr, pages]) => Op::Widen { addr, pages },
+        ("trim", &[_, addr, _]) => Op::Trim { addr, class },
+        _ => return op_of_answer(words),
+    })
 }
 
-/// The words that follow an operation's one as an operation that takes an answer in.
-fn op_of_answer(word: &str, words: &mut SplitWhitespace<'_>) -> Option<Op> {
-    let heard = heard(words)?;
-    let op = match word {
-        "cutdone" => Op::CutDone {
-            heard,
-            keep_low: flag(words)?,
-        },
-        "growdone" => Op::GrowDone {
-            heard,
-            found: chance(words)?,
-        },
-        "commitdone" => Op::CommitDone { heard },
-        "mergedone" => Op::MergeDone {
-            heard,
-            own_low: flag(words)?,
-        },
-        "lazydone" => Op::LazyDone { heard },
-        "offerdone" => Op::OfferDone {
-            heard,
-            found: chance(words)?,
-        },
-        "decommitdone" => Op::DecommitDone { heard },
-        "forceddone" => Op::ForcedDone { heard },
-        "joindone" => Op::JoinDone {
-            heard,
-            class: byte(words)?,
-        },
-        "trimdone" => Op::TrimDone {
-            heard,
-            class: byte(words)?,
-        },
-        _ => return None,
+/// The entry of a text.
+fn entry(alloc: Global, text: &str) -> Result<Option<Entry>, Fail> {
+    let words = words_of(alloc, text)?;
+    let (Ok(client), Some(op)) = (u32::try_from(words.number(0)), op(alloc, &words)) else {
+        return Ok(None);
     };
-    Some(op)
+    Ok(Some(Entry { client, op }))
 }
 
-/// The words of an operation on extents.
-fn op_of_extents(word: &str, words: &mut SplitWhitespace<'_>) -> Option<Op> {
-    let op = match word {
-        "look" => Op::Look {
-            pages: number(words)?,
-            align: number(words)?,
-        },
-        "putlook" => Op::PutLook {
-            span: span(words)?,
-            tries: byte(words)?,
-        },
-        "advance" => Op::Advance {
-            now: number(words)?,
-        },
-        "purgetake" => Op::PurgeTake {
-            rest: rest(words)?,
-            keep: number(words)?,
-        },
-        "offer" => Op::Offer { span: span(words)? },
-        "destroytake" => Op::DestroyTake,
-        "counts" => Op::Counts,
-        "set" => Op::Set(setting(words)?),
-        _ => return op_of_answer(word, words),
-    };
-    Some(op)
-}
-
-/// The words of an operation.
-fn op(alloc: Global, words: &mut SplitWhitespace<'_>) -> Option<Op> {
-    let word = words.next()?;
-    let op = match word {
-        "land" => Op::Land {
-            span: span(words)?,
-            class: byte(words)?,
-            count: half(words)?,
-        },
-        "fill" => Op::Fill {
-            class: byte(words)?,
-            count: half(words)?,
-        },
-        "back" => Op::Back {
-            addrs: addresses(alloc, words)?,
-        },
-        "publish" => Op::Publish {
-            addr: number(words)?,
-        },
-        "takeover" => Op::TakeOver {
-            addr: number(words)?,
-        },
-        "reset" => Op::Reset {
-            cached: number(words)?,
-        },
-        "destroy" => Op::Destroy {
-            cached: number(words)?,
-        },
-        "widen" => Op::Widen {
-            addr: number(words)?,
-            pages: number(words)?,
-        },
-        "trim" => Op::Trim {
-            addr: number(words)?,
-            class: byte(words)?,
-        },
-        _ => return op_of_extents(word, words),
-    };
-    Some(op)
-}
-
-/// The words of an entry.
-fn entry(alloc: Global, text: &str) -> Option<Entry> {
-    let mut words = text.split_whitespace();
-    let client = half(&mut words)?;
-    let op = op(alloc, &mut words)?;
-    Some(Entry { client, op })
-}
-
-/// Adds a text behind others, with a comma between.
-fn add(list: &mut String, text: &str) -> Result<(), Fail> {
-    if !list.is_empty() {
-        list.push_str(", ")?;
-    }
-    list.push_str(text)?;
-    Ok(())
-}
-
-/// The text of a list, or `none`.
-fn or_none(alloc: Global, list: String) -> Result<String, Fail> {
-    if list.is_empty() {
-        return Ok(String::from_str(alloc, "none")?);
+/// How many extents there are, and each in its order.
+fn extents(alloc: Global, parts: &[Part]) -> Result<String, Fail> {
+    let mut list = format!(in alloc; "{}", parts.len())?;
+    for part in parts {
+        let Span { first, pages } = part.span;
+        let text = format!(in alloc; ", {first}+{pages} {:?} {}", part.state, part.committed)?;
+        list.push_str(text.as_str())?;
     }
     Ok(list)
 }
 
-/// The extents in their order.
-fn extents(alloc: Global, parts: &[Part]) -> Result<String, Fail> {
-    let mut list = String::new(alloc);
-    for part in parts {
-        let Span { first, pages } = part.span;
-        let text = format!(in alloc; "{first}+{pages} {:?} {}", part.state, part.committed)?;
-        add(&mut list, text.as_str())?;
-    }
-    or_none(alloc, list)
-}
-
-/// The regions in their order.
+/// How many regions there are, and each in its order.
 fn regions(alloc: Global, regions: &[Region]) -> Result<String, Fail> {
-    let mut list = String::new(alloc);
+    let mut list = format!(in alloc; "{}", regions.len())?;
     for region in regions {
-        let text = format!(in alloc; "{} {} {:?}", region.addr, region.class, region.holder)?;
-        add(&mut list, text.as_str())?;
+        let text = format!(in alloc; ", {} {} {:?}", region.addr, region.class, region.holder)?;
+        list.push_str(text.as_str())?;
     }
-    or_none(alloc, list)
-}
-
-/// The addresses of a reply.
-fn places(alloc: Global, addrs: &[u64]) -> Result<String, Fail> {
-    let mut list = String::new(alloc);
-    for addr in addrs {
-        let text = format!(in alloc; "{addr}")?;
-        add(&mut list, text.as_str())?;
-    }
-    Ok(format!(in alloc; "Regions({list})")?)
+    Ok(list)
 }
 
 /// The bytes by use.
@@ -331,9 +248,6 @@ fn by_class(alloc: Global, numbers: &[u64]) -> Result<String, Fail> {
             list.push_str(text.as_str())?;
         }
     }
-    if list.is_empty() {
-        list.push_str(" none")?;
-    }
     Ok(list)
 }
 
@@ -354,12 +268,12 @@ fn replied(rt: &impl Abort, alloc: Global, space: &mut Space, text: &str) -> Res
     requires { Sound space.old }
     ensures { Sound space.new }
 {
-    let entry = entry(alloc, text).expect(rt, "an entry");
+    let entry = entry(alloc, text)?.expect(rt, "an entry");
     if !may_stand(space, &entry) {
         return Ok(String::from_str(alloc, "bars")?);
     }
     match plain_step(space, &entry)? {
-        Reply::Regions(addrs) => places(alloc, addrs.as_slice()),
+        Reply::Regions(addrs) => Ok(format!(in alloc; "Regions({:?})", addrs.as_slice())?),
         reply => Ok(format!(in alloc; "{reply:?}")?),
     }
 }
@@ -370,10 +284,6 @@ fn told(rt: &impl Abort, alloc: Global, space: &mut Space, text: &str) -> Result
     ensures { Sound space.new }
 {
     match text {
-        "absent" => {
-            *space = Space::absent(alloc);
-            extents(alloc, space.parts.as_slice())
-        }
         "counts" => counts(alloc, space),
         "classes" => classes(alloc, space),
         "extents" => extents(alloc, space.parts.as_slice()),
@@ -382,23 +292,44 @@ fn told(rt: &impl Abort, alloc: Global, space: &mut Space, text: &str) -> Result
     }
 }
 
-/// Carries out a script from the start of an arena on.
-fn carry_out(rt: &impl Abort, alloc: Global, script: &str) -> Result<(), Fail> {
-    let mut space = Space::first(alloc);
-    for line in script.lines() {
+/// Begins a new arena where a line says so: one that is absent, or else the first one.
+fn begin(alloc: Global, space: &mut Space, line: &str)
+    requires { Sound space.old }
+    ensures { Sound space.new }
+{
+    if line == "absent" {
+        *space = Space::absent(alloc);
+    } else if line.starts_with("#") {
+        *space = Space::first(alloc);
+    }
+}
+
+/// Carries out lines of a script.
+fn carry_out(rt: &impl Abort, alloc: Global, space: &mut Space, lines: &str) -> Result<(), Fail>
+    requires { Sound space.old }
+    ensures { Sound space.new }
+{
+    for line in lines.lines() {
         let Some((text, wanted)) = line.split_once(" = ") else {
+            begin(alloc, space, line);
             continue;
         };
-        let told = told(rt, alloc, &mut space, text)?;
+        let told = told(rt, alloc, space, text)?;
         assert!(rt; told.as_str() == wanted, "{line}: {told}");
+    }
+    Ok(())
+}
+
+/// Carries out scripts, whose lines may each stand for some.
+fn follow(rt: &impl Abort, alloc: Global, scripts: &str) -> Result<(), Fail> {
+    let mut space = Space::first(alloc);
+    for line in scripts.lines() {
+        carry_out(rt, alloc, &mut space, scripts::lines_of(line))?;
     }
     Ok(())
 }
 
 #[test]
 fn scripts_are_followed(rt: HostRuntime) -> Result<(), Fail> {
-    for script in scripts::ALL {
-        carry_out(&rt, rt.alloc(), script)?;
-    }
-    Ok(())
+    follow(&rt, rt.alloc(), scripts::SCRIPTS)
 }
