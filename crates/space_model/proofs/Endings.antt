@@ -1,6 +1,6 @@
 -- What a reset, a destroy and the takes after it do.
-use Rattle.std.proofs.Common.{true, false, ◌≡◌, ◌≢◌, ℕ, Bool, not, cond, IsTrue, List, ◌∷◌, length, Option, Some, None, refl, sym, ◌∙◌, ap, subst, arith, All, filter, find, ◌&&◌, ◌==◌, []}
-use Rattle.space_model.proofs.Words.{sum_by, count_by, list_any, eqb-true, not-false, not-true, nil_from_length, All-weaker, All-append, All-filter, All-nil, All-head, filter_passes, Op, Reset, Destroy, DestroyTake, Reply, Noted, Nothing, Purge, Busy, Offered, Part, Region, ToDirty, ToRetained, State, Active, Retained, Flight, Life, Live, Absent, Dying, Space, begins_at, is_active, is_flight, is_in_flight, is_listed, is_backed, rest_of, moved_to, turned, turned_in_order, homes, residents, is_held_by, is_held_by_other, is_dying, Stepped, stays, is_live, is_dirty_time_over, is_lazy, held_count, flight_count, if_free, emptied, after_reset, reset_stands, ended, after_destroy, doom_at, after_destroy_take, flight, Sound, IsQuiet, DestroyBusy, DestroyNoArena, DestroyNoted, DoomDoomed, DoomNothing, Outcome, ResetBusy, ResetNoArena, ResetNoted, ResetPurge}
+use Rattle.std.proofs.Common.{true, false, ◌≡◌, ◌≢◌, ℕ, Bool, not, cond, IsTrue, List, ◌∷◌, length, refl, sym, ◌∙◌, ap, subst, arith, All, filter, find, ◌&&◌, ◌==◌, []}
+use Rattle.space_model.proofs.Words.{nat_tests, sum_by, count_by, list_any, eqb-true, not-false, not-true, nil_from_length, All-weaker, All-append, All-filter, All-nil, All-head, filter_passes, Op, Reset, Destroy, DestroyTake, Reply, Noted, Nothing, Purge, Busy, Offered, Part, Region, ToDirty, ToRetained, State, Active, Retained, Flight, Life, Live, Absent, Dying, Space, begins_at, is_active, is_flight, is_in_flight, is_listed, is_backed, rest_of, moved_to, turned, turned_in_order, homes, residents, is_held_by, is_held_by_other, is_dying, Stepped, stays, is_live, is_dirty_time_over, is_lazy, held_count, flight_count, if_free, emptied, after_reset, reset_stands, ended, after_destroy, doom_at, after_destroy_take, flight, Sound, IsQuiet, DestroyBusy, DestroyNoArena, DestroyNoted, DoomDoomed, DoomNothing, Outcome, ResetBusy, ResetNoArena, ResetNoted, ResetPurge}
 use Rattle.space_model.proofs.Lists.{false_true, not_true, none_counted, nothing_left, nothing_sum, ones, sum_nothing, apart_count}
 use Rattle.space_model.proofs.Mixes.{mix_sum, mixed_second, mixed_filter}
 use Rattle.space_model.proofs.Settled.{Used}
@@ -30,12 +30,7 @@ free_goes c s op held flights threads step sound same busy free =
 
 -- where others hold no region, no other client does
 none_other : (c d : ℕ) (r : Region) → d ≢ c → ones (is_held_by_other c r) ≡ 0 → ones (is_held_by d r) ≡ 0
-none_other c d r other h = apart r.holder h
-  where
-    apart : (holder : Option ℕ) → ones (is_held_by_other c (record r { holder = holder })) ≡ 0 → ones (is_held_by d (record r { holder = holder })) ≡ 0
-    apart None h = refl
-    apart (Some e) h = elim (e == c) as (λ b. (e == c) ≡ b → ones (not b) ≡ 0 → ones (e == d) ≡ 0)
-        [ true ↦ λ k z. ap ones (different e c d k other) | false ↦ λ k z. absurd (omega arith) ] refl h
+none_other c d r other h = grind (arith, nat_tests)
 
 others_hold_none : (c d cached : ℕ) (s : Space) → d ≢ c → held_count s c cached ≡ 0 → count_by (is_held_by d) s.regions ≡ 0
 others_hold_none c d cached s other none =
@@ -179,9 +174,7 @@ dying_is c Absent h = absurd (cc)
 
 -- an extent of a dying arena is nobody's flight, and serves nothing
 idle_there : (regions : List Region) (p : Part) → regions ≡ [] → Used regions p → is_active p.state ≡ false
-idle_there regions p none used =
-    elim (is_active p.state) as (λ b. is_active p.state ≡ b → b ≡ false)
-    [ false ↦ λ h. refl | true ↦ λ h. let zero : residents p regions ≡ 0 = ap (residents p) none in absurd (omega (arith, zero, used h)) ] refl
+idle_there regions p none used = let zero : residents p regions ≡ 0 = ap (residents p) none in grind (arith, zero)
 
 grounded_own : (d : ℕ) (state : State) → is_in_flight state ≡ false → is_flight d state ≡ false
 grounded_own d (Flight e rest) h = absurd (cc)

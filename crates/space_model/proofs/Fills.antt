@@ -463,8 +463,7 @@ row_spot {c} {s} {t} {class} {p} {stay} one i some within =
     other_start base i size some large =
         let far = row_fits 0 size i size some (omega arith) in
         let none : 0 * size ≡ 0 = grind arith in
-        elim ((base + 0 * size) == (base + i * size)) as (λ b. ((base + 0 * size) == (base + i * size)) ≡ b → b ≡ false)
-        [ false ↦ λ e. refl | true ↦ λ e. absurd (omega (arith, eqb-true (base + 0 * size) (base + i * size) e, far, none, large)) ] refl
+        grind (arith, nat_tests, far, none)
 
 -- so all of them are settled
 row_settled : {c : ℕ} {s t : Space} {class : ℕ} {p : Part} {stay : List Part} → FirstLanded c s t class p stay → (n : ℕ) → n < regions_at class →

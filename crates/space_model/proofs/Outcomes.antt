@@ -1,6 +1,6 @@
 -- Which ways the looks, cuts, growths, commits and merges go: what each does, and what its reply tells.
 use Rattle.std.proofs.Common.{true, false, ◌≡◌, ◌≢◌, ℕ, ◌+◌, ◌-◌, ◌<◌, ◌≤◌, Bool, not, cond, IsTrue, List, ◌∷◌, ◌++◌, Option, Some, None, refl, sym, ◌∙◌, ap, subst, arith, find, filter, ◌&&◌, ◌==◌, ltb as nat_lt, append_assoc, inl, inr, [], leb as nat_le}
-use Rattle.space_model.proofs.Words.{beq, is_power_of_two, ones_le_self, count_by, option_map, eqb-true, leb-true, sum_by-cons, Ask, Alloc, Commit, Split, Merge, Answer, Done, Refuses, Placed, Heard, Op, Look, CutDone, GrowDone, CommitDone, PutLook, MergeDone, NoArena, Whole, Purge, Why, Part, Rest, ToDirty, ToMuzzy, ToRetained, Span, State, Dirty, Muzzy, Retained, Space, end_of, run_start, holds_run, exchanged, begins_at, is_flight, is_flight_at, is_listed, is_backed, listed, rest_of, put_down, taken_out, next_flight, fit, Stepped, stays, whole_at, is_live, if_live, is_dirty_time_over, is_lazy, joined, begins_either, found_passes, is_yes_or_no, look_at, kept_piece, other_piece, cut_at, after_cut, cut_stands, new_part, why_not, grow_unless, after_grow, grow_stands, commit_at, after_commit, commit_stands, is_like, is_right_of, is_left_of, neighbour, is_purged, put_at_rest, put_beside, put_at, join_at, apart_at, after_merge, merge_stands, both_merge, may_merge, Sound, Outcome, PutDown, Flying, NextFlies, kept_span, LookTook, LookNone, CutKept, CutWhole, GrowRefused, GrowBad, GrowGrown, CommitNoted, CommitWhole, PutRight, PutLeft, PutPurge, PutNext, MergeJoined, All-cons, All-nil, Bad, IsPlaced, Noted, Refused, Reply, flight, high_piece, is_in, low_piece, ltb-true, pages_end, replaced, sum_by}
+use Rattle.space_model.proofs.Words.{nat_tests, beq, is_power_of_two, ones_le_self, count_by, option_map, eqb-true, leb-true, sum_by-cons, Ask, Alloc, Commit, Split, Merge, Answer, Done, Refuses, Placed, Heard, Op, Look, CutDone, GrowDone, CommitDone, PutLook, MergeDone, NoArena, Whole, Purge, Why, Part, Rest, ToDirty, ToMuzzy, ToRetained, Span, State, Dirty, Muzzy, Retained, Space, end_of, run_start, holds_run, exchanged, begins_at, is_flight, is_flight_at, is_listed, is_backed, listed, rest_of, put_down, taken_out, next_flight, fit, Stepped, stays, whole_at, is_live, if_live, is_dirty_time_over, is_lazy, joined, begins_either, found_passes, is_yes_or_no, look_at, kept_piece, other_piece, cut_at, after_cut, cut_stands, new_part, why_not, grow_unless, after_grow, grow_stands, commit_at, after_commit, commit_stands, is_like, is_right_of, is_left_of, neighbour, is_purged, put_at_rest, put_beside, put_at, join_at, apart_at, after_merge, merge_stands, both_merge, may_merge, Sound, Outcome, PutDown, Flying, NextFlies, kept_span, LookTook, LookNone, CutKept, CutWhole, GrowRefused, GrowBad, GrowGrown, CommitNoted, CommitWhole, PutRight, PutLeft, PutPurge, PutNext, MergeJoined, All-cons, All-nil, Bad, IsPlaced, Noted, Refused, Reply, flight, high_piece, is_in, low_piece, ltb-true, pages_end, replaced, sum_by}
 use Rattle.std.proofs.Common.{◌≡◌, ℕ, ◌+◌, ◌-◌, ◌<◌, ◌≤◌, Bool, true, false, not, cond, List, ◌∷◌, ◌++◌, Option, Some, None, refl, sym, ◌∙◌, ap, subst, arith, filter, find, ◌==◌, append_assoc, count_ones}
 use Rattle.space_model.proofs.Lists.{false_true, find_passes, ones}
 use Rattle.space_model.proofs.Pieces.{both_true, not_both, put_down-nobody, Listed, fit-listed, cut_shares, found_fits, Piece-down, Piece-low, Piece-high, Piece-joined, two_left, joined_share, fit_best, neighbour_side}
@@ -58,11 +58,7 @@ next_flies c t =
   where
     none_fly : (parts : List Part) → find (λ q. is_flight c q.state) parts ≡ None → count_by (λ q. is_flight c q.state) parts ≡ 0
     none_fly [] e = refl
-    none_fly (p ∷ ps) e =
-        elim (is_flight c p.state) as (λ b. cond b (Some p) (find (λ q. is_flight c q.state) ps) ≡ None → ones (is_flight c p.state) ≡ ones b → count_by (λ q. is_flight c q.state) (p ∷ ps) ≡ 0) [
-          | true ↦ λ k one. absurd (cc)
-          | false ↦ λ k one. omega (arith, one, sum_by-cons (λ q. ones (is_flight c q.state)) p ps, none_fly ps k)
-        ] e refl
+    none_fly (p ∷ ps) e = grind (arith, sum_by-cons (λ q. ones (is_flight c q.state)) p ps, none_fly ps)
 
 -- an extent whose hook refused is put down whole
 pub whole_goes : (c : ℕ) (s : Space) (op : Op) (span : Span) → Sound s → is_live s.life ≡ true → found_passes (λ _. true) (find (is_flight_at c span) s.parts) ≡ true →
@@ -238,9 +234,7 @@ like_merges c p other h =
 
 -- the client's extent with a span doesn't begin elsewhere
 begins_else : (c : ℕ) (own : Span) (first : ℕ) → own.first ≢ first → (p : Part) → is_flight_at c own p ≡ true → begins_at first p ≡ false
-begins_else c own first differ p h =
-    let at : p.span.first ≡ own.first = eqb-true _ _ (both_true (p.span.first == own.first) _ (both_true (is_flight c p.state) _ h).1).0 in
-    elim (begins_at first p) as (λ b. begins_at first p ≡ b → b ≡ false) [ false ↦ λ e. refl | true ↦ λ e. absurd (differ (sym at ∙ eqb-true _ _ e)) ] refl
+begins_else c own first differ p h = grind (arith, nat_tests)
 
 -- A neighbour that is taken out leaves the extent where it was.
 record Neighboured (c : ℕ) (s : Space) (p other : Part) (own : Span) : Type 0 where

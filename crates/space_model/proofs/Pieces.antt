@@ -1,5 +1,5 @@
 -- What the states of extents say, and the pieces that operations put in their place.
-use Rattle.std.proofs.Common.{◌≡◌, ℕ, ◌+◌, ◌<◌, ◌≢◌, Bool, true, false, IsTrue, List, [], ◌∷◌, Some, None, refl, subst, arith, find, filter, ◌&&◌, eqb, Option, ◌⊎◌, cond, ◌==◌, nat_lt, inl, inr, eqb-true, ltb-true}
+use Rattle.std.proofs.Common.{◌≡◌, ℕ, ◌+◌, ◌<◌, ◌≢◌, Bool, true, false, IsTrue, List, [], ◌∷◌, Some, None, refl, subst, arith, find, filter, ◌&&◌, eqb, ◌⊎◌, cond, ◌==◌, nat_lt, inl, inr, eqb-true, ltb-true}
 use Rattle.space_model.proofs.Words.{sum_by, sum_by-cons, nat_tests, Part, Rest, ToDirty, ToMuzzy, ToRetained, State, Active, Flight, Space, Region, IsPlaced, end_of, is_active, is_listed, is_flight, is_backed, rest_of, listed, taken_out, put_down, begins_at, fit, fit_of, is_best, is_candidate, low_piece, high_piece, joined, begins_either, neighbour, is_right_of, is_left_of, Sound, is_held_by, is_live}
 use Rattle.space_model.proofs.Lists.{find_has, find_passes, sum_by-either, either_found, if_found}
 use Rattle.space_model.proofs.Exchange.{share}
@@ -62,11 +62,7 @@ active_own d state h = absurd (cc)
 
 -- a region that one client holds isn't another one's
 pub held_by_one : (c d : ℕ) (r : Region) → d ≢ c → is_held_by c r ≡ true → is_held_by d r ≡ false
-held_by_one c d r other h = apart r.holder h
-  where
-    apart : (holder : Option ℕ) → is_held_by c (record r { holder = holder }) ≡ true → is_held_by d (record r { holder = holder }) ≡ false
-    apart None h = refl
-    apart (Some e) h = different e c d h other
+held_by_one c d r other h = grind (arith, nat_tests)
 
 -- what a fit found: a listed extent, by some test
 pub record Listed (parts : List Part) (p : Part) : Type 0 where

@@ -1,6 +1,6 @@
 -- What the operations of a purge do and tell: an extent is taken out by age, changes its list or its commit state, is offered, or comes back.
 use Rattle.std.proofs.Common.{true, false, ◌≡◌, ◌≢◌, ℕ, ◌+◌, ◌≤◌, Bool, not, cond, IsTrue, List, ◌∷◌, ◌++◌, Option, Some, None, refl, sym, ◌∙◌, ap, subst, arith, All, filter, find, suc, take, drop, ◌&&◌, ◌||◌, ◌==◌, ltb as nat_lt, append-nil, []}
-use Rattle.space_model.proofs.Words.{Any-from_list_any, list_any, position_or_len, is_some, eqb-true, All-cons, All-nil, All-append, All-head, All-tail, All-take, All-drop, filter-append, Ask, Dalloc, Decommit, PurgeLazy, Answer, Done, Refuses, Heard, Op, PurgeTake, LazyDone, Offer, OfferDone, DecommitDone, Reply, Noted, Nothing, Kept, Abandoned, Offered, Part, Rest, ToDirty, ToMuzzy, ToRetained, Span, Flight as InFlight, Space, IsPlaced, has_page, meets, same_span, holders, is_listed, is_flight_at, is_backed, listed, rest_of, next_flight, pages_listed, stays, replaced, is_live, found_passes, purge_at, after_purge_take, lazy_at, after_lazy, lazy_stands, offer_of, offer_at, is_offer, without_offer, is_regranted, after_offer, offer_stands, decommit_at, after_decommit, decommit_stands, granted_by, is_in_dalloc, flight, lost, won, Sound, DecommitDid, Flying, ForcedDone, ForcedNoted, LazyDid, OfferAbandoned, OfferKept, OfferNext, OfferNoted, PurgeForced, PurgeNoArena, PurgeNothing, PurgeTaken, forced_stands, is_flight, is_in, is_purgeable, is_yes_or_no, list_any-append, taken_out}
+use Rattle.space_model.proofs.Words.{Any-from_list_any, list_any, position_or_len, is_some, All-cons, All-nil, All-append, All-take, All-drop, filter-append, Ask, Dalloc, Decommit, PurgeLazy, Answer, Done, Refuses, Heard, Op, PurgeTake, LazyDone, Offer, OfferDone, DecommitDone, Reply, Noted, Nothing, Kept, Abandoned, Offered, Part, Rest, ToDirty, ToMuzzy, ToRetained, Span, Flight as InFlight, Space, IsPlaced, has_page, meets, same_span, holders, is_listed, is_flight_at, is_backed, listed, rest_of, next_flight, pages_listed, stays, replaced, is_live, found_passes, purge_at, after_purge_take, lazy_at, after_lazy, lazy_stands, offer_of, offer_at, is_offer, without_offer, is_regranted, after_offer, offer_stands, decommit_at, after_decommit, decommit_stands, granted_by, is_in_dalloc, flight, lost, won, Sound, DecommitDid, Flying, ForcedDone, ForcedNoted, LazyDid, OfferAbandoned, OfferKept, OfferNext, OfferNoted, PurgeForced, PurgeNoArena, PurgeNothing, PurgeTaken, forced_stands, is_flight, is_in, is_purgeable, is_yes_or_no, list_any-append, taken_out}
 use Rattle.space_model.proofs.Lists.{false_true, find_passes, ones, without_first, or_false}
 use Rattle.space_model.proofs.Exchange.{share}
 use Rattle.space_model.proofs.Growth.{nobody_holds}
