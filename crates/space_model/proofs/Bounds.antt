@@ -11,11 +11,7 @@ use Rattle.std.proofs.lemmas.Option.{cond_some}
 
 -- an extent serves at most 512 regions
 few_regions : (class : ℕ) → most_regions class ≤ 512
-few_regions class =
-    elim (nat_lt class 36) as (λ b. nat_lt class 36 ≡ b → cond b (regions_at class) 1 ≤ 512) [
-      | true ↦ λ small. (slab_filled class (ltb-true _ _ small)).2
-      | false ↦ λ large. omega arith
-    ] refl
+few_regions class = let small : class < 36 → regions_at class ≤ 512 = λ h. (slab_filled class h).2 in grind (arith, nat_tests, small)
 
 -- the regions that land end before the end of the numbers
 pub land_fits : (c : ℕ) (s : Space) (span : Span) (class count : ℕ) (p : Part) → Sound s → IsTrue (land_stands s c span class count) →

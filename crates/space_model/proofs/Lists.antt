@@ -23,8 +23,7 @@ false_true h = let e : false ≡ true = h in cc
 
 -- what a conditional search found, it found
 pub if_found : {X : Type 0} (b : Bool) (o : Option X) (x : X) → cond b o None ≡ Some x → (b ≡ true) × (o ≡ Some x)
-if_found true o x e = (refl, e)
-if_found false o x e = absurd (cc)
+if_found b o x e = grind arith
 
 -- what one of two searches found, the first or the second found
 pub either_found : {X : Type 0} (P : Type 0) (a b : Option X) (x : X) → (a ≡ Some x → P) → (b ≡ Some x → P) → option_or a b ≡ Some x → P
@@ -148,8 +147,7 @@ pub halves : (a b : Bool) → ones (a && b) + ones (a && not b) ≤ ones a
 halves a b = grind arith
 
 pub other_half : (a b : Bool) → ones (a && not b) ≡ 0 → a ≡ true → b ≡ true
-other_half a true h is = refl
-other_half a false h is = let none : ones (true && not false) ≡ 0 = subst (λ x. ones (x && not false) ≡ 0) is h in absurd (omega (arith, none))
+other_half a b h is = grind arith
 
 -- where at most one element passes a test, and one does that passes another, each that passes the first passes that
 pub sole : {X : Type 0} (f key : X → Bool) (xs : List X) (j : ℕ) (e : X) → count_by f xs ≤ 1 → j < length xs → f (get_or xs j e) ≡ true → key (get_or xs j e) ≡ true → All (λ y. f y ≡ true → key y ≡ true) xs

@@ -24,9 +24,7 @@ purge_at_goes c s rest keep (Some p) e sound live h =
     (λ after. PurgeTaken p.span _ _ (subst (λ (b : Bool). Flying c (purge_at s c rest (Some p)).after p.span b) committed (put_flies c s p (taken_out c p) after (itself c))))
   where
     purge_backed : (r : Rest) → is_purgeable r ≡ true → IsTrue (is_backed r)
-    purge_backed ToDirty k = refl
-    purge_backed ToMuzzy k = refl
-    purge_backed ToRetained k = absurd (cc)
+    purge_backed r k = grind arith
 
 pub purge_take_goes : (c : ℕ) (s : Space) (rest : Rest) (keep : ℕ) → Sound s → is_purgeable rest ≡ true → Goes c s (PurgeTake rest keep) (after_purge_take s c rest keep)
 purge_take_goes c s rest keep sound h =
@@ -49,15 +47,11 @@ turned_flight c s op reply span p q sound at fits same flies plain lose win =
 
 -- a dirty extent is committed
 dirty_backed : (rest : Rest) → is_listed ToDirty (listed rest) ≡ true → IsTrue (is_backed rest)
-dirty_backed ToDirty h = refl
-dirty_backed ToMuzzy h = absurd (cc)
-dirty_backed ToRetained h = absurd (cc)
+dirty_backed rest h = grind arith
 
 -- and what belongs to the retained ones need not be
 retained_free : (rest : Rest) → is_listed ToRetained (listed rest) ≡ true → is_backed rest ≡ false
-retained_free ToDirty h = absurd (cc)
-retained_free ToMuzzy h = absurd (cc)
-retained_free ToRetained h = refl
+retained_free rest h = grind arith
 
 -- so is one in flight that belongs there
 dirty_committed : (c : ℕ) (s : Space) (span : Span) (p : Part) → Sound s → find (is_flight_at c span) s.parts ≡ Some p → is_listed ToDirty (listed (rest_of p.state)) ≡ true → p.committed ≡ true
