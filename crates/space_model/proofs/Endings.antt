@@ -114,8 +114,7 @@ still_retained test parts kept =
     (All-turned (moved_to ToRetained) (λ p. is_in_flight p.state ≡ false) [] (filter test parts) (All-nil (λ p. is_in_flight p.state ≡ false)) (λ k d h. refl))
   where
     retained_still : (state : State) → is_listed ToRetained state ≡ true → is_in_flight state ≡ false
-    retained_still (Flight e rest) h = absurd (cc)
-    retained_still state h = refl
+    retained_still state h = grind arith
 
 active_unlisted : (state : State) → IsTrue (is_active state) → not (is_listed ToRetained state) ≡ true
 active_unlisted state h = grind arith

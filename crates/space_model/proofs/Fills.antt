@@ -26,14 +26,7 @@ pub record Spot (parts : List Part) (regions : List Region) (r : Region) : Type 
 
 -- two places of a slab that share a byte are one
 same_place : (base size i j byte : ℕ) → base + i * size ≤ byte → byte < base + i * size + size → base + j * size ≤ byte → byte < base + j * size + size → i ≡ j
-same_place base size i j byte low high also within =
-    elim (cases_lt i j) [
-      | inl below ↦ absurd (omega (arith, row_fits i size j size below (omega arith)))
-      | inr above ↦ elim (cases_lt j i) [
-        | inl over ↦ absurd (omega (arith, row_fits j size i size over (omega arith)))
-        | inr under ↦ omega arith
-      ]
-    ]
+same_place base size i j byte low high also within = grind (arith, nat_tests, row_fits i size j size, row_fits j size i size)
 
 -- the bytes of a region
 covers_is : (byte : ℕ) (r : Region) → covers byte r ≡ true → (r.addr ≤ byte) × (byte < r.addr + size_at r.class)
@@ -532,8 +525,7 @@ land_at_does c s span class (suc n) p e sound live within some few pages committ
     most_small class small = rw (lt-ltb class 36 small) refl
 
     most_large : (class : ℕ) → 36 ≤ class → most_regions class ≡ 1
-    most_large class large = elim (nat_lt class 36) as (λ b. nat_lt class 36 ≡ b → cond b (regions_at class) 1 ≡ 1)
-        [ false ↦ λ h. refl | true ↦ λ h. absurd (omega (arith, ltb-true class 36 h, large)) ] refl
+    most_large class large = grind (arith, nat_tests)
 
 pub land_goes : (c : ℕ) (s : Space) (span : Span) (class count : ℕ) → Sound s → is_live s.life ≡ true → land_stands s c span class count ≡ true →
     Goes c s (Land span class count) (land_at s c class count (find (is_flight_at c span) s.parts))

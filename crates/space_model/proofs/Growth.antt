@@ -26,8 +26,7 @@ pub record Free (found : Option ℕ) (parts : List Part) (s : Span) : Type 0 whe
   pub nobody : find (is_owned found parts) (chunks_of s) ≡ None
 
 nothing_mapped : {X Y : Type 0} (f : X → Y) (o : Option X) → option_map f o ≡ None → o ≡ None
-nothing_mapped f None e = refl
-nothing_mapped f (Some x) e = absurd (cc)
+nothing_mapped f o e = grind arith
 
 pub why_not-free : (found : Option ℕ) (align : ℕ) (parts : List Part) (s : Span) → why_not found align parts s ≡ None → Free found parts s
 why_not-free found align parts s e = record {

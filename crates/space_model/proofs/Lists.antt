@@ -9,13 +9,11 @@ ones b = cond b 1 0
 
 -- what is said of either that isn't so isn't so of the second
 pub or_false : (a b : Bool) → (a || b) ≡ false → b ≡ false
-or_false true b h = absurd (cc)
-or_false false b h = h
+or_false a b h = grind arith
 
 -- what isn't, is not
 pub not_true : (b : Bool) → not b ≡ true → b ≡ false
-not_true true h = absurd (cc)
-not_true false h = refl
+not_true b h = grind arith
 
 -- what is false isn't true
 pub false_true : IsTrue false → ⊥

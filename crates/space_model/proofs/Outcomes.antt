@@ -173,8 +173,7 @@ grow_goes c s heard found ask answer is sound live h = absurd (cc)
 
 -- what was found passes a test that all do
 pub any_found : (test : Part → Bool) (o : Option Part) → found_passes test o ≡ true → found_passes (λ _. true) o ≡ true
-any_found test None h = absurd (cc)
-any_found test (Some p) h = refl
+any_found test o h = grind arith
 
 pub commit_goes : (c : ℕ) (s : Space) (heard : Heard) (ask : Ask) (answer : Answer) → heard.ask ≡ ask → Sound s → is_live s.life ≡ true → commit_stands s c ask answer ≡ true →
     Goes c s (CommitDone heard) (after_commit s c ask answer)

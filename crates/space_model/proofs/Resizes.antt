@@ -18,9 +18,7 @@ use Rattle.space_model.proofs.Settings.{client_does, without_others}
 
 -- an unused extent is listed where it belongs
 unused_listed : (state : State) → is_unused state ≡ true → is_listed (rest_of state) state ≡ true
-unused_listed Active h = absurd (cc)
-unused_listed (InFlight e rest) h = absurd (cc)
-unused_listed state h = refl
+unused_listed state h = grind arith
 
 spare_listed : (page pages : ℕ) (parts : List Part) (p : Part) → find (is_spare page pages) parts ≡ Some p → Listed parts p
 spare_listed page pages parts p e =
@@ -162,16 +160,10 @@ pub record Home (c : ℕ) (s : Space) (addr : ℕ) (home : Region × Part) : Typ
 
 pub home_found : (c : ℕ) (s : Space) (addr : ℕ) (home : Region × Part) → large_home s c addr ≡ Some home → Home c s addr home
 home_found c s addr home e =
-    elim (find (is_large_at c addr) s.regions) as (λ o. find (is_large_at c addr) s.regions ≡ o → option_and_then (with_home s.parts) o ≡ Some home → Home c s addr home) [
-      | None ↦ λ f k. absurd (cc)
-      | Some r ↦ λ f k. elim (find (λ p. houses p r) s.parts) as (λ o. find (λ p. houses p r) s.parts ≡ o → option_map (λ p. (r, p)) o ≡ Some home → Home c s addr home) [
-        | None ↦ λ g l. absurd (cc)
-        | Some p ↦ λ g l.
-            let same : (r, p) ≡ home = cc in
-            let passes = both_true (is_held_by c r && starts_at addr r) _ (find_passes (is_large_at c addr) s.regions r f) in
-            subst (Home c s addr) same (record { region = f; house = g; held = (both_true (is_held_by c r) _ passes.0).0; large = leb-true _ _ passes.1 })
-      ] refl k
-    ] refl e
+    let region : find (is_large_at c addr) s.regions ≡ Some home.0 = grind arith in
+    let house : find (λ p. houses p home.0) s.parts ≡ Some home.1 = grind arith in
+    let passes = both_true (is_held_by c home.0 && starts_at addr home.0) _ (find_passes (is_large_at c addr) s.regions home.0 region) in
+    record { region = region; house = house; held = (both_true (is_held_by c home.0) _ passes.0).0; large = leb-true _ _ passes.1 }
 
 -- the extent of the region passes a test that was made of it
 large_passes : (c : ℕ) (s : Space) (addr : ℕ) (test : Part → Bool) (home : Region × Part) → large_home s c addr ≡ Some home → has_large s c addr test ≡ true → test home.1 ≡ true

@@ -95,9 +95,7 @@ made_live_goes c s box_no dirty_ms muzzy_ms now sound h =
     ] refl
   where
     absent_undying : (d : ℕ) (life : Life) → is_absent life ≡ true → is_dying d life ≡ false
-    absent_undying d Absent e = refl
-    absent_undying d Live e = absurd (cc)
-    absent_undying d (Dying x) e = absurd (cc)
+    absent_undying d life e = grind arith
 
 change_does : (c : ℕ) (s : Space) (setting : Setting) → Sound s → is_live s.life ≡ true → setting_stands setting ≡ true → Does c s (Set setting) (stays (with_setting s c setting) Noted)
 change_does c s (DirtyMs ms now) sound live h =
