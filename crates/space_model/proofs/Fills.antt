@@ -111,10 +111,7 @@ spot_settled parts regions r owners all spot =
           });
       classes = All-insert (λ q. q.class < 121) regions n r all.classes within;
       aligned = All-insert (λ q. q.addr % align_at q.class ≡ 0) regions n r all.aligned spot.aligned;
-      apart = λ byte. elim (covers byte r) as (λ b. covers byte r ≡ b → sharers byte after ≤ 1) [
-        | false ↦ λ h. let none : covered byte r ≡ 0 = ap ones h in omega (arith, none, more (covered byte), all.apart byte)
-        | true ↦ λ h. let one : covered byte r ≡ 1 = ap ones h in omega (arith, one, more (covered byte), spot_alone parts regions r owners all spot byte h)
-      ] refl;
+      apart = λ byte. grind (arith, more (covered byte), all.apart byte, spot_alone parts regions r owners all spot byte);
     }
 
 -- ---- several regions

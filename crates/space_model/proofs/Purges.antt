@@ -176,8 +176,7 @@ kept_does c s heard found span committed is sound live placed fresh =
     let t : Space = record s { parts = s.parts ++ p ∷ []; offers = without_offer c span committed s.offers } in
     let free : list_any (λ q. meets q.span span) s.parts ≡ false = or_false (is_some found) _ fresh in
     let most : (page : ℕ) → holders page s.parts + share page p ≤ 1 =
-    λ page. elim (has_page page span) as (λ b. has_page page span ≡ b → holders page s.parts + ones b ≤ 1)
-    [ false ↦ λ h. omega (arith, sound.owners page) | true ↦ λ h. omega (arith, nobody_holds page span s.parts free h) ] refl in
+    λ page. grind (arith, sound.owners page, nobody_holds page span s.parts free) in
     let flies : flight c p ≡ 1 = ap ones (itself c) in
     come_does c s t (OfferDone heard found) Kept p sound refl refl
     (record { idle = refl; fits = record { placed = placed; backed = λ h. absurd (false_true h) }; own = λ d other. not_both d c other }) most

@@ -68,11 +68,7 @@ below = record { span = record { first = 0; pages = 512 }; state = Retained; com
 -- no page of it is in an extent
 below_apart : (page : ℕ) (parts : List Part) → All (λ p. IsPlaced p.span) parts → holders page parts ≤ 1 → holders page (below ∷ parts) ≤ 1
 unfolding below
-below_apart page parts placed most =
-    elim (cases_lt page 512) [
-      | inl low ↦ let most : share page below ≤ 1 = grind (arith, nat_tests) in omega (arith, sum_by-cons (share page) below parts, none_below page parts low placed)
-      | inr high ↦ let nothing : share page below ≡ 0 = grind (arith, nat_tests) in omega (arith, sum_by-cons (share page) below parts)
-    ]
+below_apart page parts placed most = grind (arith, nat_tests, sum_by-cons (share page) below parts, λ (low : page < 512). none_below page parts low placed)
 
 -- the extents have at most the pages of the space
 pub pages_fit_space : (s : Space) → Sound s → sum_by (λ p. p.span.pages) s.parts ≤ pages_end - 512
