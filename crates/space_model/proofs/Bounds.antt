@@ -1,6 +1,6 @@
 -- What the slow machine's arithmetic needs: that what it adds and multiplies fits.
-use Rattle.std.proofs.Common.{get_or, ◌≡◌, ℕ, ◌+◌, ◌*◌, ◌^◌, ◌<◌, ◌≤◌, Bool, true, false, cond, ◌&&◌, ◌==◌, not, IsTrue, List, [], ◌∷◌, length, Some, None, refl, sym, ◌∙◌, ap, subst, arith, All, ltb as nat_lt, leb as nat_le, ltb-true, leb-true, ltb-false, ◌++◌, suc, drop, append-nil, take_all, drop_of_length-le, Result, Ok, Err, IfOk}
-use Rattle.space_model.proofs.Words.{count_by, find, position, position_or_len, remove, mul-le-mul, sum_by-cons, size_at, pages_at, regions_at, size_bounds, slab_filled, Part, Region, Span, Space, IsPlaced, is_flight_at, houses, is_held_by, is_held_by_other, reset_stands, most_regions, land_stands, large_home, Sound}
+use Rattle.std.proofs.Common.{get_or, ◌≡◌, ℕ, ◌+◌, ◌*◌, ◌^◌, ◌<◌, ◌≤◌, Bool, true, false, cond, ◌&&◌, ◌==◌, IsTrue, List, length, Some, None, refl, sym, ◌∙◌, ap, subst, arith, All, ltb as nat_lt, leb as nat_le, ltb-true, leb-true, ltb-false, ◌++◌, suc, drop, append-nil, take_all, drop_of_length-le, Result, Ok, Err, IfOk}
+use Rattle.space_model.proofs.Words.{nat_tests, count_by, find, position, position_or_len, remove, mul-le-mul, size_at, pages_at, regions_at, size_bounds, slab_filled, Part, Region, Span, Space, IsPlaced, is_flight_at, houses, is_held_by, is_held_by_other, reset_stands, most_regions, land_stands, large_home, Sound}
 use Rattle.space_model.proofs.Pieces.{both_true, found_fits}
 use Rattle.space_model.proofs.Resizes.{home_found}
 use Rattle.space_model.proofs.Lists.{sum_add}
@@ -11,11 +11,7 @@ use Rattle.std.proofs.lemmas.Option.{cond_some}
 
 -- an extent serves at most 512 regions
 few_regions : (class : ℕ) → most_regions class ≤ 512
-few_regions class =
-    elim (nat_lt class 36) as (λ b. nat_lt class 36 ≡ b → cond b (regions_at class) 1 ≤ 512) [
-      | true ↦ λ small. (slab_filled class (ltb-true _ _ small)).2
-      | false ↦ λ large. omega arith
-    ] refl
+few_regions class = let small : class < 36 → regions_at class ≤ 512 = λ h. (slab_filled class h).2 in grind (arith, nat_tests, small)
 
 -- the regions that land end before the end of the numbers
 pub land_fits : (c : ℕ) (s : Space) (span : Span) (class count : ℕ) (p : Part) → Sound s → IsTrue (land_stands s c span class count) →
@@ -47,11 +43,7 @@ told_all items P ps (Err e) same all = tt
 
 -- a region isn't both the client's and another's
 held_once : (c : ℕ) (r : Region) → cond (is_held_by_other c r) 1 0 + cond (is_held_by c r) 1 0 ≤ 1
-held_once c r =
-    elim r.holder as (λ h. cond (is_held_by_other c (record r { holder = h })) 1 0 + cond (is_held_by c (record r { holder = h })) 1 0 ≤ 1) [
-      | None ↦ omega arith
-      | Some d ↦ elim (d == c) as (λ b. cond (not b) 1 0 + cond b 1 0 ≤ 1) [ true ↦ omega arith | false ↦ omega arith ]
-    ]
+held_once c r = grind (arith, nat_tests)
 
 -- the regions of others and of the client are no more than there are
 pub held_apart : (c : ℕ) (regions : List Region) → count_by (is_held_by_other c) regions + count_by (is_held_by c) regions ≤ length regions

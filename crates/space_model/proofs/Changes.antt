@@ -301,8 +301,7 @@ pages_more page n m false p new most h = omega (arith, h, new)
 
 -- and one that is given up has none
 pages_fewer : (page n m : ℕ) (before : Bool) (p : Part) → m + share page p ≡ n → n ≡ ones before → m ≡ ones (before && not (has_page page p.span))
-pages_fewer page n m true p new h =
-    elim (has_page page p.span) as (λ b. m + ones b ≡ 1 → m ≡ ones (not b)) [ true ↦ λ e. omega arith | false ↦ λ e. omega arith ] (omega (arith, new, h))
+pages_fewer page n m true p new h = grind arith
 pages_fewer page n m false p new h = omega (arith, new, h)
 
 -- an extent comes, whose pages none had, and they are granted from then on

@@ -38,11 +38,8 @@ weight_fits k within =
 -- an addition weighs at most as much as all pages
 pub weighed_le : (epoch : ℕ) (a : Added) → a.pages ≤ pages_end → weighed epoch a ≤ 2 ^ 53
 weighed_le epoch a pages =
-    elim (nat_lt (epoch - a.epoch) 200) as (λ b. cond b (a.pages * weight (200 - (epoch - a.epoch))) 0 ≤ 2 ^ 53) [
-      | true ↦ let fits : Fitting (200 - (epoch - a.epoch)) = weight_fits (200 - (epoch - a.epoch)) (omega arith) in
-          let most : a.pages * weight (200 - (epoch - a.epoch)) ≤ pages_end * 2 ^ 24 = mul-le-mul pages fits.weight in omega (arith, most)
-      | false ↦ omega arith
-    ]
+    let most : epoch - a.epoch < 200 → a.pages * weight (200 - (epoch - a.epoch)) ≤ pages_end * 2 ^ 24 = λ young. mul-le-mul pages (weight_fits (200 - (epoch - a.epoch)) (omega arith)).weight in
+    grind (arith, nat_tests, most)
 
 -- an addition that is 200 epochs old weighs nothing
 pub weighed_old : (epoch : ℕ) (a : Added) → 200 ≤ epoch - a.epoch → weighed epoch a ≡ 0

@@ -1,11 +1,11 @@
 -- What a reset, a destroy and the takes after it do.
-use Rattle.std.proofs.Common.{true, false, ◌≡◌, ◌≢◌, ℕ, Bool, not, cond, IsTrue, List, ◌∷◌, length, Option, Some, None, refl, sym, ◌∙◌, ap, subst, arith, All, filter, find, ◌&&◌, ◌==◌, []}
-use Rattle.space_model.proofs.Words.{sum_by, count_by, list_any, eqb-true, not-false, not-true, nil_from_length, All-weaker, All-append, All-filter, All-nil, All-head, filter_passes, Op, Reset, Destroy, DestroyTake, Reply, Noted, Nothing, Purge, Busy, Offered, Part, Region, ToDirty, ToRetained, State, Active, Retained, Flight, Life, Live, Absent, Dying, Space, begins_at, is_active, is_flight, is_in_flight, is_listed, is_backed, rest_of, moved_to, turned, turned_in_order, homes, residents, is_held_by, is_held_by_other, is_dying, Stepped, stays, is_live, is_dirty_time_over, is_lazy, held_count, flight_count, if_free, emptied, after_reset, reset_stands, ended, after_destroy, doom_at, after_destroy_take, flight, Sound, IsQuiet, DestroyBusy, DestroyNoArena, DestroyNoted, DoomDoomed, DoomNothing, Outcome, ResetBusy, ResetNoArena, ResetNoted, ResetPurge}
+use Rattle.std.proofs.Common.{true, false, ◌≡◌, ◌≢◌, ℕ, Bool, not, cond, IsTrue, List, ◌∷◌, length, refl, sym, ◌∙◌, ap, subst, arith, All, filter, find, ◌&&◌, ◌==◌, []}
+use Rattle.space_model.proofs.Words.{nat_tests, sum_by, count_by, list_any, eqb-true, not-false, not-true, nil_from_length, All-weaker, All-append, All-filter, All-nil, All-head, filter_passes, Op, Reset, Destroy, DestroyTake, Reply, Noted, Nothing, Purge, Busy, Offered, Part, Region, ToDirty, ToRetained, State, Flight, Life, Absent, Dying, Space, begins_at, is_active, is_flight, is_in_flight, is_listed, is_backed, rest_of, moved_to, turned, turned_in_order, homes, residents, is_held_by, is_held_by_other, is_dying, Stepped, stays, is_live, is_dirty_time_over, is_lazy, held_count, flight_count, if_free, emptied, after_reset, reset_stands, ended, after_destroy, doom_at, after_destroy_take, flight, Sound, IsQuiet, DestroyBusy, DestroyNoArena, DestroyNoted, DoomDoomed, DoomNothing, Outcome, ResetBusy, ResetNoArena, ResetNoted, ResetPurge}
 use Rattle.space_model.proofs.Lists.{false_true, not_true, none_counted, nothing_left, nothing_sum, ones, sum_nothing, apart_count}
 use Rattle.space_model.proofs.Mixes.{mix_sum, mixed_second, mixed_filter}
 use Rattle.space_model.proofs.Settled.{Used}
 use Rattle.space_model.proofs.Changes.{Does, Fits, all_fit, frame_does, kept_frame, live_quiet, sound_ranges, go_does}
-use Rattle.space_model.proofs.Pieces.{both_true, different, not_both, active_own}
+use Rattle.space_model.proofs.Pieces.{both_true, not_both, active_own}
 use Rattle.space_model.proofs.Turned.{turned_does, All-turned}
 use Rattle.space_model.proofs.Outcomes.{Goes, goes, still_goes, live_goes}
 use Rattle.space_model.proofs.Moves.{live_is, Same}
@@ -30,12 +30,7 @@ free_goes c s op held flights threads step sound same busy free =
 
 -- where others hold no region, no other client does
 none_other : (c d : ℕ) (r : Region) → d ≢ c → ones (is_held_by_other c r) ≡ 0 → ones (is_held_by d r) ≡ 0
-none_other c d r other h = apart r.holder h
-  where
-    apart : (holder : Option ℕ) → ones (is_held_by_other c (record r { holder = holder })) ≡ 0 → ones (is_held_by d (record r { holder = holder })) ≡ 0
-    apart None h = refl
-    apart (Some e) h = elim (e == c) as (λ b. (e == c) ≡ b → ones (not b) ≡ 0 → ones (e == d) ≡ 0)
-        [ true ↦ λ k z. ap ones (different e c d k other) | false ↦ λ k z. absurd (omega arith) ] refl h
+none_other c d r other h = grind (arith, nat_tests)
 
 others_hold_none : (c d cached : ℕ) (s : Space) → d ≢ c → held_count s c cached ≡ 0 → count_by (is_held_by d) s.regions ≡ 0
 others_hold_none c d cached s other none =
@@ -47,8 +42,7 @@ others_hold_none c d cached s other none =
 
 -- an active extent is one that has to be committed
 active_backed : (state : State) → is_active state ≡ true → IsTrue (is_backed (rest_of state))
-active_backed Active h = refl
-active_backed state h = absurd (cc)
+active_backed state h = grind arith
 
 -- and none is in flight
 none_active_flies : (d : ℕ) (parts : List Part) → count_by (λ p. is_flight d p.state) (filter (λ p. is_active p.state) parts) ≡ 0
@@ -98,9 +92,7 @@ reset_goes c s cached sound =
 
 -- where others have no extent in flight, no other client does
 flight_other : (c d : ℕ) (state : State) → d ≢ c → ones (is_in_flight state && not (is_flight c state)) ≡ 0 → ones (is_flight d state) ≡ 0
-flight_other c d (Flight e rest) other h = elim (e == c) as (λ b. (e == c) ≡ b → ones (not b) ≡ 0 → ones (e == d) ≡ 0)
-    [ true ↦ λ k z. ap ones (different e c d k other) | false ↦ λ k z. absurd (omega arith) ] refl h
-flight_other c d state other h = refl
+flight_other c d state other h = grind (arith, nat_tests)
 
 others_fly_none : (c d : ℕ) (s : Space) → d ≢ c → flight_count s c ≡ 0 → count_by (λ p. is_flight d p.state) s.parts ≡ 0
 others_fly_none c d s other none =
@@ -122,12 +114,10 @@ still_retained test parts kept =
     (All-turned (moved_to ToRetained) (λ p. is_in_flight p.state ≡ false) [] (filter test parts) (All-nil (λ p. is_in_flight p.state ≡ false)) (λ k d h. refl))
   where
     retained_still : (state : State) → is_listed ToRetained state ≡ true → is_in_flight state ≡ false
-    retained_still (Flight e rest) h = absurd (cc)
-    retained_still state h = refl
+    retained_still state h = grind arith
 
 active_unlisted : (state : State) → IsTrue (is_active state) → not (is_listed ToRetained state) ≡ true
-active_unlisted Retained h = absurd (false_true h)
-active_unlisted state h = refl
+active_unlisted state h = grind arith
 
 ended_does : (c cached : ℕ) (s : Space) → Sound s → is_live s.life ≡ true → reset_stands s c cached ≡ true → Free (held_count s c cached) (flight_count s c) (length s.bound) →
     Does c s (Destroy cached) (ended s c)
@@ -173,19 +163,14 @@ destroy_goes c s cached sound stands =
 
 -- an arena that a client is destroying is dying
 dying_is : (c : ℕ) (life : Life) → is_dying c life ≡ true → life ≡ Dying c
-dying_is c (Dying e) h = ap Dying (eqb-true e c h)
-dying_is c Live h = absurd (cc)
-dying_is c Absent h = absurd (cc)
+dying_is c life h = grind (arith, nat_tests)
 
 -- an extent of a dying arena is nobody's flight, and serves nothing
 idle_there : (regions : List Region) (p : Part) → regions ≡ [] → Used regions p → is_active p.state ≡ false
-idle_there regions p none used =
-    elim (is_active p.state) as (λ b. is_active p.state ≡ b → b ≡ false)
-    [ false ↦ λ h. refl | true ↦ λ h. let zero : residents p regions ≡ 0 = ap (residents p) none in absurd (omega (arith, zero, used h)) ] refl
+idle_there regions p none used = let zero : residents p regions ≡ 0 = ap (residents p) none in grind (arith, zero)
 
 grounded_own : (d : ℕ) (state : State) → is_in_flight state ≡ false → is_flight d state ≡ false
-grounded_own d (Flight e rest) h = absurd (cc)
-grounded_own d state h = refl
+grounded_own d state h = grind arith
 
 -- what is true of a dying arena
 quiet_dying : (s : Space) (c : ℕ) → Sound s → s.life ≡ Dying c → IsQuiet (Dying c) s

@@ -1,5 +1,5 @@
 -- What an exchange of extents does to sums, facts and filters, and that one extent alone begins at a page.
-use Rattle.std.proofs.Common.{◌≡◌, ℕ, ◌+◌, ◌<◌, ◌≤◌, Bool, true, false, not, cond, List, [], ◌∷◌, Some, refl, ap, arith, All, filter, find}
+use Rattle.std.proofs.Common.{◌≡◌, ℕ, ◌+◌, ◌<◌, ◌≤◌, Bool, true, not, cond, List, [], ◌∷◌, Some, refl, ap, arith, All, filter, find}
 use Rattle.space_model.proofs.Words.{sum_by, sum_by-append, sum_by-cons, sum_by-filter_both, All-append, All-filter, All-weaker, nat_tests, Part, has_page, exchanged, begins_at, holders}
 pub use Rattle.space_model.proofs.Lists.{find_passes, find_has, find-le-sum_by, filter_nothing, filter-without, sum_by-either}
 use Rattle.space_model.proofs.Lists.{all_sum_le, only_one}
@@ -33,9 +33,7 @@ share page p = cond (has_page page p.span) 1 0
 
 -- an extent that isn't empty has a share in the page at which it begins
 begins-share : (page : ℕ) (p : Part) → 0 < p.span.pages → cond (begins_at page p) 1 0 ≤ share page p
-begins-share page p some =
-    elim (begins_at page p) as (λ b. begins_at page p ≡ b → cond b 1 0 ≤ share page p)
-    [ false ↦ λ h. omega arith | true ↦ λ h. let one : Bool → ℕ = λ b. cond b 1 0 in omega (arith, ap one (begins-has_page page p some h)) ] refl
+begins-share page p some = grind (arith, begins-has_page page p some)
 
 -- where extents don't meet, one that is found is the only one that begins where it does
 pub filter-begins_at : (test : Part → Bool) (parts : List Part) (p : Part) → All (λ q. 0 < q.span.pages) parts →

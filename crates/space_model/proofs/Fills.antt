@@ -26,14 +26,7 @@ pub record Spot (parts : List Part) (regions : List Region) (r : Region) : Type 
 
 -- two places of a slab that share a byte are one
 same_place : (base size i j byte : ℕ) → base + i * size ≤ byte → byte < base + i * size + size → base + j * size ≤ byte → byte < base + j * size + size → i ≡ j
-same_place base size i j byte low high also within =
-    elim (cases_lt i j) [
-      | inl below ↦ absurd (omega (arith, row_fits i size j size below (omega arith)))
-      | inr above ↦ elim (cases_lt j i) [
-        | inl over ↦ absurd (omega (arith, row_fits j size i size over (omega arith)))
-        | inr under ↦ omega arith
-      ]
-    ]
+same_place base size i j byte low high also within = grind (arith, nat_tests, row_fits i size j size, row_fits j size i size)
 
 -- the bytes of a region
 covers_is : (byte : ℕ) (r : Region) → covers byte r ≡ true → (r.addr ≤ byte) × (byte < r.addr + size_at r.class)
@@ -118,10 +111,7 @@ spot_settled parts regions r owners all spot =
           });
       classes = All-insert (λ q. q.class < 121) regions n r all.classes within;
       aligned = All-insert (λ q. q.addr % align_at q.class ≡ 0) regions n r all.aligned spot.aligned;
-      apart = λ byte. elim (covers byte r) as (λ b. covers byte r ≡ b → sharers byte after ≤ 1) [
-        | false ↦ λ h. let none : covered byte r ≡ 0 = ap ones h in omega (arith, none, more (covered byte), all.apart byte)
-        | true ↦ λ h. let one : covered byte r ≡ 1 = ap ones h in omega (arith, one, more (covered byte), spot_alone parts regions r owners all spot byte h)
-      ] refl;
+      apart = λ byte. grind (arith, more (covered byte), all.apart byte, spot_alone parts regions r owners all spot byte);
     }
 
 -- ---- several regions
@@ -463,8 +453,7 @@ row_spot {c} {s} {t} {class} {p} {stay} one i some within =
     other_start base i size some large =
         let far = row_fits 0 size i size some (omega arith) in
         let none : 0 * size ≡ 0 = grind arith in
-        elim ((base + 0 * size) == (base + i * size)) as (λ b. ((base + 0 * size) == (base + i * size)) ≡ b → b ≡ false)
-        [ false ↦ λ e. refl | true ↦ λ e. absurd (omega (arith, eqb-true (base + 0 * size) (base + i * size) e, far, none, large)) ] refl
+        grind (arith, nat_tests, far, none)
 
 -- so all of them are settled
 row_settled : {c : ℕ} {s t : Space} {class : ℕ} {p : Part} {stay : List Part} → FirstLanded c s t class p stay → (n : ℕ) → n < regions_at class →
@@ -533,8 +522,7 @@ land_at_does c s span class (suc n) p e sound live within some few pages committ
     most_small class small = rw (lt-ltb class 36 small) refl
 
     most_large : (class : ℕ) → 36 ≤ class → most_regions class ≡ 1
-    most_large class large = elim (nat_lt class 36) as (λ b. nat_lt class 36 ≡ b → cond b (regions_at class) 1 ≡ 1)
-        [ false ↦ λ h. refl | true ↦ λ h. absurd (omega (arith, ltb-true class 36 h, large)) ] refl
+    most_large class large = grind (arith, nat_tests)
 
 pub land_goes : (c : ℕ) (s : Space) (span : Span) (class count : ℕ) → Sound s → is_live s.life ≡ true → land_stands s c span class count ≡ true →
     Goes c s (Land span class count) (land_at s c class count (find (is_flight_at c span) s.parts))

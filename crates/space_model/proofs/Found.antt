@@ -72,21 +72,9 @@ find_kept test gone parts pieces p other found =
   where
     stays : (parts : List Part) → find test parts ≡ Some p → find test (filter (λ q. not (gone q)) parts) ≡ Some p
     stays [] e = e
-    stays (q ∷ qs) e =
-        elim (test q) as (λ b. test q ≡ b → cond b (Some q) (find test qs) ≡ Some p → find test (filter (λ x. not (gone x)) (q ∷ qs)) ≡ Some p) [
-          | true ↦ λ h k. rw (other q h, h) k
-          | false ↦ λ h k. elim (gone q) as (λ g. find test (cond (not g) (q ∷ filter (λ x. not (gone x)) qs) (filter (λ x. not (gone x)) qs)) ≡ Some p) [
-            | true ↦ stays qs k
-            | false ↦ rw h (stays qs k)
-          ]
-        ] refl e
+    stays (q ∷ qs) e = grind (arith, other q, stays qs)
 
 -- the first extent that the client has in flight is found by its span
 pub first_found : (c : ℕ) (parts : List Part) (p : Part) → find (λ q. is_flight c q.state) parts ≡ Some p → find (is_flight_at c p.span) parts ≡ Some p
 first_found c [] p e = absurd (cc)
-first_found c (q ∷ qs) p e =
-    elim (is_flight c q.state) as (λ b. is_flight c q.state ≡ b → cond b (Some q) (find (λ x. is_flight c x.state) qs) ≡ Some p → find (is_flight_at c p.span) (q ∷ qs) ≡ Some p) [
-      | true ↦ λ h k. let same : q ≡ p = cc in
-          subst (λ x. find (is_flight_at c x.span) (q ∷ qs) ≡ Some x) same (rw (h, same_span_itself q.span) refl)
-      | false ↦ λ h k. rw h (first_found c qs p k)
-    ] refl e
+first_found c (q ∷ qs) p e = grind (arith, same_span_itself p.span, first_found c qs p)

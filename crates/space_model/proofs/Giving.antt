@@ -1,5 +1,5 @@
 -- Regions that are given back, and the extents that they leave empty.
-use Rattle.std.proofs.Common.{◌≡◌, ℕ, ◌<◌, ◌≢◌, true, false, not, IsTrue, List, [], ◌∷◌, length, get_or, refl, ap, arith, filter, ◌&&◌}
+use Rattle.std.proofs.Common.{◌≡◌, ℕ, ◌<◌, ◌≢◌, true, false, not, IsTrue, List, [], ◌∷◌, length, get_or, refl, ap, arith, filter}
 use Rattle.space_model.proofs.Words.{sum_by, count_by, list_any, sum_by-cons, All-weaker, filter_passes, Back, Part, Region, Space, Live, is_active, is_flight, taken_out, houses, homes, is_held_by, is_given_back, staying, is_emptied, after_back, flight, Sound}
 use Rattle.space_model.proofs.Lists.{any_counts, none_passes, not_true, ones, apart_count}
 use Rattle.space_model.proofs.Mixes.{mixed_filter}
@@ -20,9 +20,7 @@ emptied_is regions p h =
 
 -- an active extent that isn't emptied serves one of them
 kept_serves : (regions : List Region) (p : Part) → not (is_emptied regions p) ≡ true → IsTrue (is_active p.state) → list_any (houses p) regions ≡ true
-kept_serves regions p h act =
-    elim (list_any (houses p) regions) as (λ b. not (is_active p.state && not b) ≡ true → b ≡ true)
-    [ true ↦ λ e. refl | false ↦ λ e. absurd (cc (act, e)) ] h
+kept_serves regions p h act = grind arith
 
 -- ---- Back
 

@@ -1,6 +1,6 @@
 -- An answered span against which nothing speaks shares no page with the extents.
-use Rattle.std.proofs.Common.{◌≡◌, ℕ, ◌+◌, ◌-◌, ◌/◌, ◌%◌, ◌<◌, ◌≤◌, true, false, not, cond, ◌==◌, List, [], ◌∷◌, get_or, Option, Some, None, refl, ◌∙◌, subst, arith, find, ◌||◌}
-use Rattle.space_model.proofs.Words.{list_any, option_map, sum_by-cons, get_or-range_with_len, length-range_with_len, nat_tests, OffSpace, Unaligned, Meets, Part, Span, has_page, meets, chunk_span, chunks_of, end_of, holders, is_owned, is_found, is_in_space, why_not}
+use Rattle.std.proofs.Common.{◌≡◌, ℕ, ◌+◌, ◌-◌, ◌/◌, ◌<◌, ◌≤◌, true, false, cond, List, get_or, Option, Some, None, refl, ◌∙◌, subst, arith, find}
+use Rattle.space_model.proofs.Words.{list_any, option_map, get_or-range_with_len, length-range_with_len, nat_tests, Meets, Part, Span, has_page, meets, chunk_span, chunks_of, end_of, holders, is_owned, is_found, is_in_space, why_not}
 use Rattle.space_model.proofs.Lists.{find_nothing, none_passes, nothing_sum, or_false}
 use Rattle.space_model.proofs.Exchange.{share}
 
@@ -26,18 +26,13 @@ pub record Free (found : Option ℕ) (parts : List Part) (s : Span) : Type 0 whe
   pub nobody : find (is_owned found parts) (chunks_of s) ≡ None
 
 nothing_mapped : {X Y : Type 0} (f : X → Y) (o : Option X) → option_map f o ≡ None → o ≡ None
-nothing_mapped f None e = refl
-nothing_mapped f (Some x) e = absurd (cc)
+nothing_mapped f o e = grind arith
 
 pub why_not-free : (found : Option ℕ) (align : ℕ) (parts : List Part) (s : Span) → why_not found align parts s ≡ None → Free found parts s
-why_not-free found align parts s e =
-    elim (is_in_space s) as (λ b. is_in_space s ≡ b → cond (not b) (Some OffSpace) (cond (not (s.first % align == 0)) (Some Unaligned) (option_map (λ chunk. Meets (chunk_span chunk)) (find (is_owned found parts) (chunks_of s)))) ≡ None → Free found parts s) [
-      | false ↦ λ h i. absurd (cc)
-      | true ↦ λ h. elim (s.first % align == 0) as (λ b. cond (not b) (Some Unaligned) (option_map (λ chunk. Meets (chunk_span chunk)) (find (is_owned found parts) (chunks_of s))) ≡ None → Free found parts s) [
-        | false ↦ λ i. absurd (cc)
-        | true ↦ λ i. record { inside = h; nobody = nothing_mapped (λ chunk. Meets (chunk_span chunk)) _ i }
-      ]
-    ] refl e
+why_not-free found align parts s e = record {
+  inside = grind arith;
+  nobody = grind (arith, nothing_mapped (λ chunk. Meets (chunk_span chunk)) (find (is_owned found parts) (chunks_of s)));
+}
 
 -- an extent with a free span joins: no page has two extents
 pub free-holders : (found : Option ℕ) (parts : List Part) (new : Part) → Free found parts new.span → (page : ℕ) →

@@ -1,13 +1,12 @@
 -- Regions that change their holder alone.
-use Rattle.std.proofs.Common.{true, false, ◌≡◌, ℕ, ◌%◌, ◌<◌, Bool, cond, IsTrue, List, ◌∷◌, Option, Some, None, refl, ◌∙◌, ap, arith, All, filter, find, get_or, [], ◌&&◌, ◌||◌, ◌==◌}
-use Rattle.space_model.proofs.Words.{sum_by, is_none, sum_by-cons, All-weaker, All-map, align_at, Publish, TakeOver, Noted, Nothing, Part, Region, Space, homes, houses, residents, held_anew, is_held_by, is_published, is_live, is_held_at, is_published_at, after_publish, take_over_at, after_take_over, Sound, IsInSlab, PublishNoted, TakeNoArena, TakeNothing, TakeOwned, holds_at, list_any, starts_at}
+use Rattle.std.proofs.Common.{true, false, ◌≡◌, ℕ, ◌%◌, ◌<◌, Bool, cond, IsTrue, List, ◌∷◌, Option, Some, None, refl, ◌∙◌, arith, All, filter, find, get_or, []}
+use Rattle.space_model.proofs.Words.{nat_tests, sum_by, sum_by-cons, All-weaker, All-map, align_at, Publish, TakeOver, Noted, Nothing, Part, Region, Space, homes, houses, residents, held_anew, is_held_by, is_published, is_live, is_held_at, is_published_at, after_publish, take_over_at, after_take_over, Sound, IsInSlab, PublishNoted, TakeNoArena, TakeNothing, TakeOwned, holds_at}
 use Rattle.space_model.proofs.Ordered.{ordered-held_anew}
 use Rattle.space_model.proofs.Settled.{Settled, Used, LargeAt, SmallAt, covered, serves_by, sound_settled}
 use Rattle.space_model.proofs.Changes.{regions_does}
 use Rattle.space_model.proofs.Pieces.{both_true, not_both, held_by_one}
-use Rattle.std.proofs.Math.Bool.{or-true}
 use Rattle.space_model.proofs.Outcomes.{Goes, goes, still_goes, live_goes}
-use Rattle.space_model.proofs.Moves.{live_is, itself}
+use Rattle.space_model.proofs.Moves.{live_is}
 
 -- the region with another holder, if it passes the test
 abbrev anew : (Region → Bool) → Option ℕ → Region → Region
@@ -61,21 +60,11 @@ anew_settled test holder parts regions all =
 anew_held : (d : ℕ) (test : Region → Bool) (holder : Option ℕ) (regions : List Region) → ((r : Region) → test r ≡ true → is_held_by d r ≡ false) →
     ((r : Region) → is_held_by d (record r { holder = holder }) ≡ false) → filter (is_held_by d) (held_anew test holder regions) ≡ filter (is_held_by d) regions
 anew_held d test holder [] before after = refl
-anew_held d test holder (r ∷ rs) before after =
-    let rest = anew_held d test holder rs before after in
-    elim (test r) as (λ b. test r ≡ b → filter (is_held_by d) (cond b (record r { holder = holder }) r ∷ held_anew test holder rs) ≡ filter (is_held_by d) (r ∷ rs)) [
-      | true ↦ λ h. rw (before r h, after r) rest
-      | false ↦ λ h. elim (is_held_by d r) as (λ b. cond b (r ∷ filter (is_held_by d) (held_anew test holder rs)) (filter (is_held_by d) (held_anew test holder rs)) ≡ cond b (r ∷ filter (is_held_by d) rs) (filter (is_held_by d) rs))
-          [ true ↦ ap (λ xs. r ∷ xs) rest | false ↦ rest ]
-    ] refl
+anew_held d test holder (r ∷ rs) before after = grind (arith, before r, after r, anew_held d test holder rs before after)
 
 -- a published region is nobody's
 published_apart : (d : ℕ) (r : Region) → is_published r ≡ true → is_held_by d r ≡ false
-published_apart d r h = apart r.holder h
-  where
-    apart : (holder : Option ℕ) → is_none holder ≡ true → is_held_by d (record r { holder = holder }) ≡ false
-    apart None h = refl
-    apart (Some e) h = absurd (cc)
+published_apart d r h = grind arith
 
 pub publish_goes : (c : ℕ) (s : Space) (addr : ℕ) → Sound s → is_live s.life ≡ true → Goes c s (Publish addr) (after_publish s c addr)
 publish_goes c s addr sound live =
@@ -96,12 +85,7 @@ take_over_at_goes c s addr (Some r) e sound live =
   where
     taken : (regions : List Region) → find (is_published_at addr) regions ≡ Some r → holds_at c (held_anew (is_published_at addr) (Some c) regions) addr ≡ true
     taken [] k = absurd (cc)
-    taken (q ∷ qs) k =
-        elim (is_published_at addr q) as (λ b. is_published_at addr q ≡ b → cond b (Some q) (find (is_published_at addr) qs) ≡ Some r →
-        list_any (λ x. is_held_by c x && x.addr == addr) (cond b (record q { holder = Some c }) q ∷ held_anew (is_published_at addr) (Some c) qs) ≡ true) [
-          | true ↦ λ h m. rw (itself c, (both_true _ (starts_at addr q) h).1) refl
-          | false ↦ λ h m. rw (taken qs m) (or-true _)
-        ] refl k
+    taken (q ∷ qs) k = grind (arith, nat_tests, taken qs)
 
 pub take_over_goes : (c : ℕ) (s : Space) (addr : ℕ) → Sound s → Goes c s (TakeOver addr) (after_take_over s c addr)
 take_over_goes c s addr sound =

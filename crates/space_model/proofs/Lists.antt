@@ -9,13 +9,11 @@ ones b = cond b 1 0
 
 -- what is said of either that isn't so isn't so of the second
 pub or_false : (a b : Bool) → (a || b) ≡ false → b ≡ false
-or_false true b h = absurd (cc)
-or_false false b h = h
+or_false a b h = grind arith
 
 -- what isn't, is not
 pub not_true : (b : Bool) → not b ≡ true → b ≡ false
-not_true true h = absurd (cc)
-not_true false h = refl
+not_true b h = grind arith
 
 -- what is false isn't true
 pub false_true : IsTrue false → ⊥
@@ -23,8 +21,7 @@ false_true h = let e : false ≡ true = h in cc
 
 -- what a conditional search found, it found
 pub if_found : {X : Type 0} (b : Bool) (o : Option X) (x : X) → cond b o None ≡ Some x → (b ≡ true) × (o ≡ Some x)
-if_found true o x e = (refl, e)
-if_found false o x e = absurd (cc)
+if_found b o x e = grind arith
 
 -- what one of two searches found, the first or the second found
 pub either_found : {X : Type 0} (P : Type 0) (a b : Option X) (x : X) → (a ≡ Some x → P) → (b ≡ Some x → P) → option_or a b ≡ Some x → P
@@ -66,34 +63,21 @@ pub sum_by-either : {X : Type 0} (f : X → ℕ) (a b : X → Bool) → ((x : X)
 sum_by-either f a b apart [] = refl
 sum_by-either f a b apart (x ∷ xs) =
     let either = filter (λ y. a y || b y) xs in
-    let rest = sum_by-either f a b apart xs in
-    elim (a x) as (λ g. a x ≡ g → sum_by f (cond (g || b x) (x ∷ either) either) ≡ sum_by f (cond g (x ∷ filter a xs) (filter a xs)) + sum_by f (cond (b x) (x ∷ filter b xs) (filter b xs))) [
-      | true ↦ λ h. rw (apart x h) (omega (arith, sum_by-cons f x either, sum_by-cons f x (filter a xs), rest))
-      | false ↦ λ h. elim (b x) as (λ k. sum_by f (cond k (x ∷ either) either) ≡ sum_by f (filter a xs) + sum_by f (cond k (x ∷ filter b xs) (filter b xs)))
-          [ true ↦ omega (arith, sum_by-cons f x either, sum_by-cons f x (filter b xs), rest) | false ↦ rest ]
-    ] refl
+    grind (arith, apart x, sum_by-cons f x either, sum_by-cons f x (filter a xs), sum_by-cons f x (filter b xs), sum_by-either f a b apart xs)
 
 -- what some element passes is counted
 pub any_counts : {X : Type 0} (test : X → Bool) (xs : List X) → list_any test xs ≡ true → 0 < count_by test xs
 any_counts test [] h = absurd (cc)
-any_counts test (x ∷ xs) h =
-    elim (test x) as (λ b. (b || list_any test xs) ≡ true → ones (test x) ≡ ones b → 0 < count_by test (x ∷ xs)) [
-      | true ↦ λ k one. omega (arith, one, sum_by-cons (λ y. cond (test y) 1 0) x xs)
-      | false ↦ λ k one. omega (arith, sum_by-cons (λ y. cond (test y) 1 0) x xs, any_counts test xs k)
-    ] h refl
+any_counts test (x ∷ xs) h = grind (arith, sum_by-cons (λ y. cond (test y) 1 0) x xs, any_counts test xs)
 
 -- what is counted is there
 pub counted_any : {X : Type 0} (test : X → Bool) (xs : List X) → 0 < count_by test xs → list_any test xs ≡ true
 counted_any test [] some = absurd (omega arith)
-counted_any test (x ∷ xs) some =
-    elim (test x) as (λ b. ones (test x) ≡ ones b → (b || list_any test xs) ≡ true)
-    [ true ↦ λ e. refl | false ↦ λ e. counted_any test xs (omega (arith, e, some, sum_by-cons (λ y. ones (test y)) x xs)) ] refl
+counted_any test (x ∷ xs) some = grind (arith, sum_by-cons (λ y. cond (test y) 1 0) x xs, counted_any test xs)
 
 -- what no element passes, this one doesn't
 pub none_passes : {X : Type 0} (test : X → Bool) (xs : List X) (k : ℕ) (d : X) → list_any test xs ≡ false → k < length xs → test (get_or xs k d) ≡ false
-none_passes test xs k d none h =
-    elim (test (get_or xs k d)) as (λ b. test (get_or xs k d) ≡ b → b ≡ false)
-    [ true ↦ λ e. let some = list_any_at test xs k d h e in absurd (cc) | false ↦ λ e. refl ] refl
+none_passes test xs k d none h = grind (arith, list_any_at test xs k d h)
 
 -- what no element passes is counted nowhere
 pub none_counted : {X : Type 0} (test : X → Bool) (xs : List X) → list_any test xs ≡ false → count_by test xs ≡ 0
@@ -102,11 +86,7 @@ none_counted test xs none = nothing_sum (λ x. ones (test x)) xs (λ k d h. ap o
 -- an extent that is found passes the test
 pub find_passes : {X : Type 0} (test : X → Bool) (xs : List X) (x : X) → find test xs ≡ Some x → test x ≡ true
 find_passes test [] x e = absurd (cc)
-find_passes test (y ∷ ys) x e =
-    elim (test y) as (λ b. test y ≡ b → cond b (Some y) (find test ys) ≡ Some x → test x ≡ true) [
-      | true ↦ λ h k. let same : y ≡ x = cc in subst (λ z. test z ≡ true) same h
-      | false ↦ λ h k. find_passes test ys x k
-    ] refl e
+find_passes test (y ∷ ys) x e = grind (arith, find_passes test ys x)
 
 -- what is true of each element is true of one that is found
 pub find_has : {X : Type 0} (P : X → Type 0) (test : X → Bool) (xs : List X) (x : X) → All P xs → find test xs ≡ Some x → P x
@@ -120,19 +100,13 @@ find_has P test (y ∷ ys) x all e =
 -- the term of an extent that is found is within the sum
 pub find-le-sum_by : {X : Type 0} (f : X → ℕ) (test : X → Bool) (xs : List X) (x : X) → find test xs ≡ Some x → f x ≤ sum_by f xs
 find-le-sum_by f test [] x e = absurd (cc)
-find-le-sum_by f test (y ∷ ys) x e =
-    elim (test y) as (λ b. cond b (Some y) (find test ys) ≡ Some x → f x ≤ sum_by f (y ∷ ys)) [
-      | true ↦ λ k. let same : y ≡ x = cc in let same_term : f y ≡ f x = ap f same in omega (arith, sum_by-cons f y ys)
-      | false ↦ λ k. omega (arith, sum_by-cons f y ys, find-le-sum_by f test ys x k)
-    ] e
+find-le-sum_by f test (y ∷ ys) x e = grind (arith, sum_by-cons f y ys, find-le-sum_by f test ys x)
 
 -- where nothing is found, nothing passes
 pub find_nothing : {X : Type 0} (test : X → Bool) (xs : List X) → find test xs ≡ None → (k : ℕ) (d : X) → k < length xs → test (get_or xs k d) ≡ false
 find_nothing test [] e k d h = absurd (omega arith)
-find_nothing test (x ∷ xs) e zero d h = elim (test x) as (λ b. cond b (Some x) (find test xs) ≡ None → b ≡ false) [ true ↦ λ i. absurd (cc) | false ↦ λ i. refl ] e
-find_nothing test (x ∷ xs) e (suc k) d h =
-    elim (test x) as (λ b. cond b (Some x) (find test xs) ≡ None → test (get_or xs k d) ≡ false)
-    [ true ↦ λ i. absurd (cc) | false ↦ λ i. find_nothing test xs i k d (omega arith) ] e
+find_nothing test (x ∷ xs) e zero d h = grind arith
+find_nothing test (x ∷ xs) e (suc k) d h = grind (arith, find_nothing test xs)
 
 -- what no element passes keeps nothing
 pub filter_nothing : {X : Type 0} (f : X → Bool) (xs : List X) → count_by f xs ≡ 0 → filter f xs ≡ []
@@ -157,43 +131,21 @@ without_first f test (x ∷ xs) apart =
 -- of a list in which none passes a test and none fails it nothing is left
 pub nothing_left : {X : Type 0} (test : X → Bool) (xs : List X) → count_by test xs ≡ 0 → count_by (λ x. not (test x)) xs ≡ 0 → xs ≡ []
 nothing_left test [] none all = refl
-nothing_left test (x ∷ xs) none all =
-    elim (test x) as (λ b. ones (test x) ≡ ones b → ones (not (test x)) ≡ ones (not b) → x ∷ xs ≡ []) [
-      | true ↦ λ e f. absurd (omega (arith, e, none, sum_by-cons (λ y. ones (test y)) x xs))
-      | false ↦ λ e f. absurd (omega (arith, f, all, sum_by-cons (λ y. ones (not (test y))) x xs))
-    ] refl refl
+nothing_left test (x ∷ xs) none all = absurd (grind (arith, sum_by-cons (λ y. ones (test y)) x xs, sum_by-cons (λ y. ones (not (test y))) x xs))
 
 -- where at most one element passes a test, one that is found and does is the only one
 pub only_one : {X : Type 0} (key test : X → Bool) (xs : List X) (x : X) → count_by key xs ≤ 1 → find test xs ≡ Some x → key x ≡ true → filter key xs ≡ x ∷ []
-only_one key test [] x most e is = absurd (cc)
-only_one key test (y ∷ ys) x most e is =
-    let one : Bool → ℕ = λ b. cond b 1 0 in
-    let sums : count_by key (y ∷ ys) ≡ one (key y) + count_by key ys = sum_by-cons (λ z. cond (key z) 1 0) y ys in
-    elim (test y) as (λ b. cond b (Some y) (find test ys) ≡ Some x → filter key (y ∷ ys) ≡ x ∷ []) [
-      | true ↦ λ k.
-          let same : y ≡ x = cc in
-          let passes : key y ≡ true = ap key same ∙ is in
-          let here : one (key y) ≡ 1 = ap one passes in
-          rw (passes, filter_nothing key ys (omega (arith, sums, here))) (ap (λ z. z ∷ []) same)
-      | false ↦ λ k.
-          let there : one (key x) ≡ 1 = ap one is in
-          let found : one (key x) ≤ count_by key ys = find-le-sum_by (λ z. one (key z)) test ys x k in
-          let later = only_one key test ys x (omega (arith, sums)) k is in
-          elim (key y) as (λ b. one (key y) ≡ one b → cond b (y ∷ filter key ys) (filter key ys) ≡ x ∷ []) [
-            | true ↦ λ h. absurd (omega (arith, h, found, there, sums))
-            | false ↦ λ h. later
-          ] refl
-    ] e
+only_one {X} key test [] x most e is = absurd (cc)
+only_one {X} key test (y ∷ ys) x most e is =
+    let ones_of : X → ℕ = λ z. cond (key z) 1 0 in
+    grind (arith, sum_by-cons ones_of y ys, filter_nothing key ys, find-le-sum_by ones_of test ys x, only_one key test ys x)
 
 -- a test in two halves
 pub halves : (a b : Bool) → ones (a && b) + ones (a && not b) ≤ ones a
-halves true true = omega arith
-halves true false = omega arith
-halves false b = omega arith
+halves a b = grind arith
 
 pub other_half : (a b : Bool) → ones (a && not b) ≡ 0 → a ≡ true → b ≡ true
-other_half a true h is = refl
-other_half a false h is = let none : ones (true && not false) ≡ 0 = subst (λ x. ones (x && not false) ≡ 0) is h in absurd (omega (arith, none))
+other_half a b h is = grind arith
 
 -- where at most one element passes a test, and one does that passes another, each that passes the first passes that
 pub sole : {X : Type 0} (f key : X → Bool) (xs : List X) (j : ℕ) (e : X) → count_by f xs ≤ 1 → j < length xs → f (get_or xs j e) ≡ true → key (get_or xs j e) ≡ true → All (λ y. f y ≡ true → key y ≡ true) xs

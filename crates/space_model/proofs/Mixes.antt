@@ -1,5 +1,5 @@
 -- Two lists mixed into one, each in its own order: what a list keeps beside what it loses, or what it kept beside what came.
-use Rattle.std.proofs.Common.{◌≡◌, ℕ, ◌+◌, Bool, true, false, not, cond, List, [], ◌∷◌, ◌++◌, take, drop, refl, ap, subst, arith, All, filter, insert}
+use Rattle.std.proofs.Common.{◌≡◌, ℕ, ◌+◌, Bool, true, false, not, cond, List, [], ◌∷◌, ◌++◌, take, drop, refl, subst, arith, All, filter, insert}
 use Rattle.space_model.proofs.Words.{sum_by, count_by, take-append-drop, sum_by-cons, All-nil, All-cons, All-head, All-tail}
 
 -- The third list has the elements of the first two, and those of each in their order.
@@ -34,14 +34,8 @@ mix_second P (Second x {xs} {ys} {zs} m) all = All-cons P x ys (All-head P x zs 
 -- a filter that keeps nothing of the second list keeps what it keeps of the first
 pub mix_filter : {X : Type 0} (f : X → Bool) {xs ys zs : List X} → Mix X xs ys zs → count_by f ys ≡ 0 → filter f zs ≡ filter f xs
 mix_filter f Nothing none = refl
-mix_filter f (First x {xs} {ys} {zs} m) none =
-    let rest = mix_filter f m none in
-    elim (f x) as (λ b. cond b (x ∷ filter f zs) (filter f zs) ≡ cond b (x ∷ filter f xs) (filter f xs)) [ true ↦ ap (λ l. x ∷ l) rest | false ↦ rest ]
-mix_filter f (Second x {xs} {ys} {zs} m) none =
-    let sums = sum_by-cons (λ y. cond (f y) 1 0) x ys in
-    let rest = mix_filter f m (omega (arith, sums, none)) in
-    elim (f x) as (λ b. cond b 1 0 + count_by f ys ≡ 0 → cond b (x ∷ filter f zs) (filter f zs) ≡ filter f xs)
-    [ true ↦ λ h. absurd (omega arith) | false ↦ λ h. rest ] (omega (arith, sums, none))
+mix_filter f (First x {xs} {ys} {zs} m) none = grind (arith, mix_filter f m none)
+mix_filter f (Second x {xs} {ys} {zs} m) none = grind (arith, sum_by-cons (λ y. cond (f y) 1 0) x ys, mix_filter f m)
 
 -- ---- lists that are mixed
 

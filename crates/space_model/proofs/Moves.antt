@@ -1,15 +1,13 @@
 -- What several operations do: an extent that is found is taken out or put down, or nothing changes.
-use Rattle.std.proofs.Common.{◌≡◌, ℕ, true, false, cond, [], ◌∷◌, Option, Some, None, refl, sym, ◌∙◌, ap, arith, find, ◌==◌}
-use Rattle.space_model.proofs.Words.{eqb-true, nat_tests, Op, Reply, NoArena, Noted, Whole, Part, Span, Life, Live, Absent, Dying, Space, same_span, is_flight, is_flight_at, rest_of, taken_out, put_down, Stepped, stays, replaced, whole_at, is_live, if_live, flight, lost, won, Sound}
+use Rattle.std.proofs.Common.{◌≡◌, ℕ, true, [], ◌∷◌, Some, refl, sym, ◌∙◌, ap, arith, find, ◌==◌}
+use Rattle.space_model.proofs.Words.{eqb-true, nat_tests, Op, Reply, Part, Span, Life, Live, Space, same_span, is_flight, is_flight_at, rest_of, taken_out, put_down, stays, replaced, is_live, flight, lost, won, Sound}
 use Rattle.space_model.proofs.Lists.{find_passes, ones}
 use Rattle.space_model.proofs.Changes.{Does, Plain, Piece, stays_does, put_does}
 use Rattle.space_model.proofs.Pieces.{both_true, put_down-nobody, listed-nobody, Listed, found_fits, Piece-flight, Piece-listed, Piece-down, Piece-taken}
 
 -- an arena that serves requests is live
 pub live_is : (life : Life) → is_live life ≡ true → life ≡ Live
-live_is Live h = refl
-live_is Absent h = absurd (cc)
-live_is (Dying c) h = absurd (cc)
+live_is life h = grind arith
 
 -- a client is itself
 pub itself : (c : ℕ) → (c == c) ≡ true

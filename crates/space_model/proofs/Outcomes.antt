@@ -1,6 +1,6 @@
 -- Which ways the looks, cuts, growths, commits and merges go: what each does, and what its reply tells.
 use Rattle.std.proofs.Common.{true, false, ◌≡◌, ◌≢◌, ℕ, ◌+◌, ◌-◌, ◌<◌, ◌≤◌, Bool, not, cond, IsTrue, List, ◌∷◌, ◌++◌, Option, Some, None, refl, sym, ◌∙◌, ap, subst, arith, find, filter, ◌&&◌, ◌==◌, ltb as nat_lt, append_assoc, inl, inr, [], leb as nat_le}
-use Rattle.space_model.proofs.Words.{beq, is_power_of_two, ones_le_self, count_by, option_map, eqb-true, leb-true, sum_by-cons, Ask, Alloc, Commit, Split, Merge, Answer, Done, Refuses, Placed, Heard, Op, Look, CutDone, GrowDone, CommitDone, PutLook, MergeDone, NoArena, Whole, Purge, Why, Part, Rest, ToDirty, ToMuzzy, ToRetained, Span, State, Dirty, Muzzy, Retained, Space, end_of, run_start, holds_run, exchanged, begins_at, is_flight, is_flight_at, is_listed, is_backed, listed, rest_of, put_down, taken_out, next_flight, fit, Stepped, stays, whole_at, is_live, if_live, is_dirty_time_over, is_lazy, joined, begins_either, found_passes, is_yes_or_no, look_at, kept_piece, other_piece, cut_at, after_cut, cut_stands, new_part, why_not, grow_unless, after_grow, grow_stands, commit_at, after_commit, commit_stands, is_like, is_right_of, is_left_of, neighbour, is_purged, put_at_rest, put_beside, put_at, join_at, apart_at, after_merge, merge_stands, both_merge, may_merge, Sound, Outcome, PutDown, Flying, NextFlies, kept_span, LookTook, LookNone, CutKept, CutWhole, GrowRefused, GrowBad, GrowGrown, CommitNoted, CommitWhole, PutRight, PutLeft, PutPurge, PutNext, MergeJoined, All-cons, All-nil, Bad, IsPlaced, Noted, Refused, Reply, flight, high_piece, is_in, low_piece, ltb-true, pages_end, replaced, sum_by}
+use Rattle.space_model.proofs.Words.{nat_tests, beq, is_power_of_two, ones_le_self, count_by, option_map, eqb-true, leb-true, sum_by-cons, Ask, Alloc, Commit, Split, Merge, Answer, Done, Refuses, Placed, Heard, Op, Look, CutDone, GrowDone, CommitDone, PutLook, MergeDone, NoArena, Whole, Purge, Why, Part, Rest, Span, State, Dirty, Space, end_of, run_start, holds_run, exchanged, begins_at, is_flight, is_flight_at, is_listed, is_backed, listed, rest_of, put_down, taken_out, next_flight, fit, Stepped, stays, whole_at, is_live, if_live, is_dirty_time_over, is_lazy, joined, begins_either, found_passes, is_yes_or_no, look_at, kept_piece, other_piece, cut_at, after_cut, cut_stands, new_part, why_not, grow_unless, after_grow, grow_stands, commit_at, after_commit, commit_stands, is_like, is_right_of, is_left_of, neighbour, is_purged, put_at_rest, put_beside, put_at, join_at, apart_at, after_merge, merge_stands, both_merge, may_merge, Sound, Outcome, PutDown, Flying, NextFlies, kept_span, LookTook, LookNone, CutKept, CutWhole, GrowRefused, GrowBad, GrowGrown, CommitNoted, CommitWhole, PutRight, PutLeft, PutPurge, PutNext, MergeJoined, All-cons, All-nil, Bad, IsPlaced, Noted, Refused, Reply, flight, high_piece, is_in, low_piece, ltb-true, pages_end, replaced, sum_by}
 use Rattle.std.proofs.Common.{◌≡◌, ℕ, ◌+◌, ◌-◌, ◌<◌, ◌≤◌, Bool, true, false, not, cond, List, ◌∷◌, ◌++◌, Option, Some, None, refl, sym, ◌∙◌, ap, subst, arith, filter, find, ◌==◌, append_assoc, count_ones}
 use Rattle.space_model.proofs.Lists.{false_true, find_passes, ones}
 use Rattle.space_model.proofs.Pieces.{both_true, not_both, put_down-nobody, Listed, fit-listed, cut_shares, found_fits, Piece-down, Piece-low, Piece-high, Piece-joined, two_left, joined_share, fit_best, neighbour_side}
@@ -58,11 +58,7 @@ next_flies c t =
   where
     none_fly : (parts : List Part) → find (λ q. is_flight c q.state) parts ≡ None → count_by (λ q. is_flight c q.state) parts ≡ 0
     none_fly [] e = refl
-    none_fly (p ∷ ps) e =
-        elim (is_flight c p.state) as (λ b. cond b (Some p) (find (λ q. is_flight c q.state) ps) ≡ None → ones (is_flight c p.state) ≡ ones b → count_by (λ q. is_flight c q.state) (p ∷ ps) ≡ 0) [
-          | true ↦ λ k one. absurd (cc)
-          | false ↦ λ k one. omega (arith, one, sum_by-cons (λ q. ones (is_flight c q.state)) p ps, none_fly ps k)
-        ] e refl
+    none_fly (p ∷ ps) e = grind (arith, sum_by-cons (λ q. ones (is_flight c q.state)) p ps, none_fly ps)
 
 -- an extent whose hook refused is put down whole
 pub whole_goes : (c : ℕ) (s : Space) (op : Op) (span : Span) → Sound s → is_live s.life ≡ true → found_passes (λ _. true) (find (is_flight_at c span) s.parts) ≡ true →
@@ -106,8 +102,7 @@ two_does c s op reply span p down kept sound at lower upper pages flies same =
 
 -- the piece that is kept has the span of a cut
 kept_is : (keep_low : Bool) (left : ℕ) (p : Part) (span : Span) → p.span ≡ span → (kept_piece keep_low left p).span ≡ kept_span keep_low left span
-kept_is true left p span e = ap (kept_span true left) e
-kept_is false left p span e = ap (kept_span false left) e
+kept_is keep_low left p span e = grind arith
 
 kept_own : (c : ℕ) (keep_low : Bool) (left : ℕ) (p : Part) → is_flight c p.state ≡ true → (is_flight c (kept_piece keep_low left p).state ≡ true) × ((kept_piece keep_low left p).committed ≡ p.committed)
 kept_own c true left p own = (own, refl)
@@ -178,8 +173,7 @@ grow_goes c s heard found ask answer is sound live h = absurd (cc)
 
 -- what was found passes a test that all do
 pub any_found : (test : Part → Bool) (o : Option Part) → found_passes test o ≡ true → found_passes (λ _. true) o ≡ true
-any_found test None h = absurd (cc)
-any_found test (Some p) h = refl
+any_found test o h = grind arith
 
 pub commit_goes : (c : ℕ) (s : Space) (heard : Heard) (ask : Ask) (answer : Answer) → heard.ask ≡ ask → Sound s → is_live s.life ≡ true → commit_stands s c ask answer ≡ true →
     Goes c s (CommitDone heard) (after_commit s c ask answer)
@@ -209,24 +203,16 @@ neighbour-listed tries p parts other e =
 
 -- an extent that is listed where another one belongs belongs there too
 pub belongs : (r : Rest) (state : State) → is_listed r state ≡ true → rest_of state ≡ r
-belongs ToDirty Dirty h = refl
-belongs ToMuzzy Muzzy h = refl
-belongs ToRetained Retained h = refl
-belongs r state h = absurd (cc)
+belongs r state h = grind arith
 
 listed_itself : (r : Rest) → is_listed r (listed r) ≡ true
-listed_itself ToDirty = refl
-listed_itself ToMuzzy = refl
-listed_itself ToRetained = refl
+listed_itself r = grind arith
 
 same_committed : (a b : Bool) → beq a b ≡ true → a ≡ b
-same_committed true true h = refl
-same_committed false false h = refl
-same_committed a b h = absurd (cc)
+same_committed a b h = grind arith
 
 pub beq_itself : (a : Bool) → beq a a ≡ true
-beq_itself true = refl
-beq_itself false = refl
+beq_itself a = grind arith
 
 -- an extent and a neighbour that is like it may be merged, once that is taken out
 like_merges : (c : ℕ) (p other : Part) → is_like p other ≡ true → (may_merge p (taken_out c other) ≡ true) × (may_merge (taken_out c other) p ≡ true)
@@ -238,9 +224,7 @@ like_merges c p other h =
 
 -- the client's extent with a span doesn't begin elsewhere
 begins_else : (c : ℕ) (own : Span) (first : ℕ) → own.first ≢ first → (p : Part) → is_flight_at c own p ≡ true → begins_at first p ≡ false
-begins_else c own first differ p h =
-    let at : p.span.first ≡ own.first = eqb-true _ _ (both_true (p.span.first == own.first) _ (both_true (is_flight c p.state) _ h).1).0 in
-    elim (begins_at first p) as (λ b. begins_at first p ≡ b → b ≡ false) [ false ↦ λ e. refl | true ↦ λ e. absurd (differ (sym at ∙ eqb-true _ _ e)) ] refl
+begins_else c own first differ p h = grind (arith, nat_tests)
 
 -- A neighbour that is taken out leaves the extent where it was.
 record Neighboured (c : ℕ) (s : Space) (p other : Part) (own : Span) : Type 0 where
@@ -315,9 +299,7 @@ none_goes c s own tries p sound live found =
     ] refl
   where
     rest_backed : (rest : Rest) → is_listed rest Dirty ≡ true → IsTrue (is_backed rest)
-    rest_backed ToDirty h = refl
-    rest_backed ToMuzzy h = absurd (cc)
-    rest_backed ToRetained h = absurd (cc)
+    rest_backed rest h = grind arith
 
 pub put_goes : (c : ℕ) (s : Space) (own : Span) (tries : ℕ) → Sound s → is_live s.life ≡ true → found_passes (λ _. true) (find (is_flight_at c own) s.parts) ≡ true →
     Goes c s (PutLook own tries) (put_at s c tries (find (is_flight_at c own) s.parts))

@@ -1,6 +1,6 @@
 -- What the states of extents say, and the pieces that operations put in their place.
-use Rattle.std.proofs.Common.{◌≡◌, ℕ, ◌+◌, ◌<◌, ◌≢◌, Bool, true, false, IsTrue, List, [], ◌∷◌, Some, None, refl, subst, arith, find, filter, ◌&&◌, eqb, Option, ◌⊎◌, cond, ◌==◌, nat_lt, inl, inr, eqb-true, ltb-true}
-use Rattle.space_model.proofs.Words.{sum_by, sum_by-cons, nat_tests, Part, Rest, ToDirty, ToMuzzy, ToRetained, State, Active, Flight, Space, Region, IsPlaced, end_of, is_active, is_listed, is_flight, is_backed, rest_of, listed, taken_out, put_down, begins_at, fit, fit_of, is_best, is_candidate, low_piece, high_piece, joined, begins_either, neighbour, is_right_of, is_left_of, Sound, is_held_by, is_live}
+use Rattle.std.proofs.Common.{◌≡◌, ℕ, ◌+◌, ◌<◌, ◌≢◌, Bool, true, false, IsTrue, List, [], ◌∷◌, Some, None, refl, subst, arith, find, filter, ◌&&◌, eqb, ◌⊎◌, cond, ◌==◌, nat_lt, inl, inr, eqb-true, ltb-true}
+use Rattle.space_model.proofs.Words.{sum_by, sum_by-cons, nat_tests, Part, Rest, ToDirty, ToMuzzy, ToRetained, State, Space, Region, IsPlaced, end_of, is_active, is_listed, is_flight, is_backed, rest_of, listed, taken_out, put_down, begins_at, fit, fit_of, is_best, is_candidate, low_piece, high_piece, joined, begins_either, neighbour, is_right_of, is_left_of, Sound, is_held_by, is_live}
 use Rattle.space_model.proofs.Lists.{find_has, find_passes, sum_by-either, either_found, if_found}
 use Rattle.space_model.proofs.Exchange.{share}
 use Rattle.space_model.proofs.Changes.{Fits, Piece, one_left}
@@ -16,31 +16,25 @@ live_and s b h = both_true (is_live s.life) b h
 
 -- a listed extent isn't active
 pub listed-idle : (rest : Rest) (state : State) → is_listed rest state ≡ true → is_active state ≡ false
-listed-idle rest Active h = elim rest as (λ r. is_listed r Active ≡ true → is_active Active ≡ false) [ ToDirty ↦ λ e. absurd (cc) | ToMuzzy ↦ λ e. absurd (cc) | ToRetained ↦ λ e. absurd (cc) ] h
-listed-idle rest state h = refl
+listed-idle rest state h = grind arith
 
 -- an extent in flight isn't active
 pub flight-idle : (c : ℕ) (state : State) → is_flight c state ≡ true → is_active state ≡ false
-flight-idle c Active h = absurd (cc)
-flight-idle c state h = refl
+flight-idle c state h = grind arith
 
 -- an extent that is put down belongs where it belonged, and isn't active
 pub put_down-rest : (rest : Rest) → rest_of (listed rest) ≡ rest
-put_down-rest ToDirty = refl
-put_down-rest rest = refl
+put_down-rest rest = grind arith
 
 pub put_down-idle : (rest : Rest) → is_active (listed rest) ≡ false
-put_down-idle ToDirty = refl
-put_down-idle rest = refl
+put_down-idle rest = grind arith
 
 pub put_down-nobody : (d : ℕ) (rest : Rest) → is_flight d (listed rest) ≡ false
-put_down-nobody d ToDirty = refl
-put_down-nobody d rest = refl
+put_down-nobody d rest = grind arith
 
 -- a listed extent is nobody's flight
 pub listed-nobody : (d : ℕ) (rest : Rest) (state : State) → is_listed rest state ≡ true → is_flight d state ≡ false
-listed-nobody d rest (Flight c r) h = elim rest as (λ x. is_listed x (Flight c r) ≡ true → is_flight d (Flight c r) ≡ false) [ ToDirty ↦ λ e. absurd (cc) | ToMuzzy ↦ λ e. absurd (cc) | ToRetained ↦ λ e. absurd (cc) ] h
-listed-nobody d rest state h = refl
+listed-nobody d rest state h = grind arith
 
 -- two numbers that differ aren't both the same as a third
 pub different : (e c d : ℕ) → eqb e c ≡ true → d ≢ c → eqb e d ≡ false
@@ -52,21 +46,15 @@ not_both d c other = grind (arith, nat_tests)
 
 -- two clients that differ have no flight in common
 pub others-flight : (c d : ℕ) (state : State) → d ≢ c → is_flight c state ≡ true → is_flight d state ≡ false
-others-flight c d (Flight e r) other h = different e c d h other
-others-flight c d state other h = absurd (cc)
+others-flight c d state other h = grind (arith, nat_tests)
 
 -- an active extent is nobody's flight
 pub active_own : (d : ℕ) (state : State) → is_active state ≡ true → is_flight d state ≡ false
-active_own d Active h = refl
-active_own d state h = absurd (cc)
+active_own d state h = grind arith
 
 -- a region that one client holds isn't another one's
 pub held_by_one : (c d : ℕ) (r : Region) → d ≢ c → is_held_by c r ≡ true → is_held_by d r ≡ false
-held_by_one c d r other h = apart r.holder h
-  where
-    apart : (holder : Option ℕ) → is_held_by c (record r { holder = holder }) ≡ true → is_held_by d (record r { holder = holder }) ≡ false
-    apart None h = refl
-    apart (Some e) h = different e c d h other
+held_by_one c d r other h = grind (arith, nat_tests)
 
 -- what a fit found: a listed extent, by some test
 pub record Listed (parts : List Part) (p : Part) : Type 0 where

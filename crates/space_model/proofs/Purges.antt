@@ -1,6 +1,6 @@
 -- What the operations of a purge do and tell: an extent is taken out by age, changes its list or its commit state, is offered, or comes back.
 use Rattle.std.proofs.Common.{true, false, ◌≡◌, ◌≢◌, ℕ, ◌+◌, ◌≤◌, Bool, not, cond, IsTrue, List, ◌∷◌, ◌++◌, Option, Some, None, refl, sym, ◌∙◌, ap, subst, arith, All, filter, find, suc, take, drop, ◌&&◌, ◌||◌, ◌==◌, ltb as nat_lt, append-nil, []}
-use Rattle.space_model.proofs.Words.{Any-from_list_any, list_any, position_or_len, is_some, eqb-true, All-cons, All-nil, All-append, All-head, All-tail, All-take, All-drop, filter-append, Ask, Dalloc, Decommit, PurgeLazy, Answer, Done, Refuses, Heard, Op, PurgeTake, LazyDone, Offer, OfferDone, DecommitDone, Reply, Noted, Nothing, Kept, Abandoned, Offered, Part, Rest, ToDirty, ToMuzzy, ToRetained, Span, Flight as InFlight, Space, IsPlaced, has_page, meets, same_span, holders, is_listed, is_flight_at, is_backed, listed, rest_of, next_flight, pages_listed, stays, replaced, is_live, found_passes, purge_at, after_purge_take, lazy_at, after_lazy, lazy_stands, offer_of, offer_at, is_offer, without_offer, is_regranted, after_offer, offer_stands, decommit_at, after_decommit, decommit_stands, granted_by, is_in_dalloc, flight, lost, won, Sound, DecommitDid, Flying, ForcedDone, ForcedNoted, LazyDid, OfferAbandoned, OfferKept, OfferNext, OfferNoted, PurgeForced, PurgeNoArena, PurgeNothing, PurgeTaken, forced_stands, is_flight, is_in, is_purgeable, is_yes_or_no, list_any-append, taken_out}
+use Rattle.space_model.proofs.Words.{Any-from_list_any, list_any, position_or_len, is_some, All-cons, All-nil, All-append, All-take, All-drop, filter-append, Ask, Dalloc, Decommit, PurgeLazy, Answer, Done, Refuses, Heard, Op, PurgeTake, LazyDone, Offer, OfferDone, DecommitDone, Reply, Noted, Nothing, Kept, Abandoned, Offered, Part, Rest, ToDirty, ToMuzzy, ToRetained, Span, Flight as InFlight, Space, IsPlaced, has_page, meets, same_span, holders, is_listed, is_flight_at, is_backed, listed, rest_of, next_flight, pages_listed, stays, replaced, is_live, found_passes, purge_at, after_purge_take, lazy_at, after_lazy, lazy_stands, offer_of, offer_at, is_offer, without_offer, is_regranted, after_offer, offer_stands, decommit_at, after_decommit, decommit_stands, granted_by, is_in_dalloc, flight, lost, won, Sound, DecommitDid, Flying, ForcedDone, ForcedNoted, LazyDid, OfferAbandoned, OfferKept, OfferNext, OfferNoted, PurgeForced, PurgeNoArena, PurgeNothing, PurgeTaken, forced_stands, is_flight, is_in, is_purgeable, is_yes_or_no, list_any-append, taken_out}
 use Rattle.space_model.proofs.Lists.{false_true, find_passes, ones, without_first, or_false}
 use Rattle.space_model.proofs.Exchange.{share}
 use Rattle.space_model.proofs.Growth.{nobody_holds}
@@ -24,9 +24,7 @@ purge_at_goes c s rest keep (Some p) e sound live h =
     (λ after. PurgeTaken p.span _ _ (subst (λ (b : Bool). Flying c (purge_at s c rest (Some p)).after p.span b) committed (put_flies c s p (taken_out c p) after (itself c))))
   where
     purge_backed : (r : Rest) → is_purgeable r ≡ true → IsTrue (is_backed r)
-    purge_backed ToDirty k = refl
-    purge_backed ToMuzzy k = refl
-    purge_backed ToRetained k = absurd (cc)
+    purge_backed r k = grind arith
 
 pub purge_take_goes : (c : ℕ) (s : Space) (rest : Rest) (keep : ℕ) → Sound s → is_purgeable rest ≡ true → Goes c s (PurgeTake rest keep) (after_purge_take s c rest keep)
 purge_take_goes c s rest keep sound h =
@@ -49,15 +47,11 @@ turned_flight c s op reply span p q sound at fits same flies plain lose win =
 
 -- a dirty extent is committed
 dirty_backed : (rest : Rest) → is_listed ToDirty (listed rest) ≡ true → IsTrue (is_backed rest)
-dirty_backed ToDirty h = refl
-dirty_backed ToMuzzy h = absurd (cc)
-dirty_backed ToRetained h = absurd (cc)
+dirty_backed rest h = grind arith
 
 -- and what belongs to the retained ones need not be
 retained_free : (rest : Rest) → is_listed ToRetained (listed rest) ≡ true → is_backed rest ≡ false
-retained_free ToDirty h = absurd (cc)
-retained_free ToMuzzy h = absurd (cc)
-retained_free ToRetained h = refl
+retained_free rest h = grind arith
 
 -- so is one in flight that belongs there
 dirty_committed : (c : ℕ) (s : Space) (span : Span) (p : Part) → Sound s → find (is_flight_at c span) s.parts ≡ Some p → is_listed ToDirty (listed (rest_of p.state)) ≡ true → p.committed ≡ true
@@ -182,8 +176,7 @@ kept_does c s heard found span committed is sound live placed fresh =
     let t : Space = record s { parts = s.parts ++ p ∷ []; offers = without_offer c span committed s.offers } in
     let free : list_any (λ q. meets q.span span) s.parts ≡ false = or_false (is_some found) _ fresh in
     let most : (page : ℕ) → holders page s.parts + share page p ≤ 1 =
-    λ page. elim (has_page page span) as (λ b. has_page page span ≡ b → holders page s.parts + ones b ≤ 1)
-    [ false ↦ λ h. omega (arith, sound.owners page) | true ↦ λ h. omega (arith, nobody_holds page span s.parts free h) ] refl in
+    λ page. grind (arith, sound.owners page, nobody_holds page span s.parts free) in
     let flies : flight c p ≡ 1 = ap ones (itself c) in
     come_does c s t (OfferDone heard found) Kept p sound refl refl
     (record { idle = refl; fits = record { placed = placed; backed = λ h. absurd (false_true h) }; own = λ d other. not_both d c other }) most

@@ -1,11 +1,11 @@
 -- What the operations of a resize do: they look for pages behind a large region, join them to it, or cut some off.
 use Rattle.std.proofs.Common.{true, false, ◌≡◌, ◌≢◌, ℕ, ◌+◌, ◌-◌, ◌<◌, ◌≤◌, Bool, not, cond, List, ◌∷◌, get_or, Option, Some, None, refl, sym, ◌∙◌, ap, subst, arith, All, find, filter, ◌&&◌, ◌==◌, leb as nat_le, ltb as nat_lt, [], ◌++◌, append_assoc}
-use Rattle.space_model.proofs.Words.{sum_by, count_by, position_or_len, option_map, option_and_then, eqb-true, leb-true, ltb-true, sum_by-cons, All-weaker, All-cons, All-nil, pages_at, size_bounds, large_size, Ask, Merge, Split, Answer, Done, Refuses, Heard, Widen, JoinDone, TrimDone, Noted, Nothing, Whole, Part, Region, Span, State, Active, Flight as InFlight, Space, IsPlaced, end_of, has_page, same_span, holders, exchanged, begins_at, is_active, is_flight, is_flight_at, taken_out, is_listed, is_unused, rest_of, address_of, houses, homes, residents, is_held_by, starts_at, is_in, without_client, stays, is_live, is_yes_or_no, found_passes, low_piece, high_piece, joined, begins_either, flight, is_large_at, with_home, large_home, reclassed, is_spare, is_open, widen_by, widen_at, is_large_class, has_large, widened_at, after_join, join_stands, trimmed_at, after_trim_done, trim_done_stands, Sound, IsQuiet, JoinLanded, JoinWhole, TrimCut, TrimWhole, WidenNoted, WidenNothing, WidenTook, inserted, sum_by-insert}
+use Rattle.space_model.proofs.Words.{nat_tests, sum_by, count_by, position_or_len, option_map, option_and_then, eqb-true, leb-true, ltb-true, sum_by-cons, All-weaker, All-cons, All-nil, pages_at, size_bounds, large_size, Ask, Merge, Split, Answer, Done, Refuses, Heard, Widen, JoinDone, TrimDone, Noted, Nothing, Whole, Part, Region, Span, State, Active, Flight as InFlight, Space, IsPlaced, end_of, has_page, same_span, holders, exchanged, begins_at, is_active, is_flight, is_flight_at, taken_out, is_listed, is_unused, rest_of, address_of, houses, homes, residents, is_held_by, starts_at, is_in, without_client, stays, is_live, is_yes_or_no, found_passes, low_piece, high_piece, joined, begins_either, flight, is_large_at, with_home, large_home, reclassed, is_spare, is_open, widen_by, widen_at, is_large_class, has_large, widened_at, after_join, join_stands, trimmed_at, after_trim_done, trim_done_stands, Sound, IsQuiet, JoinLanded, JoinWhole, TrimCut, TrimWhole, WidenNoted, WidenNothing, WidenTook, inserted, sum_by-insert}
 use Rattle.space_model.proofs.Lists.{all_sum_le, find_has, find_passes, ones, only_one, sum_nothing, counted_any}
 use Rattle.space_model.proofs.Exchange.{share}
 use Rattle.space_model.proofs.Mixes.{Mix, mix_sum, mix_first, mix_filter, mixed_first, mixed_filter, mixed_append, mixed_insert}
 use Rattle.space_model.proofs.Ordered.{Ordered, ordered-filter, ordered-inserted}
-use Rattle.space_model.proofs.Settled.{Settled, Used, LargeAt, serves, serves_by, covered, covers_start, idle_settled, both_settled}
+use Rattle.space_model.proofs.Settled.{Settled, Used, LargeAt, serves, serves_by, covered, idle_settled, both_settled}
 use Rattle.space_model.proofs.Changes.{Does, IsLawful, Frame, Fits, Piece, pieces_home, pieces_own, one_left, lawful_sums, kept_frame, live_quiet, sound_ranges}
 use Rattle.space_model.proofs.Pieces.{both_true, Listed, found_fits, two_left, joined_share, cut_shares, Fits-joined, Fits-low, Fits-high, Piece-taken, active_own, held_by_one}
 use Rattle.space_model.proofs.Landing.{eqb_itself, ones_most, one_settled}
@@ -18,9 +18,7 @@ use Rattle.space_model.proofs.Settings.{client_does, without_others}
 
 -- an unused extent is listed where it belongs
 unused_listed : (state : State) → is_unused state ≡ true → is_listed (rest_of state) state ≡ true
-unused_listed Active h = absurd (cc)
-unused_listed (InFlight e rest) h = absurd (cc)
-unused_listed state h = refl
+unused_listed state h = grind arith
 
 spare_listed : (page pages : ℕ) (parts : List Part) (p : Part) → find (is_spare page pages) parts ≡ Some p → Listed parts p
 spare_listed page pages parts p e =
@@ -48,13 +46,7 @@ widen_goes c s addr pages (Some home) sound live =
 
 -- a region has a share in the byte at its address
 starts-covered : (addr : ℕ) (r : Region) → r.class < 121 → ones (starts_at addr r) ≤ covered addr r
-starts-covered addr r class =
-    elim (starts_at addr r) as (λ b. starts_at addr r ≡ b → ones b ≤ covered addr r) [
-      | false ↦ λ h. omega arith
-      | true ↦ λ h. let same : r.addr ≡ addr = eqb-true r.addr addr h in
-          let has : covered r.addr r ≡ 1 = ap ones (covers_start r (size_bounds r.class class).0) in
-          subst (λ a. 1 ≤ covered a r) same (omega (arith, has))
-    ] refl
+starts-covered addr r class = let some = (size_bounds r.class class).0 in grind (arith, nat_tests, some)
 
 -- a region that is found is the only one at its address
 one_region : (s : Space) (test : Region → Bool) (r : Region) → Sound s → find test s.regions ≡ Some r → filter (starts_at r.addr) s.regions ≡ r ∷ []
@@ -168,16 +160,10 @@ pub record Home (c : ℕ) (s : Space) (addr : ℕ) (home : Region × Part) : Typ
 
 pub home_found : (c : ℕ) (s : Space) (addr : ℕ) (home : Region × Part) → large_home s c addr ≡ Some home → Home c s addr home
 home_found c s addr home e =
-    elim (find (is_large_at c addr) s.regions) as (λ o. find (is_large_at c addr) s.regions ≡ o → option_and_then (with_home s.parts) o ≡ Some home → Home c s addr home) [
-      | None ↦ λ f k. absurd (cc)
-      | Some r ↦ λ f k. elim (find (λ p. houses p r) s.parts) as (λ o. find (λ p. houses p r) s.parts ≡ o → option_map (λ p. (r, p)) o ≡ Some home → Home c s addr home) [
-        | None ↦ λ g l. absurd (cc)
-        | Some p ↦ λ g l.
-            let same : (r, p) ≡ home = cc in
-            let passes = both_true (is_held_by c r && starts_at addr r) _ (find_passes (is_large_at c addr) s.regions r f) in
-            subst (Home c s addr) same (record { region = f; house = g; held = (both_true (is_held_by c r) _ passes.0).0; large = leb-true _ _ passes.1 })
-      ] refl k
-    ] refl e
+    let region : find (is_large_at c addr) s.regions ≡ Some home.0 = grind arith in
+    let house : find (λ p. houses p home.0) s.parts ≡ Some home.1 = grind arith in
+    let passes = both_true (is_held_by c home.0 && starts_at addr home.0) _ (find_passes (is_large_at c addr) s.regions home.0 region) in
+    record { region = region; house = house; held = (both_true (is_held_by c home.0) _ passes.0).0; large = leb-true _ _ passes.1 }
 
 -- the extent of the region passes a test that was made of it
 large_passes : (c : ℕ) (s : Space) (addr : ℕ) (test : Part → Bool) (home : Region × Part) → large_home s c addr ≡ Some home → has_large s c addr test ≡ true → test home.1 ≡ true

@@ -1,6 +1,6 @@
 -- Lists of clients: that each is in them once, and how many there may be.
-use Rattle.std.proofs.Common.{◌≢◌, ◌==◌, ◌≡◌, ℕ, zero, suc, ◌+◌, ◌<◌, ◌≤◌, Bool, true, false, cond, ◌||◌, List, [], ◌∷◌, ◌++◌, filter, length, nat_eq, refl, sym, ◌∙◌, arith, length-append}
-use Rattle.space_model.proofs.Words.{list_any, range_with_len, eqb-true, nat_tests, list_any-append, length-le_from_distinct_below, is_in, IsRoster, AllPairs-filter, all_pairs_push}
+use Rattle.std.proofs.Common.{◌≢◌, ◌==◌, ◌≡◌, ℕ, zero, suc, ◌+◌, ◌<◌, ◌≤◌, Bool, true, false, cond, List, [], ◌∷◌, ◌++◌, filter, length, nat_eq, refl, arith, length-append}
+use Rattle.space_model.proofs.Words.{list_any, range_with_len, nat_tests, list_any-append, length-le_from_distinct_below, is_in, IsRoster, AllPairs-filter, all_pairs_push}
 use Rattle.space_model.proofs.Lists.{counted_any, any_counts, none_passes}
 use Rattle.space_model.proofs.Mixes.{mix_sum, mixed_filter}
 use Rattle.std.specs.List.{IsDistinct}
@@ -28,14 +28,7 @@ IsRoster-filter test xs h = record {
 
 -- a member of a list with one more is one of the list or that one
 member-push : (d c : ℕ) (xs : List ℕ) → ((e : ℕ) → list_any (nat_eq e) xs ≡ true → e < 32) → c < 32 → list_any (nat_eq d) (xs ++ c ∷ []) ≡ true → d < 32
-member-push d c xs below fits h =
-    elim (list_any (nat_eq d) xs) as (λ b. list_any (nat_eq d) xs ≡ b → (b || (nat_eq d c || false)) ≡ true → d < 32) [
-      | true ↦ λ k e. below d k
-      | false ↦ λ k e. elim (nat_eq d c) as (λ b. nat_eq d c ≡ b → (b || false) ≡ true → d < 32) [
-        | true ↦ λ same e. let at : d ≡ c = eqb-true d c same in omega arith
-        | false ↦ λ same e. cc
-      ] refl e
-    ] refl (sym (list_any-append (nat_eq d) xs (c ∷ [])) ∙ h)
+member-push d c xs below fits h = grind (arith, nat_tests, list_any-append (nat_eq d) xs (c ∷ []), below d)
 
 pub IsRoster-push : (c : ℕ) (xs : List ℕ) → IsRoster xs → c < 32 → is_in c xs ≡ false → IsRoster (xs ++ c ∷ [])
 IsRoster-push c xs h fits new = record {

@@ -1,10 +1,10 @@
 -- What settings, moments and trims do: nothing to extents and regions.
-use Rattle.std.proofs.Common.{◌∙◌, true, false, ◌≡◌, ◌≢◌, ℕ, ◌+◌, ◌<◌, ◌≤◌, not, cond, List, ◌∷◌, ◌++◌, refl, sym, ap, subst, arith, ℤ, pos, negsuc, ◌≤ℤ◌, All, AllPairs, rules, Some, None, ◌*◌, ◌/◌, ◌-◌, ◌&&◌, ◌||◌, ◌==◌, ltb as nat_lt, leb as nat_le, []}
+use Rattle.std.proofs.Common.{true, false, ◌≡◌, ◌≢◌, ℕ, ◌+◌, ◌<◌, ◌≤◌, cond, List, ◌∷◌, ◌++◌, refl, sym, ap, subst, arith, ℤ, pos, negsuc, ◌≤ℤ◌, All, AllPairs, rules, Some, None, ◌*◌, ◌/◌, ◌-◌, ◌&&◌, ◌||◌, ◌==◌, ltb as nat_lt, leb as nat_le, []}
 use Rattle.space_model.proofs.Words.{list_any, eqb-true, ltb-true, leb-true, nat_tests, All-weaker, All-push, all_pairs_push, Op, Set, Trim, Advance, Reply, Noted, Nothing, Setting, DirtyMs, MuzzyMs, HookBox, Bind, Unbind, GrowLimit, MakeLive, ToDirty, ToMuzzy, Added, Pace, Life, Live, Absent, Dying, Space, pages_end, pages_listed, with_new, passed, passed_if_any, advanced_in, advance_all, after_advance, new_pace, is_dying, stays, is_live, is_in, with_client, without_client, is_absent, made_live, after_set, is_decay_time, setting_stands, after_trim, Sound, IsPaced, lost, won, AdvanceLimits, AdvanceNoArena, SetNoArena, SetNoted, SetNothing, TrimNoted, list_any-append, with_setting}
 use Rattle.space_model.proofs.Sums.{listed_fit_space}
 use Rattle.space_model.proofs.Changes.{Does, Plain, Ranges, frame_does, range_frame, sound_ranges, live_quiet, kept_frame}
-use Rattle.space_model.proofs.Pieces.{both_true, different, not_both}
-use Rattle.space_model.proofs.Moves.{live_is, itself}
+use Rattle.space_model.proofs.Pieces.{both_true, not_both}
+use Rattle.space_model.proofs.Moves.{live_is}
 use Rattle.space_model.proofs.Outcomes.{Goes, goes, still_goes, live_goes}
 
 -- a new pace of a decay time is in range
@@ -35,19 +35,12 @@ list_any-push d c [] apart = rw apart refl
 list_any-push d c (b ∷ bs) apart = ap (λ x. (b == d) || x) (list_any-push d c bs apart)
 
 with_others : (d c : ℕ) (clients : List ℕ) → d ≢ c → list_any (λ b. b == d) (with_client c clients) ≡ list_any (λ b. b == d) clients
-with_others d c clients other =
-    elim (is_in c clients) as (λ x. list_any (λ b. b == d) (cond x clients (clients ++ c ∷ [])) ≡ list_any (λ b. b == d) clients)
-    [ true ↦ refl | false ↦ list_any-push d c clients (not_both d c other) ]
+with_others d c clients other = grind (arith, list_any-push d c clients (not_both d c other))
 
 -- nor does one fewer
 pub without_others : (d c : ℕ) (clients : List ℕ) → d ≢ c → list_any (λ b. b == d) (without_client c clients) ≡ list_any (λ b. b == d) clients
 without_others d c [] other = refl
-without_others d c (b ∷ bs) other =
-    let rest = without_others d c bs other in
-    elim (b == c) as (λ x. (b == c) ≡ x → list_any (λ e. e == d) (cond (not x) (b ∷ without_client c bs) (without_client c bs)) ≡ list_any (λ e. e == d) (b ∷ bs)) [
-      | true ↦ λ h. rw (different b c d h other) rest
-      | false ↦ λ h. ap (λ x. (b == d) || x) rest
-    ] refl
+without_others d c (b ∷ bs) other = grind (arith, nat_tests, without_others d c bs other)
 
 -- ---- Set and Trim
 
@@ -102,9 +95,7 @@ made_live_goes c s box_no dirty_ms muzzy_ms now sound h =
     ] refl
   where
     absent_undying : (d : ℕ) (life : Life) → is_absent life ≡ true → is_dying d life ≡ false
-    absent_undying d Absent e = refl
-    absent_undying d Live e = absurd (cc)
-    absent_undying d (Dying x) e = absurd (cc)
+    absent_undying d life e = grind arith
 
 change_does : (c : ℕ) (s : Space) (setting : Setting) → Sound s → is_live s.life ≡ true → setting_stands setting ≡ true → Does c s (Set setting) (stays (with_setting s c setting) Noted)
 change_does c s (DirtyMs ms now) sound live h =
@@ -127,11 +118,7 @@ set_goes c s setting sound h =
 
 -- the client is in the list once it is put there
 with_client-there : (c : ℕ) (clients : List ℕ) → is_in c (with_client c clients) ≡ true
-with_client-there c clients =
-    elim (is_in c clients) as (λ b. is_in c clients ≡ b → is_in c (cond b clients (clients ++ c ∷ [])) ≡ true) [
-      | true ↦ λ h. h
-      | false ↦ λ h. list_any-append (λ b. b == c) clients (c ∷ []) ∙ rw (h, itself c) refl
-    ] refl
+with_client-there c clients = grind (arith, nat_tests, list_any-append (λ b. b == c) clients (c ∷ []))
 
 pub trim_goes : (c : ℕ) (s : Space) (addr class : ℕ) → Sound s → is_live s.life ≡ true → Goes c s (Trim addr class) (after_trim s c)
 trim_goes c s addr class sound live =

@@ -35,9 +35,7 @@ idle-serves p r idle = ap ones (idle-houses p r idle)
 
 -- an extent that serves a region has the page of each byte of it
 pub serves-le-share : (byte : ℕ) (r : Region) (p : Part) → covers byte r ≡ true → serves r p ≤ share (byte / 4096) p
-serves-le-share byte r p has =
-    elim (houses p r) as (λ b. houses p r ≡ b → cond b 1 0 ≤ share (byte / 4096) p)
-    [ false ↦ λ h. omega arith | true ↦ λ h. grind (arith, nat_tests) ] refl
+serves-le-share byte r p has = grind (arith, nat_tests)
 
 -- so do all extents together
 pub homes-le-holders : (byte : ℕ) (r : Region) (parts : List Part) → covers byte r ≡ true → homes r parts ≤ holders (byte / 4096) parts

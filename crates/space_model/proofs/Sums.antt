@@ -1,6 +1,6 @@
 -- Sums of bytes: how those of the states add up, and that none is more than the space.
-use Rattle.std.proofs.Common.{◌-◌, inl, inr, ◌<◌, ◌≡◌, ℕ, ◌+◌, ◌*◌, ◌^◌, ◌≤◌, Bool, true, false, cond, List, [], ◌∷◌, refl, sym, ◌∙◌, arith, All}
-use Rattle.space_model.proofs.Words.{sum_by, sum_by-cons, sum_by-le-sum_by, All-weaker, All-head, All-tail, All-cons, cases_lt, nat_tests, size_at, Part, Region, Rest, ToDirty, ToMuzzy, ToRetained, State, Active, Retained, Space, IsPlaced, pages_end, holders, is_active, is_listed, pages_listed, houses, homes, Sound, is_in_flight, bytes_of, bytes_where, region_bytes, region_bytes_where, is_mapped, BytesFitSpace}
+use Rattle.std.proofs.Common.{◌-◌, inl, inr, ◌<◌, ◌≡◌, ℕ, ◌+◌, ◌*◌, ◌^◌, ◌≤◌, Bool, true, false, cond, List, [], ◌∷◌, refl, arith, All}
+use Rattle.space_model.proofs.Words.{sum_by, sum_by-cons, sum_by-le-sum_by, All-weaker, All-head, All-tail, All-cons, cases_lt, nat_tests, size_at, Part, Region, Rest, ToDirty, ToMuzzy, ToRetained, State, Active, Retained, Space, IsPlaced, pages_end, holders, is_active, is_listed, pages_listed, homes, Sound, is_in_flight, bytes_of, bytes_where, region_bytes, region_bytes_where, is_mapped, BytesFitSpace}
 use Rattle.space_model.proofs.Lists.{nothing_sum}
 use Rattle.space_model.proofs.Exchange.{share}
 use Rattle.space_model.proofs.Intervals.{lengths-le}
@@ -68,11 +68,7 @@ below = record { span = record { first = 0; pages = 512 }; state = Retained; com
 -- no page of it is in an extent
 below_apart : (page : ℕ) (parts : List Part) → All (λ p. IsPlaced p.span) parts → holders page parts ≤ 1 → holders page (below ∷ parts) ≤ 1
 unfolding below
-below_apart page parts placed most =
-    elim (cases_lt page 512) [
-      | inl low ↦ let most : share page below ≤ 1 = grind (arith, nat_tests) in omega (arith, sum_by-cons (share page) below parts, none_below page parts low placed)
-      | inr high ↦ let nothing : share page below ≡ 0 = grind (arith, nat_tests) in omega (arith, sum_by-cons (share page) below parts)
-    ]
+below_apart page parts placed most = grind (arith, nat_tests, sum_by-cons (share page) below parts, λ (low : page < 512). none_below page parts low placed)
 
 -- the extents have at most the pages of the space
 pub pages_fit_space : (s : Space) → Sound s → sum_by (λ p. p.span.pages) s.parts ≤ pages_end - 512
@@ -109,10 +105,7 @@ bytes_where_fits test s sound =
 region_end : (r : Region) (parts : List Part) → All (λ p. IsPlaced p.span) parts → homes r parts ≡ 1 → r.addr + size_at r.class ≤ 4096 * pages_end
 region_end r [] placed home = absurd (omega arith)
 region_end r (p ∷ ps) placed home =
-    elim (houses p r) as (λ b. houses p r ≡ b → cond b 1 0 + homes r ps ≡ 1 → r.addr + size_at r.class ≤ 4096 * pages_end) [
-      | true ↦ λ h k. let here : IsPlaced p.span = All-head (λ p. IsPlaced p.span) p ps placed in grind (arith, nat_tests)
-      | false ↦ λ h k. region_end r ps (All-tail (λ p. IsPlaced p.span) p ps placed) (omega arith)
-    ] refl (sym (sum_by-cons (serves r) p ps) ∙ home)
+    grind (arith, nat_tests, sum_by-cons (serves r) p ps, All-head (λ p. IsPlaced p.span) p ps placed, region_end r ps (All-tail (λ p. IsPlaced p.span) p ps placed))
 
 -- the regions have at most all bytes
 pub region_bytes_fits : (s : Space) → Sound s → region_bytes s.regions ≤ 2 ^ 41

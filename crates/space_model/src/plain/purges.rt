@@ -78,8 +78,8 @@ pub fn lazy_stands(space: &Space, client: u32, heard: Heard) -> bool
     let Ask::PurgeLazy(span) = heard.ask else {
         return false;
     };
-    is_yes_or_no(heard.answer)
-        && matches!(flight(space.parts.as_slice(), client, span), Some(part) if belongs(Rest::Dirty, &part))
+    let found = flight(space.parts.as_slice(), client, span);
+    is_yes_or_no(heard.answer) && matches!(found, Some(part) if belongs(Rest::Dirty, &part))
 }
 
 /// Takes in the answer to a lazy purge.
@@ -207,8 +207,9 @@ pub fn decommit_stands(space: &Space, client: u32, heard: Heard) -> bool
     let Ask::Decommit(span) = heard.ask else {
         return false;
     };
+    let found = flight(space.parts.as_slice(), client, span);
     is_yes_or_no(heard.answer)
-        && matches!(flight(space.parts.as_slice(), client, span), Some(part) if part.committed && belongs(Rest::Retained, &part))
+        && matches!(found, Some(part) if part.committed && belongs(Rest::Retained, &part))
 }
 
 /// Takes in the answer to a decommit.

@@ -82,7 +82,8 @@ fn reclassed(region: Region, class: u8, regions: &Regions) -> Result<Vec<Region>
 pub fn widen_stands(space: &Space, client: u32, addr: u64, pages: u64) -> bool
     ensures { result ≡ widen_stands space.now client addr pages }
 {
-    matches!(large_home(space, client, u128::from(addr)), Some((_, part)) if part.span.pages < pages)
+    let home = large_home(space, client, u128::from(addr));
+    matches!(home, Some((_, part)) if part.span.pages < pages)
 }
 
 /// The extent that is unused, begins at the page and has so many pages.
@@ -206,9 +207,10 @@ pub fn join_done(space: &mut Space, client: u32, heard: Heard, class: u8) -> Rep
 pub fn trim_stands(space: &Space, client: u32, addr: u64, class: u8) -> bool
     ensures { result ≡ trim_stands space.now client addr class }
 {
+    let home = large_home(space, client, u128::from(addr));
     is_large_class(class)
         && !space.trims.contains(client)
-        && matches!(large_home(space, client, u128::from(addr)), Some((_, part)) if class_pages(class) < part.span.pages)
+        && matches!(home, Some((_, part)) if class_pages(class) < part.span.pages)
 }
 
 /// The client begins to shrink a large region.
