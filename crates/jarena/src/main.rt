@@ -11,12 +11,12 @@ mod words;
 use addr_space::{AddrSpace, SharedSpace};
 use edge_io::{ReadEdge, WriteEdge};
 use hook_api::{ExtentHooks, HookShelf};
-use runs::{Outcome, run};
+use runs::run;
 use status::NO_MEMORY;
 use std::alloc::{AllocError as NoMemory, Global};
 use std::env;
 use std::io::{BufWriter, ErrorKind};
-use std::process::{Abort, ExitCode};
+use std::process::ExitCode;
 use std::sync::Wait;
 
 /// How many boxes of hooks a shelf has.
@@ -44,13 +44,10 @@ fn sharing_shelf<R: Wait + Clone + Send + Drop>(
     Ok(HookShelf::new(boxes))
 }
 
-/// Runs the program on standard input and standard output.
+/// Runs the program on standard input and standard output, and gives its status.
 ///
 /// What is written waits in a buffer until the run flushes it.
-fn run_on_streams<H: ExtentHooks>(
-    rt: &HostRuntime,
-    shelf: HookShelf<H>,
-) -> Result<Outcome<H>, NoMemory> {
+fn run_on_streams<H: ExtentHooks>(rt: &HostRuntime, shelf: HookShelf<H>) -> Result<u8, NoMemory> {
     let alloc = rt.alloc();
     let words = given_words(rt)?;
     let mut source = ReadEdge::new(rt.stdin());
@@ -58,24 +55,18 @@ fn run_on_streams<H: ExtentHooks>(
         return Err(NoMemory);
     };
     let mut sink = WriteEdge::new(output);
-    Ok(run(alloc, &words, &mut source, &mut sink, shelf))
+    Ok(run(alloc, &words, &mut source, &mut sink, shelf).status)
 }
 
 /// Runs the program over boxes that share one space.
 fn run_sharing<R: Wait + Clone + Send + Drop>(
     rt: &HostRuntime,
     waiting: &R,
-) -> Result<Outcome<SharedSpace<R>>, NoMemory> {
+) -> Result<u8, NoMemory> {
     let shelf = sharing_shelf(waiting.clone()?, rt.alloc())?;
     run_on_streams(rt, shelf)
 }
 
-/// Ends with the status of a run, without dropping what it left: that takes a twentieth of the time of a long one.
 fn main(rt: HostRuntime) -> ExitCode {
-    let outcome = run_sharing(&rt, &rt);
-    let status = match &outcome {
-        Ok(outcome) => outcome.status,
-        Err(_) => NO_MEMORY,
-    };
-    rt.exit(i32::from(status))
+    ExitCode::from(run_sharing(&rt, &rt).unwrap_or(NO_MEMORY))
 }
