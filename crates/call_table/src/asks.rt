@@ -1,10 +1,11 @@
 //! The asks of a call, and where the reply to the turn leads that takes an answer in.
 
-ghost use Rattle.std.specs.Prelude.{◌≡◌, ◌≤◌, ◌*◌, ◌^◌, max};
+ghost use Rattle.std.specs.Prelude.{◌≡◌, ◌≤◌, ◌*◌, ◌^◌, max, None};
 ghost use Rattle.call_table.specs.Table.{alloc_of, answered_span, ask_of, committed, done_of, granted, grown, needed, skipped, told, trimmed, whole_chunks};
 ghost use Rattle.call_table.specs.Points.{IsSized};
+ghost use Rattle.call_table.specs.Stages.{led};
 
-use crate::{Answered, AskPoint, Next, TurnPoint, Wish};
+use crate::{Answered, AskPoint, Lead, TurnPoint, Wish};
 use hook_api::Asked;
 use space_model::{Answer, Ask, CHUNK_PAGES, Op, Reply, Span};
 
@@ -40,35 +41,35 @@ impl Wish {
     }
 
     /// After the split of what stands before the run.
-    fn skipped(self, committed: bool, reply: &Reply) -> Next
-        ensures { result ≡ skipped self committed reply.now }
+    fn skipped(self, committed: bool, reply: &Reply) -> Lead
+        ensures { led result None ≡ skipped self committed reply.now }
     {
         match *reply {
             Reply::Cut(high) => self.trim(high, committed),
             Reply::Whole => self.need_chunks(),
-            _ => Next::Nowhere,
+            _ => Lead::Nowhere,
         }
     }
 
     /// After the split of what stands behind the run, or of a grant of more chunks than are needed.
-    fn trimmed(self, committed: bool, reply: &Reply) -> Next
-        ensures { result ≡ trimmed self committed reply.now }
+    fn trimmed(self, committed: bool, reply: &Reply) -> Lead
+        ensures { led result None ≡ trimmed self committed reply.now }
     {
         match *reply {
             Reply::Cut(low) => self.commit(low, committed),
             Reply::Whole => self.need_chunks(),
-            _ => Next::Nowhere,
+            _ => Lead::Nowhere,
         }
     }
 
     /// After the alloc of more chunks than are needed.
-    fn grown(self, chunks: u64, answer: Answer, reply: &Reply) -> Next
+    fn grown(self, chunks: u64, answer: Answer, reply: &Reply) -> Lead
         requires { chunks ≤ 16384 }
-        ensures { result ≡ grown self chunks answer reply.now }
+        ensures { led result None ≡ grown self chunks answer reply.now }
     {
         match *reply {
             Reply::Refused => self.need_chunks(),
-            Reply::Bad(why) => Next::Ends(Answered::BadAnswer {
+            Reply::Bad(why) => Lead::Ends(Answered::BadAnswer {
                 span: answered_span(chunks * CHUNK_PAGES, answer),
                 why,
             }),
@@ -81,45 +82,45 @@ impl Wish {
                 }
                 .first()
             }
-            _ => Next::Nowhere,
+            _ => Lead::Nowhere,
         }
     }
 
     /// After the alloc of as many chunks as are needed.
-    fn needed(self, asked: &Asked, reply: &Reply) -> Next
+    fn needed(self, asked: &Asked, reply: &Reply) -> Lead
         requires { self.pages ≤ 2 ^ 32 }
-        ensures { result ≡ needed self asked.now reply.now }
+        ensures { led result None ≡ needed self asked.now reply.now }
     {
         match *reply {
-            Reply::Refused => Next::Ends(Answered::Refused(*asked)),
-            Reply::Bad(why) => Next::Ends(Answered::BadAnswer {
+            Reply::Refused => Lead::Ends(Answered::Refused(*asked)),
+            Reply::Bad(why) => Lead::Ends(Answered::BadAnswer {
                 span: answered_span(self.chunk_pages(), asked.answer()),
                 why,
             }),
             Reply::Grown { span, committed } => self.grant(span, committed),
-            _ => Next::Nowhere,
+            _ => Lead::Nowhere,
         }
     }
 
     /// After the split of what that granted.
-    fn granted(self, committed: bool, asked: &Asked, reply: &Reply) -> Next
-        ensures { result ≡ granted self committed asked.now reply.now }
+    fn granted(self, committed: bool, asked: &Asked, reply: &Reply) -> Lead
+        ensures { led result None ≡ granted self committed asked.now reply.now }
     {
         match *reply {
             Reply::Cut(low) => self.commit(low, committed),
-            Reply::Whole => Next::Ends(Answered::Refused(*asked)),
-            _ => Next::Nowhere,
+            Reply::Whole => Lead::Ends(Answered::Refused(*asked)),
+            _ => Lead::Nowhere,
         }
     }
 
     /// After a commit.
-    fn committed(self, span: Span, asked: &Asked, reply: &Reply) -> Next
-        ensures { result ≡ committed self span asked.now reply.now }
+    fn committed(self, span: Span, asked: &Asked, reply: &Reply) -> Lead
+        ensures { led result None ≡ committed self span asked.now reply.now }
     {
         match *reply {
             Reply::Noted => TurnPoint::Landing(self, span).next(),
-            Reply::Whole => Next::Ends(Answered::Refused(*asked)),
-            _ => Next::Nowhere,
+            Reply::Whole => Lead::Ends(Answered::Refused(*asked)),
+            _ => Lead::Nowhere,
         }
     }
 }
@@ -177,9 +178,9 @@ impl AskPoint {
     }
 
     /// Where the reply to the turn leads that took the answer in.
-    pub(crate) fn told(&self, asked: &Asked, reply: &Reply) -> Next
+    pub(crate) fn told(&self, asked: &Asked, reply: &Reply) -> Lead
         requires { IsSized self.now }
-        ensures { result ≡ told self.now asked.now reply.now }
+        ensures { led result None ≡ told self.now asked.now reply.now }
     {
         match *self {
             AskPoint::Skipping {

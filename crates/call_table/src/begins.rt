@@ -1,14 +1,15 @@
 //! Where a request begins.
 
-ghost use Rattle.std.specs.Prelude.{◌≡◌, ◌<◌, ◌≤◌, min, false, IfOk, OnOk, OnErr};
+ghost use Rattle.std.specs.Prelude.{◌≡◌, ◌<◌, ◌≤◌, min, false, IfOk, OnOk, OnErr, None};
 ghost use Rattle.std.specs.Option.{option_map};
 ghost use Rattle.space_model.specs.Slabs.{most_regions};
 ghost use Rattle.thread_cache.specs.Desks.{batch_facts, held_at};
 ghost use Rattle.call_table.specs.Needs.{LeavesDesk};
 ghost use Rattle.call_table.specs.Points.{IsSizedNext};
 ghost use Rattle.call_table.specs.Runs.{after_time, batch_goes, begin_bind, begin_cache, begin_desk, begin_flush, begin_free, begin_get, begin_malloc, begin_memalign, begin_publish, begin_set, begin_stage, first_turn, first_turn_but_0, get, purge_visit, share, stage, time_of, whole_visit, wish_for};
+ghost use Rattle.call_table.specs.Stages.{Ends, led};
 
-use crate::{Answered, Change, Given, Later, Next, Request, Stage, TurnPoint, Visit, Wish};
+use crate::{Answered, Change, Given, Later, Lead, Request, Stage, TurnPoint, Visit, Wish};
 use size_classes::{
     PAGE_BYTES, SMALL_CLASSES, SizeFault, aligned_class, class_of, class_pages, slab_regions, slots,
 };
@@ -45,9 +46,9 @@ fn served(class: u8, count: u32) -> u32
 }
 
 /// Regions of a small class are looked for in the slabs first.
-fn get(class: u8, align: u64, count: u32) -> Next
+fn get(class: u8, align: u64, count: u32) -> Lead
     requires { class < 121 }
-    ensures { result ≡ get class align count }
+    ensures { led result None ≡ get class align count }
 {
     let wish = Wish::of_class(class, align, served(class, count));
     if class < SMALL_CLASSES {
@@ -71,12 +72,9 @@ fn share(class: u8, desk: &Desk) -> u32
 impl Stage {
     /// The call ends with an answer before any turn.
     pub(crate) fn ended(arena: u32, answer: Answered) -> Stage
-        ensures { result ≡ stage arena (Next.Ends answer) }
+        ensures { result ≡ stage arena (Ends answer) }
     {
-        Stage {
-            arena,
-            next: Next::Ends(answer),
-        }
+        Stage::at(arena, Lead::Ends(answer))
     }
 
     /// A region of a class: the one that was hit in the cache, or one of those that are got.
@@ -89,10 +87,7 @@ impl Stage {
                 let addr = region.addr;
                 Stage::ended(region.arena, Answered::Ok(Given::Region { addr, class }))
             }
-            None => Stage {
-                arena: desk.arena(),
-                next: get(class, align, share(class, desk)),
-            },
+            None => Stage::at(desk.arena(), get(class, align, share(class, desk))),
         }
     }
 
@@ -136,12 +131,12 @@ impl Stage {
     fn first(arena: u32, point: TurnPoint) -> Stage
         ensures { result ≡ first_turn arena point }
     {
-        let next = if arena < 32 {
+        let lead = if arena < 32 {
             point.next()
         } else {
-            Next::Ends(Answered::NoArena(arena))
+            Lead::Ends(Answered::NoArena(arena))
         };
-        Stage { arena, next }
+        Stage::at(arena, lead)
     }
 
     /// The same, but arena 0 stays.
@@ -149,8 +144,7 @@ impl Stage {
         ensures { result ≡ first_turn_but_0 arena point }
     {
         if arena == 0 {
-            let next = Next::Ends(Answered::Automatic);
-            Stage { arena, next }
+            Stage::ended(arena, Answered::Automatic)
         } else {
             Stage::first(arena, point)
         }
@@ -159,16 +153,25 @@ impl Stage {
 
 impl Stage {
     /// The batch goes back, or where there is none, all is done.
-    pub(crate) fn batch(arena: u32, batch: Option<Batch>) -> Stage
-        ensures { result ≡ batch_goes arena (option_map batch_facts batch) }
+    pub(crate) fn go_back(&mut self, batch: Option<Batch>)
+        ensures { self.new ≡ batch_goes self.old.arena (option_map batch_facts batch) }
     {
         match batch {
-            Some(batch) => Stage {
-                arena: batch.arena,
-                next: TurnPoint::Giving(Addresses::new(batch.addrs)).next(),
-            },
-            None => Stage::ended(arena, Answered::Ok(Given::Done)),
+            Some(batch) => {
+                self.arena = batch.arena;
+                self.go(TurnPoint::Giving(Addresses::new(batch.addrs)).next());
+            }
+            None => self.go(Lead::Ends(Answered::Ok(Given::Done))),
         }
+    }
+
+    /// The same, before any turn.
+    fn batch(arena: u32, batch: Option<Batch>) -> Stage
+        ensures { result ≡ batch_goes arena (option_map batch_facts batch) }
+    {
+        let mut stage = Stage::ended(arena, Answered::Ok(Given::Done));
+        stage.go_back(batch);
+        stage
     }
 
     /// The region that the client holds at an address is freed.
@@ -198,10 +201,7 @@ impl Stage {
         };
         desk.lose(addr);
         desk.take(region);
-        Stage {
-            arena: region.arena,
-            next: TurnPoint::Publishing(region.addr).next(),
-        }
+        Stage::at(region.arena, TurnPoint::Publishing(region.addr).next())
     }
 
     /// All cached regions go back.
@@ -274,8 +274,7 @@ fn bind(arena: u32, index: u32) -> Stage
     ensures { result ≡ begin_bind arena index }
 {
     if index == arena {
-        let next = Next::Ends(Answered::Ok(Given::Done));
-        Stage { arena, next }
+        Stage::ended(arena, Answered::Ok(Given::Done))
     } else {
         Stage::first(
             index,

@@ -1,6 +1,6 @@
 //! The automaton of a call.
 
-ghost use Rattle.std.specs.Prelude.{◌≡◌, List, ◌∷◌, IfOk, IsOk, OnOk, OnErr, ◌≤◌, length};
+ghost use Rattle.std.specs.Prelude.{◌≡◌, List, ◌∷◌, None, false, true, IfOk, IsOk, OnOk, OnErr, ◌≤◌, length};
 ghost use Rattle.call_table.specs.Calls.{HasRoom, moment_of};
 ghost use Rattle.call_table.specs.Desks.{flushes};
 ghost use Rattle.call_table.specs.Points.{IsSizedNext, IsSizedPoint};
@@ -8,22 +8,34 @@ ghost use Rattle.call_table.specs.Needs.{Goes, HasFewAddresses, IsFewAddresses, 
 ghost use Rattle.call_table.specs.Reads.{aimed, ended_by, taken_next};
 ghost use Rattle.call_table.specs.Runs.{after, begin, run, settle, stage, starved_after, step_next};
 ghost use Rattle.call_table.specs.Table.{op_of, step, want};
-ghost use Rattle.call_table.specs.declared.points.Next.TheVariants.{More};
+ghost use Rattle.call_table.specs.Stages.{Ends, Go, More, hears, hears_next, led, point_at};
+ghost use Rattle.thread_cache.specs.Desks.{DeskFacts};
 
-use crate::{Answered, Item, Need, Next, Point, Request, Turn, TurnPoint};
+use crate::{Answered, Item, Lead, Need, Place, Request, Turn, TurnPoint};
+use hook_api::Asked;
 use size_classes::Addrs;
 use space_model::{Addresses, Ask, Op, Span};
 use std::alloc::{AllocError as NoMemory, Global};
 use std::marker::Model;
 use thread_cache::Desk;
 
-/// Where a call stands: the arena whose turn or ask it waits for, and the point, or its answer.
+/// Where a call stands: the arena whose turn or ask it waits for, and the place, or its answer. What a hook answered stands
+/// beside the place until a turn takes it in. Contracts see the arena, and the point or the answer.
 #[derive(Drop)]
 pub struct Stage {
-    /// The index of the arena.
-    pub arena: u32,
-    /// The point, or the answer.
-    pub next: Next,
+    pub(crate) arena: u32,
+    pub(crate) lead: Lead,
+    pub(crate) heard: Option<Asked>,
+}
+
+impl Model for Stage {
+    ghost use Rattle.call_table.specs.Stages.{IsHeardAt, Stage as StageFacts, led};
+
+    ghost Value = { StageFacts };
+
+    ghost view = { λ s. record { arena = s.arena; next = led s.lead s.heard } };
+
+    ghost invariant = { λ s. IsHeardAt s.lead s.heard };
 }
 
 /// The same addresses again.
@@ -83,44 +95,50 @@ impl TurnPoint {
     }
 }
 
-impl Point {
-    /// Where an item leads.
-    fn step(&self, item: &Item) -> Next
-        requires { IsSizedPoint self.now }
-        ensures { result ≡ step self.now item.now }
+impl Place {
+    /// Where an item leads that isn't the answer to the ask.
+    fn step(&self, heard: &Option<Asked>, item: &Item) -> Lead
+        requires sized { IsSizedPoint (point_at self.now heard.now) }
+        requires item { hears (point_at self.now heard.now) item.now ≡ false }
+        ensures { led result None ≡ step (point_at self.now heard.now) item.now }
     {
-        match (self, item) {
-            (Point::Turns(point), Item::Replied(reply)) => point.turned(reply),
-            (Point::Turns(point), Item::Starved) => point.starved(),
-            (Point::Asks(point, None), Item::Told(asked)) => point.heard(asked),
-            (Point::Asks(point, Some(asked)), Item::Replied(reply)) => point.told(asked, reply),
-            (Point::Tells(..), Item::Told(_)) => TurnPoint::Dooming.next(),
-            _ => Next::Nowhere,
+        match (self, heard, item) {
+            (Place::Turns(point), _, Item::Replied(reply)) => point.turned(reply),
+            (Place::Turns(point), _, Item::Starved) => point.starved(),
+            (Place::Asks(point), Some(asked), Item::Replied(reply)) => point.told(asked, reply),
+            (Place::Tells(..), _, Item::Told(_)) => TurnPoint::Dooming.next(),
+            _ => Lead::Nowhere,
         }
     }
 
-    /// What is needed of an arena at the point. `NoMemory` only where several regions go back.
-    pub(crate) fn need(&self, arena: u32, client: u32, alloc: Global) -> Result<Need, NoMemory>
-        requires { IsSizedPoint self.now }
-        ensures need { IfOk result (NeedsWant client arena (want self.now)) }
-        ensures few { IsFewAddresses (Next.Go self.now) → IsOk result }
+    /// What is needed of an arena at the place. `NoMemory` only where several regions go back.
+    pub(crate) fn need(
+        &self,
+        heard: &Option<Asked>,
+        arena: u32,
+        client: u32,
+        alloc: Global,
+    ) -> Result<Need, NoMemory>
+        requires { IsSizedPoint (point_at self.now heard.now) }
+        ensures need { IfOk result (NeedsWant client arena (want (point_at self.now heard.now))) }
+        ensures few { IsFewAddresses (Go (point_at self.now heard.now)) → IsOk result }
     {
-        match self {
-            Point::Turns(point) => {
+        match (self, heard) {
+            (Place::Turns(point), _) => {
                 let op = point.op(alloc)?;
                 Ok(turn(arena, client, op, None))
             }
-            Point::Asks(point, None) => Ok(point.need(arena)),
-            Point::Asks(point, Some(asked)) => {
+            (Place::Asks(point), None) => Ok(point.need(arena)),
+            (Place::Asks(point), Some(asked)) => {
                 Ok(turn(arena, client, point.done(asked), Some(*asked)))
             }
-            Point::Tells(span, committed) => Ok(told(arena, *span, *committed)),
+            (Place::Tells(span, committed), _) => Ok(told(arena, *span, *committed)),
         }
     }
 }
 
 /// A turn of an arena.
-fn turn(arena: u32, client: u32, op: Op, asked: Option<hook_api::Asked>) -> Need
+fn turn(arena: u32, client: u32, op: Op, asked: Option<Asked>) -> Need
     ensures { result ≡ Need.Turn (record { arena = arena; client = client; op = op; asked = asked }) }
 {
     Need::Turn(Turn {
@@ -139,19 +157,6 @@ fn told(arena: u32, span: Span, committed: bool) -> Need
     Need::Ask { arena, ask }
 }
 
-impl Next {
-    /// Where an item leads, if it leads on from a point.
-    fn step(&self, item: &Item) -> Next
-        requires { IsSizedNext self.now }
-        ensures { result ≡ step_next self.now item.now }
-    {
-        match self {
-            Next::Go(point) => point.step(item),
-            _ended => Next::Nowhere,
-        }
-    }
-}
-
 impl Request {
     /// Whether all cached regions go back.
     fn flushes(self) -> bool
@@ -166,34 +171,38 @@ impl Request {
 }
 
 impl Stage {
-    /// It stands at a point of the arena with this index.
-    fn go(&mut self, arena: u32, point: Point)
-        ensures { self.new ≡ stage arena (Next.Go point) }
+    /// It stands in the arena with this index, where nothing was answered yet.
+    pub(crate) fn at(arena: u32, lead: Lead) -> Stage
+        ensures { result ≡ stage arena (led lead None) }
     {
-        self.arena = arena;
-        self.next = Next::Go(point);
-    }
-
-    /// It ends with an answer.
-    fn end(&mut self, answer: Answered)
-        ensures { self.new ≡ stage self.old.arena (Next.Ends answer) }
-    {
-        self.next = Next::Ends(answer);
+        Stage {
+            arena,
+            lead,
+            heard: None,
+        }
     }
 
     /// It stands at the next batch of regions that go back, or at the end.
     fn go_on(&mut self, request: Request, desk: &Desk, alloc: Global) -> Result<(), NoMemory>
         ensures stage { OnOk result (self.new ≡ settle request desk.now.facts self.old.arena More) }
-        ensures err { OnErr result (self.new ≡ stage self.old.arena (Next.Ends Answered.NoMemory)) }
+        ensures err { OnErr result (self.new ≡ stage self.old.arena (Ends Answered.NoMemory)) }
     {
         match desk.batch(desk.hand(), request.flushes(), alloc) {
-            Ok(batch) => *self = Stage::batch(self.arena, batch),
+            Ok(batch) => self.go_back(batch),
             Err(error) => {
-                self.end(Answered::NoMemory);
+                self.go(Lead::Ends(Answered::NoMemory));
                 return Err(error);
             }
         }
         Ok(())
+    }
+
+    /// It stands where this leads.
+    pub(crate) fn go(&mut self, lead: Lead)
+        ensures { self.new ≡ stage self.old.arena (led lead None) }
+    {
+        self.heard = None;
+        self.lead = lead;
     }
 
     /// It stands where a step leads, by what the client has then. `NoMemory` only where there is none to name several regions
@@ -202,20 +211,52 @@ impl Stage {
         &mut self,
         request: Request,
         desk: &Desk,
-        next: Next,
+        lead: Lead,
         alloc: Global,
     ) -> Result<(), NoMemory>
-        ensures stage { OnOk result (self.new ≡ settle request desk.now.facts self.old.arena next) }
-        ensures more { OnErr result (next ≡ More) }
-        ensures err { OnErr result (self.new ≡ stage self.old.arena (Next.Ends Answered.NoMemory)) }
+        ensures stage { OnOk result (self.new ≡ settle request desk.now.facts self.old.arena (led lead None)) }
+        ensures more { OnErr result (led lead None ≡ More) }
+        ensures err { OnErr result (self.new ≡ stage self.old.arena (Ends Answered.NoMemory)) }
     {
-        match next {
-            Next::Over(arena, point) => self.go(arena, point),
-            Next::More => return self.go_on(request, desk, alloc),
-            Next::Gone => self.end(Answered::NoArena(self.arena)),
-            next => self.next = next,
+        match lead {
+            Lead::Over(arena, place) => {
+                self.arena = arena;
+                self.go(Lead::To(place));
+            }
+            Lead::More => return self.go_on(request, desk, alloc),
+            Lead::Gone => self.go(Lead::Ends(Answered::NoArena(self.arena))),
+            lead => self.go(lead),
         }
         Ok(())
+    }
+
+    /// The answer to its ask stands beside the place, if the item is that.
+    fn hear(&mut self, item: &Item) -> bool
+        ensures hears { result ≡ hears_next self.old.next item.now }
+        ensures heard { (request : Request) (desk : DeskFacts) → result ≡ true
+            → self.new ≡ settle request desk self.old.arena (step_next self.old.next item.now) }
+        ensures sized { IsSizedNext self.old.next → IsSizedNext self.new.next }
+        ensures other { result ≡ false → self.new ≡ self.old }
+    {
+        match (&self.lead, &self.heard, item) {
+            (Lead::To(Place::Asks(_)), None, Item::Told(asked)) => {
+                self.heard = Some(*asked);
+                true
+            }
+            _ => false,
+        }
+    }
+
+    /// Where an item leads that isn't the answer to an ask.
+    fn step(&self, item: &Item) -> Lead
+        requires sized { IsSizedNext self.now.next }
+        requires item { hears_next self.now.next item.now ≡ false }
+        ensures { led result None ≡ step_next self.now.next item.now }
+    {
+        match &self.lead {
+            Lead::To(place) => place.step(&self.heard, item),
+            _ended => Lead::Nowhere,
+        }
     }
 
     /// It takes in an item, by what the client has after it.
@@ -230,10 +271,13 @@ impl Stage {
         ensures stage { OnOk result (self.new ≡ settle request desk.now.facts self.old.arena (step_next self.old.next item.now)) }
         ensures sized { IsSizedNext self.new.next }
         ensures more { OnErr result (step_next self.old.next item.now ≡ More) }
-        ensures err { OnErr result (self.new ≡ stage self.old.arena (Next.Ends Answered.NoMemory)) }
+        ensures err { OnErr result (self.new ≡ stage self.old.arena (Ends Answered.NoMemory)) }
     {
-        let next = self.next.step(item);
-        self.settle(request, desk, next, alloc)
+        if self.hear(item) {
+            return Ok(());
+        }
+        let lead = self.step(item);
+        self.settle(request, desk, lead, alloc)
     }
 }
 
@@ -295,9 +339,10 @@ impl Call {
         ensures need { IfOk result (NeedIs self.now.client self.now.stage.arena self.now.stage.next) }
         ensures few { IsFewAddresses self.now.stage.next → IsOk result }
     {
-        match &self.stage.next {
-            Next::Go(point) => point.need(self.stage.arena, self.client, alloc),
-            Next::Ends(answer) => Ok(Need::Done(*answer)),
+        let Stage { arena, lead, heard } = &self.stage;
+        match lead {
+            Lead::To(place) => place.need(heard, *arena, self.client, alloc),
+            Lead::Ends(answer) => Ok(Need::Done(*answer)),
             _ => unreachable!(),
         }
     }
@@ -307,8 +352,8 @@ impl Call {
         ensures answer { result ≡ ended_by self.now.stage.next }
         ensures place { IsPlace self.now.stage.next }
     {
-        match &self.stage.next {
-            Next::Ends(answer) => Some(*answer),
+        match &self.stage.lead {
+            Lead::Ends(answer) => Some(*answer),
             _ => None,
         }
     }
@@ -318,9 +363,9 @@ impl Call {
     pub fn takes(&self) -> Option<u64>
         ensures { result ≡ taken_next self.now.stage.next }
     {
-        match &self.stage.next {
-            Next::Go(
-                Point::Turns(
+        match &self.stage.lead {
+            Lead::To(
+                Place::Turns(
                     TurnPoint::Owning {
                         addr,
                         frees: true,
@@ -343,7 +388,7 @@ impl Call {
                 frees: true,
                 published: true,
             };
-            self.stage.next = Next::Go(Point::Turns(point));
+            self.stage.lead = Lead::To(Place::Turns(point));
         }
     }
 
@@ -362,7 +407,7 @@ impl Call {
         ensures more { OnErr result (step_next self.old.stage.next item ≡ More) }
         ensures room { HasRoom desk.new.room self.new.stage.next }
     {
-        self.stage.next.tell(desk, self.stage.arena, &item);
+        self.stage.tell(desk, &item);
         let fed = self.stage.feed(self.request, desk, &item, alloc);
         self.stage.close(self.request, desk);
         fed

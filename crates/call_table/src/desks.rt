@@ -5,7 +5,7 @@ ghost use Rattle.call_table.specs.Calls.{HasRoom};
 ghost use Rattle.call_table.specs.Desks.{address_behind, desk_closed, desk_ended, desk_fed, desk_turned, landed_behind, region_at, sharing, switched};
 ghost use Rattle.call_table.specs.Points.{IsSizedNext, IsSizedTurn};
 
-use crate::{Answered, Change, Given, Item, Next, Point, Request, Stage, TurnPoint};
+use crate::{Answered, Change, Given, Item, Lead, Place, Request, Stage, TurnPoint};
 use size_classes::size_of;
 use space_model::Reply;
 use thread_cache::{Desk, Held};
@@ -73,16 +73,16 @@ impl TurnPoint {
     }
 }
 
-impl Next {
+impl Stage {
     /// What the client has after an item.
-    pub(crate) fn tell(&self, desk: &mut Desk, arena: u32, item: &Item)
-        requires { IsSizedNext self.now }
-        ensures facts { desk.new.facts ≡ desk_fed desk.old.facts arena self.now item.now }
+    pub(crate) fn tell(&self, desk: &mut Desk, item: &Item)
+        requires { IsSizedNext self.now.next }
+        ensures facts { desk.new.facts ≡ desk_fed desk.old.facts self.now.arena self.now.next item.now }
         ensures room { desk.old.room ≤ desk.new.room }
     {
-        if let Next::Go(Point::Turns(point)) = self {
+        if let Lead::To(Place::Turns(point)) = &self.lead {
             if let Item::Replied(reply) = item {
-                point.tell(desk, arena, reply);
+                point.tell(desk, self.arena, reply);
             }
         }
     }
@@ -121,7 +121,7 @@ impl Stage {
         ensures facts { desk.new.facts ≡ desk_closed request self.now.arena self.now.next desk.old.facts }
         ensures room { HasRoom desk.new.room self.now.next }
     {
-        if let Next::Ends(answer) = &self.next {
+        if let Lead::Ends(answer) = &self.lead {
             request.end(desk, self.arena, *answer);
         }
     }

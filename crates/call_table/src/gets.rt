@@ -1,26 +1,19 @@
 //! How a call goes on that gets an extent.
 
-ghost use Rattle.std.specs.Prelude.{◌≡◌, Some};
+ghost use Rattle.std.specs.Prelude.{◌≡◌, None};
 ghost use Rattle.call_table.specs.Table.{ask_of, chunks_for, commit, grant, grow, need_chunks, skip_to, trim, turned};
 ghost use Rattle.call_table.specs.Points.{IsSized};
+ghost use Rattle.call_table.specs.Stages.{Asks, Ends, Go, led};
 
-use crate::{Answered, AskPoint, Given, Need, Next, Point, TurnPoint, Wish};
-use hook_api::Asked;
+use crate::{Answered, AskPoint, Given, Lead, Need, Place, TurnPoint, Wish};
 use space_model::{CHUNK_PAGES, MAX_SERIES, Reply, Span};
 
 impl AskPoint {
     /// The ask comes next.
-    pub(crate) fn first(self) -> Next
-        ensures { result ≡ Next.Go (Point.Asks self None) }
+    pub(crate) fn first(self) -> Lead
+        ensures { led result None ≡ Go (Asks self None) }
     {
-        Next::Go(Point::Asks(self, None))
-    }
-
-    /// The ask is answered, and its answer is to be taken in.
-    pub(crate) fn heard(&self, asked: &Asked) -> Next
-        ensures { result ≡ Next.Go (Point.Asks self.now (Some asked.now)) }
-    {
-        Next::Go(Point::Asks(*self, Some(*asked)))
+        Lead::To(Place::Asks(self))
     }
 
     /// What is needed: the ask.
@@ -42,19 +35,19 @@ impl Wish {
     }
 
     /// The extent has the pages: it is committed, or the regions land in it.
-    pub(crate) fn commit(self, span: Span, committed: bool) -> Next
-        ensures { result ≡ commit self span committed }
+    pub(crate) fn commit(self, span: Span, committed: bool) -> Lead
+        ensures { led result None ≡ commit self span committed }
     {
         if committed {
-            Next::Go(Point::Turns(TurnPoint::Landing(self, span)))
+            Lead::To(Place::Turns(TurnPoint::Landing(self, span)))
         } else {
             AskPoint::Committing(self, span).first()
         }
     }
 
     /// A grant: what is too much of it is cut off.
-    pub(crate) fn grant(self, span: Span, committed: bool) -> Next
-        ensures { result ≡ grant self span committed }
+    pub(crate) fn grant(self, span: Span, committed: bool) -> Lead
+        ensures { led result None ≡ grant self span committed }
     {
         if self.pages < span.pages {
             AskPoint::Granting {
@@ -69,8 +62,8 @@ impl Wish {
     }
 
     /// An unused extent: what stands behind the run is cut off.
-    pub(crate) fn trim(self, span: Span, committed: bool) -> Next
-        ensures { result ≡ trim self span committed }
+    pub(crate) fn trim(self, span: Span, committed: bool) -> Lead
+        ensures { led result None ≡ trim self span committed }
     {
         if self.pages < span.pages {
             AskPoint::Trimming {
@@ -85,8 +78,8 @@ impl Wish {
     }
 
     /// An unused extent: what stands before the run is cut off.
-    fn skip_to(self, span: Span, committed: bool, skip: u64) -> Next
-        ensures { result ≡ skip_to self span committed skip }
+    fn skip_to(self, span: Span, committed: bool, skip: u64) -> Lead
+        ensures { led result None ≡ skip_to self span committed skip }
     {
         if 0 < skip {
             AskPoint::Skipping {
@@ -102,15 +95,15 @@ impl Wish {
     }
 
     /// Just as many chunks as are needed are asked for.
-    pub(crate) fn need_chunks(self) -> Next
-        ensures { result ≡ need_chunks self }
+    pub(crate) fn need_chunks(self) -> Lead
+        ensures { led result None ≡ need_chunks self }
     {
         AskPoint::Needing(self).first()
     }
 
     /// The arena grows by the chunks of the series, if these are more than are needed.
-    fn grow(self, series: u64) -> Next
-        ensures { result ≡ grow self series }
+    fn grow(self, series: u64) -> Lead
+        ensures { led result None ≡ grow self series }
     {
         let chunks = series.min(MAX_SERIES);
         if self.chunks() < chunks {
@@ -121,8 +114,8 @@ impl Wish {
     }
 
     /// After the reply to the look for an unused extent.
-    pub(crate) fn looked(self, reply: &Reply) -> Next
-        ensures { result ≡ turned (TurnPoint.Looking self) reply.now }
+    pub(crate) fn looked(self, reply: &Reply) -> Lead
+        ensures { led result None ≡ turned (TurnPoint.Looking self) reply.now }
     {
         match *reply {
             Reply::Took {
@@ -131,43 +124,43 @@ impl Wish {
                 skip,
             } => self.skip_to(span, committed, skip),
             Reply::Grow { series } => self.grow(series),
-            Reply::NoArena => Next::Gone,
-            _ => Next::Nowhere,
+            Reply::NoArena => Lead::Gone,
+            _ => Lead::Nowhere,
         }
     }
 
     /// The answer is the region at the address.
-    fn region(self, addr: u64) -> Next
-        ensures { result ≡ Next.Ends (Answered.Ok (Given.Region addr self.class)) }
+    fn region(self, addr: u64) -> Lead
+        ensures { led result None ≡ Ends (Answered.Ok (Given.Region addr self.class)) }
     {
-        Next::Ends(Answered::Ok(Given::Region {
+        Lead::Ends(Answered::Ok(Given::Region {
             addr,
             class: self.class,
         }))
     }
 
     /// After the landing.
-    pub(crate) fn landed(self, span: Span, reply: &Reply) -> Next
-        ensures { result ≡ turned (TurnPoint.Landing self span) reply.now }
+    pub(crate) fn landed(self, span: Span, reply: &Reply) -> Lead
+        ensures { led result None ≡ turned (TurnPoint.Landing self span) reply.now }
     {
         match *reply {
             Reply::Landed { first, .. } => self.region(first),
-            _ => Next::Nowhere,
+            _ => Lead::Nowhere,
         }
     }
 
     /// After free regions of a small class were looked for.
-    pub(crate) fn filled(self, count: u32, reply: &Reply) -> Next
-        ensures { result ≡ turned (TurnPoint.Filling self count) reply.now }
+    pub(crate) fn filled(self, count: u32, reply: &Reply) -> Lead
+        ensures { led result None ≡ turned (TurnPoint.Filling self count) reply.now }
     {
         match *reply {
             Reply::Regions(ref addrs) => match addrs.as_slice().first() {
                 Some(addr) => self.region(*addr),
-                None => Next::Nowhere,
+                None => Lead::Nowhere,
             },
-            Reply::Nothing => Next::Go(Point::Turns(TurnPoint::Looking(self))),
-            Reply::NoArena => Next::Gone,
-            _ => Next::Nowhere,
+            Reply::Nothing => Lead::To(Place::Turns(TurnPoint::Looking(self))),
+            Reply::NoArena => Lead::Gone,
+            _ => Lead::Nowhere,
         }
     }
 }

@@ -1,7 +1,6 @@
 //! The points at which a call waits.
 
 use crate::{Answered, Given};
-use hook_api::Asked;
 use space_model::{Addresses, Rest, Setting, Span};
 
 /// The extent that a call needs, and the regions that are to land in it.
@@ -178,24 +177,24 @@ pub enum AskPoint {
     Forcing(Span, Then),
 }
 
-/// A point at which a call waits.
+/// A place where a call waits: a point without the answer that is to be taken in there.
 #[derive(Drop)]
-pub enum Point {
+pub enum Place {
     /// For the reply to a turn.
     Turns(TurnPoint),
     /// For the answer to an ask, or, where it is there, for the reply to the turn that takes it in.
-    Asks(AskPoint, Option<Asked>),
+    Asks(AskPoint),
     /// For the ask that destroys an extent of an arena that has ended, committed or not. No turn takes its answer in.
     Tells(Span, bool),
 }
 
 /// Where an item leads.
 #[derive(Drop)]
-pub enum Next {
-    /// To a point.
-    Go(Point),
-    /// To a point of the arena with this index.
-    Over(u32, Point),
+pub enum Lead {
+    /// To a place.
+    To(Place),
+    /// To a place of the arena with this index.
+    Over(u32, Place),
     /// To the next batch of regions that go back, or to the end.
     More,
     /// To the end, since the arena isn't live.

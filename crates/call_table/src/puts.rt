@@ -1,10 +1,11 @@
 //! How a call goes on that puts extents down, or purges them.
 
-ghost use Rattle.std.specs.Prelude.{◌≡◌};
+ghost use Rattle.std.specs.Prelude.{◌≡◌, None};
 ghost use Rattle.space_model.specs.Span.{end_of};
 ghost use Rattle.call_table.specs.Table.{beside, decommitted, dirty_visit, drop, eased, forced, look_on, merged, onward, put_next, put_purged, returned, turned, visit_all, visited};
+ghost use Rattle.call_table.specs.Stages.{Asks, Go, Turns, led};
 
-use crate::{Answered, AskPoint, Given, Later, Next, Point, Then, TurnPoint, Visit};
+use crate::{Answered, AskPoint, Given, Later, Lead, Place, Then, TurnPoint, Visit};
 use space_model::{Reply, Rest, Span};
 
 /// The page after a span's last one. In 128 bits, so that no span wraps.
@@ -16,20 +17,20 @@ fn end_of(span: Span) -> u128
 
 impl TurnPoint {
     /// The turn comes next.
-    pub(crate) fn next(self) -> Next
-        ensures { result ≡ Next.Go (Point.Turns self) }
+    pub(crate) fn next(self) -> Lead
+        ensures { led result None ≡ Go (Turns self) }
     {
-        Next::Go(Point::Turns(self))
+        Lead::To(Place::Turns(self))
     }
 }
 
 impl Later {
     /// What follows a visit.
-    fn visited(self) -> Next
-        ensures { result ≡ visited self }
+    fn visited(self) -> Lead
+        ensures { led result None ≡ visited self }
     {
         match self {
-            Later::Answers(given) => Next::Ends(Answered::Ok(given)),
+            Later::Answers(given) => Lead::Ends(Answered::Ok(given)),
             Later::DirtyToo(keep, given) => Visit::dirty(keep, given).first(),
         }
     }
@@ -48,15 +49,15 @@ impl Visit {
     }
 
     /// Its first extent is taken.
-    pub(crate) fn first(self) -> Next
-        ensures { result ≡ visit_all self }
+    pub(crate) fn first(self) -> Lead
+        ensures { led result None ≡ visit_all self }
     {
         TurnPoint::Taking(self, None).next()
     }
 
     /// After an extent was taken, if one was.
-    pub(crate) fn took(&self, left: Option<u64>, reply: &Reply) -> Next
-        ensures { result ≡ turned (TurnPoint.Taking self.now left) reply.now }
+    pub(crate) fn took(&self, left: Option<u64>, reply: &Reply) -> Lead
+        ensures { led result None ≡ turned (TurnPoint.Taking self.now left) reply.now }
     {
         match *reply {
             Reply::Taken { span, lazy, listed } => {
@@ -64,27 +65,27 @@ impl Visit {
                 Then::Visiting(*self, left).drop_extent(span, lazy)
             }
             Reply::Nothing => self.later.visited(),
-            Reply::NoArena => Next::Gone,
-            _ => Next::Nowhere,
+            Reply::NoArena => Lead::Gone,
+            _ => Lead::Nowhere,
         }
     }
 }
 
 impl Then {
     /// What follows once nothing is in flight.
-    fn onward(&self) -> Next
-        ensures { result ≡ onward self.now }
+    fn onward(&self) -> Lead
+        ensures { led result None ≡ onward self.now }
     {
         match *self {
-            Then::Batches => Next::More,
+            Then::Batches => Lead::More,
             Then::Visiting(visit, 0) => visit.later.visited(),
             Then::Visiting(visit, left) => TurnPoint::Taking(visit, Some(left)).next(),
         }
     }
 
     /// An extent in flight looks for a neighbour.
-    fn find(&self, own: Span, tries: u8, fresh: bool) -> Next
-        ensures { result ≡ Next.Go (Point.Turns (TurnPoint.Finding own tries fresh self.now)) }
+    fn find(&self, own: Span, tries: u8, fresh: bool) -> Lead
+        ensures { led result None ≡ Go (Turns (TurnPoint.Finding own tries fresh self.now)) }
     {
         TurnPoint::Finding {
             own,
@@ -96,8 +97,8 @@ impl Then {
     }
 
     /// The next extent in flight is put down, or there is none.
-    pub(crate) fn put_next(&self, next: Option<Span>) -> Next
-        ensures { result ≡ put_next self.now next }
+    pub(crate) fn put_next(&self, next: Option<Span>) -> Lead
+        ensures { led result None ≡ put_next self.now next }
     {
         match next {
             Some(own) => self.find(own, 0, true),
@@ -106,21 +107,21 @@ impl Then {
     }
 
     /// The extent is merged with the neighbour that its look found.
-    fn beside(&self, own: Span, tries: u8, fresh: bool, other: Span) -> Next
-        ensures { result ≡ beside own tries fresh other self.now }
+    fn beside(&self, own: Span, tries: u8, fresh: bool, other: Span) -> Lead
+        ensures { led result None ≡ beside own tries fresh other self.now }
     {
         if tries == 0 && u128::from(other.first) == end_of(own) {
             self.merge(own, other, true, fresh)
         } else if tries < 2 {
             self.merge(other, own, false, fresh)
         } else {
-            Next::Nowhere
+            Lead::Nowhere
         }
     }
 
     /// Two extents are merged.
-    fn merge(&self, low: Span, high: Span, own_low: bool, fresh: bool) -> Next
-        ensures { result ≡ Next.Go (Point.Asks (AskPoint.Merging low high own_low fresh self.now) None) }
+    fn merge(&self, low: Span, high: Span, own_low: bool, fresh: bool) -> Lead
+        ensures { led result None ≡ Go (Asks (AskPoint.Merging low high own_low fresh self.now) None) }
     {
         AskPoint::Merging {
             low,
@@ -133,22 +134,22 @@ impl Then {
     }
 
     /// After a merge the extent that stays in flight looks on.
-    pub(crate) fn look_on(&self, own: Span, own_low: bool, fresh: bool) -> Next
-        ensures { result ≡ look_on own own_low fresh self.now }
+    pub(crate) fn look_on(&self, own: Span, own_low: bool, fresh: bool) -> Lead
+        ensures { led result None ≡ look_on own own_low fresh self.now }
     {
         self.find(own, if own_low { 1 } else { 2 }, fresh)
     }
 
     /// An extent that was purged is put down.
-    pub(crate) fn put_purged(&self, own: Span) -> Next
-        ensures { result ≡ put_purged own self.now }
+    pub(crate) fn put_purged(&self, own: Span) -> Lead
+        ensures { led result None ≡ put_purged own self.now }
     {
         self.find(own, 0, false)
     }
 
     /// An extent is purged lazily, or offered to its hook.
-    pub(crate) fn drop_extent(&self, span: Span, lazy: bool) -> Next
-        ensures { result ≡ drop span lazy self.now }
+    pub(crate) fn drop_extent(&self, span: Span, lazy: bool) -> Lead
+        ensures { led result None ≡ drop span lazy self.now }
     {
         if lazy {
             AskPoint::Easing(span, *self).first()
@@ -158,79 +159,79 @@ impl Then {
     }
 
     /// After the look for a neighbour.
-    pub(crate) fn found(&self, own: Span, tries: u8, fresh: bool, reply: &Reply) -> Next
-        ensures { result ≡ turned (TurnPoint.Finding own tries fresh self.now) reply.now }
+    pub(crate) fn found(&self, own: Span, tries: u8, fresh: bool, reply: &Reply) -> Lead
+        ensures { led result None ≡ turned (TurnPoint.Finding own tries fresh self.now) reply.now }
     {
         match *reply {
             Reply::Beside(other) => self.beside(own, tries, fresh, other),
             Reply::Next(next) => self.put_next(next),
             Reply::Purge { lazy } if fresh => self.drop_extent(own, lazy),
-            _ => Next::Nowhere,
+            _ => Lead::Nowhere,
         }
     }
 
     /// After the offer of an extent.
-    pub(crate) fn offered(&self, span: Span, reply: &Reply) -> Next
-        ensures { result ≡ turned (TurnPoint.Offering span self.now) reply.now }
+    pub(crate) fn offered(&self, span: Span, reply: &Reply) -> Lead
+        ensures { led result None ≡ turned (TurnPoint.Offering span self.now) reply.now }
     {
         match *reply {
             Reply::Noted => AskPoint::Returning(span, *self).first(),
-            _ => Next::Nowhere,
+            _ => Lead::Nowhere,
         }
     }
 }
 
 impl Then {
     /// After a merge.
-    pub(crate) fn merged(&self, own_low: bool, fresh: bool, reply: &Reply) -> Next
-        ensures { result ≡ merged own_low fresh self.now reply.now }
+    pub(crate) fn merged(&self, own_low: bool, fresh: bool, reply: &Reply) -> Lead
+        ensures { led result None ≡ merged own_low fresh self.now reply.now }
     {
         match *reply {
             Reply::Joined(own) => self.look_on(own, own_low, fresh),
-            _ => Next::Nowhere,
+            _ => Lead::Nowhere,
         }
     }
 
     /// After a lazy purge.
-    pub(crate) fn eased(&self, span: Span, reply: &Reply) -> Next
-        ensures { result ≡ eased span self.now reply.now }
+    pub(crate) fn eased(&self, span: Span, reply: &Reply) -> Lead
+        ensures { led result None ≡ eased span self.now reply.now }
     {
         match *reply {
             Reply::Lazy(true) => self.put_purged(span),
             Reply::Lazy(false) => TurnPoint::Offering(span, *self).next(),
-            _ => Next::Nowhere,
+            _ => Lead::Nowhere,
         }
     }
 
     /// After a dalloc.
-    pub(crate) fn returned(&self, span: Span, reply: &Reply) -> Next
-        ensures { result ≡ returned span self.now reply.now }
+    pub(crate) fn returned(&self, span: Span, reply: &Reply) -> Lead
+        ensures { led result None ≡ returned span self.now reply.now }
     {
         match *reply {
             Reply::Next(next) | Reply::Abandoned(next) => self.put_next(next),
             Reply::Kept => AskPoint::Decommitting(span, *self).first(),
-            _ => Next::Nowhere,
+            _ => Lead::Nowhere,
         }
     }
 
     /// After a decommit.
-    pub(crate) fn decommitted(&self, span: Span, reply: &Reply) -> Next
-        ensures { result ≡ decommitted span self.now reply.now }
+    pub(crate) fn decommitted(&self, span: Span, reply: &Reply) -> Lead
+        ensures { led result None ≡ decommitted span self.now reply.now }
     {
         match *reply {
             Reply::Decommitted(true) => self.put_purged(span),
             Reply::Decommitted(false) => AskPoint::Forcing(span, *self).first(),
-            _ => Next::Nowhere,
+            _ => Lead::Nowhere,
         }
     }
 
     /// After a forced purge.
-    pub(crate) fn forced(&self, span: Span, reply: &Reply) -> Next
-        ensures { result ≡ forced span self.now reply.now }
+    pub(crate) fn forced(&self, span: Span, reply: &Reply) -> Lead
+        ensures { led result None ≡ forced span self.now reply.now }
     {
         match *reply {
             Reply::Noted => self.put_purged(span),
-            _ => Next::Nowhere,
+            _ => Lead::Nowhere,
         }
     }
 }

@@ -3,7 +3,7 @@
 ghost use Rattle.std.specs.Prelude.{◌≡◌, IfOk};
 ghost use Rattle.call_table.specs.Points.{IsSizedNext};
 
-use crate::{Answered, Given, Item, Need, Next, Request, Stage};
+use crate::{Answered, Given, Item, Lead, Need, Request, Stage};
 use hook_api::{HookShelf, Kind, RisingHooks};
 use size_classes::Addrs;
 use space_model::{Addresses, Ask, Op, Reply, Span};
@@ -26,8 +26,8 @@ impl Played {
         requires { IsSizedNext self.old.stage.next }
         ensures { self.new.stage ≡ self.old.stage }
     {
-        if let Next::Go(point) = &self.stage.next {
-            match point.need(self.stage.arena, 1, alloc)? {
+        if let Lead::To(place) = &self.stage.lead {
+            match place.need(&self.stage.heard, self.stage.arena, 1, alloc)? {
                 Need::Turn(turn) => self.turns.push(turn.op)?,
                 Need::Ask { ask, .. } => self.asks.push(ask)?,
                 Need::Done(_) => (),
@@ -48,7 +48,7 @@ impl Played {
             mut stage,
         } = self;
         desk.reserve()?;
-        stage.next.tell(&mut desk, stage.arena, &item);
+        stage.tell(&mut desk, &item);
         stage.feed(request, &desk, &item, alloc)?;
         stage.close(request, &mut desk);
         Ok(Played {
@@ -61,15 +61,15 @@ impl Played {
 
     /// The region that the call has answered.
     fn region(&self) -> Option<u64> {
-        match &self.stage.next {
-            Next::Ends(Answered::Ok(Given::Region { addr, .. })) => Some(*addr),
+        match &self.stage.lead {
+            Lead::Ends(Answered::Ok(Given::Region { addr, .. })) => Some(*addr),
             _ => None,
         }
     }
 
     /// Whether the call has ended, and is done.
     fn is_done(&self) -> bool {
-        matches!(&self.stage.next, Next::Ends(Answered::Ok(Given::Done)))
+        matches!(&self.stage.lead, Lead::Ends(Answered::Ok(Given::Done)))
     }
 }
 

@@ -1,26 +1,27 @@
 //! Where the reply to a turn leads that takes in no answer of a hook.
 
-ghost use Rattle.std.specs.Prelude.{◌≡◌};
+ghost use Rattle.std.specs.Prelude.{◌≡◌, None};
 ghost use Rattle.call_table.specs.Table.{is_marked, op_of, starved, turned};
+ghost use Rattle.call_table.specs.Stages.{led};
 
 use crate::settings::{advanced, doomed, ended, made, owned, published, was_reset};
-use crate::{Answered, Next, Then, TurnPoint};
+use crate::{Answered, Lead, Then, TurnPoint};
 use space_model::{Addresses, Reply};
 
 /// After regions went back.
-fn gave(addrs: &Addresses, reply: &Reply) -> Next
-    ensures { result ≡ turned (TurnPoint.Giving addrs.now) reply.now }
+fn gave(addrs: &Addresses, reply: &Reply) -> Lead
+    ensures { led result None ≡ turned (TurnPoint.Giving addrs.now) reply.now }
 {
     match *reply {
         Reply::Next(next) => Then::Batches.put_next(next),
-        _ => Next::Nowhere,
+        _ => Lead::Nowhere,
     }
 }
 
 impl TurnPoint {
     /// Where the reply to the turn leads.
-    pub(crate) fn turned(&self, reply: &Reply) -> Next
-        ensures { result ≡ turned self.now reply.now }
+    pub(crate) fn turned(&self, reply: &Reply) -> Lead
+        ensures { led result None ≡ turned self.now reply.now }
     {
         match self {
             TurnPoint::Filling(wish, count) => wish.filled(*count, reply),
@@ -47,14 +48,14 @@ impl TurnPoint {
     }
 
     /// Where the turn leads that found no memory: only the first one of what belongs together may find none.
-    pub(crate) fn starved(&self) -> Next
-        ensures { result ≡ starved (is_marked (op_of self.now)) }
+    pub(crate) fn starved(&self) -> Lead
+        ensures { led result None ≡ starved (is_marked (op_of self.now)) }
     {
         match self {
             TurnPoint::Landing(..) | TurnPoint::Finding { .. } | TurnPoint::Offering(..) => {
-                Next::Nowhere
+                Lead::Nowhere
             }
-            _ => Next::Ends(Answered::NoMemory),
+            _ => Lead::Ends(Answered::NoMemory),
         }
     }
 }

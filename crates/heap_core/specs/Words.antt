@@ -18,8 +18,4 @@ pub use Rattle.call_table.specs.declared.points.TurnPoint.{TurnPoint}
 pub use Rattle.call_table.specs.declared.points.TurnPoint.TheVariants.{Filling, Looking, Landing, Giving, Finding, Taking, Offering, Advancing, Changing, Making, Resetting, Destroying, Dooming, Publishing, Owning}
 pub use Rattle.call_table.specs.declared.points.AskPoint.{AskPoint}
 pub use Rattle.call_table.specs.declared.points.AskPoint.TheVariants.{Skipping, Trimming, Growing, Paring, Needing, Granting, Committing, Merging, Easing, Returning, Decommitting, Forcing}
-pub use Rattle.call_table.specs.declared.points.Point.{Point}
-pub use Rattle.call_table.specs.declared.points.Point.TheVariants.{Turns, Asks, Tells}
-pub use Rattle.call_table.specs.declared.points.Next.{Next}
-pub use Rattle.call_table.specs.declared.points.Next.TheVariants.{Go, Over, More, Gone, Ends, Nowhere}
-pub use Rattle.call_table.specs.declared.calls.Stage.{Stage}
+pub use Rattle.call_table.specs.Stages.{Point, Turns, Asks, Tells, Next, Go, Over, More, Gone, Ends, Nowhere, Stage}

@@ -1,4 +1,6 @@
 pub mod Asked
+pub mod Briefs
+pub mod Numbers
 pub mod Chain
 pub mod Counts
 pub mod Deeds

@@ -3,35 +3,78 @@
 ghost use Rattle.std.specs.Prelude.{◌≡◌};
 ghost use Rattle.hook_api.specs.Asked.{by_box, heard_in, RefusalCounts};
 
+use crate::briefs::{AnswerShape, AskShape, BriefAnswer, BriefAsk};
 use space_model::{Answer, Ask, Heard, Seq};
 use std::marker::Model;
 
 /// An ask that was made, with its answer. Only a shelf makes one. `Refused` means that the count of refusals of its box
-/// number rose from `before` to `after`, or stands at the greatest `u64`.
+/// number rose from `before` to `after`, or stands at the greatest `u64`. The ask and the answer are kept in few numbers, since
+/// a journal has many of them: contracts see them whole.
 #[derive(Clone, Copy)]
 pub struct Asked {
-    pub(crate) box_no: u32,
-    pub(crate) place: u64,
-    pub(crate) ask: Ask,
-    pub(crate) answer: Answer,
-    pub(crate) before: u64,
-    pub(crate) after: u64,
-    pub(crate) planned: bool,
+    box_no: u32,
+    planned: bool,
+    ask_shape: AskShape,
+    flag: bool,
+    answer_shape: AnswerShape,
+    a: u64,
+    b: u64,
+    c: u64,
+    d: u64,
+    first: u64,
+    place: u64,
+    before: u64,
+    after: u64,
 }
 
 impl Model for Asked {
-    ghost use Rattle.hook_api.specs.Asked.{AskFacts, RefusalCounts};
+    ghost use Rattle.hook_api.specs.Asked.{AskFacts};
+    ghost use Rattle.hook_api.specs.Numbers.{IsAsked, fields_are, fields_of, shown};
 
     ghost Value = { AskFacts };
 
-    ghost view = { λ a. record { box_no = a.box_no; place = a.place; ask = a.ask; answer = a.answer; before = a.before; after = a.after; planned = a.planned } };
+    ghost view = { shown };
 
-    ghost invariant = { λ a. RefusalCounts a.answer a.before a.after };
+    ghost invariant = { IsAsked };
 
-    ghost inverse = { λ f. record { box_no = f.box_no; place = f.place; ask = f.ask; answer = f.answer; before = f.before; after = f.after; planned = f.planned } };
+    ghost inverse = { fields_of };
+
+    ghost inverse_ok = { fields_are };
 }
 
 impl Asked {
+    /// An ask that was made of a box number at a place, with its answer, the counts of refusals before and after, and
+    /// whether a plan refused it.
+    pub(crate) fn new(
+        at: (u32, u64),
+        ask: Ask,
+        answer: Answer,
+        counts: (u64, u64),
+        planned: bool,
+    ) -> Asked
+        requires { RefusalCounts answer counts.0 counts.1 }
+        ensures { result ≡ record { box_no = at.0; place = at.1; ask = ask; answer = answer; before = counts.0; after = counts.1; planned = planned } }
+    {
+        let ((box_no, place), (before, after)) = (at, counts);
+        let brief = BriefAsk::of(ask);
+        let said = BriefAnswer::of(answer);
+        Asked {
+            box_no,
+            planned,
+            ask_shape: brief.shape,
+            flag: brief.flag,
+            answer_shape: said.shape,
+            a: brief.a,
+            b: brief.b,
+            c: brief.c,
+            d: brief.d,
+            first: said.first,
+            place,
+            before,
+            after,
+        }
+    }
+
     /// The box number, below 32.
     pub fn box_no(&self) -> u32
         ensures { result ≡ self.now.box_no }
@@ -51,7 +94,15 @@ impl Asked {
     pub fn ask(&self) -> Ask
         ensures { result ≡ self.now.ask }
     {
-        self.ask
+        let brief = BriefAsk {
+            shape: self.ask_shape,
+            flag: self.flag,
+            a: self.a,
+            b: self.b,
+            c: self.c,
+            d: self.d,
+        };
+        brief.ask()
     }
 
     /// The answer.
@@ -59,7 +110,11 @@ impl Asked {
         ensures answer { result ≡ self.now.answer }
         ensures counted { RefusalCounts result self.now.before self.now.after }
     {
-        self.answer
+        let brief = BriefAnswer {
+            shape: self.answer_shape,
+            first: self.first,
+        };
+        brief.answer()
     }
 
     /// The count of refusals of the box number before the ask.
@@ -94,7 +149,7 @@ impl Asked {
     pub(crate) fn by_box(&self) -> bool
         ensures { result ≡ by_box self.now }
     {
-        matches!(self.answer, Answer::Refused) && !self.planned
+        matches!(self.answer_shape, AnswerShape::No) && !self.planned
     }
 
     /// The ask with its answer.
@@ -102,8 +157,8 @@ impl Asked {
         ensures { result ≡ heard_in self.now }
     {
         Heard {
-            ask: self.ask,
-            answer: self.answer,
+            ask: self.ask(),
+            answer: self.answer(),
         }
     }
 }

@@ -9,6 +9,7 @@
 mod asked;
 mod books;
 mod boxed;
+mod briefs;
 mod deeds;
 mod desk;
 mod hooks;

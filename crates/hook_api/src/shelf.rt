@@ -118,15 +118,7 @@ pub(crate) fn ask_box<H: ExtentHooks>(
         call(hooks, ask)
     };
     let after = count(hooks, book);
-    Asked {
-        box_no,
-        place,
-        ask,
-        answer,
-        before,
-        after,
-        planned,
-    }
+    Asked::new((box_no, place), ask, answer, (before, after), planned)
 }
 
 impl<H: ExtentHooks> HookShelf<H> {

@@ -24,10 +24,7 @@ use Rattle.call_table.specs.declared.needs.Item.{Item}
 use Rattle.call_table.specs.declared.needs.Request.{Request}
 use Rattle.call_table.specs.declared.needs.Request.TheVariants.{Memalign}
 use Rattle.call_table.specs.declared.points.TurnPoint.TheVariants.{Owning}
-use Rattle.call_table.specs.declared.points.Point.{Point}
-use Rattle.call_table.specs.declared.points.Point.TheVariants.{Turns}
-use Rattle.call_table.specs.declared.points.Next.{Next}
-use Rattle.call_table.specs.declared.points.Next.TheVariants.{Go, Over, More, Gone, Ends, Nowhere}
+use Rattle.call_table.specs.Stages.{Point, Turns, Next, Go, Over, More, Gone, Ends, Nowhere}
 use Rattle.call_table.specs.Aligned.{IsCacheAligned}
 use Rattle.call_table.specs.Calls.{CallFacts}
 use Rattle.call_table.specs.Causes.{AllCame, Came}

@@ -15,10 +15,7 @@ use Rattle.call_table.specs.declared.points.TurnPoint.{TurnPoint}
 use Rattle.call_table.specs.declared.points.TurnPoint.TheVariants.{Filling, Looking, Landing}
 use Rattle.call_table.specs.declared.points.AskPoint.{AskPoint}
 use Rattle.call_table.specs.declared.points.AskPoint.TheVariants.{Skipping, Trimming, Growing, Paring, Needing, Granting, Committing}
-use Rattle.call_table.specs.declared.points.Point.{Point}
-use Rattle.call_table.specs.declared.points.Point.TheVariants.{Turns, Asks, Tells}
-use Rattle.call_table.specs.declared.points.Next.{Next}
-use Rattle.call_table.specs.declared.points.Next.TheVariants.{Go, Over, More}
+use Rattle.call_table.specs.Stages.{Point, Turns, Asks, Tells, Next, Go, Over, More}
 use Rattle.call_table.specs.Runs.{begin_get, begin_memalign, is_alignment, page_align, small_hit}
 use Rattle.call_table.specs.Table.{chunks_for, commit, is_marked, op_of, starved, step, told, trim, turned}
 use Rattle.call_table.proofs.Bounds.{chosen_stage}

@@ -11,9 +11,7 @@ use Rattle.hook_api.specs.Shelf.{Shelf}
 use Rattle.thread_cache.specs.declared.Held.{Held}
 use Rattle.thread_cache.specs.Desks.{held_at}
 use Rattle.call_table.specs.declared.needs.Answered.TheVariants.{NoMemory}
-use Rattle.call_table.specs.declared.points.Next.{Next}
-use Rattle.call_table.specs.declared.points.Next.TheVariants.{Go}
-use Rattle.call_table.specs.declared.points.Point.{Point}
+use Rattle.call_table.specs.Stages.{Next, Go, Point}
 use Rattle.call_table.specs.Calls.{CallFacts}
 use Rattle.call_table.specs.Reads.{taken_next}
 use Rattle.call_table.specs.Table.{Want, WantAsk, WantTurn, want}

@@ -6,9 +6,7 @@ use Rattle.hook_api.specs.Shelf.{Shelf}
 use Rattle.call_table.specs.declared.needs.Answered.TheVariants.{NoMemory}
 use Rattle.call_table.specs.declared.needs.Item.{Item}
 use Rattle.call_table.specs.declared.needs.Request.{Request}
-use Rattle.call_table.specs.declared.points.Next.{Next}
-use Rattle.call_table.specs.declared.points.Next.TheVariants.{Go, Over, More, Gone, Ends, Nowhere}
-use Rattle.call_table.specs.declared.points.Point.{Point}
+use Rattle.call_table.specs.Stages.{Next, Go, Over, More, Gone, Ends, Nowhere, Point}
 use Rattle.call_table.specs.Calls.{CallFacts}
 use Rattle.call_table.specs.Desks.{desk_fed}
 use Rattle.call_table.specs.Needs.{Goes, IsPlace}

@@ -1,7 +1,7 @@
 -- Every answer of a play has its cause: the reasons of a call are kept by each step.
 use Rattle.std.proofs.Common.{ℕ, List, Option, None, Some, IfSome}
 use Rattle.call_table.specs.declared.needs.Answered.{Answered}
-use Rattle.call_table.specs.declared.points.Next.{Next}
+use Rattle.call_table.specs.Stages.{Next}
 use Rattle.heap_core.specs.Seats.{asked_for, seat_at}
 use Rattle.call_table.proofs.Reasons.{NextWhy, begin_why, settle_why, step_why}
 use Rattle.replay_run.specs.Answers.{AnswerCause, AnswersHaveCauses, IsCaused, Tale, answer_in, tale_in}

@@ -5,9 +5,7 @@ use Rattle.edge_io.specs.Bytes.{Appends, AppendsPrefix}
 use Rattle.hook_api.specs.Chain.{Chain}
 use Rattle.hook_api.specs.Shelf.{Shelf}
 use Rattle.call_table.specs.declared.needs.Answered.TheVariants.{NoMemory}
-use Rattle.call_table.specs.declared.points.Next.{Next}
-use Rattle.call_table.specs.declared.points.Next.TheVariants.{Go}
-use Rattle.call_table.specs.declared.points.Point.{Point}
+use Rattle.call_table.specs.Stages.{Next, Go, Point}
 use Rattle.call_table.specs.Calls.{CallFacts}
 use Rattle.call_table.specs.Table.{Want, WantAsk, WantTurn, want}
 use Rattle.heap_core.specs.declared.heaps.Did.{Did}

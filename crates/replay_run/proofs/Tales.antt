@@ -18,10 +18,7 @@ use Rattle.call_table.specs.declared.needs.Item.{Item}
 use Rattle.call_table.specs.declared.needs.Item.TheVariants.{Replied, Told as ToldItem}
 use Rattle.call_table.specs.declared.needs.Request.{Request}
 use Rattle.call_table.specs.declared.points.TurnPoint.TheVariants.{Owning}
-use Rattle.call_table.specs.declared.points.Point.{Point}
-use Rattle.call_table.specs.declared.points.Point.TheVariants.{Turns}
-use Rattle.call_table.specs.declared.points.Next.{Next}
-use Rattle.call_table.specs.declared.points.Next.TheVariants.{Go, Over, More, Gone, Ends, Nowhere}
+use Rattle.call_table.specs.Stages.{Point, Turns, Next, Go, Over, More, Gone, Ends, Nowhere}
 use Rattle.call_table.specs.Calls.{CallFacts, moment_of}
 use Rattle.call_table.specs.Causes.{Came}
 use Rattle.call_table.specs.Desks.{desk_fed}

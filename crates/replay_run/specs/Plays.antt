@@ -6,8 +6,7 @@ use Rattle.hook_api.specs.Asked.{AskFacts}
 use Rattle.hook_api.specs.Chain.{Made, PlanSet}
 use Rattle.hook_api.specs.Chain.{Event as ShelfEvent}
 use Rattle.hook_api.specs.Hooks.{Answers as AnswersTo}
-use Rattle.call_table.specs.declared.points.Next.TheVariants.{Go}
-use Rattle.call_table.specs.declared.points.Point.{Point}
+use Rattle.call_table.specs.Stages.{Go, Point}
 use Rattle.call_table.specs.Calls.{CallFacts}
 use Rattle.call_table.specs.declared.needs.Item.TheVariants.{Told as ToldItem}
 use Rattle.call_table.specs.Table.{Want, WantAsk, WantTurn, want}

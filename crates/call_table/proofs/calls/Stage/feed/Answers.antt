@@ -6,8 +6,8 @@ use Rattle.call_table.proofs.calls.Stage.feed.Goals as goal
 
 pub returns-clause-sized : goal.returns-clause-sized
 returns-clause-sized c =
-    let was = c.args.self.now in
+    let was = c.hear.new.self in
     let desk = c.args.desk.now.facts in
-    let few = subst (λ n. IsSizedNext (settle c.args.request desk was.arena n).next) (sym c.step-next.ensures)
-    (settle_few c.args.request desk was.arena (step_next was.next c.args.item.now) (next_few was.next c.args.item.now c.requires)) in
+    let few = subst (λ n. IsSizedNext (settle c.args.request desk was.arena n).next) (sym c.step-lead.ensures)
+    (settle_few c.args.request desk was.arena (step_next was.next c.args.item.now) (next_few was.next c.args.item.now (c.hear.ensures.sized c.requires))) in
     led_or_ended IsSizedNext c.settle.result _ _ _ c.settle.new.self c.settle.ensures.stage c.settle.ensures.err few tt

@@ -1,0 +1,64 @@
+-- Where a call stands: at a point, or at its end.
+use Rattle.std.specs.Prelude.{◌≡◌, ℕ, Bool, true, false, Option, None, Some}
+use Rattle.space_model.specs.declared.Span.{Span}
+use Rattle.hook_api.specs.Asked.{AskFacts}
+use Rattle.call_table.specs.declared.needs.Answered.{Answered}
+use Rattle.call_table.specs.declared.needs.Item.{Item}
+use Rattle.call_table.specs.declared.needs.Item.TheVariants.{Told}
+use Rattle.call_table.specs.declared.points.AskPoint.{AskPoint}
+use Rattle.call_table.specs.declared.points.TurnPoint.{TurnPoint}
+use Rattle.call_table.specs.declared.points.Place.{Place}
+use Rattle.call_table.specs.declared.points.Place.TheVariants.{Turns as AtTurn, Asks as AtAsk, Tells as AtEnd}
+use Rattle.call_table.specs.declared.points.Lead.{Lead}
+use Rattle.call_table.specs.declared.points.Lead.TheVariants.{To, Over as ToOther, More as ToMore, Gone as ToGone, Ends as ToAnswer, Nowhere as ToNowhere}
+
+-- A point at which a call waits: for the reply to a turn; for the answer to an ask, or, where it is there, for the reply to the
+-- turn that takes it in; or for the ask that destroys an extent of an arena that has ended, committed or not.
+pub data Point : Type 0 where
+  Turns : TurnPoint → Point
+  Asks : AskPoint → Option AskFacts → Point
+  Tells : Span → Bool → Point
+
+-- Where an item leads: to a point; to a point of the arena with this index; to the next batch of regions that go back, or to the
+-- end; to the end, since the arena isn't live; to an answer; or nowhere, since it is none that could come.
+pub data Next : Type 0 where
+  Go : Point → Next
+  Over : ℕ → Point → Next
+  More : Next
+  Gone : Next
+  Ends : Answered → Next
+  Nowhere : Next
+
+-- Where a call stands: the index of the arena whose turn or ask it waits for, and the point, or its answer.
+pub record Stage : Type 0 where
+  pub arena : ℕ
+  pub next : Next
+
+-- the point at a place, with what was answered there
+abbrev pub point_at : Place → Option AskFacts → Point
+point_at (AtTurn point) heard = Turns point
+point_at (AtAsk point) heard = Asks point heard
+point_at (AtEnd span is_committed) heard = Tells span is_committed
+
+-- where a lead leads, with what was answered there
+abbrev pub led : Lead → Option AskFacts → Next
+led (To place) heard = Go (point_at place heard)
+led (ToOther arena place) heard = Over arena (point_at place heard)
+led ToMore heard = More
+led ToGone heard = Gone
+led (ToAnswer answer) heard = Ends answer
+led ToNowhere heard = Nowhere
+
+-- the item is the answer that is waited for at a point
+abbrev pub hears : Point → Item → Bool
+hears (Asks point None) (Told asked) = true
+hears point item = false
+
+abbrev pub hears_next : Next → Item → Bool
+hears_next (Go point) item = hears point item
+hears_next next item = false
+
+-- only at an ask there is an answer to be taken in
+abbrev pub IsHeardAt : Lead → Option AskFacts → Type 0
+IsHeardAt (To (AtAsk point)) heard = Unit {0}
+IsHeardAt lead heard = heard ≡ None
