@@ -124,16 +124,24 @@ pub sound_ranges : (s : Space) → Sound s → Ranges s.box_no s.dirty s.muzzy s
 sound_ranges s sound = record { box = sound.box; dirty = sound.dirty; muzzy = sound.muzzy; grow = sound.grow; grow_limit = sound.grow_limit }
 
 -- where no other client owns less or more
-pub range_frame : (c : ℕ) (s t : Space) → Sound s → Ranges t.box_no t.dirty t.muzzy t.grow t.grow_limit →
-    t.offers ≡ s.offers → t.bound ≡ s.bound → t.trims ≡ s.trims → t.life ≡ s.life → Frame c s t
-range_frame c s t sound ranges offers bound trims life = record {
+pub own_frame : (c : ℕ) (s t : Space) → Sound s → Ranges t.box_no t.dirty t.muzzy t.grow t.grow_limit → t.offers ≡ s.offers →
+    ((d : ℕ) → d ≢ c → list_any (λ b. b == d) t.bound ≡ list_any (λ b. b == d) s.bound) →
+    ((d : ℕ) → d ≢ c → list_any (λ b. b == d) t.trims ≡ list_any (λ b. b == d) s.trims) →
+    ((d : ℕ) → d ≢ c → is_dying d t.life ≡ is_dying d s.life) → Frame c s t
+own_frame c s t sound ranges offers bound trims dying = record {
   offered = subst (All (λ (o : Offered). IsPlaced o.span)) (sym offers) sound.offered;
   ranges = ranges;
   offers = λ d other. ap (filter (λ o. o.client == d)) offers;
-  bound = λ d other. ap (list_any (λ b. b == d)) bound;
-  trims = λ d other. ap (list_any (λ b. b == d)) trims;
-  dying = λ d other. ap (is_dying d) life;
+  bound = bound;
+  trims = trims;
+  dying = dying;
 }
+
+-- where nobody does
+pub range_frame : (c : ℕ) (s t : Space) → Sound s → Ranges t.box_no t.dirty t.muzzy t.grow t.grow_limit →
+    t.offers ≡ s.offers → t.bound ≡ s.bound → t.trims ≡ s.trims → t.life ≡ s.life → Frame c s t
+range_frame c s t sound ranges offers bound trims life =
+    own_frame c s t sound ranges offers (λ d other. ap (list_any (λ b. b == d)) bound) (λ d other. ap (list_any (λ b. b == d)) trims) (λ d other. ap (is_dying d) life)
 
 -- where nothing else changes
 pub kept_frame : (c : ℕ) (s : Space) (parts : List Part) (regions : List Region) → Sound s → Frame c s (record s { parts = parts; regions = regions })

@@ -1,5 +1,5 @@
 -- How large the numbers of a decay are.
-use Rattle.std.proofs.Common.{◌≡◌, ℕ, suc, ◌+◌, ◌-◌, ◌*◌, ◌/◌, ◌^◌, ◌<◌, ◌≤◌, max, Bool, true, false, cond, ◌&&◌, List, [], ◌∷◌, refl, inl, inr, arith, All, AllPairs, ltb as nat_lt, leb}
+use Rattle.std.proofs.Common.{◌≡◌, ℕ, suc, ◌+◌, ◌-◌, ◌*◌, ◌/◌, ◌^◌, ◌<◌, ◌≤◌, max, Bool, true, ◌&&◌, List, [], ◌∷◌, refl, inl, inr, arith, All, AllPairs, leb}
 use Rattle.space_model.proofs.Words.{sum_by, mul-le-mul, mul-le-mul_left, div-le_self, and_parts, leb-true, cases_lt, nat_tests, sum_by-cons, All-head, All-tail, passes_below, at, Added, pages_end, weighed, limit_at}
 use Rattle.space_model.specs.Pace.{weight}
 

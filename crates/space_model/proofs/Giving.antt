@@ -1,5 +1,5 @@
 -- Regions that are given back, and the extents that they leave empty.
-use Rattle.std.proofs.Common.{◌≡◌, ℕ, ◌<◌, ◌≢◌, true, false, not, IsTrue, List, [], ◌∷◌, length, get_or, refl, ap, arith, filter}
+use Rattle.std.proofs.Common.{◌≡◌, ℕ, ◌<◌, ◌≢◌, true, false, not, List, [], ◌∷◌, length, get_or, refl, ap, arith, filter}
 use Rattle.space_model.proofs.Words.{sum_by, count_by, list_any, sum_by-cons, All-weaker, filter_passes, Back, Part, Region, Space, Live, is_active, is_flight, taken_out, houses, homes, is_held_by, is_given_back, staying, is_emptied, after_back, flight, Sound}
 use Rattle.space_model.proofs.Lists.{any_counts, none_passes, not_true, ones, apart_count}
 use Rattle.space_model.proofs.Mixes.{mixed_filter}
@@ -17,10 +17,6 @@ emptied_is : (regions : List Region) (p : Part) → is_emptied regions p ≡ tru
 emptied_is regions p h =
     let both = both_true (is_active p.state) _ h in
     (both.0, not_true _ both.1)
-
--- an active extent that isn't emptied serves one of them
-kept_serves : (regions : List Region) (p : Part) → not (is_emptied regions p) ≡ true → IsTrue (is_active p.state) → list_any (houses p) regions ≡ true
-kept_serves regions p h act = grind arith
 
 -- ---- Back
 
@@ -59,7 +55,7 @@ back_does c s addrs sound live =
       same = λ p. refl;
       fits = λ p gone fits. Piece-taken c p fits;
       empty = λ k d h. nowhere rest s.parts k d h;
-      served = All-weaker (λ p. not (is_emptied rest p) ≡ true) (Used rest) (λ p kept act. any_counts (houses p) rest (kept_serves rest p kept act)) stay
+      served = All-weaker (λ p. not (is_emptied rest p) ≡ true) (Used rest) (λ p kept act. any_counts (houses p) rest (grind arith)) stay
           (filter_passes (λ p. not (is_emptied rest p)) s.parts);
       nobody = λ d other. none_flying d rest s.parts;
       held = λ d other. none_held c d addrs s.regions other;
