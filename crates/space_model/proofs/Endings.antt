@@ -1,6 +1,6 @@
 -- What a reset, a destroy and the takes after it do.
 use Rattle.std.proofs.Common.{true, false, ◌≡◌, ◌≢◌, ℕ, Bool, not, cond, IsTrue, List, ◌∷◌, length, refl, sym, ◌∙◌, ap, subst, arith, All, filter, find, ◌&&◌, ◌==◌, []}
-use Rattle.space_model.proofs.Words.{nat_tests, sum_by, count_by, eqb-true, not-false, not-true, nil_from_length, All-weaker, All-append, All-filter, All-nil, All-head, filter_passes, Op, Reset, Destroy, DestroyTake, Reply, Noted, Nothing, Purge, Busy, Offered, Part, ToDirty, ToRetained, State, Life, Absent, Dying, Space, begins_at, is_active, is_flight, is_in_flight, is_listed, moved_to, turned, turned_in_order, homes, residents, is_held_by, is_held_by_other, is_dying, Stepped, stays, is_live, is_dirty_time_over, is_lazy, held_count, flight_count, if_free, emptied, after_reset, reset_stands, ended, after_destroy, doom_at, after_destroy_take, flight, Sound, IsQuiet, DestroyBusy, DestroyNoArena, DestroyNoted, DoomDoomed, DoomNothing, Outcome, ResetBusy, ResetNoArena, ResetNoted, ResetPurge}
+use Rattle.space_model.proofs.Words.{nat_tests, sum_by, count_by, eqb-true, not-false, not-true, nil_from_length, All-weaker, All-append, All-filter, All-nil, All-head, filter_passes, Op, Reset, Destroy, DestroyTake, Reply, Noted, Nothing, Purge, Busy, Offered, Part, ToDirty, ToRetained, Life, Absent, Dying, Space, begins_at, is_active, is_flight, is_in_flight, is_listed, moved_to, turned, turned_in_order, homes, residents, is_held_by, is_held_by_other, is_dying, Stepped, stays, is_live, is_dirty_time_over, is_lazy, held_count, flight_count, if_free, emptied, after_reset, reset_stands, ended, after_destroy, doom_at, after_destroy_take, flight, Sound, IsQuiet, DestroyBusy, DestroyNoArena, DestroyNoted, DoomDoomed, DoomNothing, Outcome, ResetBusy, ResetNoArena, ResetNoted, ResetPurge}
 use Rattle.space_model.proofs.Lists.{false_true, none_counted, nothing_left, nothing_sum, ones, sum_nothing, apart_count}
 use Rattle.space_model.proofs.Mixes.{mix_sum, mixed_second, mixed_filter}
 use Rattle.space_model.proofs.Settled.{Used}
@@ -138,9 +138,6 @@ destroy_goes c s cached sound stands =
 -- ---- DestroyTake
 
 -- an extent of a dying arena is nobody's flight
-grounded_own : (d : ℕ) (state : State) → is_in_flight state ≡ false → is_flight d state ≡ false
-grounded_own d state h = grind arith
-
 -- what is true of a dying arena
 quiet_dying : (s : Space) (c : ℕ) → Sound s → s.life ≡ Dying c → IsQuiet (Dying c) s
 quiet_dying s c sound is = subst (λ (l : Life). IsQuiet l s) is sound.quiet
@@ -160,9 +157,9 @@ doom_goes c s (p ∷ ps) e sound is =
     let grounded : is_in_flight p.state ≡ false = All-head (λ q. is_in_flight q.state ≡ false) p ps (subst (All (λ (q : Part). is_in_flight q.state ≡ false)) e still.3) in
     let used : Used s.regions p = All-head (Used s.regions) p ps (subst (All (Used s.regions)) e sound.used) in
     let idle : is_active p.state ≡ false = grind (arith, used, ap (residents p) still.0) in
-    let lands : flight c p ≡ 0 = ap ones (grounded_own c p.state grounded) in
+    let lands : flight c p ≡ 0 = grind (arith, grounded) in
     goes sound (go_does c s t DestroyTake _ (λ q. true) p sound (ap (find (λ q. true)) e)
-    (record { idle = idle; fits = fits; own = λ d other. grounded_own d p.state grounded }) refl refl (kept_frame c s t.parts s.regions sound)
+    (record { idle = idle; fits = fits; own = λ d other. grind (arith, grounded) }) refl refl (kept_frame c s t.parts s.regions sound)
     (subst (λ (l : Life). IsQuiet l t) (sym is)
     (still.0, still.1, still.2, All-append (λ q. is_in_flight q.state ≡ false) stay [] (All-filter (λ q. not (gone q)) (λ q. is_in_flight q.state ≡ false) s.parts still.3) (All-nil (λ q. is_in_flight q.state ≡ false))))
     (λ page before. refl) (omega (arith, lands))) (λ after. DoomDoomed p.span p.committed refl)

@@ -417,19 +417,14 @@ row_spot {c} {s} {t} {class} {p} {stay} one i some within =
           let there : homes q stay ≤ holders (a / 4096) stay = subst (λ m. homes q stay ≤ holders (m / 4096) stay) same (homes-le-holders q.addr q stay byte) in
           absurd (omega (arith, one.homes k d h, there, at, landed_holders one (share (a / 4096)), one.sound.owners (a / 4096)))
     ] refl in
-    let differ : starts_at a first ≡ false = other_start (address_of p.span.first) i (size_at class) some bounds in
+    let far = row_fits 0 (size_at class) i (size_at class) some (omega arith) in
+    let differ : starts_at a first ≡ false = grind (arith, nat_tests, far, bounds) in
     let test : Region → Bool = λ q. q.class == class && houses p q in
     let here : ones (test first) ≡ 1 = rw (eqb_itself class, served 0 (omega (arith, within))) refl in
     let slab : is_slab class t.regions p ≡ true = counted_any test t.regions (omega (arith, ap (count_by test) one.regions, sum_by-insert (λ q. ones (test q)) s.regions n first, here)) in
     let spots = subst (All (Takes c class t.parts t.regions)) one.parts (place_spots c class t.parts t.regions one.small one.sound.owners (sound_settled t one.sound)) in
     All-head (Takes c class t.parts t.regions) p [] (mix_second (Takes c class t.parts t.regions) (mixed_append stay (p ∷ [])) spots) slab a (i, within, refl)
     (subst (All (λ q. starts_at a q ≡ false)) (sym one.regions) (All-insert (λ q. starts_at a q ≡ false) s.regions n first free differ))
-  where
-    other_start : (base i size : ℕ) → 0 < i → 8 ≤ size → ((base + 0 * size) == (base + i * size)) ≡ false
-    other_start base i size some large =
-        let far = row_fits 0 size i size some (omega arith) in
-        let none : 0 * size ≡ 0 = grind arith in
-        grind (arith, nat_tests, far, none)
 
 -- so all of them are settled
 row_settled : {c : ℕ} {s t : Space} {class : ℕ} {p : Part} {stay : List Part} → FirstLanded c s t class p stay → (n : ℕ) → n < regions_at class →
@@ -459,7 +454,7 @@ land_at_does c s span class (suc n) p e sound live within some few pages committ
     let gone = begins_at p.span.first in
     let stay : List Part = filter (λ q. not (gone q)) s.parts in
     let one_step = land_does c s (Land span class (suc n)) (Landed addr (suc n)) (is_flight_at c span) p first sound at.live e at.piece (ap ones at.own)
-    (record { active = refl; committed = committed; class = within; pages = at.pages ∙ pages; start = no_offset addr (size_at class) }) refl (λ page before. refl) refl refl in
+    (record { active = refl; committed = committed; class = within; pages = at.pages ∙ pages; start = grind arith }) refl (λ page before. refl) refl refl in
     let one : Space = record s { parts = stay ++ active ∷ []; regions = inserted first s.regions } in
     let after = lawful_sound one_step.lawful sound in
     let more : List Region = row c class addr 1 n in
@@ -490,9 +485,6 @@ land_at_does c s span class (suc n) p e sound live within some few pages committ
       pages = one_step.pages;
       flew = one_step.flew;
     }
-  where
-    no_offset : (n size : ℕ) → n + 0 * size ≡ n
-    no_offset n size = grind arith
 
 pub land_goes : (c : ℕ) (s : Space) (span : Span) (class count : ℕ) → Sound s → is_live s.life ≡ true → land_stands s c span class count ≡ true →
     Goes c s (Land span class count) (land_at s c class count (find (is_flight_at c span) s.parts))

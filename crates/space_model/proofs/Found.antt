@@ -7,10 +7,6 @@ use Rattle.space_model.proofs.Exchange.{share}
 use Rattle.space_model.proofs.Pieces.{both_true}
 use Rattle.space_model.proofs.Settled.{some_pages}
 
--- a span is itself
-same_span_itself : (s : Span) → same_span s s ≡ true
-same_span_itself s = grind (arith, nat_tests)
-
 -- spans with the same first page and pages are the same
 pub span_is : (s t : Span) → same_span s t ≡ true → s ≡ t
 span_is s t h = grind (arith, nat_tests)
@@ -37,7 +33,7 @@ last_found c t front q sound is own =
     let most : holders page front + share page q ≤ 1 =
     omega (arith, sound.owners page, ap (holders page) is, sum_by-append (share page) front (q ∷ []), sum_by-cons (share page) q []) in
     let none = none_in_front c q front at_end most in
-    let passes : is_flight_at c q.span q ≡ true = rw (own, same_span_itself q.span) refl in
+    let passes : is_flight_at c q.span q ≡ true = grind (arith, nat_tests, own) in
     ap (find (is_flight_at c q.span)) is ∙ find-append (is_flight_at c q.span) front (q ∷ [])
     ∙ ap (λ o. option_or o (find (is_flight_at c q.span) (q ∷ []))) none
     ∙ ap (λ (b : Bool). cond b (Some q) None) passes
@@ -59,4 +55,4 @@ find_kept test gone parts pieces p other found =
 -- the first extent that the client has in flight is found by its span
 pub first_found : (c : ℕ) (parts : List Part) (p : Part) → find (λ q. is_flight c q.state) parts ≡ Some p → find (is_flight_at c p.span) parts ≡ Some p
 first_found c [] p e = absurd (cc)
-first_found c (q ∷ qs) p e = grind (arith, same_span_itself p.span, first_found c qs p)
+first_found c (q ∷ qs) p e = grind (arith, nat_tests, first_found c qs p)

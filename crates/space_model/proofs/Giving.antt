@@ -1,7 +1,7 @@
 -- Regions that are given back, and the extents that they leave empty.
-use Rattle.std.proofs.Common.{◌≡◌, ℕ, ◌<◌, ◌≢◌, true, false, not, List, [], ◌∷◌, length, get_or, refl, ap, arith, filter}
-use Rattle.space_model.proofs.Words.{sum_by, count_by, list_any, sum_by-cons, All-weaker, filter_passes, Back, Part, Region, Space, Live, is_active, is_flight, taken_out, houses, homes, is_held_by, is_given_back, staying, is_emptied, after_back, flight, Sound}
-use Rattle.space_model.proofs.Lists.{any_counts, none_passes, not_true, ones, apart_count}
+use Rattle.std.proofs.Common.{◌≡◌, ℕ, ◌<◌, ◌≢◌, true, not, List, [], ◌∷◌, length, get_or, refl, ap, arith, filter}
+use Rattle.space_model.proofs.Words.{sum_by, count_by, sum_by-cons, All-weaker, filter_passes, Back, Part, Region, Space, Live, is_flight, taken_out, houses, homes, is_held_by, is_given_back, staying, is_emptied, after_back, flight, Sound}
+use Rattle.space_model.proofs.Lists.{any_counts, none_passes, ones, apart_count}
 use Rattle.space_model.proofs.Mixes.{mixed_filter}
 use Rattle.space_model.proofs.Ordered.{ordered-filter}
 use Rattle.space_model.proofs.Turned.{turned_does}
@@ -12,23 +12,17 @@ use Rattle.space_model.proofs.Landing.{eqb_itself}
 
 -- ---- the extents that are emptied
 
--- an emptied extent is active and serves none of the regions
-emptied_is : (regions : List Region) (p : Part) → is_emptied regions p ≡ true → (is_active p.state ≡ true) × (list_any (houses p) regions ≡ false)
-emptied_is regions p h =
-    let both = both_true (is_active p.state) _ h in
-    (both.0, not_true _ both.1)
-
 -- ---- Back
 
 -- the extents that are emptied serve none of the regions that stay
 nowhere : (regions : List Region) (parts : List Part) (k : ℕ) (d : Region) → k < length regions →
     homes (get_or regions k d) (filter (is_emptied regions) parts) ≡ 0
 nowhere regions parts k d h =
-    apart_count (is_emptied regions) (λ p. houses p (get_or regions k d)) parts (λ p gone. none_passes (houses p) regions k d (emptied_is regions p gone).1 h)
+    apart_count (is_emptied regions) (λ p. houses p (get_or regions k d)) parts (λ p gone. none_passes (houses p) regions k d (grind (arith, gone)) h)
 
 -- nor are they in flight
 pub none_flying : (d : ℕ) (regions : List Region) (parts : List Part) → count_by (λ p. is_flight d p.state) (filter (is_emptied regions) parts) ≡ 0
-none_flying d regions parts = apart_count (is_emptied regions) (λ p. is_flight d p.state) parts (λ p gone. active_own d p.state (emptied_is regions p gone).0)
+none_flying d regions parts = apart_count (is_emptied regions) (λ p. is_flight d p.state) parts (λ p gone. active_own d p.state (grind (arith, gone)))
 
 -- no region that a client gives back is another one's
 none_held : (c d : ℕ) (addrs : List ℕ) (regions : List Region) → d ≢ c → count_by (is_held_by d) (filter (is_given_back c addrs) regions) ≡ 0

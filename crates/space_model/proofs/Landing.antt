@@ -73,7 +73,7 @@ serves_new p r site =
 pub one_settled : (p : Part) (r : Region) → Site p r → Settled (p ∷ []) (r ∷ [])
 one_settled p r site =
     let one : serves r p ≡ 1 = ap ones (serves_new p r site) in
-    let first : r.addr ≡ address_of p.span.first + 0 * size_at r.class = site.start ∙ no_offset (address_of p.span.first) (size_at r.class) in
+    let first : r.addr ≡ address_of p.span.first + 0 * size_at r.class = grind (arith, site.start) in
     let alone : residents p (r ∷ []) ≡ 1 = omega (arith, one, sum_by-cons (serves_by p) r []) in record {
       home = All-cons (λ q. homes q (p ∷ []) ≡ 1) r [] (omega (arith, one, sum_by-cons (serves r) p [])) (All-nil (λ q. homes q (p ∷ []) ≡ 1));
       used = All-cons (Used (r ∷ [])) p [] (λ act. omega (arith, alone)) (All-nil (Used (r ∷ [])));
@@ -92,9 +92,6 @@ one_settled p r site =
           (subst (λ addr. addr % align_at r.class ≡ 0) (sym first) (place_aligned p.span.first 0 r.class site.class)) (All-nil (λ q. q.addr % align_at q.class ≡ 0));
       apart = λ byte. omega (arith, sum_by-cons (covered byte) r [], ones_most (covers byte r));
     }
-  where
-    no_offset : (n size : ℕ) → n ≡ n + 0 * size
-    no_offset n size = grind arith
 
 -- A region of a client lands in its extent in flight, which was found.
 pub land_does : (c : ℕ) (s : Space) (op : Op) (reply : Reply) (test : Part → Bool) (p : Part) (r : Region) → Sound s → s.life ≡ Live →

@@ -100,11 +100,6 @@ two_does c s op reply span p down kept sound at lower upper pages flies same =
     (All-cons (Piece c) (put_down down) (kept ∷ []) (Piece-down c down lower.fits) (All-cons (Piece c) kept [] upper (All-nil (Piece c))))
     (λ page. omega (arith, sums (share page), pages page)) same.0 (omega (arith, sums (flight c), lands, flies, same.1, same.2))
 
--- the piece that is kept is the client's
-kept_own : (c : ℕ) (keep_low : Bool) (left : ℕ) (p : Part) → is_flight c p.state ≡ true → (is_flight c (kept_piece keep_low left p).state ≡ true) × ((kept_piece keep_low left p).committed ≡ p.committed)
-kept_own c true left p own = (own, refl)
-kept_own c false left p own = (own, refl)
-
 cut_at_goes : (c : ℕ) (s : Space) (heard : Heard) (keep_low : Bool) (span : Span) (left : ℕ) (p : Part) → heard.ask ≡ Split span left → find (is_flight_at c span) s.parts ≡ Some p →
     Sound s → is_live s.life ≡ true → 0 < left → left < span.pages → Goes c s (CutDone heard keep_low) (cut_at s keep_low left (Some p))
 cut_at_goes c s heard keep_low span left p is e sound live some fewer =
@@ -114,7 +109,6 @@ cut_at_goes c s heard keep_low span left p is e sound live some fewer =
     let up = Piece-high c left p at.piece some less in
     let op : Op = CutDone heard keep_low in
     let kept : Part = kept_piece keep_low left p in
-    let own = kept_own c keep_low left p at.own in
     let front : List Part = filter (λ q. not (begins_at p.span.first q)) s.parts in
     let other : Part = put_down (other_piece keep_low left p) in
     goes sound (elim keep_low as (λ b. Does c s op (cut_at s b left (Some p))) [
@@ -122,7 +116,7 @@ cut_at_goes c s heard keep_low span left p is e sound live some fewer =
       | false ↦ two_does c s op _ span p (low_piece left p) (high_piece left p) sound at down up (λ page. cut_shares page left p some less) refl (λ page before. refl, refl, refl)
     ])
     (λ after. CutKept span kept.span left p.committed is (found_flies c s span p e) (grind (arith, (found_span c span s.parts p e).0))
-    (last_flies c (cut_at s keep_low left (Some p)).after (front ++ other ∷ []) kept p.committed after (sym (append_assoc front (other ∷ []) (kept ∷ []))) own.0 own.1))
+    (last_flies c (cut_at s keep_low left (Some p)).after (front ++ other ∷ []) kept p.committed after (sym (append_assoc front (other ∷ []) (kept ∷ []))) (grind (arith, at.own)) (grind arith)))
 
 pub cut_goes : (c : ℕ) (s : Space) (heard : Heard) (keep_low : Bool) (ask : Ask) (answer : Answer) → heard.ask ≡ ask → Sound s → is_live s.life ≡ true →
     cut_stands s c ask answer ≡ true → Goes c s (CutDone heard keep_low) (after_cut s c keep_low ask answer)
@@ -205,11 +199,6 @@ belongs r state h = grind arith
 pub beq_itself : (a : Bool) → beq a a ≡ true
 beq_itself a = grind arith
 
--- an extent and a neighbour that is like it may be merged, once that is taken out
-like_merges : (c : ℕ) (p other : Part) → is_like p other ≡ true → (may_merge p (taken_out c other) ≡ true) × (may_merge (taken_out c other) p ≡ true)
-like_merges c p other h =
-    (grind (arith, h), grind (arith, h))
-
 -- A neighbour that is taken out leaves the extent where it was.
 record Neighboured (c : ℕ) (s : Space) (p other : Part) (own : Span) : Type 0 where
   stays : find (is_flight_at c own) (exchanged (begins_at other.span.first) s.parts (taken_out c other ∷ [])) ≡ Some p
@@ -224,7 +213,7 @@ beside_it c s p other own found like differ after =
       stays = find_kept (is_flight_at c own) gone s.parts (taken_out c other ∷ []) p
           (λ q h. grind (arith, nat_tests, differ, at.0)) found;
       taken = last_found c (record s { parts = exchanged gone s.parts (taken_out c other ∷ []) }) (filter (λ q. not (gone q)) s.parts) (taken_out c other) after refl (itself c);
-      merges = like_merges c p other like;
+      merges = (grind (arith, like), grind (arith, like));
     }
 
 -- the neighbour on the right is in flight too

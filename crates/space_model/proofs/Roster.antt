@@ -1,6 +1,6 @@
 -- Lists of clients: that each is in them once, and how many there may be.
-use Rattle.std.proofs.Common.{◌≢◌, ◌==◌, ◌≡◌, ℕ, zero, suc, ◌+◌, ◌<◌, ◌≤◌, Bool, true, false, cond, List, [], ◌∷◌, ◌++◌, filter, length, nat_eq, refl, arith, length-append}
-use Rattle.space_model.proofs.Words.{list_any, range_with_len, nat_tests, list_any-append, length-le_from_distinct_below, is_in, IsRoster, AllPairs-filter, all_pairs_push}
+use Rattle.std.proofs.Common.{◌≢◌, ◌==◌, ◌≡◌, ℕ, zero, suc, ◌+◌, ◌<◌, ◌≤◌, Bool, false, cond, List, [], ◌∷◌, ◌++◌, filter, length, nat_eq, refl, arith, length-append}
+use Rattle.space_model.proofs.Words.{range_with_len, nat_tests, list_any-append, length-le_from_distinct_below, is_in, IsRoster, AllPairs-filter, all_pairs_push}
 use Rattle.space_model.proofs.Lists.{counted_any, any_counts, none_passes}
 use Rattle.space_model.proofs.Mixes.{mix_sum, mixed_filter}
 use Rattle.std.specs.List.{IsDistinct}
@@ -12,15 +12,10 @@ distinct-push : (c : ℕ) (xs : List ℕ) → IsDistinct nat_eq xs → is_in c x
 distinct-push c xs h new =
     IsDistinct-from_AllPairs Decides-eqb _ (all_pairs_push (λ x y. x ≢ y) xs c (AllPairs-from_IsDistinct Decides-eqb xs h) (λ k d lt e. let apart = none_passes (λ b. b == c) xs k d new lt in grind (arith, nat_tests)))
 
--- a member of a filtered list is one of the list
-member-filter : (c : ℕ) (test : ℕ → Bool) (xs : List ℕ) → list_any (nat_eq c) (filter test xs) ≡ true → list_any (nat_eq c) xs ≡ true
-member-filter c test xs h =
-    counted_any (nat_eq c) xs (omega (arith, any_counts (nat_eq c) (filter test xs) h, mix_sum (λ x. cond (nat_eq c x) 1 0) (mixed_filter test xs)))
-
 pub IsRoster-filter : (test : ℕ → Bool) (xs : List ℕ) → IsRoster xs → IsRoster (filter test xs)
 IsRoster-filter test xs h = record {
   once = IsDistinct-from_AllPairs Decides-eqb _ (AllPairs-filter (λ x y. x ≢ y) test xs (AllPairs-from_IsDistinct Decides-eqb xs h.once));
-  below = λ c k. h.below c (member-filter c test xs k);
+  below = λ c k. h.below c (counted_any (nat_eq c) xs (omega (arith, any_counts (nat_eq c) (filter test xs) k, mix_sum (λ x. cond (nat_eq c x) 1 0) (mixed_filter test xs))));
 }
 
 pub IsRoster-push : (c : ℕ) (xs : List ℕ) → IsRoster xs → c < 32 → is_in c xs ≡ false → IsRoster (xs ++ c ∷ [])

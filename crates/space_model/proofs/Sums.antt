@@ -46,11 +46,6 @@ none_below page parts low placed = nothing_sum (share page) parts (All-weaker (�
 below : Part
 below = record { span = record { first = 0; pages = 512 }; state = Retained; committed = false }
 
--- no page of it is in an extent
-below_apart : (page : ℕ) (parts : List Part) → All (λ p. IsPlaced p.span) parts → holders page parts ≤ 1 → holders page (below ∷ parts) ≤ 1
-unfolding below
-below_apart page parts placed most = grind (arith, nat_tests, sum_by-cons (share page) below parts, λ (low : page < 512). none_below page parts low placed)
-
 -- the extents have at most the pages of the space
 pub pages_fit_space : (s : Space) → Sound s → sum_by (λ p. p.span.pages) s.parts ≤ pages_end - 512
 unfolding below
@@ -61,7 +56,7 @@ pages_fit_space s sound =
       lengths-le (λ (p : Part). p.span.first) (λ p. p.span.pages) pages_end (below ∷ s.parts)
           (All-cons (λ p. p.span.first + p.span.pages ≤ pages_end) below s.parts (omega arith)
           (All-weaker (λ p. IsPlaced p.span) (λ p. p.span.first + p.span.pages ≤ pages_end) (λ p h. h.2) s.parts sound.placed))
-          (λ page. below_apart page s.parts sound.placed (sound.owners page)),
+          (λ page. grind (arith, nat_tests, sound.owners page, sum_by-cons (share page) below s.parts, λ (low : page < 512). none_below page s.parts low sound.placed)),
     )
 
 pub bytes_fit_space : BytesFitSpace
