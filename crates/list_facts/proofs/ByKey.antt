@@ -106,11 +106,9 @@ module _ {A : Type 0} (key : A → ℕ) where
   pub distinct_new : (come xs : List A) → ((k : ℕ) → count_by (has_key key k) xs + count_by (has_key key k) come ≤ 1) → AreDistinct key come × AreNew key come xs
   distinct_new [] xs alone = (tt, tt)
   distinct_new (x ∷ come) xs alone =
-      let here : bit (eqb (key x) (key x)) ≡ 1 = grind (arith, nat_tests) in
-      let both = alone (key x) in
-      let sums = sum_by-cons (λ y. bit (has_key key (key x) y)) x come in
+      let here = sum_by-cons (λ y. bit (has_key key (key x) y)) x come in
       let rest = distinct_new come xs (λ k. let s = sum_by-cons (λ y. bit (has_key key k y)) x come in let l = alone k in omega (arith, s, l)) in
-      ((uncounted (has_key key (key x)) come (omega (arith, here, both, sums)), rest.0), (uncounted (has_key key (key x)) xs (omega (arith, here, both, sums)), rest.1))
+      ((uncounted (has_key key (key x)) come (grind (arith, nat_tests, alone (key x), here)), rest.0), (uncounted (has_key key (key x)) xs (grind (arith, nat_tests, alone (key x), here)), rest.1))
 
   pub record Landed (come xs : List A) : Type 0 where
     pub rising : IsRising key (landing key come xs)
@@ -176,11 +174,10 @@ module _ {A : Type 0} (key : A → ℕ) where
   -- a member is what is found by its key
   pub member_found : (xs : List A) (x : A) → IsRising key xs → Contains xs x → found key (key x) xs ≡ Some x
   member_found [] x rising m = absurd (omega arith)
-  member_found (y ∷ ys) x rising (zero, l, e) = ap (λ z. found key (key z) (y ∷ ys)) (sym e) ∙ first_found y ys ∙ ap (λ z. Some z) e
+  member_found (y ∷ ys) x rising (zero, l, e) = grind (arith, nat_tests, e)
   member_found (y ∷ ys) x rising (suc i, l, e) =
       let m : Contains ys x = (i, omega arith, e) in
-      let later = every_member (λ z. key y < key z) ys rising.0 x m in
-      later_found (key x) y ys (λ s. omega (arith, s, later)) ∙ member_found ys x rising.1 m
+      grind (arith, nat_tests, every_member (λ z. key y < key z) ys rising.0 x m, member_found ys x rising.1 m)
 
   pub found_member : (xs : List A) (k : ℕ) (x : A) → found key k xs ≡ Some x → Contains xs x × (key x ≡ k)
   found_member xs k x e = ((finds_member (has_key key k) xs x e).0, found_there k xs x e)
