@@ -47,10 +47,6 @@ unused test active parts =
     All-weaker (λ p. not (test p) ≡ true) (Used []) (λ p h act. absurd (false_true (subst (λ b. IsTrue (not b)) (active p act) h))) (filter (λ p. not (test p)) parts)
     (filter_passes (λ p. not (test p)) parts)
 
--- extents in no flight stay in none
-zero_fly : (c : ℕ) (turn : Part → Part) (ps : List Part) → ((p : Part) → flight c (turn p) ≡ 0) → sum_by (λ p. flight c (turn p)) ps ≡ 0
-zero_fly c turn ps none = nothing_sum (λ p. flight c (turn p)) ps (λ k d h. none _)
-
 emptied_does : (c cached : ℕ) (s : Space) (reply : Reply) → Sound s → is_live s.life ≡ true → held_count s c cached ≡ 0 → Same c s (Reset cached) reply →
     Does c s (Reset cached) (record { after = (emptied s).after; reply = reply })
 emptied_does c cached s reply sound live none same =
@@ -70,7 +66,7 @@ emptied_does c cached s reply sound live none same =
       frame = kept_frame c s t.parts [] sound;
       quiet = live_quiet s t (live_is s.life live) refl;
     }) sound (Reset cached) reply same.0
-    (omega (arith, zero_fly c (moved_to ToDirty) (filter test s.parts) (λ p. refl), none_active_flies c s.parts, same.1, same.2))
+    (omega (arith, nothing_sum (λ p. flight c (moved_to ToDirty p)) (filter test s.parts) (λ k d h. refl), none_active_flies c s.parts, same.1, same.2))
 
 pub reset_goes : (c : ℕ) (s : Space) (cached : ℕ) → Sound s → Goes c s (Reset cached) (after_reset s c cached)
 reset_goes c s cached sound =
@@ -127,7 +123,7 @@ ended_does c cached s sound live stands free =
           (λ d other. not_both d c other ∙ sym (ap (is_dying d) (live_is s.life live)));
       quiet = (refl, offers, bound, still_retained test s.parts (λ p h. not-false _ (not-true _ h)));
     }) sound (Destroy cached) Noted (λ page before. refl)
-    (omega (arith, zero_fly c (moved_to ToRetained) (filter test s.parts) (λ p. refl), some_count (flight c) test s.parts grounded))
+    (omega (arith, nothing_sum (λ p. flight c (moved_to ToRetained p)) (filter test s.parts) (λ k d h. refl), some_count (flight c) test s.parts grounded))
 
 pub destroy_goes : (c : ℕ) (s : Space) (cached : ℕ) → Sound s → reset_stands s c cached ≡ true → Goes c s (Destroy cached) (after_destroy s c cached)
 destroy_goes c s cached sound stands =

@@ -387,11 +387,6 @@ record FirstLanded (c : ℕ) (s t : Space) (class : ℕ) (p : Part) (stay : List
   homes : All (λ r. homes r stay ≡ 1) s.regions
   classes : All (λ r. r.class < 121) s.regions
 
--- the holders of a page among those that stay and in the new extent
-landed_holders : {c : ℕ} {s t : Space} {class : ℕ} {p : Part} {stay : List Part} → FirstLanded c s t class p stay → (f : Part → ℕ) → sum_by f t.parts ≡ sum_by f stay + f p
-landed_holders {c} {s} {t} {class} {p} {stay} one f =
-    omega (arith, ap (sum_by f) one.parts, sum_by-append f stay (p ∷ []), sum_by-cons f p [])
-
 -- each further place is a spot
 row_spot : {c : ℕ} {s t : Space} {class : ℕ} {p : Part} {stay : List Part} → FirstLanded c s t class p stay → (i : ℕ) → 0 < i → i < regions_at class →
     Spot t.parts t.regions (region_of c class (address_of p.span.first + i * size_at class))
@@ -415,7 +410,9 @@ row_spot {c} {s} {t} {class} {p} {stay} one i some within =
           let same : q.addr ≡ a = eqb-true _ _ e in
           let byte = covers_start q (size_bounds q.class (one.classes k d h)).0 in
           let there : homes q stay ≤ holders (a / 4096) stay = subst (λ m. homes q stay ≤ holders (m / 4096) stay) same (homes-le-holders q.addr q stay byte) in
-          absurd (omega (arith, one.homes k d h, there, at, landed_holders one (share (a / 4096)), one.sound.owners (a / 4096)))
+          let more : holders (a / 4096) t.parts ≡ holders (a / 4096) stay + share (a / 4096) p =
+          omega (arith, ap (holders (a / 4096)) one.parts, sum_by-append (share (a / 4096)) stay (p ∷ []), sum_by-cons (share (a / 4096)) p []) in
+          absurd (omega (arith, one.homes k d h, there, at, more, one.sound.owners (a / 4096)))
     ] refl in
     let far = row_fits 0 (size_at class) i (size_at class) some (omega arith) in
     let differ : starts_at a first ≡ false = grind (arith, nat_tests, far, bounds) in

@@ -1,9 +1,9 @@
 -- What settings, moments and trims do: nothing to extents and regions.
-use Rattle.std.proofs.Common.{true, false, ◌≡◌, ◌≢◌, ℕ, ◌+◌, ◌<◌, ◌≤◌, cond, List, ◌∷◌, ◌++◌, refl, sym, ap, subst, arith, ℤ, pos, negsuc, ◌≤ℤ◌, All, AllPairs, rules, Some, None, ◌*◌, ◌/◌, ◌-◌, ◌&&◌, ◌||◌, ◌==◌, ltb as nat_lt, leb as nat_le, []}
+use Rattle.std.proofs.Common.{true, false, ◌≡◌, ◌≢◌, ℕ, ◌+◌, ◌<◌, ◌≤◌, cond, List, ◌∷◌, ◌++◌, refl, sym, subst, arith, ℤ, pos, negsuc, ◌≤ℤ◌, All, AllPairs, rules, Some, None, ◌*◌, ◌/◌, ◌-◌, ◌&&◌, ◌==◌, ltb as nat_lt, leb as nat_le, []}
 use Rattle.space_model.proofs.Words.{list_any, eqb-true, ltb-true, leb-true, nat_tests, All-weaker, All-push, all_pairs_push, Op, Set, Trim, Advance, Reply, Noted, Nothing, Setting, DirtyMs, MuzzyMs, HookBox, Bind, Unbind, GrowLimit, MakeLive, ToDirty, ToMuzzy, Added, Pace, Space, pages_end, pages_listed, with_new, passed, passed_if_any, advanced_in, advance_all, after_advance, new_pace, stays, is_live, with_client, without_client, is_absent, made_live, after_set, is_decay_time, setting_stands, after_trim, Sound, IsPaced, lost, won, AdvanceLimits, AdvanceNoArena, SetNoArena, SetNoted, SetNothing, TrimNoted, list_any-append, with_setting}
 use Rattle.space_model.proofs.Sums.{listed_fit_space}
 use Rattle.space_model.proofs.Changes.{Does, Plain, Ranges, frame_does, own_frame, range_frame, sound_ranges, live_quiet, kept_frame}
-use Rattle.space_model.proofs.Pieces.{both_true, not_both}
+use Rattle.space_model.proofs.Pieces.{both_true}
 use Rattle.space_model.proofs.Moves.{live_is}
 use Rattle.space_model.proofs.Outcomes.{Goes, goes, still_goes, live_goes}
 
@@ -30,12 +30,8 @@ new_paced ms now h = record {
 -- ---- lists of clients
 
 -- one more client changes nothing for another one
-list_any-push : (d c : ℕ) (clients : List ℕ) → (c == d) ≡ false → list_any (λ b. b == d) (clients ++ c ∷ []) ≡ list_any (λ b. b == d) clients
-list_any-push d c [] apart = rw apart refl
-list_any-push d c (b ∷ bs) apart = ap (λ x. (b == d) || x) (list_any-push d c bs apart)
-
 with_others : (d c : ℕ) (clients : List ℕ) → d ≢ c → list_any (λ b. b == d) (with_client c clients) ≡ list_any (λ b. b == d) clients
-with_others d c clients other = grind (arith, list_any-push d c clients (not_both d c other))
+with_others d c clients other = grind (arith, nat_tests, list_any-append (λ b. b == d) clients (c ∷ []))
 
 -- nor does one fewer
 pub without_others : (d c : ℕ) (clients : List ℕ) → d ≢ c → list_any (λ b. b == d) (without_client c clients) ≡ list_any (λ b. b == d) clients
