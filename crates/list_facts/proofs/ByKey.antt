@@ -31,43 +31,22 @@ module _ {A : Type 0} (key : A → ℕ) where
   -- what is found has the key
   pub found_there : (k : ℕ) (xs : List A) (x : A) → found key k xs ≡ Some x → key x ≡ k
   found_there k [] x e = absurd (cc)
-  found_there k (y ∷ ys) x e = go (eqb (key y) k) refl e (found_there k ys x)
-    where
-      go : (b : Bool) → eqb (key y) k ≡ b → cond b (Some y) (found key k ys) ≡ Some x → (found key k ys ≡ Some x → key x ≡ k) → key x ≡ k
-      go true s f later = let same : y ≡ x = cc in ap key (sym same) ∙ eqb-true _ _ s
-      go false s f later = later f
+  found_there k (y ∷ ys) x e = grind (arith, nat_tests, found_there k ys x)
 
   -- ---- two rising lists in which the same is found are equal
 
   same_tails : (x : A) (xs ys : List A) → AreBehind key (key x) xs → AreBehind key (key x) ys → ((k : ℕ) → found key k (x ∷ xs) ≡ found key k (x ∷ ys)) → (k : ℕ) → found key k xs ≡ found key k ys
   same_tails x xs ys behind behind' same k =
-      elim (cases_order (key x) k) [
-        | inl e ↦ none_behind k (key x) xs (omega (arith, e)) behind ∙ sym (none_behind k (key x) ys (omega (arith, e)) behind')
-        | inr o ↦
-            let other : key x ≢ k = λ e. elim o [ inl l ↦ absurd (omega (arith, e, l)) | inr g ↦ absurd (omega (arith, e, g)) ] in
-            sym (later_found k x xs other) ∙ same k ∙ later_found k x ys other
-      ]
+      grind (arith, nat_tests, same k, none_behind k (key x) xs, none_behind k (key x) ys, behind, behind')
 
   pub same_finds : (xs ys : List A) → IsRising key xs → IsRising key ys → ((k : ℕ) → found key k xs ≡ found key k ys) → xs ≡ ys
   same_finds [] [] rising rising' same = refl
-  same_finds [] (y ∷ ys) rising rising' same = let e = same (key y) ∙ first_found y ys in absurd (cc)
-  same_finds (x ∷ xs) [] rising rising' same = let e = sym (same (key x)) ∙ first_found x xs in absurd (cc)
+  same_finds [] (y ∷ ys) rising rising' same = grind (arith, nat_tests, same (key y))
+  same_finds (x ∷ xs) [] rising rising' same = grind (arith, nat_tests, same (key x))
   same_finds (x ∷ xs) (y ∷ ys) rising rising' same =
-      elim (cases_order (key x) (key y)) [
-        | inl e ↦
-            let both : Some x ≡ Some y = sym (first_found x xs) ∙ same (key x) ∙ ap (λ k. found key k (y ∷ ys)) e ∙ first_found y ys in
-            let is : x ≡ y = cc in
-            let tails = same_tails x xs ys rising.0 (subst (λ z. AreBehind key (key z) ys) (sym is) rising'.0) (λ k. same k ∙ ap (λ z. found key k (z ∷ ys)) (sym is)) in
-            ap (λ z. z ∷ xs) is ∙ ap (λ zs. y ∷ zs) (same_finds xs ys rising.1 rising'.1 tails)
-        | inr o ↦ elim o [
-          | inl l ↦
-              let none = none_behind (key x) (key x) (y ∷ ys) (omega arith) (l, behind_lower (key x) (key y) ys (omega (arith, l)) rising'.0) in
-              let e = sym (first_found x xs) ∙ same (key x) ∙ none in absurd (cc)
-          | inr g ↦
-              let none = none_behind (key y) (key y) (x ∷ xs) (omega arith) (g, behind_lower (key y) (key x) xs (omega (arith, g)) rising.0) in
-              let e = sym (first_found y ys) ∙ sym (same (key y)) ∙ none in absurd (cc)
-        ]
-      ]
+      let is : x ≡ y = grind (arith, nat_tests, same (key x), same (key y), none_behind (key x) (key y) ys, none_behind (key y) (key x) xs, rising.0, rising'.0) in
+      let tails = same_tails x xs ys rising.0 (subst (λ z. AreBehind key (key z) ys) (sym is) rising'.0) (λ k. same k ∙ ap (λ z. found key k (z ∷ ys)) (sym is)) in
+      ap (λ z. z ∷ xs) is ∙ ap (λ zs. y ∷ zs) (same_finds xs ys rising.1 rising'.1 tails)
 
   -- ---- one more
 
@@ -76,10 +55,7 @@ module _ {A : Type 0} (key : A → ℕ) where
   before_higher x y ys l = grind (arith, nat_tests)
 
   behind_lower_one : (x y : A) (ys : List A) → key y < key x → inserted key x (y ∷ ys) ≡ y ∷ inserted key x ys
-  behind_lower_one x y ys l =
-      let past : nat_lt (key x) (key y) ≡ false = grind (arith, nat_tests) in
-      let next : 1 + position_or_len (λ z. nat_lt (key x) (key z)) ys ≡ suc (position_or_len (λ z. nat_lt (key x) (key z)) ys) = omega arith in
-      rw (past, next) refl
+  behind_lower_one x y ys l = grind (arith, nat_tests)
 
   behind_inserted : (k : ℕ) (x : A) (xs : List A) → k < key x → AreBehind key k xs → AreBehind key k (inserted key x xs)
   behind_inserted k x [] l behind = (l, tt)
@@ -105,7 +81,7 @@ module _ {A : Type 0} (key : A → ℕ) where
               let rest = inserts x ys rising.1 (sym (later_found (key x) y ys (λ e. omega (arith, e, l))) ∙ free) in
               record {
                 rising = subst (IsRising key) (sym (behind_lower_one x y ys l)) (behind_inserted (key y) x ys l rising.0, rest.rising);
-                finds = λ k. ap (found key k) (behind_lower_one x y ys l) ∙ past k (eqb (key y) k) refl (rest.finds k) l;
+                finds = λ k. ap (found key k) (behind_lower_one x y ys l) ∙ grind (arith, nat_tests, rest.finds k);
               }
           | inr g ↦ record {
             rising = subst (IsRising key) (sym (before_higher x y ys g)) ((g, behind_lower (key x) (key y) ys (omega (arith, g)) rising.0), rising);
@@ -113,11 +89,6 @@ module _ {A : Type 0} (key : A → ℕ) where
           }
         ]
       ]
-    where
-      past : (k : ℕ) (b : Bool) → eqb (key y) k ≡ b → found key k (inserted key x ys) ≡ cond (eqb (key x) k) (Some x) (found key k ys) → key y < key x →
-          found key k (y ∷ inserted key x ys) ≡ cond (eqb (key x) k) (Some x) (found key k (y ∷ ys))
-      past k true e f l = grind (arith, nat_tests)
-      past k false e f l = rw e f
 
   -- ---- more
 
@@ -127,23 +98,17 @@ module _ {A : Type 0} (key : A → ℕ) where
 
   still_new : (x : A) (come xs : List A) → found key (key x) come ≡ None → Inserted x xs → AreNew key come xs → AreNew key come (inserted key x xs)
   still_new x [] xs none put new = tt
-  still_new x (y ∷ ys) xs none put new = go (eqb (key y) (key x)) refl none (still_new x ys xs)
-    where
-      go : (b : Bool) → eqb (key y) (key x) ≡ b → cond b (Some y) (found key (key x) ys) ≡ None → (found key (key x) ys ≡ None → Inserted x xs → AreNew key ys xs → AreNew key ys (inserted key x xs)) → AreNew key (y ∷ ys) (inserted key x xs)
-      go true is e later = absurd (cc)
-      go false is e later =
-          let other : eqb (key x) (key y) ≡ false = grind (arith, nat_tests) in
-          (put.finds (key y) ∙ ap (λ b. cond b (Some x) (found key (key y) xs)) other ∙ new.0, later e put new.1)
+  still_new x (y ∷ ys) xs none put new =
+      let others : found key (key x) ys ≡ None = grind (arith, nat_tests) in
+      (grind (arith, nat_tests, put.finds (key y), new.0), still_new x ys xs others put new.1)
 
   -- where no two have one key afterwards, what comes is distinct and new
   pub distinct_new : (come xs : List A) → ((k : ℕ) → count_by (has_key key k) xs + count_by (has_key key k) come ≤ 1) → AreDistinct key come × AreNew key come xs
   distinct_new [] xs alone = (tt, tt)
   distinct_new (x ∷ come) xs alone =
-      let here : bit (eqb (key x) (key x)) ≡ 1 = grind (arith, nat_tests) in
-      let both = alone (key x) in
-      let sums = sum_by-cons (λ y. bit (has_key key (key x) y)) x come in
+      let here = sum_by-cons (λ y. bit (has_key key (key x) y)) x come in
       let rest = distinct_new come xs (λ k. let s = sum_by-cons (λ y. bit (has_key key k y)) x come in let l = alone k in omega (arith, s, l)) in
-      ((uncounted (has_key key (key x)) come (omega (arith, here, both, sums)), rest.0), (uncounted (has_key key (key x)) xs (omega (arith, here, both, sums)), rest.1))
+      ((uncounted (has_key key (key x)) come (grind (arith, nat_tests, alone (key x), here)), rest.0), (uncounted (has_key key (key x)) xs (grind (arith, nat_tests, alone (key x), here)), rest.1))
 
   pub record Landed (come xs : List A) : Type 0 where
     pub rising : IsRising key (landing key come xs)
@@ -154,14 +119,7 @@ module _ {A : Type 0} (key : A → ℕ) where
   lands (x ∷ come) xs distinct rising new =
       let put = inserts x xs rising new.0 in
       let rest = lands come (inserted key x xs) distinct.1 put.rising (still_new x come xs distinct.0 put new.1) in
-      record { rising = rest.rising; finds = λ k. rest.finds k ∙ ap (option_or (found key k come)) (put.finds k) ∙ swap k (eqb (key x) k) refl distinct.0 }
-    where
-      swap : (k : ℕ) (b : Bool) → eqb (key x) k ≡ b → found key (key x) come ≡ None →
-          option_or (found key k come) (cond (eqb (key x) k) (Some x) (found key k xs)) ≡ option_or (found key k (x ∷ come)) (found key k xs)
-      swap k true e gone =
-          let none : found key k come ≡ None = ap (λ n. found key n come) (sym (eqb-true _ _ e)) ∙ gone in
-          rw (none, e) refl
-      swap k false e gone = rw e refl
+      record { rising = rest.rising; finds = λ k. rest.finds k ∙ ap (option_or (found key k come)) (put.finds k) ∙ grind (arith, nat_tests, distinct.0) }
 
   -- ---- less
 
@@ -216,11 +174,10 @@ module _ {A : Type 0} (key : A → ℕ) where
   -- a member is what is found by its key
   pub member_found : (xs : List A) (x : A) → IsRising key xs → Contains xs x → found key (key x) xs ≡ Some x
   member_found [] x rising m = absurd (omega arith)
-  member_found (y ∷ ys) x rising (zero, l, e) = ap (λ z. found key (key z) (y ∷ ys)) (sym e) ∙ first_found y ys ∙ ap (λ z. Some z) e
+  member_found (y ∷ ys) x rising (zero, l, e) = grind (arith, nat_tests, e)
   member_found (y ∷ ys) x rising (suc i, l, e) =
       let m : Contains ys x = (i, omega arith, e) in
-      let later = every_member (λ z. key y < key z) ys rising.0 x m in
-      later_found (key x) y ys (λ s. omega (arith, s, later)) ∙ member_found ys x rising.1 m
+      grind (arith, nat_tests, every_member (λ z. key y < key z) ys rising.0 x m, member_found ys x rising.1 m)
 
   pub found_member : (xs : List A) (k : ℕ) (x : A) → found key k xs ≡ Some x → Contains xs x × (key x ≡ k)
   found_member xs k x e = ((finds_member (has_key key k) xs x e).0, found_there k xs x e)
@@ -251,11 +208,8 @@ module _ {A : Type 0} (key : A → ℕ) where
   -- what is found is all that has the key
   pub found_alone : (xs : List A) (k : ℕ) (x : A) → IsRising key xs → found key k xs ≡ Some x → filter (has_key key k) xs ≡ x ∷ []
   found_alone [] k x rising e = absurd (cc)
-  found_alone (y ∷ ys) k x rising e = go (eqb (key y) k) refl e (found_alone ys k x rising.1)
-    where
-      go : (b : Bool) → eqb (key y) k ≡ b → cond b (Some y) (found key k ys) ≡ Some x → (found key k ys ≡ Some x → filter (has_key key k) ys ≡ x ∷ []) → cond b (y ∷ filter (has_key key k) ys) (filter (has_key key k) ys) ≡ x ∷ []
-      go true t e later = let here : y ≡ x = cc in let none = none_kept (has_key key k) ys (none_behind k (key y) ys (omega (arith, eqb-true _ _ t)) rising.0) in cc
-      go false t e later = later e
+  found_alone (y ∷ ys) k x rising e =
+      grind (arith, nat_tests, found_alone ys k x rising.1, none_kept (has_key key k) ys, (λ (le : k ≤ key y). none_behind k (key y) ys le rising.0))
 
   -- ---- one in place of another
 
@@ -263,34 +217,21 @@ module _ {A : Type 0} (key : A → ℕ) where
   pub is_inserted : (x : A) (xs zs : List A) → IsRising key xs → IsRising key zs → ((k : ℕ) → found key k zs ≡ cond (eqb (key x) k) (Some x) (found key k xs)) → zs ≡ inserted key x (filter (λ y. not (has_key key (key x) y)) xs)
   is_inserted x xs zs rising rising' finds =
       let rest = filter (λ y. not (has_key key (key x) y)) xs in
-      let itself : eqb (key x) (key x) ≡ true = grind (arith, nat_tests) in
-      let put = inserts x rest (rising_filter (λ y. not (has_key key (key x) y)) xs rising) (finds_without (key x) (key x) xs ∙ rw itself refl) in
-      same_finds zs (inserted key x rest) rising' put.rising (λ k. finds k ∙ sym (put.finds k ∙ ap (cond (eqb (key x) k) (Some x)) (finds_without (key x) k xs) ∙ twice (eqb (key x) k) (found key k xs)))
-    where
-      twice : (b : Bool) (o : Option A) → cond b (Some x) (cond b None o) ≡ cond b (Some x) o
-      twice true o = refl
-      twice false o = refl
+      let put = inserts x rest (rising_filter (λ y. not (has_key key (key x) y)) xs rising) (grind (arith, nat_tests, finds_without (key x) (key x) xs)) in
+      same_finds zs (inserted key x rest) rising' put.rising (λ k. finds k ∙ sym (put.finds k ∙ ap (cond (eqb (key x) k) (Some x)) (finds_without (key x) k xs) ∙ grind arith))
 
   -- what is found stands among the others
   pub taken_out : (xs : List A) (k : ℕ) (x : A) → IsRising key xs → found key k xs ≡ Some x → xs ≡ inserted key x (filter (λ y. not (has_key key k y)) xs)
   taken_out xs k x rising e =
       let at = found_there k xs x e in
-      is_inserted x xs xs rising rising (λ j. here j (eqb (key x) j) refl) ∙ ap (λ n. inserted key x (filter (λ y. not (has_key key n y)) xs)) at
-    where
-      here : (j : ℕ) (b : Bool) → eqb (key x) j ≡ b → found key j xs ≡ cond (eqb (key x) j) (Some x) (found key j xs)
-      here j true t = rw t (ap (λ n. found key n xs) (sym (eqb-true _ _ t) ∙ found_there k xs x e) ∙ e)
-      here j false t = rw t refl
+      is_inserted x xs xs rising rising (λ j. grind (arith, nat_tests, at, e)) ∙ ap (λ n. inserted key x (filter (λ y. not (has_key key n y)) xs)) at
 
   pub changed_is : (change : A → A) (keeps : (x : A) → key (change x) ≡ key x) (xs : List A) (k : ℕ) (x : A) → IsRising key xs → found key k xs ≡ Some x
       → changed (has_key key k) change xs ≡ inserted key (change x) (filter (λ y. not (has_key key k y)) xs)
   changed_is change keeps xs k x rising e =
       let at : key (change x) ≡ k = keeps x ∙ found_there k xs x e in
-      is_inserted (change x) xs (changed (has_key key k) change xs) rising (rising_changed change keeps (has_key key k) xs rising) (λ j. finds_changed change keeps k j xs ∙ here j at (eqb k j) refl)
+      is_inserted (change x) xs (changed (has_key key k) change xs) rising (rising_changed change keeps (has_key key k) xs rising) (λ j. finds_changed change keeps k j xs ∙ grind (arith, nat_tests, at, e))
       ∙ ap (λ n. inserted key (change x) (filter (λ y. not (has_key key n y)) xs)) at
-    where
-      here : (j : ℕ) → key (change x) ≡ k → (b : Bool) → eqb k j ≡ b → cond (eqb k j) (option_map change (found key j xs)) (found key j xs) ≡ cond (eqb (key (change x)) j) (Some (change x)) (found key j xs)
-      here j at true t = rw (at, t) (ap (option_map change) (ap (λ n. found key n xs) (sym (eqb-true _ _ t)) ∙ e))
-      here j at false t = rw (at, t) refl
 
   -- what isn't there is neither left out nor changed
   pub absent_filter : (k : ℕ) (xs : List A) → found key k xs ≡ None → filter (λ x. not (has_key key k x)) xs ≡ xs
@@ -333,12 +274,8 @@ module _ {A : Type 0} (key : A → ℕ) where
   apart_new [] ys one = tt
   apart_new (x ∷ xs) ys one = (
     elim (one (key x)) [ inl e ↦ absurd (let here = first_found x xs in cc) | inr e ↦ e ],
-    apart_new xs ys (λ k. elim (one k) [ inl e ↦ inl (skipped k (eqb (key x) k) e) | inr e ↦ inr e ]),
+    apart_new xs ys (λ k. elim (one k) [ inl e ↦ inl (grind arith) | inr e ↦ inr e ]),
   )
-    where
-      skipped : (k : ℕ) (b : Bool) → cond b (Some x) (found key k xs) ≡ None → found key k xs ≡ None
-      skipped k true e = absurd (cc)
-      skipped k false e = e
 
   pub merged : (xs ys : List A) → AreApart key xs ys → Landed xs ys
   merged xs ys apart = lands xs ys (rising_distinct xs apart.left) apart.right (apart_new xs ys apart.one)
@@ -356,11 +293,7 @@ module _ {A : Type 0} (key : A → ℕ) where
     all = lands come (landing key xs ys) distinct both.rising new
 
     free : (k : ℕ) → (found key k come ≡ None) ⊎ ((found key k xs ≡ None) × (found key k ys ≡ None))
-    free k = elim (new_apart come (landing key xs ys) new k) [ inl e ↦ inl e | inr e ↦ inr (neither (found key k xs) (found key k ys) (sym (both.finds k) ∙ e)) ]
-      where
-        neither : (o u : Option A) → option_or o u ≡ None → (o ≡ None) × (u ≡ None)
-        neither None u e = (refl, e)
-        neither (Some x) u e = absurd (cc)
+    free k = elim (new_apart come (landing key xs ys) new k) [ inl e ↦ inl e | inr e ↦ inr (grind (arith, e, both.finds k), grind (arith, e, both.finds k)) ]
 
     pub land_right : AreApart key xs (landing key come ys) × (landing key come (landing key xs ys) ≡ landing key xs (landing key come ys))
     land_right =
@@ -391,12 +324,8 @@ module _ {A : Type 0} (key : A → ℕ) where
         } in (
           apart',
           is_merged (landing key come xs) ys _ apart' all.rising (λ k.
-              all.finds k ∙ rw (both.finds k, left.finds k) (or_or (found key k come) (found key k xs) (found key k ys))),
+              all.finds k ∙ rw (both.finds k, left.finds k) (grind arith)),
         )
-      where
-        or_or : (c o u : Option A) → option_or c (option_or o u) ≡ option_or (option_or c o) u
-        or_or None o u = refl
-        or_or (Some x) o u = refl
 
   -- what is done to one of the lists is done to both, where it changes what is found key by key, and finds nothing new
   pub done_both : (does : List A → List A) (change : ℕ → Option A → Option A) → ((xs : List A) → IsRising key xs → IsRising key (does xs)) → ((k : ℕ) (xs : List A) → found key k (does xs) ≡ change k (found key k xs))
@@ -410,29 +339,14 @@ module _ {A : Type 0} (key : A → ℕ) where
       } in (
         apart',
         is_merged (does xs) (does ys) _ apart' (rises (landing key xs ys) both.rising) (λ k.
-            finds k (landing key xs ys) ∙ ap (change k) (both.finds k) ∙ each k (found key k xs) (found key k ys) (apart.one k) ∙ sym (rw (finds k xs, finds k ys) refl)),
+            let same = finds k (landing key xs ys) ∙ ap (change k) (both.finds k) in
+            elim (apart.one k) [ inl e ↦ grind (arith, e, same, none k, finds k xs, finds k ys) | inr e ↦ grind (arith, e, same, none k, finds k xs, finds k ys) ]),
       )
-    where
-      some_or : (o : Option A) → option_or o None ≡ o
-      some_or None = refl
-      some_or (Some x) = refl
-
-      each : (k : ℕ) (o u : Option A) → (o ≡ None) ⊎ (u ≡ None) → change k (option_or o u) ≡ option_or (change k o) (change k u)
-      each k o u (inl e) = rw (e, none k) refl
-      each k o u (inr e) = rw (e, none k) (ap (change k) (some_or o) ∙ sym (some_or (change k o)))
 
   pub drop_both : (gone : ℕ) (xs ys : List A) → AreApart key xs ys → AreApart key (filter (λ x. not (has_key key gone x)) xs) (filter (λ x. not (has_key key gone x)) ys)
       × (filter (λ x. not (has_key key gone x)) (landing key xs ys) ≡ landing key (filter (λ x. not (has_key key gone x)) xs) (filter (λ x. not (has_key key gone x)) ys))
-  drop_both gone = done_both (filter (λ x. not (has_key key gone x))) (λ k o. cond (eqb gone k) None o) (rising_filter (λ x. not (has_key key gone x))) (finds_without gone) (λ k. none (eqb gone k))
-    where
-      none : (b : Bool) → ◌≡◌ {A = Option A} (cond b None None) None
-      none true = refl
-      none false = refl
+  drop_both gone = done_both (filter (λ x. not (has_key key gone x))) (λ k o. cond (eqb gone k) None o) (rising_filter (λ x. not (has_key key gone x))) (finds_without gone) (λ k. grind arith)
 
   pub change_both : (change : A → A) (keeps : (x : A) → key (change x) ≡ key x) (at : ℕ) (xs ys : List A) → AreApart key xs ys → AreApart key (changed (has_key key at) change xs) (changed (has_key key at) change ys)
       × (changed (has_key key at) change (landing key xs ys) ≡ landing key (changed (has_key key at) change xs) (changed (has_key key at) change ys))
-  change_both change keeps at = done_both (changed (has_key key at) change) (λ k o. cond (eqb at k) (option_map change o) o) (rising_changed change keeps (has_key key at)) (finds_changed change keeps at) (λ k. none (eqb at k))
-    where
-      none : (b : Bool) → cond b (option_map change None) None ≡ None
-      none true = refl
-      none false = refl
+  change_both change keeps at = done_both (changed (has_key key at) change) (λ k o. cond (eqb at k) (option_map change o) o) (rising_changed change keeps (has_key key at)) (finds_changed change keeps at) (λ k. grind arith)

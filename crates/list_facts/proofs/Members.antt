@@ -1,14 +1,12 @@
 -- Members of lists that are filtered, mapped, searched and counted.
-use Rattle.std.proofs.Common.{◌≡◌, ℕ, ◌+◌, ◌-◌, ◌<◌, ◌≤◌, zero, suc, Bool, true, false, cond, not, ◌&&◌, ◌||◌, List, [], ◌∷◌, ◌++◌, length, map, filter, find, get_or, Option, Some, None, option_map, is_some, count_by, ◌⊎◌, inl, inr, refl, sym, ap, ◌∙◌, subst, arith, All, Contains}
-use Rattle.std.specs.List.{AllByRecursion as Every, list_any, position_or_len, range_with_len}
-use Rattle.std.proofs.lemmas.Bool.{cases_Bool, cases_lt, false_from_ne_true}
+use Rattle.std.proofs.Common.{◌≡◌, ℕ, ◌+◌, ◌-◌, ◌<◌, ◌≤◌, zero, suc, Bool, true, false, cond, not, ◌&&◌, ◌||◌, List, [], ◌∷◌, ◌++◌, length, map, filter, find, get_or, Option, Some, None, option_map, is_some, count_by, inl, inr, refl, sym, ap, ◌∙◌, subst, arith, All, Contains}
+use Rattle.std.specs.List.{AllByRecursion as Every, list_any, range_with_len}
+use Rattle.std.proofs.lemmas.Bool.{cases_Bool, false_from_ne_true}
 use Rattle.std.proofs.lemmas.List.{get_or-map, length-map}
 use Rattle.std.proofs.lemmas.List.Elements.{Contains-get_or}
 use Rattle.std.proofs.lemmas.List.Filters.{length-filter_both, sum_by-filter_both}
-use Rattle.std.proofs.lemmas.List.Folds.{find_at}
 use Rattle.std.proofs.lemmas.List.FromFn.{get_or-range_with_len, length-range_with_len}
-use Rattle.std.proofs.lemmas.List.Sums.{fails_before_first, get_or-le-sum_by, length-filter, sum_by-cons, sum_by-le}
-use Rattle.std.proofs.lemmas.Option.{slice_get-get_or}
+use Rattle.std.proofs.lemmas.List.Sums.{get_or-le-sum_by, length-filter, sum_by-cons, sum_by-le}
 
 -- one for a test that passes
 abbrev pub bit : Bool → ℕ
@@ -34,10 +32,6 @@ module _ {X : Type 0} where
   later : (y : X) (ys : List X) (x : X) → Contains ys x → Contains (y ∷ ys) x
   later y ys x (k, l, e) = (suc k, omega arith, e)
 
-  cases : (y : X) (ys : List X) (x : X) → Contains (y ∷ ys) x → (y ≡ x) ⊎ Contains ys x
-  cases y ys x (zero, l, e) = inl e
-  cases y ys x (suc k, l, e) = inr (k, omega arith, e)
-
   -- what is known of each member holds of all
   pub all_from : (P : X → Type 0) (xs : List X) → ((x : X) → Contains xs x → P x) → All P xs
   all_from P xs known = λ k d l. known (get_or xs k d) (Contains-get_or xs k d l)
@@ -58,19 +52,17 @@ module _ {X : Type 0} where
 
   -- a list of one element
   pub only : (ys : List X) (x : X) → length ys ≤ 1 → Contains ys x → ys ≡ x ∷ []
-  only [] x len (k, l, e) = absurd (omega arith)
   only (y ∷ []) x len (zero, l, e) = ap (λ z. z ∷ []) e
-  only (y ∷ []) x len (suc k, l, e) = absurd (omega arith)
-  only (y ∷ z ∷ zs) x len m = absurd (omega arith)
+  only ys x len m = absurd (omega arith)
 
   -- ---- filters
 
   pub filter_has : (p : X → Bool) (xs : List X) (x : X) → Contains xs x → p x ≡ true → Contains (filter p xs) x
   filter_has p [] x m t = absurd (omega arith)
-  filter_has p (y ∷ ys) x m t = elim (cases y ys x m) [
-    | inl e ↦ let u : p y ≡ true = ap p e ∙ t in rw u (zero, omega arith, e)
-    | inr d ↦ elim (cases_Bool (p y)) [ inl u ↦ rw u (later y (filter p ys) x (filter_has p ys x d t)) | inr f ↦ rw f (filter_has p ys x d t) ]
-  ]
+  filter_has p (y ∷ ys) x (zero, l, e) t = let u : p y ≡ true = ap p e ∙ t in rw u (zero, omega arith, e)
+  filter_has p (y ∷ ys) x (suc k, l, e) t =
+      let rest = filter_has p ys x (k, omega arith, e) t in
+      elim (p y) as (λ b. Contains (cond b (y ∷ filter p ys) (filter p ys)) x) [ true ↦ later y (filter p ys) x rest | false ↦ rest ]
 
   -- a filter keeps all where each passes, and nothing where none passes
   pub filter_all_of : (p : X → Bool) (xs : List X) → ((x : X) → Contains xs x → p x ≡ true) → filter p xs ≡ xs
@@ -117,12 +109,9 @@ module _ {X : Type 0} where
 
   -- where nothing is found, no element passes
   pub none_found : (p : X → Bool) (xs : List X) → find p xs ≡ None → (x : X) → Contains xs x → p x ≡ false
-  none_found p xs e x (k, l, is) = elim (cases_lt k (position_or_len p xs)) [
-    | inl before ↦ ap p (sym is) ∙ fails_before_first p xs k x before
-    | inr after ↦ absurd (
-        let some = slice_get-get_or xs (position_or_len p xs) x (omega arith) in
-        let no : None ≡ Some (get_or xs (position_or_len p xs) x) = sym e ∙ find_at p xs ∙ some in cc)
-  ]
+  none_found p [] e x m = absurd (omega arith)
+  none_found p (y ∷ ys) e x (zero, l, is) = grind (arith, is)
+  none_found p (y ∷ ys) e x (suc k, l, is) = grind (arith, (λ (f : find p ys ≡ None). none_found p ys f x (k, omega arith, is)))
 
   -- and a filter keeps nothing
   pub none_kept : (p : X → Bool) (xs : List X) → find p xs ≡ None → filter p xs ≡ []
@@ -139,20 +128,13 @@ module _ {X : Type 0} where
   -- a filter that keeps all that a test finds leaves what is found
   pub find_kept : (p q : X → Bool) (xs : List X) → ((x : X) → Contains xs x → p x ≡ true → q x ≡ true) → find p (filter q xs) ≡ find p xs
   find_kept p q [] keeps = refl
-  find_kept p q (x ∷ xs) keeps =
-      let rest = find_kept p q xs (λ y m. keeps y (later x xs y m)) in
-      elim (cases_Bool (p x)) [
-        | inl t ↦ rw (keeps x (head x xs) t, t) refl
-        | inr f ↦ elim (cases_Bool (q x)) [ inl u ↦ rw (u, f) rest | inr g ↦ rw (g, f) rest ]
-      ]
+  find_kept p q (x ∷ xs) keeps = grind (arith, keeps x (head x xs), find_kept p q xs (λ y m. keeps y (later x xs y m)))
 
   -- a test that some element passes, or none
   pub any_has : (p : X → Bool) (xs : List X) (x : X) → Contains xs x → p x ≡ true → list_any p xs ≡ true
   any_has p [] x m t = absurd (omega arith)
-  any_has p (y ∷ ys) x m t = elim (cases y ys x m) [
-    | inl e ↦ let u : p y ≡ true = ap p e ∙ t in rw u refl
-    | inr d ↦ elim (cases_Bool (p y)) [ inl u ↦ rw u refl | inr f ↦ rw f (any_has p ys x d t) ]
-  ]
+  any_has p (y ∷ ys) x (zero, l, e) t = grind (arith, e)
+  any_has p (y ∷ ys) x (suc k, l, e) t = grind (arith, any_has p ys x (k, omega arith, e) t)
 
   pub any_from : (p : X → Bool) (xs : List X) → list_any p xs ≡ true → (x : X) × Contains xs x × (p x ≡ true)
   any_from p [] t = absurd (cc)

@@ -1,6 +1,6 @@
 -- What the slow machine's arithmetic needs: that what it adds and multiplies fits.
-use Rattle.std.proofs.Common.{get_or, ◌≡◌, ℕ, ◌+◌, ◌*◌, ◌^◌, ◌<◌, ◌≤◌, Bool, true, false, cond, ◌&&◌, ◌==◌, IsTrue, List, length, Some, None, refl, sym, ◌∙◌, ap, subst, arith, All, ltb as nat_lt, leb as nat_le, ltb-true, leb-true, ltb-false, ◌++◌, suc, drop, append-nil, take_all, drop_of_length-le, Result, Ok, Err, IfOk}
-use Rattle.space_model.proofs.Words.{nat_tests, count_by, find, position, position_or_len, remove, mul-le-mul, size_at, pages_at, regions_at, size_bounds, slab_filled, Part, Region, Span, Space, IsPlaced, is_flight_at, houses, is_held_by, is_held_by_other, reset_stands, most_regions, land_stands, large_home, Sound}
+use Rattle.std.proofs.Common.{◌≡◌, ℕ, ◌+◌, ◌*◌, ◌^◌, ◌<◌, ◌≤◌, Bool, true, false, cond, IsTrue, List, length, Some, None, refl, sym, ◌∙◌, ap, subst, arith, All, ltb as nat_lt, leb as nat_le, leb-true, ltb-false, ◌++◌, suc, drop, append-nil, take_all, drop_of_length-le, Result, Ok, Err, IfOk}
+use Rattle.space_model.proofs.Words.{nat_tests, count_by, find, position, position_or_len, remove, mul-le-mul, size_at, regions_at, size_bounds, slab_filled, Part, Region, Span, Space, IsPlaced, is_flight_at, houses, is_held_by, is_held_by_other, reset_stands, land_stands, large_home, Sound}
 use Rattle.space_model.proofs.Pieces.{both_true, found_fits}
 use Rattle.space_model.proofs.Resizes.{home_found}
 use Rattle.space_model.proofs.Lists.{sum_add}
@@ -9,24 +9,14 @@ use Rattle.std.proofs.lemmas.Option.{cond_some}
 
 -- ---- Land
 
--- an extent serves at most 512 regions
-few_regions : (class : ℕ) → most_regions class ≤ 512
-few_regions class = let small : class < 36 → regions_at class ≤ 512 = λ h. (slab_filled class h).2 in grind (arith, nat_tests, small)
-
 -- the regions that land end before the end of the numbers
 pub land_fits : (c : ℕ) (s : Space) (span : Span) (class count : ℕ) (p : Part) → Sound s → IsTrue (land_stands s c span class count) →
     find (is_flight_at c span) s.parts ≡ Some p →
     (class < 121) × (p.span.first < 2 ^ 52) × (4096 * p.span.first + count * size_at class < 2 ^ 64)
 land_fits c s span class count p sound h found =
-    let within = nat_lt class 121 in
-    let some = nat_lt 0 count in
-    let few = nat_le count (most_regions class) in
-    let four = both_true (within && some && few && span.pages == pages_at class) _ h in
-    let three = both_true (within && some && few) _ four.0 in
-    let two = both_true (within && some) few three.0 in
-    let one = both_true within some two.0 in
-    let class_fits : class < 121 = ltb-true _ _ one.0 in
-    let most : count ≤ 512 = omega (arith, leb-true _ _ two.1, few_regions class) in
+    let class_fits : class < 121 = grind (arith, nat_tests) in
+    let few : class < 36 → regions_at class ≤ 512 = λ small. (slab_filled class small).2 in
+    let most : count ≤ 512 = grind (arith, nat_tests, few) in
     let placed = (found_fits s (is_flight_at c span) p sound found).placed in
     let bytes : count * size_at class ≤ 512 * 2 ^ 35 = mul-le-mul most (size_bounds class class_fits).1 in
     (class_fits, omega (arith, placed.2), omega (arith, placed.2, bytes))
@@ -41,15 +31,11 @@ told_all items P ps (Err e) same all = tt
 
 -- ---- Reset
 
--- a region isn't both the client's and another's
-held_once : (c : ℕ) (r : Region) → cond (is_held_by_other c r) 1 0 + cond (is_held_by c r) 1 0 ≤ 1
-held_once c r = grind (arith, nat_tests)
-
 -- the regions of others and of the client are no more than there are
 pub held_apart : (c : ℕ) (regions : List Region) → count_by (is_held_by_other c) regions + count_by (is_held_by c) regions ≤ length regions
 held_apart c regions =
     let both : Region → ℕ = λ r. cond (is_held_by_other c r) 1 0 + cond (is_held_by c r) 1 0 in
-    omega (arith, sum_add (λ r. cond (is_held_by_other c r) 1 0) (λ r. cond (is_held_by c r) 1 0) regions, sum_by-le both 1 regions (λ k d h. held_once c (get_or regions k d)))
+    omega (arith, sum_add (λ r. cond (is_held_by_other c r) 1 0) (λ r. cond (is_held_by c r) 1 0) regions, sum_by-le both 1 regions (λ k d h. grind (arith, nat_tests)))
 
 -- no more regions are cached than the client holds
 pub cached_least : (s : Space) (c cached : ℕ) → IsTrue (reset_stands s c cached) → cached ≤ count_by (is_held_by c) s.regions

@@ -1,6 +1,6 @@
 -- What an operation changes, as one value, and what follows of each change that is lawful.
 use Rattle.std.proofs.Common.{true, false, ◌≡◌, ℕ, ◌+◌, ◌<◌, ◌≤◌, ◌≢◌, ◌==◌, Bool, false, not, IsTrue, List, [], ◌∷◌, get_or, refl, sym, ◌∙◌, ap, subst, arith, All, filter, find, Some, ◌||◌, ◌&&◌, ◌++◌}
-use Rattle.space_model.proofs.Words.{sum_by, count_by, list_any, sum_by-cons, All-weaker, All-cons, All-nil, Op, Offered, Part, Region, Reply, Life, Live, Pace, Space, IsPlaced, has_page, max_series, holders, exchanged, begins_at, is_active, is_flight, is_backed, rest_of, homes, is_held_by, Sound, IsQuiet, IsPaced, Mine, mine, is_dying, Stepped, stays, replaced, granted_by, flight, lost, won}
+use Rattle.space_model.proofs.Words.{sum_by, count_by, list_any, sum_by-cons, All-weaker, All-cons, All-nil, Op, Offered, Part, Region, Reply, Life, Live, Pace, Space, IsPlaced, has_page, max_series, holders, exchanged, begins_at, is_active, is_flight, is_backed, rest_of, homes, is_held_by, Sound, IsQuiet, IsPaced, mine, is_dying, Stepped, stays, replaced, granted_by, flight, lost, won}
 use Rattle.space_model.proofs.Lists.{nothing_sum, ones}
 use Rattle.space_model.proofs.Exchange.{share, filter-begins_at}
 use Rattle.space_model.proofs.Ordered.{Ordered}
@@ -101,16 +101,7 @@ lawful_sound {c} {s} {t} {ch} l sound =
 -- what another client owns stays
 pub lawful_others : {c : ℕ} {s t : Space} {ch : Change} → IsLawful c s t ch → (d : ℕ) → d ≢ c → mine d t ≡ mine d s
 lawful_others {c} {s} {t} l d other =
-    let flights = l.flights d other in
-    let offers = l.frame.offers d other in
-    let held = l.held d other in
-    let bound = l.frame.bound d other in
-    let trims = l.frame.trims d other in
-    let dying = l.frame.dying d other in
-    ap (λ (x : List Part × List Offered × List Region × Bool × Bool × Bool). fields x.0 x.1 x.2 x.3 x.4 x.5) (cc (flights, offers, held, bound, trims, dying))
-  where
-    fields : List Part → List Offered → List Region → Bool → Bool → Bool → Mine
-    fields f o r b x y = record { flights = f; offers = o; regions = r; bound = b; trims = x; dying = y }
+    grind (arith, l.flights d other, l.held d other, l.frame.offers d other, l.frame.bound d other, l.frame.trims d other, l.frame.dying d other)
 
 -- a sum over the extents is that of before with those that came, and without those that went
 pub lawful_sums : {c : ℕ} {s t : Space} {ch : Change} → IsLawful c s t ch → (f : Part → ℕ) →
@@ -124,16 +115,24 @@ pub sound_ranges : (s : Space) → Sound s → Ranges s.box_no s.dirty s.muzzy s
 sound_ranges s sound = record { box = sound.box; dirty = sound.dirty; muzzy = sound.muzzy; grow = sound.grow; grow_limit = sound.grow_limit }
 
 -- where no other client owns less or more
-pub range_frame : (c : ℕ) (s t : Space) → Sound s → Ranges t.box_no t.dirty t.muzzy t.grow t.grow_limit →
-    t.offers ≡ s.offers → t.bound ≡ s.bound → t.trims ≡ s.trims → t.life ≡ s.life → Frame c s t
-range_frame c s t sound ranges offers bound trims life = record {
+pub own_frame : (c : ℕ) (s t : Space) → Sound s → Ranges t.box_no t.dirty t.muzzy t.grow t.grow_limit → t.offers ≡ s.offers →
+    ((d : ℕ) → d ≢ c → list_any (λ b. b == d) t.bound ≡ list_any (λ b. b == d) s.bound) →
+    ((d : ℕ) → d ≢ c → list_any (λ b. b == d) t.trims ≡ list_any (λ b. b == d) s.trims) →
+    ((d : ℕ) → d ≢ c → is_dying d t.life ≡ is_dying d s.life) → Frame c s t
+own_frame c s t sound ranges offers bound trims dying = record {
   offered = subst (All (λ (o : Offered). IsPlaced o.span)) (sym offers) sound.offered;
   ranges = ranges;
   offers = λ d other. ap (filter (λ o. o.client == d)) offers;
-  bound = λ d other. ap (list_any (λ b. b == d)) bound;
-  trims = λ d other. ap (list_any (λ b. b == d)) trims;
-  dying = λ d other. ap (is_dying d) life;
+  bound = bound;
+  trims = trims;
+  dying = dying;
 }
+
+-- where nobody does
+pub range_frame : (c : ℕ) (s t : Space) → Sound s → Ranges t.box_no t.dirty t.muzzy t.grow t.grow_limit →
+    t.offers ≡ s.offers → t.bound ≡ s.bound → t.trims ≡ s.trims → t.life ≡ s.life → Frame c s t
+range_frame c s t sound ranges offers bound trims life =
+    own_frame c s t sound ranges offers (λ d other. ap (list_any (λ b. b == d)) bound) (λ d other. ap (list_any (λ b. b == d)) trims) (λ d other. ap (is_dying d) life)
 
 -- where nothing else changes
 pub kept_frame : (c : ℕ) (s : Space) (parts : List Part) (regions : List Region) → Sound s → Frame c s (record s { parts = parts; regions = regions })
@@ -294,12 +293,7 @@ put_does c s op reply test p q sound live found piece fits same plain flew =
 
 -- ---- pages that come and go
 
--- a page that is granted has one extent, and another one as many as before
-pages_more : (page n m : ℕ) (before : Bool) (p : Part) → m ≡ n + share page p → n + share page p ≤ 1 → n ≡ ones before → m ≡ ones (before || has_page page p.span)
-pages_more page n m true p new most h = omega (arith, h, most, new)
-pages_more page n m false p new most h = omega (arith, h, new)
-
--- and one that is given up has none
+-- a page that is given up has no extent, and another one as many as before
 pages_fewer : (page n m : ℕ) (before : Bool) (p : Part) → m + share page p ≡ n → n ≡ ones before → m ≡ ones (before && not (has_page page p.span))
 pages_fewer page n m true p new h = grind arith
 pages_fewer page n m false p new h = omega (arith, new, h)
@@ -325,8 +319,7 @@ come_does c s t op reply p sound parts regions piece most frame quiet granted fl
         frame = frame;
         quiet = quiet;
       });
-      pages = λ page before h.
-          pages_more page (holders page s.parts) (holders page t.parts) before p (more (share page)) (most page) h ∙ ap ones (sym (granted page before));
+      pages = λ page before h. grind (arith, granted page before, more (share page), most page, h);
       flew = omega (arith, more (flight c), flew);
     }
 

@@ -1,6 +1,6 @@
 -- How large the numbers of a decay are.
-use Rattle.std.proofs.Common.{◌≡◌, ℕ, suc, ◌+◌, ◌-◌, ◌*◌, ◌/◌, ◌^◌, ◌<◌, ◌≤◌, max, Bool, true, false, cond, ◌&&◌, List, [], ◌∷◌, refl, inl, inr, arith, All, AllPairs, ltb as nat_lt, leb}
-use Rattle.space_model.proofs.Words.{sum_by, mul-le-mul, mul-le-mul_left, div-le_self, and_parts, leb-true, cases_lt, nat_tests, sum_by-cons, All-head, All-tail, passes_below, at, Added, pages_end, weighed, limit_at}
+use Rattle.std.proofs.Common.{◌≡◌, ℕ, suc, ◌+◌, ◌-◌, ◌*◌, ◌/◌, ◌^◌, ◌<◌, ◌≤◌, max, Bool, true, ◌&&◌, List, [], ◌∷◌, refl, inl, inr, arith, All, AllPairs, leb}
+use Rattle.space_model.proofs.Words.{sum_by, mul-le-mul, mul-le-mul_left, div-le_self, cases_lt, nat_tests, sum_by-cons, All-head, All-tail, passes_below, at, Added, pages_end, weighed, limit_at}
 use Rattle.space_model.specs.Pace.{weight}
 
 -- The powers of a number of epochs, and what that weighs, are in their bounds.
@@ -23,16 +23,12 @@ fitting_below = refl
 
 pub weight_fits : (k : ℕ) → k ≤ 200 → Fitting k
 weight_fits k within =
-    let one = and_parts _ _ (at fitting 201 k fitting_below (omega arith)) in
-    let two = and_parts _ _ one.1 in
-    let three = and_parts _ _ two.1 in
-    let four = and_parts _ _ three.1 in
-    record {
-      fifth = leb-true _ _ one.0;
-      fourth = leb-true _ _ two.0;
-      third = leb-true _ _ three.0;
-      less = leb-true _ _ four.0;
-      weight = leb-true _ _ four.1;
+    let fits = at fitting 201 k fitting_below (omega arith) in record {
+      fifth = grind (arith, nat_tests, fits);
+      fourth = grind (arith, nat_tests, fits);
+      third = grind (arith, nat_tests, fits);
+      less = grind (arith, nat_tests, fits);
+      weight = grind (arith, nat_tests, fits);
     }
 
 -- an addition weighs at most as much as all pages

@@ -1,10 +1,10 @@
 -- What a reset, a destroy and the takes after it do.
 use Rattle.std.proofs.Common.{true, false, ◌≡◌, ◌≢◌, ℕ, Bool, not, cond, IsTrue, List, ◌∷◌, length, refl, sym, ◌∙◌, ap, subst, arith, All, filter, find, ◌&&◌, ◌==◌, []}
-use Rattle.space_model.proofs.Words.{nat_tests, sum_by, count_by, list_any, eqb-true, not-false, not-true, nil_from_length, All-weaker, All-append, All-filter, All-nil, All-head, filter_passes, Op, Reset, Destroy, DestroyTake, Reply, Noted, Nothing, Purge, Busy, Offered, Part, Region, ToDirty, ToRetained, State, Flight, Life, Absent, Dying, Space, begins_at, is_active, is_flight, is_in_flight, is_listed, is_backed, rest_of, moved_to, turned, turned_in_order, homes, residents, is_held_by, is_held_by_other, is_dying, Stepped, stays, is_live, is_dirty_time_over, is_lazy, held_count, flight_count, if_free, emptied, after_reset, reset_stands, ended, after_destroy, doom_at, after_destroy_take, flight, Sound, IsQuiet, DestroyBusy, DestroyNoArena, DestroyNoted, DoomDoomed, DoomNothing, Outcome, ResetBusy, ResetNoArena, ResetNoted, ResetPurge}
-use Rattle.space_model.proofs.Lists.{false_true, not_true, none_counted, nothing_left, nothing_sum, ones, sum_nothing, apart_count}
+use Rattle.space_model.proofs.Words.{nat_tests, sum_by, count_by, eqb-true, not-false, not-true, nil_from_length, All-weaker, All-append, All-filter, All-nil, All-head, filter_passes, Op, Reset, Destroy, DestroyTake, Reply, Noted, Nothing, Purge, Busy, Offered, Part, ToDirty, ToRetained, Life, Absent, Dying, Space, begins_at, is_active, is_flight, is_in_flight, is_listed, moved_to, turned, turned_in_order, homes, residents, is_held_by, is_held_by_other, is_dying, Stepped, stays, is_live, is_dirty_time_over, is_lazy, held_count, flight_count, if_free, emptied, after_reset, reset_stands, ended, after_destroy, doom_at, after_destroy_take, flight, Sound, IsQuiet, DestroyBusy, DestroyNoArena, DestroyNoted, DoomDoomed, DoomNothing, Outcome, ResetBusy, ResetNoArena, ResetNoted, ResetPurge}
+use Rattle.space_model.proofs.Lists.{false_true, none_counted, nothing_left, nothing_sum, ones, sum_nothing, apart_count}
 use Rattle.space_model.proofs.Mixes.{mix_sum, mixed_second, mixed_filter}
 use Rattle.space_model.proofs.Settled.{Used}
-use Rattle.space_model.proofs.Changes.{Does, Fits, all_fit, frame_does, kept_frame, live_quiet, sound_ranges, go_does}
+use Rattle.space_model.proofs.Changes.{Does, Fits, all_fit, frame_does, own_frame, kept_frame, live_quiet, sound_ranges, go_does}
 use Rattle.space_model.proofs.Pieces.{both_true, not_both, active_own}
 use Rattle.space_model.proofs.Turned.{turned_does, All-turned}
 use Rattle.space_model.proofs.Outcomes.{Goes, goes, still_goes, live_goes}
@@ -29,22 +29,15 @@ free_goes c s op held flights threads step sound same busy free =
     ] refl
 
 -- where others hold no region, no other client does
-none_other : (c d : ℕ) (r : Region) → d ≢ c → ones (is_held_by_other c r) ≡ 0 → ones (is_held_by d r) ≡ 0
-none_other c d r other h = grind (arith, nat_tests)
-
 others_hold_none : (c d cached : ℕ) (s : Space) → d ≢ c → held_count s c cached ≡ 0 → count_by (is_held_by d) s.regions ≡ 0
 others_hold_none c d cached s other none =
     nothing_sum (λ r. ones (is_held_by d r)) s.regions
-    (All-weaker (λ r. ones (is_held_by_other c r) ≡ 0) (λ r. ones (is_held_by d r) ≡ 0) (λ r h. none_other c d r other h) s.regions
+    (All-weaker (λ r. ones (is_held_by_other c r) ≡ 0) (λ r. ones (is_held_by d r) ≡ 0) (λ r h. grind (arith, nat_tests)) s.regions
     (sum_nothing (λ r. ones (is_held_by_other c r)) s.regions (omega (arith, none))))
 
 -- ---- Reset
 
--- an active extent is one that has to be committed
-active_backed : (state : State) → is_active state ≡ true → IsTrue (is_backed (rest_of state))
-active_backed state h = grind arith
-
--- and none is in flight
+-- no active extent is in flight
 none_active_flies : (d : ℕ) (parts : List Part) → count_by (λ p. is_flight d p.state) (filter (λ p. is_active p.state) parts) ≡ 0
 none_active_flies d parts = apart_count (λ p. is_active p.state) (λ p. is_flight d p.state) parts (λ p h. active_own d p.state h)
 
@@ -53,10 +46,6 @@ unused : (test : Part → Bool) → ((p : Part) → IsTrue (is_active p.state) �
 unused test active parts =
     All-weaker (λ p. not (test p) ≡ true) (Used []) (λ p h act. absurd (false_true (subst (λ b. IsTrue (not b)) (active p act) h))) (filter (λ p. not (test p)) parts)
     (filter_passes (λ p. not (test p)) parts)
-
--- extents in no flight stay in none
-zero_fly : (c : ℕ) (turn : Part → Part) (ps : List Part) → ((p : Part) → flight c (turn p) ≡ 0) → sum_by (λ p. flight c (turn p)) ps ≡ 0
-zero_fly c turn ps none = nothing_sum (λ p. flight c (turn p)) ps (λ k d h. none _)
 
 emptied_does : (c cached : ℕ) (s : Space) (reply : Reply) → Sound s → is_live s.life ≡ true → held_count s c cached ≡ 0 → Same c s (Reset cached) reply →
     Does c s (Reset cached) (record { after = (emptied s).after; reply = reply })
@@ -68,7 +57,7 @@ emptied_does c cached s reply sound live none same =
       regions = refl;
       gone = mixed_second s.regions;
       same = λ p. refl;
-      fits = λ p act fits. record { idle = refl; fits = record { placed = fits.placed; backed = λ h. fits.backed (active_backed p.state act) }; own = λ d other. refl };
+      fits = λ p act fits. record { idle = refl; fits = record { placed = fits.placed; backed = λ h. fits.backed (grind arith) }; own = λ d other. refl };
       empty = All-nil (λ r. homes r (filter test s.parts) ≡ 0);
       served = unused test (λ p act. act) s.parts;
       nobody = λ d other. none_active_flies d s.parts;
@@ -77,7 +66,7 @@ emptied_does c cached s reply sound live none same =
       frame = kept_frame c s t.parts [] sound;
       quiet = live_quiet s t (live_is s.life live) refl;
     }) sound (Reset cached) reply same.0
-    (omega (arith, zero_fly c (moved_to ToDirty) (filter test s.parts) (λ p. refl), none_active_flies c s.parts, same.1, same.2))
+    (omega (arith, nothing_sum (λ p. flight c (moved_to ToDirty p)) (filter test s.parts) (λ k d h. refl), none_active_flies c s.parts, same.1, same.2))
 
 pub reset_goes : (c : ℕ) (s : Space) (cached : ℕ) → Sound s → Goes c s (Reset cached) (after_reset s c cached)
 reset_goes c s cached sound =
@@ -91,13 +80,10 @@ reset_goes c s cached sound =
 -- ---- Destroy
 
 -- where others have no extent in flight, no other client does
-flight_other : (c d : ℕ) (state : State) → d ≢ c → ones (is_in_flight state && not (is_flight c state)) ≡ 0 → ones (is_flight d state) ≡ 0
-flight_other c d state other h = grind (arith, nat_tests)
-
 others_fly_none : (c d : ℕ) (s : Space) → d ≢ c → flight_count s c ≡ 0 → count_by (λ p. is_flight d p.state) s.parts ≡ 0
 others_fly_none c d s other none =
     nothing_sum (λ p. ones (is_flight d p.state)) s.parts
-    (All-weaker (λ p. ones (is_in_flight p.state && not (is_flight c p.state)) ≡ 0) (λ p. ones (is_flight d p.state) ≡ 0) (λ p h. flight_other c d p.state other h) s.parts
+    (All-weaker (λ p. ones (is_in_flight p.state && not (is_flight c p.state)) ≡ 0) (λ p. ones (is_flight d p.state) ≡ 0) (λ p h. grind (arith, nat_tests)) s.parts
     (sum_nothing (λ p. ones (is_in_flight p.state && not (is_flight c p.state))) s.parts (omega (arith, none))))
 
 -- a sum over some is within the sum over all
@@ -109,25 +95,17 @@ still_retained : (test : Part → Bool) (parts : List Part) → ((p : Part) → 
     All (λ p. is_in_flight p.state ≡ false) (turned test (moved_to ToRetained) parts)
 still_retained test parts kept =
     All-append (λ p. is_in_flight p.state ≡ false) (filter (λ p. not (test p)) parts) (turned_in_order (moved_to ToRetained) (filter test parts))
-    (All-weaker (λ p. not (test p) ≡ true) (λ p. is_in_flight p.state ≡ false) (λ p h. retained_still p.state (kept p h)) (filter (λ p. not (test p)) parts)
+    (All-weaker (λ p. not (test p) ≡ true) (λ p. is_in_flight p.state ≡ false) (λ p h. grind (arith, kept p h)) (filter (λ p. not (test p)) parts)
     (filter_passes (λ p. not (test p)) parts))
     (All-turned (moved_to ToRetained) (λ p. is_in_flight p.state ≡ false) [] (filter test parts) (All-nil (λ p. is_in_flight p.state ≡ false)) (λ k d h. refl))
-  where
-    retained_still : (state : State) → is_listed ToRetained state ≡ true → is_in_flight state ≡ false
-    retained_still state h = grind arith
-
-active_unlisted : (state : State) → IsTrue (is_active state) → not (is_listed ToRetained state) ≡ true
-active_unlisted state h = grind arith
 
 ended_does : (c cached : ℕ) (s : Space) → Sound s → is_live s.life ≡ true → reset_stands s c cached ≡ true → Free (held_count s c cached) (flight_count s c) (length s.bound) →
     Does c s (Destroy cached) (ended s c)
 ended_does c cached s sound live stands free =
     let test : Part → Bool = λ p. not (is_listed ToRetained p.state) in
     let t : Space = (ended s c).after in
-    let own = both_true (not (list_any (λ p. is_flight c p.state) s.parts) && not (list_any (λ o. o.client == c) s.offers)) _ stands in
-    let ours = both_true (not (list_any (λ p. is_flight c p.state) s.parts)) _ own.0 in
-    let grounded : count_by (λ p. is_flight c p.state) s.parts ≡ 0 = none_counted (λ p. is_flight c p.state) s.parts (not_true _ ours.0) in
-    let offered : count_by (λ (o : Offered). o.client == c) s.offers ≡ 0 = none_counted (λ o. o.client == c) s.offers (not_true _ ours.1) in
+    let grounded : count_by (λ p. is_flight c p.state) s.parts ≡ 0 = none_counted (λ p. is_flight c p.state) s.parts (grind (arith, stands)) in
+    let offered : count_by (λ (o : Offered). o.client == c) s.offers ≡ 0 = none_counted (λ o. o.client == c) s.offers (grind (arith, stands)) in
     let offers : s.offers ≡ [] = nothing_left (λ (o : Offered). o.client == c) s.offers offered (omega (arith, free.1)) in
     let bound : s.bound ≡ [] = nil_from_length s.bound free.2 in
     turned_does {test = test} {turn = moved_to ToRetained} {left = s.regions} (record {
@@ -137,21 +115,15 @@ ended_does c cached s sound live stands free =
       same = λ p. refl;
       fits = λ p h fits. record { idle = refl; fits = record { placed = fits.placed; backed = λ h. absurd (false_true h) }; own = λ d other. refl };
       empty = All-nil (λ r. homes r (filter test s.parts) ≡ 0);
-      served = unused test (λ p act. active_unlisted p.state act) s.parts;
+      served = unused test (λ p act. grind arith) s.parts;
       nobody = λ d other. some_count (λ p. ones (is_flight d p.state)) test s.parts (others_fly_none c d s other free.1);
       held = λ d other. others_hold_none c d cached s other free.0;
       ordered = λ i j d lower within. absurd (omega (arith, within));
-      frame = record {
-        offered = sound.offered;
-        ranges = sound_ranges s sound;
-        offers = λ d other. refl;
-        bound = λ d other. refl;
-        trims = λ d other. refl;
-        dying = λ d other. not_both d c other ∙ sym (ap (is_dying d) (live_is s.life live));
-      };
+      frame = own_frame c s t sound (sound_ranges s sound) refl (λ d other. refl) (λ d other. refl)
+          (λ d other. not_both d c other ∙ sym (ap (is_dying d) (live_is s.life live)));
       quiet = (refl, offers, bound, still_retained test s.parts (λ p h. not-false _ (not-true _ h)));
     }) sound (Destroy cached) Noted (λ page before. refl)
-    (omega (arith, zero_fly c (moved_to ToRetained) (filter test s.parts) (λ p. refl), some_count (flight c) test s.parts grounded))
+    (omega (arith, nothing_sum (λ p. flight c (moved_to ToRetained p)) (filter test s.parts) (λ k d h. refl), some_count (flight c) test s.parts grounded))
 
 pub destroy_goes : (c : ℕ) (s : Space) (cached : ℕ) → Sound s → reset_stands s c cached ≡ true → Goes c s (Destroy cached) (after_destroy s c cached)
 destroy_goes c s cached sound stands =
@@ -161,17 +133,7 @@ destroy_goes c s cached sound stands =
 
 -- ---- DestroyTake
 
--- an arena that a client is destroying is dying
-dying_is : (c : ℕ) (life : Life) → is_dying c life ≡ true → life ≡ Dying c
-dying_is c life h = grind (arith, nat_tests)
-
--- an extent of a dying arena is nobody's flight, and serves nothing
-idle_there : (regions : List Region) (p : Part) → regions ≡ [] → Used regions p → is_active p.state ≡ false
-idle_there regions p none used = let zero : residents p regions ≡ 0 = ap (residents p) none in grind (arith, zero)
-
-grounded_own : (d : ℕ) (state : State) → is_in_flight state ≡ false → is_flight d state ≡ false
-grounded_own d state h = grind arith
-
+-- an extent of a dying arena is nobody's flight
 -- what is true of a dying arena
 quiet_dying : (s : Space) (c : ℕ) → Sound s → s.life ≡ Dying c → IsQuiet (Dying c) s
 quiet_dying s c sound is = subst (λ (l : Life). IsQuiet l s) is sound.quiet
@@ -179,14 +141,9 @@ quiet_dying s c sound is = subst (λ (l : Life). IsQuiet l s) is sound.quiet
 doom_goes : (c : ℕ) (s : Space) (parts : List Part) → s.parts ≡ parts → Sound s → s.life ≡ Dying c → Goes c s DestroyTake (doom_at s parts)
 doom_goes c s [] e sound is =
     let still = quiet_dying s c sound is in
-    goes sound (frame_does c s (record s { life = Absent }) DestroyTake Nothing sound refl refl (record {
-      offered = sound.offered;
-      ranges = sound_ranges s sound;
-      offers = λ d other. refl;
-      bound = λ d other. refl;
-      trims = λ d other. refl;
-      dying = λ d other. sym (ap (is_dying d) is ∙ not_both d c other);
-    }) (still.0, still.1, still.2, e) (λ page before. refl) refl) (λ after. DoomNothing refl)
+    let t : Space = record s { life = Absent } in
+    let frame = own_frame c s t sound (sound_ranges s sound) refl (λ d other. refl) (λ d other. refl) (λ d other. sym (ap (is_dying d) is ∙ not_both d c other)) in
+    goes sound (frame_does c s t DestroyTake Nothing sound refl refl frame (still.0, still.1, still.2, e) (λ page before. refl) refl) (λ after. DoomNothing refl)
 doom_goes c s (p ∷ ps) e sound is =
     let still = quiet_dying s c sound is in
     let gone = begins_at p.span.first in
@@ -194,13 +151,14 @@ doom_goes c s (p ∷ ps) e sound is =
     let t : Space = (doom_at s (p ∷ ps)).after in
     let fits : Fits p = All-head Fits p ps (subst (All Fits) e (all_fit s sound)) in
     let grounded : is_in_flight p.state ≡ false = All-head (λ q. is_in_flight q.state ≡ false) p ps (subst (All (λ (q : Part). is_in_flight q.state ≡ false)) e still.3) in
-    let idle : is_active p.state ≡ false = idle_there s.regions p still.0 (All-head (Used s.regions) p ps (subst (All (Used s.regions)) e sound.used)) in
-    let lands : flight c p ≡ 0 = ap ones (grounded_own c p.state grounded) in
+    let used : Used s.regions p = All-head (Used s.regions) p ps (subst (All (Used s.regions)) e sound.used) in
+    let idle : is_active p.state ≡ false = grind (arith, used, ap (residents p) still.0) in
+    let lands : flight c p ≡ 0 = grind (arith, grounded) in
     goes sound (go_does c s t DestroyTake _ (λ q. true) p sound (ap (find (λ q. true)) e)
-    (record { idle = idle; fits = fits; own = λ d other. grounded_own d p.state grounded }) refl refl (kept_frame c s t.parts s.regions sound)
+    (record { idle = idle; fits = fits; own = λ d other. grind (arith, grounded) }) refl refl (kept_frame c s t.parts s.regions sound)
     (subst (λ (l : Life). IsQuiet l t) (sym is)
     (still.0, still.1, still.2, All-append (λ q. is_in_flight q.state ≡ false) stay [] (All-filter (λ q. not (gone q)) (λ q. is_in_flight q.state ≡ false) s.parts still.3) (All-nil (λ q. is_in_flight q.state ≡ false))))
     (λ page before. refl) (omega (arith, lands))) (λ after. DoomDoomed p.span p.committed refl)
 
 pub destroy_take_goes : (c : ℕ) (s : Space) → Sound s → is_dying c s.life ≡ true → Goes c s DestroyTake (after_destroy_take s)
-destroy_take_goes c s sound h = doom_goes c s s.parts refl sound (dying_is c s.life h)
+destroy_take_goes c s sound h = doom_goes c s s.parts refl sound (grind (arith, nat_tests))

@@ -19,10 +19,6 @@ pub All-exchanged : (P : Part → Type 0) (gone : Part → Bool) (parts pieces :
     All P parts → All P pieces → All P (exchanged gone parts pieces)
 All-exchanged P gone parts pieces old new = All-append P _ _ (All-filter (λ p. not (gone p)) P parts old) new
 
--- an extent that isn't empty has the page at which it begins
-begins-has_page : (page : ℕ) (p : Part) → 0 < p.span.pages → begins_at page p ≡ true → has_page page p.span ≡ true
-begins-has_page page p some h = grind (arith, nat_tests)
-
 -- an extent begins where it begins
 begins_itself : (p : Part) → begins_at p.span.first p ≡ true
 begins_itself p = grind (arith, nat_tests)
@@ -31,17 +27,13 @@ begins_itself p = grind (arith, nat_tests)
 abbrev pub share : ℕ → Part → ℕ
 share page p = cond (has_page page p.span) 1 0
 
--- an extent that isn't empty has a share in the page at which it begins
-begins-share : (page : ℕ) (p : Part) → 0 < p.span.pages → cond (begins_at page p) 1 0 ≤ share page p
-begins-share page p some = grind (arith, begins-has_page page p some)
-
 -- where extents don't meet, one that is found is the only one that begins where it does
 pub filter-begins_at : (test : Part → Bool) (parts : List Part) (p : Part) → All (λ q. 0 < q.span.pages) parts →
     holders p.span.first parts ≤ 1 → find test parts ≡ Some p → filter (begins_at p.span.first) parts ≡ p ∷ []
 filter-begins_at test parts p some most e =
     let page : ℕ = p.span.first in
     let few = all_sum_le (λ q. cond (begins_at page q) 1 0) (share page) parts
-    (All-weaker (λ q. 0 < q.span.pages) (λ q. cond (begins_at page q) 1 0 ≤ share page q) (λ q h. begins-share page q h) parts some) in
+    (All-weaker (λ q. 0 < q.span.pages) (λ q. cond (begins_at page q) 1 0 ≤ share page q) (λ q h. grind (arith, nat_tests)) parts some) in
     only_one (begins_at page) test parts p (omega (arith, few)) e (begins_itself p)
 
 -- a sum after one extent is replaced by pieces

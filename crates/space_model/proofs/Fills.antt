@@ -1,6 +1,6 @@
 -- Regions that land in slabs: several in a new extent, and the free ones of all slabs of a class.
-use Rattle.std.proofs.Common.{true, false, ◌≡◌, ◌≢◌, ℕ, zero, suc, inl, inr, ◌+◌, ◌*◌, ◌/◌, ◌%◌, ◌<◌, ◌≤◌, Bool, not, cond, IsTrue, List, ◌∷◌, ◌++◌, get_or, take, map, Some, refl, sym, ◌∙◌, ap, subst, arith, All, find, filter, ◌&&◌, ◌==◌, lt-ltb, leb as nat_le, ltb as nat_lt, []}
-use Rattle.space_model.proofs.Words.{sum_by, count_by, list_any, flat_map, position_or_len, range_with_len, cases_lt, eqb-true, leb-true, ltb-true, nat_tests, get_or-range_with_len, length-range_with_len, Any-from_list_any, sum_by-cons, sum_by-insert, sum_by-append, get_or-le-sum_by, All-weaker, All-append, All-nil, All-head, All-tail, All-filter, All-map, All-take, filter_passes, row_fits, size_at, pages_at, regions_at, align_at, size_bounds, slab_filled, Land, Fill, Nothing, Landed, Part, Region, Span, Active, Space, has_page, holders, is_active, is_flight_at, begins_at, address_of, covers, sharers, lies_in, houses, homes, inserted, landing, region_of, is_slab, is_held_by, starts_at, places, free_places, slabs_of, lowest_free, fill_at, after_fill, fill_stands, land_at, land_stands, most_regions, is_live, Sound, IsInSlab, FillNoArena, FillNothing, FillRegions, LandLanded, holds_at}
+use Rattle.std.proofs.Common.{true, false, ◌≡◌, ◌≢◌, ℕ, zero, suc, inl, inr, ◌+◌, ◌*◌, ◌/◌, ◌%◌, ◌<◌, ◌≤◌, Bool, not, cond, IsTrue, List, ◌∷◌, ◌++◌, get_or, take, map, Some, refl, sym, ◌∙◌, ap, subst, arith, All, find, filter, ◌&&◌, ◌==◌, leb as nat_le, ltb as nat_lt, []}
+use Rattle.space_model.proofs.Words.{sum_by, count_by, list_any, flat_map, position_or_len, range_with_len, cases_lt, eqb-true, ltb-true, nat_tests, get_or-range_with_len, length-range_with_len, Any-from_list_any, sum_by-cons, sum_by-insert, sum_by-append, get_or-le-sum_by, All-weaker, All-append, All-nil, All-head, All-tail, All-filter, All-map, All-take, filter_passes, row_fits, size_at, pages_at, regions_at, align_at, size_bounds, slab_filled, Land, Fill, Nothing, Landed, Part, Region, Span, Active, Space, has_page, holders, is_active, is_flight_at, begins_at, address_of, covers, sharers, lies_in, houses, homes, inserted, landing, region_of, is_slab, is_held_by, starts_at, places, free_places, slabs_of, lowest_free, fill_at, after_fill, fill_stands, land_at, land_stands, most_regions, is_live, Sound, IsInSlab, FillNoArena, FillNothing, FillRegions, LandLanded, holds_at}
 use Rattle.space_model.proofs.Lists.{All-flat_map, All-insert, all_sum_le, counted_any, none_passes, not_true, nothing_sum, ones, sole, sum_add, map_terms}
 use Rattle.space_model.proofs.Exchange.{share}
 use Rattle.space_model.proofs.Mixes.{mix_sum, mix_filter, mix_second, mixed_append, mixed_filter, mixed_insert}
@@ -28,21 +28,15 @@ pub record Spot (parts : List Part) (regions : List Region) (r : Region) : Type 
 same_place : (base size i j byte : ℕ) → base + i * size ≤ byte → byte < base + i * size + size → base + j * size ≤ byte → byte < base + j * size + size → i ≡ j
 same_place base size i j byte low high also within = grind (arith, nat_tests, row_fits i size j size, row_fits j size i size)
 
--- the bytes of a region
-covers_is : (byte : ℕ) (r : Region) → covers byte r ≡ true → (r.addr ≤ byte) × (byte < r.addr + size_at r.class)
-covers_is byte r h = let both = both_true (nat_le r.addr byte) _ h in (leb-true _ _ both.0, ltb-true _ _ both.1)
-
 -- in one slab, two regions that share a byte begin at one place
 same_start : (regions : List Region) (p : Part) (q r : Region) (byte : ℕ) → q.class ≡ r.class → IsInSlab regions p q → IsInSlab regions p r →
     covers byte q ≡ true → covers byte r ≡ true → q.addr ≡ r.addr
 same_start regions p q r byte class at to has also =
     let i : ℕ = at.place.0 in
     let j : ℕ = to.place.0 in
-    let first = covers_is byte q has in
-    let second = covers_is byte r also in
     let size : size_at q.class ≡ size_at r.class = ap size_at class in
     let start : q.addr ≡ address_of p.span.first + i * size_at r.class = at.place.2 ∙ ap (λ n. address_of p.span.first + i * n) size in
-    let same : i ≡ j = same_place (address_of p.span.first) (size_at r.class) i j byte (omega (arith, first.0, start)) (omega (arith, first.1, start, size)) (omega (arith, second.0, to.place.2)) (omega (arith, second.1, to.place.2)) in
+    let same : i ≡ j = same_place (address_of p.span.first) (size_at r.class) i j byte (grind (arith, nat_tests, has, start)) (grind (arith, nat_tests, has, start, size)) (grind (arith, nat_tests, also, to.place.2)) (grind (arith, nat_tests, also, to.place.2)) in
     start ∙ ap (λ n. address_of p.span.first + n * size_at r.class) same ∙ sym to.place.2
 
 -- no region has a byte of the spot
@@ -56,24 +50,14 @@ spot_alone parts regions r owners all spot byte has = nothing_sum (covered byte)
           let page : ℕ = byte / 4096 in
           let few : All (λ p. serves r p + serves q p ≤ share page p) parts =
           λ j x i. let p : Part = get_or parts j x in
-          elim (houses p q) as (λ b. houses p q ≡ b → serves q p ≡ ones b → serves r p + serves q p ≤ share page p) [
-            | false ↦ λ f g. omega (arith, g, serves-le-share byte r p has)
-            | true ↦ λ f g. elim (houses p r) as (λ b. houses p r ≡ b → serves r p ≡ ones b → serves r p + serves q p ≤ share page p) [
-              | false ↦ λ u v. omega (arith, v, serves-le-share byte q p e)
-              | true ↦ λ u v.
-                  let to = spot.slab j x i u in
-                  let class : q.class ≡ r.class = to.alike k d h f in
-                  let at = all.small k d h j x i f (omega (arith, class, spot.small)) in
-                  let start = same_start regions p q r byte class at to e has in
-                  let is : starts_at r.addr q ≡ true = grind (arith, nat_tests) in
-                  absurd (false_is_true (sym (spot.free k d h) ∙ is))
-            ] refl refl
-          ] refl refl in
+          let clash : houses p q ≡ true → houses p r ≡ true → starts_at r.addr q ≡ true = λ f u.
+          let to = spot.slab j x i u in
+          let class : q.class ≡ r.class = to.alike k d h f in
+          let at = all.small k d h j x i f (omega (arith, class, spot.small)) in
+          let start = same_start regions p q r byte class at to e has in grind (arith, nat_tests, start) in
+          grind (arith, clash, spot.free k d h, serves-le-share byte r p has, serves-le-share byte q p e) in
           absurd (omega (arith, spot.home, all.home k d h, sum_add (serves r) (serves q) parts, all_sum_le (λ p. serves r p + serves q p) (share page) parts few, owners page))
     ] refl)
-  where
-    false_is_true : false ≡ true → ⊥
-    false_is_true e = cc
 
 -- the regions with the one at the spot are settled
 spot_settled : (parts : List Part) (regions : List Region) (r : Region) → ((page : ℕ) → holders page parts ≤ 1) → Settled parts regions → Spot parts regions r →
@@ -181,19 +165,14 @@ Distinct-map also f same NoneLeft = NoneLeft
 Distinct-map {X} {Y} {key} also f same (OneMore x {xs} apart rest) =
     OneMore (f x) (All-map (λ y. also (f x) ≢ also y) f xs (λ k d h e. apart k d h (sym (same x) ∙ e ∙ same (get_or xs k d)))) (Distinct-map also f same rest)
 
--- the numbers of a range are from its first one on
-range_above : (a n : ℕ) → All (λ i. a ≤ i) (range_with_len a n)
-range_above a n = λ k d h. omega (arith, get_or-range_with_len a n k d (omega (arith, length-range_with_len a n)))
-
-range_below : (n : ℕ) → All (λ i. i < n) (range_with_len 0 n)
-range_below n = λ k d h. omega (arith, get_or-range_with_len 0 n k d (omega (arith, length-range_with_len 0 n)), length-range_with_len 0 n)
-
 -- places of a size differ
 steps_distinct : {X : Type 0} (key : X → ℕ) (f : ℕ → X) (base size : ℕ) → ((i : ℕ) → key (f i) ≡ base + i * size) → 0 < size → (a n : ℕ) → Distinct X key (map f (range_with_len a n))
 steps_distinct key f base size is some a zero = NoneLeft
 steps_distinct key f base size is some a (suc n) =
     OneMore (f a) (All-map (λ y. key (f a) ≢ key y) f (range_with_len (a + 1) n)
-    (λ k d h e. let i : ℕ = get_or (range_with_len (a + 1) n) k d in absurd (omega (arith, e, is a, is i, some, row_fits a size i size (omega (arith, range_above (a + 1) n k d h)) (omega arith)))))
+    (λ k d h e. let i : ℕ = get_or (range_with_len (a + 1) n) k d in
+    let above = get_or-range_with_len (a + 1) n k d (omega (arith, length-range_with_len (a + 1) n)) in
+    absurd (omega (arith, e, is a, is i, some, row_fits a size i size (omega (arith, above)) (omega arith)))))
     (steps_distinct key f base size is some (a + 1) n)
 
 -- addresses in extents that share no page differ
@@ -237,10 +216,9 @@ slab_is class parts regions small all = λ j e i h.
     let home : houses p (get_or regions some.0 q) ≡ true = subst (λ r. houses p r ≡ true) there both.1 in
     let same : (get_or regions some.0 q).class ≡ class = ap (λ (r : Region). r.class) (sym there) ∙ is in
     let slab = all.small some.0 q some.2 j e i home (omega (arith, same, small)) in
-    let last = both_true (is_active p.state && p.committed) _ both.1 in
-    let first = both_true (is_active p.state) p.committed last.0 in record {
-      active = first.0;
-      committed = first.1;
+    let served = both.1 in record {
+      active = grind (arith, served);
+      committed = grind (arith, served);
       pages = slab.pages ∙ ap pages_at same;
       alike = λ k d u home. slab.alike k d u home ∙ same;
     }
@@ -252,7 +230,8 @@ InPlace class p a = (i : ℕ) × (i < regions_at class) × (a ≡ address_of p.s
 in_places : (class : ℕ) (p : Part) → All (InPlace class p) (places class p)
 in_places class p =
     All-map (InPlace class p) (λ i. address_of p.span.first + i * size_at class) (range_with_len 0 (regions_at class))
-    (All-weaker (λ i. i < regions_at class) (λ i. InPlace class p (address_of p.span.first + i * size_at class)) (λ i h. (i, h, refl)) (range_with_len 0 (regions_at class)) (range_below (regions_at class)))
+    (λ k d h. let within : k < regions_at class = omega (arith, length-range_with_len 0 (regions_at class)) in
+    (get_or (range_with_len 0 (regions_at class)) k d, omega (arith, within, get_or-range_with_len 0 (regions_at class) k d within), refl))
 
 -- an active, committed extent of a small class's pages serves a region of the class at each of its places
 place_served : (c class : ℕ) (p : Part) (a : ℕ) → class < 36 → is_active p.state ≡ true → p.committed ≡ true → p.span.pages ≡ pages_at class → InPlace class p a → houses p (region_of c class a) ≡ true
@@ -276,7 +255,7 @@ place_spots c class parts regions small owners all = λ j e i h a place free.
     let one : serves r p ≡ 1 = ap ones here in
     let has = covers_start r (size_bounds class (omega (arith, small))).0 in
     let few : homes r parts ≤ 1 = omega (arith, homes-le-holders a r parts has, owners (a / 4096)) in
-    let only = sole (λ q. houses q r) (λ q. is_slab class regions q && begins_at p.span.first q) parts j e few i here (rw (h, begins_self p) refl) in record {
+    let only = sole (λ q. houses q r) (λ q. is_slab class regions q && begins_at p.span.first q) parts j e few i here (grind (arith, nat_tests, h)) in record {
       small = small;
       home = omega (arith, few, one, get_or-le-sum_by (serves r) parts j e i);
       slab = λ m f g home.
@@ -291,9 +270,6 @@ place_spots c class parts regions small owners all = λ j e i h a place free.
       aligned = subst (λ n. n % align_at class ≡ 0) (sym place.2) (place_aligned p.span.first place.0 class (omega (arith, small)));
       free = free;
     }
-  where
-    begins_self : (p : Part) → begins_at p.span.first p ≡ true
-    begins_self p = grind (arith, nat_tests)
 
 -- so each free place of a slab is
 free_spots : (c class : ℕ) (parts : List Part) (regions : List Region) → class < 36 → ((page : ℕ) → holders page parts ≤ 1) → Settled parts regions →
@@ -411,11 +387,6 @@ record FirstLanded (c : ℕ) (s t : Space) (class : ℕ) (p : Part) (stay : List
   homes : All (λ r. homes r stay ≡ 1) s.regions
   classes : All (λ r. r.class < 121) s.regions
 
--- the holders of a page among those that stay and in the new extent
-landed_holders : {c : ℕ} {s t : Space} {class : ℕ} {p : Part} {stay : List Part} → FirstLanded c s t class p stay → (f : Part → ℕ) → sum_by f t.parts ≡ sum_by f stay + f p
-landed_holders {c} {s} {t} {class} {p} {stay} one f =
-    omega (arith, ap (sum_by f) one.parts, sum_by-append f stay (p ∷ []), sum_by-cons f p [])
-
 -- each further place is a spot
 row_spot : {c : ℕ} {s t : Space} {class : ℕ} {p : Part} {stay : List Part} → FirstLanded c s t class p stay → (i : ℕ) → 0 < i → i < regions_at class →
     Spot t.parts t.regions (region_of c class (address_of p.span.first + i * size_at class))
@@ -439,21 +410,18 @@ row_spot {c} {s} {t} {class} {p} {stay} one i some within =
           let same : q.addr ≡ a = eqb-true _ _ e in
           let byte = covers_start q (size_bounds q.class (one.classes k d h)).0 in
           let there : homes q stay ≤ holders (a / 4096) stay = subst (λ m. homes q stay ≤ holders (m / 4096) stay) same (homes-le-holders q.addr q stay byte) in
-          absurd (omega (arith, one.homes k d h, there, at, landed_holders one (share (a / 4096)), one.sound.owners (a / 4096)))
+          let more : holders (a / 4096) t.parts ≡ holders (a / 4096) stay + share (a / 4096) p =
+          omega (arith, ap (holders (a / 4096)) one.parts, sum_by-append (share (a / 4096)) stay (p ∷ []), sum_by-cons (share (a / 4096)) p []) in
+          absurd (omega (arith, one.homes k d h, there, at, more, one.sound.owners (a / 4096)))
     ] refl in
-    let differ : starts_at a first ≡ false = other_start (address_of p.span.first) i (size_at class) some bounds in
+    let far = row_fits 0 (size_at class) i (size_at class) some (omega arith) in
+    let differ : starts_at a first ≡ false = grind (arith, nat_tests, far, bounds) in
     let test : Region → Bool = λ q. q.class == class && houses p q in
     let here : ones (test first) ≡ 1 = rw (eqb_itself class, served 0 (omega (arith, within))) refl in
     let slab : is_slab class t.regions p ≡ true = counted_any test t.regions (omega (arith, ap (count_by test) one.regions, sum_by-insert (λ q. ones (test q)) s.regions n first, here)) in
     let spots = subst (All (Takes c class t.parts t.regions)) one.parts (place_spots c class t.parts t.regions one.small one.sound.owners (sound_settled t one.sound)) in
     All-head (Takes c class t.parts t.regions) p [] (mix_second (Takes c class t.parts t.regions) (mixed_append stay (p ∷ [])) spots) slab a (i, within, refl)
     (subst (All (λ q. starts_at a q ≡ false)) (sym one.regions) (All-insert (λ q. starts_at a q ≡ false) s.regions n first free differ))
-  where
-    other_start : (base i size : ℕ) → 0 < i → 8 ≤ size → ((base + 0 * size) == (base + i * size)) ≡ false
-    other_start base i size some large =
-        let far = row_fits 0 size i size some (omega arith) in
-        let none : 0 * size ≡ 0 = grind arith in
-        grind (arith, nat_tests, far, none)
 
 -- so all of them are settled
 row_settled : {c : ℕ} {s t : Space} {class : ℕ} {p : Part} {stay : List Part} → FirstLanded c s t class p stay → (n : ℕ) → n < regions_at class →
@@ -483,7 +451,7 @@ land_at_does c s span class (suc n) p e sound live within some few pages committ
     let gone = begins_at p.span.first in
     let stay : List Part = filter (λ q. not (gone q)) s.parts in
     let one_step = land_does c s (Land span class (suc n)) (Landed addr (suc n)) (is_flight_at c span) p first sound at.live e at.piece (ap ones at.own)
-    (record { active = refl; committed = committed; class = within; pages = at.pages ∙ pages; start = no_offset addr (size_at class) }) refl (λ page before. refl) refl refl in
+    (record { active = refl; committed = committed; class = within; pages = at.pages ∙ pages; start = grind arith }) refl (λ page before. refl) refl refl in
     let one : Space = record s { parts = stay ++ active ∷ []; regions = inserted first s.regions } in
     let after = lawful_sound one_step.lawful sound in
     let more : List Region = row c class addr 1 n in
@@ -502,8 +470,8 @@ land_at_does c s span class (suc n) p e sound live within some few pages committ
         regions = refl;
         homes = homes;
         classes = sound.classes;
-      }) n (omega (arith, most_small class small, few))
-      | inr large ↦ let single : 0 ≡ n = omega (arith, most_large class large, few) in
+      }) n (grind (arith, nat_tests, small, few))
+      | inr large ↦ let single : 0 ≡ n = grind (arith, nat_tests, large, few) in
           subst (λ m. Settled one.parts (landing (row c class addr 1 m) one.regions)) single (sound_settled one after)
     ] in
     record {
@@ -514,25 +482,13 @@ land_at_does c s span class (suc n) p e sound live within some few pages committ
       pages = one_step.pages;
       flew = one_step.flew;
     }
-  where
-    no_offset : (n size : ℕ) → n + 0 * size ≡ n
-    no_offset n size = grind arith
-
-    most_small : (class : ℕ) → class < 36 → most_regions class ≡ regions_at class
-    most_small class small = rw (lt-ltb class 36 small) refl
-
-    most_large : (class : ℕ) → 36 ≤ class → most_regions class ≡ 1
-    most_large class large = grind (arith, nat_tests)
 
 pub land_goes : (c : ℕ) (s : Space) (span : Span) (class count : ℕ) → Sound s → is_live s.life ≡ true → land_stands s c span class count ≡ true →
     Goes c s (Land span class count) (land_at s c class count (find (is_flight_at c span) s.parts))
 land_goes c s span class count sound live h =
     let a = both_true (nat_lt class 121 && nat_lt 0 count && nat_le count (most_regions class) && span.pages == pages_at class) _ h in
-    let b = both_true (nat_lt class 121 && nat_lt 0 count && nat_le count (most_regions class)) _ a.0 in
-    let d = both_true (nat_lt class 121 && nat_lt 0 count) _ b.0 in
-    let f = both_true (nat_lt class 121) _ d.0 in
     on_found (λ o. Goes c s (Land span class count) (land_at s c class count o)) (λ p. p.committed) (find (is_flight_at c span) s.parts) a.1
     (λ p e committed.
     let addr : ℕ = address_of p.span.first in
-    goes sound (land_at_does c s span class count p e sound live (ltb-true _ _ f.0) (ltb-true _ _ f.1) (leb-true _ _ d.1) (eqb-true _ _ b.1) committed)
+    goes sound (land_at_does c s span class count p e sound live (grind (arith, nat_tests, a.0)) (grind (arith, nat_tests, a.0)) (grind (arith, nat_tests, a.0)) (grind (arith, nat_tests, a.0)) committed)
     (λ after. LandLanded addr (ap (λ (k : Span). address_of k.first) (found_span c span s.parts p e).0) (landing_holds c class (λ i. addr + i * size_at class) (range_with_len 0 count) s.regions)))

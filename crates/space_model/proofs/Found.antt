@@ -1,28 +1,15 @@
 -- The extent that a client has in flight is found where the client left it: last.
-use Rattle.std.proofs.Common.{◌≡◌, ℕ, ◌+◌, ◌<◌, ◌≤◌, Bool, true, false, not, cond, List, [], ◌∷◌, ◌++◌, Some, None, refl, ◌∙◌, ap, subst, arith, All, filter, find, ◌==◌}
-use Rattle.space_model.proofs.Words.{option_or, find-append, sum_by-append, sum_by-cons, All-head, nat_tests, eqb-true, Part, Space, Span, same_span, exchanged, holders, is_flight, is_flight_at, Sound, Flying}
-use Rattle.space_model.proofs.Mixes.{mix_first, mix_second, mixed_append}
-use Rattle.space_model.proofs.Lists.{find-le-sum_by, find_has, find_passes}
+use Rattle.std.proofs.Common.{◌≡◌, ℕ, ◌+◌, ◌<◌, ◌≤◌, Bool, true, false, not, cond, List, [], ◌∷◌, ◌++◌, Some, None, refl, ◌∙◌, ap, subst, arith, All, filter, find}
+use Rattle.space_model.proofs.Words.{option_or, find-append, sum_by-append, sum_by-cons, All-head, nat_tests, Part, Space, Span, same_span, exchanged, holders, is_flight, is_flight_at, Sound, Flying}
+use Rattle.space_model.proofs.Mixes.{mix_second, mixed_append}
+use Rattle.space_model.proofs.Lists.{find_passes}
 use Rattle.space_model.proofs.Exchange.{share}
 use Rattle.space_model.proofs.Pieces.{both_true}
 use Rattle.space_model.proofs.Settled.{some_pages}
 
--- a span is itself
-same_span_itself : (s : Span) → same_span s s ≡ true
-same_span_itself s = grind (arith, nat_tests)
-
 -- spans with the same first page and pages are the same
 pub span_is : (s t : Span) → same_span s t ≡ true → s ≡ t
-span_is s t h =
-    let both = both_true (s.first == t.first) (s.pages == t.pages) h in
-    let first : s.first ≡ t.first = eqb-true _ _ both.0 in
-    let pages : s.pages ≡ t.pages = eqb-true _ _ both.1 in
-    let of : ℕ → ℕ → Span = λ a b. record { first = a; pages = b } in
-    ap (λ a. of a s.pages) first ∙ ap (λ b. of t.first b) pages
-
--- an extent that isn't empty has its first page
-start_share : (first : ℕ) (p : Part) → p.span.first ≡ first → 0 < p.span.pages → share first p ≡ 1
-start_share first p at some = grind (arith, nat_tests)
+span_is s t h = grind (arith, nat_tests)
 
 -- what is found in flight has the span
 pub found_span : (c : ℕ) (span : Span) (parts : List Part) (p : Part) → find (is_flight_at c span) parts ≡ Some p → (p.span ≡ span) × (is_flight c p.state ≡ true)
@@ -31,18 +18,10 @@ found_span c span parts p found =
     (span_is p.span span passes.1, passes.0)
 
 -- nothing in front of the last extent has its span, where no page has two extents
-none_in_front : (c : ℕ) (q : Part) (front : List Part) → All (λ p. 0 < p.span.pages) front → 0 < q.span.pages →
-    holders q.span.first front + share q.span.first q ≤ 1 → find (is_flight_at c q.span) front ≡ None
-none_in_front c q front some q_some most =
-    elim (find (is_flight_at c q.span) front) as (λ o. find (is_flight_at c q.span) front ≡ o → o ≡ None) [
-      | None ↦ λ e. refl
-      | Some p ↦ λ e.
-          let same = (found_span c q.span front p e).0 in
-          let p_some : 0 < p.span.pages = find_has (λ x. 0 < x.span.pages) (is_flight_at c q.span) front p some e in
-          let p_one : share q.span.first p ≡ 1 = start_share q.span.first p (ap (λ (s : Span). s.first) same) p_some in
-          let q_one : share q.span.first q ≡ 1 = start_share q.span.first q refl q_some in
-          absurd (omega (arith, p_one, q_one, most, find-le-sum_by (share q.span.first) (is_flight_at c q.span) front p e))
-    ] refl
+none_in_front : (c : ℕ) (q : Part) (front : List Part) → 0 < q.span.pages → holders q.span.first front + share q.span.first q ≤ 1 →
+    find (is_flight_at c q.span) front ≡ None
+none_in_front c q [] some most = refl
+none_in_front c q (p ∷ front) some most = grind (arith, nat_tests, sum_by-cons (share q.span.first) p front, none_in_front c q front some)
 
 -- the client's extent that comes last is the one that is found by its span
 pub last_found : (c : ℕ) (t : Space) (front : List Part) (q : Part) → Sound t → t.parts ≡ front ++ q ∷ [] → is_flight c q.state ≡ true →
@@ -50,12 +29,11 @@ pub last_found : (c : ℕ) (t : Space) (front : List Part) (q : Part) → Sound 
 last_found c t front q sound is own =
     let page : ℕ = q.span.first in
     let some : All (λ p. 0 < p.span.pages) (front ++ q ∷ []) = subst (All (λ p. 0 < p.span.pages)) is (some_pages t.parts sound.placed) in
-    let in_front : All (λ p. 0 < p.span.pages) front = mix_first (λ p. 0 < p.span.pages) (mixed_append front (q ∷ [])) some in
     let at_end : 0 < q.span.pages = All-head (λ p. 0 < p.span.pages) q [] (mix_second (λ p. 0 < p.span.pages) (mixed_append front (q ∷ [])) some) in
     let most : holders page front + share page q ≤ 1 =
     omega (arith, sound.owners page, ap (holders page) is, sum_by-append (share page) front (q ∷ []), sum_by-cons (share page) q []) in
-    let none = none_in_front c q front in_front at_end most in
-    let passes : is_flight_at c q.span q ≡ true = rw (own, same_span_itself q.span) refl in
+    let none = none_in_front c q front at_end most in
+    let passes : is_flight_at c q.span q ≡ true = grind (arith, nat_tests, own) in
     ap (find (is_flight_at c q.span)) is ∙ find-append (is_flight_at c q.span) front (q ∷ [])
     ∙ ap (λ o. option_or o (find (is_flight_at c q.span) (q ∷ []))) none
     ∙ ap (λ (b : Bool). cond b (Some q) None) passes
@@ -77,4 +55,4 @@ find_kept test gone parts pieces p other found =
 -- the first extent that the client has in flight is found by its span
 pub first_found : (c : ℕ) (parts : List Part) (p : Part) → find (λ q. is_flight c q.state) parts ≡ Some p → find (is_flight_at c p.span) parts ≡ Some p
 first_found c [] p e = absurd (cc)
-first_found c (q ∷ qs) p e = grind (arith, same_span_itself p.span, first_found c qs p)
+first_found c (q ∷ qs) p e = grind (arith, nat_tests, first_found c qs p)

@@ -1,7 +1,7 @@
 -- Regions that are given back, and the extents that they leave empty.
-use Rattle.std.proofs.Common.{◌≡◌, ℕ, ◌<◌, ◌≢◌, true, false, not, IsTrue, List, [], ◌∷◌, length, get_or, refl, ap, arith, filter}
-use Rattle.space_model.proofs.Words.{sum_by, count_by, list_any, sum_by-cons, All-weaker, filter_passes, Back, Part, Region, Space, Live, is_active, is_flight, taken_out, houses, homes, is_held_by, is_given_back, staying, is_emptied, after_back, flight, Sound}
-use Rattle.space_model.proofs.Lists.{any_counts, none_passes, not_true, ones, apart_count}
+use Rattle.std.proofs.Common.{◌≡◌, ℕ, ◌<◌, ◌≢◌, true, not, List, [], ◌∷◌, length, get_or, refl, ap, arith, filter}
+use Rattle.space_model.proofs.Words.{sum_by, count_by, sum_by-cons, All-weaker, filter_passes, Back, Part, Region, Space, Live, is_flight, taken_out, houses, homes, is_held_by, is_given_back, staying, is_emptied, after_back, flight, Sound}
+use Rattle.space_model.proofs.Lists.{any_counts, none_passes, ones, apart_count}
 use Rattle.space_model.proofs.Mixes.{mixed_filter}
 use Rattle.space_model.proofs.Ordered.{ordered-filter}
 use Rattle.space_model.proofs.Turned.{turned_does}
@@ -12,27 +12,17 @@ use Rattle.space_model.proofs.Landing.{eqb_itself}
 
 -- ---- the extents that are emptied
 
--- an emptied extent is active and serves none of the regions
-emptied_is : (regions : List Region) (p : Part) → is_emptied regions p ≡ true → (is_active p.state ≡ true) × (list_any (houses p) regions ≡ false)
-emptied_is regions p h =
-    let both = both_true (is_active p.state) _ h in
-    (both.0, not_true _ both.1)
-
--- an active extent that isn't emptied serves one of them
-kept_serves : (regions : List Region) (p : Part) → not (is_emptied regions p) ≡ true → IsTrue (is_active p.state) → list_any (houses p) regions ≡ true
-kept_serves regions p h act = grind arith
-
 -- ---- Back
 
 -- the extents that are emptied serve none of the regions that stay
 nowhere : (regions : List Region) (parts : List Part) (k : ℕ) (d : Region) → k < length regions →
     homes (get_or regions k d) (filter (is_emptied regions) parts) ≡ 0
 nowhere regions parts k d h =
-    apart_count (is_emptied regions) (λ p. houses p (get_or regions k d)) parts (λ p gone. none_passes (houses p) regions k d (emptied_is regions p gone).1 h)
+    apart_count (is_emptied regions) (λ p. houses p (get_or regions k d)) parts (λ p gone. none_passes (houses p) regions k d (grind (arith, gone)) h)
 
 -- nor are they in flight
 pub none_flying : (d : ℕ) (regions : List Region) (parts : List Part) → count_by (λ p. is_flight d p.state) (filter (is_emptied regions) parts) ≡ 0
-none_flying d regions parts = apart_count (is_emptied regions) (λ p. is_flight d p.state) parts (λ p gone. active_own d p.state (emptied_is regions p gone).0)
+none_flying d regions parts = apart_count (is_emptied regions) (λ p. is_flight d p.state) parts (λ p gone. active_own d p.state (grind (arith, gone)))
 
 -- no region that a client gives back is another one's
 none_held : (c d : ℕ) (addrs : List ℕ) (regions : List Region) → d ≢ c → count_by (is_held_by d) (filter (is_given_back c addrs) regions) ≡ 0
@@ -59,7 +49,7 @@ back_does c s addrs sound live =
       same = λ p. refl;
       fits = λ p gone fits. Piece-taken c p fits;
       empty = λ k d h. nowhere rest s.parts k d h;
-      served = All-weaker (λ p. not (is_emptied rest p) ≡ true) (Used rest) (λ p kept act. any_counts (houses p) rest (kept_serves rest p kept act)) stay
+      served = All-weaker (λ p. not (is_emptied rest p) ≡ true) (Used rest) (λ p kept act. any_counts (houses p) rest (grind arith)) stay
           (filter_passes (λ p. not (is_emptied rest p)) s.parts);
       nobody = λ d other. none_flying d rest s.parts;
       held = λ d other. none_held c d addrs s.regions other;

@@ -1,6 +1,6 @@
 -- Regions that change their holder alone.
 use Rattle.std.proofs.Common.{true, false, ◌≡◌, ℕ, ◌%◌, ◌<◌, Bool, cond, IsTrue, List, ◌∷◌, Option, Some, None, refl, ◌∙◌, arith, All, filter, find, get_or, []}
-use Rattle.space_model.proofs.Words.{nat_tests, sum_by, sum_by-cons, All-weaker, All-map, align_at, Publish, TakeOver, Noted, Nothing, Part, Region, Space, homes, houses, residents, held_anew, is_held_by, is_published, is_live, is_held_at, is_published_at, after_publish, take_over_at, after_take_over, Sound, IsInSlab, PublishNoted, TakeNoArena, TakeNothing, TakeOwned, holds_at}
+use Rattle.space_model.proofs.Words.{nat_tests, sum_by, sum_by-cons, All-weaker, All-map, align_at, Publish, TakeOver, Noted, Nothing, Part, Region, Space, homes, houses, residents, held_anew, is_held_by, is_live, is_held_at, is_published_at, after_publish, take_over_at, after_take_over, Sound, IsInSlab, PublishNoted, TakeNoArena, TakeNothing, TakeOwned, holds_at}
 use Rattle.space_model.proofs.Ordered.{ordered-held_anew}
 use Rattle.space_model.proofs.Settled.{Settled, Used, LargeAt, SmallAt, covered, serves_by, sound_settled}
 use Rattle.space_model.proofs.Changes.{regions_does}
@@ -62,10 +62,6 @@ anew_held : (d : ℕ) (test : Region → Bool) (holder : Option ℕ) (regions : 
 anew_held d test holder [] before after = refl
 anew_held d test holder (r ∷ rs) before after = grind (arith, before r, after r, anew_held d test holder rs before after)
 
--- a published region is nobody's
-published_apart : (d : ℕ) (r : Region) → is_published r ≡ true → is_held_by d r ≡ false
-published_apart d r h = grind arith
-
 pub publish_goes : (c : ℕ) (s : Space) (addr : ℕ) → Sound s → is_live s.life ≡ true → Goes c s (Publish addr) (after_publish s c addr)
 publish_goes c s addr sound live =
     let test = is_held_at c addr in
@@ -80,7 +76,7 @@ take_over_at_goes c s addr (Some r) e sound live =
     let test = is_published_at addr in
     goes sound (regions_does c s (TakeOver addr) _ (held_anew test (Some c) s.regions) sound (live_is s.life live)
     (anew_settled test (Some c) s.parts s.regions (sound_settled s sound))
-    (λ d other. anew_held d test (Some c) s.regions (λ q h. published_apart d q (both_true (is_published q) _ h).0) (λ q. not_both d c other))
+    (λ d other. anew_held d test (Some c) s.regions (λ q h. grind arith) (λ q. not_both d c other))
     (ordered-held_anew test (Some c) s.regions sound.ordered) (λ page before. refl) refl) (λ after. TakeOwned r.class (taken s.regions e))
   where
     taken : (regions : List Region) → find (is_published_at addr) regions ≡ Some r → holds_at c (held_anew (is_published_at addr) (Some c) regions) addr ≡ true

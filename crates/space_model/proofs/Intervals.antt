@@ -29,15 +29,11 @@ unfolding total
 total-ones zero f most = omega arith
 total-ones (suc n) f most = omega (arith, total-ones n f most, most n)
 
--- one more point of an interval
-one_more : (low len n : ℕ) → min n (low + len) - min n low + cond (has_point low len n) 1 0 ≡ min (suc n) (low + len) - min (suc n) low
-one_more low len n = grind (arith, nat_tests)
-
 -- the points of an interval below a bound
 total-interval : (low len n : ℕ) → total n (λ k. cond (has_point low len k) 1 0) ≡ min n (low + len) - min n low
 unfolding total
 total-interval low len zero = omega arith
-total-interval low len (suc n) = omega (arith, total-interval low len n, one_more low len n)
+total-interval low len (suc n) = grind (arith, nat_tests, total-interval low len n)
 
 -- the lengths of intervals are the points that they have
 lengths-total : {X : Type 0} (low len : X → ℕ) (n : ℕ) (xs : List X) → All (λ x. low x + len x ≤ n) xs →

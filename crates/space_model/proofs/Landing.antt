@@ -1,6 +1,6 @@
 -- A region that lands in a committed extent in flight.
 use Rattle.std.proofs.Common.{subst, inl, inr, ◌/◌, ◌≡◌, ℕ, ◌+◌, ◌*◌, ◌%◌, ◌<◌, ◌≤◌, ◌≢◌, Bool, true, false, not, IsTrue, List, [], ◌∷◌, ◌++◌, get_or, Some, refl, sym, ◌∙◌, ap, arith, All, filter, find, eqb, ltb as nat_lt}
-use Rattle.space_model.proofs.Words.{sum_by, position_or_len, sum_by-cons, All-cons, All-nil, nat_tests, cases_lt, mul-mod_first, row_fits, div-add-mod, mul-add-mod_self_left, size_at, pages_at, regions_at, align_at, large_size, slab_filled, align_divides, Op, Reply, Part, Region, Span, Active, Space, Live, exchanged, begins_at, holders, is_active, is_flight, address_of, covers, houses, homes, residents, fills, lies_in, inserted, is_held_by, flight, lost, won, Sound}
+use Rattle.space_model.proofs.Words.{sum_by, position_or_len, sum_by-cons, All-cons, All-nil, nat_tests, cases_lt, mul-mod_first, row_fits, div-add-mod, mul-add-mod_self_left, size_at, pages_at, regions_at, align_at, large_size, slab_filled, align_divides, Op, Reply, Part, Region, Span, Active, Space, Live, exchanged, begins_at, holders, is_active, is_flight, address_of, covers, houses, homes, residents, lies_in, inserted, is_held_by, flight, lost, won, Sound}
 pub use Rattle.space_model.proofs.Lists.{All-insert}
 use Rattle.space_model.proofs.Lists.{ones}
 use Rattle.space_model.proofs.Exchange.{share}
@@ -38,10 +38,6 @@ eqb_itself n = grind (arith, nat_tests)
 pub lies_between : (s : Span) (r : Region) → address_of s.first ≤ r.addr → r.addr + size_at r.class ≤ address_of s.first + 4096 * s.pages → lies_in s r ≡ true
 lies_between s r above below = grind (arith, nat_tests)
 
--- a region at an extent's start fills it
-fills_start : (p : Part) (r : Region) → r.addr ≡ address_of p.span.first → p.span.pages ≡ pages_at r.class → IsTrue (fills p r)
-fills_start p r start pages = grind (arith, nat_tests)
-
 -- a region that one client holds isn't another one's
 not_held : (c d : ℕ) (r : Region) → r.holder ≡ Some c → d ≢ c → is_held_by d r ≡ false
 not_held c d r held other = rw held (different c c d (eqb_itself c) other)
@@ -77,12 +73,12 @@ serves_new p r site =
 pub one_settled : (p : Part) (r : Region) → Site p r → Settled (p ∷ []) (r ∷ [])
 one_settled p r site =
     let one : serves r p ≡ 1 = ap ones (serves_new p r site) in
-    let first : r.addr ≡ address_of p.span.first + 0 * size_at r.class = site.start ∙ no_offset (address_of p.span.first) (size_at r.class) in
+    let first : r.addr ≡ address_of p.span.first + 0 * size_at r.class = grind (arith, site.start) in
     let alone : residents p (r ∷ []) ≡ 1 = omega (arith, one, sum_by-cons (serves_by p) r []) in record {
       home = All-cons (λ q. homes q (p ∷ []) ≡ 1) r [] (omega (arith, one, sum_by-cons (serves r) p [])) (All-nil (λ q. homes q (p ∷ []) ≡ 1));
       used = All-cons (Used (r ∷ [])) p [] (λ act. omega (arith, alone)) (All-nil (Used (r ∷ [])));
       large = All-cons (λ q. All (LargeAt (r ∷ []) q) (p ∷ [])) r []
-          (All-cons (LargeAt (r ∷ []) r) p [] (λ home big. (fills_start p r site.start site.pages, alone)) (All-nil (LargeAt (r ∷ []) r)))
+          (All-cons (LargeAt (r ∷ []) r) p [] (λ home big. (grind (arith, nat_tests, site.start, site.pages), alone)) (All-nil (LargeAt (r ∷ []) r)))
           (All-nil (λ q. All (LargeAt (r ∷ []) q) (p ∷ [])));
       small = All-cons (λ q. All (SmallAt (r ∷ []) q) (p ∷ [])) r []
           (All-cons (SmallAt (r ∷ []) r) p [] (λ home little. record {
@@ -96,9 +92,6 @@ one_settled p r site =
           (subst (λ addr. addr % align_at r.class ≡ 0) (sym first) (place_aligned p.span.first 0 r.class site.class)) (All-nil (λ q. q.addr % align_at q.class ≡ 0));
       apart = λ byte. omega (arith, sum_by-cons (covered byte) r [], ones_most (covers byte r));
     }
-  where
-    no_offset : (n size : ℕ) → n ≡ n + 0 * size
-    no_offset n size = grind arith
 
 -- A region of a client lands in its extent in flight, which was found.
 pub land_does : (c : ℕ) (s : Space) (op : Op) (reply : Reply) (test : Part → Bool) (p : Part) (r : Region) → Sound s → s.life ≡ Live →

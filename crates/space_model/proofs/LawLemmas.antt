@@ -1,5 +1,5 @@
 -- The laws of arenas and journals.
-use Rattle.std.proofs.Common.{◌≡◌, ◌≢◌, ◌&&◌, ℕ, rules, inl, inr, ◌+◌, ◌/◌, ◌<◌, ◌≤◌, Bool, true, false, cond, IsTrue, List, [], ◌∷◌, ◌++◌, length, get_or, take, refl, sym, ◌∙◌, ap, subst, arith, Any, append-nil, append_assoc}
+use Rattle.std.proofs.Common.{◌≡◌, ◌≢◌, ℕ, rules, inl, inr, ◌/◌, ◌<◌, ◌≤◌, Bool, true, false, cond, IsTrue, List, [], ◌∷◌, ◌++◌, length, get_or, take, refl, sym, ◌∙◌, ap, subst, arith, Any, append-nil, append_assoc}
 use Rattle.space_model.proofs.Words.{count_by, cases_lt, get_or-take, length-take, sum_by_more_le, get_or-le-sum_by, sum_by-le-sum_by, All-weaker, All-head, All-tail, nat_tests, Entry, Reply, Part, Region, size_at, size_bounds, has_page, holders, is_active, covers, lies_in, houses, homes, space_after, reply_to, stands, Good, replay, all_stand, turns_of, granted, first_space, absent_space, FirstReplaysAreGood, AbsentReplaysAreGood, ReplaysKeepGood, ReplaysKeepOthers, PartsAreApart, RegionsAreApart, RegionsRise, RegionsHaveHomes, RegionsAreGranted, Any-from_list_any}
 use Rattle.space_model.proofs.Exchange.{share}
 use Rattle.space_model.proofs.Settled.{serves}
@@ -86,9 +86,8 @@ regions_have_homes s sound =
     (λ r home.
     let there = Any-from_list_any (λ (p : Part). houses p r) s.parts (counted_any (λ p. houses p r) s.parts (omega (arith, home))) in
     let p : Part = there.1 in
-    let last = both_true (is_active p.state && p.committed) (lies_in p.span r) there.4 in
-    let first = both_true (is_active p.state) p.committed last.0 in
-    (there.0, p, there.2, there.3, (first.0, first.1, last.1)))
+    let passes = there.4 in
+    (there.0, p, there.2, there.3, (grind (arith, passes), grind (arith, passes), grind (arith, passes))))
     s.regions sound.homes
 
 pub regions_are_granted : RegionsAreGranted

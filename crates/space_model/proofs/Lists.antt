@@ -144,9 +144,6 @@ only_one {X} key test (y ∷ ys) x most e is =
 pub halves : (a b : Bool) → ones (a && b) + ones (a && not b) ≤ ones a
 halves a b = grind arith
 
-pub other_half : (a b : Bool) → ones (a && not b) ≡ 0 → a ≡ true → b ≡ true
-other_half a b h is = grind arith
-
 -- where at most one element passes a test, and one does that passes another, each that passes the first passes that
 pub sole : {X : Type 0} (f key : X → Bool) (xs : List X) (j : ℕ) (e : X) → count_by f xs ≤ 1 → j < length xs → f (get_or xs j e) ≡ true → key (get_or xs j e) ≡ true → All (λ y. f y ≡ true → key y ≡ true) xs
 sole f key xs j e most within passes is =
@@ -161,7 +158,7 @@ sole f key xs j e most within passes is =
       sum_add (λ y. ones (f y && key y)) (λ y. ones (f y && not (key y))) xs,
       get_or-le-sum_by (λ y. ones (f y && key y)) xs j e within,
     ) in
-    λ k d h yes. other_half (f (get_or xs k d)) (key (get_or xs k d)) (sum_nothing (λ y. ones (f y && not (key y))) xs none k d h) yes
+    λ k d h yes. grind (arith, yes, sum_nothing (λ y. ones (f y && not (key y))) xs none k d h)
 
 -- what is true of each element and of one more is true when that is inserted
 pub All-insert : {X : Type 0} (P : X → Type 0) (xs : List X) (i : ℕ) (x : X) → All P xs → P x → All P (insert xs i x)

@@ -1,6 +1,6 @@
 -- Which ways the looks, cuts, growths, commits and merges go: what each does, and what its reply tells.
-use Rattle.std.proofs.Common.{true, false, ◌≡◌, ◌≢◌, ℕ, ◌+◌, ◌-◌, ◌<◌, ◌≤◌, Bool, not, cond, IsTrue, List, ◌∷◌, ◌++◌, Option, Some, None, refl, sym, ◌∙◌, ap, subst, arith, find, filter, ◌&&◌, ◌==◌, ltb as nat_lt, append_assoc, inl, inr, [], leb as nat_le}
-use Rattle.space_model.proofs.Words.{nat_tests, beq, is_power_of_two, ones_le_self, count_by, option_map, eqb-true, leb-true, sum_by-cons, Ask, Alloc, Commit, Split, Merge, Answer, Done, Refuses, Placed, Heard, Op, Look, CutDone, GrowDone, CommitDone, PutLook, MergeDone, NoArena, Whole, Purge, Why, Part, Rest, Span, State, Dirty, Space, end_of, run_start, holds_run, exchanged, begins_at, is_flight, is_flight_at, is_listed, is_backed, listed, rest_of, put_down, taken_out, next_flight, fit, Stepped, stays, whole_at, is_live, if_live, is_dirty_time_over, is_lazy, joined, begins_either, found_passes, is_yes_or_no, look_at, kept_piece, other_piece, cut_at, after_cut, cut_stands, new_part, why_not, grow_unless, after_grow, grow_stands, commit_at, after_commit, commit_stands, is_like, is_right_of, is_left_of, neighbour, is_purged, put_at_rest, put_beside, put_at, join_at, apart_at, after_merge, merge_stands, both_merge, may_merge, Sound, Outcome, PutDown, Flying, NextFlies, kept_span, LookTook, LookNone, CutKept, CutWhole, GrowRefused, GrowBad, GrowGrown, CommitNoted, CommitWhole, PutRight, PutLeft, PutPurge, PutNext, MergeJoined, All-cons, All-nil, Bad, IsPlaced, Noted, Refused, Reply, flight, high_piece, is_in, low_piece, ltb-true, pages_end, replaced, sum_by}
+use Rattle.std.proofs.Common.{true, false, ◌≡◌, ◌≢◌, ℕ, ◌+◌, ◌-◌, ◌<◌, ◌≤◌, Bool, not, cond, List, ◌∷◌, ◌++◌, Option, Some, None, refl, sym, ◌∙◌, ap, subst, arith, find, filter, ◌&&◌, ◌==◌, ltb as nat_lt, append_assoc, inl, inr, [], leb as nat_le}
+use Rattle.space_model.proofs.Words.{nat_tests, beq, is_power_of_two, ones_le_self, count_by, option_map, eqb-true, leb-true, sum_by-cons, Ask, Alloc, Commit, Split, Merge, Answer, Done, Refuses, Placed, Heard, Op, Look, CutDone, GrowDone, CommitDone, PutLook, MergeDone, NoArena, Whole, Purge, Why, Part, Rest, Span, State, Dirty, Space, end_of, run_start, holds_run, exchanged, begins_at, is_flight, is_flight_at, is_listed, rest_of, put_down, taken_out, next_flight, fit, Stepped, stays, whole_at, is_live, if_live, is_dirty_time_over, is_lazy, joined, begins_either, found_passes, is_yes_or_no, look_at, kept_piece, other_piece, cut_at, after_cut, cut_stands, new_part, why_not, grow_unless, after_grow, grow_stands, commit_at, after_commit, commit_stands, is_like, is_right_of, is_left_of, neighbour, is_purged, put_at_rest, put_beside, put_at, join_at, apart_at, after_merge, merge_stands, both_merge, may_merge, Sound, Outcome, PutDown, Flying, NextFlies, LookTook, LookNone, CutKept, CutWhole, GrowRefused, GrowBad, GrowGrown, CommitNoted, CommitWhole, PutRight, PutLeft, PutPurge, PutNext, MergeJoined, All-cons, All-nil, Bad, IsPlaced, Noted, Refused, Reply, flight, high_piece, low_piece, ltb-true, pages_end, replaced, sum_by}
 use Rattle.std.proofs.Common.{◌≡◌, ℕ, ◌+◌, ◌-◌, ◌<◌, ◌≤◌, Bool, true, false, not, cond, List, ◌∷◌, ◌++◌, Option, Some, None, refl, sym, ◌∙◌, ap, subst, arith, filter, find, ◌==◌, append_assoc, count_ones}
 use Rattle.space_model.proofs.Lists.{false_true, find_passes, ones}
 use Rattle.space_model.proofs.Pieces.{both_true, not_both, put_down-nobody, Listed, fit-listed, cut_shares, found_fits, Piece-down, Piece-low, Piece-high, Piece-joined, two_left, joined_share, fit_best, neighbour_side}
@@ -100,14 +100,6 @@ two_does c s op reply span p down kept sound at lower upper pages flies same =
     (All-cons (Piece c) (put_down down) (kept ∷ []) (Piece-down c down lower.fits) (All-cons (Piece c) kept [] upper (All-nil (Piece c))))
     (λ page. omega (arith, sums (share page), pages page)) same.0 (omega (arith, sums (flight c), lands, flies, same.1, same.2))
 
--- the piece that is kept has the span of a cut
-kept_is : (keep_low : Bool) (left : ℕ) (p : Part) (span : Span) → p.span ≡ span → (kept_piece keep_low left p).span ≡ kept_span keep_low left span
-kept_is keep_low left p span e = grind arith
-
-kept_own : (c : ℕ) (keep_low : Bool) (left : ℕ) (p : Part) → is_flight c p.state ≡ true → (is_flight c (kept_piece keep_low left p).state ≡ true) × ((kept_piece keep_low left p).committed ≡ p.committed)
-kept_own c true left p own = (own, refl)
-kept_own c false left p own = (own, refl)
-
 cut_at_goes : (c : ℕ) (s : Space) (heard : Heard) (keep_low : Bool) (span : Span) (left : ℕ) (p : Part) → heard.ask ≡ Split span left → find (is_flight_at c span) s.parts ≡ Some p →
     Sound s → is_live s.life ≡ true → 0 < left → left < span.pages → Goes c s (CutDone heard keep_low) (cut_at s keep_low left (Some p))
 cut_at_goes c s heard keep_low span left p is e sound live some fewer =
@@ -117,15 +109,14 @@ cut_at_goes c s heard keep_low span left p is e sound live some fewer =
     let up = Piece-high c left p at.piece some less in
     let op : Op = CutDone heard keep_low in
     let kept : Part = kept_piece keep_low left p in
-    let own = kept_own c keep_low left p at.own in
     let front : List Part = filter (λ q. not (begins_at p.span.first q)) s.parts in
     let other : Part = put_down (other_piece keep_low left p) in
     goes sound (elim keep_low as (λ b. Does c s op (cut_at s b left (Some p))) [
       | true ↦ two_does c s op _ span p (high_piece left p) (low_piece left p) sound at up down (λ page. omega (arith, cut_shares page left p some less)) refl (λ page before. refl, refl, refl)
       | false ↦ two_does c s op _ span p (low_piece left p) (high_piece left p) sound at down up (λ page. cut_shares page left p some less) refl (λ page before. refl, refl, refl)
     ])
-    (λ after. CutKept span kept.span left p.committed is (found_flies c s span p e) (kept_is keep_low left p span (found_span c span s.parts p e).0)
-    (last_flies c (cut_at s keep_low left (Some p)).after (front ++ other ∷ []) kept p.committed after (sym (append_assoc front (other ∷ []) (kept ∷ []))) own.0 own.1))
+    (λ after. CutKept span kept.span left p.committed is (found_flies c s span p e) (grind (arith, (found_span c span s.parts p e).0))
+    (last_flies c (cut_at s keep_low left (Some p)).after (front ++ other ∷ []) kept p.committed after (sym (append_assoc front (other ∷ []) (kept ∷ []))) (grind (arith, at.own)) (grind arith)))
 
 pub cut_goes : (c : ℕ) (s : Space) (heard : Heard) (keep_low : Bool) (ask : Ask) (answer : Answer) → heard.ask ≡ ask → Sound s → is_live s.life ≡ true →
     cut_stands s c ask answer ≡ true → Goes c s (CutDone heard keep_low) (after_cut s c keep_low ask answer)
@@ -205,26 +196,8 @@ neighbour-listed tries p parts other e =
 pub belongs : (r : Rest) (state : State) → is_listed r state ≡ true → rest_of state ≡ r
 belongs r state h = grind arith
 
-listed_itself : (r : Rest) → is_listed r (listed r) ≡ true
-listed_itself r = grind arith
-
-same_committed : (a b : Bool) → beq a b ≡ true → a ≡ b
-same_committed a b h = grind arith
-
 pub beq_itself : (a : Bool) → beq a a ≡ true
 beq_itself a = grind arith
-
--- an extent and a neighbour that is like it may be merged, once that is taken out
-like_merges : (c : ℕ) (p other : Part) → is_like p other ≡ true → (may_merge p (taken_out c other) ≡ true) × (may_merge (taken_out c other) p ≡ true)
-like_merges c p other h =
-    let like = both_true (is_listed (rest_of p.state) other.state) (beq other.committed p.committed) h in
-    let rest : rest_of other.state ≡ rest_of p.state = belongs (rest_of p.state) other.state like.0 in
-    let committed : other.committed ≡ p.committed = same_committed _ _ like.1 in
-    (rw (rest, committed, listed_itself (rest_of p.state), beq_itself p.committed) refl, rw (rest, committed, listed_itself (rest_of p.state), beq_itself p.committed) refl)
-
--- the client's extent with a span doesn't begin elsewhere
-begins_else : (c : ℕ) (own : Span) (first : ℕ) → own.first ≢ first → (p : Part) → is_flight_at c own p ≡ true → begins_at first p ≡ false
-begins_else c own first differ p h = grind (arith, nat_tests)
 
 -- A neighbour that is taken out leaves the extent where it was.
 record Neighboured (c : ℕ) (s : Space) (p other : Part) (own : Span) : Type 0 where
@@ -238,9 +211,9 @@ beside_it c s p other own found like differ after =
     let at = found_span c own s.parts p found in
     let gone : Part → Bool = begins_at other.span.first in record {
       stays = find_kept (is_flight_at c own) gone s.parts (taken_out c other ∷ []) p
-          (begins_else c own other.span.first (λ e. differ (ap (λ (k : Span). k.first) at.0 ∙ e))) found;
+          (λ q h. grind (arith, nat_tests, differ, at.0)) found;
       taken = last_found c (record s { parts = exchanged gone s.parts (taken_out c other ∷ []) }) (filter (λ q. not (gone q)) s.parts) (taken_out c other) after refl (itself c);
-      merges = like_merges c p other like;
+      merges = (grind (arith, like), grind (arith, like));
     }
 
 -- the neighbour on the right is in flight too
@@ -294,12 +267,9 @@ none_goes c s own tries p sound live found =
       | true ↦ λ h.
           let both = both_true (is_listed (rest_of p.state) Dirty) (is_dirty_time_over s) h in
           let fits = found_fits s (is_flight_at c own) p sound found in
-          let committed : p.committed ≡ true = fits.backed (rest_backed (rest_of p.state) both.0) in
+          let committed : p.committed ≡ true = fits.backed (grind (arith, both.0)) in
           still_goes c s (PutLook own tries) _ sound (λ page before. refl, refl, refl) (PutPurge both.1 (record { part = p; found = found; committed = committed }) refl)
     ] refl
-  where
-    rest_backed : (rest : Rest) → is_listed rest Dirty ≡ true → IsTrue (is_backed rest)
-    rest_backed rest h = grind arith
 
 pub put_goes : (c : ℕ) (s : Space) (own : Span) (tries : ℕ) → Sound s → is_live s.life ≡ true → found_passes (λ _. true) (find (is_flight_at c own) s.parts) ≡ true →
     Goes c s (PutLook own tries) (put_at s c tries (find (is_flight_at c own) s.parts))
@@ -345,7 +315,7 @@ apart_flies c s own other p q e f differ =
     let at = (found_span c own s.parts p e).0 in
     let to = (found_span c other s.parts q f).0 in
     let stays : find (is_flight_at c own) (exchanged (begins_at q.span.first) s.parts (put_down q ∷ [])) ≡ Some p =
-    find_kept (is_flight_at c own) (begins_at q.span.first) s.parts (put_down q ∷ []) p (begins_else c own q.span.first (λ k. differ (k ∙ ap (λ (x : Span). x.first) to))) e in
+    find_kept (is_flight_at c own) (begins_at q.span.first) s.parts (put_down q ∷ []) p (λ x h. grind (arith, nat_tests, differ, to)) e in
     record { part = p; found = subst (λ (k : Span). find (is_flight_at c k) (exchanged (begins_at q.span.first) s.parts (put_down q ∷ [])) ≡ Some p) (sym at) stays; committed = refl }
 
 apart_goes : (c : ℕ) (s : Space) (heard : Heard) (side own_low : Bool) (low high : Span) (p q : Part) → find (is_flight_at c low) s.parts ≡ Some p → find (is_flight_at c high) s.parts ≡ Some q →

@@ -1,5 +1,5 @@
 -- What the states of extents say, and the pieces that operations put in their place.
-use Rattle.std.proofs.Common.{◌≡◌, ℕ, ◌+◌, ◌<◌, ◌≢◌, Bool, true, false, IsTrue, List, [], ◌∷◌, Some, None, refl, subst, arith, find, filter, ◌&&◌, eqb, ◌⊎◌, cond, ◌==◌, nat_lt, inl, inr, eqb-true, ltb-true}
+use Rattle.std.proofs.Common.{◌≡◌, ℕ, ◌+◌, ◌<◌, ◌≢◌, Bool, true, false, IsTrue, List, [], ◌∷◌, Some, None, refl, arith, find, filter, ◌&&◌, eqb, ◌⊎◌, cond, ◌==◌, nat_lt, inl, inr, eqb-true, ltb-true}
 use Rattle.space_model.proofs.Words.{sum_by, sum_by-cons, nat_tests, Part, Rest, ToDirty, ToMuzzy, ToRetained, State, Space, Region, IsPlaced, end_of, is_active, is_listed, is_flight, is_backed, rest_of, listed, taken_out, put_down, begins_at, fit, fit_of, is_best, is_candidate, low_piece, high_piece, joined, begins_either, neighbour, is_right_of, is_left_of, Sound, is_held_by, is_live}
 use Rattle.space_model.proofs.Lists.{find_has, find_passes, sum_by-either, either_found, if_found}
 use Rattle.space_model.proofs.Exchange.{share}
@@ -22,10 +22,7 @@ listed-idle rest state h = grind arith
 pub flight-idle : (c : ℕ) (state : State) → is_flight c state ≡ true → is_active state ≡ false
 flight-idle c state h = grind arith
 
--- an extent that is put down belongs where it belonged, and isn't active
-pub put_down-rest : (rest : Rest) → rest_of (listed rest) ≡ rest
-put_down-rest rest = grind arith
-
+-- an extent that is put down isn't active
 pub put_down-idle : (rest : Rest) → is_active (listed rest) ≡ false
 put_down-idle rest = grind arith
 
@@ -43,10 +40,6 @@ different e c d h other = grind (arith, nat_tests)
 -- two clients that differ are told apart
 pub not_both : (d c : ℕ) → d ≢ c → eqb c d ≡ false
 not_both d c other = grind (arith, nat_tests)
-
--- two clients that differ have no flight in common
-pub others-flight : (c d : ℕ) (state : State) → d ≢ c → is_flight c state ≡ true → is_flight d state ≡ false
-others-flight c d state other h = grind (arith, nat_tests)
 
 -- an active extent is nobody's flight
 pub active_own : (d : ℕ) (state : State) → is_active state ≡ true → is_flight d state ≡ false
@@ -101,7 +94,7 @@ found_fits s test p sound found = record {
 
 -- one in flight of the client, or listed
 pub Piece-flight : (c : ℕ) (p : Part) → Fits p → is_flight c p.state ≡ true → Piece c p
-Piece-flight c p fits own = record { idle = flight-idle c p.state own; fits = fits; own = λ d other. others-flight c d p.state other own }
+Piece-flight c p fits own = record { idle = flight-idle c p.state own; fits = fits; own = λ d other. grind (arith, nat_tests) }
 
 pub Piece-listed : (c : ℕ) (p : Part) (rest : Rest) → Fits p → is_listed rest p.state ≡ true → Piece c p
 Piece-listed c p rest fits is_in = record { idle = listed-idle rest p.state is_in; fits = fits; own = λ d other. listed-nobody d rest p.state is_in }
@@ -110,7 +103,7 @@ Piece-listed c p rest fits is_in = record { idle = listed-idle rest p.state is_i
 pub Piece-down : (c : ℕ) (p : Part) → Fits p → Piece c (put_down p)
 Piece-down c p fits = record {
   idle = put_down-idle (rest_of p.state);
-  fits = record { placed = fits.placed; backed = λ h. fits.backed (subst (λ r. IsTrue (is_backed r)) (put_down-rest (rest_of p.state)) h) };
+  fits = record { placed = fits.placed; backed = λ h. fits.backed (grind arith) };
   own = λ d other. put_down-nobody d (rest_of p.state);
 }
 
@@ -132,10 +125,6 @@ Piece-high c left p piece some fewer = record { idle = piece.idle; fits = Fits-h
 
 -- ---- two extents side by side
 
--- of two extents with different starts none begins as both do
-not_both_begin : (p q x : Part) → p.span.first < q.span.first → begins_at p.span.first x ≡ true → begins_at q.span.first x ≡ false
-not_both_begin p q x below h = grind (arith, nat_tests)
-
 -- the sums over two extents that were found, as those that go
 pub two_left : (s : Space) (test also : Part → Bool) (p q : Part) → Sound s → find test s.parts ≡ Some p → find also s.parts ≡ Some q →
     end_of p.span ≡ q.span.first → (f : Part → ℕ) → sum_by f (filter (begins_either p q) s.parts) ≡ sum_by f (p ∷ q ∷ [])
@@ -143,7 +132,7 @@ two_left s test also p q sound low high side f =
     let fits = found_fits s test p sound low in
     omega (
       arith,
-      sum_by-either f (begins_at p.span.first) (begins_at q.span.first) (λ x. not_both_begin p q x (omega (arith, side, fits.placed.0))) s.parts,
+      sum_by-either f (begins_at p.span.first) (begins_at q.span.first) (λ x h. grind (arith, nat_tests, side, fits.placed.0)) s.parts,
       one_left s test p sound low f,
       one_left s also q sound high f,
       sum_by-cons f p (q ∷ []),

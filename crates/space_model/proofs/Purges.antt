@@ -1,11 +1,11 @@
 -- What the operations of a purge do and tell: an extent is taken out by age, changes its list or its commit state, is offered, or comes back.
-use Rattle.std.proofs.Common.{true, false, ◌≡◌, ◌≢◌, ℕ, ◌+◌, ◌≤◌, Bool, not, cond, IsTrue, List, ◌∷◌, ◌++◌, Option, Some, None, refl, sym, ◌∙◌, ap, subst, arith, All, filter, find, suc, take, drop, ◌&&◌, ◌||◌, ◌==◌, ltb as nat_lt, append-nil, []}
-use Rattle.space_model.proofs.Words.{Any-from_list_any, list_any, position_or_len, is_some, All-cons, All-nil, All-append, All-take, All-drop, filter-append, Ask, Dalloc, Decommit, PurgeLazy, Answer, Done, Refuses, Heard, Op, PurgeTake, LazyDone, Offer, OfferDone, DecommitDone, Reply, Noted, Nothing, Kept, Abandoned, Offered, Part, Rest, ToDirty, ToMuzzy, ToRetained, Span, Flight as InFlight, Space, IsPlaced, has_page, meets, same_span, holders, is_listed, is_flight_at, is_backed, listed, rest_of, next_flight, pages_listed, stays, replaced, is_live, found_passes, purge_at, after_purge_take, lazy_at, after_lazy, lazy_stands, offer_of, offer_at, is_offer, without_offer, is_regranted, after_offer, offer_stands, decommit_at, after_decommit, decommit_stands, granted_by, is_in_dalloc, flight, lost, won, Sound, DecommitDid, Flying, ForcedDone, ForcedNoted, LazyDid, OfferAbandoned, OfferKept, OfferNext, OfferNoted, PurgeForced, PurgeNoArena, PurgeNothing, PurgeTaken, forced_stands, is_flight, is_in, is_purgeable, is_yes_or_no, list_any-append, taken_out}
+use Rattle.std.proofs.Common.{true, false, ◌≡◌, ◌≢◌, ℕ, ◌+◌, ◌≤◌, Bool, cond, IsTrue, List, ◌∷◌, ◌++◌, Option, Some, None, refl, ◌∙◌, ap, subst, arith, All, filter, find, suc, take, drop, ◌&&◌, ◌||◌, ◌==◌, ltb as nat_lt, append-nil, []}
+use Rattle.space_model.proofs.Words.{nat_tests, Any-from_list_any, list_any, position_or_len, is_some, All-cons, All-nil, All-append, All-take, All-drop, filter-append, Ask, Dalloc, Decommit, PurgeLazy, Answer, Done, Refuses, Heard, Op, PurgeTake, LazyDone, Offer, OfferDone, DecommitDone, Reply, Noted, Nothing, Kept, Abandoned, Offered, Part, Rest, ToDirty, ToMuzzy, ToRetained, Span, Flight as InFlight, Space, IsPlaced, meets, same_span, holders, is_listed, is_flight_at, is_backed, listed, rest_of, next_flight, pages_listed, stays, replaced, is_live, found_passes, purge_at, after_purge_take, lazy_at, after_lazy, lazy_stands, offer_of, offer_at, is_offer, without_offer, is_regranted, after_offer, offer_stands, decommit_at, after_decommit, decommit_stands, granted_by, is_in_dalloc, flight, lost, won, Sound, DecommitDid, Flying, ForcedDone, ForcedNoted, LazyDid, OfferAbandoned, OfferKept, OfferNext, OfferNoted, PurgeForced, PurgeNoArena, PurgeNothing, PurgeTaken, forced_stands, is_flight, is_purgeable, is_yes_or_no, list_any-append, taken_out}
 use Rattle.space_model.proofs.Lists.{false_true, find_passes, ones, without_first, or_false}
 use Rattle.space_model.proofs.Exchange.{share}
 use Rattle.space_model.proofs.Growth.{nobody_holds}
 use Rattle.space_model.proofs.Changes.{Does, Frame, Piece, put_does, frame_does, live_quiet, sound_ranges, go_does, come_does}
-use Rattle.space_model.proofs.Pieces.{both_true, different, not_both, found_fits}
+use Rattle.space_model.proofs.Pieces.{both_true, not_both, found_fits}
 use Rattle.std.proofs.Math.Bool.{or-true}
 use Rattle.space_model.proofs.Found.{found_span, last_flies, span_is}
 use Rattle.space_model.proofs.Outcomes.{Goes, goes, still_goes, live_goes, on_found, put_flies, found_flies, next_flies, belongs, beq_itself}
@@ -19,12 +19,9 @@ purge_at_goes c s rest keep None e sound live h = still_goes c s (PurgeTake rest
 purge_at_goes c s rest keep (Some p) e sound live h =
     let is_in = find_passes (λ q. is_listed rest q.state) s.parts p e in
     let is : rest_of p.state ≡ rest = belongs rest p.state is_in in
-    let committed : p.committed ≡ true = (found_fits s (λ q. is_listed rest q.state) p sound e).backed (subst (λ r. IsTrue (is_backed r)) (sym is) (purge_backed rest h)) in
+    let committed : p.committed ≡ true = (found_fits s (λ q. is_listed rest q.state) p sound e).backed (grind (arith, is, h)) in
     goes sound (taken_does c s (PurgeTake rest keep) _ p sound live (record { test = λ q. is_listed rest q.state; found = e; rest = rest; is_in = is_in }) (λ page before. refl, refl, refl))
     (λ after. PurgeTaken p.span _ _ (subst (λ (b : Bool). Flying c (purge_at s c rest (Some p)).after p.span b) committed (put_flies c s p (taken_out c p) after (itself c))))
-  where
-    purge_backed : (r : Rest) → is_purgeable r ≡ true → IsTrue (is_backed r)
-    purge_backed r k = grind arith
 
 pub purge_take_goes : (c : ℕ) (s : Space) (rest : Rest) (keep : ℕ) → Sound s → is_purgeable rest ≡ true → Goes c s (PurgeTake rest keep) (after_purge_take s c rest keep)
 purge_take_goes c s rest keep sound h =
@@ -45,17 +42,9 @@ turned_flight c s op reply span p q sound at fits same flies plain lose win =
     let flew : flight c p ≡ 1 = ap ones at.own in
     put_does c s op reply (is_flight_at c span) p q sound at.live at.found at.piece fits same plain (omega (arith, flew, flies, lose, win))
 
--- a dirty extent is committed
-dirty_backed : (rest : Rest) → is_listed ToDirty (listed rest) ≡ true → IsTrue (is_backed rest)
-dirty_backed rest h = grind arith
-
--- and what belongs to the retained ones need not be
-retained_free : (rest : Rest) → is_listed ToRetained (listed rest) ≡ true → is_backed rest ≡ false
-retained_free rest h = grind arith
-
--- so is one in flight that belongs there
+-- an extent in flight to the dirty ones is committed
 dirty_committed : (c : ℕ) (s : Space) (span : Span) (p : Part) → Sound s → find (is_flight_at c span) s.parts ≡ Some p → is_listed ToDirty (listed (rest_of p.state)) ≡ true → p.committed ≡ true
-dirty_committed c s span p sound e h = (found_fits s (is_flight_at c span) p sound e).backed (dirty_backed (rest_of p.state) h)
+dirty_committed c s span p sound e h = (found_fits s (is_flight_at c span) p sound e).backed (grind (arith, h))
 
 pub lazy_goes : (c : ℕ) (s : Space) (heard : Heard) (ask : Ask) (answer : Answer) → heard.ask ≡ ask → Sound s → is_live s.life ≡ true → lazy_stands s c ask answer ≡ true →
     Goes c s (LazyDone heard) (after_lazy s c ask answer)
@@ -66,7 +55,7 @@ lazy_goes c s heard (PurgeLazy span) Done is sound live h =
     let q : Part = record p { state = InFlight c ToMuzzy } in
     let t : Space = (lazy_at s c (Some p)).after in
     goes sound (turned_flight c s (LazyDone heard) _ span p q sound at
-    (record { idle = refl; fits = record { placed = at.piece.fits.placed; backed = λ _. at.piece.fits.backed (dirty_backed (rest_of p.state) k) }; own = λ d other. not_both d c other })
+    (record { idle = refl; fits = record { placed = at.piece.fits.placed; backed = λ _. at.piece.fits.backed (grind (arith, k)) }; own = λ d other. not_both d c other })
     refl (ap ones (itself c)) (λ page before. refl) refl refl)
     (λ after. LazyDid span true is (subst (λ (k : Span). Flying c t k true) (found_span c span s.parts p e).0
     (subst (λ (b : Bool). Flying c t p.span b) (dirty_committed c s span p sound e k) (put_flies c s p q after (itself c)))) (λ k. absurd (cc))))
@@ -83,7 +72,7 @@ decommit_goes c s heard (Decommit span) Done is sound live h =
     (λ p e k.
     let at = flight_at c s span p sound live e in
     let q : Part = record p { committed = false } in
-    let free = retained_free (rest_of p.state) (both_true p.committed _ k).1 in
+    let free : is_backed (rest_of p.state) ≡ false = grind (arith, k) in
     goes sound (turned_flight c s (DecommitDone heard) _ span p q sound at
     (record { idle = at.piece.idle; fits = record { placed = at.piece.fits.placed; backed = λ b. absurd (false_true (subst IsTrue free b)) }; own = at.piece.own })
     refl (ap ones at.own) (λ page before. refl) refl refl)
@@ -103,10 +92,6 @@ forced_goes c s heard (PurgeForced span) answer is sound h =
 forced_goes c s heard ask answer is sound h = absurd (cc)
 
 -- ---- Offer
-
--- spans with the same pages
-same_page : (page : ℕ) (a b : Span) → a.first ≡ b.first → a.pages ≡ b.pages → has_page page a ≡ has_page page b
-same_page page a b first pages = rw (first, pages) refl
 
 -- where the client alone has other offers
 offer_frame : (c : ℕ) (s : Space) (parts : List Part) (offers : List Offered) → Sound s → All (λ o. IsPlaced o.span) offers →
@@ -136,14 +121,10 @@ offer_goes c s span sound live h =
     (offer_frame c s t.parts t.offers sound
     (All-append (λ o. IsPlaced o.span) s.offers (offer_of c p ∷ []) sound.offered (All-cons (λ o. IsPlaced o.span) (offer_of c p) [] at.piece.fits.placed (All-nil (λ o. IsPlaced o.span))))
     (λ d other. filter-append (λ o. o.client == d) s.offers (offer_of c p ∷ []) ∙ ap (λ b. filter (λ (o : Offered). o.client == d) s.offers ++ cond b (offer_of c p ∷ []) []) (not_both d c other) ∙ append-nil _))
-    (live_quiet s t at.live refl) (λ page before. ap (λ b. before && not b) (sym (same_page page p.span span at.first at.pages))) (omega (arith, flies)))
+    (live_quiet s t at.live refl) (λ page before. rw (at.first, at.pages) refl) (omega (arith, flies)))
     (λ after. OfferNoted p.committed (list_any-append (is_offer c span p.committed) s.offers (offer_of c p ∷ []) ∙ rw is (or-true _))))
 
 -- ---- OfferDone
-
--- an offer of the client's isn't another one's
-others_offer : (c d : ℕ) (span : Span) (committed : Bool) (o : Offered) → d ≢ c → is_offer c span committed o ≡ true → (o.client == d) ≡ false
-others_offer c d span committed o other h = different o.client c d (both_true (o.client == c) (same_span o.span span) (both_true (o.client == c && same_span o.span span) _ h).0).0 other
 
 -- a span that is offered is placed
 offer_placed : (c : ℕ) (span : Span) (committed : Bool) (offers : List Offered) → All (λ o. IsPlaced o.span) offers → list_any (is_offer c span committed) offers ≡ true → IsPlaced span
@@ -162,7 +143,7 @@ taken_frame c s span committed parts sound =
     offer_frame c s parts (without_offer c span committed s.offers) sound
     (All-append (λ o. IsPlaced o.span) (take n s.offers) (drop (suc n) s.offers) (All-take (λ o. IsPlaced o.span) n s.offers sound.offered)
     (All-drop (λ o. IsPlaced o.span) (suc n) s.offers sound.offered))
-    (λ d other. without_first (λ o. o.client == d) test s.offers (λ o h. others_offer c d span committed o other h))
+    (λ d other. without_first (λ o. o.client == d) test s.offers (λ o h. grind (arith, nat_tests)))
 
 -- an offer is an extent again
 kept_does : (c : ℕ) (s : Space) (heard : Heard) (found : Option ℕ) (span : Span) (committed : Bool) → heard.ask ≡ Dalloc span committed → Sound s → is_live s.life ≡ true →

@@ -1,12 +1,12 @@
 -- What the operations of a resize do: they look for pages behind a large region, join them to it, or cut some off.
-use Rattle.std.proofs.Common.{true, false, ◌≡◌, ◌≢◌, ℕ, ◌+◌, ◌-◌, ◌<◌, ◌≤◌, Bool, not, cond, List, ◌∷◌, get_or, Option, Some, None, refl, sym, ◌∙◌, ap, subst, arith, All, find, filter, ◌&&◌, ◌==◌, leb as nat_le, ltb as nat_lt, [], ◌++◌, append_assoc}
-use Rattle.space_model.proofs.Words.{nat_tests, sum_by, count_by, position_or_len, option_map, option_and_then, eqb-true, leb-true, ltb-true, sum_by-cons, All-weaker, All-cons, All-nil, pages_at, size_bounds, large_size, Ask, Merge, Split, Answer, Done, Refuses, Heard, Widen, JoinDone, TrimDone, Noted, Nothing, Whole, Part, Region, Span, State, Active, Flight as InFlight, Space, IsPlaced, end_of, has_page, same_span, holders, exchanged, begins_at, is_active, is_flight, is_flight_at, taken_out, is_listed, is_unused, rest_of, address_of, houses, homes, residents, is_held_by, starts_at, is_in, without_client, stays, is_live, is_yes_or_no, found_passes, low_piece, high_piece, joined, begins_either, flight, is_large_at, with_home, large_home, reclassed, is_spare, is_open, widen_by, widen_at, is_large_class, has_large, widened_at, after_join, join_stands, trimmed_at, after_trim_done, trim_done_stands, Sound, IsQuiet, JoinLanded, JoinWhole, TrimCut, TrimWhole, WidenNoted, WidenNothing, WidenTook, inserted, sum_by-insert}
+use Rattle.std.proofs.Common.{true, false, ◌≡◌, ◌≢◌, ℕ, ◌+◌, ◌-◌, ◌<◌, ◌≤◌, Bool, not, cond, List, ◌∷◌, get_or, Option, Some, None, refl, sym, ◌∙◌, ap, subst, arith, All, find, filter, ◌&&◌, ◌==◌, ltb as nat_lt, [], ◌++◌, append_assoc}
+use Rattle.space_model.proofs.Words.{nat_tests, sum_by, count_by, position_or_len, option_map, eqb-true, leb-true, sum_by-cons, All-weaker, All-cons, All-nil, pages_at, size_bounds, large_size, Ask, Merge, Split, Answer, Done, Refuses, Heard, Widen, JoinDone, TrimDone, Noted, Nothing, Whole, Part, Region, Span, Space, IsPlaced, end_of, has_page, same_span, holders, exchanged, begins_at, is_active, is_flight, is_flight_at, taken_out, rest_of, address_of, houses, homes, residents, is_held_by, starts_at, is_in, without_client, stays, is_live, is_yes_or_no, found_passes, low_piece, high_piece, joined, begins_either, flight, is_large_at, large_home, reclassed, is_spare, is_open, widen_by, widen_at, is_large_class, has_large, widened_at, after_join, join_stands, trimmed_at, after_trim_done, trim_done_stands, Sound, IsQuiet, JoinLanded, JoinWhole, TrimCut, TrimWhole, WidenNoted, WidenNothing, WidenTook, inserted, sum_by-insert}
 use Rattle.space_model.proofs.Lists.{all_sum_le, find_has, find_passes, ones, only_one, sum_nothing, counted_any}
 use Rattle.space_model.proofs.Exchange.{share}
 use Rattle.space_model.proofs.Mixes.{Mix, mix_sum, mix_first, mix_filter, mixed_first, mixed_filter, mixed_append, mixed_insert}
 use Rattle.space_model.proofs.Ordered.{Ordered, ordered-filter, ordered-inserted}
 use Rattle.space_model.proofs.Settled.{Settled, Used, LargeAt, serves, serves_by, covered, idle_settled, both_settled}
-use Rattle.space_model.proofs.Changes.{Does, IsLawful, Frame, Fits, Piece, pieces_home, pieces_own, one_left, lawful_sums, kept_frame, live_quiet, sound_ranges}
+use Rattle.space_model.proofs.Changes.{Does, IsLawful, Frame, Fits, Piece, pieces_home, pieces_own, one_left, lawful_sums, kept_frame, own_frame, live_quiet, sound_ranges}
 use Rattle.space_model.proofs.Pieces.{both_true, Listed, found_fits, two_left, joined_share, cut_shares, Fits-joined, Fits-low, Fits-high, Piece-taken, active_own, held_by_one}
 use Rattle.space_model.proofs.Landing.{eqb_itself, ones_most, one_settled}
 use Rattle.space_model.proofs.Found.{last_flies}
@@ -17,13 +17,10 @@ use Rattle.space_model.proofs.Settings.{client_does, without_others}
 -- ---- Widen
 
 -- an unused extent is listed where it belongs
-unused_listed : (state : State) → is_unused state ≡ true → is_listed (rest_of state) state ≡ true
-unused_listed state h = grind arith
-
 spare_listed : (page pages : ℕ) (parts : List Part) (p : Part) → find (is_spare page pages) parts ≡ Some p → Listed parts p
 spare_listed page pages parts p e =
-    let passes = both_true (is_unused p.state && begins_at page p) _ (find_passes (is_spare page pages) parts p e) in
-    record { test = is_spare page pages; found = e; rest = rest_of p.state; is_in = unused_listed p.state (both_true (is_unused p.state) _ passes.0).0 }
+    let passes = find_passes (is_spare page pages) parts p e in
+    record { test = is_spare page pages; found = e; rest = rest_of p.state; is_in = grind (arith, passes) }
 
 widen_by_goes : (c : ℕ) (s : Space) (addr pages page lacking : ℕ) (o : Option Part) → find (is_spare page lacking) s.parts ≡ o → Sound s → is_live s.life ≡ true →
     Goes c s (Widen addr pages) (widen_by s c page o)
@@ -44,15 +41,11 @@ widen_goes c s addr pages (Some home) sound live =
 
 -- ---- a large region that takes another class
 
--- a region has a share in the byte at its address
-starts-covered : (addr : ℕ) (r : Region) → r.class < 121 → ones (starts_at addr r) ≤ covered addr r
-starts-covered addr r class = let some = (size_bounds r.class class).0 in grind (arith, nat_tests, some)
-
 -- a region that is found is the only one at its address
 one_region : (s : Space) (test : Region → Bool) (r : Region) → Sound s → find test s.regions ≡ Some r → filter (starts_at r.addr) s.regions ≡ r ∷ []
 one_region s test r sound found =
     let few = all_sum_le (λ q. ones (starts_at r.addr q)) (covered r.addr) s.regions
-    (All-weaker (λ q. q.class < 121) (λ q. ones (starts_at r.addr q) ≤ covered r.addr q) (λ q h. starts-covered r.addr q h) s.regions sound.classes) in
+    (All-weaker (λ q. q.class < 121) (λ q. ones (starts_at r.addr q) ≤ covered r.addr q) (λ q h. let some = (size_bounds q.class h).0 in grind (arith, nat_tests, some)) s.regions sound.classes) in
     only_one (starts_at r.addr) test s.regions r (omega (arith, few, sound.apart r.addr)) found (eqb_itself r.addr)
 
 -- A client's large region takes another class, in an extent or two that take its extent's place and that of others.
@@ -86,12 +79,10 @@ pub housed : (s : Space) (test : Region → Bool) (r : Region) (p : Part) → So
     Housed s r p
 housed s test r p sound region home large =
     let here : houses p r ≡ true = find_passes (λ q. houses q r) s.parts p home in
-    let last = both_true (is_active p.state && p.committed) _ here in
-    let first = both_true (is_active p.state) p.committed last.0 in
     let at = find_has (λ q. All (LargeAt s.regions q) s.parts) test s.regions r sound.large region in
     let is = find_has (LargeAt s.regions r) (λ q. houses q r) s.parts p at home here large in record {
-      active = first.0;
-      committed = first.1;
+      active = grind (arith, here);
+      committed = grind (arith, here);
       placed = find_has (λ q. IsPlaced q.span) (λ q. houses q r) s.parts p sound.placed home;
       start = eqb-true _ _ (both_true (r.addr == address_of p.span.first) _ is.0).0;
       home = find_has (λ q. homes q s.parts ≡ 1) test s.regions r sound.homes region;
@@ -249,12 +240,10 @@ join_done_goes c s heard class (Merge low high) Done is sound live h =
     let same : Part → Bool = λ p. same_span p.span low in
     let a = both_true (is_large_class class && low.pages + high.pages == pages_at class && end_of low == high.first && has_large s c (address_of low.first) same) _ h in
     let b = both_true (is_large_class class && low.pages + high.pages == pages_at class && end_of low == high.first) _ a.0 in
-    let d = both_true (is_large_class class && low.pages + high.pages == pages_at class) _ b.0 in
-    let e = both_true (is_large_class class) _ d.0 in
-    let f = both_true (nat_le 36 class) _ e.0 in
+    let is_in : (36 ≤ class) × (class < 121) = (grind (arith, nat_tests, b.0), grind (arith, nat_tests, b.0)) in
     on_home (λ o. Goes c s (JoinDone heard class) (widened_at s class o (find (is_flight_at c high) s.parts))) same (large_home s c (address_of low.first)) b.1
     (λ home k. on_found (λ u. Goes c s (JoinDone heard class) (widened_at s class (Some home) u)) (λ p. p.committed) (find (is_flight_at c high) s.parts) a.1
-    (λ q m _. goes sound (joined_does c s heard class low high home q k m sound live (leb-true _ _ f.0) (ltb-true _ _ f.1) (eqb-true _ _ e.1) (eqb-true _ _ d.1) b.1)
+    (λ q m _. goes sound (joined_does c s heard class low high home q k m sound live is_in.0 is_in.1 (grind (arith, nat_tests, b.0)) (grind (arith, nat_tests, b.0)) b.1)
     (joined_comes c s heard class (address_of low.first) home q k)))
 join_done_goes c s heard class (Merge low high) Refuses is sound live h =
     let a = both_true (is_large_class class && low.pages + high.pages == pages_at class && end_of low == high.first && has_large s c (address_of low.first) (λ p. same_span p.span low)) _ h in
@@ -262,10 +251,6 @@ join_done_goes c s heard class (Merge low high) Refuses is sound live h =
 join_done_goes c s heard class ask answer is sound live h = absurd (cc)
 
 -- ---- TrimDone
-
--- a large class has a page
-some_large : (class : ℕ) → 36 ≤ class → class < 121 → 0 < pages_at class
-some_large class large within = omega (arith, large_size class large within, (size_bounds class within).0)
 
 trimmed_does : (c : ℕ) (s : Space) (heard : Heard) (class : ℕ) (span : Span) (left : ℕ) (home : Region × Part) →
     large_home s c (address_of span.first) ≡ Some home → Sound s → is_live s.life ≡ true → 36 ≤ class → class < 121 → left ≡ pages_at class → left < span.pages →
@@ -282,7 +267,7 @@ trimmed_does c s heard class span left home e sound live big within exact fewer 
     let fit = found_fits s (λ x. houses x r) p sound found.house in
     let same = both_true (p.span.first == span.first) (p.span.pages == span.pages) (large_passes c s (address_of span.first) (λ p. same_span p.span span) home e fits) in
     let pages : p.span.pages ≡ span.pages = eqb-true _ _ same.1 in
-    let some : 0 < left = omega (arith, exact, some_large class big within) in
+    let some : 0 < left = omega (arith, exact, large_size class big within, (size_bounds class within).0) in
     let less : left < p.span.pages = omega (arith, pages) in
     let up = Piece-taken c (high_piece left p) (Fits-high left p fit some less) in
     let one : (f : Part → ℕ) → sum_by f (filter (begins_at p.span.first) s.parts) ≡ f p + sum_by f [] =
@@ -318,14 +303,7 @@ trimmed_does c s heard class span left home e sound live big within exact fewer 
         extents = mixed_append (low ∷ []) (high ∷ []);
         landed = mixed_first (record r { class = class } ∷ []);
       });
-      frame = record {
-        offered = sound.offered;
-        ranges = sound_ranges s sound;
-        offers = λ d other. refl;
-        bound = λ d other. refl;
-        trims = λ d other. without_others d c s.trims other;
-        dying = λ d other. refl;
-      };
+      frame = own_frame c s t sound (sound_ranges s sound) refl (λ d other. refl) (λ d other. without_others d c s.trims other) (λ d other. refl);
       quiet = live_quiet s t (live_is s.life live) refl;
     }) in
     let moved : (g : Part → ℕ) → sum_by g t.parts + (g p + sum_by g []) ≡ sum_by g s.parts + (g low + g high) = λ g. omega (arith, lawful_sums lawful g, one g, sums g) in
@@ -356,11 +334,9 @@ pub trim_done_goes : (c : ℕ) (s : Space) (heard : Heard) (class : ℕ) (ask : 
     Goes c s (TrimDone heard class) (after_trim_done s c class ask answer)
 trim_done_goes c s heard class (Split span left) Done sound live h =
     let a = both_true (is_yes_or_no Done && is_in c s.trims && is_large_class class && left == pages_at class && nat_lt left span.pages) _ h in
-    let b = both_true (is_yes_or_no Done && is_in c s.trims && is_large_class class && left == pages_at class) _ a.0 in
-    let d = both_true (is_yes_or_no Done && is_in c s.trims && is_large_class class) _ b.0 in
-    let f = both_true (nat_le 36 class) _ (both_true (is_yes_or_no Done && is_in c s.trims) _ d.0).1 in
+    let class_is : (36 ≤ class) × (class < 121) = (grind (arith, nat_tests, a.0), grind (arith, nat_tests, a.0)) in
     on_home (λ o. Goes c s (TrimDone heard class) (trimmed_at (record s { trims = without_client c s.trims }) c left class o)) (λ p. same_span p.span span) (large_home s c (address_of span.first)) a.1
-    (λ home e. goes sound (trimmed_does c s heard class span left home e sound live (leb-true _ _ f.0) (ltb-true _ _ f.1) (eqb-true _ _ d.1) (ltb-true _ _ b.1) a.1)
+    (λ home e. goes sound (trimmed_does c s heard class span left home e sound live class_is.0 class_is.1 (grind (arith, nat_tests, a.0)) (grind (arith, nat_tests, a.0)) a.1)
     (trimmed_comes c s heard class left (address_of span.first) home sound e))
 trim_done_goes c s heard class (Split span left) Refuses sound live h =
     goes sound (client_does c s s.bound (without_client c s.trims) (TrimDone heard class) Whole sound live (λ d other. refl) (λ d other. without_others d c s.trims other) (λ page before. refl) refl)

@@ -1,6 +1,6 @@
 -- Lists of clients: that each is in them once, and how many there may be.
-use Rattle.std.proofs.Common.{◌≢◌, ◌==◌, ◌≡◌, ℕ, zero, suc, ◌+◌, ◌<◌, ◌≤◌, Bool, true, false, cond, List, [], ◌∷◌, ◌++◌, filter, length, nat_eq, refl, arith, length-append}
-use Rattle.space_model.proofs.Words.{list_any, range_with_len, nat_tests, list_any-append, length-le_from_distinct_below, is_in, IsRoster, AllPairs-filter, all_pairs_push}
+use Rattle.std.proofs.Common.{◌≢◌, ◌==◌, ◌≡◌, ℕ, zero, suc, ◌+◌, ◌<◌, ◌≤◌, Bool, false, cond, List, [], ◌∷◌, ◌++◌, filter, length, nat_eq, refl, arith, length-append}
+use Rattle.space_model.proofs.Words.{range_with_len, nat_tests, list_any-append, length-le_from_distinct_below, is_in, IsRoster, AllPairs-filter, all_pairs_push}
 use Rattle.space_model.proofs.Lists.{counted_any, any_counts, none_passes}
 use Rattle.space_model.proofs.Mixes.{mix_sum, mixed_filter}
 use Rattle.std.specs.List.{IsDistinct}
@@ -8,32 +8,20 @@ use Rattle.std.proofs.lemmas.Map.Made.{AllPairs-from_IsDistinct, IsDistinct-from
 use Rattle.std.proofs.lemmas.Bool.Decides.{Decides-eqb}
 
 -- numbers that are told apart differ
-distinct-filter : (test : ℕ → Bool) (xs : List ℕ) → IsDistinct nat_eq xs → IsDistinct nat_eq (filter test xs)
-distinct-filter test xs h = IsDistinct-from_AllPairs Decides-eqb _ (AllPairs-filter (λ x y. x ≢ y) test xs (AllPairs-from_IsDistinct Decides-eqb xs h))
-
 distinct-push : (c : ℕ) (xs : List ℕ) → IsDistinct nat_eq xs → is_in c xs ≡ false → IsDistinct nat_eq (xs ++ c ∷ [])
 distinct-push c xs h new =
     IsDistinct-from_AllPairs Decides-eqb _ (all_pairs_push (λ x y. x ≢ y) xs c (AllPairs-from_IsDistinct Decides-eqb xs h) (λ k d lt e. let apart = none_passes (λ b. b == c) xs k d new lt in grind (arith, nat_tests)))
 
--- a member of a filtered list is one of the list
-member-filter : (c : ℕ) (test : ℕ → Bool) (xs : List ℕ) → list_any (nat_eq c) (filter test xs) ≡ true → list_any (nat_eq c) xs ≡ true
-member-filter c test xs h =
-    counted_any (nat_eq c) xs (omega (arith, any_counts (nat_eq c) (filter test xs) h, mix_sum (λ x. cond (nat_eq c x) 1 0) (mixed_filter test xs)))
-
 pub IsRoster-filter : (test : ℕ → Bool) (xs : List ℕ) → IsRoster xs → IsRoster (filter test xs)
 IsRoster-filter test xs h = record {
-  once = distinct-filter test xs h.once;
-  below = λ c k. h.below c (member-filter c test xs k);
+  once = IsDistinct-from_AllPairs Decides-eqb _ (AllPairs-filter (λ x y. x ≢ y) test xs (AllPairs-from_IsDistinct Decides-eqb xs h.once));
+  below = λ c k. h.below c (counted_any (nat_eq c) xs (omega (arith, any_counts (nat_eq c) (filter test xs) k, mix_sum (λ x. cond (nat_eq c x) 1 0) (mixed_filter test xs))));
 }
-
--- a member of a list with one more is one of the list or that one
-member-push : (d c : ℕ) (xs : List ℕ) → ((e : ℕ) → list_any (nat_eq e) xs ≡ true → e < 32) → c < 32 → list_any (nat_eq d) (xs ++ c ∷ []) ≡ true → d < 32
-member-push d c xs below fits h = grind (arith, nat_tests, list_any-append (nat_eq d) xs (c ∷ []), below d)
 
 pub IsRoster-push : (c : ℕ) (xs : List ℕ) → IsRoster xs → c < 32 → is_in c xs ≡ false → IsRoster (xs ++ c ∷ [])
 IsRoster-push c xs h fits new = record {
   once = distinct-push c xs h.once new;
-  below = λ d k. member-push d c xs h.below fits k;
+  below = λ d k. grind (arith, nat_tests, list_any-append (nat_eq d) xs (c ∷ []), h.below d);
 }
 
 -- there is room for one more
@@ -45,10 +33,7 @@ roster_room c xs h fits new =
 -- a number from the end on isn't in a range
 pub range_misses : (c low n : ℕ) → low + n ≤ c → is_in c (range_with_len low n) ≡ false
 range_misses c low zero h = refl
-range_misses c low (suc n) h =
-    let first : nat_eq low c ≡ false = grind (arith, nat_tests) in
-    let rest : is_in c (range_with_len (low + 1) n) ≡ false = range_misses c (low + 1) n (omega arith) in
-    grind (arith, nat_tests)
+range_misses c low (suc n) h = grind (arith, nat_tests, range_misses c (low + 1) n)
 
 pub empty_roster : IsRoster []
 unfolding IsDistinct

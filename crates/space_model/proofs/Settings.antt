@@ -1,9 +1,9 @@
 -- What settings, moments and trims do: nothing to extents and regions.
-use Rattle.std.proofs.Common.{true, false, ◌≡◌, ◌≢◌, ℕ, ◌+◌, ◌<◌, ◌≤◌, cond, List, ◌∷◌, ◌++◌, refl, sym, ap, subst, arith, ℤ, pos, negsuc, ◌≤ℤ◌, All, AllPairs, rules, Some, None, ◌*◌, ◌/◌, ◌-◌, ◌&&◌, ◌||◌, ◌==◌, ltb as nat_lt, leb as nat_le, []}
-use Rattle.space_model.proofs.Words.{list_any, eqb-true, ltb-true, leb-true, nat_tests, All-weaker, All-push, all_pairs_push, Op, Set, Trim, Advance, Reply, Noted, Nothing, Setting, DirtyMs, MuzzyMs, HookBox, Bind, Unbind, GrowLimit, MakeLive, ToDirty, ToMuzzy, Added, Pace, Life, Live, Absent, Dying, Space, pages_end, pages_listed, with_new, passed, passed_if_any, advanced_in, advance_all, after_advance, new_pace, is_dying, stays, is_live, is_in, with_client, without_client, is_absent, made_live, after_set, is_decay_time, setting_stands, after_trim, Sound, IsPaced, lost, won, AdvanceLimits, AdvanceNoArena, SetNoArena, SetNoted, SetNothing, TrimNoted, list_any-append, with_setting}
+use Rattle.std.proofs.Common.{true, false, ◌≡◌, ◌≢◌, ℕ, ◌+◌, ◌<◌, ◌≤◌, cond, List, ◌∷◌, ◌++◌, refl, sym, subst, arith, ℤ, pos, negsuc, ◌≤ℤ◌, All, AllPairs, rules, Some, None, ◌*◌, ◌/◌, ◌-◌, ◌&&◌, ◌==◌, ltb as nat_lt, leb as nat_le, []}
+use Rattle.space_model.proofs.Words.{list_any, eqb-true, ltb-true, leb-true, nat_tests, All-weaker, All-push, all_pairs_push, Op, Set, Trim, Advance, Reply, Noted, Nothing, Setting, DirtyMs, MuzzyMs, HookBox, Bind, Unbind, GrowLimit, MakeLive, ToDirty, ToMuzzy, Added, Pace, Space, pages_end, pages_listed, with_new, passed, passed_if_any, advanced_in, advance_all, after_advance, new_pace, stays, is_live, with_client, without_client, is_absent, made_live, after_set, is_decay_time, setting_stands, after_trim, Sound, IsPaced, lost, won, AdvanceLimits, AdvanceNoArena, SetNoArena, SetNoted, SetNothing, TrimNoted, list_any-append, with_setting}
 use Rattle.space_model.proofs.Sums.{listed_fit_space}
-use Rattle.space_model.proofs.Changes.{Does, Plain, Ranges, frame_does, range_frame, sound_ranges, live_quiet, kept_frame}
-use Rattle.space_model.proofs.Pieces.{both_true, not_both}
+use Rattle.space_model.proofs.Changes.{Does, Plain, Ranges, frame_does, own_frame, range_frame, sound_ranges, live_quiet, kept_frame}
+use Rattle.space_model.proofs.Pieces.{both_true}
 use Rattle.space_model.proofs.Moves.{live_is}
 use Rattle.space_model.proofs.Outcomes.{Goes, goes, still_goes, live_goes}
 
@@ -30,12 +30,8 @@ new_paced ms now h = record {
 -- ---- lists of clients
 
 -- one more client changes nothing for another one
-list_any-push : (d c : ℕ) (clients : List ℕ) → (c == d) ≡ false → list_any (λ b. b == d) (clients ++ c ∷ []) ≡ list_any (λ b. b == d) clients
-list_any-push d c [] apart = rw apart refl
-list_any-push d c (b ∷ bs) apart = ap (λ x. (b == d) || x) (list_any-push d c bs apart)
-
 with_others : (d c : ℕ) (clients : List ℕ) → d ≢ c → list_any (λ b. b == d) (with_client c clients) ≡ list_any (λ b. b == d) clients
-with_others d c clients other = grind (arith, list_any-push d c clients (not_both d c other))
+with_others d c clients other = grind (arith, nat_tests, list_any-append (λ b. b == d) clients (c ∷ []))
 
 -- nor does one fewer
 pub without_others : (d c : ℕ) (clients : List ℕ) → d ≢ c → list_any (λ b. b == d) (without_client c clients) ≡ list_any (λ b. b == d) clients
@@ -59,14 +55,7 @@ pub client_does : (c : ℕ) (s : Space) (bound trims : List ℕ) (op : Op) (repl
     Does c s op (stays (record s { bound = bound; trims = trims }) reply)
 client_does c s bound trims op reply sound live kept shrinking plain none =
     let t : Space = record s { bound = bound; trims = trims } in
-    frame_does c s t op reply sound refl refl (record {
-      offered = sound.offered;
-      ranges = sound_ranges s sound;
-      offers = λ d other. refl;
-      bound = kept;
-      trims = shrinking;
-      dying = λ d other. refl;
-    }) (live_quiet s t (live_is s.life live) refl) plain none
+    frame_does c s t op reply sound refl refl (own_frame c s t sound (sound_ranges s sound) refl kept shrinking (λ d other. refl)) (live_quiet s t (live_is s.life live) refl) plain none
 
 -- an index without an arena gets one
 made_live_goes : (c : ℕ) (s : Space) (box_no : ℕ) (dirty_ms muzzy_ms : ℤ) (now : ℕ) → Sound s → setting_stands (MakeLive box_no dirty_ms muzzy_ms now) ≡ true →
@@ -78,24 +67,14 @@ made_live_goes c s box_no dirty_ms muzzy_ms now sound h =
     let first = both_true (nat_lt box_no 32) _ last.0 in
     elim (is_absent s.life) as (λ b. is_absent s.life ≡ b → Goes c s op (cond b (stays t Noted) (stays s Nothing))) [
       | false ↦ λ e. still_goes c s op Nothing sound (λ page before. refl, refl, refl) (SetNothing refl)
-      | true ↦ λ e. goes sound (frame_does c s t op Noted sound refl refl (record {
-        offered = sound.offered;
-        ranges = record {
-          box = ltb-true _ _ first.0;
-          dirty = new_paced dirty_ms now first.1;
-          muzzy = new_paced muzzy_ms now last.1;
-          grow = (omega arith, omega arith);
-          grow_limit = (omega arith, omega arith);
-        };
-        offers = λ d other. refl;
-        bound = λ d other. refl;
-        trims = λ d other. refl;
-        dying = λ d other. sym (absent_undying d s.life e);
-      }) tt (λ page before. refl) refl) (λ after. SetNoted)
+      | true ↦ λ e. goes sound (frame_does c s t op Noted sound refl refl (own_frame c s t sound (record {
+        box = ltb-true _ _ first.0;
+        dirty = new_paced dirty_ms now first.1;
+        muzzy = new_paced muzzy_ms now last.1;
+        grow = (omega arith, omega arith);
+        grow_limit = (omega arith, omega arith);
+      }) refl (λ d other. refl) (λ d other. refl) (λ d other. grind (arith, e))) tt (λ page before. refl) refl) (λ after. SetNoted)
     ] refl
-  where
-    absent_undying : (d : ℕ) (life : Life) → is_absent life ≡ true → is_dying d life ≡ false
-    absent_undying d life e = grind arith
 
 change_does : (c : ℕ) (s : Space) (setting : Setting) → Sound s → is_live s.life ≡ true → setting_stands setting ≡ true → Does c s (Set setting) (stays (with_setting s c setting) Noted)
 change_does c s (DirtyMs ms now) sound live h =
@@ -116,14 +95,10 @@ set_goes c s (MakeLive box_no dirty_ms muzzy_ms now) sound h = made_live_goes c 
 set_goes c s setting sound h =
     live_goes c s (Set setting) _ sound (λ page before. refl, refl, refl) (λ h. SetNoArena h refl) (λ live. goes sound (change_does c s setting sound live h) (λ after. SetNoted))
 
--- the client is in the list once it is put there
-with_client-there : (c : ℕ) (clients : List ℕ) → is_in c (with_client c clients) ≡ true
-with_client-there c clients = grind (arith, nat_tests, list_any-append (λ b. b == c) clients (c ∷ []))
-
 pub trim_goes : (c : ℕ) (s : Space) (addr class : ℕ) → Sound s → is_live s.life ≡ true → Goes c s (Trim addr class) (after_trim s c)
 trim_goes c s addr class sound live =
     goes sound (client_does c s s.bound (with_client c s.trims) (Trim addr class) Noted sound live (λ d other. refl) (λ d other. with_others d c s.trims other) (λ page before. refl) refl)
-    (λ after. TrimNoted (with_client-there c s.trims))
+    (λ after. TrimNoted (grind (arith, nat_tests, list_any-append (λ b. b == c) s.trims (c ∷ []))))
 
 -- ---- Advance
 

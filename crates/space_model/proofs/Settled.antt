@@ -1,7 +1,7 @@
 -- Regions among extents: what a sound space says of all its extents and regions, said of any of them. Two groups that
 -- share no page are settled together where each is.
-use Rattle.std.proofs.Common.{◌≡◌, ℕ, zero, suc, ◌+◌, ◌/◌, ◌%◌, ◌<◌, ◌≤◌, Bool, true, false, cond, IsTrue, List, [], get_or, refl, ap, subst, arith, All, ◌&&◌}
-use Rattle.space_model.proofs.Words.{get_or-le-sum_by, sum_by-le-sum_by, All-weaker, All-nil, nat_tests, size_at, align_at, size_bounds, Part, Region, Space, IsPlaced, holders, is_active, covers, sharers, houses, homes, residents, fills, lies_in, Sound, IsInSlab}
+use Rattle.std.proofs.Common.{◌≡◌, ℕ, ◌+◌, ◌/◌, ◌%◌, ◌<◌, ◌≤◌, true, false, cond, IsTrue, List, [], get_or, refl, ap, subst, arith, All}
+use Rattle.space_model.proofs.Words.{get_or-le-sum_by, sum_by-le-sum_by, All-weaker, All-nil, nat_tests, size_at, align_at, size_bounds, Part, Region, Space, IsPlaced, holders, is_active, covers, sharers, houses, homes, residents, fills, Sound, IsInSlab}
 pub use Rattle.space_model.proofs.Lists.{ones, sum_nothing, nothing_sum}
 use Rattle.space_model.proofs.Lists.{false_true}
 use Rattle.space_model.proofs.Exchange.{share}
@@ -27,11 +27,8 @@ abbrev pub covered : ℕ → Region → ℕ
 covered byte r = cond (covers byte r) 1 0
 
 -- an extent that isn't active serves no region
-pub idle-houses : (p : Part) (r : Region) → is_active p.state ≡ false → houses p r ≡ false
-idle-houses p r idle = ap (λ (b : Bool). b && p.committed && lies_in p.span r) idle
-
 pub idle-serves : (p : Part) (r : Region) → is_active p.state ≡ false → serves r p ≡ 0
-idle-serves p r idle = ap ones (idle-houses p r idle)
+idle-serves p r idle = rw idle refl
 
 -- an extent that serves a region has the page of each byte of it
 pub serves-le-share : (byte : ℕ) (r : Region) (p : Part) → covers byte r ≡ true → serves r p ≤ share (byte / 4096) p
@@ -192,16 +189,14 @@ none_covers : (byte : ℕ) (parts : List Part) (regions : List Region) → holde
 none_covers byte parts regions none all =
     nothing_sum (covered byte) regions
     (All-weaker (λ r. homes r parts ≡ 1) (λ r. covered byte r ≡ 0)
-    (λ r home. elim (covers byte r) as (λ b. covers byte r ≡ b → ones b ≡ 0)
-    [ false ↦ λ h. refl | true ↦ λ h. absurd (omega (arith, home, none, homes-le-holders byte r parts h)) ] refl)
+    (λ r home. grind (arith, none, homes-le-holders byte r parts))
     regions all)
 
 apart_both : {a b parts : List Part} {q r regions : List Region} → Two a b parts q r regions → (byte : ℕ) → sharers byte regions ≤ 1
 apart_both {a} {b} {parts} {q} {r} {regions} x byte =
-    elim (holders (byte / 4096) a) as (λ n. holders (byte / 4096) a ≡ n → sharers byte regions ≤ 1) [
-      | zero ↦ λ e. omega (arith, mix_sum (covered byte) x.landed, none_covers byte a q e x.one.home, x.two.apart byte)
-      | suc n ↦ λ e. omega (arith, mix_sum (covered byte) x.landed, none_covers byte b r (omega (arith, e, x.pages (byte / 4096))) x.two.home, x.one.apart byte)
-    ] refl
+    let one : holders (byte / 4096) a ≡ 0 → sharers byte q ≡ 0 = λ e. none_covers byte a q e x.one.home in
+    let two : holders (byte / 4096) b ≡ 0 → sharers byte r ≡ 0 = λ e. none_covers byte b r e x.two.home in
+    grind (arith, mix_sum (covered byte) x.landed, one, two, x.pages (byte / 4096), x.one.apart byte, x.two.apart byte)
 
 -- both groups together are settled
 pub both_settled : {a b parts : List Part} {q r regions : List Region} → Two a b parts q r regions → Settled parts regions

@@ -1,6 +1,6 @@
 -- What each operation does and what its reply tells, by one analysis of its cases.
-use Rattle.std.proofs.Common.{◌≡◌, ℕ, ◌+◌, ◌^◌, ◌<◌, ◌≤◌, ◌≢◌, Bool, true, false, cond, IsTrue, List, ◌∷◌, ◌++◌, Some, refl, sym, ◌∙◌, ap, subst, arith, find, ◌&&◌, ◌==◌, Result, Ok, Err, IfOk, OnOk, OnErr, ltb as nat_lt, []}
-use Rattle.space_model.proofs.Words.{stands, fold_push, sum_by, eqb-true, ltb-true, Split, Answer, Entry, Op, Look, CutDone, GrowDone, CommitDone, Land, Back, PutLook, MergeDone, Fill, Advance, PurgeTake, LazyDone, Offer, OfferDone, DecommitDone, ForcedDone, Publish, TakeOver, Reset, Destroy, DestroyTake, Counts, Set, Widen, JoinDone, Trim, TrimDone, Reply, Part, Span, Space, IsPlaced, same_span, holders, is_flight, is_flight_at, fit, is_live, step_of, space_after, reply_to, cut_stands, is_yes_or_no, op_stands, Sound, granted_by, granted, Good, mine, flight, lost, won, BackNext, CountsCounted, CountsNoArena, LookNoArena, large_home, next_flight}
+use Rattle.std.proofs.Common.{◌≡◌, ℕ, ◌+◌, ◌^◌, ◌<◌, ◌≤◌, ◌≢◌, Bool, true, false, cond, IsTrue, List, ◌∷◌, ◌++◌, Some, refl, sym, ◌∙◌, ap, subst, arith, find, ◌&&◌, Result, Ok, Err, IfOk, OnOk, OnErr, ltb as nat_lt, []}
+use Rattle.space_model.proofs.Words.{nat_tests, stands, fold_push, sum_by, Split, Answer, Entry, Op, Look, CutDone, GrowDone, CommitDone, Land, Back, PutLook, MergeDone, Fill, Advance, PurgeTake, LazyDone, Offer, OfferDone, DecommitDone, ForcedDone, Publish, TakeOver, Reset, Destroy, DestroyTake, Counts, Set, Widen, JoinDone, Trim, TrimDone, Reply, Part, Span, Space, IsPlaced, holders, is_flight_at, fit, is_live, step_of, space_after, reply_to, cut_stands, op_stands, Sound, granted_by, granted, Good, mine, flight, lost, won, BackNext, CountsCounted, CountsNoArena, LookNoArena, large_home, next_flight}
 use Rattle.space_model.proofs.Lists.{find_has, find_passes}
 use Rattle.space_model.proofs.Changes.{lawful_sound, lawful_others}
 use Rattle.space_model.proofs.Moves.{live_is}
@@ -93,12 +93,9 @@ pub cut_bounds : (c : ℕ) (s : Space) (span : Span) (left : ℕ) (answer : Answ
     IsTrue (cut_stands s c (Split span left) answer) → find (is_flight_at c span) s.parts ≡ Some p →
     (left ≤ p.span.pages) × (p.span.first + p.span.pages < 2 ^ 64)
 cut_bounds c s span left answer p sound h found =
-    let whole = both_true (is_yes_or_no answer && nat_lt 0 left && nat_lt left span.pages) _ h in
-    let fewer = both_true (is_yes_or_no answer && nat_lt 0 left) (nat_lt left span.pages) whole.0 in
-    let passes = both_true (is_flight c p.state) (same_span p.span span) (find_passes (is_flight_at c span) s.parts p found) in
-    let same = both_true (p.span.first == span.first) (p.span.pages == span.pages) passes.1 in
+    let passes = find_passes (is_flight_at c span) s.parts p found in
     let placed : IsPlaced p.span = find_has (λ q. IsPlaced q.span) (is_flight_at c span) s.parts p sound.placed found in
-    (omega (arith, ltb-true _ _ fewer.1, eqb-true _ _ same.1), omega (arith, placed.2))
+    (grind (arith, nat_tests, passes), omega (arith, placed.2))
 
 -- the first page of an extent is far from the end of the numbers
 pub found_first : (s : Space) (test : Part → Bool) (p : Part) → Sound s → find test s.parts ≡ Some p → p.span.first < 2 ^ 52

@@ -1,6 +1,6 @@
 -- Sums of bytes: how those of the states add up, and that none is more than the space.
-use Rattle.std.proofs.Common.{◌-◌, inl, inr, ◌<◌, ◌≡◌, ℕ, ◌+◌, ◌*◌, ◌^◌, ◌≤◌, Bool, true, false, cond, List, [], ◌∷◌, refl, arith, All}
-use Rattle.space_model.proofs.Words.{sum_by, sum_by-cons, sum_by-le-sum_by, All-weaker, All-head, All-tail, All-cons, cases_lt, nat_tests, size_at, Part, Region, Rest, ToDirty, ToMuzzy, ToRetained, State, Active, Retained, Space, IsPlaced, pages_end, holders, is_active, is_listed, pages_listed, homes, Sound, is_in_flight, bytes_of, bytes_where, region_bytes, region_bytes_where, is_mapped, BytesFitSpace}
+use Rattle.std.proofs.Common.{◌-◌, ◌<◌, ◌≡◌, ℕ, ◌+◌, ◌*◌, ◌^◌, ◌≤◌, Bool, false, cond, List, [], ◌∷◌, refl, arith, All}
+use Rattle.space_model.proofs.Words.{sum_by, sum_by-cons, sum_by-le-sum_by, All-weaker, All-head, All-tail, All-cons, nat_tests, size_at, Part, Region, Rest, ToDirty, ToMuzzy, ToRetained, State, Retained, Space, IsPlaced, pages_end, holders, is_active, is_listed, pages_listed, homes, Sound, is_in_flight, bytes_of, bytes_where, region_bytes, region_bytes_where, is_mapped, BytesFitSpace}
 use Rattle.space_model.proofs.Lists.{nothing_sum}
 use Rattle.space_model.proofs.Exchange.{share}
 use Rattle.space_model.proofs.Intervals.{lengths-le}
@@ -10,25 +10,13 @@ use Rattle.space_model.proofs.Settled.{serves}
 abbrev bytes_if : (State → Bool) → Part → ℕ
 bytes_if test p = cond (test p.state) (bytes_of p) 0
 
--- a mapped extent is of one use
-one_use : (n : ℕ) (state : State) →
-    cond (is_mapped state) n 0 ≡ cond (is_active state) n 0 + cond (is_listed ToDirty state) n 0 + cond (is_listed ToMuzzy state) n 0 + cond (is_in_flight state) n 0
-one_use n Retained = refl
-one_use n state = omega arith
-
--- an extent is mapped or retained
-mapped_or : (n : ℕ) (state : State) → n ≡ cond (is_mapped state) n 0 + cond (is_listed ToRetained state) n 0
-mapped_or n Active = omega arith
-mapped_or n state = omega arith
-
 -- the bytes of mapped extents are those of the four uses
 pub mapped_sum : (parts : List Part) → bytes_where is_mapped parts
     ≡ bytes_where is_active parts + bytes_where (is_listed ToDirty) parts + bytes_where (is_listed ToMuzzy) parts + bytes_where is_in_flight parts
 mapped_sum [] = refl
 mapped_sum (p ∷ ps) =
-    omega (
+    grind (
       arith,
-      one_use (bytes_of p) p.state,
       sum_by-cons (bytes_if is_mapped) p ps,
       sum_by-cons (bytes_if is_active) p ps,
       sum_by-cons (bytes_if (is_listed ToDirty)) p ps,
@@ -41,14 +29,7 @@ mapped_sum (p ∷ ps) =
 pub whole_sum : (parts : List Part) → sum_by bytes_of parts ≡ bytes_where is_mapped parts + bytes_where (is_listed ToRetained) parts
 whole_sum [] = refl
 whole_sum (p ∷ ps) =
-    omega (
-      arith,
-      mapped_or (bytes_of p) p.state,
-      sum_by-cons bytes_of p ps,
-      sum_by-cons (bytes_if is_mapped) p ps,
-      sum_by-cons (bytes_if (is_listed ToRetained)) p ps,
-      whole_sum ps,
-    )
+    grind (arith, sum_by-cons bytes_of p ps, sum_by-cons (bytes_if is_mapped) p ps, sum_by-cons (bytes_if (is_listed ToRetained)) p ps, whole_sum ps)
 
 -- bytes are 4096 times pages
 pub bytes_pages : (parts : List Part) → sum_by bytes_of parts ≡ 4096 * sum_by (λ p. p.span.pages) parts
@@ -65,11 +46,6 @@ none_below page parts low placed = nothing_sum (share page) parts (All-weaker (�
 below : Part
 below = record { span = record { first = 0; pages = 512 }; state = Retained; committed = false }
 
--- no page of it is in an extent
-below_apart : (page : ℕ) (parts : List Part) → All (λ p. IsPlaced p.span) parts → holders page parts ≤ 1 → holders page (below ∷ parts) ≤ 1
-unfolding below
-below_apart page parts placed most = grind (arith, nat_tests, sum_by-cons (share page) below parts, λ (low : page < 512). none_below page parts low placed)
-
 -- the extents have at most the pages of the space
 pub pages_fit_space : (s : Space) → Sound s → sum_by (λ p. p.span.pages) s.parts ≤ pages_end - 512
 unfolding below
@@ -80,7 +56,7 @@ pages_fit_space s sound =
       lengths-le (λ (p : Part). p.span.first) (λ p. p.span.pages) pages_end (below ∷ s.parts)
           (All-cons (λ p. p.span.first + p.span.pages ≤ pages_end) below s.parts (omega arith)
           (All-weaker (λ p. IsPlaced p.span) (λ p. p.span.first + p.span.pages ≤ pages_end) (λ p h. h.2) s.parts sound.placed))
-          (λ page. below_apart page s.parts sound.placed (sound.owners page)),
+          (λ page. grind (arith, nat_tests, sound.owners page, sum_by-cons (share page) below s.parts, λ (low : page < 512). none_below page s.parts low sound.placed)),
     )
 
 pub bytes_fit_space : BytesFitSpace
@@ -91,15 +67,10 @@ bytes_le s sound = omega (arith, bytes_fit_space s sound)
 
 -- ---- some of them
 
--- a part of a number is at most that
-if_le : (b : Bool) (n : ℕ) → cond b n 0 ≤ n
-if_le true n = omega arith
-if_le false n = omega arith
-
 -- the bytes of some of the extents fit
 pub bytes_where_fits : (test : State → Bool) (s : Space) → Sound s → bytes_where test s.parts ≤ 2 ^ 41
 bytes_where_fits test s sound =
-    omega (arith, bytes_le s sound, sum_by-le-sum_by (bytes_if test) bytes_of s.parts (λ p. if_le (test p.state) (bytes_of p)))
+    omega (arith, bytes_le s sound, sum_by-le-sum_by (bytes_if test) bytes_of s.parts (λ p. grind arith))
 
 -- a region that has a home ends within the space
 region_end : (r : Region) (parts : List Part) → All (λ p. IsPlaced p.span) parts → homes r parts ≡ 1 → r.addr + size_at r.class ≤ 4096 * pages_end
@@ -120,7 +91,7 @@ listed_fit_space rest s sound =
     omega (
       arith,
       pages_fit_space s sound,
-      sum_by-le-sum_by (λ (p : Part). cond (is_listed rest p.state) p.span.pages 0) (λ p. p.span.pages) s.parts (λ p. if_le (is_listed rest p.state) p.span.pages),
+      sum_by-le-sum_by (λ (p : Part). cond (is_listed rest p.state) p.span.pages 0) (λ p. p.span.pages) s.parts (λ p. grind arith),
     )
 
 -- the regions of some classes have no more bytes
@@ -129,5 +100,5 @@ region_bytes_where_fits test s sound =
     omega (
       arith,
       region_bytes_fits s sound,
-      sum_by-le-sum_by (λ (r : Region). cond (test r.class) (size_at r.class) 0) (λ r. size_at r.class) s.regions (λ r. if_le (test r.class) (size_at r.class)),
+      sum_by-le-sum_by (λ (r : Region). cond (test r.class) (size_at r.class) 0) (λ r. size_at r.class) s.regions (λ r. grind arith),
     )

@@ -17,29 +17,12 @@ fn is_published_at(addr: u64, region: &Region) -> bool
     region.holder.is_none() && region.addr == addr
 }
 
-/// The region, which nobody holds any more if it is the client's at the address.
-fn published(client: u32, addr: u64, region: Region) -> Region
-    ensures { result ≡ (if is_held_at client addr region then record region { holder = None } else region) }
+/// The region, with another holder if it is to have one.
+fn held_anew(is_due: bool, holder: Option<u32>, region: Region) -> Region
+    ensures { result ≡ (if is_due then record region { holder = holder } else region) }
 {
-    if is_held_at(client, addr, &region) {
-        Region {
-            holder: None,
-            ..region
-        }
-    } else {
-        region
-    }
-}
-
-/// The region, which the client holds if it is a published one at the address.
-fn taken_over(client: u32, addr: u64, region: Region) -> Region
-    ensures { result ≡ (if is_published_at addr region then record region { holder = Some client } else region) }
-{
-    if is_published_at(addr, &region) {
-        Region {
-            holder: Some(client),
-            ..region
-        }
+    if is_due {
+        Region { holder, ..region }
     } else {
         region
     }
@@ -50,7 +33,7 @@ fn all_published(client: u32, addr: u64, regions: &Regions) -> Result<Vec<Region
     ensures { IfOk result (λ all. all.items ≡ held_anew (is_held_at client addr) None regions.now) }
 {
     let (alloc, all) = (*regions.items.allocator(), regions.as_slice().iter());
-    all.map(|region| published(client, addr, *region))
+    all.map(|region| held_anew(is_held_at(client, addr, region), None, *region))
         .collect(alloc)
 }
 
@@ -68,7 +51,7 @@ fn all_taken_over(client: u32, addr: u64, regions: &Regions) -> Result<Vec<Regio
     ensures { IfOk result (λ all. all.items ≡ held_anew (is_published_at addr) (Some client) regions.now) }
 {
     let (alloc, all) = (*regions.items.allocator(), regions.as_slice().iter());
-    all.map(|region| taken_over(client, addr, *region))
+    all.map(|region| held_anew(is_published_at(addr, region), Some(client), *region))
         .collect(alloc)
 }
 
