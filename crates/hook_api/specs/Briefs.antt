@@ -17,65 +17,65 @@ abbrev pub range_of : ℕ → ℕ → Span
 range_of first pages = record { first = first; pages = pages }
 
 -- an ask of a shape, with a flag and as many numbers as it has
-abbrev pub ask_of : AskShape → Bool → ℕ → ℕ → ℕ → ℕ → Ask
-ask_of Anywhere flag a b c d = Alloc None a b flag
-ask_of At flag a b c d = Alloc (Some c) a b flag
-ask_of Dallocs flag a b c d = Dalloc (range_of a b) flag
-ask_of Destroys flag a b c d = Destroy (range_of a b) flag
-ask_of Commits flag a b c d = Commit (range_of a b)
-ask_of Decommits flag a b c d = Decommit (range_of a b)
-ask_of Eases flag a b c d = PurgeLazy (range_of a b)
-ask_of Forces flag a b c d = PurgeForced (range_of a b)
-ask_of Splits flag a b c d = Split (range_of a b) c
-ask_of Merges flag a b c d = Merge (range_of a b) (range_of c d)
+abbrev pub ask_by : AskShape → Bool → ℕ → ℕ → ℕ → ℕ → Ask
+ask_by Anywhere flag a b c d = Alloc None a b flag
+ask_by At flag a b c d = Alloc (Some c) a b flag
+ask_by Dallocs flag a b c d = Dalloc (range_of a b) flag
+ask_by Destroys flag a b c d = Destroy (range_of a b) flag
+ask_by Commits flag a b c d = Commit (range_of a b)
+ask_by Decommits flag a b c d = Decommit (range_of a b)
+ask_by Eases flag a b c d = PurgeLazy (range_of a b)
+ask_by Forces flag a b c d = PurgeForced (range_of a b)
+ask_by Splits flag a b c d = Split (range_of a b) c
+ask_by Merges flag a b c d = Merge (range_of a b) (range_of c d)
 
 -- the ask that few numbers tell
-abbrev pub ask_in : BriefAsk → Ask
-ask_in brief = ask_of brief.shape brief.flag brief.a brief.b brief.c brief.d
+abbrev pub read_ask : BriefAsk → Ask
+read_ask brief = ask_by brief.shape brief.flag brief.a brief.b brief.c brief.d
 
 -- an ask of a range in few numbers
 abbrev pub brief : AskShape → Bool → Span → ℕ → ℕ → BriefAsk
 brief shape flag span c d = record { shape = shape; flag = flag; a = span.first; b = span.pages; c = c; d = d }
 
 -- an ask in few numbers: what it doesn't have is false or 0
-abbrev pub brief_of : Ask → BriefAsk
-brief_of (Alloc None pages align commit) = record { shape = Anywhere; flag = commit; a = pages; b = align; c = 0; d = 0 }
-brief_of (Alloc (Some first) pages align commit) = record { shape = At; flag = commit; a = pages; b = align; c = first; d = 0 }
-brief_of (Dalloc span committed) = brief Dallocs committed span 0 0
-brief_of (Destroy span committed) = brief Destroys committed span 0 0
-brief_of (Commit span) = brief Commits false span 0 0
-brief_of (Decommit span) = brief Decommits false span 0 0
-brief_of (PurgeLazy span) = brief Eases false span 0 0
-brief_of (PurgeForced span) = brief Forces false span 0 0
-brief_of (Split span left) = brief Splits false span left 0
-brief_of (Merge low high) = brief Merges false low high.first high.pages
+abbrev pub write_ask : Ask → BriefAsk
+write_ask (Alloc None pages align commit) = record { shape = Anywhere; flag = commit; a = pages; b = align; c = 0; d = 0 }
+write_ask (Alloc (Some first) pages align commit) = record { shape = At; flag = commit; a = pages; b = align; c = first; d = 0 }
+write_ask (Dalloc span committed) = brief Dallocs committed span 0 0
+write_ask (Destroy span committed) = brief Destroys committed span 0 0
+write_ask (Commit span) = brief Commits false span 0 0
+write_ask (Decommit span) = brief Decommits false span 0 0
+write_ask (PurgeLazy span) = brief Eases false span 0 0
+write_ask (PurgeForced span) = brief Forces false span 0 0
+write_ask (Split span left) = brief Splits false span left 0
+write_ask (Merge low high) = brief Merges false low high.first high.pages
 
 -- an answer of a shape, with the first page of its range, if it has one
-abbrev pub answer_of : AnswerShape → ℕ → Answer
-answer_of No first = Refused
-answer_of Yes first = Done
-answer_of Range first = Placed first false false
-answer_of Committed first = Placed first true false
-answer_of Zeroed first = Placed first false true
-answer_of Ready first = Placed first true true
+abbrev pub answer_by : AnswerShape → ℕ → Answer
+answer_by No first = Refused
+answer_by Yes first = Done
+answer_by Range first = Placed first false false
+answer_by Committed first = Placed first true false
+answer_by Zeroed first = Placed first false true
+answer_by Ready first = Placed first true true
 
 -- the answer that few numbers tell
-abbrev pub answer_in : BriefAnswer → Answer
-answer_in brief = answer_of brief.shape brief.first
+abbrev pub read_answer : BriefAnswer → Answer
+read_answer brief = answer_by brief.shape brief.first
 
 -- an answer in few numbers: one that has no range has 0 for its first page
-abbrev pub brief_answer : Answer → BriefAnswer
-brief_answer Refused = record { shape = No; first = 0 }
-brief_answer Done = record { shape = Yes; first = 0 }
-brief_answer (Placed first false false) = record { shape = Range; first = first }
-brief_answer (Placed first true false) = record { shape = Committed; first = first }
-brief_answer (Placed first false true) = record { shape = Zeroed; first = first }
-brief_answer (Placed first true true) = record { shape = Ready; first = first }
+abbrev pub write_answer : Answer → BriefAnswer
+write_answer Refused = record { shape = No; first = 0 }
+write_answer Done = record { shape = Yes; first = 0 }
+write_answer (Placed first false false) = record { shape = Range; first = first }
+write_answer (Placed first true false) = record { shape = Committed; first = first }
+write_answer (Placed first false true) = record { shape = Zeroed; first = first }
+write_answer (Placed first true true) = record { shape = Ready; first = first }
 
 -- these numbers tell an ask, and are the only ones that tell it
 abbrev pub IsBrief : BriefAsk → Type 0
-IsBrief brief = brief_of (ask_in brief) ≡ brief
+IsBrief brief = write_ask (read_ask brief) ≡ brief
 
 -- these numbers tell an answer, and are the only ones that tell it
 abbrev pub IsBriefAnswer : BriefAnswer → Type 0
-IsBriefAnswer brief = brief_answer (answer_in brief) ≡ brief
+IsBriefAnswer brief = write_answer (read_answer brief) ≡ brief

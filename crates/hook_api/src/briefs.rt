@@ -1,7 +1,7 @@
 //! An ask and its answer in few numbers, so that many of them take little room.
 
 ghost use Rattle.std.specs.Prelude.{◌≡◌};
-ghost use Rattle.hook_api.specs.Briefs.{IsBrief, IsBriefAnswer, answer_in, ask_in, brief};
+ghost use Rattle.hook_api.specs.Briefs.{IsBrief, IsBriefAnswer, read_answer, read_ask, brief};
 
 use space_model::{Answer, Ask, Span};
 
@@ -81,7 +81,7 @@ fn brief(shape: AskShape, flag: bool, span: Span, c: u64, d: u64) -> BriefAsk
 
 /// An alloc.
 fn alloc(at: Option<u64>, pages: u64, align: u64, commit: bool) -> BriefAsk
-    ensures ask { ask_in result ≡ Ask.Alloc at pages align commit }
+    ensures ask { read_ask result ≡ Ask.Alloc at pages align commit }
     ensures brief { IsBrief result }
 {
     let (shape, c) = match at {
@@ -101,7 +101,7 @@ fn alloc(at: Option<u64>, pages: u64, align: u64, commit: bool) -> BriefAsk
 impl BriefAsk {
     /// An ask in few numbers.
     pub(crate) fn of(ask: Ask) -> BriefAsk
-        ensures ask { ask_in result ≡ ask }
+        ensures ask { read_ask result ≡ ask }
         ensures brief { IsBrief result }
     {
         match ask {
@@ -136,7 +136,7 @@ impl BriefAsk {
 
     /// The ask.
     pub(crate) fn ask(self) -> Ask
-        ensures { result ≡ ask_in self }
+        ensures { result ≡ read_ask self }
     {
         let committed = self.flag;
         let span = Span {
@@ -167,7 +167,7 @@ impl BriefAsk {
 impl BriefAnswer {
     /// An answer in few numbers.
     pub(crate) fn of(answer: Answer) -> BriefAnswer
-        ensures answer { answer_in result ≡ answer }
+        ensures answer { read_answer result ≡ answer }
         ensures brief { IsBriefAnswer result }
     {
         let (shape, first) = match answer {
@@ -189,7 +189,7 @@ impl BriefAnswer {
 
     /// The answer.
     pub(crate) fn answer(self) -> Answer
-        ensures { result ≡ answer_in self }
+        ensures { result ≡ read_answer self }
     {
         let first = self.first;
         let (committed, zeroed) = match self.shape {
