@@ -87,10 +87,7 @@ module _ (key_of : Row → Option Key) (rows : List Row) (row : Row) (keys : Lis
 
 -- extents with one key among the first pages have one number
 pub first_own : (r row : Row) (k : Key) → first_key r ≡ Some k → first_key row ≡ Some k → r.number ≡ row.number
-first_own r row k a b =
-    let x : record { major = r.part.span.first; minor = r.number } ≡ k = cc in
-    let y : record { major = row.part.span.first; minor = row.number } ≡ k = cc in
-    ap (λ (z : Key). z.minor) (x ∙ sym y)
+first_own r row k a b = grind (arith, a, b)
 
 -- extents with one key among the unused ones have one number
 pub size_own : (r row : Row) (k : Key) → r.number < 2 ^ 32 → row.number < 2 ^ 32 → size_key r ≡ Some k → size_key row ≡ Some k → r.number ≡ row.number
