@@ -90,11 +90,7 @@ pub one_rest : (row : Row) → bit (is_listed ToDirty row.part.state) + bit (is_
 one_rest row = by row.part.state
   where
     by : (s : State) → bit (is_listed ToDirty s) + bit (is_listed ToMuzzy s) + bit (is_listed ToRetained s) ≡ bit (is_some (option_map (ranked_key row) (rank_of s)))
-    by Active = omega arith
-    by Dirty = omega arith
-    by Muzzy = omega arith
-    by Retained = omega arith
-    by (Flight client rest) = omega arith
+    by s = grind arith
 
 -- no more are unused than there are
 unused_most : (rows : List Row) → length (listed_in ToDirty rows) + length (listed_in ToMuzzy rows) + length (listed_in ToRetained rows) ≤ length rows
@@ -350,11 +346,9 @@ module _ (t : Table) (rows : List Row) (row : Row) (i : IsTable t rows) (m : Con
   -- a filter leaves out of some numbers what it leaves out of the rows
   less : (test : Row → Bool) → numbers_of (filter test (others row.number rows)) ≡ cond (test row) (filter (λ n. not (eqb n row.number)) (numbers_of (filter test rows))) (numbers_of (filter test rows))
   less test =
-      ap numbers_of (filter_swap test (λ r. not (eqb r.number row.number)) rows)
-      ∙ elim (cases_Bool (test row)) [
-        | inl u ↦ rw u (sym (filter_map_is (λ r. r.number) (λ n. not (eqb n row.number)) (filter test rows)))
-        | inr f ↦ rw f (ap numbers_of (filter_all_of (λ r. not (eqb r.number row.number)) (filter test rows) (λ r n. let p = filter_from test rows r n in differs test r p.0 p.1 f)))
-      ]
+      let all : test row ≡ false → filter (λ r. not (eqb r.number row.number)) (filter test rows) ≡ filter test rows =
+      (λ f. filter_all_of (λ r. not (eqb r.number row.number)) (filter test rows) (λ r n. let p = filter_from test rows r n in differs test r p.0 p.1 f)) in
+      ap numbers_of (filter_swap test (λ r. not (eqb r.number row.number)) rows) ∙ grind (arith, filter_map_is (λ (r : Row). r.number) (λ n. not (eqb n row.number)) (filter test rows), all)
 
   -- and its pages are left out of the sum
   sum_less : (test : Row → Bool) → sum_by (λ r. r.part.span.pages) (filter test (others row.number rows)) + cond (test row) row.part.span.pages 0 ≡ sum_by (λ r. r.part.span.pages) (filter test rows)

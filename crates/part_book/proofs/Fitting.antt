@@ -125,15 +125,7 @@ goes_on r pages align ks size y s w here e =
 
 -- where the walk comes to another rest, none serves
 pub none_of_others : (r pages align : ℕ) (ks : List Key) (size : Key) → IsWalk ks size r pages align → (size.major / 2 ^ 32 ≡ r → ⊥) → (k : Key) → Contains ks k → serves r pages align k ≡ false
-none_of_others r pages align ks size w other k m = by (key_cmp k size) refl
-  where
-    past : size.major ≤ k.major → serves r pages align k ≡ false
-    past le = let from = w.from in let apart : k.major / 2 ^ 32 ≡ r → ⊥ = λ e. other (omega arith) in rw (ne_eqb (k.major / 2 ^ 32) r apart) refl
-
-    by : (o : Ordering) → key_cmp k size ≡ o → serves r pages align k ≡ false
-    by Less e = w.below k m e
-    by Equal e = past (let same = ap (λ (x : Key). x.major) (key_tie k size e) in omega arith)
-    by Greater e = past (less_major size k (key_total.antisymm size k ∙ ap ordering_reverse e))
+none_of_others r pages align ks size w other k m = grind (arith, nat_tests, w.below k m, key_tie k size, less_major size k, key_total.antisymm size k, w.from, other)
 
 -- ---- what is found
 
