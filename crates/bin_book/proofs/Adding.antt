@@ -1,10 +1,8 @@
 -- A slab comes, or goes.
-use Rattle.std.proofs.Common.{Some, None, ◌≡◌, ◌≢◌, ℕ, ◌+◌, ◌-◌, ◌*◌, ◌^◌, ◌<◌, ◌≤◌, Bool, false, eqb, ltb, List, [], ◌∷◌, ◌++◌, length, length-set, map, filter, find, get_or, set, count_by, ◌⊎◌, inl, inr, refl, sym, ap, ◌∙◌, subst, arith, Contains, Ordering, Less, Equal, Greater, is_lt, is_gt, vec_len, vec_capacity, zero, suc, slice_get}
-use mathlib.Core.Logic.{dite}
-use native.Mathlib.Decide.{ℕ_discrete}
+use Rattle.std.proofs.Common.{Some, None, ◌≡◌, ◌≢◌, ℕ, ◌+◌, ◌-◌, ◌*◌, ◌^◌, ◌<◌, ◌≤◌, Bool, false, eqb, ltb, List, [], ◌∷◌, ◌++◌, length, length-set, map, filter, find, get_or, set, count_by, ◌⊎◌, inl, inr, refl, sym, ap, ◌∙◌, subst, arith, Contains, vec_len, vec_capacity, zero, slice_get}
 use Rattle.std.specs.FinMap as map_of
 use Rattle.std.specs.List.{list_any, range_with_len}
-use Rattle.std.proofs.lemmas.Bool.{cases_eq, cases_lt, eq-eqb, eqb-true, false_from_ne_true, cases_Bool}
+use Rattle.std.proofs.lemmas.Bool.{cases_eq, cases_lt, eq-eqb}
 use Rattle.std.proofs.lemmas.Grind.{get_or-set_at}
 use Rattle.std.proofs.lemmas.Bool.Decides.{nat_tests}
 use Rattle.std.proofs.lemmas.List.{get_or-set_other, get_or-set_same, length-map, map-append}
@@ -21,7 +19,6 @@ use Rattle.ordered_set.specs.Keys.{IsAscending, is_above, is_below, is_from, key
 use Rattle.ordered_set.proofs.Calls.{length_with, length_without}
 use Rattle.ordered_set.proofs.KeyOrder.{key_tie, key_total}
 use Rattle.ordered_set.proofs.Members.{every_from, filter_from, with_from, with_keeps, with_self, without_from, without_keeps}
-use Rattle.ordered_set.proofs.Orders.{less_from_parts, less_parts}
 use Rattle.ordered_set.proofs.Sorted.{absent, others_is, parts, present}
 use Rattle.bin_book.specs.declared.chart.Chart.{Chart}
 use Rattle.bin_book.specs.declared.table.Table.{Table}
@@ -198,10 +195,7 @@ module _ (t : Table) (i : IsTable t) (class first number : ℕ) (bits : Bits) (i
   free_added : AreFree rest keys (vec_len t.slots)
   free_added = record {
     in_slots = λ n m. i.free.in_slots n (subst (λ ns. Contains ns n) (sym free) (Contains-append_left rest (number ∷ []) n m));
-    unused = λ n k m o. elim (with_from t.firsts.keys slab k o) [
-      | inl e ↦ (λ f. grind (arith, nat_tests, count_some (λ x. eqb x n) rest n m (eq-eqb n n refl), count_rest n, e, f))
-      | inr d ↦ i.free.unused n k (subst (λ ns. Contains ns n) (sym free) (Contains-append_left rest (number ∷ []) n m)) d
-    ];
+    unused = λ n k m o f. grind (arith, nat_tests, with_from t.firsts.keys slab k o, count_some (λ x. eqb x n) rest n m (eq-eqb n n refl), count_rest n, i.free.unused n k (subst (λ ns. Contains ns n) (sym free) (Contains-append_left rest (number ∷ []) n m)), f);
     once = λ n. let most = count_rest n in omega arith;
   }
 
@@ -230,10 +224,7 @@ module _ (t : Table) (i : IsTable t) (class first number : ℕ) (bits : Bits) (i
         kept = rw (items, firsts) kept_added;
         binned = rw (items, firsts) (binned_added u.bins.keys bins);
         charted = rw (items, firsts) charted;
-        in_slots = λ k m. elim (with_from t.firsts.keys slab k (subst (λ ks. Contains ks k) firsts m)) [
-          | inl e ↦ let at : k.minor ≡ number = ap (λ (z : Key). z.minor) e in let low = i.free.in_slots number was_free in omega arith
-          | inr d ↦ let low = i.in_slots k d in omega arith
-        ];
+        in_slots = λ k m. grind (arith, with_from t.firsts.keys slab k (subst (λ ks. Contains ks k) firsts m), i.free.in_slots number was_free, i.in_slots k, len);
         free = rw (free_items, firsts, len) free_added;
         classes = ap length counts ∙ length-set t.counts class (get_or t.counts class 0 + 1) ∙ i.classes;
         counts = rw (counts, items, firsts) (counts_added small);
@@ -376,16 +367,8 @@ module _ (t : Table) (i : IsTable t) (slab : Key) (there : Contains t.firsts.key
 
   free_more : AreFree (t.free.items ++ slab.minor ∷ []) rest_keys (vec_len t.slots)
   free_more = record {
-    in_slots = λ n m. elim (Contains-push_cases t.free.items slab.minor n m) [
-      | inl d ↦ i.free.in_slots n d
-      | inr e ↦ let low = i.in_slots slab there in omega arith
-    ];
-    unused = λ n k m o f.
-        let p = without_from t.firsts.keys slab k o in
-        elim (Contains-push_cases t.free.items slab.minor n m) [
-          | inl d ↦ i.free.unused n k d p.0 f
-          | inr e ↦ p.1 (i.kept.numbers k slab p.0 there (f ∙ sym e))
-        ];
+    in_slots = λ n m. grind (arith, Contains-push_cases t.free.items slab.minor n m, i.free.in_slots n, i.in_slots slab there);
+    unused = λ n k m o f. let p = without_from t.firsts.keys slab k o in grind (arith, Contains-push_cases t.free.items slab.minor n m, i.free.unused n k, i.kept.numbers k slab p.0 there, p.0, p.1, f);
     once = λ n.
         let whole = sum_by-append (λ m. bit (eqb m n)) t.free.items (slab.minor ∷ []) in
         let one = sum_by-cons (λ m. bit (eqb m n)) slab.minor [] in

@@ -1,11 +1,11 @@
 -- Which slab has an address, and the region that begins there, or none.
-use Rattle.std.proofs.Common.{Option, IfNone, IfSome, ◌≡◌, ℕ, ◌+◌, ◌-◌, ◌*◌, ◌/◌, ◌%◌, ◌<◌, ◌≤◌, Bool, true, false, not, ◌&&◌, eqb, ltb, List, length, map, filter, get_or, Some, None, ◌⊎◌, inl, inr, refl, sym, ap, ◌∙◌, subst, arith, Contains, is_lt, vec_len, find}
+use Rattle.std.proofs.Common.{Option, IfNone, IfSome, ◌≡◌, ℕ, ◌+◌, ◌-◌, ◌*◌, ◌/◌, ◌%◌, ◌<◌, ◌≤◌, true, false, ◌&&◌, eqb, ltb, List, length, map, filter, get_or, Some, None, ◌⊎◌, inl, inr, refl, sym, ap, ◌∙◌, subst, arith, Contains, is_lt, vec_len, find}
 use Rattle.std.specs.FinMap as map_of
 use Rattle.std.specs.Option.{option_map}
 use Rattle.std.specs.List.{list_any, range_with_len}
 use Rattle.std.proofs.lemmas.Nat.{div-add-mod'}
 use Rattle.std.proofs.Math.Nat.{mul-div_cancel, mul-mod_left}
-use Rattle.std.proofs.lemmas.Bool.{cases_Bool, cases_lt, eq-eqb, eqb-true, false_from_ne_true}
+use Rattle.std.proofs.lemmas.Bool.{cases_Bool, eq-eqb, eqb-true, false_from_ne_true}
 use Rattle.std.proofs.lemmas.Bool.Decides.{nat_tests}
 use Rattle.std.proofs.lemmas.List.Kept.{IsStrictlySortedBy-filter}
 use Rattle.std.proofs.lemmas.Option.{get_or_from_slice_get, slice_get-get_or, slice_get_within}
@@ -43,10 +43,7 @@ last_below keys page key ascending e =
     }
 
 pub none_below : (keys : List Key) (page : ℕ) → last_of (filter (is_below (start page)) keys) ≡ None → (k : Key) → Contains keys k → page ≤ k.major
-none_below keys page e k m = elim (cases_lt k.major page) [
-  | inl l ↦ absurd (no_last (filter (is_below (start page)) keys) k e (filter_has (is_below (start page)) keys k m (below_page k page l)))
-  | inr g ↦ g
-]
+none_below keys page e k m = grind (arith, no_last (filter (is_below (start page)) keys) k e, filter_has (is_below (start page)) keys k m, below_page k page)
   where
     no_last : (ks : List Key) (k : Key) → last_of ks ≡ None → Contains ks k → ⊥
     no_last ks k e (i, l, is) =

@@ -1,10 +1,10 @@
 -- The places of a slab with their addresses, and slabs under their keys, as bits are written.
-use Rattle.std.proofs.Common.{◌≡◌, ℕ, ◌+◌, ◌-◌, ◌*◌, ◌<◌, ◌≤◌, zero, suc, Bool, true, false, not, ◌&&◌, ◌||◌, eqb, List, [], ◌∷◌, length, map, filter, get_or, set, count_by, position, Some, inl, inr, refl, sym, ap, ◌∙◌, arith, ◌≢◌, ◌^◌, ◌⊎◌, subst, Contains, Ordering, Less, Equal, Greater}
+use Rattle.std.proofs.Common.{◌≡◌, ℕ, ◌+◌, ◌-◌, ◌*◌, ◌<◌, ◌≤◌, zero, suc, Bool, true, false, not, ◌&&◌, ◌||◌, eqb, List, [], ◌∷◌, length, map, filter, get_or, set, count_by, position, Some, inl, inr, refl, sym, ap, ◌∙◌, arith, ◌≢◌, ◌^◌, ◌⊎◌, subst, Contains}
 use mathlib.Core.Logic.{dite}
 use native.Mathlib.Decide.{ℕ_discrete}
 use Rattle.std.specs.List.{range_with_len}
 use Rattle.std.proofs.Math.Nat.{mul-le-mul_right}
-use Rattle.std.proofs.lemmas.Bool.{cases_Bool, cases_eq, cases_lt, eq-eqb, eqb-true, false_from_ne_true}
+use Rattle.std.proofs.lemmas.Bool.{cases_Bool, cases_eq, eq-eqb, eqb-true, false_from_ne_true}
 use Rattle.std.proofs.lemmas.Grind.{get_or-set_at}
 use Rattle.std.proofs.lemmas.List.{get_or-set_other, get_or-set_same}
 use Rattle.std.proofs.lemmas.List.Quantifiers.{position-Some}
@@ -18,7 +18,7 @@ use Rattle.list_facts.proofs.Members.{any_has, any_none, bit, filter_both, filte
 use Rattle.std.proofs.lemmas.Cmp.{tied_itself}
 use Rattle.slab_bits.specs.Slabs.{Slab as Bits}
 use Rattle.ordered_set.specs.declared.key.Key.{Key}
-use Rattle.ordered_set.specs.Keys.{key_cmp, with_key, without_key}
+use Rattle.ordered_set.specs.Keys.{with_key, without_key}
 use Rattle.ordered_set.proofs.KeyOrder.{key_tie, key_total}
 use Rattle.bin_book.specs.declared.chart.Chart.{Chart}
 use Rattle.bin_book.specs.Charts.{HasPage}

@@ -69,15 +69,9 @@ apart_more parts p apart in_space none = record {
   owners = λ page.
       let sum = sum_by_push (λ q. bit (has_page page q.span)) parts p in
       let most = apart.owners page in
-      elim (cases_Bool (has_page page p.span)) [
-        | inl t ↦
-            let one : bit (has_page page p.span) ≡ 1 = ap bit t in
-            let nobody = count_none (λ q. has_page page q.span) parts (λ q m. false_from_ne_true (has_page page q.span) (λ u.
-            let met = page_meets q p page u t in
-            let apart = All-contains (λ q. meets q.span p.span ≡ false) parts q none m in cc)) in
-            omega arith
-        | inr f ↦ let no : bit (has_page page p.span) ≡ 0 = ap bit f in omega arith
-      ];
+      let nobody : has_page page p.span ≡ true → count_by (λ q. has_page page q.span) parts ≡ 0 =
+      (λ t. count_none (λ q. has_page page q.span) parts (λ q m. grind (arith, page_meets q p page, t, All-contains (λ q. meets q.span p.span ≡ false) parts q none m))) in
+      grind (arith, sum, most, nobody);
 }
 
 -- ---- one extent less

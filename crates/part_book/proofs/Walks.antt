@@ -51,6 +51,4 @@ fewer_above (x ∷ xs) q y s e = elim (cases_Bool (is_above q x)) [
     chain k l t = ap is_gt (key_total.antisymm k q ∙ ap ordering_reverse (key_total.trans q x k (key_total.antisymm q x ∙ ap ordering_reverse (greater (key_cmp x q) t)) l))
       where
         greater : (r : Ordering) → is_gt r ≡ true → r ≡ Greater
-        greater Less f = cc
-        greater Equal f = cc
-        greater Greater f = refl
+        greater r f = grind (arith, f)
