@@ -82,8 +82,7 @@ lands_first regions client class count p small most none =
     λ k. record { class = class; first = first; free = (kept ∙ ap (map (place class first)) (high ∙ ap (range_with_len count) len)) k }
   where
     twice : (b : Bool) → not (not b || false) ≡ b
-    twice true = refl
-    twice false = refl
+    twice b = grind arith
 
 -- An extent that serves no region, in which so many regions of a class may land.
 pub record Lands (c : ℕ) (s : Space) (test : Part → Bool) (p : Part) (class count : ℕ) : Type 0 where
@@ -197,11 +196,7 @@ module _ (c : ℕ) (s : Space) (test : Part → Bool) (p : Part) (class count : 
   ]
     where
       none : is_slab d s.regions active ≡ false
-      none = serves_none d s.regions active (any_none (houses active) s.regions (λ r m. rw (none_within r m) (never p.committed)))
-        where
-          never : (b : Bool) → (b && false) ≡ false
-          never true = refl
-          never false = refl
+      none = serves_none d s.regions active (any_none (houses active) s.regions (λ r m. grind (arith, none_within r m)))
 
   -- the slabs of a class then: as before, with the extent behind them if it is of the class
   slabs_then : (d : ℕ) → filter (is_slab d after.regions) after.parts ≡ filter (is_slab d s.regions) s.parts ++ cond (eqb class d) (active ∷ []) []
@@ -245,8 +240,7 @@ module _ (c : ℕ) (s : Space) (test : Part → Bool) (p : Part) (class count : 
       filter-append of (filter under slabs) (new ∷ filter over slabs) ∙ (λ k. first k ++ (in_front (eqb class d) (filter of (filter over slabs)) ∙ ap (λ xs. cond (eqb class d) (new ∷ []) [] ++ xs) second) k)
     where
       in_front : (b : Bool) (xs : List Slab) → cond b (new ∷ xs) xs ≡ cond b (new ∷ []) [] ++ xs
-      in_front true xs = refl
-      in_front false xs = refl
+      in_front b xs = grind arith
 
   with_booked : class < 36 → IsBooked after (with_slab slabs new)
   with_booked small = record {

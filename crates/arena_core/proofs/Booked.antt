@@ -39,19 +39,14 @@ any_inserted q r regions =
     ∙ ap (λ b. q r || b) (sym (list_any-append q (take n regions) (drop n regions)) ∙ ap (list_any q) (take-append-drop n regions))
   where
     turn : (a b c : Bool) → (a || (b || c)) ≡ (b || (a || c))
-    turn true true c = refl
-    turn true false c = refl
-    turn false b c = refl
+    turn a b c = grind arith
 
 pub any_landing : (q : Region → Bool) (come regions : List Region) → list_any q (landing come regions) ≡ (list_any q come || list_any q regions)
 any_landing q [] regions = refl
 any_landing q (r ∷ rs) regions = any_landing q rs (inserted r regions) ∙ ap (λ b. list_any q rs || b) (any_inserted q r regions) ∙ turn (list_any q rs) (q r) (list_any q regions)
   where
     turn : (a b c : Bool) → (a || (b || c)) ≡ ((b || a) || c)
-    turn true true c = refl
-    turn true false c = refl
-    turn false true c = refl
-    turn false false c = refl
+    turn a b c = grind arith
 
 -- where some count, one is there
 counted : {X : Type 0} (p : X → Bool) (xs : List X) → 0 < count_by p xs → (x : X) × Contains xs x × (p x ≡ true)
@@ -66,8 +61,7 @@ counted p (x ∷ xs) some = elim (cases_Bool (p x)) [
 ]
 
 and_parts : (a b : Bool) → (a && b) ≡ true → (a ≡ true) × (b ≡ true)
-and_parts true b e = (refl, e)
-and_parts false b e = absurd (cc)
+and_parts a b e = (grind (arith, e), grind (arith, e))
 
 -- ---- a fill
 
@@ -100,10 +94,7 @@ module _ (s : Space) (sound : Sound s) (client class count : ℕ) (small : class
   slab_stays : (d : ℕ) (p : Part) → Contains s.parts p → is_slab d after p ≡ is_slab d s.regions p
   slab_stays d p m =
       let q = λ (r : Region). eqb r.class d && houses p r in
-      any_landing q (map (region_of client class) addrs) s.regions ∙ elim (cases_Bool (list_any q (map (region_of client class) addrs))) [
-        | inl t ↦ rw (t, served d p m t) refl
-        | inr f ↦ rw f refl
-      ]
+      any_landing q (map (region_of client class) addrs) s.regions ∙ grind (arith, served d p m)
 
   slabs_stay : (d : ℕ) → slabs_of d (filled s client class addrs) ≡ slabs_of d s
   slabs_stay d = ap (turned_in_order (λ p. p)) (filter_same (is_slab d after) (is_slab d s.regions) s.parts (slab_stays d))
@@ -118,10 +109,7 @@ module _ (s : Space) (sound : Sound s) (client class count : ℕ) (small : class
   }
     where
       not_or : (x y : Bool) → not (x || y) ≡ (not y && not x)
-      not_or true true = refl
-      not_or true false = refl
-      not_or false true = refl
-      not_or false false = refl
+      not_or x y = grind arith
 
       there : (a : ℕ) → not (list_any (starts_at a) after) ≡ (not (list_any (starts_at a) s.regions) && not (is_among addrs a))
       there a = ap not (any_landing (starts_at a) (map (region_of client class) addrs) s.regions ∙ ap (λ b. b || list_any (starts_at a) s.regions) (any_map (region_of client class) (starts_at a) addrs)) ∙ not_or (is_among addrs a) (list_any (starts_at a) s.regions)
@@ -145,20 +133,13 @@ any_same p q (x ∷ xs) same = λ k. same x k || any_same p q xs same k
 
 -- an extent that serves none of the regions is no slab
 pub serves_none : (class : ℕ) (regions : List Region) (p : Part) → list_any (houses p) regions ≡ false → is_slab class regions p ≡ false
-serves_none class regions p none = any_none (λ r. eqb r.class class && houses p r) regions (λ r m. rw (any_false (houses p) regions r none m) (never (eqb r.class class)))
-  where
-    never : (b : Bool) → (b && false) ≡ false
-    never true = refl
-    never false = refl
+serves_none class regions p none = any_none (λ r. eqb r.class class && houses p r) regions (λ r m. grind (arith, any_false (houses p) regions r none m))
 
 pub idle_no_slab : (class : ℕ) (regions : List Region) (p : Part) → is_active p.state ≡ false → is_slab class regions p ≡ false
 idle_no_slab class regions p idle = serves_none class regions p (any_none (houses p) regions (λ r m. rw idle refl))
 
 active_slabs : (class : ℕ) (regions : List Region) (parts : List Part) → filter (is_slab class regions) (filter (λ p. is_active p.state) parts) ≡ filter (is_slab class regions) parts
-active_slabs class regions parts = filter_both (λ p. is_active p.state) (is_slab class regions) parts ∙ filter_same (λ p. is_active p.state && is_slab class regions p) (is_slab class regions) parts (λ p m. by p)
-  where
-    by : (p : Part) → (is_active p.state && is_slab class regions p) ≡ is_slab class regions p
-    by p = elim (cases_Bool (is_active p.state)) [ inl t ↦ ap (λ b. b && is_slab class regions p) t | inr f ↦ ap (λ b. b && is_slab class regions p) f ∙ sym (idle_no_slab class regions p f) ]
+active_slabs class regions parts = filter_both (λ p. is_active p.state) (is_slab class regions) parts ∙ filter_same (λ p. is_active p.state && is_slab class regions p) (is_slab class regions) parts (λ p m. grind (arith, idle_no_slab class regions p))
 
 pub stay_still : BooksStayWhileExtentsDo
 stay_still s t slabs parts regions booked class small =
@@ -178,9 +159,7 @@ stay_handed s t slabs test holder parts regions booked class small =
 -- ---- a return
 
 pub both_ways : (a b : Bool) → (a ≡ true → b ≡ true) → (b ≡ true → a ≡ true) → a ≡ b
-both_ways true b f g = sym (f refl)
-both_ways false true f g = g refl
-both_ways false false f g = refl
+both_ways a b f g = grind (arith, f, g)
 
 -- what a filter keeps is among what it gives
 pub among_kept : (keep : ℕ → Bool) (xs : List ℕ) (a : ℕ) → Contains xs a → is_among (filter keep xs) a ≡ keep a
@@ -192,12 +171,8 @@ among_kept keep xs a m = both_ways (is_among (filter keep xs) a) (keep a)
 starts_left : (addr a : ℕ) (regions : List Region) → not (list_any (starts_at a) (filter (λ r. not (starts_at addr r)) regions)) ≡ (eqb a addr || not (list_any (starts_at a) regions))
 starts_left addr a regions = elim (cases_Bool (eqb a addr)) [
   | inl same ↦
-      let none = any_none (starts_at a) (filter (λ r. not (starts_at addr r)) regions) (λ r m. false_from_ne_true _ (λ t.
-      let gone = (filter_from (λ r. not (starts_at addr r)) regions r m).1 in
-      let here : starts_at addr r ≡ true = eq-eqb _ _ (eqb-true _ _ t ∙ eqb-true _ _ same) in
-      let no : false ≡ true = sym (ap not here) ∙ gone in
-      cc)) in
-      ap not none ∙ sym (ap (λ b. b || not (list_any (starts_at a) regions)) same)
+      let none = any_none (starts_at a) (filter (λ r. not (starts_at addr r)) regions) (λ r m. let gone = (filter_from (λ r. not (starts_at addr r)) regions r m).1 in grind (arith, nat_tests, gone, same)) in
+      grind (arith, none, same)
   | inr other ↦
       let stay = both_ways (list_any (starts_at a) (filter (λ r. not (starts_at addr r)) regions)) (list_any (starts_at a) regions)
       (λ t. let p = any_from (starts_at a) (filter (λ r. not (starts_at addr r)) regions) t in any_has (starts_at a) regions p.0 (filter_from (λ r. not (starts_at addr r)) regions p.0 p.1).0 p.2)
@@ -221,10 +196,7 @@ freed regions addr class p = λ k. record {
 -- where a sum is no more than that of smaller terms, each term is no more than the smaller one
 exact_of : {X : Type 0} (f g : X → ℕ) (xs : List X) (x : X) → ((y : X) → g y ≤ f y) → sum_by f xs ≤ sum_by g xs → Contains xs x → f x ≤ g x
 exact_of f g [] x less whole m = absurd (omega arith)
-exact_of f g (y ∷ ys) x less whole m = elim (contains_cases y ys x m) [
-  | inl e ↦ subst (λ z. f z ≤ g z) e (omega (arith, whole, sum_by-cons f y ys, sum_by-cons g y ys, sum_by-le-sum_by g f ys less))
-  | inr d ↦ exact_of f g ys x less (omega (arith, whole, less y, sum_by-cons f y ys, sum_by-cons g y ys)) d
-]
+exact_of f g (y ∷ ys) x less whole m = grind (arith, contains_cases y ys x m, whole, less y, sum_by-cons f y ys, sum_by-cons g y ys, sum_by-le-sum_by g f ys less, exact_of f g ys x less)
 
 -- an extent has the page of the address of a region that it serves
 pub served_page : (q : Part) (x : Region) → x.class < 121 → houses q x ≡ true → has_page (x.addr / 4096) q.span ≡ true

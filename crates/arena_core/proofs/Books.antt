@@ -40,13 +40,7 @@ use Rattle.arena_core.proofs.Still.{Still, kept_exchanged}
 
 -- as many pass, so something does where it did
 pub same_any : {X : Type 0} (t : X → Bool) (xs ys : List X) → count_by t xs ≡ count_by t ys → list_any t xs ≡ list_any t ys
-same_any t xs ys same = elim (cases_Bool (list_any t xs)) [
-  | inl some ↦ some ∙ sym (counts_any t ys (omega (arith, same, any_counts t xs some)))
-  | inr none ↦ elim (cases_Bool (list_any t ys)) [
-    | inl some ↦ let e = counts_any t xs (omega (arith, same, any_counts t ys some)) in absurd (cc)
-    | inr also ↦ none ∙ sym also
-  ]
-]
+same_any t xs ys same = grind (arith, same, counts_any t xs, counts_any t ys, any_counts t xs, any_counts t ys)
 
 -- the order of extents leaves them the same
 any_order : (t : Part → Bool) (ps : List Part) → list_any t (turned_in_order (λ p. p) ps) ≡ list_any t ps
@@ -241,7 +235,7 @@ module _ (c addr : ℕ) (s : Space) (p : Part) (slabs : List Slab) (sound : Soun
   -- what is a slab then: one with a region left
   one_slab : (class : ℕ) (q : Part) → class < 36 → Contains s.parts q → is_slab class rest q ≡ (is_slab class s.regions q && not (is_unused (slab_of rest class q)))
   one_slab class q low at = elim (cases_Bool (is_slab class s.regions q)) [
-    | inl t ↦ still_slab s class q sound low at t rest sub ∙ twice (list_any (houses q) rest) ∙ (λ i. sym t i && not (sym (unused_is s class q sound low at t rest sub) i))
+    | inl t ↦ grind (arith, t, still_slab s class q sound low at t rest sub, unused_is s class q sound low at t rest sub)
     | inr f ↦
         let none = false_from_ne_true _ (λ t.
         let x = any_from (λ r. eqb r.class class && houses q r) rest t in
@@ -250,10 +244,6 @@ module _ (c addr : ℕ) (s : Space) (p : Part) (slabs : List Slab) (sound : Soun
         cc) in
         none ∙ ap (λ b. b && not (is_unused (slab_of rest class q))) (sym f)
   ]
-    where
-      twice : (b : Bool) → b ≡ (true && not (not b))
-      twice true = refl
-      twice false = refl
 
   abbrev after : Space
   after = (after_back s c (addr ∷ [])).after
@@ -262,15 +252,11 @@ module _ (c addr : ℕ) (s : Space) (p : Part) (slabs : List Slab) (sound : Soun
   parts_stay : (class : ℕ) (b : Bool) → is_left rest p ≡ b → filter (is_slab class rest) after.parts ≡ filter (is_slab class rest) s.parts
   parts_stay class false left = ap (filter (is_slab class rest)) (given_parts c addr s p e false left).1
   parts_stay class true left =
-      let none : list_any (houses p) rest ≡ false = twice (list_any (houses p) rest) left in
+      let none : list_any (houses p) rest ≡ false = grind (arith, left) in
       let slab = serves_none class rest p none in
       ap (filter (is_slab class rest)) (given_parts c addr s p e true left).1
       ∙ kept_exchanged (is_slab class rest) (begins_at p.span.first) s.parts (taken_out c p ∷ []) (ap (filter (is_slab class rest)) e.alone ∙ rw slab refl)
       (All-cons (λ q. is_slab class rest q ≡ false) (taken_out c p) [] (idle_no_slab class rest (taken_out c p) refl) (All-nil (λ q. is_slab class rest q ≡ false)))
-    where
-      twice : (b : Bool) → not b ≡ true → b ≡ false
-      twice true h = absurd (cc)
-      twice false h = refl
 
   abbrev keep : Slab → Bool
   keep x = not (is_unused x)

@@ -25,10 +25,7 @@ placed_is p [] = refl
 placed_is p (q ∷ L) =
     let n = position_or_len (λ (x : Part). ltb p.span.first x.span.first) L in
     let one : 1 + n ≡ suc n = omega arith in
-    elim (cases_Bool (ltb p.span.first q.span.first)) [
-      | inl t ↦ rw t refl
-      | inr f ↦ rw f (ap (λ m. take m (q ∷ L) ++ p ∷ drop m (q ∷ L)) one ∙ ap (λ xs. q ∷ xs) (placed_is p L))
-    ]
+    grind (arith, one, placed_is p L)
 
 every_put : (P : Part → Type 0) (p : Part) (L : List Part) → P p → Every P L → Every P (put p L)
 unfolding put
@@ -57,13 +54,7 @@ filter_put keep p (q ∷ L) r = elim (cases_lt p.span.first q.span.first) [
       let t : ltb p.span.first q.span.first ≡ true = grind (arith, nat_tests) in
       let later : Every (λ x. p.span.first < x.span.first) (q ∷ L) = (l, every_map (λ x. q.span.first ≤ x.span.first) (λ x. p.span.first < x.span.first) (λ x le. omega arith) L r.0) in
       rw t (ap (λ xs. cond (keep p) xs (filter keep (q ∷ L))) (sym (put_first p (filter keep (q ∷ L)) (every_filter (λ x. p.span.first < x.span.first) keep (q ∷ L) later))))
-  | inr g ↦
-      let f : ltb p.span.first q.span.first ≡ false = grind (arith, nat_tests) in
-      let rest = filter_put keep p L r.1 in
-      rw f (elim (cases_Bool (keep q)) [
-        | inl t ↦ elim (cases_Bool (keep p)) [ inl u ↦ rw (t, u, f) (ap (λ xs. q ∷ xs) (rest ∙ rw u refl)) | inr v ↦ rw (t, v) (ap (λ xs. q ∷ xs) (rest ∙ rw v refl)) ]
-        | inr n ↦ rw n rest
-      ])
+  | inr g ↦ grind (arith, nat_tests, filter_put keep p L r.1)
 ]
 
 order : List Part → List Part → List Part
@@ -75,10 +66,7 @@ order_filter keep before [] r = refl
 order_filter keep before (p ∷ ps) r =
     let step = ap (filter keep) (placed_is p before) ∙ filter_put keep p before r in
     let deep = order_filter keep (put p before) ps (rising_put p before r) in
-    elim (cases_Bool (keep p)) [
-      | inl t ↦ rw t (ap (λ xs. order xs (filter keep ps)) (placed_is p (filter keep before) ∙ sym (filter_put keep p before r ∙ rw t refl)) ∙ deep ∙ ap (λ xs. filter keep (order xs ps)) (sym (placed_is p before)))
-      | inr f ↦ rw f (ap (λ xs. order xs (filter keep ps)) (sym (filter_put keep p before r ∙ rw f refl)) ∙ deep ∙ ap (λ xs. filter keep (order xs ps)) (sym (placed_is p before)))
-    ]
+    grind (arith, step, deep, placed_is p before, placed_is p (filter keep before))
 
 pub order_stays : OrderStays
 unfolding order Rising
@@ -110,11 +98,7 @@ put_between p (q ∷ L) r other = elim (cases_lt p.span.first q.span.first) [
       let none = filter_none (λ x. ltb x.span.first p.span.first) (q ∷ L) (every_map (λ x. p.span.first < x.span.first) (λ x. ltb x.span.first p.span.first ≡ false) (λ x lt. grind (arith, nat_tests)) (q ∷ L) later) in
       let all = filter_all (λ x. ltb p.span.first x.span.first) (q ∷ L) (every_map (λ x. p.span.first < x.span.first) (λ x. ltb p.span.first x.span.first ≡ true) (λ x lt. grind (arith, nat_tests)) (q ∷ L) later) in
       put_first p (q ∷ L) later ∙ sym (λ k. none k ++ p ∷ all k)
-  | inr g ↦
-      let ne = other.0 in
-      let f : ltb p.span.first q.span.first ≡ false = grind (arith, nat_tests) in
-      let low : ltb q.span.first p.span.first ≡ true = grind (arith, nat_tests) in
-      rw (f, low) (ap (λ xs. q ∷ xs) (put_between p L r.1 other.1))
+  | inr g ↦ grind (arith, nat_tests, other.0, put_between p L r.1 other.1)
 ]
 
 pub order_grows : OrderGrows
@@ -133,11 +117,7 @@ split_at p (q ∷ L) r other = elim (cases_lt p.span.first q.span.first) [
       let none = filter_none (λ x. ltb x.span.first p.span.first) (q ∷ L) (every_map (λ x. p.span.first < x.span.first) (λ x. ltb x.span.first p.span.first ≡ false) (λ x lt. grind (arith, nat_tests)) (q ∷ L) later) in
       let all = filter_all (λ x. ltb p.span.first x.span.first) (q ∷ L) (every_map (λ x. p.span.first < x.span.first) (λ x. ltb p.span.first x.span.first ≡ true) (λ x lt. grind (arith, nat_tests)) (q ∷ L) later) in
       λ k. none k ++ all k
-  | inr g ↦
-      let ne = other.0 in
-      let f : ltb p.span.first q.span.first ≡ false = grind (arith, nat_tests) in
-      let low : ltb q.span.first p.span.first ≡ true = grind (arith, nat_tests) in
-      rw (f, low) (ap (λ xs. q ∷ xs) (split_at p L r.1 other.1))
+  | inr g ↦ grind (arith, nat_tests, other.0, split_at p L r.1 other.1)
 ]
 
 pub order_splits : (parts : List Part) (p : Part) → All (λ q. q.span.first ≢ p.span.first) parts →

@@ -1,10 +1,9 @@
 -- A slab comes, or goes.
-use Rattle.std.proofs.Common.{Some, None, ◌≡◌, ◌≢◌, ℕ, ◌+◌, ◌-◌, ◌*◌, ◌^◌, ◌<◌, ◌≤◌, Bool, false, eqb, ltb, List, [], ◌∷◌, ◌++◌, length, length-set, map, filter, find, get_or, set, count_by, ◌⊎◌, inl, inr, refl, sym, ap, ◌∙◌, subst, arith, Contains, Ordering, Less, Equal, Greater, is_lt, is_gt, vec_len, vec_capacity, zero, suc, slice_get}
-use mathlib.Core.Logic.{dite}
-use native.Mathlib.Decide.{ℕ_discrete}
+use Rattle.std.proofs.Common.{Some, None, ◌≡◌, ◌≢◌, ℕ, ◌+◌, ◌-◌, ◌*◌, ◌^◌, ◌<◌, ◌≤◌, Bool, false, eqb, ltb, List, [], ◌∷◌, ◌++◌, length, length-set, map, filter, find, get_or, set, count_by, ◌⊎◌, inl, inr, refl, sym, ap, ◌∙◌, subst, arith, Contains, vec_len, vec_capacity, zero, slice_get}
 use Rattle.std.specs.FinMap as map_of
 use Rattle.std.specs.List.{list_any, range_with_len}
-use Rattle.std.proofs.lemmas.Bool.{cases_lt, eq-eqb, eqb-true, false_from_ne_true, cases_Bool}
+use Rattle.std.proofs.lemmas.Bool.{cases_eq, cases_lt, eq-eqb}
+use Rattle.std.proofs.lemmas.Grind.{get_or-set_at}
 use Rattle.std.proofs.lemmas.Bool.Decides.{nat_tests}
 use Rattle.std.proofs.lemmas.List.{get_or-set_other, get_or-set_same, length-map, map-append}
 use Rattle.std.proofs.lemmas.List.Elements.{Contains-append_left, Contains-push, Contains-push_cases}
@@ -20,7 +19,6 @@ use Rattle.ordered_set.specs.Keys.{IsAscending, is_above, is_below, is_from, key
 use Rattle.ordered_set.proofs.Calls.{length_with, length_without}
 use Rattle.ordered_set.proofs.KeyOrder.{key_tie, key_total}
 use Rattle.ordered_set.proofs.Members.{every_from, filter_from, with_from, with_keeps, with_self, without_from, without_keeps}
-use Rattle.ordered_set.proofs.Orders.{less_from_parts, less_parts}
 use Rattle.ordered_set.proofs.Sorted.{absent, others_is, parts, present}
 use Rattle.bin_book.specs.declared.chart.Chart.{Chart}
 use Rattle.bin_book.specs.declared.table.Table.{Table}
@@ -77,26 +75,19 @@ count_without p ks key s m =
 
 -- a key by the first pages, where these differ
 below_first : (key k : Key) → k.major ≢ key.major → is_below key k ≡ ltb k.major key.major
-below_first key k ne = by (key_cmp k key) refl
-  where
-    by : (r : Ordering) → key_cmp k key ≡ r → is_lt (key_cmp k key) ≡ ltb k.major key.major
-    by Less e = ap is_lt e ∙ elim (less_parts k key e) [ inl l ↦ grind (arith, nat_tests) | inr p ↦ absurd (ne p.0) ]
-    by Equal e = absurd (ne (ap (λ (z : Key). z.major) (key_tie k key e)))
-    by Greater e = ap is_lt e ∙ elim (cases_lt k.major key.major) [
-      | inl l ↦ absurd (let less : key_cmp k key ≡ Less = less_from_parts k key (inl l) in let no : Less ≡ Greater = sym less ∙ e in cc)
-      | inr g ↦ grind (arith, nat_tests)
-    ]
+unfolding key_cmp
+below_first key k ne = grind (arith, nat_tests, ne)
 
 above_first : (key k : Key) → k.major ≢ key.major → is_above key k ≡ ltb key.major k.major
-above_first key k ne = by (key_cmp k key) refl
-  where
-    by : (r : Ordering) → key_cmp k key ≡ r → is_gt (key_cmp k key) ≡ ltb key.major k.major
-    by Less e = ap is_gt e ∙ elim (less_parts k key e) [ inl l ↦ grind (arith, nat_tests) | inr p ↦ absurd (ne p.0) ]
-    by Equal e = absurd (ne (ap (λ (z : Key). z.major) (key_tie k key e)))
-    by Greater e = ap is_gt e ∙ elim (cases_lt key.major k.major) [
-      | inl l ↦ grind (arith, nat_tests)
-      | inr g ↦ absurd (let l : key_cmp k key ≡ Less = less_from_parts k key (inl (omega arith)) in let no : Less ≡ Greater = sym l ∙ e in cc)
-    ]
+unfolding key_cmp
+above_first key k ne = grind (arith, nat_tests, ne)
+
+-- one more is counted, or one fewer
+counted_more : (ns : List ℕ) (class c : ℕ) → class < length ns → get_or (set ns class (get_or ns class 0 + 1)) c 0 ≡ get_or ns c 0 + bit (eqb class c)
+counted_more ns class c low = grind (arith, nat_tests, get_or-set_at, get_or-set_other, cases_eq c class)
+
+counted_less : (ns : List ℕ) (class c : ℕ) → class < length ns → get_or (set ns class (get_or ns class 0 - 1)) c 0 ≡ get_or ns c 0 - bit (eqb class c)
+counted_less ns class c low = grind (arith, nat_tests, get_or-set_at, get_or-set_other, cases_eq c class)
 
 -- ---- a table with one more slab
 
@@ -137,15 +128,7 @@ module _ (t : Table) (i : IsTable t) (class first number : ℕ) (bits : Bits) (i
   meets_not k m = any_false (meets_slab class first) (map (slab_at t.slots.items) t.firsts.keys) (slab_at t.slots.items k) apart (map_has (slab_at t.slots.items) t.firsts.keys k m)
 
   beside : (k : Key) → Contains t.firsts.keys k → (first + pages_at class ≤ k.major) ⊎ (k.major + pages_at (bits_at t.slots.items k.minor).class ≤ first)
-  beside k m =
-      let not_met = meets_not k m in
-      elim (cases_lt k.major (first + pages_at class)) [
-        | inl l ↦ elim (cases_lt first (k.major + pages_at (bits_at t.slots.items k.minor).class)) [
-          | inl h ↦ absurd (grind (arith, nat_tests))
-          | inr h ↦ inr h
-        ]
-        | inr g ↦ inl g
-      ]
+  beside k m = grind (arith, nat_tests, meets_not k m)
 
   some_pages : 1 ≤ pages_at class
   some_pages = (pages_bounds class (let s = new.small in omega arith)).0
@@ -167,20 +150,9 @@ module _ (t : Table) (i : IsTable t) (class first number : ℕ) (bits : Bits) (i
   kept_added = record {
     slab = by_new (λ k b. IsSlabIn b k.major) new (λ k m. i.kept.slab k m);
     apart = λ k l m n. by_new (λ k b. k.major ≤ l.major → (k ≡ l) ⊎ (k.major + pages_at b.class ≤ l.major))
-        (λ le. elim (with_from t.firsts.keys slab l n) [
-          | inl e ↦ inl (sym e)
-          | inr d ↦ inr (subst (λ c. first + pages_at c ≤ l.major) (sym is) (elim (beside l d) [ inl far ↦ far | inr h ↦ absurd (let one = pages_of l d in omega arith) ]))
-        ])
-        (λ k d le. elim (with_from t.firsts.keys slab l n) [
-          | inl e ↦
-              let at : l.major ≡ first = ap (λ (z : Key). z.major) e in
-              inr (elim (beside k d) [ inl h ↦ absurd (let one = some_pages in omega arith) | inr far ↦ omega arith ])
-          | inr o ↦ i.kept.apart k l d o le
-        ]) k m;
-    numbers = λ k l m n e. elim (with_from t.firsts.keys slab k m) [
-      | inl a ↦ elim (with_from t.firsts.keys slab l n) [ inl b ↦ a ∙ sym b | inr d ↦ absurd (other_number l d (sym e ∙ ap (λ (z : Key). z.minor) a)) ]
-      | inr d ↦ elim (with_from t.firsts.keys slab l n) [ inl b ↦ absurd (other_number k d (e ∙ ap (λ (z : Key). z.minor) b)) | inr o ↦ i.kept.numbers k l d o e ]
-    ];
+        (λ le. grind (arith, with_from t.firsts.keys slab l n, beside l, pages_of l, is, le))
+        (λ k d le. grind (arith, with_from t.firsts.keys slab l n, beside k d, some_pages, i.kept.apart k l d, le)) k m;
+    numbers = λ k l m n e. grind (arith, with_from t.firsts.keys slab k m, with_from t.firsts.keys slab l n, other_number k, other_number l, i.kept.numbers k l, e);
   }
 
   binned_added : (bins : List Key) → bins ≡ with_key t.bins.keys (bin_key bits.class (eqb (left_of bits) 0) slab) → IsBinned slots keys bins
@@ -223,14 +195,7 @@ module _ (t : Table) (i : IsTable t) (class first number : ℕ) (bits : Bits) (i
   free_added : AreFree rest keys (vec_len t.slots)
   free_added = record {
     in_slots = λ n m. i.free.in_slots n (subst (λ ns. Contains ns n) (sym free) (Contains-append_left rest (number ∷ []) n m));
-    unused = λ n k m o. elim (with_from t.firsts.keys slab k o) [
-      | inl e ↦ (λ f.
-          let some = count_some (λ x. eqb x n) rest n m (eq-eqb n n refl) in
-          let mine : bit (eqb number n) ≡ 1 = ap bit (eq-eqb number n (sym (ap (λ (z : Key). z.minor) e) ∙ f)) in
-          let most = count_rest n in
-          omega arith)
-      | inr d ↦ i.free.unused n k (subst (λ ns. Contains ns n) (sym free) (Contains-append_left rest (number ∷ []) n m)) d
-    ];
+    unused = λ n k m o f. grind (arith, nat_tests, with_from t.firsts.keys slab k o, count_some (λ x. eqb x n) rest n m (eq-eqb n n refl), count_rest n, i.free.unused n k (subst (λ ns. Contains ns n) (sym free) (Contains-append_left rest (number ∷ []) n m)), f);
     once = λ n. let most = count_rest n in omega arith;
   }
 
@@ -247,13 +212,7 @@ module _ (t : Table) (i : IsTable t) (class first number : ℕ) (bits : Bits) (i
   counts_added small c low =
       let was = i.counts c low in
       let all = class_count c in
-      dite (ℕ_discrete c class)
-      (λ e. let here : get_or (set t.counts class (get_or t.counts class 0 + 1)) c 0 ≡ get_or t.counts c 0 + 1 = ap (λ n. get_or (set t.counts class (get_or t.counts class 0 + 1)) n 0) e ∙ get_or-set_same t.counts class (get_or t.counts class 0 + 1) 0 (omega arith) ∙ ap (λ n. get_or t.counts n 0 + 1) (sym e) in
-      let one : bit (eqb class c) ≡ 1 = ap bit (eq-eqb class c (sym e)) in
-      omega arith)
-      (λ ne. let there = get_or-set_other t.counts class c (get_or t.counts class 0 + 1) 0 ne in
-      let none : bit (eqb class c) ≡ 0 = ap bit (false_from_ne_true _ (λ f. ne (sym (eqb-true _ _ f)))) in
-      omega arith)
+      omega (arith, counted_more t.counts class c (omega arith))
 
   pub table_added : (small : class < 36) → (u : Table) → u.firsts.keys ≡ keys → u.firsts.spare + 1 ≡ t.firsts.spare → IsAscending u.firsts.keys → u.slots.items ≡ slots → vec_len u.slots ≡ vec_len t.slots → u.free.items ≡ rest → vec_len u.free + 1 ≡ vec_len t.free → vec_capacity u.free ≡ vec_capacity t.free
       → u.counts ≡ set t.counts class (get_or t.counts class 0 + 1) → IsCharted slots keys u.chart → vec_len u.chart.firsts ≡ vec_len t.chart.firsts → u.bins.keys ≡ with_key t.bins.keys (bin_key bits.class (eqb (left_of bits) 0) slab) → u.bins.spare + 1 ≡ t.bins.spare → vec_len u.holders.codes ≡ vec_len t.holders.codes → IsTable u
@@ -265,10 +224,7 @@ module _ (t : Table) (i : IsTable t) (class first number : ℕ) (bits : Bits) (i
         kept = rw (items, firsts) kept_added;
         binned = rw (items, firsts) (binned_added u.bins.keys bins);
         charted = rw (items, firsts) charted;
-        in_slots = λ k m. elim (with_from t.firsts.keys slab k (subst (λ ks. Contains ks k) firsts m)) [
-          | inl e ↦ let at : k.minor ≡ number = ap (λ (z : Key). z.minor) e in let low = i.free.in_slots number was_free in omega arith
-          | inr d ↦ let low = i.in_slots k d in omega arith
-        ];
+        in_slots = λ k m. grind (arith, with_from t.firsts.keys slab k (subst (λ ks. Contains ks k) firsts m), i.free.in_slots number was_free, i.in_slots k, len);
         free = rw (free_items, firsts, len) free_added;
         classes = ap length counts ∙ length-set t.counts class (get_or t.counts class 0 + 1) ∙ i.classes;
         counts = rw (counts, items, firsts) (counts_added small);
@@ -372,7 +328,7 @@ few_slabs t i class small =
 
 -- a list without a number has it nowhere
 pub count_zero : (ns : List ℕ) (n : ℕ) → (Contains ns n → ⊥) → count_by (λ m. eqb m n) ns ≡ 0
-count_zero ns n none = count_none (λ m. eqb m n) ns (λ x m. false_from_ne_true _ (λ e. none (subst (Contains ns) (eqb-true _ _ e) m)))
+count_zero ns n none = count_none (λ m. eqb m n) ns (λ x m. grind (arith, nat_tests, none, m))
 
 module _ (t : Table) (i : IsTable t) (slab : Key) (there : Contains t.firsts.keys slab) where
   abbrev rest_keys : List Key
@@ -411,28 +367,14 @@ module _ (t : Table) (i : IsTable t) (slab : Key) (there : Contains t.firsts.key
 
   free_more : AreFree (t.free.items ++ slab.minor ∷ []) rest_keys (vec_len t.slots)
   free_more = record {
-    in_slots = λ n m. elim (Contains-push_cases t.free.items slab.minor n m) [
-      | inl d ↦ i.free.in_slots n d
-      | inr e ↦ let low = i.in_slots slab there in omega arith
-    ];
-    unused = λ n k m o f.
-        let p = without_from t.firsts.keys slab k o in
-        elim (Contains-push_cases t.free.items slab.minor n m) [
-          | inl d ↦ i.free.unused n k d p.0 f
-          | inr e ↦ p.1 (i.kept.numbers k slab p.0 there (f ∙ sym e))
-        ];
+    in_slots = λ n m. grind (arith, Contains-push_cases t.free.items slab.minor n m, i.free.in_slots n, i.in_slots slab there);
+    unused = λ n k m o f. let p = without_from t.firsts.keys slab k o in grind (arith, Contains-push_cases t.free.items slab.minor n m, i.free.unused n k, i.kept.numbers k slab p.0 there, p.0, p.1, f);
     once = λ n.
         let whole = sum_by-append (λ m. bit (eqb m n)) t.free.items (slab.minor ∷ []) in
         let one = sum_by-cons (λ m. bit (eqb m n)) slab.minor [] in
         let most = i.free.once n in
-        elim (cases_Bool (eqb slab.minor n)) [
-          | inl e ↦
-              let is = eqb-true slab.minor n e in
-              let none = count_zero t.free.items n (λ m. i.free.unused n slab m there is) in
-              let bits : bit (eqb slab.minor n) ≡ 1 = ap bit e in
-              omega arith
-          | inr f ↦ let bits : bit (eqb slab.minor n) ≡ 0 = ap bit f in omega arith
-        ];
+        let none = λ (is : slab.minor ≡ n). count_zero t.free.items n (λ m. i.free.unused n slab m there is) in
+        grind (arith, nat_tests, whole, one, most, none);
   }
 
   abbrev class_of_slab : ℕ
@@ -458,16 +400,9 @@ module _ (t : Table) (i : IsTable t) (slab : Key) (there : Contains t.firsts.key
   counts_less c low =
       let was = i.counts c low in
       let all = class_fewer c in
-      let class = class_of_slab in
       let small = (i.kept.slab slab there).small in
-      let value = get_or t.counts class 0 - 1 in
-      dite (ℕ_discrete c class)
-      (λ e. let here : get_or (set t.counts class value) c 0 ≡ get_or t.counts c 0 - 1 = ap (λ n. get_or (set t.counts class value) n 0) e ∙ get_or-set_same t.counts class value 0 (omega arith) ∙ ap (λ n. get_or t.counts n 0 - 1) (sym e) in
-      let one : bit (eqb class c) ≡ 1 = ap bit (eq-eqb class c (sym e)) in
-      omega arith)
-      (λ ne. let other = get_or-set_other t.counts class c value 0 ne in
-      let none : bit (eqb class c) ≡ 0 = ap bit (false_from_ne_true _ (λ f. ne (sym (eqb-true _ _ f)))) in
-      omega arith)
+      let some = some_count in
+      omega (arith, counted_less t.counts class_of_slab c (omega arith))
 
   pub fewer_keys : length rest_keys + 1 ≡ length t.firsts.keys
   fewer_keys = length_without t.firsts.keys slab i.ascending there

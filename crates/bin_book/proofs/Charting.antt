@@ -1,10 +1,10 @@
 -- The pages of a slab get its number.
-use Rattle.std.proofs.Common.{Bool, leb, ◌≡◌, ℕ, ◌+◌, ◌-◌, ◌/◌, ◌<◌, ◌≤◌, true, false, if◌then◌else◌, cond, eqb, ◌||◌, ◌⊎◌, inl, inr, Some, None, refl, sym, ap, ◌∙◌, subst, arith, nat_cmp}
+use Rattle.std.proofs.Common.{Bool, leb, ◌≡◌, ℕ, ◌+◌, ◌-◌, ◌/◌, ◌<◌, ◌≤◌, true, false, if◌then◌else◌, cond, eqb, ◌||◌, ◌⊎◌, Some, None, refl, ap, ◌∙◌, arith, nat_cmp}
 use Rattle.std.specs.Cmp.{nat_cmp_total, unsigned_tied}
 use Rattle.std.specs.FinMap as map_of
 use Rattle.std.specs.FinSet as set_of
 use Rattle.std.proofs.lemmas.Bool.Decides.{nat_tests}
-use Rattle.std.proofs.lemmas.Bool.{cases_Bool, cases_lt, leb-true, eq-eqb, eqb-true}
+use Rattle.std.proofs.lemmas.Bool.{leb-true, eq-eqb}
 use Rattle.size_classes.specs.Classes.{class_sizes, least_pages, pages_at}
 use Rattle.size_classes.proofs.Table.{at, passes_below}
 use Rattle.page_map.specs.Pages.{Pages}
@@ -18,12 +18,7 @@ abbrev pub AreOwn : (old new : map_of.FinMap nat_cmp ℕ) (first pages slab : �
 AreOwn old new first pages slab = (page n : ℕ) → map_of.get new page ≡ Some n → (HasPage first pages page × (slab ≡ n)) ⊎ (map_of.get old page ≡ Some n)
 
 pub own_set : (old m : map_of.FinMap nat_cmp ℕ) (first pages slab p : ℕ) → AreOwn old m first pages slab → HasPage first pages p → AreOwn old (map_of.insert m p slab) first pages slab
-own_set old m first pages slab p own has page n e = elim (cases_Bool (eqb page p)) [
-  | inl t ↦
-      let same : Some slab ≡ Some n = sym (get_set m p slab page ∙ ap (λ b. cond b (Some slab) (map_of.get m page)) t) ∙ e in
-      inl (subst (HasPage first pages) (sym (eqb-true page p t)) has, cc)
-  | inr f ↦ own page n (sym (get_set m p slab page ∙ ap (λ b. cond b (Some slab) (map_of.get m page)) f) ∙ e)
-]
+own_set old m first pages slab p own has page n e = grind (arith, nat_tests, get_set m p slab page, own page n, has, e)
 
 -- a page that is cleared has no number, and the others have theirs
 pub only_cleared : (m : map_of.FinMap nat_cmp ℕ) (p page n : ℕ) → map_of.get (map_of.remove m p) page ≡ Some n → map_of.get m page ≡ Some n
@@ -41,10 +36,7 @@ pub record HasRun (old new : Pages) (first slab page : ℕ) : Type 0 where
 
 -- three leaves are enough for a run of 512 pages
 pub some_leaf : (old new : Pages) (first slab page : ℕ) → HasRun old new first slab page → 2 < old.spare → page < first + 512 → 0 < new.spare
-some_leaf old new first slab page run some inside = elim (cases_lt first page) [
-  | inl l ↦ let most = run.leaves l in omega arith
-  | inr g ↦ let same = run.none_yet g in omega arith
-]
+some_leaf old new first slab page run some inside = grind (arith, run.leaves, run.none_yet)
 
 pub longer_run : (old new next : Pages) (first slab page : ℕ) → HasRun old new first slab page → first ≤ page → 0 < new.spare → next.numbers ≡ map_of.insert new.numbers page slab → next.chunks ≡ set_of.insert new.chunks (page / 512)
     → next.spare ≡ (if set_of.contains new.chunks (page / 512) then new.spare else new.spare - 1) → HasRun old next first slab (page + 1)
@@ -52,27 +44,7 @@ longer_run old new next first slab page run from some numbers chunks spare = rec
   numbers = λ p low l. ap (λ m. map_of.get m p) numbers ∙ get_set new.numbers page slab p ∙ by p low (eqb p page) refl l;
   none_yet = λ l. absurd (omega arith);
   leaf = λ l. let at : page + 1 - 1 ≡ page = omega arith in ap (λ s. set_of.contains s ((page + 1 - 1) / 512)) chunks ∙ ap (λ p. set_of.contains (set_of.insert new.chunks (page / 512)) (p / 512)) at ∙ contains_new new.chunks (page / 512);
-  leaves = λ l. elim (cases_Bool (set_of.contains new.chunks (page / 512))) [
-    | inl t ↦
-        let kept : next.spare ≡ new.spare = spare ∙ ap (λ b. if b then new.spare else new.spare - 1) t in
-        elim (cases_lt first page) [
-          | inl above ↦ let most = run.leaves above in omega arith
-          | inr g ↦ let same = run.none_yet g in omega arith
-        ]
-    | inr f ↦
-        let less : next.spare ≡ new.spare - 1 = spare ∙ ap (λ b. if b then new.spare else new.spare - 1) f in
-        elim (cases_lt first page) [
-          | inl above ↦
-              let most = run.leaves above in
-              elim (cases_lt ((page - 1) / 512) (page / 512)) [
-                | inl next_chunk ↦ omega arith
-                | inr same_chunk ↦
-                    let is : (page - 1) / 512 ≡ page / 512 = omega arith in
-                    absurd (let no : true ≡ false = sym (run.leaf above) ∙ ap (set_of.contains new.chunks) is ∙ f in cc)
-              ]
-          | inr g ↦ let same = run.none_yet g in omega arith
-        ]
-  ];
+  leaves = λ l. grind (arith, spare, run.leaves, run.none_yet, run.leaf);
 }
   where
     by : (p : ℕ) → first ≤ p → (b : Bool) → eqb p page ≡ b → p < page + 1 → cond b (Some slab) (map_of.get new.numbers p) ≡ Some slab

@@ -3,7 +3,8 @@ use Rattle.std.proofs.Common.{nat_cmp, append-nil, append_assoc, ◌≡◌, ℕ,
 use Rattle.std.specs.FinMap as map_of
 use Rattle.std.specs.List.{range_with_len}
 use Rattle.std.specs.List.Sorted.{IsStrictlySortedBy}
-use Rattle.std.proofs.lemmas.Bool.{cases_Bool, cases_lt, eqb-true}
+use Rattle.std.proofs.lemmas.Bool.{cases_lt}
+use Rattle.std.proofs.lemmas.Bool.Decides.{nat_tests}
 use Rattle.std.proofs.lemmas.List.{get_or_append_left}
 use Rattle.std.proofs.lemmas.List.Elements.{Contains-append_cases}
 use Rattle.std.proofs.lemmas.List.Sums.{sum_by-append, sum_by-cons}
@@ -24,8 +25,8 @@ use Rattle.bin_book.proofs.Adding.{count_zero}
 
 -- one more number of a range
 pub range_more : (a n : ℕ) → range_with_len a (suc n) ≡ range_with_len a n ++ (a + n) ∷ []
-range_more a zero = let same : a ≡ a + 0 = omega arith in ap (λ x. x ∷ []) same
-range_more a (suc n) = let same : a + 1 + n ≡ a + suc n = omega arith in λ k. a ∷ (range_more (a + 1) n ∙ ap (λ x. range_with_len (a + 1) n ++ x ∷ []) same) k
+range_more a zero = grind arith
+range_more a (suc n) = grind (arith, range_more (a + 1) n)
 
 pub numbers_more : (old free new : List ℕ) (a number m : ℕ) → a ≤ number → m ≡ number → free ≡ old ++ range_with_len a (number - a) → new ≡ free ++ m ∷ [] → new ≡ old ++ range_with_len a (number + 1 - a)
 numbers_more old free new a number m le is e f =
@@ -42,12 +43,7 @@ count_low a n m l = count_zero (range_with_len a n) m (λ k. let r = range_from 
 
 count_range : (a n m : ℕ) → count_by (λ x. eqb x m) (range_with_len a n) ≤ 1
 count_range a zero m = omega arith
-count_range a (suc n) m =
-    let one = sum_by-cons (λ x. bit (eqb x m)) a (range_with_len (a + 1) n) in
-    elim (cases_Bool (eqb a m)) [
-      | inl e ↦ let is = eqb-true a m e in let none = count_low (a + 1) n m (omega arith) in let here : bit (eqb a m) ≡ 1 = ap bit e in omega arith
-      | inr f ↦ let here : bit (eqb a m) ≡ 0 = ap bit f in let rest = count_range (a + 1) n m in omega arith
-    ]
+count_range a (suc n) m = grind (arith, nat_tests, sum_by-cons (λ x. bit (eqb x m)) a (range_with_len (a + 1) n), count_range (a + 1) n m, count_low (a + 1) n m)
 
 -- the regions of a table with more slots and codes
 pub regions_grown : (t : Table) → IsTable t → (slots : List Bits) (codes : List ℕ) (keys : List Key) → keys ≡ t.firsts.keys → ((n : ℕ) → n < vec_len t.slots → bits_at slots n ≡ bits_at t.slots.items n)
@@ -89,14 +85,8 @@ module _ (t u : Table) (i : IsTable t) (firsts : u.firsts.keys ≡ t.firsts.keys
 
   free_grown : (le : vec_len t.slots ≤ vec_len u.slots) → AreFree (t.free.items ++ range_with_len (vec_len t.slots) (vec_len u.slots - vec_len t.slots)) t.firsts.keys (vec_len u.slots)
   free_grown le = record {
-    in_slots = λ n m. elim (Contains-append_cases t.free.items _ n m) [
-      | inl d ↦ let low = i.free.in_slots n d in omega arith
-      | inr d ↦ let r = range_from (vec_len t.slots) (vec_len u.slots - vec_len t.slots) n d in let low = r.1 in omega arith
-    ];
-    unused = λ n k m o. elim (Contains-append_cases t.free.items _ n m) [
-      | inl d ↦ i.free.unused n k d o
-      | inr d ↦ let r = range_from (vec_len t.slots) (vec_len u.slots - vec_len t.slots) n d in let low = r.0 in let mine = i.in_slots k o in (λ e. omega arith)
-    ];
+    in_slots = λ n m. grind (arith, Contains-append_cases t.free.items _ n m, i.free.in_slots n, range_from (vec_len t.slots) (vec_len u.slots - vec_len t.slots) n);
+    unused = λ n k m o. grind (arith, Contains-append_cases t.free.items _ n m, i.free.unused n k, range_from (vec_len t.slots) (vec_len u.slots - vec_len t.slots) n, i.in_slots k o);
     once = λ n.
         let whole = sum_by-append (λ m. bit (eqb m n)) t.free.items (range_with_len (vec_len t.slots) (vec_len u.slots - vec_len t.slots)) in
         let few = i.free.once n in

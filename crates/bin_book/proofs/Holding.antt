@@ -1,11 +1,11 @@
 -- Which slab has an address, and the region that begins there, or none.
-use Rattle.std.proofs.Common.{Option, IfNone, IfSome, ◌≡◌, ℕ, ◌+◌, ◌-◌, ◌*◌, ◌/◌, ◌%◌, ◌<◌, ◌≤◌, Bool, true, false, not, ◌&&◌, eqb, ltb, List, length, map, filter, get_or, Some, None, ◌⊎◌, inl, inr, refl, sym, ap, ◌∙◌, subst, arith, Contains, is_lt, vec_len, find}
+use Rattle.std.proofs.Common.{Option, IfNone, IfSome, ◌≡◌, ℕ, ◌+◌, ◌-◌, ◌*◌, ◌/◌, ◌%◌, ◌<◌, ◌≤◌, true, false, ◌&&◌, eqb, ltb, List, length, map, filter, get_or, Some, None, ◌⊎◌, inl, inr, refl, sym, ap, ◌∙◌, subst, arith, Contains, is_lt, vec_len, find}
 use Rattle.std.specs.FinMap as map_of
 use Rattle.std.specs.Option.{option_map}
 use Rattle.std.specs.List.{list_any, range_with_len}
 use Rattle.std.proofs.lemmas.Nat.{div-add-mod'}
 use Rattle.std.proofs.Math.Nat.{mul-div_cancel, mul-mod_left}
-use Rattle.std.proofs.lemmas.Bool.{cases_Bool, cases_lt, eq-eqb, eqb-true, false_from_ne_true}
+use Rattle.std.proofs.lemmas.Bool.{cases_Bool, eq-eqb, eqb-true, false_from_ne_true}
 use Rattle.std.proofs.lemmas.Bool.Decides.{nat_tests}
 use Rattle.std.proofs.lemmas.List.Kept.{IsStrictlySortedBy-filter}
 use Rattle.std.proofs.lemmas.Option.{get_or_from_slice_get, slice_get-get_or, slice_get_within}
@@ -30,7 +30,7 @@ below_page : (k : Key) (page : ℕ) → k.major < page → is_below (start page)
 below_page k page l = ap is_lt (less_from_parts k (start page) (inl l))
 
 page_below : (k : Key) (page : ℕ) → is_below (start page) k ≡ true → k.major < page
-page_below k page t = elim (less_parts k (start page) (less_from_lt _ t)) [ inl l ↦ l | inr p ↦ absurd (let l = p.1 in omega arith) ]
+page_below k page t = grind (arith, less_parts k (start page) (less_from_lt _ t))
 
 pub last_below : (keys : List Key) (page : ℕ) (key : Key) → IsAscending keys → last_of (filter (is_below (start page)) keys) ≡ Some key → IsLastBelow keys page key
 last_below keys page key ascending e =
@@ -43,10 +43,7 @@ last_below keys page key ascending e =
     }
 
 pub none_below : (keys : List Key) (page : ℕ) → last_of (filter (is_below (start page)) keys) ≡ None → (k : Key) → Contains keys k → page ≤ k.major
-none_below keys page e k m = elim (cases_lt k.major page) [
-  | inl l ↦ absurd (no_last (filter (is_below (start page)) keys) k e (filter_has (is_below (start page)) keys k m (below_page k page l)))
-  | inr g ↦ g
-]
+none_below keys page e k m = grind (arith, no_last (filter (is_below (start page)) keys) k e, filter_has (is_below (start page)) keys k m, below_page k page)
   where
     no_last : (ks : List Key) (k : Key) → last_of ks ≡ None → Contains ks k → ⊥
     no_last ks k e (i, l, is) =
@@ -68,10 +65,7 @@ module _ (t : Table) (i : IsTable t) where
 
   -- a slab that begins below the last one that begins below a page ends where that one begins, or before
   pub before_last : (page : ℕ) (key : Key) → IsLastBelow t.firsts.keys page key → (k : Key) → Contains t.firsts.keys k → (k ≡ key) ⊎ ((k.major + pages_at (bits_at t.slots.items k.minor).class ≤ key.major) ⊎ (page ≤ k.major))
-  before_last page key last k m = elim (cases_lt k.major page) [
-    | inl l ↦ elim (i.kept.apart k key m last.there (last.last k m l)) [ inl e ↦ inl e | inr far ↦ inr (inl far) ]
-    | inr g ↦ inr (inr g)
-  ]
+  before_last page key last k m = grind (arith, i.kept.apart k key m last.there, last.last k m)
 
   -- a page has a number only where a slab has the page, which is the last one that begins there or below
   pub charted_last : (page number : ℕ) → map_of.get t.chart.pages.numbers page ≡ Some number → IsLastBelow t.firsts.keys (page + 1) (record { major = get_or t.chart.firsts.items number 0; minor = number })
@@ -85,13 +79,7 @@ module _ (t : Table) (i : IsTable t) where
       subst (IsLastBelow t.firsts.keys (page + 1)) same (record {
         there = there;
         below = omega (arith, has.0);
-        last = λ k m l. elim (cases_lt key.major k.major) [
-          | inl above ↦ elim (i.kept.apart key k there m (omega arith)) [
-            | inl e ↦ let at : key.major ≡ k.major = ap (λ (z : Key). z.major) e in omega arith
-            | inr far ↦ let low = has.1 in absurd (omega arith)
-          ]
-          | inr low ↦ low
-        ];
+        last = λ k m l. grind (arith, i.kept.apart key k there m, has.1, l);
       })
 
   pub charted_found : (page : ℕ) (key : Key) → option_map (λ number. record { major = get_or t.chart.firsts.items number 0; minor = number }) (map_of.get t.chart.pages.numbers page) ≡ Some key → IsLastBelow t.firsts.keys (page + 1) key
@@ -117,13 +105,7 @@ module _ (t : Table) (i : IsTable t) where
       let below : ltb key.major end ≡ true = (let l = last.below in grind (arith, nat_tests)) in
       sym (elim (cases_Bool (ltb first (key.major + pages_at (bits_at t.slots.items key.minor).class))) [
         | inl y ↦ any_has p (map (slab_at t.slots.items) t.firsts.keys) (slab_at t.slots.items key) (map_has (slab_at t.slots.items) t.firsts.keys key last.there) (rw (below, y) refl) ∙ sym y
-        | inr n ↦ any_map (slab_at t.slots.items) p t.firsts.keys ∙ any_none (λ k. p (slab_at t.slots.items k)) t.firsts.keys (λ k m. elim (before_last end key last k m) [
-          | inl e ↦ ap (λ (z : Key). p (slab_at t.slots.items z)) e ∙ rw (below, n) refl
-          | inr o ↦ elim o [
-            | inl far ↦ let pages = pages_of key last.there in grind (arith, nat_tests)
-            | inr far ↦ grind (arith, nat_tests)
-          ]
-        ]) ∙ sym n
+        | inr n ↦ any_map (slab_at t.slots.items) p t.firsts.keys ∙ any_none (λ k. p (slab_at t.slots.items k)) t.firsts.keys (λ k m. grind (arith, nat_tests, before_last end key last k m, below, n, pages_of key last.there)) ∙ sym n
       ])
 
   pub meets_none : (first end : ℕ) → ((k : Key) → Contains t.firsts.keys k → end ≤ k.major) → false ≡ list_any (λ s. ltb s.first end && ltb first (s.first + pages_at s.class)) (slabs_in t)
@@ -190,10 +172,7 @@ module _ (t : Table) (i : IsTable t) where
       let inside = place_inside b.class k.major n small low in
       let size = (size_bounds b.class (omega arith)).0 in
       let below = last.below in
-      elim (before_last (addr / 4096 + 1) key last k o.there) [
-        | inl e ↦ e
-        | inr far ↦ absurd (elim far [ inl f ↦ omega arith | inr f ↦ omega arith ])
-      ]
+      grind (arith, before_last (addr / 4096 + 1) key last k o.there, at, inside, size, below)
 
   -- where it has none out there, none is
   pub none_out : (class addr : ℕ) → ((k : Key) (n : ℕ) → IsOutAt t class addr k n → ⊥) → false ≡ list_any (is_out class addr) (slabs_in t)

@@ -1,10 +1,11 @@
 -- The places of a slab with their addresses, and slabs under their keys, as bits are written.
-use Rattle.std.proofs.Common.{◌≡◌, ℕ, ◌+◌, ◌-◌, ◌*◌, ◌<◌, ◌≤◌, zero, suc, Bool, true, false, not, ◌&&◌, ◌||◌, eqb, List, [], ◌∷◌, length, map, filter, get_or, set, count_by, position, Some, inl, inr, refl, sym, ap, ◌∙◌, arith, ◌≢◌, ◌^◌, ◌⊎◌, subst, Contains, Ordering, Less, Equal, Greater}
+use Rattle.std.proofs.Common.{◌≡◌, ℕ, ◌+◌, ◌-◌, ◌*◌, ◌<◌, ◌≤◌, zero, suc, Bool, true, false, not, ◌&&◌, ◌||◌, eqb, List, [], ◌∷◌, length, map, filter, get_or, set, count_by, position, Some, inl, inr, refl, sym, ap, ◌∙◌, arith, ◌≢◌, ◌^◌, ◌⊎◌, subst, Contains}
 use mathlib.Core.Logic.{dite}
 use native.Mathlib.Decide.{ℕ_discrete}
 use Rattle.std.specs.List.{range_with_len}
 use Rattle.std.proofs.Math.Nat.{mul-le-mul_right}
-use Rattle.std.proofs.lemmas.Bool.{cases_Bool, cases_lt, eq-eqb, eqb-true, false_from_ne_true}
+use Rattle.std.proofs.lemmas.Bool.{cases_Bool, cases_eq, eq-eqb, eqb-true, false_from_ne_true}
+use Rattle.std.proofs.lemmas.Grind.{get_or-set_at}
 use Rattle.std.proofs.lemmas.List.{get_or-set_other, get_or-set_same}
 use Rattle.std.proofs.lemmas.List.Quantifiers.{position-Some}
 use Rattle.std.proofs.lemmas.List.Sums.{length-filter, sum_by-cons}
@@ -17,7 +18,7 @@ use Rattle.list_facts.proofs.Members.{any_has, any_none, bit, filter_both, filte
 use Rattle.std.proofs.lemmas.Cmp.{tied_itself}
 use Rattle.slab_bits.specs.Slabs.{Slab as Bits}
 use Rattle.ordered_set.specs.declared.key.Key.{Key}
-use Rattle.ordered_set.specs.Keys.{key_cmp, with_key, without_key}
+use Rattle.ordered_set.specs.Keys.{with_key, without_key}
 use Rattle.ordered_set.proofs.KeyOrder.{key_tie, key_total}
 use Rattle.bin_book.specs.declared.chart.Chart.{Chart}
 use Rattle.bin_book.specs.Charts.{HasPage}
@@ -28,14 +29,10 @@ use Rattle.bin_book.specs.Charts.{HasPage}
 first_one : (bits : List Bool) (i start n : ℕ) → start ≤ i → i < start + n → i < length bits → get_or bits i false ≡ true → ((k : ℕ) → k < i → get_or bits k false ≡ false)
     → filter (λ j. get_or bits j false) (range_with_len start n) ≡ i ∷ filter (λ j. get_or (set bits i false) j false) (range_with_len start n)
 first_one bits i start zero low high inside here before = absurd (omega arith)
-first_one bits i start (suc n) low high inside here before = dite (ℕ_discrete start i)
-    (λ is. let t : get_or bits start false ≡ true = ap (λ j. get_or bits j false) is ∙ here in
-    let f : get_or (set bits i false) start false ≡ false = ap (λ j. get_or (set bits i false) j false) is ∙ get_or-set_same bits i false false inside in
-    let rest = filter_same (λ j. get_or bits j false) (λ j. get_or (set bits i false) j false) (range_with_len (start + 1) n) (λ j m. let r = range_from (start + 1) n j m in sym (get_or-set_other bits i j false false (λ e. let a = r.0 in omega arith))) in
-    rw (t, f) (λ k. is k ∷ rest k))
-    (λ other. let f = before start (omega arith) in
-    let g : get_or (set bits i false) start false ≡ false = get_or-set_other bits i start false false other ∙ f in
-    rw (f, g) (first_one bits i (start + 1) n (omega arith) (omega arith) inside here before))
+first_one bits i start (suc n) low high inside here before =
+    let rest = λ (is : start ≡ i). filter_same (λ j. get_or bits j false) (λ j. get_or (set bits i false) j false) (range_with_len (start + 1) n)
+    (λ j m. let r = range_from (start + 1) n j m in sym (get_or-set_other bits i j false false (λ e. let a = r.0 in omega arith))) in
+    grind (arith, get_or-set_at, get_or-set_other, cases_eq start i, here, before start, rest, first_one bits i (start + 1) n)
 
 pub lowest_one : (bits : List Bool) (i n : ℕ) → position (λ b. b) bits ≡ Some i → i < n → ones n bits ≡ i ∷ ones n (set bits i false)
 lowest_one bits i n e low = let p = position-Some (λ b. b) bits i false e in first_one bits i 0 n (omega arith) (omega arith) p.0 p.1 p.2
@@ -44,19 +41,11 @@ lowest_one bits i n e low = let p = position-Some (λ b. b) bits i false e in fi
 count_range : (bits : List Bool) (f : ℕ → Bool) (start n : ℕ) → ((i : ℕ) → f (start + i) ≡ get_or bits i false) → ((i : ℕ) → n ≤ i → get_or bits i false ≡ false) → count_by f (range_with_len start n) ≡ count_by (λ b. b) bits
 count_range [] f start zero same behind = refl
 count_range [] f start (suc n) same behind =
-    let here : bit (f start) ≡ 0 = ap (λ j. bit (f j)) (omega arith) ∙ ap bit (same 0) in
-    omega (arith, sum_by-cons (λ j. bit (f j)) start (range_with_len (start + 1) n), count_range [] f (start + 1) n (λ i. ap f (omega arith) ∙ same (i + 1)) (λ i l. refl))
+    grind (arith, sum_by-cons (λ j. bit (f j)) start (range_with_len (start + 1) n), count_range [] f (start + 1) n (λ i. ap f (omega arith) ∙ same (i + 1)) (λ i l. refl), same 0)
 count_range (b ∷ bits) f start zero same behind =
-    let here : bit b ≡ 0 = ap bit (behind 0 (omega arith)) in
-    omega (arith, sum_by-cons (λ b. bit b) b bits, count_range bits (λ i. get_or bits (i - (start + 1)) false) (start + 1) zero (λ i. ap (λ j. get_or bits j false) (omega arith)) (λ i l. behind (suc i) (omega arith)))
+    grind (arith, behind 0 (omega arith), sum_by-cons (λ b. bit b) b bits, count_range bits (λ i. get_or bits (i - (start + 1)) false) (start + 1) zero (λ i. ap (λ j. get_or bits j false) (omega arith)) (λ i l. behind (suc i) (omega arith)))
 count_range (b ∷ bits) f start (suc n) same behind =
-    let here : bit (f start) ≡ bit b = ap (λ j. bit (f j)) (omega arith) ∙ ap bit (same 0) in
-    omega (
-      arith,
-      sum_by-cons (λ j. bit (f j)) start (range_with_len (start + 1) n),
-      sum_by-cons (λ b. bit b) b bits,
-      count_range bits f (start + 1) n (λ i. ap f (omega arith) ∙ same (suc i)) (λ i l. behind (suc i) (omega arith)),
-    )
+    grind (arith, sum_by-cons (λ j. bit (f j)) start (range_with_len (start + 1) n), sum_by-cons (λ b. bit b) b bits, count_range bits f (start + 1) n (λ i. ap f (omega arith) ∙ same (suc i)) (λ i l. behind (suc i) (omega arith)), same 0)
 
 pub length_ones : (bits : List Bool) (n : ℕ) → ((i : ℕ) → n ≤ i → get_or bits i false ≡ false) → length (ones n bits) ≡ count_by (λ b. b) bits
 length_ones bits n behind = length-filter (λ i. get_or bits i false) (range_with_len 0 n) ∙ count_range bits (λ i. get_or bits i false) 0 n (λ i. ap (λ j. get_or bits j false) (omega arith)) behind
@@ -65,15 +54,7 @@ length_ones bits n behind = length-filter (λ i. get_or bits i false) (range_wit
 
 -- two places of a slab have two addresses
 pub same_place : (class first i j : ℕ) → class < 36 → place class first i ≡ place class first j → i ≡ j
-same_place class first i j small e =
-    let size = (size_bounds class (omega arith)).0 in
-    elim (cases_lt i j) [
-      | inl l ↦ absurd (let more : (i + 1) * size_at class ≤ j * size_at class = mul-le-mul_right (size_at class) (omega arith) in omega arith)
-      | inr g ↦ elim (cases_lt j i) [
-        | inl l ↦ absurd (let more : (j + 1) * size_at class ≤ i * size_at class = mul-le-mul_right (size_at class) (omega arith) in omega arith)
-        | inr h ↦ omega arith
-      ]
-    ]
+same_place class first i j small e = grind (arith, mul-le-mul_right, size_bounds class (omega arith), e)
 
 -- a region lies in the pages of its slab
 pub place_inside : (class first i : ℕ) → class < 36 → i < regions_at class → place class first i + size_at class ≤ 4096 * (first + pages_at class)
@@ -133,15 +114,7 @@ run_ones bits start (suc n) out low high before behind = dite (ℕ_discrete star
 
 -- whether two keys are the same
 pub key_cases : (a b : Key) → (a ≡ b) ⊎ (a ≢ b)
-key_cases a b = by (key_cmp a b) refl
-  where
-    itself : a ≡ b → key_cmp a b ≡ Equal
-    itself e = subst (λ z. key_cmp a z ≡ Equal) e (tied_itself key_total a)
-
-    by : (r : Ordering) → key_cmp a b ≡ r → (a ≡ b) ⊎ (a ≢ b)
-    by Less e = inr (λ s. let t = itself s in cc)
-    by Equal e = inl (key_tie a b e)
-    by Greater e = inr (λ s. let t = itself s in cc)
+key_cases a b = grind (arith, key_tie a b, tied_itself key_total a)
 
 -- a key in place of another one
 pub moved : (old mid new : List Key) (was now : Key) → mid ≡ without_key old was → new ≡ with_key mid now → IsMoved old new was now
@@ -182,17 +155,13 @@ bits_there slots n m b ne = get_or-set_other slots n m b no_bits ne
 pub one_place : (slots : List Bits) (keys : List Key) → IsKept slots keys → (k l : Key) → Contains keys k → Contains keys l → (i j : ℕ) → i < regions_at (bits_at slots k.minor).class → j < regions_at (bits_at slots l.minor).class
     → place (bits_at slots k.minor).class k.major i ≡ place (bits_at slots l.minor).class l.major j → (k ≡ l) × (i ≡ j)
 one_place slots keys kept k l m n i j inside within e =
-    elim (cases_lt l.major k.major) [
-      | inl lt ↦ elim (kept.apart l k n m (omega arith)) [
-        | inl s ↦ same (sym s)
-        | inr far ↦ absurd (let low = place_inside (bits_at slots l.minor).class l.major j (kept.slab l n).small within in let size = (size_bounds (bits_at slots l.minor).class (let s = (kept.slab l n).small in omega arith)).0 in omega arith)
-      ]
-      | inr ge ↦ elim (kept.apart k l m n ge) [
-        | inl s ↦ same s
-        | inr far ↦ absurd (let low = place_inside (bits_at slots k.minor).class k.major i (kept.slab k m).small inside in let size = (size_bounds (bits_at slots k.minor).class (let s = (kept.slab k m).small in omega arith)).0 in omega arith)
-      ]
-    ]
+    let low = place_inside (bits_at slots l.minor).class l.major j (kept.slab l n).small within in
+    let high = place_inside (bits_at slots k.minor).class k.major i (kept.slab k m).small inside in
+    same (grind (arith, kept.apart l k n m, kept.apart k l m n, low, high, some_size k m, some_size l n, e))
   where
+    some_size : (k : Key) → Contains keys k → 0 < size_at (bits_at slots k.minor).class
+    some_size k m = let s = (kept.slab k m).small in let size = (size_bounds (bits_at slots k.minor).class (omega arith)).0 in omega arith
+
     same : k ≡ l → (k ≡ l) × (i ≡ j)
     same s =
         let c = (bits_at slots k.minor).class in

@@ -1,10 +1,9 @@
 -- The regions that are out, by address, and some that land among others.
-use Rattle.std.proofs.Common.{◌≡◌, ◌≢◌, ℕ, ◌+◌, ◌*◌, ◌<◌, ◌≤◌, zero, suc, Bool, true, false, not, eqb, List, [], ◌∷◌, ◌++◌, map, filter, find, get_or, Option, Some, None, inl, inr, refl, sym, ap, ◌∙◌, subst, arith, Contains, Less, ◌⊎◌}
+use Rattle.std.proofs.Common.{◌≡◌, ℕ, ◌+◌, ◌*◌, ◌<◌, ◌≤◌, zero, suc, Bool, true, false, not, List, [], ◌∷◌, ◌++◌, map, filter, find, get_or, Option, Some, None, inl, inr, refl, sym, ap, ◌∙◌, subst, arith, Contains, Less, ◌⊎◌}
 use Rattle.std.specs.List.{flat_map, list_any, range_with_len}
 use Rattle.std.specs.List.Sorted.{IsStrictlySortedBy}
 use Rattle.std.proofs.Math.Nat.{mul-le-mul_right}
-use Rattle.std.proofs.lemmas.Bool.{cases_Bool, eq-eqb, eqb-true, false_from_ne_true}
-use Rattle.std.proofs.lemmas.Bool.Decides.{nat_tests}
+use Rattle.std.proofs.lemmas.Bool.{cases_Bool, eq-eqb}
 use Rattle.std.proofs.lemmas.List.Elements.{Contains-append_cases, Contains-append_left, Contains-append_right}
 use Rattle.size_classes.specs.Classes.{regions_at, size_at}
 use Rattle.size_classes.proofs.Table.{size_bounds}
@@ -13,7 +12,7 @@ use Rattle.space_model.specs.Region.{starts_at, landing, region_of}
 use Rattle.slab_bits.specs.Slabs.{Slab as Bits}
 use Rattle.ordered_set.specs.declared.key.Key.{Key}
 use Rattle.ordered_set.specs.Keys.{IsAscending, key_cmp}
-use Rattle.ordered_set.proofs.Members.{contains_cases, contains_later, every_from, filter_from, filter_has}
+use Rattle.ordered_set.proofs.Members.{contains_cases, contains_later, filter_from, filter_has}
 use Rattle.ordered_set.proofs.Orders.{less_major}
 use Rattle.ordered_set.proofs.Sorted.{every_member}
 use Rattle.bin_book.specs.Bins.{addr_of, place}
@@ -21,7 +20,7 @@ use Rattle.bin_book.specs.Holders.{holder_at}
 use Rattle.bin_book.specs.Tables.{IsKept, bits_at, out_of, region_at, regions_of, zeros}
 use Rattle.list_facts.specs.ByKey.{IsRising, AreNew}
 use Rattle.list_facts.proofs.ByKey.{behind_members, not_found, rising_both, Landed, found_member, lands, member_found, rising_distinct}
-use Rattle.list_facts.proofs.Members.{any_has, found, head, map_from, map_has, map_same, range_from, range_has}
+use Rattle.list_facts.proofs.Members.{any_has, head, map_from, map_has, map_same, range_from, range_has}
 use Rattle.bin_book.proofs.Taking.{less_ne}
 use Rattle.bin_book.proofs.Places.{place_inside}
 use Rattle.std.specs.Option.{option_or}
@@ -105,10 +104,7 @@ module _ (slots : List Bits) (codes : List ℕ) where
       let at' : place (bits_at slots q.0.minor).class q.0.major q.1 ≡ y.addr = ap (λ (r : Region). r.addr) q.2.is in
       let inside = place_inside b.class k.major p.0 small p.1.low in
       let size = (size_bounds b.class (omega arith)).0 in
-      elim (kept.apart k q.0 (head k ks) (contains_later k ks q.0 q.2.there) (less_major k q.0 less)) [
-        | inl e ↦ absurd (less_ne k q.0 less e)
-        | inr far ↦ omega arith
-      ])
+      grind (arith, kept.apart k q.0 (head k ks) (contains_later k ks q.0 q.2.there) (less_major k q.0 less), less_ne k q.0 less, at, at', inside, size))
 
 -- no slabs have no regions
 pub no_regions : (slots : List Bits) (codes : List ℕ) (keys : List Key) → keys ≡ [] → regions_of slots codes keys ≡ []

@@ -1,10 +1,11 @@
 -- The lowest slab with a free region, a region that is taken out of it or put back, and a slab that leaves.
-use Rattle.std.proofs.Common.{◌≡◌, ◌≢◌, ℕ, ◌+◌, ◌*◌, ◌^◌, ◌<◌, zero, Bool, true, false, eqb, List, [], ◌∷◌, ◌++◌, length, length-append, map, find, get_or, Option, Some, None, ◌⊎◌, inl, inr, refl, sym, ap, ◌∙◌, subst, arith, Contains, Less, Equal, vec_len, is_some, IfNone, IfSome, ◌≤◌, suc, ◌&&◌, ltb, length-set, set, count_by, position, vec_capacity, IsSome, not, filter, is_eq}
+use Rattle.std.proofs.Common.{◌≡◌, ◌≢◌, ℕ, ◌+◌, ◌*◌, ◌^◌, ◌<◌, Bool, true, false, eqb, List, [], ◌∷◌, ◌++◌, length, length-append, map, find, get_or, Option, Some, None, ◌⊎◌, inl, inr, refl, sym, ap, ◌∙◌, subst, arith, Contains, Less, Equal, vec_len, is_some, IfNone, IfSome, ◌≤◌, suc, ltb, length-set, set, count_by, position, vec_capacity, IsSome, not, filter, is_eq}
 use Rattle.std.specs.List.Sorted.{IsStrictlySortedBy}
-use Rattle.std.proofs.lemmas.Bool.{cases_Bool, cases_lt, eq-eqb, eqb-true, false_from_ne_true}
+use Rattle.std.proofs.lemmas.Bool.{cases_Bool, cases_eq, cases_lt, eq-eqb, eqb-true, false_from_ne_true}
+use Rattle.std.proofs.lemmas.Grind.{get_or-set_at}
 use Rattle.std.proofs.lemmas.Bool.Decides.{nat_tests}
 use Rattle.std.proofs.lemmas.Cmp.{tied_itself}
-use Rattle.std.proofs.lemmas.List.{get_or_read_under, length-map, get_or-set_other, get_or-set_same}
+use Rattle.std.proofs.lemmas.List.{get_or_read_under, length-map, get_or-set_other}
 use Rattle.ordered_set.specs.declared.key.Key.{Key}
 use Rattle.ordered_set.specs.Keys.{IsAscending, is_from, key_cmp, KeySet, is_other, without_key}
 use Rattle.ordered_set.proofs.KeyOrder.{key_total}
@@ -18,8 +19,6 @@ use Rattle.bin_book.specs.Bins.{free_of, place, Slab, with_free, without, is_unu
 use Rattle.bin_book.specs.Tables.{IsLowestOpen, IsTable, bin_of, bits_at, left_of, no_bits, ones, slab_at, slabs_in, IsMoved, IsOutAt, IsSlabIn, bin_key, slab_of, slabs_without}
 use Rattle.list_facts.proofs.Members.{found, head, bit, map_both, map_same, any_has, any_map, any_none, filter_all_of, filter_map_is, filter_same, map_from, map_has}
 use Rattle.bin_book.proofs.Places.{length_ones, freed_slab, lowest_one, same_place, taken_slab, binned_changed, charted_changed, by_key, counts_stay, is_new, kept_changed, one_place, others_stay, key_cases}
-use mathlib.Core.Logic.{dite}
-use native.Mathlib.Decide.{ℕ_discrete}
 use Rattle.std.specs.List.{position_or_len, list_any}
 use Rattle.std.proofs.lemmas.List.Quantifiers.{position-Some}
 use Rattle.size_classes.proofs.Table.{pages_bounds, slab_filled}
@@ -33,21 +32,7 @@ less_ne a b l e = let same : key_cmp a b ≡ Equal = subst (λ z. key_cmp a z �
 pub least : (ks : List Key) (first y x : Key) → IsAscending ks → find (is_from first) ks ≡ Some y → Contains ks x → is_from first x ≡ true → (y ≡ x) ⊎ (key_cmp y x ≡ Less)
 unfolding IsStrictlySortedBy
 least [] first y x s e m t = absurd (omega arith)
-least (k ∷ ks) first y x s e m t = elim (cases_Bool (is_from first k)) [
-  | inl u ↦
-      let one : Some k ≡ Some y = rw u at e in
-      let same : k ≡ y = cc in
-      elim (contains_cases k ks x m) [
-        | inl h ↦ inl (sym same ∙ h)
-        | inr d ↦ inr (subst (λ z. key_cmp z x ≡ Less) same (every_member _ ks s.0 x d))
-      ]
-  | inr f ↦
-      let rest : find (is_from first) ks ≡ Some y = rw f at e in
-      elim (contains_cases k ks x m) [
-        | inl h ↦ absurd (let g : is_from first x ≡ false = ap (is_from first) (sym h) ∙ f in cc)
-        | inr d ↦ least ks first y x s.1 rest d t
-      ]
-]
+least (k ∷ ks) first y x s e m t = grind (arith, least ks first y x, every_member _ ks s.0 x, contains_cases k ks x m, e, t)
 
 -- slots that have no free places have no free regions
 pub no_ones : {X : Type 0} (xs : List X) → length xs ≡ 0 → xs ≡ []
@@ -56,12 +41,7 @@ no_ones (x ∷ xs) e = absurd (omega arith)
 
 pub free_none : (slots : List Bits) (class : ℕ) (keys : List Key) → ((k : Key) → Contains keys k → (bits_at slots k.minor).class ≡ class → (slab_at slots k).free ≡ []) → free_of class (map (slab_at slots) keys) ≡ []
 free_none slots class [] none = refl
-free_none slots class (k ∷ ks) none =
-    let rest = free_none slots class ks (λ l m. none l (contains_later k ks l m)) in
-    elim (cases_Bool (eqb (bits_at slots k.minor).class class)) [
-      | inl t ↦ rw t (λ i. none k (head k ks) (eqb-true _ _ t) i ++ rest i)
-      | inr f ↦ rw f rest
-    ]
+free_none slots class (k ∷ ks) none = grind (arith, nat_tests, free_none slots class ks (λ l m. none l (contains_later k ks l m)), none k (head k ks))
 
 -- the free places of a slab are as many as its bits say
 pub length_free : (t : Table) → IsTable t → (k : Key) → Contains t.firsts.keys k → length (ones (regions_at (bits_at t.slots.items k.minor).class) (bits_at t.slots.items k.minor).free) ≡ left_of (bits_at t.slots.items k.minor)
@@ -85,10 +65,7 @@ open_key t class k e some = let f : eqb (left_of (bits_at t.slots.items k.minor)
 -- where there is no such key, no region of the class is free
 pub none_open : (t : Table) → IsTable t → (class : ℕ) → ((b : Key) → Contains t.bins.keys b → b.major ≢ 2 * class) → free_of class (slabs_in t) ≡ []
 unfolding slabs_in
-none_open t i class none = free_none t.slots.items class t.firsts.keys (λ k m e. elim (cases_lt 0 (left_of (bits_at t.slots.items k.minor))) [
-  | inl some ↦ absurd (none (bin_of t.slots.items k) (i.binned.has k m) (open_key t class k e some))
-  | inr few ↦ full_free t i k m (omega arith)
-])
+none_open t i class none = free_none t.slots.items class t.firsts.keys (λ k m e. full_free t i k m (grind (arith, none (bin_of t.slots.items k) (i.binned.has k m), open_key t class k e)))
 
 -- no key is found from the start of the class on, or one of a later class
 pub not_found : (t : Table) → IsTable t → (class : ℕ) → IsAscending t.bins.keys → find (is_from (start (2 * class))) t.bins.keys ≡ None → free_of class (slabs_in t) ≡ []
@@ -123,13 +100,7 @@ found_open t i class s bin key e major minor low =
             lowest = λ k m c free.
                 let mine = open_key t class k c free in
                 let fits = small_numbers t i k m in
-                elim (least t.bins.keys (start (2 * class)) bin (bin_of t.slots.items k) s e (i.binned.has k m) (start_from (bin_of t.slots.items k) (2 * class) (omega arith))) [
-                  | inl same ↦ let equal : bin.minor ≡ k.major * 2 ^ 32 + k.minor = ap (λ (z : Key). z.minor) same in omega arith
-                  | inr less ↦ elim (less_parts bin (bin_of t.slots.items k) less) [
-                    | inl lt ↦ absurd (omega arith)
-                    | inr both ↦ let later : bin.minor < k.major * 2 ^ 32 + k.minor = both.1 in omega arith
-                  ]
-                ];
+                grind (arith, least t.bins.keys (start (2 * class)) bin (bin_of t.slots.items k) s e (i.binned.has k m) (start_from (bin_of t.slots.items k) (2 * class) (omega arith)), less_parts bin (bin_of t.slots.items k), mine, fits);
           }
     ])
 
@@ -145,21 +116,12 @@ some_open t i class key o none = by t.firsts.keys o.there none
   where
     by : (ks : List Key) → Contains ks key → free_of class (map (slab_at t.slots.items) ks) ≡ [] → ⊥
     by [] m e = omega arith
-    by (k ∷ ks) m e = elim (cases_Bool (eqb (bits_at t.slots.items k.minor).class class)) [
-      | inl u ↦
-          let whole : (slab_at t.slots.items k).free ++ free_of class (map (slab_at t.slots.items) ks) ≡ [] = rw u at e in
-          elim (contains_cases k ks key m) [
-            | inl is ↦
-                let many = length-map (ones (regions_at (bits_at t.slots.items key.minor).class) (bits_at t.slots.items key.minor).free) (place (bits_at t.slots.items key.minor).class key.major) ∙ length_free t i key o.there in
-                let none = sym (length-append (slab_at t.slots.items key).free (free_of class (map (slab_at t.slots.items) ks)))
-                ∙ ap (λ (z : Key). length ((slab_at t.slots.items z).free ++ free_of class (map (slab_at t.slots.items) ks))) (sym is) ∙ ap length whole in
-                omega arith
-            | inr d ↦ by ks d (tail_nil _ _ whole)
-          ]
-      | inr f ↦ elim (contains_cases k ks key m) [
-        | inl is ↦ absurd (let same : eqb (bits_at t.slots.items key.minor).class class ≡ true = eq-eqb _ _ o.of_class in let no : eqb (bits_at t.slots.items key.minor).class class ≡ false = ap (λ (z : Key). eqb (bits_at t.slots.items z.minor).class class) (sym is) ∙ f in cc)
-        | inr d ↦ by ks d (rw f at e)
-      ]
+    by (k ∷ ks) m e = elim (contains_cases k ks key m) [
+      | inl is ↦
+          let many = length-map (ones (regions_at (bits_at t.slots.items key.minor).class) (bits_at t.slots.items key.minor).free) (place (bits_at t.slots.items key.minor).class key.major) ∙ length_free t i key o.there in
+          let none : length ((slab_at t.slots.items key).free ++ free_of class (map (slab_at t.slots.items) ks)) ≡ 0 = grind (arith, nat_tests, is, e, o.of_class) in
+          omega (arith, length-append (slab_at t.slots.items key).free (free_of class (map (slab_at t.slots.items) ks)), many, o.some_free)
+      | inr d ↦ by ks d (grind (arith, nat_tests, tail_nil, e))
     ]
 
 -- so what is found tells whether a region is free
@@ -279,16 +241,7 @@ taken_first old new class a key (k ∷ ks) s m before stay c d first = elim (con
       let below : key_cmp k key ≡ Less = every_member _ ks s.0 key n in
       let same = stay k (head k ks) (less_ne k key below) in
       let deep = taken_first old new class a key ks s.1 n (λ l o. before l (contains_later k ks l o)) (λ l o. stay l (contains_later k ks l o)) c d first in
-      elim (cases_Bool (eqb (bits_at old k.minor).class class)) [
-        | inl t ↦
-            let none = before k (head k ks) below (eqb-true _ _ t) in
-            let u : eqb (bits_at new k.minor).class class ≡ true = ap (λ (b : Bits). eqb b.class class) same ∙ t in
-            let nothing : (slab_at new k).free ≡ [] = ap (λ (b : Bits). (slab_of b k.major).free) same ∙ none in
-            rw (t, u) (ap (λ xs. xs ++ free_of class (map (slab_at old) ks)) none ∙ deep ∙ ap (λ xs. a ∷ (xs ++ free_of class (map (slab_at new) ks))) (sym nothing))
-        | inr f ↦
-            let g : eqb (bits_at new k.minor).class class ≡ false = ap (λ (b : Bits). eqb b.class class) same ∙ f in
-            rw (f, g) deep
-      ]
+      grind (arith, nat_tests, before k (head k ks) below, same, deep)
 ]
 
 module _ (t : Table) (i : IsTable t) (class : ℕ) (key : Key) (o : IsLowestOpen t class key) (n : ℕ) (found : position (λ b. b) (bits_at t.slots.items key.minor).free ≡ Some n) (low : n < regions_at (bits_at t.slots.items key.minor).class) where
@@ -315,12 +268,8 @@ module _ (t : Table) (i : IsTable t) (class : ℕ) (key : Key) (o : IsLowestOpen
 
   -- each slab is without the address
   taken_here : slab_of (with_bit bits n false) key.major ≡ without (addr ∷ []) (slab_at t.slots.items key)
-  taken_here = taken_slab bits.class key.major (addr ∷ []) bits.free (set bits.free n false) (λ j l. dite (ℕ_discrete j n)
-      (λ e. let same : eqb addr (place bits.class key.major j) ≡ true = eq-eqb _ _ (ap (place bits.class key.major) (sym e)) in
-      let gone : get_or (set bits.free n false) j false ≡ false = ap (λ m. get_or (set bits.free n false) m false) e ∙ get_or-set_same bits.free n false false within in
-      rw (gone, same) (grind arith))
-      (λ other. let differ : eqb addr (place bits.class key.major j) ≡ false = false_from_ne_true _ (λ e. other (sym (same_place bits.class key.major n j (i.kept.slab key o.there).small (eqb-true _ _ e)))) in
-      rw (get_or-set_other bits.free n j false false other, differ) (grind arith)))
+  taken_here = taken_slab bits.class key.major (addr ∷ []) bits.free (set bits.free n false) (λ j l.
+      grind (arith, nat_tests, get_or-set_at, get_or-set_other, cases_eq j n, within, same_place bits.class key.major n j (i.kept.slab key o.there).small))
 
   pub taken_slabs : (u : Table) → u.firsts ≡ t.firsts → u.slots.items ≡ set t.slots.items key.minor (with_bit bits n false) → slabs_in u ≡ map (without (addr ∷ [])) (slabs_in t)
   taken_slabs = slabs_changed t i key o.there (with_bit bits n false) refl (without (addr ∷ [])) taken_here (λ k m ne.
@@ -336,16 +285,9 @@ module _ (t : Table) (i : IsTable t) (class : ℕ) (key : Key) (o : IsLowestOpen
       let keys = ap (λ (s : KeySet). s.keys) firsts in
       let new = is_new t.slots.items t.firsts.keys i.kept key o.there (in_items t i key o.there (with_bit bits n false) refl) (with_bit bits n false) refl in
       rw (items, keys) (taken_first t.slots.items (set t.slots.items key.minor (with_bit bits n false)) class addr key t.firsts.keys i.ascending o.there
-      (λ k m less c. elim (cases_lt 0 (left_of (bits_at t.slots.items k.minor))) [
-        | inl some ↦ absurd (
-            let low = o.lowest k m c some in
-            let high = less_major k key less in
-            elim (i.kept.apart k key m o.there high) [
-              | inl same ↦ less_ne k key less same
-              | inr far ↦ let pages = (pages_bounds (bits_at t.slots.items k.minor).class (let s = (i.kept.slab k m).small in omega arith)).0 in omega arith
-            ])
-        | inr few ↦ full_free t i k m (omega arith)
-      ])
+      (λ k m less c.
+      let pages = (pages_bounds (bits_at t.slots.items k.minor).class (let s = (i.kept.slab k m).small in omega arith)).0 in
+      full_free t i k m (grind (arith, o.lowest k m c, less_major k key less, i.kept.apart k key m o.there, less_ne k key less, pages)))
       (others_stay t.slots.items t.firsts.keys i.kept key o.there (in_items t i key o.there (with_bit bits n false) refl) (with_bit bits n false) refl)
       o.of_class (ap (λ (b : Bits). b.class) new ∙ o.of_class)
       (ap (map (place bits.class key.major)) (lowest_one bits.free n (regions_at bits.class) found low) ∙ ap (λ (b : Bits). addr ∷ (slab_of b key.major).free) (sym new)))
@@ -375,12 +317,8 @@ module _ (t : Table) (i : IsTable t) (class addr : ℕ) (key : Key) (n : ℕ) (o
   put_in others = bit_written old key.major n true (i.kept.slab key o.there) inside_regions (subst (λ m. m < regions_at old.class) (sym left_put) (subst (λ c. left_of old + 1 < regions_at c) (sym o.out.of_class) others))
 
   pub put_here : slab_of (with_bit old n true) key.major ≡ with_free addr (slab_at t.slots.items key)
-  put_here = freed_slab old.class key.major addr old.free (set old.free n true) (i.kept.slab key o.there).small (λ j l. dite (ℕ_discrete j n)
-      (λ e. let same : eqb (place old.class key.major j) addr ≡ true = eq-eqb _ _ (ap (place old.class key.major) e ∙ at_old) in
-      let come : get_or (set old.free n true) j false ≡ true = ap (λ m. get_or (set old.free n true) m false) e ∙ get_or-set_same old.free n true false within_bits in
-      rw (come, same) refl)
-      (λ other. let differ : eqb (place old.class key.major j) addr ≡ false = false_from_ne_true _ (λ e. other (same_place old.class key.major j n (i.kept.slab key o.there).small (eqb-true _ _ e ∙ sym at_old))) in
-      rw (get_or-set_other old.free n j true false other, differ) refl))
+  put_here = freed_slab old.class key.major addr old.free (set old.free n true) (i.kept.slab key o.there).small (λ j l.
+      grind (arith, nat_tests, get_or-set_at, get_or-set_other, cases_eq j n, within_bits, at_old, same_place old.class key.major j n (i.kept.slab key o.there).small))
 
   -- another slab lacks the address
   pub elsewhere : (k : Key) → Contains t.firsts.keys k → k ≢ key → (j : ℕ) → j < regions_at (bits_at t.slots.items k.minor).class → eqb (place (bits_at t.slots.items k.minor).class k.major j) addr ≡ false

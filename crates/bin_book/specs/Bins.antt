@@ -10,11 +10,13 @@ pub record Slab : Type 0 where
   pub first : ℕ
   pub free : List ℕ
 
--- the slabs in order of first page, the regions that are out by address, and how many more slabs there is a place for
+-- the slabs in order of first page, the regions that are out by address, how many more slabs there is a place for, and the
+-- client that holds what comes out next
 pub record Bins : Type 0 where
   pub slabs : List Slab
   pub regions : List Region
   pub spare : ℕ
+  pub client : ℕ
 
 -- the address at which a region begins
 abbrev pub addr_of : Region → ℕ

@@ -31,6 +31,7 @@ mod tests;
 #[derive(Drop)]
 pub struct BinBook {
     table: Table,
+    client: u32,
 }
 
 impl Model for BinBook {
@@ -46,12 +47,13 @@ impl Model for BinBook {
 }
 
 impl BinBook {
-    /// A book without slabs, with no place for one. Takes no memory.
+    /// A book without slabs, with no place for one, for client 0. Takes no memory.
     pub fn new(alloc: Global) -> BinBook
-        ensures { result ≡ record { slabs = []; regions = []; spare = 0 } }
+        ensures { result ≡ record { slabs = []; regions = []; spare = 0; client = 0 } }
     {
         BinBook {
             table: Table::new(alloc),
+            client: 0,
         }
     }
 
@@ -59,10 +61,19 @@ impl BinBook {
     pub fn reserve(&mut self, more: u64) -> Result<(), NoMemory>
         ensures slabs { self.new.slabs ≡ self.old.slabs }
         ensures regions { self.new.regions ≡ self.old.regions }
+        ensures client { self.new.client ≡ self.old.client }
         ensures ok { OnOk result (self.new.spare ≡ max self.old.spare more) }
         ensures err { OnErr result (self.new ≡ self.old) }
     {
         self.table.reserve(more)
+    }
+
+    /// The regions that come out from now on are held by the client.
+    pub fn serve(&mut self, client: u32)
+        requires { client < 32 }
+        ensures { self.new ≡ record self.old { client = client } }
+    {
+        self.client = client;
     }
 
     /// How many more slabs there is a place for.
@@ -120,31 +131,31 @@ impl BinBook {
         ensures slabs { self.new.slabs ≡ self.old.slabs }
         ensures regions { self.new.regions ≡ held_anew (starts_at addr) holder self.old.regions }
         ensures spare { self.new.spare ≡ self.old.spare }
+        ensures served { self.new.client ≡ self.old.client }
     {
         let (slab, region) = self.table.find(addr).unwrap();
         self.table.hand_over(slab, region, holder);
     }
 
-    /// Adds a slab whose lowest `count` regions are out, and held by the client. It takes a place.
-    pub fn add_slab(&mut self, client: u32, class: u8, first: u64, count: u32)
+    /// Adds a slab whose lowest `count` regions are out, and held by the client that is served. It takes a place.
+    pub fn add_slab(&mut self, class: u8, first: u64, count: u32)
         requires room { 0 < self.old.spare }
-        requires client { client < 32 }
         requires class { IsSmall class }
         requires some { 0 < count }
         requires most { count ≤ regions_at class }
         requires inside { first + pages_at class ≤ 2 ^ 32 }
         requires apart { list_any (meets_slab class first) self.old.slabs ≡ false }
         ensures slabs { self.new.slabs ≡ with_slab self.old.slabs (slab_with_out class first count) }
-        ensures regions { self.new.regions ≡ landing (regions_from client class (4096 * first) count) self.old.regions }
+        ensures regions { self.new.regions ≡ landing (regions_from self.old.client class (4096 * first) count) self.old.regions }
         ensures spare { self.new.spare + 1 ≡ self.old.spare }
+        ensures client { self.new.client ≡ self.old.client }
     {
-        self.table.add(client, class, first, count);
+        self.table.add(self.client, class, first, count);
     }
 
-    /// Takes the `n` lowest free regions of a class out, or all if there are fewer. The client holds them. Adds their
-    /// addresses, which rise, to a list that has room for so many.
-    pub fn take(&mut self, client: u32, class: u8, n: u32, out: &mut Addrs)
-        requires client { client < 32 }
+    /// Takes the `n` lowest free regions of a class out, or all if there are fewer. The client that is served holds them.
+    /// Adds their addresses, which rise, to a list that has room for so many.
+    pub fn take(&mut self, class: u8, n: u32, out: &mut Addrs)
         requires class { IsSmall class }
         requires room { n ≤ out.old.room }
         ensures addrs { out.new.items ≡ out.old.items ++ take n (free_of class self.old.slabs) }
@@ -152,11 +163,12 @@ impl BinBook {
         ensures slabs { self.new.slabs
             ≡ map (without (take n (free_of class self.old.slabs))) self.old.slabs }
         ensures regions { self.new.regions
-            ≡ landing (map (region_of client class) (take n (free_of class self.old.slabs))) self.old.regions }
+            ≡ landing (map (region_of self.old.client class) (take n (free_of class self.old.slabs))) self.old.regions }
         ensures spare { self.new.spare ≡ self.old.spare }
+        ensures client { self.new.client ≡ self.old.client }
     {
         for _turn in 0..n {
-            match self.table.take_one(client, class) {
+            match self.table.take_one(self.client, class) {
                 Some(addr) => out.push(addr),
                 None => return,
             }
@@ -174,6 +186,7 @@ impl BinBook {
             ≡ filter (λ s. not (is_unused s)) (map (with_free addr) self.old.slabs) }
         ensures regions { self.new.regions ≡ filter (λ r. not (starts_at addr r)) self.old.regions }
         ensures spare { self.new.spare ≡ self.old.spare + cond result 1 0 }
+        ensures client { self.new.client ≡ self.old.client }
     {
         let (slab, region) = self.table.holder(class, addr).unwrap();
         let left = u64::from(self.table.left(slab)) + 1;
@@ -190,6 +203,7 @@ impl BinBook {
         ensures slabs { self.new.slabs ≡ [] }
         ensures regions { self.new.regions ≡ [] }
         ensures spare { self.new.spare ≡ self.old.spare + length self.old.slabs }
+        ensures client { self.new.client ≡ self.old.client }
     {
         self.table.clear();
     }

@@ -3,24 +3,33 @@ use super::BinBook;
 use size_classes::{Addrs, class_pages, slab_regions};
 use std::test::Fail;
 
-// Adds a slab with one region out where it has a place and meets no other.
-fn add(book: &mut BinBook, class: u8, first: u64) -> bool {
+mod plain;
+
+// Adds a slab with so many regions out, held by client 0, where it has a place and meets no other.
+fn add_slab(book: &mut BinBook, class: u8, first: u64, count: u32) -> bool {
     if class >= 36 || first >= 1 << 31 {
         return false;
     }
     let end = first + class_pages(class);
-    let regions = slab_regions(class);
-    if end <= 1 << 32 && 0 < regions && book.spare() > 0 && !book.meets(class, first) {
-        book.add_slab(0, class, first, 1);
+    let has_count = 0 < count && u64::from(count) <= slab_regions(class);
+    if end <= 1 << 32 && has_count && book.spare() > 0 && !book.meets(class, first) {
+        book.serve(0);
+        book.add_slab(class, first, count);
         return true;
     }
     false
 }
 
-// Takes so many regions, as far as the list has room.
+// Adds a slab with one region out, likewise.
+fn add(book: &mut BinBook, class: u8, first: u64) -> bool {
+    add_slab(book, class, first, 1)
+}
+
+// Takes so many regions for client 1, as far as the list has room.
 fn take(book: &mut BinBook, class: u8, count: u32, out: &mut Addrs) -> bool {
     if class < 36 && count as usize <= out.room() {
-        book.take(1, class, count, out);
+        book.serve(1);
+        book.take(class, count, out);
         return true;
     }
     false

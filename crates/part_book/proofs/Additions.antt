@@ -67,8 +67,7 @@ edge_test p page placed = grind (arith, nat_tests)
 
 -- a choice after a choice
 pub twice : (a b : Bool) (x y : Option ℕ) → cond a x (cond b x y) ≡ cond (a || b) x y
-twice true b x y = refl
-twice false b x y = refl
+twice a b x y = grind arith
 
 -- a page has the number where it is the first or the last one of the extent
 pub numbers_more : (m : map_of.FinMap nat_cmp ℕ) (p : Part) (number page : ℕ) → IsPlaced p.span → map_of.get (with_edges m p.span number) page ≡ cond (is_edge page p) (Some number) (map_of.get m page)
@@ -79,24 +78,19 @@ numbers_more m p number page placed =
 
 -- the rows that pass get the new one if it passes
 more : (test : Row → Bool) (rows : List Row) (row : Row) → filter test (rows ++ row ∷ []) ≡ filter test rows ++ cond (test row) (row ∷ []) []
-more test rows row = filter-append test rows (row ∷ []) ∙ elim (cases_Bool (test row)) [ inl t ↦ rw t refl | inr f ↦ rw f refl ]
+more test rows row = grind (arith, filter-append test rows (row ∷ []))
 
 -- and so do their numbers
 more_numbers : (test : Row → Bool) (rows : List Row) (row : Row) → numbers_of (filter test (rows ++ row ∷ [])) ≡ numbers_of (filter test rows) ++ cond (test row) (row.number ∷ []) []
 more_numbers test rows row =
-    ap numbers_of (more test rows row) ∙ map-append (λ r. r.number) (filter test rows) (cond (test row) (row ∷ []) [])
-    ∙ elim (cases_Bool (test row)) [ inl t ↦ rw t refl | inr f ↦ rw f refl ]
+    grind (arith, more test rows row, map-append (λ (r : Row). r.number) (filter test rows) (cond (test row) (row ∷ []) []))
 
 -- an extent is unused for one rest at most, and then it has a key
 pub one_rest : (row : Row) → bit (is_listed ToDirty row.part.state) + bit (is_listed ToMuzzy row.part.state) + bit (is_listed ToRetained row.part.state) ≡ bit (is_some (size_key row))
 one_rest row = by row.part.state
   where
     by : (s : State) → bit (is_listed ToDirty s) + bit (is_listed ToMuzzy s) + bit (is_listed ToRetained s) ≡ bit (is_some (option_map (ranked_key row) (rank_of s)))
-    by Active = omega arith
-    by Dirty = omega arith
-    by Muzzy = omega arith
-    by Retained = omega arith
-    by (Flight client rest) = omega arith
+    by s = grind arith
 
 -- no more are unused than there are
 unused_most : (rows : List Row) → length (listed_in ToDirty rows) + length (listed_in ToMuzzy rows) + length (listed_in ToRetained rows) ≤ length rows
@@ -209,12 +203,8 @@ module _ (t : Table) (rows : List Row) (row : Row) (i : IsIndexed t rows) (f : I
             let met = page_meets r.part row.part page (edge_has r.part page (row_placed rows r i.apart m) g) (edge_has row.part page f.placed e) in
             let no_met = All-contains (λ p. meets p.span row.part.span ≡ false) (parts_in rows) r.part f.apart (map_has (λ x. x.part) rows r m) in cc)) in
             rw (e, find-append (λ r. is_edge page r.part) rows (row ∷ []), none, e) refl
-        | inr g ↦ rw (g, find-append (λ r. is_edge page r.part) rows (row ∷ []), g) (i.edges page ∙ ap (option_map (λ r. r.number)) (whole (find (λ r. is_edge page r.part) rows)))
+        | inr g ↦ grind (arith, find-append (λ r. is_edge page r.part) rows (row ∷ []), i.edges page, g)
       ]
-    where
-      whole : (o : Option Row) → o ≡ option_or o None
-      whole None = refl
-      whole (Some y) = refl
 
   -- a slot that isn't the new one is as it was
   pub slot_kept : (u : Table) (n : ℕ) → u.slots.items ≡ set_at t.slots.items row.number row.part → n ≢ row.number → part_at u.slots.items n ≡ part_at t.slots.items n
@@ -301,10 +291,7 @@ row_read t first number i some e =
     let closer = begins_by_edge (parts_of t) first i.indexes.apart _ (edge_part t (rows_of t) first number i e) in
     record {
       there = subst (Contains (rows_of t)) row r.2;
-      found = elim (cases_Bool (begins_at first (part_at t.slots.items number))) [
-        | inl b ↦ rw b at closer
-        | inr f ↦ absurd (let none = rw f at closer in let no = subst IsSome none some in cc)
-      ];
+      found = grind (arith, closer, some);
     }
 
 -- it begins there
@@ -354,18 +341,14 @@ module _ (t : Table) (rows : List Row) (row : Row) (i : IsTable t rows) (m : Con
 
   -- a row that differs from the one by a test has another number
   differs : (test : Row → Bool) (r : Row) → Contains rows r → test r ≡ true → test row ≡ false → not (eqb r.number row.number) ≡ true
-  differs test r n t' f = not_from_false (eqb r.number row.number) (false_from_ne_true (eqb r.number row.number) (λ e.
-      let same = ap test (one r n (eqb-true r.number row.number e)) in
-      let no : true ≡ false = sym t' ∙ same ∙ f in cc))
+  differs test r n t' f = grind (arith, nat_tests, one r n, t', f)
 
   -- a filter leaves out of some numbers what it leaves out of the rows
   less : (test : Row → Bool) → numbers_of (filter test (others row.number rows)) ≡ cond (test row) (filter (λ n. not (eqb n row.number)) (numbers_of (filter test rows))) (numbers_of (filter test rows))
   less test =
-      ap numbers_of (filter_swap test (λ r. not (eqb r.number row.number)) rows)
-      ∙ elim (cases_Bool (test row)) [
-        | inl u ↦ rw u (sym (filter_map_is (λ r. r.number) (λ n. not (eqb n row.number)) (filter test rows)))
-        | inr f ↦ rw f (ap numbers_of (filter_all_of (λ r. not (eqb r.number row.number)) (filter test rows) (λ r n. let p = filter_from test rows r n in differs test r p.0 p.1 f)))
-      ]
+      let all : test row ≡ false → filter (λ r. not (eqb r.number row.number)) (filter test rows) ≡ filter test rows =
+      (λ f. filter_all_of (λ r. not (eqb r.number row.number)) (filter test rows) (λ r n. let p = filter_from test rows r n in differs test r p.0 p.1 f)) in
+      ap numbers_of (filter_swap test (λ r. not (eqb r.number row.number)) rows) ∙ grind (arith, filter_map_is (λ (r : Row). r.number) (λ n. not (eqb n row.number)) (filter test rows), all)
 
   -- and its pages are left out of the sum
   sum_less : (test : Row → Bool) → sum_by (λ r. r.part.span.pages) (filter test (others row.number rows)) + cond (test row) row.part.span.pages 0 ≡ sum_by (λ r. r.part.span.pages) (filter test rows)

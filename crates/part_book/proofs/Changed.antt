@@ -31,23 +31,13 @@ use Rattle.part_book.proofs.Chunks.{leaves_both, leaves_none}
 
 -- a page that is the first or the last one of a span has the number of the span
 edge_own : (pages : Pages) (p : Part) (number page : ℕ) → IsPlaced p.span → Own pages p.span number → is_edge page p ≡ true → map_of.get pages.numbers page ≡ Some number
-edge_own pages p number page placed own t = elim (cases_Bool (eqb p.span.first page)) [
-  | inl b ↦ subst (λ n. map_of.get pages.numbers n ≡ Some number) (eqb-true p.span.first page b) own.first
-  | inr f ↦ (
-      let ends : eqb (end_of p.span) (page + 1) ≡ true = rw f at t in
-      let is = eqb-true (end_of p.span) (page + 1) ends in
-      let last : end_of p.span - 1 ≡ page = omega arith in
-      subst (λ n. map_of.get pages.numbers n ≡ Some number) last own.last)
-]
+edge_own pages p number page placed own t = grind (arith, nat_tests, own.first, own.last, t)
 
 -- a map that has the number already is as if it were taken away and given again
 pub own_again : (pages : Pages) (p : Part) (number page : ℕ) → IsPlaced p.span → Own pages p.span number → map_of.get pages.numbers page ≡ map_of.get (with_edges (without_edges pages.numbers p.span) p.span number) page
 own_again pages p number page placed own =
     sym (numbers_more (without_edges pages.numbers p.span) p number page placed
-    ∙ elim (cases_Bool (is_edge page p)) [
-      | inl t ↦ rw t (sym (edge_own pages p number page placed own t))
-      | inr f ↦ rw f (numbers_less pages.numbers p page placed ∙ rw f refl)
-    ])
+    ∙ grind (arith, edge_own pages p number page placed own, numbers_less pages.numbers p page placed))
 
 pub same_span : (s t : Span) → s.first ≡ t.first → s.pages ≡ t.pages → s ≡ t
 same_span s t e f = λ i. record { first = e i; pages = f i }

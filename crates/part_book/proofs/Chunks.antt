@@ -21,7 +21,7 @@ pub contains_more : (s : set.FinSet nat_cmp) (k q : ℕ) → set.contains (set.i
 contains_more s k q = set.contains-insert nat_cmp_total s k q ∙ ap (λ b. b || set.contains s q) (unsigned_tied q k)
 
 pub contains_kept : (s : set.FinSet nat_cmp) (k q : ℕ) → set.contains s q ≡ true → set.contains (set.insert s k) q ≡ true
-contains_kept s k q t = contains_more s k q ∙ elim (cases_Bool (eqb q k)) [ inl u ↦ rw u refl | inr f ↦ rw (f, t) refl ]
+contains_kept s k q t = grind (arith, contains_more s k q, t)
 
 pub contains_new : (s : set.FinSet nat_cmp) (k : ℕ) → set.contains (set.insert s k) k ≡ true
 contains_new s k = contains_more s k k ∙ ap (λ b. b || set.contains s k) (eq-eqb k k refl)
@@ -89,31 +89,11 @@ has_leaf p c n l has f =
 pub leaves_after : (p q : Pages) (c n : ℕ) → c < CHUNKS → q.chunks ≡ set.insert p.chunks c → q.spare ≡ cond (set.contains p.chunks c) p.spare (p.spare - 1) → HasLeaves p (n + wanted p c) → HasLeaves q n
 leaves_after p q c n l chunks spare has =
     let is = ap missing chunks in
-    elim (cases_Bool (set.contains p.chunks c)) [
-      | inl t ↦
-          let none : wanted p c ≡ 0 = ap want t in
-          let kept : q.spare ≡ p.spare = rw t at spare in
-          let same = missing_no_more p.chunks c in
-          omega arith
-      | inr f ↦
-          let one : wanted p c ≡ 1 = ap want f in
-          let kept : q.spare ≡ p.spare - 1 = rw f at spare in
-          let less = missing_less p.chunks c l f in
-          omega arith
-    ]
+    grind (arith, is, spare, missing_no_more p.chunks c, missing_less p.chunks c l, has)
 
 -- a chunk wants no more after another one got its leaf
 pub wanted_less : (p q : Pages) (k c : ℕ) → q.chunks ≡ set.insert p.chunks k → wanted q c ≤ wanted p c
-wanted_less p q k c chunks = elim (cases_Bool (set.contains p.chunks c)) [
-  | inl t ↦
-      let there : set.contains q.chunks c ≡ true = rw chunks (contains_kept p.chunks k c t) in
-      let none : wanted q c ≡ 0 = ap want there in
-      omega arith
-  | inr f ↦
-      let one : wanted p c ≡ 1 = ap want f in
-      let most = want_le (set.contains q.chunks c) in
-      omega arith
-]
+wanted_less p q k c chunks = grind (arith, chunks, contains_kept p.chunks k c, want_le (set.contains q.chunks c))
 
 -- the chunks of the first and the last page of a span
 pub chunk_inside : (s : Span) → IsPlaced s → (s.first / 512 < CHUNKS) × ((end_of s - 1) / 512 < CHUNKS)
@@ -134,9 +114,7 @@ more_leaves p q n chunks le has = let same = ap missing chunks in omega arith
 
 -- two chunks that want none have leaves
 none_wanted : (a b : Bool) → want a + want b ≡ 0 → (a ≡ true) × (b ≡ true)
-none_wanted true true e = (refl, refl)
-none_wanted true false e = absurd (omega arith)
-none_wanted false b e = absurd (omega arith)
+none_wanted a b e = (grind (arith, e), grind (arith, e))
 
 pub leaves_most : (p : Pages) (s : Span) → leaves_for p s ≤ 2
 leaves_most p s = omega (arith, want_le (set.contains p.chunks (s.first / 512)), want_le (set.contains p.chunks ((end_of s - 1) / 512)))

@@ -32,13 +32,7 @@ use Rattle.part_book.proofs.Rowed.{row_placed}
 
 -- no multiple at or above a number is lower than this one
 no_lower : (first align k : ℕ) → 0 < align → first ≤ k * align → (first + (align - 1)) / align * align ≤ k * align
-no_lower first align k some le = elim (cases_lt k ((first + (align - 1)) / align)) [
-  | inl l ↦ absurd (
-      let more : (k + 1) * align ≤ (first + (align - 1)) / align * align = mul-le (k + 1) align ((first + (align - 1)) / align) align (omega arith) (omega arith) in
-      let split : (k + 1) * align ≡ k * align + align = omega arith in
-      omega arith)
-  | inr g ↦ mul-le ((first + (align - 1)) / align) align k align g (omega arith)
-]
+no_lower first align k some le = grind (arith, mul-le (k + 1) align ((first + (align - 1)) / align) align, mul-le ((first + (align - 1)) / align) align k align, le)
 
 -- the next multiple is where a run starts
 pub next_multiple : (first align skipped : ℕ) → 0 < align → (k : ℕ) × (k * align ≡ first + skipped) → ((k : ℕ) → first ≤ k * align → first + skipped ≤ k * align) → first + skipped ≡ (first + (align - 1)) / align * align
@@ -58,35 +52,20 @@ holds_pages s pages align some t =
 
 -- an extent is listed for a rest where it stands there
 listed_rank : (rest : Rest) (s : State) → is_listed rest s ≡ true → rank_of s ≡ Some (rank rest)
-listed_rank ToDirty Dirty e = refl
-listed_rank ToMuzzy Muzzy e = refl
-listed_rank ToRetained Retained e = refl
-listed_rank rest s e = absurd (cc)
-
-inner : (m n : ℕ) → Some m ≡ Some n → m ≡ n
-inner m n e = cc
+listed_rank rest s e = grind (arith, e)
 
 rank_listed : (rest : Rest) (s : State) → rank_of s ≡ Some (rank rest) → is_listed rest s ≡ true
-rank_listed ToDirty Dirty e = refl
-rank_listed ToDirty Muzzy e = absurd (omega (arith, inner 1 0 e))
-rank_listed ToDirty Retained e = absurd (omega (arith, inner 2 0 e))
-rank_listed ToMuzzy Dirty e = absurd (omega (arith, inner 0 1 e))
-rank_listed ToMuzzy Muzzy e = refl
-rank_listed ToMuzzy Retained e = absurd (omega (arith, inner 2 1 e))
-rank_listed ToRetained Dirty e = absurd (omega (arith, inner 0 2 e))
-rank_listed ToRetained Muzzy e = absurd (omega (arith, inner 1 2 e))
-rank_listed ToRetained Retained e = refl
-rank_listed rest s e = absurd (cc)
+rank_listed rest s e = grind (arith, e)
 
 -- whether the extent with a key is one of a rest and holds the run
 abbrev pub serves : ℕ → ℕ → ℕ → Key → Bool
 serves r pages align key = eqb (key.major / 2 ^ 32) r && holds_run pages align (key_span key)
 
 pub serves_both : (r pages align : ℕ) (key : Key) → key.major / 2 ^ 32 ≡ r → holds_run pages align (key_span key) ≡ true → serves r pages align key ≡ true
-serves_both r pages align key a b = let t : eqb (key.major / 2 ^ 32) r ≡ true = eq-eqb (key.major / 2 ^ 32) r a in rw (t, b) refl
+serves_both r pages align key a b = grind (arith, nat_tests, a, b)
 
 pub serves_not : (r pages align : ℕ) (key : Key) → holds_run pages align (key_span key) ≡ false → serves r pages align key ≡ false
-serves_not r pages align key f = elim (cases_Bool (eqb (key.major / 2 ^ 32) r)) [ inl t ↦ rw (t, f) refl | inr g ↦ rw g refl ]
+serves_not r pages align key f = grind (arith, f)
 
 -- no key below this one serves
 abbrev pub NoneBelow : List Key → Key → ℕ → ℕ → ℕ → Type 0
@@ -109,14 +88,10 @@ key_is row r inside small =
 
 -- a key before those of so many pages doesn't serve
 too_small : (r pages align : ℕ) (k : Key) → 0 < align → k.major < r * 2 ^ 32 + pages → serves r pages align k ≡ false
-too_small r pages align k some l = false_from_ne_true (serves r pages align k) (λ t.
-    let both = and_parts (eqb (k.major / 2 ^ 32) r) (holds_run pages align (key_span k)) t in
-    let held = holds_pages (key_span k) pages align some both.1 in
-    let own = both.0 in
-    grind (arith, nat_tests))
+too_small r pages align k some l = grind (arith, nat_tests, holds_pages (key_span k) pages align some)
 
 small_below : (r pages align : ℕ) (k : Key) → 0 < align → is_from (start (r * 2 ^ 32 + pages)) k ≡ false → serves r pages align k ≡ false
-small_below r pages align k some f = too_small r pages align k some (elim (cases_lt k.major (r * 2 ^ 32 + pages)) [ inl l ↦ l | inr g ↦ absurd (let t = start_from k (r * 2 ^ 32 + pages) g in cc) ])
+small_below r pages align k some f = too_small r pages align k some (grind (arith, start_from k (r * 2 ^ 32 + pages), f))
 
 pub none_at_start : (r pages align : ℕ) (ks : List Key) → 0 < align → find (is_from (start (r * 2 ^ 32 + pages))) ks ≡ None → (k : Key) → Contains ks k → serves r pages align k ≡ false
 none_at_start r pages align ks some e k m = small_below r pages align k some (none_found (is_from (start (r * 2 ^ 32 + pages))) ks e k m)
@@ -135,12 +110,7 @@ begins r pages align ks y some s e =
 
 -- a key that isn't above this one is below it or is it
 not_above : (ks : List Key) (size : Key) (r pages align : ℕ) → NoneBelow ks size r pages align → serves r pages align size ≡ false → (k : Key) → Contains ks k → is_above size k ≡ false → serves r pages align k ≡ false
-not_above ks size r pages align below here k m f = by (key_cmp k size) refl
-  where
-    by : (o : Ordering) → key_cmp k size ≡ o → serves r pages align k ≡ false
-    by Less e = below k m e
-    by Equal e = ap (serves r pages align) (key_tie k size e) ∙ here
-    by Greater e = absurd (let t : true ≡ false = sym (ap is_gt e) ∙ f in cc)
+not_above ks size r pages align below here k m f = grind (arith, below k m, key_tie k size, here, f)
 
 pub none_after : (r pages align : ℕ) (ks : List Key) (size : Key) → IsWalk ks size r pages align → serves r pages align size ≡ false → find (is_above size) ks ≡ None → (k : Key) → Contains ks k → serves r pages align k ≡ false
 none_after r pages align ks size w here e k m = not_above ks size r pages align w.below here k m (none_found (is_above size) ks e k m)
@@ -151,24 +121,11 @@ goes_on r pages align ks size y s w here e =
     record { listed = p.0; below = λ k m l. not_above ks size r pages align w.below here k m (p.2 k m l); from = let up = above_major size y p.1 in let from = w.from in omega arith }
   where
     above_major : (a b : Key) → is_above a b ≡ true → a.major ≤ b.major
-    above_major a b t = by (key_cmp b a) refl t
-      where
-        by : (o : Ordering) → key_cmp b a ≡ o → is_gt o ≡ true → a.major ≤ b.major
-        by Less f g = absurd (cc)
-        by Equal f g = absurd (cc)
-        by Greater f g = less_major a b (key_total.antisymm a b ∙ ap ordering_reverse f)
+    above_major a b t = grind (arith, less_major a b, key_total.antisymm a b, t)
 
 -- where the walk comes to another rest, none serves
 pub none_of_others : (r pages align : ℕ) (ks : List Key) (size : Key) → IsWalk ks size r pages align → (size.major / 2 ^ 32 ≡ r → ⊥) → (k : Key) → Contains ks k → serves r pages align k ≡ false
-none_of_others r pages align ks size w other k m = by (key_cmp k size) refl
-  where
-    past : size.major ≤ k.major → serves r pages align k ≡ false
-    past le = let from = w.from in let apart : k.major / 2 ^ 32 ≡ r → ⊥ = λ e. other (omega arith) in rw (ne_eqb (k.major / 2 ^ 32) r apart) refl
-
-    by : (o : Ordering) → key_cmp k size ≡ o → serves r pages align k ≡ false
-    by Less e = w.below k m e
-    by Equal e = past (let same = ap (λ (x : Key). x.major) (key_tie k size e) in omega arith)
-    by Greater e = past (less_major size k (key_total.antisymm size k ∙ ap ordering_reverse e))
+none_of_others r pages align ks size w other k m = grind (arith, nat_tests, w.below k m, key_tie k size, less_major size k, key_total.antisymm size k, w.from, other)
 
 -- ---- what is found
 
@@ -205,13 +162,7 @@ module _ (rest : Rest) (rows : List Row) (keys : List Key) (pages align : ℕ) (
 
   -- an extent that isn't smaller, nor as small and at a lower page, is no better
   better_below : (y r : Row) → y.number < 2 ^ 32 → is_better y.part r.part ≡ true → key_cmp (ranked_key y (rank rest)) (ranked_key r (rank rest)) ≡ Less
-  better_below y r l t = less_from_parts (ranked_key y (rank rest)) (ranked_key r (rank rest)) (elim (cases_lt y.part.span.pages r.part.span.pages) [
-    | inl less ↦ inl (omega arith)
-    | inr g ↦ (
-        let same : y.part.span.pages ≡ r.part.span.pages = grind (arith, nat_tests) in
-        let lower : y.part.span.first < r.part.span.first = grind (arith, nat_tests) in
-        inr (omega arith, omega arith))
-  ])
+  better_below y r l t = less_from_parts (ranked_key y (rank rest)) (ranked_key r (rank rest)) (grind (arith, nat_tests, l, t))
 
   -- of two extents that aren't better than one another both begin at one page
   same_first : (p q : Part) → is_better p q ≡ false → is_better q p ≡ false → p.span.first ≡ q.span.first
@@ -265,29 +216,26 @@ module _ (rest : Rest) (rows : List Row) (keys : List Key) (pages align : ℕ) (
 pub first_listed : (rest : Rest) (rows : List Row) (number : ℕ) → slice_get (numbers_of (listed_in rest rows)) 0 ≡ Some number → (r : Row) × Contains rows r × (r.number ≡ number) × (find (λ p. is_listed rest p.state) (parts_in rows) ≡ Some r.part)
 first_listed rest [] number e = absurd (cc)
 first_listed rest (r ∷ rows) number e = elim (cases_Bool (is_listed rest r.part.state)) [
-  | inl t ↦ (r, head r rows, (let same : Some r.number ≡ Some number = rw t at e in cc), rw t refl)
+  | inl t ↦ (r, head r rows, grind (arith, t, e), rw t refl)
   | inr f ↦ let deep = first_listed rest rows number (rw f at e) in (deep.0, contains_later r rows deep.0 deep.1, deep.2, rw f deep.3)
 ]
 
 pub none_listed : (rest : Rest) (rows : List Row) → slice_get (numbers_of (listed_in rest rows)) 0 ≡ None → find (λ p. is_listed rest p.state) (parts_in rows) ≡ None
 none_listed rest [] e = refl
-none_listed rest (r ∷ rows) e = elim (cases_Bool (is_listed rest r.part.state)) [
-  | inl t ↦ absurd (let f : Some r.number ≡ None = rw t at e in cc)
-  | inr f ↦ rw f (none_listed rest rows (rw f at e))
-]
+none_listed rest (r ∷ rows) e = grind (arith, none_listed rest rows, e)
 
 pub pages_listed : (rest : Rest) (rows : List Row) → pages_in rest rows ≡ sum_by (λ p. p.span.pages) (filter (λ p. is_listed rest p.state) (parts_in rows))
 pages_listed rest [] = refl
-pages_listed rest (r ∷ rows) = elim (cases_Bool (is_listed rest r.part.state)) [
-  | inl t ↦ rw t (sum_by-cons (λ (x : Row). x.part.span.pages) r (listed_in rest rows) ∙ ap (λ n. r.part.span.pages + n) (pages_listed rest rows) ∙ sym (sum_by-cons (λ (p : Part). p.span.pages) r.part (filter (λ p. is_listed rest p.state) (parts_in rows))))
-  | inr f ↦ rw f (pages_listed rest rows)
-]
+pages_listed rest (r ∷ rows) = grind (
+  arith,
+  pages_listed rest rows,
+  sum_by-cons (λ (x : Row). x.part.span.pages) r (listed_in rest rows),
+  sum_by-cons (λ (p : Part). p.span.pages) r.part (filter (λ p. is_listed rest p.state) (parts_in rows)),
+)
 
 pub count_listed : (rest : Rest) (rows : List Row) → length (numbers_of (listed_in rest rows)) ≡ count_by (λ p. is_listed rest p.state) (parts_in rows)
 count_listed rest [] = refl
-count_listed rest (r ∷ rows) =
-    let counted = sum_by-cons (λ (p : Part). cond (is_listed rest p.state) 1 0) r.part (parts_in rows) in
-    elim (cases_Bool (is_listed rest r.part.state)) [ inl t ↦ rw t (omega (arith, rw t at counted, count_listed rest rows)) | inr f ↦ rw f (omega (arith, rw f at counted, count_listed rest rows)) ]
+count_listed rest (r ∷ rows) = grind (arith, count_listed rest rows, sum_by-cons (λ (p : Part). cond (is_listed rest p.state) 1 0) r.part (parts_in rows))
 
 pub first_row : (rows : List Row) (number : ℕ) → slice_get (numbers_of rows) 0 ≡ Some number → (r : Row) × Contains rows r × (r.number ≡ number) × (slice_get (parts_in rows) 0 ≡ Some r.part)
 first_row [] number e = absurd (cc)

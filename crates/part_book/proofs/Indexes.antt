@@ -92,10 +92,7 @@ is_below_from : (k : Key) (page : ℕ) → k.major < page → is_below (start pa
 is_below_from k page l = true_from_ne_false (is_below (start page) k) (λ f. let g = from_start k page (rw f refl) in omega arith)
 
 below_from : (k : Key) (page : ℕ) → is_below (start page) k ≡ true → k.major < page
-below_from k page t = elim (cases_lt k.major page) [
-  | inl l ↦ l
-  | inr g ↦ absurd (let f : not (is_below (start page) k) ≡ true = start_from k page g in let no : false ≡ true = rw t at f in cc)
-]
+below_from k page t = grind (arith, start_from k page, t)
 
 -- the key of an extent among the first pages
 abbrev start_of : Row → Key
@@ -133,10 +130,7 @@ pub no_row : (rows : List Row) (keys : List Key) (page : ℕ) → IsKeyed first_
 no_row rows keys page firsts e = all_from (λ p. page ≤ p.span.first) (parts_in rows) (λ q n.
     let r = map_from (λ row. row.part) rows q n in
     let same : r.0.part.span.first ≡ q.span.first = ap (λ (x : Part). x.span.first) r.2 in
-    elim (cases_lt r.0.part.span.first page) [
-      | inl l ↦ absurd (no_last (filter (is_below (start page)) keys) (start_of r.0) e (filter_has (is_below (start page)) keys (start_of r.0) (firsts.has r.0 (start_of r.0) r.1 refl) (is_below_from (start_of r.0) page l)))
-      | inr g ↦ omega arith
-    ])
+    grind (arith, is_below_from (start_of r.0) page, no_last (filter (is_below (start page)) keys) (start_of r.0) e, filter_has (is_below (start page)) keys (start_of r.0) (firsts.has r.0 (start_of r.0) r.1 refl), same))
 
 -- the row of the first key from a page on
 pub row_from : (rows : List Row) (keys : List Key) (page : ℕ) (key : Key) → IsKeyed first_key rows keys → IsAscending keys → find (is_from (start page)) keys ≡ Some key → (r : Row) × Contains rows r × (r.number ≡ key.minor) × IsFirstFrom page (parts_in rows) r.part
@@ -156,13 +150,7 @@ row_from rows keys page key firsts ascending e =
             let r = map_from (λ row. row.part) rows q n in
             let same : r.0.part.span.first ≡ q.span.first = ap (λ (x : Part). x.span.first) r.2 in
             let k : Key = start_of r.0 in
-            elim (cases_lt k.major key.major) [
-              | inl l ↦ absurd (
-                  let no = least.2 k (firsts.has r.0 k r.1 refl) (major_less k key l) in
-                  let yes = start_from k page (omega arith) in
-                  let wrong : true ≡ false = sym yes ∙ no in cc)
-              | inr g ↦ omega arith
-            ]);
+            grind (arith, least.2 k (firsts.has r.0 k r.1 refl), major_less k key, start_from k page, same, first, le));
       },
     )
 
@@ -171,30 +159,18 @@ pub no_row_from : (rows : List Row) (keys : List Key) (page : ℕ) → IsKeyed f
 no_row_from rows keys page firsts e = all_from (λ p. p.span.first < page) (parts_in rows) (λ q n.
     let r = map_from (λ row. row.part) rows q n in
     let same : r.0.part.span.first ≡ q.span.first = ap (λ (x : Part). x.span.first) r.2 in
-    elim (cases_lt r.0.part.span.first page) [
-      | inl l ↦ omega arith
-      | inr g ↦ absurd (
-          let no = none_found (is_from (start page)) keys e (start_of r.0) (firsts.has r.0 (start_of r.0) r.1 refl) in
-          let yes = start_from (start_of r.0) page g in
-          let wrong : true ≡ false = sym yes ∙ no in cc)
-    ])
+    grind (arith, none_found (is_from (start page)) keys e (start_of r.0) (firsts.has r.0 (start_of r.0) r.1 refl), start_from (start_of r.0) page, same))
 
 -- ---- the flights
 
 -- the flights are as many as the extents in flight
 pub count_flights : (rows : List Row) → length (flights_in rows) ≡ count_by (λ p. is_in_flight p.state) (parts_in rows)
 count_flights [] = refl
-count_flights (r ∷ rows) =
-    let counted = sum_by-cons (λ (p : Part). cond (is_in_flight p.state) 1 0) r.part (parts_in rows) in
-    elim (cases_Bool (is_in_flight r.part.state)) [ inl t ↦ rw t (omega (arith, rw t at counted, count_flights rows)) | inr f ↦ rw f (omega (arith, rw f at counted, count_flights rows)) ]
+count_flights (r ∷ rows) = grind (arith, count_flights rows, sum_by-cons (λ (p : Part). cond (is_in_flight p.state) 1 0) r.part (parts_in rows))
 
 -- an extent that is not in flight is in flight for nobody
 grounded : (client : ℕ) (state : State) → is_in_flight state ≡ false → is_flight client state ≡ false
-grounded client Active e = refl
-grounded client Dirty e = refl
-grounded client Muzzy e = refl
-grounded client Retained e = refl
-grounded client (Flight c rest) e = absurd (cc)
+grounded client state e = grind (arith, e)
 
 -- whether the extent in a slot is the client's, in flight
 abbrev pub is_flown : List Part → ℕ → ℕ → Bool
@@ -208,10 +184,7 @@ find_flight slots client (r ∷ rows) all =
     let slot : part_at slots r.number ≡ r.part = All-head (λ row. part_at slots row.number ≡ row.part) r rows all in
     let flown = ap (λ (p : Part). is_flight client p.state) slot in
     let rest = find_flight slots client rows (All-tail (λ row. part_at slots row.number ≡ row.part) r rows all) in
-    elim (cases_Bool (is_in_flight r.part.state)) [
-      | inl t ↦ elim (cases_Bool (is_flight client r.part.state)) [ inl u ↦ rw (t, flown, u) (ap (λ p. Some p) (sym slot)) | inr g ↦ rw (t, flown, g) rest ]
-      | inr f ↦ rw (f, grounded client r.part.state f) rest
-    ]
+    grind (arith, flown, slot, rest, grounded client r.part.state)
 
 -- so the flights of the table tell the first one
 pub flight_of : (t : Table) (client : ℕ) → IsTable t (rows_of t) → find (λ p. is_flight client p.state) (parts_in (rows_of t)) ≡ option_map (part_at t.slots.items) (find (is_flown t.slots.items client) t.flights.items)

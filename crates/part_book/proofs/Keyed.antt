@@ -15,17 +15,11 @@ module _ (key_of : Row → Option Key) (rows : List Row) (row : Row) (keys : Lis
     where
       by : (o : Option Key) → key_of row ≡ o → IsKeyed key_of (rows ++ row ∷ []) (keys_with keys o)
       by None e = record {
-        has = λ r k m is. elim (Contains-push_cases rows row r m) [
-          | inl old ↦ i.has r k old is
-          | inr new ↦ absurd (let no : None ≡ Some k = sym e ∙ ap key_of new ∙ is in cc)
-        ];
+        has = λ r k m is. grind (arith, Contains-push_cases rows row r m, i.has r k, e, is);
         from = λ k m. let p = i.from k m in (p.0, Contains-append_left rows (row ∷ []) p.0 p.1, p.2);
       }
       by (Some key) e = record {
-        has = λ r k m is. elim (Contains-push_cases rows row r m) [
-          | inl old ↦ with_keeps keys key k (i.has r k old is)
-          | inr new ↦ let both : Some key ≡ Some k = sym e ∙ ap key_of new ∙ is in let same : key ≡ k = cc in subst (λ x. Contains (keys_with keys (Some key)) x) same (with_self keys key)
-        ];
+        has = λ r k m is. grind (arith, Contains-push_cases rows row r m, with_keeps keys key k, i.has r k, with_self keys key, e, is);
         from = λ k m. elim (with_from keys key k m) [
           | inl new ↦ (row, Contains-push rows row, e ∙ ap (λ x. Some x) (sym new))
           | inr old ↦ let p = i.from k old in (p.0, Contains-append_left rows (row ∷ []) p.0 p.1, p.2)
@@ -73,10 +67,7 @@ module _ (key_of : Row → Option Key) (rows : List Row) (row : Row) (keys : Lis
       -- the set stays for another extent with the same key
       pub keyed_same : (other : Row) → key_of row ≡ key_of other → IsKeyed key_of (others row.number rows ++ other ∷ []) keys
       keyed_same other e = record {
-        has = λ r k n is. elim (Contains-push_cases (others row.number rows) other r n) [
-          | inl old ↦ i.has r k (other_row row.number rows r old).0 is
-          | inr new ↦ i.has row k m (e ∙ ap key_of new ∙ is)
-        ];
+        has = λ r k n is. grind (arith, Contains-push_cases (others row.number rows) other r n, other_row row.number rows r, i.has r k, i.has row k m, e, is);
         from = λ k n. (
             let p = i.from k n in
             elim (cases_Bool (eqb p.0.number row.number)) [
@@ -87,10 +78,7 @@ module _ (key_of : Row → Option Key) (rows : List Row) (row : Row) (keys : Lis
 
 -- extents with one key among the first pages have one number
 pub first_own : (r row : Row) (k : Key) → first_key r ≡ Some k → first_key row ≡ Some k → r.number ≡ row.number
-first_own r row k a b =
-    let x : record { major = r.part.span.first; minor = r.number } ≡ k = cc in
-    let y : record { major = row.part.span.first; minor = row.number } ≡ k = cc in
-    ap (λ (z : Key). z.minor) (x ∙ sym y)
+first_own r row k a b = grind (arith, a, b)
 
 -- extents with one key among the unused ones have one number
 pub size_own : (r row : Row) (k : Key) → r.number < 2 ^ 32 → row.number < 2 ^ 32 → size_key r ≡ Some k → size_key row ≡ Some k → r.number ≡ row.number

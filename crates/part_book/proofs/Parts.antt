@@ -94,9 +94,7 @@ met_by_last parts s p apart last = elim (cases_Bool (ltb s.first (end_of p.span)
         let in_p = placed parts p apart last.listed in
         let under : q.span.first < end_of s = grind (arith, nat_tests) in
         let up : q.span.first ≤ p.span.first = All-contains (λ q. q.span.first < end_of s → q.span.first ≤ p.span.first) parts q last.last m under in
-        let same = one_owner parts apart p.span.first p q last.listed m (grind (arith, nat_tests)) (grind (arith, nat_tests)) in
-        let end : end_of q.span ≡ end_of p.span = ap (λ (x : Part). end_of x.span) same in
-        grind (arith, nat_tests)
+        grind (arith, nat_tests, one_owner parts apart p.span.first p q last.listed m)
 
 pub met_by_none : (parts : List Part) (s : Span) → All (λ p. end_of s ≤ p.span.first) parts → list_any (λ q. meets q.span s) parts ≡ false
 met_by_none parts s above = list_any_none (λ q. meets q.span s) parts (All-weaker (λ p. end_of s ≤ p.span.first) (λ q. meets q.span s ≡ false) (λ q l. grind (arith, nat_tests)) parts above)

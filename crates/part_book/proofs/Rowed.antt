@@ -69,15 +69,9 @@ apart_more parts p apart in_space none = record {
   owners = λ page.
       let sum = sum_by_push (λ q. bit (has_page page q.span)) parts p in
       let most = apart.owners page in
-      elim (cases_Bool (has_page page p.span)) [
-        | inl t ↦
-            let one : bit (has_page page p.span) ≡ 1 = ap bit t in
-            let nobody = count_none (λ q. has_page page q.span) parts (λ q m. false_from_ne_true (has_page page q.span) (λ u.
-            let met = page_meets q p page u t in
-            let apart = All-contains (λ q. meets q.span p.span ≡ false) parts q none m in cc)) in
-            omega arith
-        | inr f ↦ let no : bit (has_page page p.span) ≡ 0 = ap bit f in omega arith
-      ];
+      let nobody : has_page page p.span ≡ true → count_by (λ q. has_page page q.span) parts ≡ 0 =
+      (λ t. count_none (λ q. has_page page q.span) parts (λ q m. grind (arith, page_meets q p page, t, All-contains (λ q. meets q.span p.span ≡ false) parts q none m))) in
+      grind (arith, sum, most, nobody);
 }
 
 -- ---- one extent less
@@ -102,12 +96,14 @@ others_begin t rows r first i m b =
     ∙ sym (filter_map_is (λ row. row.part) (λ p. not (begins_at first p)) rows)
   where
     same : (x : Row) → Contains rows x → eqb x.number r.number ≡ begins_at first x.part
-    same x n = elim (cases_Bool (eqb x.number r.number)) [
-      | inl t' ↦ let e = one_number t rows r x i m n (eqb-true x.number r.number t') in t' ∙ sym (ap (λ (y : Row). begins_at first y.part) e ∙ b)
-      | inr f ↦ f ∙ sym (false_from_ne_true (begins_at first x.part) (λ u.
-          let e = one_row rows i.indexes.apart first r x m n (begins_has r.part first (row_placed rows r i.indexes.apart m) b) (begins_has x.part first (row_placed rows x i.indexes.apart n) u) in
-          let g : eqb x.number r.number ≡ true = eq-eqb x.number r.number (ap (λ (y : Row). y.number) e) in cc))
-    ]
+    same x n = grind (
+      arith,
+      nat_tests,
+      one_number t rows r x i m n,
+      one_row rows i.indexes.apart first r x m n (begins_has r.part first (row_placed rows r i.indexes.apart m) b),
+      begins_has x.part first (row_placed rows x i.indexes.apart n),
+      b,
+    )
 
 -- the extents but one don't meet it
 pub others_apart : (t : Table) (rows : List Row) (r : Row) → IsTable t rows → Contains rows r → All (λ p. meets p.span r.part.span ≡ false) (parts_in (others r.number rows))

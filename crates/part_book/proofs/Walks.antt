@@ -26,13 +26,7 @@ find_some p (x ∷ xs) y s e = elim (cases_Bool (p x)) [
 ]
   where
     not_before : (k : Key) → Contains (x ∷ xs) k → key_cmp k x ≡ Less → ⊥
-    not_before k m l = elim (contains_cases x xs k m) [
-      | inl same ↦ let i : key_cmp k x ≡ Equal = subst (λ z. key_cmp k z ≡ Equal) (sym same) (tied_itself key_total k) in let f : Less ≡ Equal = sym l ∙ i in absurd (cc)
-      | inr d ↦
-          let up : key_cmp x k ≡ Less = every_member _ xs s.0 k d in
-          let back : key_cmp k x ≡ Greater = key_total.antisymm k x ∙ ap ordering_reverse up in
-          let f : Less ≡ Greater = sym l ∙ back in absurd (cc)
-    ]
+    not_before k m l = grind (arith, contains_cases x xs k m, tied_itself key_total k, every_member _ xs s.0 k, key_total.antisymm k x, l)
 
 -- fewer keys stand above the next key
 pub fewer_above : (ks : List Key) (q y : Key) → IsAscending ks → find (is_above q) ks ≡ Some y → length (filter (is_above y) ks) < length (filter (is_above q) ks)
@@ -57,6 +51,4 @@ fewer_above (x ∷ xs) q y s e = elim (cases_Bool (is_above q x)) [
     chain k l t = ap is_gt (key_total.antisymm k q ∙ ap ordering_reverse (key_total.trans q x k (key_total.antisymm q x ∙ ap ordering_reverse (greater (key_cmp x q) t)) l))
       where
         greater : (r : Ordering) → is_gt r ≡ true → r ≡ Greater
-        greater Less f = cc
-        greater Equal f = cc
-        greater Greater f = refl
+        greater r f = grind (arith, f)

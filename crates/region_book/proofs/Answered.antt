@@ -14,7 +14,7 @@ use Rattle.list_facts.specs.ByKey.{AreApart, IsRising, changed}
 use Rattle.list_facts.specs.Codes.{code_of}
 use Rattle.list_facts.proofs.ByKey.{absent_changed, absent_filter, change_both, changed_is, drop_both, every_changed, every_landing, found_there, land_left, land_right, Landed, merged, new_apart, taken_out}
 use Rattle.list_facts.proofs.Members.{every_member, found}
-use Rattle.bin_book.specs.Bins.{Slab, is_unused, with_free}
+use Rattle.bin_book.specs.Bins.{Bins, Slab, is_unused, with_free}
 use Rattle.large_book.specs.Larges.{IsHolder, addr_of}
 use Rattle.region_book.specs.declared.totals.Totals.{Totals}
 use Rattle.region_book.specs.declared.RegionBook.TheInside.{Inside}
@@ -131,19 +131,21 @@ module _ (b : Inside) (is : IsBook b) where
         })
 
   -- the first regions of an extent
-  pub slab_lands : (client class addr count n : ℕ) (now : List Region) → class < 36 → client < 32 → n ≡ count → CanCome (regions_from client class addr count) rs
-      → now ≡ landing (regions_from client class addr count) ys → Lands class (Some client) n (landing (regions_from client class addr count) rs) xs now b.totals
-  slab_lands client class addr count n now small few so_many can new =
+  pub slab_lands : {bins : Bins} (client class addr count n : ℕ) (now : List Region) → bins ≡ record b.bins { client = client } → class < 36 → client < 32 → n ≡ count
+      → CanCome (regions_from client class addr count) rs → now ≡ landing (regions_from bins.client class addr count) bins.regions → Lands class (Some client) n (landing (regions_from client class addr count) rs) xs now b.totals
+  slab_lands client class addr count n now served small few so_many can new =
       let come = some_come client class (λ i. addr + i * size_at class) (range_with_len 0 count) rs in
       lands_small client class n (regions_from client class addr count) (omega arith) few (made_of 0 121 client class (λ i. addr + i * size_at class) (range_with_len 0 count) (omega arith) (omega arith) few)
-      (subst (λ k. HaveCome class (Some client) k rs (landing (regions_from client class addr count) rs)) (length-range_with_len 0 count ∙ sym so_many) come) can now new
+      (subst (λ k. HaveCome class (Some client) k rs (landing (regions_from client class addr count) rs)) (length-range_with_len 0 count ∙ sym so_many) come) can now
+      (new ∙ ap (λ (s : Bins). landing (regions_from s.client class addr count) s.regions) served)
 
   -- regions at some addresses
-  pub fill_lands : (client class n : ℕ) (addrs now : List ℕ) (land : List Region) → class < 36 → client < 32 → n ≡ length addrs → addrs ≡ now → CanCome (map (region_of client class) now) rs
-      → land ≡ landing (map (region_of client class) addrs) ys → Lands class (Some client) n (landing (map (region_of client class) now) rs) xs land b.totals
-  fill_lands client class n addrs now land small few so_many same can new =
+  pub fill_lands : {bins : Bins} (client class n : ℕ) (addrs now : List ℕ) (land : List Region) → bins ≡ record b.bins { client = client } → class < 36 → client < 32 → n ≡ length addrs
+      → addrs ≡ now → CanCome (map (region_of client class) now) rs → land ≡ landing (map (region_of bins.client class) addrs) bins.regions → Lands class (Some client) n (landing (map (region_of client class) now) rs) xs land b.totals
+  fill_lands client class n addrs now land served small few so_many same can new =
       lands_small client class n (map (region_of client class) now) (omega arith) few (made_of 0 121 client class (λ a. a) now (omega arith) (omega arith) few)
-      (subst (λ k. HaveCome class (Some client) k rs (landing (map (region_of client class) now) rs)) (sym (so_many ∙ ap length same)) (some_come client class (λ a. a) now rs)) can land (new ∙ ap (λ ns. landing (map (region_of client class) ns) ys) same)
+      (subst (λ k. HaveCome class (Some client) k rs (landing (map (region_of client class) now) rs)) (sym (so_many ∙ ap length same)) (some_come client class (λ a. a) now rs)) can land
+      (new ∙ ap (λ (s : Bins). landing (map (region_of s.client class) addrs) s.regions) served ∙ ap (λ ns. landing (map (region_of client class) ns) ys) same)
 
   -- nothing begins where a large one comes, which alone lands
   pub page_free : (client class addr : ℕ) → CanCome (regions_from client class addr 1) rs → find (starts_at addr) xs ≡ None

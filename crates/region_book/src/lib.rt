@@ -92,7 +92,8 @@ impl RegionBook {
         ensures slabs { self.new.slabs ≡ with_slab self.old.slabs (slab_with_out class first count) }
         ensures places { self.old.places ≤ self.new.places + 1 }
     {
-        self.bins.add_slab(client, class, first, count);
+        self.bins.serve(client);
+        self.bins.add_slab(class, first, count);
         self.totals.add(class, Some(client), u64::from(count));
     }
 
@@ -158,7 +159,8 @@ impl RegionBook {
         ensures places { self.new.places ≡ self.old.places }
     {
         let before = out.as_slice().len();
-        self.bins.take(client, class, count, out);
+        self.bins.serve(client);
+        self.bins.take(class, count, out);
         let taken = out.as_slice().len() - before;
         self.totals.add(class, Some(client), taken as u64);
     }

@@ -16,11 +16,12 @@ returns-then-left-slab_regions c =
     let o = subst (λ r. IfSome r (λ f. IsOutAt t c.args.class c.args.addr f.0 f.1)) c.unwrap-region.ensures c.holder.ensures.some in
     let class = o.out.of_class in
     let last = ap (λ n. n + 1) (sym (c.from-left.ensures ∙ c.left.ensures)) ∙ c.if-left-slab_regions.true ∙ c.slab_regions.ensures.regions in record {
-      emptied = sym (ap (λ (b : Bins). list_any is_unused (map (with_free c.args.addr) b.slabs)) (sym c.self.view_is) ∙ one_unused t c.self.invariant c.args.class c.args.addr slab n o last);
-      slabs = c.take_off.ensures.slabs ∙ others_used t c.self.invariant c.args.class c.args.addr slab n o last ∙ ap (λ (b : Bins). filter (λ s. not (is_unused s)) (map (with_free c.args.addr) b.slabs)) c.self.view_is;
-      regions = c.take_off.ensures.regions ∙ region_gone t c.self.invariant slab o.there n (subst (λ m. n < regions_at m) (sym class) o.out.inside) o.out.out (last ∙ ap regions_at (sym class))
+      emptied = sym (ap (λ (b : Bins). list_any is_unused (map (with_free c.args.addr) b.slabs)) (sym c.self.view_is) ∙ one_unused t c.self.invariant.table c.args.class c.args.addr slab n o last);
+      slabs = c.take_off.ensures.slabs ∙ others_used t c.self.invariant.table c.args.class c.args.addr slab n o last ∙ ap (λ (b : Bins). filter (λ s. not (is_unused s)) (map (with_free c.args.addr) b.slabs)) c.self.view_is;
+      regions = c.take_off.ensures.regions ∙ region_gone t c.self.invariant.table slab o.there n (subst (λ m. n < regions_at m) (sym class) o.out.inside) o.out.out (last ∙ ap regions_at (sym class))
           ∙ ap (λ a. filter (λ r. not (starts_at a r)) (regions_in t)) (ap (λ m. place m slab.major n) class ∙ o.at) ∙ ap (λ (b : Bins). filter (λ r. not (starts_at c.args.addr r)) b.regions) c.self.view_is;
       spare = c.take_off.ensures.free ∙ ap (λ (b : Bins). b.spare + 1) c.self.view_is;
+      client = ap (λ (b : Bins). b.client) c.self.view_is;
     }
 
 pub returns-clause-emptied : goal.returns-clause-emptied

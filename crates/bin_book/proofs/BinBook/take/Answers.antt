@@ -2,7 +2,7 @@ use Rattle.std.proofs.Common.{[], ◌∷◌, ◌++◌, append-nil, append_assoc,
 use Rattle.std.proofs.lemmas.List.{map-append}
 use Rattle.space_model.specs.Region.{inserted, landing, region_of}
 use Rattle.bin_book.specs.Bins.{Bins, free_of, without}
-use Rattle.bin_book.specs.Tables.{slabs_in}
+use Rattle.bin_book.specs.Tables.{regions_in, slabs_in}
 use Rattle.bin_book.proofs.Rounds.{landing_more, more_left, rest_next, take_next, without_more, without_none}
 use Rattle.bin_book.proofs.BinBook.take.Goals as goal
 
@@ -10,7 +10,7 @@ pub loop-turn-init : goal.loop-turn-init
 loop-turn-init c =
     let slabs = ap (λ (b : Bins). b.slabs) c.self.view_is in
     record {
-      table = c.self.invariant;
+      table = c.self.invariant.table;
       few = omega arith;
       rest = ap (free_of c.args.class) slabs;
       items = sym (append-nil c.args.out.now.items);
@@ -18,6 +18,8 @@ loop-turn-init c =
       slabs = slabs ∙ without_none c.args.self.now.slabs;
       regions = ap (λ (b : Bins). b.regions) c.self.view_is;
       spare = ap (λ (b : Bins). b.spare) c.self.view_is;
+      client = ap (λ (b : Bins). b.client) c.self.view_is;
+      few_clients = c.self.invariant.client;
     }
 
 pub loop-turn-preserved : goal.loop-turn-preserved
@@ -36,8 +38,11 @@ loop-turn-preserved c =
       items = c.push.ensures.items ∙ ap (λ xs. xs ++ c.in-Some.addr ∷ []) i.items ∙ append_assoc c.args.out.now.items (take turn all) (c.in-Some.addr ∷ []) ∙ ap (λ xs. c.args.out.now.items ++ xs) (sym one);
       room = omega arith;
       slabs = c.in-Some.ensures.slabs ∙ ap (map (without (c.in-Some.addr ∷ []))) i.slabs ∙ sym (without_more (take turn all) c.in-Some.addr c.args.self.now.slabs) ∙ ap (λ xs. map (without xs) c.args.self.now.slabs) (sym one);
-      regions = c.in-Some.ensures.regions ∙ ap (inserted (region_of c.args.client c.args.class c.in-Some.addr)) i.regions
-          ∙ landing_more (map (region_of c.args.client c.args.class) (take turn all)) _ c.args.self.now.regions
-          ∙ ap (λ rs. landing rs c.args.self.now.regions) (sym (ap (map (region_of c.args.client c.args.class)) one ∙ map-append (region_of c.args.client c.args.class) (take turn all) (c.in-Some.addr ∷ [])));
+      regions = c.in-Some.ensures.regions ∙ ap (λ client. inserted (region_of client c.args.class c.in-Some.addr) (regions_in c.loop-turn.self-inside.table)) i.client
+          ∙ ap (inserted (region_of c.args.self.now.client c.args.class c.in-Some.addr)) i.regions
+          ∙ landing_more (map (region_of c.args.self.now.client c.args.class) (take turn all)) _ c.args.self.now.regions
+          ∙ ap (λ rs. landing rs c.args.self.now.regions) (sym (ap (map (region_of c.args.self.now.client c.args.class)) one ∙ map-append (region_of c.args.self.now.client c.args.class) (take turn all) (c.in-Some.addr ∷ [])));
       spare = c.take_one.ensures.free ∙ i.spare;
+      client = i.client;
+      few_clients = i.few_clients;
     }

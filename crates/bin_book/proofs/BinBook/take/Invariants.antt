@@ -1,4 +1,4 @@
-use Rattle.std.proofs.Common.{◌≡◌, ◌+◌, ◌≤◌, ◌++◌, length, map, take, vec_len}
+use Rattle.std.proofs.Common.{◌≡◌, ◌+◌, ◌<◌, ◌≤◌, ◌++◌, length, map, take, vec_len}
 use Rattle.space_model.specs.Region.{landing, region_of}
 use Rattle.bin_book.specs.Bins.{free_of, without}
 use Rattle.bin_book.specs.Tables.{IsTable, regions_in, slabs_in}
@@ -12,6 +12,8 @@ invariant-loop-turn l = record {
   items : l.out.items ≡ l.fn.out.items ++ take l._turn (free_of l.class l.fn.self.slabs);
   room : l.out.room + l._turn ≡ l.fn.out.room;
   slabs : slabs_in l.self-inside.table ≡ map (without (take l._turn (free_of l.class l.fn.self.slabs))) l.fn.self.slabs;
-  regions : regions_in l.self-inside.table ≡ landing (map (region_of l.client l.class) (take l._turn (free_of l.class l.fn.self.slabs))) l.fn.self.regions;
+  regions : regions_in l.self-inside.table ≡ landing (map (region_of l.fn.self.client l.class) (take l._turn (free_of l.class l.fn.self.slabs))) l.fn.self.regions;
   spare : vec_len l.self-inside.table.free ≡ l.fn.self.spare;
+  client : l.self-inside.client ≡ l.fn.self.client;
+  few_clients : l.self-inside.client < 32;
 }
