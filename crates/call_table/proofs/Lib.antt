@@ -14,6 +14,8 @@ pub mod Causes
 pub mod Reasons
 pub mod Credits
 pub mod Rooms
+pub mod Frees
+pub mod Refusals
 pub mod Multiples
 pub mod Memaligns
 pub mod Proved

@@ -48,11 +48,11 @@ told_spends f g point asked found c s reply e has = grind (arith, nat_tests)
 -- ---- the room
 
 -- what a call knows tells that an extent is in flight, if it is to put one down
-turn_flies : (m : Mine) (point : TurnPoint) → KnowsTurn m point → HasNext (flying m) (Go (Turns point))
+pub turn_flies : (m : Mine) (point : TurnPoint) → KnowsTurn m point → HasNext (flying m) (Go (Turns point))
 turn_flies m (Finding own tries fresh later) knows = let flies = knows.1 in omega (arith, filter-fewer (λ q. same_span q.span own) (λ _. true) m.flights flies.part flies.found refl)
 turn_flies m point knows = tt
 
-keeps_next : (c : ℕ) (t : Space) (stage bound : ℕ) (next : Next) → Keeps c t stage bound next → HasNext (flying (mine c t)) next
+pub keeps_next : (c : ℕ) (t : Space) (stage bound : ℕ) (next : Next) → Keeps c t stage bound next → HasNext (flying (mine c t)) next
 keeps_next c t stage bound (Go (Turns point)) (knows, near) = turn_flies (mine c t) point knows
 keeps_next c t stage bound next keeps = tt
 
@@ -72,14 +72,14 @@ won_few c s (Taking visit n) (Taken span lazy listed) may = omega arith
 won_few c s point reply may = first_of (omega arith, cc)
 
 -- an operation of a turn that takes in no answer carries no chunk that was found
-found_not : (found : Option ℕ) (point : TurnPoint) → with_found found (op_of point) ≡ op_of point
+pub found_not : (found : Option ℕ) (point : TurnPoint) → with_found found (op_of point) ≡ op_of point
 found_not found (Filling wish count) = refl
 found_not found point = refl
 
 -- ---- the law
 
 -- so many extents are in flight after what came of a turn
-flown : (c : ℕ) (s t : Space) (op : Op) (reply : Reply) → Sound s → op_stands s c op ≡ true → t ≡ (step_of s c op).after → reply ≡ (step_of s c op).reply →
+pub flown : (c : ℕ) (s t : Space) (op : Op) (reply : Reply) → Sound s → op_stands s c op ≡ true → t ≡ (step_of s c op).after → reply ≡ (step_of s c op).reply →
     flying (mine c t) + lost op reply ≡ flying (mine c s) + won c s op reply
 flown c s t op reply sound stands after replied =
     subst (λ u. flying (mine c u) + lost op reply ≡ flying (mine c s) + won c s op reply) (sym after)
