@@ -18,7 +18,7 @@ use Rattle.call_table.proofs.Steps.{never_starves, steps-keep}
 
 -- ---- the asks that are paid for
 
--- in a free there is room for the asks that were made and those that can still come, where so many extents are in flight
+-- in a free with so many extents in flight there is room for the asks that were made and those that can still come
 abbrev pub TurnPaid : ℕ → ℕ → ℕ → TurnPoint → Type 0
 TurnPaid f made most (Giving addrs) = made ≤ most
 TurnPaid f made most (Owning addr true past) = made ≤ most

@@ -111,7 +111,7 @@ asks x = is_told x.item
 abbrev pub purges : Stride → Bool
 purges x = is_purge x.item
 
--- a free has made at most 2 asks for each extent that its own returns emptied, and 6 more for each of these that is purged
+-- a free has made at most 2 asks for each extent that its own returns emptied, and 6 more for each that is purged
 abbrev pub FreesAreFew : Type 0
 FreesAreFew = (c : ℕ) (request : Request) (desk : DeskFacts) (strides : List Stride) → is_free request ≡ true → Walks c (begin request desk) strides
     → count_by asks strides ≤ 2 * emptied c (begin request desk) strides + 6 * count_by purges strides

@@ -14,11 +14,11 @@ Rests c t next there = (next ≡ there) × Idle (mine c t)
 abbrev pub Holds : ℕ → Space → ℕ → Span → Next → Next → Type 0
 Holds c t count span next there = (next ≡ there) × (flights_of c t ≡ count) × Flies (mine c t) span (λ part. Unit {0})
 
--- The table of refusals, from a space to the one behind the turn that took the refusal in. Of a malloc: a split leaves the
--- extent whole, with no client, and just as many chunks as are needed are asked for; where these were granted, and for a
--- commit and the alloc of them, that is the end. Of an extent that is put down or purged: a merge leaves the neighbour to the
--- arena, a purge or a decommit that isn't done the extent as it was, and a dalloc gives it back to the client, unless its pages
--- have an owner again.
+-- The table of refusals, from a space to the one behind the turn that took the refusal in. Of a malloc: a split leaves
+-- the extent whole and nobody's, and just as many chunks as are needed are asked for; where these were granted, and for
+-- a commit and the alloc of them, that is the end. Of an extent that is put down or purged: a merge leaves the neighbour
+-- to the arena, a purge or a decommit leaves the extent as it was, and a dalloc leaves it to the client, unless its
+-- pages have an owner again.
 abbrev pub AfterRefusal : ℕ → Space → Space → AskPoint → AskFacts → Next → Type 0
 AfterRefusal c s t (Skipping wish span is_committed skip) asked next = Rests c t next (need_chunks wish)
 AfterRefusal c s t (Trimming wish span is_committed) asked next = Rests c t next (need_chunks wish)

@@ -52,8 +52,8 @@ pub fn asks_are_few()
     ensures { AsksAreFew }
 {}
 
-/// A call that gives regions back has made at most 2 asks for each extent that its own returns emptied, and 6 more for each of
-/// these that was to be purged, whatever others did meanwhile.
+/// A call that gives regions back has made at most 2 asks for each extent that its own returns emptied, and 6 more for
+/// each of these that was to be purged, whatever others did meanwhile.
 pub fn frees_are_few()
     ensures { FreesAreFew }
 {}
