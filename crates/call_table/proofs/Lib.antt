@@ -15,6 +15,7 @@ pub mod Reasons
 pub mod Credits
 pub mod Rooms
 pub mod Frees
+pub mod Places
 pub mod Refusals
 pub mod Multiples
 pub mod Memaligns
