@@ -4,7 +4,7 @@ use Rattle.std.proofs.lemmas.Bool.{cond_both}
 use Rattle.std.proofs.lemmas.Bool.Decides.{nat_tests}
 use Rattle.size_classes.proofs.Least.{class_for_exists}
 use Rattle.size_classes.proofs.Table.{pages_bounds}
-use Rattle.call_table.specs.Words.{Request, Malloc, Memalign, Free, Publish, Flush, Cache, Reset, Destroy, Create, Bind, Item, Replied, Answered, TooLarge, aligned_for, class_for, most_regions, BatchFacts, batch_of, cached_of, freeing, going, going_with, held_at, hit}
+use Rattle.call_table.specs.Words.{Request, Malloc, Memalign, Free, Publish, Flush, Cache, Reset, Destroy, Create, Bind, Item, Replied, Answered, TooLarge, aligned_for, class_for, most_regions, BatchFacts, batch_of, cached_of, going, held_at, hit}
 use Rattle.call_table.specs.Words.{Leaves, TurnPoint, Filling, Changing, Resetting, Destroying, Skipping, Turns, Asks, Next, Go, More, Ends, Nowhere, Stage, Nothing, SetBound, Held, DeskFacts}
 use Rattle.call_table.specs.Runs.{Moment, batch_goes, begin, begin_free, begin_get, begin_publish, begin_stage, first_turn, first_turn_but_0, is_alignment, page_align, run, settle, share, small_hit, stage, step_next, wish_for}
 use Rattle.call_table.specs.Desks.{flushes}
@@ -43,8 +43,7 @@ sized_begun size desk begun goes =
     cond_both (nat_lt (2 ^ 35) size) _ _ (λ (at : Stage). Begun 5 8 at.next) (λ _. tt) (λ h. goes (grind (arith, nat_tests)))
 
 free_begun : (addr : ℕ) (held : Option Held) (desk : DeskFacts) → Begun 0 9 (begin_free addr held desk).next
-free_begun addr None desk = tt
-free_begun addr (Some region) desk = batch_begun region.arena (batch_of (going_with (freeing region desk).hand false desk))
+free_begun addr held desk = grind (arith, batch_begun)
 
 publish_begun : (addr : ℕ) (held : Option Held) → Begun 0 9 (begin_publish addr held).next
 publish_begun addr held = grind arith
@@ -66,9 +65,7 @@ begin_begun (Bind index) desk = chosen_stage (Begun 0 9) (index == desk.arena) _
 begin_begun request desk = first_begun _ _ (omega arith, omega arith, tt)
 
 begun_call : (asks turns : ℕ) (next : Next) → Begun asks turns next → IsPlace next × IsSizedNext next
-begun_call asks turns (Go point) begun = (tt, begun.2)
-begun_call asks turns (Ends answer) begun = (tt, tt)
-begun_call asks turns next begun = absurd begun
+begun_call asks turns next begun = grind arith
 
 pub begin-is_call : (request : Request) (desk : DeskFacts) → IsCall (begin_stage request desk)
 begin-is_call request desk = begun_call _ _ (begin_stage request desk).next (begin_begun request desk)
@@ -76,18 +73,14 @@ begin-is_call request desk = begun_call _ _ (begin_stage request desk).next (beg
 -- ---- the laws
 
 begun_left : (asks turns : ℕ) (next : Next) → Begun asks turns next → AsksLeft asks [] next
-begun_left asks turns (Go point) begun = omega (arith, begun.0)
-begun_left asks turns (Ends answer) begun = omega arith
-begun_left asks turns next begun = absurd begun
+begun_left asks turns next begun = grind arith
 
 pub asks-are_few : AsksAreFew
 asks-are_few request desk items answer e =
     subst (AsksLeft (most_asks request) items) e (run_left (most_asks request) items (begin request desk) (begun_left _ _ (begin_stage request desk).next (begin_begun request desk)))
 
 begun_short : (next : Next) → Begun 5 8 next → IsShortStill [] next
-begun_short (Go point) begun = (omega (arith, begun.0), omega (arith, begun.1))
-begun_short (Ends answer) begun = (omega arith, omega arith)
-begun_short next begun = absurd begun
+begun_short next begun = grind arith
 
 ends_short : (items : List Item) (at : Moment) (answer : Answered) → Begun 5 8 at.stage.next → (run at items).stage.next ≡ Ends answer → IsShort items
 ends_short items at answer begun e =

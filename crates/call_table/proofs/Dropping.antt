@@ -1,5 +1,5 @@
 -- What the turns of a call leave that purges extents: what it knows where it goes on.
-use Rattle.std.proofs.Common.{inl, inr, IsTrue, is_some, ◌≡◌, ℕ, ◌+◌, ◌-◌, ◌*◌, ◌<◌, ◌≤◌, ◌==◌, ◌&&◌, ◌||◌, Bool, true, false, not, cond, List, [], ◌∷◌, ◌++◌, Option, None, Some, refl, sym, ◌∙◌, ap, subst, arith, All, filter, find, length, ltb as nat_lt}
+use Rattle.std.proofs.Common.{inr, IsTrue, is_some, ◌≡◌, ℕ, ◌+◌, ◌-◌, ◌*◌, ◌<◌, ◌≤◌, ◌==◌, ◌&&◌, ◌||◌, Bool, true, false, not, cond, List, [], ◌∷◌, ◌++◌, Option, None, Some, refl, sym, ◌∙◌, ap, subst, arith, All, filter, find, length, ltb as nat_lt}
 use Rattle.std.specs.Option.{option_or}
 use Rattle.std.proofs.lemmas.Bool.{cond_both}
 use Rattle.std.proofs.lemmas.Bool.Decides.{nat_tests}
@@ -175,12 +175,10 @@ forced_onto c s span later flies is =
 
 -- a visit that took an extent has fewer to take, or begins
 visit_room : (visit : Visit) (left : Option ℕ) (listed : ℕ) → HasLeft left → Room (stages_visit visit left) (left_visit left) (Visiting visit (takes_left left listed)) 16
-visit_room visit None listed some = inl (omega arith)
-visit_room visit (Some n) listed some = inr (refl, omega arith)
+visit_room visit left listed some = grind arith
 
 visit_stage : (visit : Visit) (left : Option ℕ) → stages_later visit.later ≤ stages_visit visit left
-visit_stage visit None = omega arith
-visit_stage visit (Some n) = omega arith
+visit_stage visit left = grind arith
 
 purgeable_backed : (r : Rest) → is_purgeable r ≡ true → is_backed r ≡ true
 purgeable_backed r h = grind arith

@@ -73,8 +73,7 @@ same_paid : (f made most : ℕ) (point : AskPoint) → AskPaid f (made + 1) most
 same_paid f made most point paid = grind arith
 
 starved_paid : (f made most : ℕ) (v : Bool) → made ≤ most → Paid f made most (starved v)
-starved_paid f made most true few = few
-starved_paid f made most false few = few
+starved_paid f made most v few = grind arith
 
 more_paid : (f made most more : ℕ) (next : Next) → Paid f made most next → Paid f made (most + more) next
 more_paid f made most more next paid = grind arith
@@ -117,8 +116,7 @@ PaidFrom c made most next [] = made ≤ most
 PaidFrom c made most next (x ∷ xs) = Paid (flying (mine c x.before)) made most next
 
 batch_paid : (f made most arena : ℕ) (batch : Option BatchFacts) → made ≤ most → Paid f made most (batch_goes arena batch).next
-batch_paid f made most arena None few = few
-batch_paid f made most arena (Some batch) few = few
+batch_paid f made most arena batch few = grind arith
 
 from_paid : (c made most : ℕ) (t : Space) (request : Request) (desk : DeskFacts) (arena : ℕ) (next : Next) (xs : List Stride) → Follows c next t xs → Paid (flying (mine c t)) made most next →
     PaidFrom c made most (settle request desk arena next).next xs

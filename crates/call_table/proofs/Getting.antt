@@ -29,8 +29,7 @@ wish_some wish is = omega (arith, is.pages, pages_bounds wish.class is.class)
 
 pub commit_goes : (c : ℕ) (t : Space) (bound : ℕ) (wish : Wish) (span : Span) (b : Bool) → Gets (mine c t) wish → Alone (mine c t) span b →
     span.pages ≡ wish.pages → 3 < bound → Keeps c t 0 bound (commit wish span b)
-commit_goes c t bound wish span true gets alone pages fewer = ((gets, alone, pages), inr (refl, omega arith))
-commit_goes c t bound wish span false gets alone pages fewer = (((gets, alone, pages), tt), inr (refl, omega arith))
+commit_goes c t bound wish span b gets alone pages fewer = grind arith
 
 pub grant_goes : (c : ℕ) (t : Space) (bound : ℕ) (wish : Wish) (span : Span) (b : Bool) → Gets (mine c t) wish → Alone (mine c t) span b →
     wish.pages ≤ span.pages → 5 < bound → Keeps c t 0 bound (grant wish span b)

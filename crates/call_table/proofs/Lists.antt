@@ -30,7 +30,7 @@ any-filter a xs = by_test (λ f. list_any f xs) a (λ x. a x && true) (λ x. sym
 
 -- where none passes, none is
 pub none-any : {X : Type 0} (f : X → Bool) (xs : List X) → filter f xs ≡ [] → list_any f xs ≡ false
-none-any f xs e = any-filter f xs ∙ ap (list_any (λ _. true)) e
+none-any f xs e = grind (arith, any-filter f xs)
 
 -- two filters may be applied in either order
 pub filter-swap : {X : Type 0} (a b : X → Bool) (xs : List X) → filter a (filter b xs) ≡ filter b (filter a xs)

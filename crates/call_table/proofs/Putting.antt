@@ -17,7 +17,7 @@ use Rattle.space_model.proofs.Outcomes.{belongs, beq_itself}
 use Rattle.space_model.proofs.Settled.{some_pages}
 use Rattle.space_model.proofs.Pieces.{put_down-nobody, listed-nobody, both_true}
 use Rattle.space_model.proofs.Moves.{itself}
-use Rattle.call_table.specs.Words.{Later, Answers, DirtyToo, Then, Batches, Visiting, Giving, Finding, Taking, Offering, Easing, Point, Turns, Asks, Merge, Answer, Placed, Done, Refuses, Purge, Rest, ToDirty, Space, Part, Span, Sound, mine, same_span, end_of, AnswersTo}
+use Rattle.call_table.specs.Words.{Later, Then, Batches, Visiting, Giving, Finding, Taking, Offering, Easing, Point, Turns, Asks, Merge, Answer, Placed, Done, Refuses, Purge, Rest, ToDirty, Space, Part, Span, Sound, mine, same_span, end_of, AnswersTo}
 use Rattle.call_table.specs.Table.{drop, look_on, merged, onward, put_next, turned, visited}
 use Rattle.call_table.specs.Knows.{Idle, Flies, Pair, Settled, Droppable, IsThen, in_flight}
 use Rattle.call_table.specs.Laws.{Keeps, IsNearer, stages, stages_then, stages_later, left, left_then, left_turn, flights_of, looks_left, purges_left}
@@ -38,17 +38,14 @@ fewer_room stage bound later m n less room = grind arith
 -- a point of this stage has it
 pub near : (c : ℕ) (t : Space) (stage bound : ℕ) (later : Then) (point : Point) (n : ℕ) → stages point ≡ stages_then later → left c t point ≤ n + left_then later →
     Room stage bound later n → IsNearer c t stage bound point
-near c t stage bound later point n same most (inl early) = inl (omega (arith, same, early))
-near c t stage bound later point n same most (inr here) = inr (same ∙ here.0, omega (arith, most, here.1))
+near c t stage bound later point n same most room = grind arith
 
 -- what follows a visit
 pub visited_goes : (c : ℕ) (t : Space) (stage bound : ℕ) (later : Later) → Idle (mine c t) → stages_later later ≤ stage → Keeps c t stage bound (visited later)
-visited_goes c t stage bound (Answers given) idle most = idle
-visited_goes c t stage bound (DirtyToo keep given) idle most = ((idle, refl, tt), inl (omega (arith, most)))
+visited_goes c t stage bound later idle most = grind arith
 
 pub room_stage : (stage bound : ℕ) (later : Then) (n : ℕ) → Room stage bound later n → stages_then later ≤ stage
-room_stage stage bound later n (inl early) = omega (arith, early)
-room_stage stage bound later n (inr same) = omega (arith, same.0)
+room_stage stage bound later n room = grind arith
 
 onward_goes : (c : ℕ) (t : Space) (stage bound : ℕ) (later : Then) → Idle (mine c t) → IsThen later → Room stage bound later 0 →
     Keeps c t stage bound (onward later)
@@ -145,8 +142,7 @@ neighbour_near tries p other parts =
 
 -- what holds of an extent by where it belongs holds of another one that belongs there
 settled_like : (fresh : Bool) (p q : Part) → rest_of q.state ≡ rest_of p.state → Settled fresh p → Settled fresh q
-settled_like true p q rest is = tt
-settled_like false p q rest is = rw rest is
+settled_like fresh p q rest is = grind arith
 
 -- ---- the look for a neighbour
 
@@ -274,8 +270,7 @@ put_onto c s own tries fresh later sound look flies is = put_found c s own tries
 -- the extent that stays in flight looks on
 looking : (c : ℕ) (t : Space) (own : Span) (own_low fresh : Bool) (later : Then) (bound : ℕ) → Flies (mine c t) own (Settled fresh) → IsThen later → 30 * (flights_of c t - 1) ≤ bound →
     Keeps c t (stages_then later) (bound + cond own_low 5 2 + purges_left fresh + left_then later) (look_on own own_low fresh later)
-looking c t own true fresh later bound flies is most = ((omega arith, flies, is), inr (refl, omega arith))
-looking c t own false fresh later bound flies is most = ((omega arith, flies, is), inr (refl, omega arith))
+looking c t own own_low fresh later bound flies is most = grind arith
 
 -- both are one from now on
 join_onto : (c : ℕ) (s : Space) (low high : Span) (own_low fresh : Bool) (later : Then) (p q : Part) → (mine c s).offers ≡ [] → IsThen later → Settled fresh p →

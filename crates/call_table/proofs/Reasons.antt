@@ -106,18 +106,15 @@ module _ (desk : DeskFacts) where
       region_more request why = absurd why
 
   later_more : (request : Request) (items : List Item) (item : Item) (later : Later) → LaterWhy request items later → LaterWhy request (items ++ item ∷ []) later
-  later_more request items item (Answers given) why = given_more request items item given why
-  later_more request items item (DirtyToo keep given) why = given_more request items item given why
+  later_more request items item later why = grind (arith, given_more)
 
   then_more : (request : Request) (items : List Item) (item : Item) (later : Then) → ThenWhy request items later → ThenWhy request (items ++ item ∷ []) later
-  then_more request items item Batches why = tt
-  then_more request items item (Visiting visit left) why = later_more request items item visit.later why
+  then_more request items item later why = grind (arith, later_more)
 
   -- ---- where a point leads
 
   commit_why : (request : Request) (items : List Item) (wish : Wish) (span : Span) (b : Bool) → Had request items wish span b → NextWhy request items (commit wish span b)
-  commit_why request items wish span true had = had.0
-  commit_why request items wish span false had = had
+  commit_why request items wish span b had = grind arith
 
   trim_why : (request : Request) (items : List Item) (wish : Wish) (span : Span) (b : Bool) → Had request items wish span b → NextWhy request items (trim wish span b)
   trim_why request items wish span b had = cond_both (nat_lt wish.pages span.pages) _ _ (NextWhy request items) (λ _. had) (λ _. commit_why request items wish span b had)
@@ -128,19 +125,13 @@ module _ (desk : DeskFacts) where
   -- a region that landed, or was free in a slab, is of the class of the request
   landed_why : (request : Request) (items : List Item) (wish : Wish) (addr : ℕ) → IsWishOf request wish →
       (((count : ℕ) × Contains items (Replied (Landed addr count))) ⊎ ((others : List ℕ) × Contains items (Replied (Regions (addr ∷ others))))) → RegionCause desk request items addr wish.class
-  landed_why (Malloc size) items wish addr is has = (ap (λ (w : Wish). w.class) is, inr has)
-  landed_why (Memalign align size) items wish addr is has = (ap (λ (w : Wish). w.class) is, inr has)
-  landed_why request items wish addr is has = absurd is
+  landed_why request items wish addr is has = grind arith
 
   owned_why : (request : Request) (items : List Item) (addr class : ℕ) (frees : Bool) → OwnWhy request addr frees → Contains items (Replied (Owned class)) → NextWhy request items (took_over addr class frees)
-  owned_why (Take at arena) items addr class false is has = (is, has)
-  owned_why request items addr class true is has = tt
-  owned_why request items addr class false is has = absurd is
+  owned_why request items addr class frees is has = grind arith
 
   unowned_why : (request : Request) (items : List Item) (addr : ℕ) (frees : Bool) → OwnWhy request addr frees → Contains items (Replied Nothing) → CauseOf desk request items (NotHeld addr)
-  unowned_why (Take at arena) items addr false is has = (is, has)
-  unowned_why (FreeForeign at arena) items addr true is has = (is, has)
-  unowned_why request items addr frees is has = absurd is
+  unowned_why request items addr frees is has = grind arith
 
   turned_why : (request : Request) (items : List Item) (point : TurnPoint) (reply : Reply) → TurnWhy request items point →
       NextWhy request (items ++ Replied reply ∷ []) (turned point reply)
@@ -256,8 +247,7 @@ module _ (desk : DeskFacts) where
   settle_why request items = settle_keeps (NextWhy request items) (settles_why request items) request
 
   starved_why : (request : Request) (items : List Item) (v : Bool) → NextWhy request (items ++ Starved ∷ []) (starved v)
-  starved_why request items true = last_in items Starved
-  starved_why request items false = tt
+  starved_why request items v = grind (arith, last_in)
 
   pub step_why : (request : Request) (items : List Item) (c : ℕ) (point : Point) (item : Item) → PointWhy request items point → Came c (Go point) item →
       NextWhy request (items ++ item ∷ []) (step point item)
@@ -303,8 +293,7 @@ module _ (desk : DeskFacts) where
       got_why None e = get_why (Memalign align size) (aligned_for size align) (page_align align) (share (aligned_for size align) desk) refl
 
   batch_why : (request : Request) (arena : ℕ) (batch : Option BatchFacts) → NextWhy request [] (batch_goes arena batch).next
-  batch_why request arena None = tt
-  batch_why request arena (Some batch) = tt
+  batch_why request arena batch = grind arith
 
   free_why : (addr : ℕ) (held : Option Held) → held_at addr desk ≡ held → NextWhy (Free addr) [] (begin_free addr held desk).next
   free_why addr None e = (refl, e)

@@ -15,7 +15,7 @@ use Rattle.space_model.specs.Step.{step_of, after_cut}
 use Rattle.space_model.proofs.Pieces.{put_down-nobody}
 use Rattle.space_model.proofs.Moves.{itself}
 use Rattle.call_table.specs.Words.{Replied, Told, Starved, Busy, Split, Answer, Reply, NoArena, Noted, Purge, Doomed, InUse, Rest, ToDirty, ToRetained, Setting, MakeLive, Space, Part, Span, Sound, mine, AskFacts, fill_at, lowest_free, AnswersTo}
-use Rattle.call_table.specs.Words.{Wish, Change, Stops, Visits, Leaves, TurnPoint, Filling, Looking, Landing, Giving, Finding, Taking, Offering, Advancing, Changing, Making, Resetting, Destroying, Dooming, Publishing, Owning, AskPoint, Skipping, Trimming, Growing, Paring, Needing, Granting, Committing, Merging, Easing, Returning, Decommitting, Forcing, Turns, Asks, Tells, Next, Go, Gone, Ends}
+use Rattle.call_table.specs.Words.{Wish, Change, TurnPoint, Filling, Looking, Landing, Giving, Finding, Taking, Offering, Advancing, Changing, Making, Resetting, Destroying, Dooming, Publishing, Owning, AskPoint, Skipping, Trimming, Growing, Paring, Needing, Granting, Committing, Merging, Easing, Returning, Decommitting, Forcing, Turns, Asks, Tells, Next, Go, Gone, Ends}
 use Rattle.call_table.specs.Table.{ask_of, turned, starved, is_marked, told, done_of, op_of, whole_chunks, limited, changed, make_next, skipped, trimmed, grown, needed, granted, committed}
 use Rattle.call_table.specs.Knows.{Idle, Alone, Gets, KnowsAsk, KnowsTurn, Heard, IsChange, is_of_arena}
 use Rattle.call_table.specs.Laws.{with_found, Keeps, stages_turn, stages_ask, stages_change, left, left_ask, flights_of, StepsKeep}
@@ -44,13 +44,10 @@ moved_idle : (c : ℕ) (s : Space) (r : Rest) (test : Part → Bool) → Idle (m
 moved_idle c s r test idle = replaced_idle c s test (turned_in_order (moved_to r) (filter test s.parts)) idle.flights ∙ moved_flies_not c r (filter test s.parts) [] refl
 
 fill_keeps : (c : ℕ) (s : Space) (wish : Wish) (count : ℕ) (addrs : List ℕ) → Gets (mine c s) wish → Idle (mine c s) → Onto c (turned (Filling wish count)) 1 0 (fill_at s c wish.class addrs)
-fill_keeps c s wish count [] gets idle = ((gets, idle), inl (omega arith))
-fill_keeps c s wish count (addr ∷ addrs) gets idle = record { flights = idle.flights; offers = idle.offers }
+fill_keeps c s wish count addrs gets idle = grind arith
 
 limited_goes : (c : ℕ) (t : Space) (bound : ℕ) (dirty muzzy : Option ℕ) → Idle (mine c t) → Keeps c t 4 bound (limited dirty muzzy)
-limited_goes c t bound None None idle = idle
-limited_goes c t bound (Some d) None idle = ((idle, refl, tt), inl (omega arith))
-limited_goes c t bound dirty muzzy idle = ((idle, refl, tt), inl (omega arith))
+limited_goes c t bound dirty muzzy idle = grind arith
 
 -- a step that only a live arena makes keeps what it keeps, and else the call ends
 live_keeps : (c : ℕ) (s : Space) (f : Reply → Next) (stage bound : ℕ) (u : Stepped) → f NoArena ≡ Gone → Idle (mine c s) → Onto c f stage bound u → Onto c f stage bound (if_live s u)
@@ -62,9 +59,7 @@ advance_keeps c s now idle =
     live_keeps c s (turned (Advancing now)) 4 0 (advance_all s now) refl idle (limited_goes c (advance_all s now).after 0 _ _ (record { flights = idle.flights; offers = idle.offers }))
 
 changed_goes : (c : ℕ) (t : Space) (change : Change) → Idle (mine c t) → IsChange change → Keeps c t (stages_change change) 0 (changed change)
-changed_goes c t Stops idle is = idle
-changed_goes c t (Visits visit) idle is = ((idle, is, tt), inl (omega arith))
-changed_goes c t (Leaves arena) idle is = (idle, (λ m still. (still, refl, tt, refl)), omega arith)
+changed_goes c t change idle is = grind arith
 
 noted_keeps : (c : ℕ) (s t : Space) (setting : Setting) (change : Change) → Idle (mine c s) → IsChange change → Idle (mine c t) →
     Onto c (turned (Changing setting change)) (stages_change change) 0 (if_live s (stays t Noted))
@@ -116,9 +111,7 @@ doom_keeps c s (p ∷ ps) e idle dying =
     ((still, dying), inr (refl, omega (arith, fewer, count)))
 
 own_keeps : (c : ℕ) (s : Space) (addr : ℕ) (frees past : Bool) (o : Option Region) → Idle (mine c s) → Onto c (turned (Owning addr frees past)) 0 0 (take_over_at s c addr o)
-own_keeps c s addr frees past None idle = idle
-own_keeps c s addr true past (Some r) idle = record { flights = idle.flights; offers = idle.offers }
-own_keeps c s addr false past (Some r) idle = record { flights = idle.flights; offers = idle.offers }
+own_keeps c s addr frees past o idle = grind arith
 
 -- the answer to a split behind the run, or of a grant of more chunks than are needed
 trim_keeps : (c : ℕ) (s : Space) (wish : Wish) (span : Span) (b : Bool) (answer : Answer) → Gets (mine c s) wish → Alone (mine c s) span b → AnswersTo (Split span wish.pages) answer →
