@@ -4,8 +4,8 @@ use Rattle.std.proofs.lemmas.Bool.{cond_both}
 use Rattle.std.proofs.lemmas.Bool.Decides.{nat_tests}
 use Rattle.size_classes.proofs.Least.{class_for_exists}
 use Rattle.size_classes.proofs.Table.{pages_bounds}
-use Rattle.call_table.specs.Words.{Request, Malloc, Memalign, Free, Publish, Flush, Cache, Reset, Destroy, Create, Bind, Item, Replied, Answered, TooLarge, aligned_for, class_for, most_regions, BatchFacts, batch_of, cached_of, going, held_at, hit}
-use Rattle.call_table.specs.Words.{Leaves, TurnPoint, Filling, Changing, Resetting, Destroying, Skipping, Turns, Asks, Next, Go, More, Ends, Nowhere, Stage, Nothing, SetBound, Held, DeskFacts}
+use Rattle.call_table.specs.Words.{Request, Malloc, Memalign, Free, Publish, Flush, Cache, Reset, Destroy, Create, Bind, Item, Answered, TooLarge, aligned_for, class_for, most_regions, BatchFacts, batch_of, cached_of, going, held_at, hit}
+use Rattle.call_table.specs.Words.{Leaves, TurnPoint, Changing, Resetting, Destroying, Turns, Next, Go, More, Ends, Nowhere, Stage, SetBound, Held, DeskFacts}
 use Rattle.call_table.specs.Runs.{Moment, batch_goes, begin, begin_free, begin_get, begin_publish, begin_stage, first_turn, first_turn_but_0, is_alignment, page_align, run, settle, share, small_hit, stage, step_next, wish_for}
 use Rattle.call_table.specs.Desks.{flushes}
 use Rattle.call_table.specs.Points.{IsFew, IsSizedPoint, IsSizedNext}
@@ -26,10 +26,10 @@ batch_begun : (arena : ℕ) (batch : Option BatchFacts) → Begun 0 9 (batch_goe
 batch_begun arena batch = grind arith
 
 first_begun : (arena : ℕ) (point : TurnPoint) → Begun 0 9 (Go (Turns point)) → Begun 0 9 (first_turn arena point).next
-first_begun arena point is = cond_both (nat_lt arena 32) _ _ (Begun 0 9) (λ _. is) (λ _. tt)
+first_begun arena point is = grind arith
 
 but_0_begun : (arena : ℕ) (point : TurnPoint) → Begun 0 9 (Go (Turns point)) → Begun 0 9 (first_turn_but_0 arena point).next
-but_0_begun arena point is = chosen_stage (Begun 0 9) (arena == 0) _ _ tt (first_begun arena point is)
+but_0_begun arena point is = grind (arith, first_begun)
 
 got_begun : (class align : ℕ) (hit : Option Held) (desk : DeskFacts) → class < 121 → Begun 5 8 (begin_get class align hit desk).next
 got_begun class align (Some region) desk below = tt
@@ -39,8 +39,7 @@ got_begun class align None desk below =
 
 -- a size that isn't too large has a class
 sized_begun : (size : ℕ) (desk : DeskFacts) (begun : Stage) → (size ≤ 2 ^ 35 → Begun 5 8 begun.next) → Begun 5 8 (cond (nat_lt (2 ^ 35) size) (stage desk.arena (Ends TooLarge)) begun).next
-sized_begun size desk begun goes =
-    cond_both (nat_lt (2 ^ 35) size) _ _ (λ (at : Stage). Begun 5 8 at.next) (λ _. tt) (λ h. goes (grind (arith, nat_tests)))
+sized_begun size desk begun goes = grind (arith, nat_tests, goes)
 
 free_begun : (addr : ℕ) (held : Option Held) (desk : DeskFacts) → Begun 0 9 (begin_free addr held desk).next
 free_begun addr held desk = grind (arith, batch_begun)
@@ -94,8 +93,6 @@ mallocs-are_short request desk items answer is e = absurd (cc)
 -- ---- the stages of a call
 
 pub next_few : (next : Next) (item : Item) → IsSizedNext next → IsSizedNext (step_next next item)
-next_few (Go (Turns (Filling wish count))) (Replied Nothing) few = few
-next_few (Go (Asks (Skipping wish span b skip) (Some asked))) (Replied Nothing) few = tt
 next_few next item few = grind (arith, nat_tests)
 
 pub settle_few : (request : Request) (desk : DeskFacts) (arena : ℕ) (next : Next) → IsSizedNext next → IsSizedNext (settle request desk arena next).next

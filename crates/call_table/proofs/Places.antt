@@ -1,7 +1,7 @@
 -- A region that its client comes to hold has room: where none is wanted, none is wanted either where the call goes.
-use Rattle.std.proofs.Common.{rules, ◌≡◌, ℕ, ◌≤◌, ◌||◌, Bool, true, false, Option, is_some, Result, Ok, Err, OnOk, OnErr, arith, refl, sym, subst, ap, ◌∙◌}
+use Rattle.std.proofs.Common.{◌≡◌, ℕ, ◌≤◌, ◌||◌, Bool, true, false, Option, is_some, Result, Ok, Err, OnOk, OnErr, arith, refl, sym, subst, ap, ◌∙◌}
 use Rattle.std.proofs.lemmas.Bool.Decides.{nat_tests}
-use Rattle.call_table.specs.Words.{Request, Flush, Cache, Item, Replied, Region, Ok as Answers, NoMemory, TurnPoint, Point, Turns, Next, Go, Over, More, Ends, Stage, Reply, Held, DeskFacts, BatchFacts, batch_of, going}
+use Rattle.call_table.specs.Words.{Request, Flush, Cache, Item, Region, Ok as Answers, NoMemory, TurnPoint, Point, Next, Go, Over, More, Ends, Stage, Reply, Held, DeskFacts, BatchFacts, batch_of, going}
 use Rattle.call_table.specs.Calls.{gets_at, gets_turn, may_hold, wants_place, HasRoom}
 use Rattle.call_table.specs.Desks.{desk_fed, desk_turned}
 use Rattle.call_table.specs.Runs.{batch_goes, begin_desk, begin_stage, settle, stage, step_next}
@@ -31,8 +31,7 @@ hand_turned : (desk : DeskFacts) (arena : ℕ) (point : TurnPoint) (reply : Repl
 hand_turned desk arena point reply quiet none = grind arith
 
 hand_fed : (desk : DeskFacts) (arena : ℕ) (point : Point) (item : Item) → gets_at point ≡ false → is_some desk.hand ≡ false → is_some (desk_fed desk arena (Go point) item).hand ≡ false
-hand_fed desk arena (Turns point) (Replied reply) quiet none = hand_turned desk arena point reply quiet none
-hand_fed desk arena point item quiet none = none
+hand_fed desk arena point item quiet none = grind (arith, hand_turned)
 
 either_false : (a b : Bool) → (a || b) ≡ false → (a ≡ false) × (b ≡ false)
 either_false a b none = grind arith
@@ -49,7 +48,7 @@ begin_quiet (Cache false) desk none = batch_quiet desk.arena (batch_of (going tr
 begin_quiet request desk none = first_of (grind arith, cc)
 
 begin_hand : (request : Request) (desk : DeskFacts) → may_hold request ≡ false → (begin_desk request desk).hand ≡ desk.hand
-begin_hand request desk none = first_of (search rules, cc)
+begin_hand request desk none = grind arith
 
 -- where a request begins there is the room that its first place wants
 pub begin_room : (request : Request) (desk now : DeskFacts) (at : Stage) (had has : ℕ) → at ≡ begin_stage request desk → now ≡ begin_desk request desk →

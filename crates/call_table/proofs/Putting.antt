@@ -17,7 +17,7 @@ use Rattle.space_model.proofs.Outcomes.{belongs, beq_itself}
 use Rattle.space_model.proofs.Settled.{some_pages}
 use Rattle.space_model.proofs.Pieces.{put_down-nobody, listed-nobody, both_true}
 use Rattle.space_model.proofs.Moves.{itself}
-use Rattle.call_table.specs.Words.{Later, Then, Batches, Visiting, Giving, Finding, Taking, Offering, Easing, Point, Turns, Asks, Merge, Answer, Placed, Done, Refuses, Purge, Rest, ToDirty, Space, Part, Span, Sound, mine, same_span, end_of, AnswersTo}
+use Rattle.call_table.specs.Words.{Later, Then, Batches, Giving, Finding, Point, Turns, Merge, Answer, Placed, Done, Refuses, Purge, Rest, ToDirty, Space, Part, Span, Sound, mine, same_span, end_of, AnswersTo}
 use Rattle.call_table.specs.Table.{drop, look_on, merged, onward, put_next, turned, visited}
 use Rattle.call_table.specs.Knows.{Idle, Flies, Pair, Settled, Droppable, IsThen, in_flight}
 use Rattle.call_table.specs.Laws.{Keeps, IsNearer, stages, stages_then, stages_later, left, left_then, left_turn, flights_of, looks_left, purges_left}
@@ -49,10 +49,7 @@ room_stage stage bound later n room = grind arith
 
 onward_goes : (c : ℕ) (t : Space) (stage bound : ℕ) (later : Then) → Idle (mine c t) → IsThen later → Room stage bound later 0 →
     Keeps c t stage bound (onward later)
-onward_goes c t stage bound Batches idle is room = idle
-onward_goes c t stage bound (Visiting visit n) idle is room =
-    cond_both (n == 0) _ _ (Keeps c t stage bound) (λ h. visited_goes c t stage bound visit.later idle (room_stage stage bound (Visiting visit n) 0 room))
-    (λ h. ((idle, is, grind (arith, nat_tests)), near c t stage bound (Visiting visit n) (Turns (Taking visit (Some n))) 0 refl (omega arith) room))
+onward_goes c t stage bound later idle is room = grind (arith, nat_tests, visited_goes, room_stage, near)
 
 -- ---- the extent that a reply names
 
@@ -228,14 +225,7 @@ rest_onto c s own tries fresh later p offers is found =
 pub drop_goes : (c : ℕ) (t : Space) (stage bound : ℕ) (span : Span) (lazy : Bool) (later : Then) (p : Part) → (mine c t).offers ≡ [] → IsThen later →
     in_flight span (mine c t).flights ≡ Some p → (lazy ≡ true → rest_of p.state ≡ ToDirty) → Droppable p → Room stage bound later (30 * (flights_of c t - 1) + 16) →
     Keeps c t stage bound (drop span lazy later)
-drop_goes c t stage bound span true later p offers is found dirty backed room = (
-  ((record { part = p; found = found; is = dirty refl; offers = offers }, is), tt),
-  near c t stage bound later (Asks (Easing span later) None) (30 * (flights_of c t - 1) + 16) refl (omega arith) room,
-)
-drop_goes c t stage bound span false later p offers is found dirty backed room = (
-  (record { part = p; found = found; is = backed; offers = offers }, is),
-  near c t stage bound later (Turns (Offering span later)) (30 * (flights_of c t - 1) + 16) refl (omega arith) room,
-)
+drop_goes c t stage bound span lazy later p offers is found dirty backed room = grind (arith, near, dirty)
 
 pub listed_dirty : (r : Rest) → is_listed r Dirty ≡ true → r ≡ ToDirty
 listed_dirty r h = grind arith

@@ -1,5 +1,5 @@
 -- What stands after each refused ask.
-use Rattle.std.proofs.Common.{◌≡◌, ℕ, ◌+◌, Bool, true, false, cond, Option, Some, inl, inr, refl, ◌∙◌, ap, subst, arith, find}
+use Rattle.std.proofs.Common.{◌≡◌, ℕ, ◌+◌, Bool, true, false, cond, Option, Some, inl, inr, ◌∙◌, ap, subst, arith, find}
 use Rattle.space_model.specs.Flights.{lost, won}
 use Rattle.space_model.specs.Part.{is_flight_at}
 use Rattle.space_model.specs.Stepped.{Stepped, whole_at}
@@ -21,8 +21,7 @@ whole_told : (c : ℕ) (s : Space) (span : Span) (b : Bool) → Alone (mine c s)
 whole_told c s span b alone = ap (λ o. (whole_at s o).reply) (alone_found c s span b alone)
 
 chosen_reply : (v : Bool) (a b : Stepped) → (cond v a b).reply ≡ cond v a.reply b.reply
-chosen_reply true a b = refl
-chosen_reply false a b = refl
+chosen_reply v a b = grind arith
 
 -- what is known where the call goes on is what stands there
 rests : (c : ℕ) (t : Space) (stage bound : ℕ) (next there : Next) → next ≡ there → Keeps c t stage bound next → (Keeps c t stage bound there → Idle (mine c t)) → Rests c t next there
