@@ -1,21 +1,19 @@
 -- Each request in range begins with what its first point has to know.
-use Rattle.std.proofs.Common.{ℤ, ◌≡◌, ℕ, ◌≤◌, ◌<◌, ◌&&◌, inl, inr, Bool, true, false, min, List, [], ◌∷◌, length, suc, zero, sym, ap, ◌∙◌, Option, None, Some, refl, arith, nat_le, ◌+◌, Contains}
+use Rattle.std.proofs.Common.{◌≡◌, ℕ, ◌≤◌, ◌<◌, ◌&&◌, inl, inr, Bool, true, false, min, List, [], ◌∷◌, suc, zero, sym, ap, ◌∙◌, Option, None, Some, refl, arith, nat_le, ◌+◌, Contains}
 use Rattle.std.specs.Int.{is_power_of_two}
 use Rattle.std.proofs.lemmas.Bool.Decides.{nat_tests}
 use Rattle.std.proofs.lemmas.Bool.{cond_both}
 use lib.Count.{ones}
 use Rattle.size_classes.proofs.Least.{class_for_exists}
 use Rattle.size_classes.proofs.Table.{slab_filled}
-use Rattle.space_model.specs.Purging.{is_purgeable}
-use Rattle.space_model.specs.Settings.{is_decay_time}
 use Rattle.space_model.specs.Step.{rises_from}
 use Rattle.thread_cache.specs.Desks.{has_slot, older_count, rising_from}
 use Rattle.thread_cache.proofs.Going.{batch_is, cached_is_flat, taken_is_in}
-use Rattle.call_table.specs.Words.{Malloc, Memalign, Free, Publish, Flush, Cache, Time, Reset, Destroy, Bind, TurnPoint, Changing, Resetting, Destroying}
-use Rattle.call_table.specs.Words.{Rest, Mine, Held, DeskFacts, most_regions, cached_in, BatchFacts, batch_of, cached_of, freeing, going, caching, going_with, held_at, is_cacheable}
-use Rattle.call_table.specs.Runs.{batch_goes, begin_bind, begin_flush, begin_free, begin_get, begin_malloc, begin_memalign, begin_publish, first_turn, first_turn_but_0, get, share, wish_for, time_of, after_time}
+use Rattle.call_table.specs.Words.{Malloc, Memalign, Free, Publish, Flush, Cache}
+use Rattle.call_table.specs.Words.{Mine, Held, DeskFacts, most_regions, cached_in, BatchFacts, batch_of, freeing, going, caching, going_with, held_at, is_cacheable}
+use Rattle.call_table.specs.Runs.{batch_goes, begin_flush, begin_free, begin_get, begin_malloc, begin_memalign, begin_publish, get, share, wish_for}
 use Rattle.call_table.specs.Desks.{flushes}
-use Rattle.call_table.specs.Knows.{IsWish, Idle, Gets, KnowsTurn, IsChange, is_held}
+use Rattle.call_table.specs.Knows.{IsWish, Idle, Gets, is_held}
 use Rattle.call_table.specs.Laws.{Ready, KnowsNext, BatchesKnow, BeginsKnow, Has}
 use Rattle.call_table.proofs.Aligned.{aligned_below, page_power}
 
@@ -41,10 +39,6 @@ wish_is class align count below power some = record {
   align = power;
 }
 
--- a turn that comes first knows what it has to, or there is no such arena
-first_knows : (m : Mine) (arena : ℕ) (point : TurnPoint) → Idle m → KnowsTurn m point → KnowsNext m (first_turn arena point).next
-first_knows m arena point idle knows = grind arith
-
 get_knows : (m : Mine) (class align count : ℕ) → Gets m (wish_for class align (min count (most_regions class))) → Idle m → 0 < count → KnowsNext m (get class align count)
 get_knows m class align count gets idle some = grind (arith, nat_tests)
 
@@ -60,15 +54,6 @@ malloc_knows m size desk ready = grind (arith, nat_tests, got_knows, class_for_e
 
 memalign_knows : (m : Mine) (align size : ℕ) (desk : DeskFacts) → Ready m desk (begin_memalign align size desk) → KnowsNext m (begin_memalign align size desk).next
 memalign_knows m align size desk ready = grind (arith, nat_tests, got_knows, aligned_below, page_power)
-
-change_is : (rest : Rest) (ms : ℤ) → is_purgeable rest ≡ true → IsChange (after_time rest ms)
-change_is rest ms purgeable = grind arith
-
-time_knows : (m : Mine) (index : ℕ) (rest : Rest) (ms : ℤ) (now : ℕ) → Idle m → is_decay_time ms ≡ true → is_purgeable rest ≡ true → KnowsTurn m (Changing (time_of rest ms now) (after_time rest ms))
-time_knows m index rest ms now idle range purgeable = grind (arith, change_is)
-
-bind_knows : (m : Mine) (arena index : ℕ) → Idle m → KnowsNext m (begin_bind arena index).next
-bind_knows m arena index idle = grind (arith, nat_tests, first_knows)
 
 -- ---- regions that go back
 
@@ -126,11 +111,6 @@ publish_knows m addr held desk e ready = grind arith
 flush_knows : (m : Mine) (desk : DeskFacts) → Ready m desk (begin_flush desk) → KnowsNext m (begin_flush desk).next
 flush_knows m desk ready = batch_knows m desk desk.arena (going true desk) _ refl (going_is_had desk desk.hand true (λ region e. inr (inr e))) ready
 
--- an arena but the first is emptied or ends with what the client has cached of it
-emptied_knows : (m : Mine) (desk : DeskFacts) (index : ℕ) (point : ℕ → TurnPoint) → ((n : ℕ) → n ≤ length m.regions → KnowsTurn m (point n)) →
-    Ready m desk (first_turn_but_0 index (point (cached_of index desk))) → KnowsNext m (first_turn_but_0 index (point (cached_of index desk))).next
-emptied_knows m desk index point knows ready = grind (arith, first_knows, knows)
-
 pub begins-know : BeginsKnow
 begins-know m (Malloc size) desk range ready = malloc_knows m size desk ready
 begins-know m (Memalign align size) desk range ready = memalign_knows m align size desk ready
@@ -138,8 +118,4 @@ begins-know m (Free addr) desk range ready = free_knows m addr (held_at addr des
 begins-know m (Publish addr) desk range ready = publish_knows m addr (held_at addr desk) desk refl ready
 begins-know m Flush desk range ready = flush_knows m desk ready
 begins-know m (Cache false) desk range ready = flush_knows m desk ready
-begins-know m (Time index rest ms now) desk range ready = first_knows m index _ ready.idle (time_knows m index rest ms now ready.idle range.0 range.1)
-begins-know m (Reset index) desk range ready = emptied_knows m desk index Resetting (λ n few. (ready.idle, few)) ready
-begins-know m (Destroy index) desk range ready = emptied_knows m desk index Destroying (λ n few. (ready.idle, few)) ready
-begins-know m (Bind index) desk range ready = bind_knows m desk.arena index ready.idle
 begins-know m request desk range ready = grind (arith, nat_tests)

@@ -1,12 +1,12 @@
 -- Where a request begins there is room for its asks and turns. And what a call asks for fits into a number.
-use Rattle.std.proofs.Common.{◌≡◌, ◌≤◌, ◌<◌, ℕ, ◌^◌, ◌==◌, true, false, cond, not, min, Option, None, Some, Result, Ok, Err, OnOk, OnErr, List, [], arith, nat_lt, subst, sym}
+use Rattle.std.proofs.Common.{◌≡◌, ◌≤◌, ◌<◌, ℕ, ◌^◌, true, false, cond, not, min, Option, None, Some, Result, Ok, Err, OnOk, OnErr, List, [], arith, nat_lt, subst, sym}
 use Rattle.std.proofs.lemmas.Bool.{cond_both}
 use Rattle.std.proofs.lemmas.Bool.Decides.{nat_tests}
 use Rattle.size_classes.proofs.Least.{class_for_exists}
 use Rattle.size_classes.proofs.Table.{pages_bounds}
-use Rattle.call_table.specs.Words.{Request, Malloc, Memalign, Free, Publish, Flush, Cache, Reset, Destroy, Create, Bind, Item, Answered, TooLarge, aligned_for, class_for, most_regions, BatchFacts, batch_of, cached_of, going, held_at, hit}
-use Rattle.call_table.specs.Words.{Leaves, TurnPoint, Changing, Resetting, Destroying, Turns, Next, Go, More, Ends, Nowhere, Stage, SetBound, Held, DeskFacts}
-use Rattle.call_table.specs.Runs.{Moment, batch_goes, begin, begin_free, begin_get, begin_publish, begin_stage, first_turn, first_turn_but_0, is_alignment, page_align, run, settle, share, small_hit, stage, step_next, wish_for}
+use Rattle.call_table.specs.Words.{Request, Malloc, Memalign, Free, Publish, Flush, Cache, Item, Answered, TooLarge, aligned_for, class_for, most_regions, BatchFacts, batch_of, going, held_at, hit}
+use Rattle.call_table.specs.Words.{Next, Go, More, Ends, Nowhere, Stage, Held, DeskFacts}
+use Rattle.call_table.specs.Runs.{Moment, batch_goes, begin, begin_free, begin_get, begin_publish, begin_stage, is_alignment, page_align, run, settle, share, small_hit, stage, step_next, wish_for}
 use Rattle.call_table.specs.Desks.{flushes}
 use Rattle.call_table.specs.Points.{IsFew, IsSizedPoint, IsSizedNext}
 use Rattle.call_table.specs.Needs.{Goes, IsPlace}
@@ -24,12 +24,6 @@ Begun asks turns next = ⊥
 
 batch_begun : (arena : ℕ) (batch : Option BatchFacts) → Begun 0 9 (batch_goes arena batch).next
 batch_begun arena batch = grind arith
-
-first_begun : (arena : ℕ) (point : TurnPoint) → Begun 0 9 (Go (Turns point)) → Begun 0 9 (first_turn arena point).next
-first_begun arena point is = grind arith
-
-but_0_begun : (arena : ℕ) (point : TurnPoint) → Begun 0 9 (Go (Turns point)) → Begun 0 9 (first_turn_but_0 arena point).next
-but_0_begun arena point is = grind (arith, first_begun)
 
 got_begun : (class align : ℕ) (hit : Option Held) (desk : DeskFacts) → class < 121 → Begun 5 8 (begin_get class align hit desk).next
 got_begun class align (Some region) desk below = tt
@@ -57,11 +51,7 @@ begin_begun (Publish addr) desk = publish_begun addr (held_at addr desk)
 begin_begun Flush desk = batch_begun desk.arena (batch_of (going true desk))
 begin_begun (Cache true) desk = tt
 begin_begun (Cache false) desk = batch_begun desk.arena (batch_of (going true desk))
-begin_begun (Reset index) desk = but_0_begun index (Resetting (cached_of index desk)) (omega arith, omega arith, tt)
-begin_begun (Destroy index) desk = but_0_begun index (Destroying (cached_of index desk)) (omega arith, omega arith, tt)
-begin_begun (Create box_no dirty_ms muzzy_ms now) desk = (omega arith, omega arith, tt)
-begin_begun (Bind index) desk = chosen_stage (Begun 0 9) (index == desk.arena) _ _ tt (first_begun index (Changing SetBound (Leaves desk.arena)) (omega arith, omega arith, tt))
-begin_begun request desk = first_begun _ _ (omega arith, omega arith, tt)
+begin_begun request desk = grind (arith, nat_tests)
 
 begun_call : (asks turns : ℕ) (next : Next) → Begun asks turns next → IsPlace next × IsSizedNext next
 begun_call asks turns next begun = grind arith

@@ -1,12 +1,11 @@
 -- A free makes few asks for what its own returns emptied.
-use Rattle.std.proofs.Common.{◌≡◌, ℕ, ◌+◌, ◌-◌, ◌*◌, ◌≤◌, Bool, true, false, cond, List, [], ◌∷◌, Option, None, Some, sym, subst, arith, ap, add-zero, length, count_by, nat_lt}
-use Rattle.std.proofs.lemmas.Bool.{cond_both}
+use Rattle.std.proofs.Common.{◌≡◌, ℕ, ◌+◌, ◌-◌, ◌*◌, ◌≤◌, Bool, true, cond, List, [], ◌∷◌, Option, None, Some, sym, subst, arith, ap, add-zero, length, count_by}
 use Rattle.std.proofs.lemmas.Bool.Decides.{nat_tests}
 use Rattle.std.proofs.lemmas.List.Sums.{sum_by-cons}
 use Rattle.space_model.specs.Flights.{lost, won}
-use Rattle.call_table.specs.Words.{Request, Free, FreeForeign, Flush, Cache, Item, Replied, Told, Starved, Batches, TurnPoint, Giving, Finding, Offering, Owning, AskPoint, Merging, Easing, Returning, Decommitting, Forcing, Point, Turns, Asks, Tells, Next, Go, Over, More, Reply, Space, Sound, mine, AskFacts, Held, DeskFacts, BatchFacts, batch_of, freeing, going, going_with, held_at}
+use Rattle.call_table.specs.Words.{Request, Item, Replied, Told, Starved, Batches, TurnPoint, Giving, Finding, Offering, Owning, AskPoint, Merging, Easing, Returning, Decommitting, Forcing, Point, Turns, Asks, Tells, Next, Go, Over, More, Reply, Space, Sound, mine, AskFacts, DeskFacts, BatchFacts}
 use Rattle.call_table.specs.Table.{done_of, is_marked, op_of, starved, step, told, turned, want}
-use Rattle.call_table.specs.Runs.{Moment, after, batch_goes, begin, begin_free, begin_stage, settle, step_next}
+use Rattle.call_table.specs.Runs.{Moment, after, batch_goes, begin, begin_stage, settle, step_next}
 use Rattle.call_table.specs.Desks.{desk_fed}
 use Rattle.call_table.specs.Knows.{Knows, KnowsTurn}
 use Rattle.call_table.specs.Laws.{Keeps, Moves, left, stages, unheard, with_found}
@@ -135,16 +134,7 @@ walk_paid c made most (x ∷ xs) at (strides, follows, walks) paid =
     omega (arith, walk_paid c (made + one (is_told x.item)) (most + brings_by c at.stage.next x) xs (after at x.item) walks from, sum_by-cons (λ y. one (asks y)) x xs, sum_by-cons (λ y. one (purges y)) x xs)
 
 begin_paid : (f : ℕ) (request : Request) (desk : DeskFacts) → is_free request ≡ true → Paid f 0 0 (begin_stage request desk).next
-begin_paid f (Free addr) desk is = by (held_at addr desk)
-  where
-    by : (held : Option Held) → Paid f 0 0 (begin_free addr held desk).next
-    by None = omega arith
-    by (Some region) = batch_paid f 0 0 region.arena (batch_of (going_with (freeing region desk).hand false desk)) (omega arith)
-begin_paid f (FreeForeign addr index) desk is = cond_both (nat_lt index 32) _ _ (Paid f 0 0) (λ _. omega arith) (λ _. omega arith)
-begin_paid f Flush desk is = batch_paid f 0 0 desk.arena (batch_of (going true desk)) (omega arith)
-begin_paid f (Cache true) desk is = omega arith
-begin_paid f (Cache false) desk is = batch_paid f 0 0 desk.arena (batch_of (going true desk)) (omega arith)
-begin_paid f request desk is = absurd (cc)
+begin_paid f request desk is = grind (arith, nat_tests, batch_paid)
 
 pub frees-are_few : FreesAreFew
 frees-are_few c request desk strides is walks = omega (arith, walk_paid c 0 0 strides (begin request desk) walks (starts strides))

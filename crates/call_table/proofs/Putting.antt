@@ -94,10 +94,7 @@ begins_as span q h = (both_true (q.span.first == span.first) _ h).0
 
 -- and nowhere else
 begins_not : (span : Span) (first : ℕ) → span.first ≢ first → (q : Part) → same_span q.span span ≡ true → not (begins_at first q) ≡ true
-begins_not span first differ q h = elsewhere q.span.first (eqb-true _ _ (both_true (q.span.first == span.first) _ h).0)
-  where
-    elsewhere : (at : ℕ) → at ≡ span.first → not (at == first) ≡ true
-    elsewhere at same = grind (arith, nat_tests)
+begins_not span first differ q h = grind (arith, nat_tests)
 
 -- ---- the neighbour
 

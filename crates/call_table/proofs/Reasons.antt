@@ -1,13 +1,13 @@
 -- The reasons of each point to which a call comes, and of its answer.
-use Rattle.std.proofs.Common.{rules, negsuc, ◌≡◌, ℕ, ◌*◌, ◌^◌, ◌==◌, ◌⊎◌, inl, inr, Bool, true, false, not, min, max, List, [], ◌∷◌, ◌++◌, Option, None, Some, refl, sym, ◌∙◌, ap, subst, arith, nat_lt, append_assoc, Contains, int_eq}
+use Rattle.std.proofs.Common.{rules, ◌≡◌, ℕ, ◌*◌, ◌^◌, ◌⊎◌, inl, inr, Bool, true, false, not, min, max, List, [], ◌∷◌, ◌++◌, Option, None, Some, refl, sym, ◌∙◌, ap, subst, arith, nat_lt, append_assoc, Contains}
 use Rattle.std.proofs.lemmas.Bool.{cond_both, ltb-true, not-true, not-false}
 use Rattle.std.proofs.lemmas.Bool.Decides.{nat_tests}
 use Rattle.space_model.specs.Step.{step_of, after_cut, after_commit, after_grow}
-use Rattle.call_table.specs.Words.{Request, Malloc, Memalign, Free, FreeForeign, Publish, Take, Flush, Cache, Time, Reset, Destroy, Create, Bind, Item, Replied, Told, Starved, Given, Refused, BadAnswer, NotHeld, Automatic, aligned_for, class_for, most_regions, BatchFacts, batch_of, cached_of, going, held_at, hit}
-use Rattle.call_table.specs.Words.{Wish, Later, Answers, DirtyToo, Then, Batches, Visiting, Change, Visits, TurnPoint, Filling, Looking, Landing, Finding, Taking, Offering, Changing, Resetting, Destroying, Owning, AskPoint, Skipping, Trimming, Growing, Paring, Needing, Granting, Committing, Merging, Easing, Returning, Decommitting, Forcing, Point, Turns, Asks, Tells, Next, Go, Over, Gone, Ends, Stage}
+use Rattle.call_table.specs.Words.{Request, Malloc, Memalign, Free, FreeForeign, Publish, Take, Item, Replied, Told, Starved, Given, Refused, BadAnswer, NotHeld, aligned_for, class_for, most_regions, BatchFacts, held_at, hit}
+use Rattle.call_table.specs.Words.{Wish, Later, Answers, DirtyToo, Then, Batches, Visiting, Change, Visits, TurnPoint, Filling, Looking, Landing, Finding, Taking, Offering, Changing, Owning, AskPoint, Skipping, Trimming, Growing, Paring, Needing, Granting, Committing, Merging, Easing, Returning, Decommitting, Forcing, Point, Turns, Asks, Tells, Next, Go, Over, Gone, Ends, Stage}
 use Rattle.call_table.specs.Words.{Refuses, Reply, NoArena, Nothing, Took, Cut, Whole, Refuse, Bad, Grown, Landed, Regions, Owned, Space, Span, Why, AskFacts, Held, DeskFacts}
 use Rattle.call_table.specs.Table.{answered_span, alloc_of, ask_of, done_of, op_of, is_marked, starved, whole_chunks, step, turned, told, commit, trim, put_next, took_over}
-use Rattle.call_table.specs.Runs.{batch_goes, begin, begin_free, begin_get, begin_malloc, begin_memalign, begin_publish, begin_stage, first_turn, first_turn_but_0, get, is_alignment, page_align, settle, share, small_hit, step_next, wish_for, time_of, after_time}
+use Rattle.call_table.specs.Runs.{batch_goes, begin, begin_free, begin_get, begin_malloc, begin_memalign, begin_publish, begin_stage, get, is_alignment, page_align, settle, share, small_hit, step_next, wish_for}
 use Rattle.call_table.specs.Laws.{with_found}
 use Rattle.call_table.specs.Causes.{extent, extent_of, NothingFits, WasGranted, IsNeeded, IsWishOf, RegionCause, GivenCause, CauseOf, Came, AllCame, AnswersHaveCauses}
 use Rattle.call_table.proofs.Aligned.{failing_is_not, passing_is}
@@ -250,12 +250,6 @@ module _ (desk : DeskFacts) where
 
   -- ---- where a request begins
 
-  first_why : (request : Request) (arena : ℕ) (point : TurnPoint) → TurnWhy request [] point → NextWhy request [] (first_turn arena point).next
-  first_why request arena point why = grind (arith, nat_tests)
-
-  but_0_why : (request : Request) (arena : ℕ) (point : TurnPoint) → (arena ≡ 0 → CauseOf desk request [] Automatic) → TurnWhy request [] point → NextWhy request [] (first_turn_but_0 arena point).next
-  but_0_why request arena point automatic why = grind (arith, nat_tests, first_why)
-
   get_why : (request : Request) (class align count : ℕ) → IsWishOf request (wish_for class align (min count (most_regions class))) → NextWhy request [] (get class align count)
   get_why request class align count wished = cond_both (nat_lt class 36) _ _ (NextWhy request []) (λ _. wished) (λ _. wished)
 
@@ -286,22 +280,7 @@ module _ (desk : DeskFacts) where
   publish_why addr held e = grind arith
 
   pub begin_why : (request : Request) → NextWhy request [] (begin_stage request desk).next
-  begin_why (Malloc size) = malloc_why size
-  begin_why (Memalign align size) = memalign_why align size
-  begin_why (Free addr) = free_why addr (held_at addr desk) refl
-  begin_why (FreeForeign addr index) = first_why (FreeForeign addr index) index (Owning addr true false) refl
-  begin_why (Publish addr) = publish_why addr (held_at addr desk) refl
-  begin_why (Take addr index) = first_why (Take addr index) index (Owning addr false false) refl
-  begin_why Flush = batch_why Flush desk.arena (batch_of (going true desk))
-  begin_why (Cache true) = tt
-  begin_why (Cache false) = batch_why (Cache false) desk.arena (batch_of (going true desk))
-  begin_why (Time index rest ms now) =
-      first_why (Time index rest ms now) index (Changing (time_of rest ms now) (after_time rest ms)) (cond_both (int_eq ms (negsuc 0)) _ _ (ChangeWhy (Time index rest ms now) []) (λ _. tt) (λ _. tt))
-  begin_why (Reset index) = but_0_why (Reset index) index (Resetting (cached_of index desk)) (λ e. e) tt
-  begin_why (Destroy index) = but_0_why (Destroy index) index (Destroying (cached_of index desk)) (λ e. e) tt
-  begin_why (Create box_no dirty_ms muzzy_ms now) = tt
-  begin_why (Bind index) = cond_both (index == desk.arena) _ _ (λ (at : Stage). NextWhy (Bind index) [] at.next) (λ _. tt) (λ _. first_why (Bind index) index _ tt)
-  begin_why request = first_why request _ _ tt
+  begin_why request = grind (arith, nat_tests, malloc_why, memalign_why, free_why, publish_why, batch_why)
 
 pub answers-have_causes : AnswersHaveCauses
 answers-have_causes c request desk items answer came e =

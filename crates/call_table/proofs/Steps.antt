@@ -3,19 +3,18 @@ use Rattle.std.proofs.Common.{rules, add-zero, append-nil, inl, inr, fold, take,
 use Rattle.std.specs.List.{position_or_len}
 use Rattle.std.proofs.lemmas.List.Elements.{filter-append}
 use Rattle.std.proofs.lemmas.Bool.Decides.{nat_tests}
-use Rattle.std.proofs.lemmas.Bool.{cond_both}
 use Rattle.std.proofs.lemmas.List.{take-append-drop}
 use Rattle.space_model.specs.declared.Region.{Region}
 use Rattle.space_model.specs.Part.{is_active, is_listed, is_flight, begins_at, moved_to, placed, turned as turned_parts, turned_in_order}
 use Rattle.space_model.specs.Stepped.{Stepped, stays, replaced, if_live, is_lazy, is_dirty_time_over}
 use Rattle.space_model.specs.Pace.{after_advance, advance_all}
-use Rattle.space_model.specs.Settings.{after_set, setting_stands, is_absent}
+use Rattle.space_model.specs.Settings.{after_set, setting_stands}
 use Rattle.space_model.specs.Holding.{take_over_at, is_published_at}
 use Rattle.space_model.specs.Ending.{held_count, flight_count, if_free, after_reset, emptied, after_destroy, ended, doom_at}
 use Rattle.space_model.specs.Step.{step_of, after_cut}
 use Rattle.space_model.proofs.Pieces.{put_down-nobody}
 use Rattle.space_model.proofs.Moves.{itself}
-use Rattle.call_table.specs.Words.{Replied, Told, Starved, Busy, Split, Answer, Reply, NoArena, Noted, Purge, Doomed, InUse, Rest, ToDirty, ToRetained, Setting, MakeLive, Space, Part, Span, Sound, mine, AskFacts, fill_at, lowest_free, AnswersTo}
+use Rattle.call_table.specs.Words.{Replied, Told, Starved, Busy, Split, Answer, Reply, NoArena, Noted, Purge, Doomed, InUse, Rest, ToDirty, ToRetained, Setting, Space, Part, Span, Sound, mine, AskFacts, fill_at, lowest_free, AnswersTo}
 use Rattle.call_table.specs.Words.{Wish, Change, TurnPoint, Filling, Looking, Landing, Giving, Finding, Taking, Offering, Advancing, Changing, Making, Resetting, Destroying, Dooming, Publishing, Owning, AskPoint, Skipping, Trimming, Growing, Paring, Needing, Granting, Committing, Merging, Easing, Returning, Decommitting, Forcing, Turns, Asks, Tells, Next, Go, Gone, Ends}
 use Rattle.call_table.specs.Table.{ask_of, turned, starved, is_marked, told, done_of, op_of, whole_chunks, limited, changed, make_next, skipped, trimmed, grown, needed, granted, committed}
 use Rattle.call_table.specs.Knows.{Idle, Alone, Gets, KnowsAsk, KnowsTurn, Heard, IsChange, is_of_arena}
@@ -74,10 +73,7 @@ next_made c s index setting idle stands of = grind (arith, nat_tests)
 
 make_keeps : (c : ℕ) (s : Space) (index : ℕ) (setting : Setting) → Idle (mine c s) → setting_stands setting ≡ true → is_of_arena setting ≡ false →
     Onto c (turned (Making index setting)) (31 - index) 0 (after_set s c setting)
-make_keeps c s index (MakeLive box_no dirty_ms muzzy_ms now) idle stands of =
-    cond_both (is_absent s.life) _ _ (Onto c (turned (Making index (MakeLive box_no dirty_ms muzzy_ms now))) (31 - index) 0) (λ _. record { flights = idle.flights; offers = idle.offers })
-    (λ _. next_made c s index (MakeLive box_no dirty_ms muzzy_ms now) idle stands of)
-make_keeps c s index setting idle stands of = absurd (cc)
+make_keeps c s index setting idle stands of = grind (arith, next_made)
 
 -- a step that only an arena makes which is in nobody's use
 free_keeps : (c : ℕ) (s : Space) (f : Reply → Next) (stage bound held flights threads : ℕ) (u : Stepped) → f (InUse held flights threads) ≡ Ends (Busy held flights threads) → Idle (mine c s) →
