@@ -1,21 +1,19 @@
 -- Each request in range begins with what its first point has to know.
-use Rattle.std.proofs.Common.{ℤ, ◌≡◌, ℕ, ◌≤◌, ◌<◌, ◌==◌, ◌&&◌, ◌^◌, inl, inr, Bool, true, false, not, min, List, [], ◌∷◌, length, suc, zero, sym, ap, ◌∙◌, Option, None, Some, refl, arith, nat_le, nat_lt, ◌+◌, Contains}
+use Rattle.std.proofs.Common.{◌≡◌, ℕ, ◌≤◌, ◌<◌, ◌&&◌, inl, inr, Bool, true, false, min, List, [], ◌∷◌, suc, zero, sym, ap, ◌∙◌, Option, None, Some, refl, arith, nat_le, ◌+◌, Contains}
 use Rattle.std.specs.Int.{is_power_of_two}
 use Rattle.std.proofs.lemmas.Bool.Decides.{nat_tests}
-use Rattle.std.proofs.lemmas.Bool.{cond_both, not-false, ltb-true}
+use Rattle.std.proofs.lemmas.Bool.{cond_both}
 use lib.Count.{ones}
 use Rattle.size_classes.proofs.Least.{class_for_exists}
 use Rattle.size_classes.proofs.Table.{slab_filled}
-use Rattle.space_model.specs.Purging.{is_purgeable}
-use Rattle.space_model.specs.Settings.{is_decay_time}
 use Rattle.space_model.specs.Step.{rises_from}
 use Rattle.thread_cache.specs.Desks.{has_slot, older_count, rising_from}
 use Rattle.thread_cache.proofs.Going.{batch_is, cached_is_flat, taken_is_in}
-use Rattle.call_table.specs.Words.{Malloc, Memalign, Free, Publish, Flush, Cache, Time, Reset, Destroy, Bind, TurnPoint, Changing, Resetting, Destroying, Stage}
-use Rattle.call_table.specs.Words.{Rest, ToDirty, ToMuzzy, ToRetained, Mine, Held, DeskFacts, aligned_for, class_for, most_regions, cached_in, BatchFacts, batch_of, cached_of, freeing, going, caching, going_with, held_at, hit, is_cacheable}
-use Rattle.call_table.specs.Runs.{batch_goes, begin_bind, begin_flush, begin_free, begin_get, begin_malloc, begin_memalign, begin_publish, first_turn, first_turn_but_0, get, is_alignment, page_align, share, small_hit, wish_for, time_of, after_time}
+use Rattle.call_table.specs.Words.{Malloc, Memalign, Free, Publish, Flush, Cache}
+use Rattle.call_table.specs.Words.{Mine, Held, DeskFacts, most_regions, cached_in, BatchFacts, batch_of, freeing, going, caching, going_with, held_at, is_cacheable}
+use Rattle.call_table.specs.Runs.{batch_goes, begin_flush, begin_free, begin_get, begin_malloc, begin_memalign, begin_publish, get, share, wish_for}
 use Rattle.call_table.specs.Desks.{flushes}
-use Rattle.call_table.specs.Knows.{IsWish, Idle, Gets, KnowsTurn, IsChange, is_held}
+use Rattle.call_table.specs.Knows.{IsWish, Idle, Gets, is_held}
 use Rattle.call_table.specs.Laws.{Ready, KnowsNext, BatchesKnow, BeginsKnow, Has}
 use Rattle.call_table.proofs.Aligned.{aligned_below, page_power}
 
@@ -26,8 +24,7 @@ power_1 = refl
 
 -- a class has room for one region at least
 one_fits : (class : ℕ) → 1 ≤ most_regions class
-one_fits class =
-    cond_both (nat_lt class 36) _ _ (λ n. 1 ≤ n) (λ h. (slab_filled class (ltb-true _ _ h)).1) (λ _. omega arith)
+one_fits class = grind (arith, nat_tests, slab_filled class)
 
 -- at least one region is got
 some_shared : (class : ℕ) (desk : DeskFacts) → 0 < share class desk
@@ -42,14 +39,8 @@ wish_is class align count below power some = record {
   align = power;
 }
 
--- a turn that comes first knows what it has to, or there is no such arena
-first_knows : (m : Mine) (arena : ℕ) (point : TurnPoint) → Idle m → KnowsTurn m point → KnowsNext m (first_turn arena point).next
-first_knows m arena point idle knows =
-    cond_both (nat_lt arena 32) _ _ (KnowsNext m) (λ _. knows) (λ _. idle)
-
 get_knows : (m : Mine) (class align count : ℕ) → Gets m (wish_for class align (min count (most_regions class))) → Idle m → 0 < count → KnowsNext m (get class align count)
-get_knows m class align count gets idle some =
-    cond_both (nat_lt class 36) _ _ (KnowsNext m) (λ h. (gets, idle, ltb-true _ _ h, some)) (λ _. (gets, idle))
+get_knows m class align count gets idle some = grind (arith, nat_tests)
 
 got_knows : (m : Mine) (class align : ℕ) (hit : Option Held) (desk : DeskFacts) → class < 121 → is_power_of_two align ≡ true →
     Ready m desk (begin_get class align hit desk) → KnowsNext m (begin_get class align hit desk).next
@@ -59,27 +50,10 @@ got_knows m class align None desk below power ready =
     get_knows m class align (share class desk) (record { is = wish_is class align (share class desk) below power some; served = ready.served refl }) ready.idle some
 
 malloc_knows : (m : Mine) (size : ℕ) (desk : DeskFacts) → Ready m desk (begin_malloc size desk) → KnowsNext m (begin_malloc size desk).next
-malloc_knows m size desk ready =
-    cond_both (nat_lt (2 ^ 35) size) _ _ (λ at. Ready m desk at → KnowsNext m at.next) (λ _ r. r.idle)
-    (λ h. got_knows m (class_for size) 1 (hit (class_for size) desk) desk (class_for_exists size (grind (arith, nat_tests))) power_1) ready
+malloc_knows m size desk ready = grind (arith, nat_tests, got_knows, class_for_exists, power_1)
 
 memalign_knows : (m : Mine) (align size : ℕ) (desk : DeskFacts) → Ready m desk (begin_memalign align size desk) → KnowsNext m (begin_memalign align size desk).next
-memalign_knows m align size desk ready =
-    cond_both (not (is_alignment align)) _ _ (λ at. Ready m desk at → KnowsNext m at.next) (λ _ r. r.idle)
-    (λ good. cond_both (nat_lt (2 ^ 35) size) _ _ (λ at. Ready m desk at → KnowsNext m at.next) (λ _ r. r.idle)
-    (λ h. got_knows m (aligned_for size align) (page_align align) (small_hit (aligned_for size align) desk) desk (aligned_below size align (grind (arith, nat_tests))) (page_power align (not-false _ good)))) ready
-
-change_is : (rest : Rest) (ms : ℤ) → is_purgeable rest ≡ true → IsChange (after_time rest ms)
-change_is rest ms purgeable = grind arith
-
-time_knows : (m : Mine) (index : ℕ) (rest : Rest) (ms : ℤ) (now : ℕ) → Idle m → is_decay_time ms ≡ true → is_purgeable rest ≡ true → KnowsTurn m (Changing (time_of rest ms now) (after_time rest ms))
-time_knows m index ToDirty ms now idle range purgeable = (idle, range, change_is ToDirty ms purgeable, refl)
-time_knows m index ToMuzzy ms now idle range purgeable = (idle, range, change_is ToMuzzy ms purgeable, refl)
-time_knows m index ToRetained ms now idle range purgeable = absurd (cc)
-
-bind_knows : (m : Mine) (arena index : ℕ) → Idle m → KnowsNext m (begin_bind arena index).next
-bind_knows m arena index idle =
-    cond_both (index == arena) _ _ (λ (at : Stage). KnowsNext m at.next) (λ _. idle) (λ _. first_knows m index _ idle (idle, refl, tt, refl))
+memalign_knows m align size desk ready = grind (arith, nat_tests, got_knows, aligned_below, page_power)
 
 -- ---- regions that go back
 
@@ -132,17 +106,10 @@ free_knows m addr (Some region) desk held ready =
         (λ _ e. inr (inr (cached_hand region own desk e))) (λ _ e. inl (addr, held ∙ e)) is
 
 publish_knows : (m : Mine) (addr : ℕ) (held : Option Held) (desk : DeskFacts) → held_at addr desk ≡ held → Ready m desk (begin_publish addr held) → KnowsNext m (begin_publish addr held).next
-publish_knows m addr None desk e ready = ready.idle
-publish_knows m addr (Some region) desk e ready = (ready.idle, ready.holds region (inl (addr, e)) refl)
+publish_knows m addr held desk e ready = grind arith
 
 flush_knows : (m : Mine) (desk : DeskFacts) → Ready m desk (begin_flush desk) → KnowsNext m (begin_flush desk).next
 flush_knows m desk ready = batch_knows m desk desk.arena (going true desk) _ refl (going_is_had desk desk.hand true (λ region e. inr (inr e))) ready
-
--- an arena but the first is emptied or ends with what the client has cached of it
-emptied_knows : (m : Mine) (desk : DeskFacts) (index : ℕ) (point : ℕ → TurnPoint) → ((n : ℕ) → n ≤ length m.regions → KnowsTurn m (point n)) →
-    Ready m desk (first_turn_but_0 index (point (cached_of index desk))) → KnowsNext m (first_turn_but_0 index (point (cached_of index desk))).next
-emptied_knows m desk index point knows ready =
-    cond_both (index == 0) _ _ (λ at. Ready m desk at → KnowsNext m at.next) (λ _ r. r.idle) (λ _ r. first_knows m index _ r.idle (knows (cached_of index desk) r.cached)) ready
 
 pub begins-know : BeginsKnow
 begins-know m (Malloc size) desk range ready = malloc_knows m size desk ready
@@ -151,8 +118,4 @@ begins-know m (Free addr) desk range ready = free_knows m addr (held_at addr des
 begins-know m (Publish addr) desk range ready = publish_knows m addr (held_at addr desk) desk refl ready
 begins-know m Flush desk range ready = flush_knows m desk ready
 begins-know m (Cache false) desk range ready = flush_knows m desk ready
-begins-know m (Time index rest ms now) desk range ready = first_knows m index _ ready.idle (time_knows m index rest ms now ready.idle range.0 range.1)
-begins-know m (Reset index) desk range ready = emptied_knows m desk index Resetting (λ n few. (ready.idle, few)) ready
-begins-know m (Destroy index) desk range ready = emptied_knows m desk index Destroying (λ n few. (ready.idle, few)) ready
-begins-know m (Bind index) desk range ready = bind_knows m desk.arena index ready.idle
 begins-know m request desk range ready = grind (arith, nat_tests)

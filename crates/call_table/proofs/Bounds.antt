@@ -3,7 +3,7 @@
 use Rattle.std.proofs.Common.{◌≡◌, ℕ, ◌+◌, ◌-◌, ◌≤◌, Bool, true, false, cond, List, [], ◌∷◌, ◌++◌, Option, None, Some, sym, subst, arith, append_assoc, append-nil, sum_by, count_by, refl, ap, ◌∙◌}
 use Rattle.std.proofs.lemmas.Bool.Decides.{nat_tests}
 use Rattle.std.proofs.lemmas.List.Sums.{sum_by_push}
-use Rattle.call_table.specs.Words.{Request, Item, Answered, Replied, Finished, Ok, NoSuchArena, TurnPoint, Filling, Looking, Landing, Giving, Finding, Offering, Point, Turns, Asks, Tells, Next, Go, Over, More, Gone, Ends, Nowhere, Stage, Nothing, BatchFacts, DeskFacts, batch_of, going}
+use Rattle.call_table.specs.Words.{Request, Item, Answered, Finished, Ok, NoSuchArena, TurnPoint, Filling, Looking, Landing, Giving, Finding, Offering, Point, Turns, Asks, Tells, Next, Go, Over, More, Gone, Ends, Nowhere, Stage, BatchFacts, DeskFacts, batch_of, going}
 use Rattle.call_table.specs.Words.{AskPoint, Skipping, Trimming, Growing, Paring, Needing, Granting, Committing, Merging, Easing, Returning, Decommitting, Forcing}
 use Rattle.call_table.specs.Runs.{IsRun, begin, Moment, after, batch_goes, run, settle, step_next}
 use Rattle.call_table.specs.Desks.{desk_fed, flushes}
@@ -109,8 +109,6 @@ abbrev one : Bool → ℕ
 one v = cond v 1 0
 
 step_left : (asks most : ℕ) (next : Next) (item : Item) → Left asks most next → Left (asks + one (is_told item)) (most + brings item) (step_next next item)
-step_left asks most (Go (Turns (Filling wish count))) (Replied Nothing) left = grind arith
-step_left asks most (Go (Asks (Skipping wish span b skip) (Some asked))) (Replied Nothing) left = grind arith
 step_left asks most next item left = grind (arith, nat_tests)
 
 -- what the items so far bring beside the asks that a request makes
@@ -149,8 +147,6 @@ Short asks turns Nowhere = Unit {0}
 Short asks turns next = (asks ≤ 5) × (turns ≤ 8)
 
 step_short : (asks turns : ℕ) (next : Next) (item : Item) → Short asks turns next → Short (asks + one (is_told item)) (turns + one (is_turn item)) (step_next next item)
-step_short asks turns (Go (Turns (Filling wish count))) (Replied Nothing) short = grind arith
-step_short asks turns (Go (Asks (Skipping wish span b skip) (Some asked))) (Replied Nothing) short = grind arith
 step_short asks turns next item short = grind (arith, nat_tests)
 
 abbrev pub IsShortStill : List Item → Next → Type 0

@@ -1,9 +1,9 @@
 -- Every answer has its cause: each step keeps the reasons of the point to which it leads.
-use Rattle.std.proofs.Common.{◌≡◌, ℕ, inl, inr, Bool, false, List, [], ◌∷◌, ◌++◌, Option, None, Some, refl, ◌∙◌, ap, arith, Contains}
+use Rattle.std.proofs.Common.{◌≡◌, ℕ, Bool, false, List, [], ◌∷◌, ◌++◌, Option, None, Some, refl, ◌∙◌, ap, arith, Contains}
 use Rattle.std.proofs.lemmas.List.Elements.{Contains-append_left, Contains-append_right}
 use Rattle.std.proofs.lemmas.List.Sums.{fold-append}
 use Rattle.space_model.specs.Step.{after_cut, after_commit, after_grow, why_not}
-use Rattle.call_table.specs.Words.{Item, Replied, Alloc, Commit, Split, Answer, Placed, Refuses, Grow, Whole, Refuse, Bad, Grown, Space, Span, Why}
+use Rattle.call_table.specs.Words.{Item, Alloc, Commit, Split, Answer, Placed, Refuses, Whole, Refuse, Bad, Grown, Space, Span, Why}
 use Rattle.call_table.specs.Table.{answered_span}
 use Rattle.call_table.specs.Causes.{Extent, extent_after, extent_of, NothingFits}
 
@@ -51,5 +51,4 @@ pub extent_next : (items : List Item) (item : Item) (had : Option Extent) → ex
 extent_next items item had e = extent_more items item ∙ ap (λ o. extent_after o item) e
 
 pub fits_more : (items : List Item) (item : Item) → NothingFits items → NothingFits (items ++ item ∷ [])
-fits_more items item (inl (series, has)) = inl (series, more_in items item (Replied (Grow series)) has)
-fits_more items item (inr has) = inr (more_in items item (Replied Whole) has)
+fits_more items item fits = grind (arith, more_in)

@@ -1,12 +1,12 @@
 -- Where a request begins there is room for its asks and turns. And what a call asks for fits into a number.
-use Rattle.std.proofs.Common.{◌≡◌, ◌≤◌, ◌<◌, ℕ, ◌^◌, ◌==◌, true, false, cond, not, min, Option, None, Some, Result, Ok, Err, OnOk, OnErr, List, [], arith, nat_lt, subst, sym}
+use Rattle.std.proofs.Common.{◌≡◌, ◌≤◌, ◌<◌, ℕ, ◌^◌, true, false, cond, not, min, Option, None, Some, Result, Ok, Err, OnOk, OnErr, List, [], arith, nat_lt, subst, sym}
 use Rattle.std.proofs.lemmas.Bool.{cond_both}
 use Rattle.std.proofs.lemmas.Bool.Decides.{nat_tests}
 use Rattle.size_classes.proofs.Least.{class_for_exists}
 use Rattle.size_classes.proofs.Table.{pages_bounds}
-use Rattle.call_table.specs.Words.{Request, Malloc, Memalign, Free, Publish, Flush, Cache, Reset, Destroy, Create, Bind, Item, Replied, Answered, TooLarge, aligned_for, class_for, most_regions, BatchFacts, batch_of, cached_of, freeing, going, going_with, held_at, hit}
-use Rattle.call_table.specs.Words.{Leaves, TurnPoint, Filling, Changing, Resetting, Destroying, Skipping, Turns, Asks, Next, Go, More, Ends, Nowhere, Stage, Nothing, SetBound, Held, DeskFacts}
-use Rattle.call_table.specs.Runs.{Moment, batch_goes, begin, begin_free, begin_get, begin_publish, begin_stage, first_turn, first_turn_but_0, is_alignment, page_align, run, settle, share, small_hit, stage, step_next, wish_for}
+use Rattle.call_table.specs.Words.{Request, Malloc, Memalign, Free, Publish, Flush, Cache, Item, Answered, TooLarge, aligned_for, class_for, most_regions, BatchFacts, batch_of, going, held_at, hit}
+use Rattle.call_table.specs.Words.{Next, Go, More, Ends, Nowhere, Stage, Held, DeskFacts}
+use Rattle.call_table.specs.Runs.{Moment, batch_goes, begin, begin_free, begin_get, begin_publish, begin_stage, is_alignment, page_align, run, settle, share, small_hit, stage, step_next, wish_for}
 use Rattle.call_table.specs.Desks.{flushes}
 use Rattle.call_table.specs.Points.{IsFew, IsSizedPoint, IsSizedNext}
 use Rattle.call_table.specs.Needs.{Goes, IsPlace}
@@ -25,12 +25,6 @@ Begun asks turns next = ⊥
 batch_begun : (arena : ℕ) (batch : Option BatchFacts) → Begun 0 9 (batch_goes arena batch).next
 batch_begun arena batch = grind arith
 
-first_begun : (arena : ℕ) (point : TurnPoint) → Begun 0 9 (Go (Turns point)) → Begun 0 9 (first_turn arena point).next
-first_begun arena point is = cond_both (nat_lt arena 32) _ _ (Begun 0 9) (λ _. is) (λ _. tt)
-
-but_0_begun : (arena : ℕ) (point : TurnPoint) → Begun 0 9 (Go (Turns point)) → Begun 0 9 (first_turn_but_0 arena point).next
-but_0_begun arena point is = chosen_stage (Begun 0 9) (arena == 0) _ _ tt (first_begun arena point is)
-
 got_begun : (class align : ℕ) (hit : Option Held) (desk : DeskFacts) → class < 121 → Begun 5 8 (begin_get class align hit desk).next
 got_begun class align (Some region) desk below = tt
 got_begun class align None desk below =
@@ -39,12 +33,10 @@ got_begun class align None desk below =
 
 -- a size that isn't too large has a class
 sized_begun : (size : ℕ) (desk : DeskFacts) (begun : Stage) → (size ≤ 2 ^ 35 → Begun 5 8 begun.next) → Begun 5 8 (cond (nat_lt (2 ^ 35) size) (stage desk.arena (Ends TooLarge)) begun).next
-sized_begun size desk begun goes =
-    cond_both (nat_lt (2 ^ 35) size) _ _ (λ (at : Stage). Begun 5 8 at.next) (λ _. tt) (λ h. goes (grind (arith, nat_tests)))
+sized_begun size desk begun goes = grind (arith, nat_tests, goes)
 
 free_begun : (addr : ℕ) (held : Option Held) (desk : DeskFacts) → Begun 0 9 (begin_free addr held desk).next
-free_begun addr None desk = tt
-free_begun addr (Some region) desk = batch_begun region.arena (batch_of (going_with (freeing region desk).hand false desk))
+free_begun addr held desk = grind (arith, batch_begun)
 
 publish_begun : (addr : ℕ) (held : Option Held) → Begun 0 9 (begin_publish addr held).next
 publish_begun addr held = grind arith
@@ -59,16 +51,10 @@ begin_begun (Publish addr) desk = publish_begun addr (held_at addr desk)
 begin_begun Flush desk = batch_begun desk.arena (batch_of (going true desk))
 begin_begun (Cache true) desk = tt
 begin_begun (Cache false) desk = batch_begun desk.arena (batch_of (going true desk))
-begin_begun (Reset index) desk = but_0_begun index (Resetting (cached_of index desk)) (omega arith, omega arith, tt)
-begin_begun (Destroy index) desk = but_0_begun index (Destroying (cached_of index desk)) (omega arith, omega arith, tt)
-begin_begun (Create box_no dirty_ms muzzy_ms now) desk = (omega arith, omega arith, tt)
-begin_begun (Bind index) desk = chosen_stage (Begun 0 9) (index == desk.arena) _ _ tt (first_begun index (Changing SetBound (Leaves desk.arena)) (omega arith, omega arith, tt))
-begin_begun request desk = first_begun _ _ (omega arith, omega arith, tt)
+begin_begun request desk = grind (arith, nat_tests)
 
 begun_call : (asks turns : ℕ) (next : Next) → Begun asks turns next → IsPlace next × IsSizedNext next
-begun_call asks turns (Go point) begun = (tt, begun.2)
-begun_call asks turns (Ends answer) begun = (tt, tt)
-begun_call asks turns next begun = absurd begun
+begun_call asks turns next begun = grind arith
 
 pub begin-is_call : (request : Request) (desk : DeskFacts) → IsCall (begin_stage request desk)
 begin-is_call request desk = begun_call _ _ (begin_stage request desk).next (begin_begun request desk)
@@ -76,18 +62,14 @@ begin-is_call request desk = begun_call _ _ (begin_stage request desk).next (beg
 -- ---- the laws
 
 begun_left : (asks turns : ℕ) (next : Next) → Begun asks turns next → AsksLeft asks [] next
-begun_left asks turns (Go point) begun = omega (arith, begun.0)
-begun_left asks turns (Ends answer) begun = omega arith
-begun_left asks turns next begun = absurd begun
+begun_left asks turns next begun = grind arith
 
 pub asks-are_few : AsksAreFew
 asks-are_few request desk items answer e =
     subst (AsksLeft (most_asks request) items) e (run_left (most_asks request) items (begin request desk) (begun_left _ _ (begin_stage request desk).next (begin_begun request desk)))
 
 begun_short : (next : Next) → Begun 5 8 next → IsShortStill [] next
-begun_short (Go point) begun = (omega (arith, begun.0), omega (arith, begun.1))
-begun_short (Ends answer) begun = (omega arith, omega arith)
-begun_short next begun = absurd begun
+begun_short next begun = grind arith
 
 ends_short : (items : List Item) (at : Moment) (answer : Answered) → Begun 5 8 at.stage.next → (run at items).stage.next ≡ Ends answer → IsShort items
 ends_short items at answer begun e =
@@ -101,8 +83,6 @@ mallocs-are_short request desk items answer is e = absurd (cc)
 -- ---- the stages of a call
 
 pub next_few : (next : Next) (item : Item) → IsSizedNext next → IsSizedNext (step_next next item)
-next_few (Go (Turns (Filling wish count))) (Replied Nothing) few = few
-next_few (Go (Asks (Skipping wish span b skip) (Some asked))) (Replied Nothing) few = tt
 next_few next item few = grind (arith, nat_tests)
 
 pub settle_few : (request : Request) (desk : DeskFacts) (arena : ℕ) (next : Next) → IsSizedNext next → IsSizedNext (settle request desk arena next).next

@@ -1,7 +1,6 @@
 -- What the turns of a call leave that purges extents: what it knows where it goes on.
-use Rattle.std.proofs.Common.{inl, inr, IsTrue, is_some, ◌≡◌, ℕ, ◌+◌, ◌-◌, ◌*◌, ◌<◌, ◌≤◌, ◌==◌, ◌&&◌, ◌||◌, Bool, true, false, not, cond, List, [], ◌∷◌, ◌++◌, Option, None, Some, refl, sym, ◌∙◌, ap, subst, arith, All, filter, find, length, ltb as nat_lt}
+use Rattle.std.proofs.Common.{inr, IsTrue, is_some, ◌≡◌, ℕ, ◌+◌, ◌-◌, ◌*◌, ◌<◌, ◌≤◌, ◌==◌, ◌&&◌, ◌||◌, Bool, true, false, not, cond, List, [], ◌∷◌, ◌++◌, Option, None, Some, refl, sym, ◌∙◌, ap, subst, arith, All, filter, find, length}
 use Rattle.std.specs.Option.{option_or}
-use Rattle.std.proofs.lemmas.Bool.{cond_both}
 use Rattle.std.proofs.lemmas.Bool.Decides.{nat_tests}
 use Rattle.std.proofs.lemmas.List.Elements.{All-filter, All-head, filter-append}
 use Rattle.std.proofs.Math.ListN.{length-append}
@@ -9,8 +8,8 @@ use Rattle.std.proofs.lemmas.List.Folds.{find-append}
 use Rattle.space_model.specs.declared.Offered.{Offered}
 use Rattle.space_model.specs.declared.State.TheVariants.{Dirty, Flight}
 use Rattle.space_model.specs.Span.{IsPlaced, meets}
-use Rattle.space_model.specs.Part.{exchanged, begins_at, is_flight, is_flight_at, is_listed, is_backed, rest_of, listed, taken_out, pages_listed}
-use Rattle.space_model.specs.Stepped.{stays, is_live, is_lazy}
+use Rattle.space_model.specs.Part.{exchanged, begins_at, is_flight, is_flight_at, is_listed, is_backed, rest_of, listed, taken_out}
+use Rattle.space_model.specs.Stepped.{stays, is_lazy}
 use Rattle.space_model.specs.Step.{next_flight}
 use Rattle.space_model.specs.Purging.{after_lazy, lazy_at, offer_at, offer_of, without_offer, is_offer, is_regranted, after_offer, after_decommit, decommit_at, after_purge_take, purge_at, count_listed, is_purgeable}
 use Rattle.space_model.proofs.Exchange.{find_passes, find_has}
@@ -175,12 +174,10 @@ forced_onto c s span later flies is =
 
 -- a visit that took an extent has fewer to take, or begins
 visit_room : (visit : Visit) (left : Option ℕ) (listed : ℕ) → HasLeft left → Room (stages_visit visit left) (left_visit left) (Visiting visit (takes_left left listed)) 16
-visit_room visit None listed some = inl (omega arith)
-visit_room visit (Some n) listed some = inr (refl, omega arith)
+visit_room visit left listed some = grind arith
 
 visit_stage : (visit : Visit) (left : Option ℕ) → stages_later visit.later ≤ stages_visit visit left
-visit_stage visit None = omega arith
-visit_stage visit (Some n) = omega arith
+visit_stage visit left = grind arith
 
 purgeable_backed : (r : Rest) → is_purgeable r ≡ true → is_backed r ≡ true
 purgeable_backed r h = grind arith
@@ -204,8 +201,4 @@ took_goes c s visit left (Some p) e idle is some =
 
 pub take_onto : (c : ℕ) (s : Space) (visit : Visit) (left : Option ℕ) → Idle (mine c s) → IsVisit visit → HasLeft left →
     Onto c (turned (Taking visit left)) (stages_visit visit left) (left_visit left) (after_purge_take s c visit.rest visit.keep)
-take_onto c s visit left idle is some =
-    cond_both (is_live s.life) _ _ (Onto c (turned (Taking visit left)) (stages_visit visit left) (left_visit left))
-    (λ _. cond_both (nat_lt visit.keep (pages_listed visit.rest s.parts)) _ _ (Onto c (turned (Taking visit left)) (stages_visit visit left) (left_visit left))
-    (λ _. took_goes c s visit left (find (λ p. is_listed visit.rest p.state) s.parts) refl idle is some) (λ _. visited_goes c s (stages_visit visit left) (left_visit left) visit.later idle (visit_stage visit left)))
-    (λ _. idle)
+take_onto c s visit left idle is some = grind (arith, nat_tests, took_goes, visited_goes, visit_stage)

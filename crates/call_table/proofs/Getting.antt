@@ -1,8 +1,8 @@
 -- What the turns of a call leave that gets an extent: what it knows where it goes on.
-use Rattle.std.proofs.Common.{inr, min, ◌≡◌, ◌≢◌, ℕ, ◌+◌, ◌-◌, ◌<◌, ◌≤◌, Bool, true, false, not, cond, List, [], ◌∷◌, ◌++◌, Option, None, Some, refl, sym, ◌∙◌, ap, subst, arith, filter, find, ltb as nat_lt, count_ones}
+use Rattle.std.proofs.Common.{min, ◌≡◌, ◌≢◌, ℕ, ◌+◌, ◌-◌, ◌<◌, ◌≤◌, Bool, true, false, not, cond, List, [], ◌∷◌, ◌++◌, Option, None, Some, refl, sym, ◌∙◌, ap, subst, arith, filter, find, count_ones}
 use Rattle.std.specs.Int.{is_power_of_two}
 use Rattle.std.proofs.lemmas.Bool.Decides.{nat_tests}
-use Rattle.std.proofs.lemmas.Bool.{cond_both, ltb-true, leb-true, eqb-true}
+use Rattle.std.proofs.lemmas.Bool.{cond_both, leb-true, eqb-true}
 use Rattle.std.proofs.lemmas.Nat.{ones_le_self}
 use Rattle.std.proofs.lemmas.List.Elements.{filter-append}
 use Rattle.size_classes.proofs.Table.{pages_bounds}
@@ -14,8 +14,8 @@ use Rattle.space_model.specs.Step.{after_cut, cut_at, kept_piece, other_piece, a
 use Rattle.space_model.proofs.Exchange.{find_passes}
 use Rattle.space_model.proofs.Pieces.{put_down-nobody, both_true}
 use Rattle.space_model.proofs.Moves.{itself}
-use Rattle.call_table.specs.Words.{Wish, Looking, Landing, Next, Alloc, Commit, Split, Answer, Placed, Done, Refuses, Reply, Noted, Cut, Whole, Refuse as Refused, Bad, Grown, Rest, ToDirty, ToMuzzy, ToRetained, Space, Part, Span, Why, mine, max_series, same_span, end_of, land_at, AnswersTo as Answers}
-use Rattle.call_table.specs.Table.{commit, grant, grow, trim, skip_to, turned, chunks_for}
+use Rattle.call_table.specs.Words.{Wish, Looking, Landing, Next, Alloc, Commit, Split, Answer, Placed, Done, Refuses, Reply, Noted, Cut, Whole, Refuse as Refused, Bad, Grown, Rest, Space, Part, Span, Why, mine, same_span, end_of, land_at, AnswersTo as Answers}
+use Rattle.call_table.specs.Table.{commit, grant, grow, trim, skip_to, turned}
 use Rattle.call_table.specs.Knows.{IsWish, Idle, Alone, Gets, is_served, in_flight}
 use Rattle.call_table.specs.Laws.{Keeps}
 use Rattle.call_table.proofs.Lists.{passes_alone}
@@ -29,37 +29,28 @@ wish_some wish is = omega (arith, is.pages, pages_bounds wish.class is.class)
 
 pub commit_goes : (c : ℕ) (t : Space) (bound : ℕ) (wish : Wish) (span : Span) (b : Bool) → Gets (mine c t) wish → Alone (mine c t) span b →
     span.pages ≡ wish.pages → 3 < bound → Keeps c t 0 bound (commit wish span b)
-commit_goes c t bound wish span true gets alone pages fewer = ((gets, alone, pages), inr (refl, omega arith))
-commit_goes c t bound wish span false gets alone pages fewer = (((gets, alone, pages), tt), inr (refl, omega arith))
+commit_goes c t bound wish span b gets alone pages fewer = grind arith
 
 pub grant_goes : (c : ℕ) (t : Space) (bound : ℕ) (wish : Wish) (span : Span) (b : Bool) → Gets (mine c t) wish → Alone (mine c t) span b →
     wish.pages ≤ span.pages → 5 < bound → Keeps c t 0 bound (grant wish span b)
-grant_goes c t bound wish span b gets alone holds fewer =
-    cond_both (nat_lt wish.pages span.pages) _ _ (Keeps c t 0 bound) (λ h. (((gets, alone, ltb-true _ _ h), tt), inr (refl, omega arith)))
-    (λ h. commit_goes c t bound wish span b gets alone (grind (arith, nat_tests)) (omega arith))
+grant_goes c t bound wish span b gets alone holds fewer = grind (arith, nat_tests, commit_goes)
 
 pub trim_goes : (c : ℕ) (t : Space) (bound : ℕ) (wish : Wish) (span : Span) (b : Bool) → Gets (mine c t) wish → Alone (mine c t) span b →
     wish.pages ≤ span.pages → 9 < bound → Keeps c t 0 bound (trim wish span b)
-trim_goes c t bound wish span b gets alone holds fewer =
-    cond_both (nat_lt wish.pages span.pages) _ _ (Keeps c t 0 bound) (λ h. (((gets, alone, ltb-true _ _ h), tt), inr (refl, omega arith)))
-    (λ h. commit_goes c t bound wish span b gets alone (grind (arith, nat_tests)) (omega arith))
+trim_goes c t bound wish span b gets alone holds fewer = grind (arith, nat_tests, commit_goes)
 
 skip_goes : (c : ℕ) (t : Space) (bound : ℕ) (wish : Wish) (span : Span) (b : Bool) (skip : ℕ) → Gets (mine c t) wish → Alone (mine c t) span b →
     skip + wish.pages ≤ span.pages → 11 < bound → Keeps c t 0 bound (skip_to wish span b skip)
-skip_goes c t bound wish span b skip gets alone holds fewer =
-    cond_both (nat_lt 0 skip) _ _ (Keeps c t 0 bound) (λ h. (((gets, alone, ltb-true _ _ h, holds), tt), inr (refl, omega arith)))
-    (λ h. trim_goes c t bound wish span b gets alone (omega arith) (omega arith))
+skip_goes c t bound wish span b skip gets alone holds fewer = grind (arith, nat_tests, trim_goes)
 
 -- the arena grows by more chunks than are needed, or by just as many
 pub grow_goes : (c : ℕ) (t : Space) (bound : ℕ) (wish : Wish) (series : ℕ) → Gets (mine c t) wish → Idle (mine c t) → 11 < bound →
     Keeps c t 0 bound (grow wish series)
-grow_goes c t bound wish series gets idle fewer =
-    cond_both (nat_lt (chunks_for wish.pages) (min series max_series)) _ _ (Keeps c t 0 bound) (λ h. (((gets, idle, ltb-true _ _ h), tt), inr (refl, omega arith)))
-    (λ h. (((gets, idle), tt), inr (refl, omega arith)))
+grow_goes c t bound wish series gets idle fewer = grind (arith, nat_tests)
 
 -- a customer stays one
 pub gets_kept : (c : ℕ) (s t : Space) (wish : Wish) → Gets (mine c s) wish → is_served (mine c t) ≡ is_served (mine c s) → Gets (mine c t) wish
-gets_kept c s t wish gets e = record { is = gets.is; served = e ∙ gets.served }
+gets_kept c s t wish gets e = grind arith
 
 -- ---- the client's only extent in flight
 
@@ -120,8 +111,7 @@ kept_span false left s = record { first = s.first + left; pages = s.pages - left
 -- what the pieces of a cut have of the extent
 piece_is : (keep_low : Bool) (left : ℕ) (p : Part) → ((kept_piece keep_low left p).span ≡ kept_span keep_low left p.span) × ((kept_piece keep_low left p).state ≡ p.state)
     × ((kept_piece keep_low left p).committed ≡ p.committed) × ((put_down (other_piece keep_low left p)).state ≡ listed (rest_of p.state))
-piece_is true left p = (refl, refl, refl, refl)
-piece_is false left p = (refl, refl, refl, refl)
+piece_is keep_low left p = grind arith
 
 cut_done : (c : ℕ) (s : Space) (f : Reply → Next) (bound : ℕ) (keep_low : Bool) (span : Span) (left : ℕ) (b : Bool) → (alone : Alone (mine c s) span b) →
     AnyAfter c s (λ t. Alone (mine c t) (kept_span keep_low left span) b → Keeps c t 0 bound (f (Cut (kept_span keep_low left span)))) →
@@ -210,9 +200,7 @@ fit_of-holds rest pages align parts p e =
     let candidate = (both_true (is_candidate rest pages align p) _ best).0 in (both_true _ (holds_run pages align p.span) candidate).1
 
 fit-holds : (pages align : ℕ) (parts : List Part) (p : Part) → fit pages align parts ≡ Some p → holds_run pages align p.span ≡ true
-fit-holds pages align parts p e =
-    let of : (rest : Rest) → fit_of rest pages align parts ≡ Some p → holds_run pages align p.span ≡ true = λ rest. fit_of-holds rest pages align parts p in
-    grind (arith, of ToDirty, of ToMuzzy, of ToRetained)
+fit-holds pages align parts p e = grind (arith, fit_of-holds)
 
 -- the run begins at the span's start or above
 run_above : (align : ℕ) (s : Span) → 1 ≤ align → s.first ≤ run_start align s

@@ -14,6 +14,9 @@ pub mod Causes
 pub mod Reasons
 pub mod Credits
 pub mod Rooms
+pub mod Frees
+pub mod Places
+pub mod Refusals
 pub mod Multiples
 pub mod Memaligns
 pub mod Proved

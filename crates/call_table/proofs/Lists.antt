@@ -30,7 +30,7 @@ any-filter a xs = by_test (λ f. list_any f xs) a (λ x. a x && true) (λ x. sym
 
 -- where none passes, none is
 pub none-any : {X : Type 0} (f : X → Bool) (xs : List X) → filter f xs ≡ [] → list_any f xs ≡ false
-none-any f xs e = any-filter f xs ∙ ap (list_any (λ _. true)) e
+none-any f xs e = grind (arith, any-filter f xs)
 
 -- two filters may be applied in either order
 pub filter-swap : {X : Type 0} (a b : X → Bool) (xs : List X) → filter a (filter b xs) ≡ filter b (filter a xs)
@@ -38,20 +38,13 @@ filter-swap a b xs = sym (filter-both b a xs) ∙ by_test (λ f. filter f xs) _ 
 
 -- those that are neither are left after one filter and the other
 pub filter-either : {X : Type 0} (a b : X → Bool) (xs : List X) → filter (λ x. not (a x || b x)) xs ≡ filter (λ x. not (b x)) (filter (λ x. not (a x)) xs)
-filter-either a b xs = by_test (λ f. filter f xs) _ _ (λ x. neither (a x) (b x)) ∙ filter-both (λ x. not (a x)) (λ x. not (b x)) xs
-  where
-    neither : (v w : Bool) → not (v || w) ≡ (not v && not w)
-    neither true w = refl
-    neither false w = refl
+filter-either a b [] = refl
+filter-either a b (x ∷ xs) = grind (arith, filter-either a b xs)
 
 -- what is sought and would stay is found after others went
 pub find-kept : {X : Type 0} (test keep : X → Bool) (xs : List X) → ((x : X) → test x ≡ true → keep x ≡ true) → find test (filter keep xs) ≡ find test xs
-find-kept test keep xs stays = sym (find-both keep test xs) ∙ by_test (λ f. find f xs) _ _ (λ x. implied (keep x) (test x) (stays x))
-  where
-    implied : (v w : Bool) → (w ≡ true → v ≡ true) → (v && w) ≡ w
-    implied true w h = refl
-    implied false true h = absurd (let no = h refl in cc)
-    implied false false h = refl
+find-kept test keep [] stays = refl
+find-kept test keep (x ∷ xs) stays = grind (arith, find-kept test keep xs stays, stays x)
 
 -- where none of these is there, none is found that would be one of them
 pub find-none : {X : Type 0} (test f : X → Bool) (xs : List X) → filter f xs ≡ [] → ((x : X) → test x ≡ true → f x ≡ true) → find test xs ≡ None

@@ -5,7 +5,6 @@ use Rattle.std.proofs.lemmas.List.Elements.{All-head, All-tail, filter-append}
 use Rattle.space_model.specs.declared.Region.{Region}
 use Rattle.space_model.specs.declared.State.{State}
 use Rattle.space_model.specs.declared.Life.{Life}
-use Rattle.space_model.specs.declared.Life.TheVariants.{Live, Absent, Dying}
 use Rattle.space_model.specs.Part.{is_flight, is_flight_at, exchanged}
 use Rattle.space_model.specs.Region.{is_held_by}
 use Rattle.space_model.specs.Step.{is_live, is_customer, holds_at}
@@ -62,9 +61,7 @@ has_nothing c s regions offers bound flights = record {
 }
 
 nothing_at : (c : ℕ) (s : Space) (life : Life) → IsQuiet life s → is_live life ≡ false → Nothing (mine c s)
-nothing_at c s Live quiet h = absurd (cc)
-nothing_at c s Absent quiet h = has_nothing c s quiet.0 quiet.1 quiet.2 (ap (filter (λ p. is_flight c p.state)) quiet.3)
-nothing_at c s (Dying d) quiet h = has_nothing c s quiet.0 quiet.1 quiet.2 (none_flies c s.parts quiet.3)
+nothing_at c s life quiet h = grind (arith, has_nothing, none_flies)
 
 -- an arena in which the client has something is live
 pub live_where : (c : ℕ) (s : Space) → Sound s → ¬ Nothing (mine c s) → is_live s.life ≡ true

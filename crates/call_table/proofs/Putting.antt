@@ -17,7 +17,7 @@ use Rattle.space_model.proofs.Outcomes.{belongs, beq_itself}
 use Rattle.space_model.proofs.Settled.{some_pages}
 use Rattle.space_model.proofs.Pieces.{put_down-nobody, listed-nobody, both_true}
 use Rattle.space_model.proofs.Moves.{itself}
-use Rattle.call_table.specs.Words.{Later, Answers, DirtyToo, Then, Batches, Visiting, Giving, Finding, Taking, Offering, Easing, Point, Turns, Asks, Merge, Answer, Placed, Done, Refuses, Purge, Rest, ToDirty, Space, Part, Span, Sound, mine, same_span, end_of, AnswersTo}
+use Rattle.call_table.specs.Words.{Later, Then, Batches, Giving, Finding, Point, Turns, Merge, Answer, Placed, Done, Refuses, Purge, Rest, ToDirty, Space, Part, Span, Sound, mine, same_span, end_of, AnswersTo}
 use Rattle.call_table.specs.Table.{drop, look_on, merged, onward, put_next, turned, visited}
 use Rattle.call_table.specs.Knows.{Idle, Flies, Pair, Settled, Droppable, IsThen, in_flight}
 use Rattle.call_table.specs.Laws.{Keeps, IsNearer, stages, stages_then, stages_later, left, left_then, left_turn, flights_of, looks_left, purges_left}
@@ -38,24 +38,18 @@ fewer_room stage bound later m n less room = grind arith
 -- a point of this stage has it
 pub near : (c : ℕ) (t : Space) (stage bound : ℕ) (later : Then) (point : Point) (n : ℕ) → stages point ≡ stages_then later → left c t point ≤ n + left_then later →
     Room stage bound later n → IsNearer c t stage bound point
-near c t stage bound later point n same most (inl early) = inl (omega (arith, same, early))
-near c t stage bound later point n same most (inr here) = inr (same ∙ here.0, omega (arith, most, here.1))
+near c t stage bound later point n same most room = grind arith
 
 -- what follows a visit
 pub visited_goes : (c : ℕ) (t : Space) (stage bound : ℕ) (later : Later) → Idle (mine c t) → stages_later later ≤ stage → Keeps c t stage bound (visited later)
-visited_goes c t stage bound (Answers given) idle most = idle
-visited_goes c t stage bound (DirtyToo keep given) idle most = ((idle, refl, tt), inl (omega (arith, most)))
+visited_goes c t stage bound later idle most = grind arith
 
 pub room_stage : (stage bound : ℕ) (later : Then) (n : ℕ) → Room stage bound later n → stages_then later ≤ stage
-room_stage stage bound later n (inl early) = omega (arith, early)
-room_stage stage bound later n (inr same) = omega (arith, same.0)
+room_stage stage bound later n room = grind arith
 
 onward_goes : (c : ℕ) (t : Space) (stage bound : ℕ) (later : Then) → Idle (mine c t) → IsThen later → Room stage bound later 0 →
     Keeps c t stage bound (onward later)
-onward_goes c t stage bound Batches idle is room = idle
-onward_goes c t stage bound (Visiting visit n) idle is room =
-    cond_both (n == 0) _ _ (Keeps c t stage bound) (λ h. visited_goes c t stage bound visit.later idle (room_stage stage bound (Visiting visit n) 0 room))
-    (λ h. ((idle, is, grind (arith, nat_tests)), near c t stage bound (Visiting visit n) (Turns (Taking visit (Some n))) 0 refl (omega arith) room))
+onward_goes c t stage bound later idle is room = grind (arith, nat_tests, visited_goes, room_stage, near)
 
 -- ---- the extent that a reply names
 
@@ -100,10 +94,7 @@ begins_as span q h = (both_true (q.span.first == span.first) _ h).0
 
 -- and nowhere else
 begins_not : (span : Span) (first : ℕ) → span.first ≢ first → (q : Part) → same_span q.span span ≡ true → not (begins_at first q) ≡ true
-begins_not span first differ q h = elsewhere q.span.first (eqb-true _ _ (both_true (q.span.first == span.first) _ h).0)
-  where
-    elsewhere : (at : ℕ) → at ≡ span.first → not (at == first) ≡ true
-    elsewhere at same = grind (arith, nat_tests)
+begins_not span first differ q h = grind (arith, nat_tests)
 
 -- ---- the neighbour
 
@@ -145,8 +136,7 @@ neighbour_near tries p other parts =
 
 -- what holds of an extent by where it belongs holds of another one that belongs there
 settled_like : (fresh : Bool) (p q : Part) → rest_of q.state ≡ rest_of p.state → Settled fresh p → Settled fresh q
-settled_like true p q rest is = tt
-settled_like false p q rest is = rw rest is
+settled_like fresh p q rest is = grind arith
 
 -- ---- the look for a neighbour
 
@@ -232,14 +222,7 @@ rest_onto c s own tries fresh later p offers is found =
 pub drop_goes : (c : ℕ) (t : Space) (stage bound : ℕ) (span : Span) (lazy : Bool) (later : Then) (p : Part) → (mine c t).offers ≡ [] → IsThen later →
     in_flight span (mine c t).flights ≡ Some p → (lazy ≡ true → rest_of p.state ≡ ToDirty) → Droppable p → Room stage bound later (30 * (flights_of c t - 1) + 16) →
     Keeps c t stage bound (drop span lazy later)
-drop_goes c t stage bound span true later p offers is found dirty backed room = (
-  ((record { part = p; found = found; is = dirty refl; offers = offers }, is), tt),
-  near c t stage bound later (Asks (Easing span later) None) (30 * (flights_of c t - 1) + 16) refl (omega arith) room,
-)
-drop_goes c t stage bound span false later p offers is found dirty backed room = (
-  (record { part = p; found = found; is = backed; offers = offers }, is),
-  near c t stage bound later (Turns (Offering span later)) (30 * (flights_of c t - 1) + 16) refl (omega arith) room,
-)
+drop_goes c t stage bound span lazy later p offers is found dirty backed room = grind (arith, near, dirty)
 
 pub listed_dirty : (r : Rest) → is_listed r Dirty ≡ true → r ≡ ToDirty
 listed_dirty r h = grind arith
@@ -274,8 +257,7 @@ put_onto c s own tries fresh later sound look flies is = put_found c s own tries
 -- the extent that stays in flight looks on
 looking : (c : ℕ) (t : Space) (own : Span) (own_low fresh : Bool) (later : Then) (bound : ℕ) → Flies (mine c t) own (Settled fresh) → IsThen later → 30 * (flights_of c t - 1) ≤ bound →
     Keeps c t (stages_then later) (bound + cond own_low 5 2 + purges_left fresh + left_then later) (look_on own own_low fresh later)
-looking c t own true fresh later bound flies is most = ((omega arith, flies, is), inr (refl, omega arith))
-looking c t own false fresh later bound flies is most = ((omega arith, flies, is), inr (refl, omega arith))
+looking c t own own_low fresh later bound flies is most = grind arith
 
 -- both are one from now on
 join_onto : (c : ℕ) (s : Space) (low high : Span) (own_low fresh : Bool) (later : Then) (p q : Part) → (mine c s).offers ≡ [] → IsThen later → Settled fresh p →

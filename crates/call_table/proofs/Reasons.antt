@@ -1,15 +1,15 @@
 -- The reasons of each point to which a call comes, and of its answer.
-use Rattle.std.proofs.Common.{rules, negsuc, ◌≡◌, ℕ, ◌*◌, ◌≤◌, ◌^◌, ◌==◌, ◌⊎◌, inl, inr, Bool, true, false, not, min, max, List, [], ◌∷◌, ◌++◌, Option, None, Some, refl, sym, ◌∙◌, ap, subst, arith, nat_lt, append_assoc, Contains, int_eq}
-use Rattle.std.proofs.lemmas.Bool.{cond_both, ltb-true, eqb-true, not-true, not-false}
+use Rattle.std.proofs.Common.{rules, ◌≡◌, ℕ, ◌*◌, ◌^◌, ◌⊎◌, inl, inr, Bool, true, false, not, min, max, List, [], ◌∷◌, ◌++◌, Option, None, Some, refl, sym, ◌∙◌, ap, subst, arith, nat_lt, append_assoc, Contains}
+use Rattle.std.proofs.lemmas.Bool.{cond_both, ltb-true, not-true, not-false}
 use Rattle.std.proofs.lemmas.Bool.Decides.{nat_tests}
 use Rattle.space_model.specs.Step.{step_of, after_cut, after_commit, after_grow}
-use Rattle.call_table.specs.Words.{Request, Malloc, Memalign, Free, FreeForeign, Publish, Take, Flush, Cache, Time, Reset, Destroy, Create, Bind, Item, Replied, Told, Starved, Given, Region, Finished, Arena, Limits, Refused, BadAnswer, NotHeld, Automatic, aligned_for, class_for, most_regions, BatchFacts, batch_of, cached_of, freeing, going, going_with, held_at, hit}
-use Rattle.call_table.specs.Words.{Wish, Later, Answers, DirtyToo, Then, Batches, Visiting, Change, Visits, TurnPoint, Filling, Looking, Landing, Finding, Taking, Offering, Changing, Resetting, Destroying, Owning, AskPoint, Skipping, Trimming, Growing, Paring, Needing, Granting, Committing, Merging, Easing, Returning, Decommitting, Forcing, Point, Turns, Asks, Tells, Next, Go, Over, Gone, Ends, Stage}
-use Rattle.call_table.specs.Words.{Refuses, Reply, NoArena, Nothing, Noted, Took, Cut, Whole, Refuse, Bad, Grown, Landed, Regions, LimitsAre, Owned, Space, Span, Why, AskFacts, Held, DeskFacts}
+use Rattle.call_table.specs.Words.{Request, Malloc, Memalign, Free, FreeForeign, Publish, Take, Item, Replied, Told, Starved, Given, Refused, BadAnswer, NotHeld, aligned_for, class_for, most_regions, BatchFacts, held_at, hit}
+use Rattle.call_table.specs.Words.{Wish, Later, Answers, DirtyToo, Then, Batches, Visiting, Change, Visits, TurnPoint, Filling, Looking, Landing, Finding, Taking, Offering, Changing, Owning, AskPoint, Skipping, Trimming, Growing, Paring, Needing, Granting, Committing, Merging, Easing, Returning, Decommitting, Forcing, Point, Turns, Asks, Tells, Next, Go, Over, Gone, Ends, Stage}
+use Rattle.call_table.specs.Words.{Refuses, Reply, NoArena, Nothing, Took, Cut, Whole, Refuse, Bad, Grown, Landed, Regions, Owned, Space, Span, Why, AskFacts, Held, DeskFacts}
 use Rattle.call_table.specs.Table.{answered_span, alloc_of, ask_of, done_of, op_of, is_marked, starved, whole_chunks, step, turned, told, commit, trim, put_next, took_over}
-use Rattle.call_table.specs.Runs.{batch_goes, begin, begin_free, begin_get, begin_malloc, begin_memalign, begin_publish, begin_stage, first_turn, first_turn_but_0, get, is_alignment, page_align, settle, share, small_hit, step_next, wish_for, time_of, after_time}
+use Rattle.call_table.specs.Runs.{batch_goes, begin, begin_free, begin_get, begin_malloc, begin_memalign, begin_publish, begin_stage, get, is_alignment, page_align, settle, share, small_hit, step_next, wish_for}
 use Rattle.call_table.specs.Laws.{with_found}
-use Rattle.call_table.specs.Causes.{extent, extent_of, NothingFits, WasGranted, IsNeeded, IsWishOf, GotCause, RegionCause, GivenCause, CauseOf, Came, AllCame, AnswersHaveCauses}
+use Rattle.call_table.specs.Causes.{extent, extent_of, NothingFits, WasGranted, IsNeeded, IsWishOf, RegionCause, GivenCause, CauseOf, Came, AllCame, AnswersHaveCauses}
 use Rattle.call_table.proofs.Aligned.{failing_is_not, passing_is}
 use Rattle.call_table.proofs.Bounds.{Settles, run_keeps, settle_keeps}
 use Rattle.call_table.proofs.Causes.{cut_whole, commit_whole, grow_refused, grow_bad, grow_grown, last_in, more_in, extent_next, fits_more}
@@ -89,38 +89,21 @@ module _ (desk : DeskFacts) where
   -- ---- reasons last
 
   given_more : (request : Request) (items : List Item) (item : Item) (given : Given) → GivenCause desk request items given → GivenCause desk request (items ++ item ∷ []) given
-  given_more request items item Finished why = tt
-  given_more request items item (Arena index) why = more_in items item (Replied Noted) why
-  given_more request items item (Limits dirty muzzy) why = more_in items item (Replied (LimitsAre dirty muzzy)) why
-  given_more request items item (Region addr class) why = region_more request why
-    where
-      got_more : (hit : Option Held) → GotCause hit items addr → GotCause hit (items ++ item ∷ []) addr
-      got_more hit (inl was) = inl was
-      got_more hit (inr (inl (count, has))) = inr (inl (count, more_in items item (Replied (Landed addr count)) has))
-      got_more hit (inr (inr (others, has))) = inr (inr (others, more_in items item (Replied (Regions (addr ∷ others))) has))
-
-      region_more : (request : Request) → RegionCause desk request items addr class → RegionCause desk request (items ++ item ∷ []) addr class
-      region_more (Malloc size) (is, got) = (is, got_more (hit class desk) got)
-      region_more (Memalign align size) (is, got) = (is, got_more (small_hit class desk) got)
-      region_more (Take at arena) (is, has) = (is, more_in items item (Replied (Owned class)) has)
-      region_more request why = absurd why
+  given_more request items item given why = first_of (grind (arith, more_in), search (rules, more_in))
 
   later_more : (request : Request) (items : List Item) (item : Item) (later : Later) → LaterWhy request items later → LaterWhy request (items ++ item ∷ []) later
-  later_more request items item (Answers given) why = given_more request items item given why
-  later_more request items item (DirtyToo keep given) why = given_more request items item given why
+  later_more request items item later why = grind (arith, given_more)
 
   then_more : (request : Request) (items : List Item) (item : Item) (later : Then) → ThenWhy request items later → ThenWhy request (items ++ item ∷ []) later
-  then_more request items item Batches why = tt
-  then_more request items item (Visiting visit left) why = later_more request items item visit.later why
+  then_more request items item later why = grind (arith, later_more)
 
   -- ---- where a point leads
 
   commit_why : (request : Request) (items : List Item) (wish : Wish) (span : Span) (b : Bool) → Had request items wish span b → NextWhy request items (commit wish span b)
-  commit_why request items wish span true had = had.0
-  commit_why request items wish span false had = had
+  commit_why request items wish span b had = grind arith
 
   trim_why : (request : Request) (items : List Item) (wish : Wish) (span : Span) (b : Bool) → Had request items wish span b → NextWhy request items (trim wish span b)
-  trim_why request items wish span b had = cond_both (nat_lt wish.pages span.pages) _ _ (NextWhy request items) (λ _. had) (λ _. commit_why request items wish span b had)
+  trim_why request items wish span b had = grind (arith, commit_why)
 
   put_why : (request : Request) (items : List Item) (later : Then) (next : Option Span) → ThenWhy request items later → NextWhy request items (put_next later next)
   put_why request items later next why = grind (arith, nat_tests)
@@ -128,19 +111,13 @@ module _ (desk : DeskFacts) where
   -- a region that landed, or was free in a slab, is of the class of the request
   landed_why : (request : Request) (items : List Item) (wish : Wish) (addr : ℕ) → IsWishOf request wish →
       (((count : ℕ) × Contains items (Replied (Landed addr count))) ⊎ ((others : List ℕ) × Contains items (Replied (Regions (addr ∷ others))))) → RegionCause desk request items addr wish.class
-  landed_why (Malloc size) items wish addr is has = (ap (λ (w : Wish). w.class) is, inr has)
-  landed_why (Memalign align size) items wish addr is has = (ap (λ (w : Wish). w.class) is, inr has)
-  landed_why request items wish addr is has = absurd is
+  landed_why request items wish addr is has = grind arith
 
   owned_why : (request : Request) (items : List Item) (addr class : ℕ) (frees : Bool) → OwnWhy request addr frees → Contains items (Replied (Owned class)) → NextWhy request items (took_over addr class frees)
-  owned_why (Take at arena) items addr class false is has = (is, has)
-  owned_why request items addr class true is has = tt
-  owned_why request items addr class false is has = absurd is
+  owned_why request items addr class frees is has = grind arith
 
   unowned_why : (request : Request) (items : List Item) (addr : ℕ) (frees : Bool) → OwnWhy request addr frees → Contains items (Replied Nothing) → CauseOf desk request items (NotHeld addr)
-  unowned_why (Take at arena) items addr false is has = (is, has)
-  unowned_why (FreeForeign at arena) items addr true is has = (is, has)
-  unowned_why request items addr frees is has = absurd is
+  unowned_why request items addr frees is has = grind arith
 
   turned_why : (request : Request) (items : List Item) (point : TurnPoint) (reply : Reply) → TurnWhy request items point →
       NextWhy request (items ++ Replied reply ∷ []) (turned point reply)
@@ -256,8 +233,7 @@ module _ (desk : DeskFacts) where
   settle_why request items = settle_keeps (NextWhy request items) (settles_why request items) request
 
   starved_why : (request : Request) (items : List Item) (v : Bool) → NextWhy request (items ++ Starved ∷ []) (starved v)
-  starved_why request items true = last_in items Starved
-  starved_why request items false = tt
+  starved_why request items v = grind (arith, last_in)
 
   pub step_why : (request : Request) (items : List Item) (c : ℕ) (point : Point) (item : Item) → PointWhy request items point → Came c (Go point) item →
       NextWhy request (items ++ item ∷ []) (step point item)
@@ -273,14 +249,6 @@ module _ (desk : DeskFacts) where
   next_why request c past next item why came = absurd came
 
   -- ---- where a request begins
-
-  first_why : (request : Request) (arena : ℕ) (point : TurnPoint) → TurnWhy request [] point → NextWhy request [] (first_turn arena point).next
-  first_why request arena point why =
-      cond_both (nat_lt arena 32) _ _ (NextWhy request []) (λ h. why) (λ h. let most : 32 ≤ arena = grind (arith, nat_tests) in inl most)
-
-  but_0_why : (request : Request) (arena : ℕ) (point : TurnPoint) → (arena ≡ 0 → CauseOf desk request [] Automatic) → TurnWhy request [] point → NextWhy request [] (first_turn_but_0 arena point).next
-  but_0_why request arena point automatic why =
-      cond_both (arena == 0) _ _ (λ (at : Stage). NextWhy request [] at.next) (λ h. automatic (eqb-true _ _ h)) (λ h. first_why request arena point why)
 
   get_why : (request : Request) (class align count : ℕ) → IsWishOf request (wish_for class align (min count (most_regions class))) → NextWhy request [] (get class align count)
   get_why request class align count wished = cond_both (nat_lt class 36) _ _ (NextWhy request []) (λ _. wished) (λ _. wished)
@@ -303,34 +271,16 @@ module _ (desk : DeskFacts) where
       got_why None e = get_why (Memalign align size) (aligned_for size align) (page_align align) (share (aligned_for size align) desk) refl
 
   batch_why : (request : Request) (arena : ℕ) (batch : Option BatchFacts) → NextWhy request [] (batch_goes arena batch).next
-  batch_why request arena None = tt
-  batch_why request arena (Some batch) = tt
+  batch_why request arena batch = grind arith
 
   free_why : (addr : ℕ) (held : Option Held) → held_at addr desk ≡ held → NextWhy (Free addr) [] (begin_free addr held desk).next
-  free_why addr None e = (refl, e)
-  free_why addr (Some region) e = batch_why (Free addr) region.arena (batch_of (going_with (freeing region desk).hand false desk))
+  free_why addr held e = grind (arith, batch_why)
 
   publish_why : (addr : ℕ) (held : Option Held) → held_at addr desk ≡ held → NextWhy (Publish addr) [] (begin_publish addr held).next
-  publish_why addr None e = (refl, e)
-  publish_why addr (Some region) e = tt
+  publish_why addr held e = grind arith
 
   pub begin_why : (request : Request) → NextWhy request [] (begin_stage request desk).next
-  begin_why (Malloc size) = malloc_why size
-  begin_why (Memalign align size) = memalign_why align size
-  begin_why (Free addr) = free_why addr (held_at addr desk) refl
-  begin_why (FreeForeign addr index) = first_why (FreeForeign addr index) index (Owning addr true false) refl
-  begin_why (Publish addr) = publish_why addr (held_at addr desk) refl
-  begin_why (Take addr index) = first_why (Take addr index) index (Owning addr false false) refl
-  begin_why Flush = batch_why Flush desk.arena (batch_of (going true desk))
-  begin_why (Cache true) = tt
-  begin_why (Cache false) = batch_why (Cache false) desk.arena (batch_of (going true desk))
-  begin_why (Time index rest ms now) =
-      first_why (Time index rest ms now) index (Changing (time_of rest ms now) (after_time rest ms)) (cond_both (int_eq ms (negsuc 0)) _ _ (ChangeWhy (Time index rest ms now) []) (λ _. tt) (λ _. tt))
-  begin_why (Reset index) = but_0_why (Reset index) index (Resetting (cached_of index desk)) (λ e. e) tt
-  begin_why (Destroy index) = but_0_why (Destroy index) index (Destroying (cached_of index desk)) (λ e. e) tt
-  begin_why (Create box_no dirty_ms muzzy_ms now) = tt
-  begin_why (Bind index) = cond_both (index == desk.arena) _ _ (λ (at : Stage). NextWhy (Bind index) [] at.next) (λ _. tt) (λ _. first_why (Bind index) index _ tt)
-  begin_why request = first_why request _ _ tt
+  begin_why request = grind (arith, nat_tests, malloc_why, memalign_why, free_why, publish_why, batch_why)
 
 pub answers-have_causes : AnswersHaveCauses
 answers-have_causes c request desk items answer came e =

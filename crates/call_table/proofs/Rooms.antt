@@ -1,13 +1,13 @@
 -- Whoever has the room that is needed at a point has it wherever the call goes.
-use Rattle.std.proofs.Common.{◌≡◌, ℕ, ◌+◌, ◌-◌, ◌*◌, ◌<◌, ◌≤◌, Bool, true, false, cond, max, [], Option, None, Some, refl, sym, ap, subst, arith, length, sum_by}
+use Rattle.std.proofs.Common.{◌≡◌, ℕ, ◌+◌, ◌-◌, ◌*◌, ◌<◌, ◌≤◌, Bool, true, false, cond, max, Option, None, Some, refl, sym, ap, subst, arith, length, sum_by}
 use Rattle.std.proofs.lemmas.Bool.Decides.{nat_tests}
 use Rattle.std.proofs.lemmas.List.Sums.{length-filter}
 use Rattle.space_model.specs.Part.{is_flight}
 use Rattle.space_model.specs.Flights.{flight, lost, won}
 use Rattle.space_model.specs.Step.{op_stands, step_of}
 use Rattle.space_model.proofs.Steps.{op_keeps}
-use Rattle.call_table.specs.Words.{Replied, Told, Starved, Op, Reply, Nothing, Took, Refuse, Regions, Taken, Space, Sound, Mine, mine, AskFacts, same_span}
-use Rattle.call_table.specs.Words.{TurnPoint, Filling, Looking, Landing, Finding, Taking, AskPoint, Skipping, Turns, Asks, Tells, Next, Go}
+use Rattle.call_table.specs.Words.{Replied, Told, Starved, Op, Reply, Space, Sound, Mine, mine, AskFacts, same_span}
+use Rattle.call_table.specs.Words.{TurnPoint, Finding, AskPoint, Turns, Asks, Tells, Next, Go}
 use Rattle.call_table.specs.Table.{is_marked, op_of, done_of, starved, turned, told}
 use Rattle.call_table.specs.Knows.{Idle, KnowsTurn}
 use Rattle.call_table.specs.Laws.{Keeps, left, stages, with_found}
@@ -20,8 +20,6 @@ use Rattle.call_table.proofs.Steps.{never_starves, starved_keeps, steps-keep}
 
 -- behind a turn that takes memory come at most 16 turns without by each extent in flight, and 16 where there is none
 marked_most : (g : ℕ) (point : TurnPoint) (reply : Reply) → is_marked (op_of point) ≡ true → needed_next g (turned point reply) ≤ 16 * max 1 g
-marked_most g (Filling wish count) (Regions []) may = omega arith
-marked_most g point Refuse may = omega arith
 marked_most g point reply may = first_of (grind (arith, nat_tests), cc)
 
 -- ---- a turn that takes none
@@ -34,25 +32,21 @@ HasNext g next = Unit {0}
 turned_spends : (f g : ℕ) (point : TurnPoint) (found : Option ℕ) (c : ℕ) (s : Space) (reply : Reply) → is_marked (op_of point) ≡ false →
     g + lost (with_found found (op_of point)) reply ≡ f + won c s (with_found found (op_of point)) reply →
     HasNext g (turned point reply) → HasNext f (Go (Turns point)) → needed_next g (turned point reply) + 1 ≤ needed_turn f point
-turned_spends f g (Landing wish span) found c s Nothing may e has some = omega arith
-turned_spends f g point found c s Nothing may e has some = first_of (grind (arith, nat_tests), cc)
 turned_spends f g point found c s reply may e has some = first_of (grind (arith, nat_tests), cc)
 
 told_spends : (f g : ℕ) (point : AskPoint) (asked : AskFacts) (found : Option ℕ) (c : ℕ) (s : Space) (reply : Reply) →
     g + lost (with_found found (done_of point asked)) reply ≡ f + won c s (with_found found (done_of point asked)) reply →
     HasNext g (told point asked reply) → needed_next g (told point asked reply) + 1 ≤ needed_ask f point
-told_spends f g (Skipping wish span b skip) asked found c s Nothing e has = omega arith
-told_spends f g point asked found c s Nothing e has = grind (arith, nat_tests)
 told_spends f g point asked found c s reply e has = grind (arith, nat_tests)
 
 -- ---- the room
 
 -- what a call knows tells that an extent is in flight, if it is to put one down
-turn_flies : (m : Mine) (point : TurnPoint) → KnowsTurn m point → HasNext (flying m) (Go (Turns point))
+pub turn_flies : (m : Mine) (point : TurnPoint) → KnowsTurn m point → HasNext (flying m) (Go (Turns point))
 turn_flies m (Finding own tries fresh later) knows = let flies = knows.1 in omega (arith, filter-fewer (λ q. same_span q.span own) (λ _. true) m.flights flies.part flies.found refl)
 turn_flies m point knows = tt
 
-keeps_next : (c : ℕ) (t : Space) (stage bound : ℕ) (next : Next) → Keeps c t stage bound next → HasNext (flying (mine c t)) next
+pub keeps_next : (c : ℕ) (t : Space) (stage bound : ℕ) (next : Next) → Keeps c t stage bound next → HasNext (flying (mine c t)) next
 keeps_next c t stage bound (Go (Turns point)) (knows, near) = turn_flies (mine c t) point knows
 keeps_next c t stage bound next keeps = tt
 
@@ -67,19 +61,16 @@ flights_then c s op sound stands =
 
 -- a turn that takes memory wins one extent at most, or as many as it empties
 won_few : (c : ℕ) (s : Space) (point : TurnPoint) (reply : Reply) → is_marked (op_of point) ≡ true → won c s (op_of point) reply ≤ max 1 (empties c (op_of point) s)
-won_few c s (Looking wish) (Took span b skip) may = omega arith
-won_few c s (Taking visit n) (Taken span lazy listed) may = omega arith
-won_few c s point reply may = first_of (omega arith, cc)
+won_few c s point reply may = first_of (omega arith, grind arith)
 
 -- an operation of a turn that takes in no answer carries no chunk that was found
-found_not : (found : Option ℕ) (point : TurnPoint) → with_found found (op_of point) ≡ op_of point
-found_not found (Filling wish count) = refl
-found_not found point = refl
+pub found_not : (found : Option ℕ) (point : TurnPoint) → with_found found (op_of point) ≡ op_of point
+found_not found point = grind arith
 
 -- ---- the law
 
 -- so many extents are in flight after what came of a turn
-flown : (c : ℕ) (s t : Space) (op : Op) (reply : Reply) → Sound s → op_stands s c op ≡ true → t ≡ (step_of s c op).after → reply ≡ (step_of s c op).reply →
+pub flown : (c : ℕ) (s t : Space) (op : Op) (reply : Reply) → Sound s → op_stands s c op ≡ true → t ≡ (step_of s c op).after → reply ≡ (step_of s c op).reply →
     flying (mine c t) + lost op reply ≡ flying (mine c s) + won c s op reply
 flown c s t op reply sound stands after replied =
     subst (λ u. flying (mine c u) + lost op reply ≡ flying (mine c s) + won c s op reply) (sym after)

@@ -14,7 +14,7 @@ use Rattle.space_model.specs.Purging.{is_offer}
 use Rattle.space_model.specs.Step.{op_stands, is_live, is_yes_or_no, is_range_or_no, holds_at}
 use Rattle.hook_api.specs.Asked.{heard_in}
 use Rattle.call_table.specs.Words.{Wish, TurnPoint, Filling, Looking, Landing, Giving, Finding, Taking, Offering, Advancing, Changing, Making, Resetting, Destroying, Dooming, Publishing, Owning, AskPoint, Skipping, Trimming, Growing, Paring, Needing, Granting, Committing, Merging, Easing, Returning, Decommitting, Forcing, Turns, Asks, Tells}
-use Rattle.call_table.specs.Words.{Split, Answer, Placed, Done, Refuses, Space, Part, Span, Sound, mine, AskFacts, pages_at, same_span, AnswersTo}
+use Rattle.call_table.specs.Words.{Split, Answer, Placed, Done, Space, Part, Span, Sound, mine, AskFacts, pages_at, same_span, AnswersTo}
 use Rattle.call_table.specs.Table.{done_of, op_of, alloc_of, whole_chunks}
 use Rattle.call_table.specs.Knows.{Idle, Alone, HasOffered, Gets, KnowsAsk, KnowsTurn, Heard, is_held, is_served, in_flight}
 use Rattle.call_table.specs.Laws.{with_found, WantsStand}
@@ -42,14 +42,10 @@ live_held c s (addr ∷ addrs) sound some held =
 -- ---- each turn may stand
 
 plain_answer : (answer : Answer) → ((first : ℕ) (b z : Bool) → answer ≢ Placed first b z) → is_yes_or_no answer ≡ true
-plain_answer Done h = refl
-plain_answer Refuses h = refl
-plain_answer (Placed first b z) h = absurd (h first b z refl)
+plain_answer answer h = grind arith
 
 range_answer : (answer : Answer) → answer ≢ Done → is_range_or_no answer ≡ true
-range_answer Done h = absurd (h refl)
-range_answer Refuses h = refl
-range_answer (Placed first b z) h = refl
+range_answer answer h = grind arith
 
 none_in_flight : (c : ℕ) (s : Space) → Idle (mine c s) → list_any (λ p. is_flight c p.state) s.parts ≡ false
 none_in_flight c s idle = none-any (λ p. is_flight c p.state) s.parts idle.flights

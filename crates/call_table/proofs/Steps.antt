@@ -1,21 +1,21 @@
 -- Whatever comes of what a call wants leads on.
-use Rattle.std.proofs.Common.{rules, add-zero, append-nil, inl, inr, fold, take, drop, filter, ◌++◌, ◌≡◌, ℕ, ◌+◌, ◌-◌, ◌*◌, ◌<◌, ◌==◌, ◌&&◌, Bool, true, false, not, cond, List, [], ◌∷◌, Option, None, Some, refl, sym, ◌∙◌, ap, subst, arith, max, length, find, ltb as nat_lt}
+use Rattle.std.proofs.Common.{rules, add-zero, append-nil, inl, inr, fold, take, drop, filter, ◌++◌, ◌≡◌, ℕ, ◌+◌, ◌-◌, ◌*◌, Bool, true, false, not, cond, List, [], ◌∷◌, Option, None, Some, refl, sym, ◌∙◌, ap, subst, arith, max, length, find, ltb as nat_lt}
 use Rattle.std.specs.List.{position_or_len}
 use Rattle.std.proofs.lemmas.List.Elements.{filter-append}
-use Rattle.std.proofs.lemmas.Bool.{cond_both, ltb-true}
+use Rattle.std.proofs.lemmas.Bool.Decides.{nat_tests}
 use Rattle.std.proofs.lemmas.List.{take-append-drop}
 use Rattle.space_model.specs.declared.Region.{Region}
 use Rattle.space_model.specs.Part.{is_active, is_listed, is_flight, begins_at, moved_to, placed, turned as turned_parts, turned_in_order}
-use Rattle.space_model.specs.Stepped.{Stepped, stays, replaced, is_live, if_live, is_lazy, is_dirty_time_over}
+use Rattle.space_model.specs.Stepped.{Stepped, stays, replaced, if_live, is_lazy, is_dirty_time_over}
 use Rattle.space_model.specs.Pace.{after_advance, advance_all}
-use Rattle.space_model.specs.Settings.{after_set, setting_stands, is_absent}
+use Rattle.space_model.specs.Settings.{after_set, setting_stands}
 use Rattle.space_model.specs.Holding.{take_over_at, is_published_at}
 use Rattle.space_model.specs.Ending.{held_count, flight_count, if_free, after_reset, emptied, after_destroy, ended, doom_at}
 use Rattle.space_model.specs.Step.{step_of, after_cut}
 use Rattle.space_model.proofs.Pieces.{put_down-nobody}
 use Rattle.space_model.proofs.Moves.{itself}
-use Rattle.call_table.specs.Words.{Replied, Told, Starved, Busy, Split, Answer, Reply, NoArena, Noted, Purge, Doomed, InUse, Rest, ToDirty, ToRetained, Setting, MakeLive, Space, Part, Span, Sound, mine, AskFacts, fill_at, lowest_free, AnswersTo}
-use Rattle.call_table.specs.Words.{Wish, Change, Stops, Visits, Leaves, TurnPoint, Filling, Looking, Landing, Giving, Finding, Taking, Offering, Advancing, Changing, Making, Resetting, Destroying, Dooming, Publishing, Owning, AskPoint, Skipping, Trimming, Growing, Paring, Needing, Granting, Committing, Merging, Easing, Returning, Decommitting, Forcing, Turns, Asks, Tells, Next, Go, Gone, Ends}
+use Rattle.call_table.specs.Words.{Replied, Told, Starved, Busy, Split, Answer, Reply, NoArena, Noted, Purge, Doomed, InUse, Rest, ToDirty, ToRetained, Setting, Space, Part, Span, Sound, mine, AskFacts, fill_at, lowest_free, AnswersTo}
+use Rattle.call_table.specs.Words.{Wish, Change, TurnPoint, Filling, Looking, Landing, Giving, Finding, Taking, Offering, Advancing, Changing, Making, Resetting, Destroying, Dooming, Publishing, Owning, AskPoint, Skipping, Trimming, Growing, Paring, Needing, Granting, Committing, Merging, Easing, Returning, Decommitting, Forcing, Turns, Asks, Tells, Next, Go, Gone, Ends}
 use Rattle.call_table.specs.Table.{ask_of, turned, starved, is_marked, told, done_of, op_of, whole_chunks, limited, changed, make_next, skipped, trimmed, grown, needed, granted, committed}
 use Rattle.call_table.specs.Knows.{Idle, Alone, Gets, KnowsAsk, KnowsTurn, Heard, IsChange, is_of_arena}
 use Rattle.call_table.specs.Laws.{with_found, Keeps, stages_turn, stages_ask, stages_change, left, left_ask, flights_of, StepsKeep}
@@ -44,27 +44,21 @@ moved_idle : (c : ℕ) (s : Space) (r : Rest) (test : Part → Bool) → Idle (m
 moved_idle c s r test idle = replaced_idle c s test (turned_in_order (moved_to r) (filter test s.parts)) idle.flights ∙ moved_flies_not c r (filter test s.parts) [] refl
 
 fill_keeps : (c : ℕ) (s : Space) (wish : Wish) (count : ℕ) (addrs : List ℕ) → Gets (mine c s) wish → Idle (mine c s) → Onto c (turned (Filling wish count)) 1 0 (fill_at s c wish.class addrs)
-fill_keeps c s wish count [] gets idle = ((gets, idle), inl (omega arith))
-fill_keeps c s wish count (addr ∷ addrs) gets idle = record { flights = idle.flights; offers = idle.offers }
+fill_keeps c s wish count addrs gets idle = grind arith
 
 limited_goes : (c : ℕ) (t : Space) (bound : ℕ) (dirty muzzy : Option ℕ) → Idle (mine c t) → Keeps c t 4 bound (limited dirty muzzy)
-limited_goes c t bound None None idle = idle
-limited_goes c t bound (Some d) None idle = ((idle, refl, tt), inl (omega arith))
-limited_goes c t bound dirty muzzy idle = ((idle, refl, tt), inl (omega arith))
+limited_goes c t bound dirty muzzy idle = grind arith
 
 -- a step that only a live arena makes keeps what it keeps, and else the call ends
 live_keeps : (c : ℕ) (s : Space) (f : Reply → Next) (stage bound : ℕ) (u : Stepped) → f NoArena ≡ Gone → Idle (mine c s) → Onto c f stage bound u → Onto c f stage bound (if_live s u)
-live_keeps c s f stage bound u gone idle onto =
-    elim (is_live s.life) as (λ l. Onto c f stage bound (cond l u (stays s NoArena))) [ true ↦ onto | false ↦ subst (Keeps c s stage bound) (sym gone) idle ]
+live_keeps c s f stage bound u gone idle onto = grind arith
 
 advance_keeps : (c : ℕ) (s : Space) (now : ℕ) → Idle (mine c s) → Onto c (turned (Advancing now)) 4 0 (after_advance s now)
 advance_keeps c s now idle =
     live_keeps c s (turned (Advancing now)) 4 0 (advance_all s now) refl idle (limited_goes c (advance_all s now).after 0 _ _ (record { flights = idle.flights; offers = idle.offers }))
 
 changed_goes : (c : ℕ) (t : Space) (change : Change) → Idle (mine c t) → IsChange change → Keeps c t (stages_change change) 0 (changed change)
-changed_goes c t Stops idle is = idle
-changed_goes c t (Visits visit) idle is = ((idle, is, tt), inl (omega arith))
-changed_goes c t (Leaves arena) idle is = (idle, (λ m still. (still, refl, tt, refl)), omega arith)
+changed_goes c t change idle is = grind arith
 
 noted_keeps : (c : ℕ) (s t : Space) (setting : Setting) (change : Change) → Idle (mine c s) → IsChange change → Idle (mine c t) →
     Onto c (turned (Changing setting change)) (stages_change change) 0 (if_live s (stays t Noted))
@@ -72,25 +66,19 @@ noted_keeps c s t setting change idle is still = live_keeps c s (turned (Changin
 
 set_keeps : (c : ℕ) (s : Space) (setting : Setting) (change : Change) → Idle (mine c s) → IsChange change → is_of_arena setting ≡ true →
     Onto c (turned (Changing setting change)) (stages_change change) 0 (after_set s c setting)
-set_keeps c s (MakeLive box_no dirty_ms muzzy_ms now) change idle is of = absurd (cc)
-set_keeps c s setting change idle is of = noted_keeps c s _ setting change idle is (record { flights = idle.flights; offers = idle.offers })
+set_keeps c s setting change idle is of = grind (arith, noted_keeps)
 
 next_made : (c : ℕ) (s : Space) (index : ℕ) (setting : Setting) → Idle (mine c s) → setting_stands setting ≡ true → is_of_arena setting ≡ false → Keeps c s (31 - index) 0 (make_next index setting)
-next_made c s index setting idle stands of =
-    cond_both (nat_lt index 31) _ _ (Keeps c s (31 - index) 0) (λ h. (idle, (λ m still. (still, stands, of)), let below : index < 31 = ltb-true _ _ h in omega arith)) (λ h. idle)
+next_made c s index setting idle stands of = grind (arith, nat_tests)
 
 make_keeps : (c : ℕ) (s : Space) (index : ℕ) (setting : Setting) → Idle (mine c s) → setting_stands setting ≡ true → is_of_arena setting ≡ false →
     Onto c (turned (Making index setting)) (31 - index) 0 (after_set s c setting)
-make_keeps c s index (MakeLive box_no dirty_ms muzzy_ms now) idle stands of =
-    cond_both (is_absent s.life) _ _ (Onto c (turned (Making index (MakeLive box_no dirty_ms muzzy_ms now))) (31 - index) 0) (λ _. record { flights = idle.flights; offers = idle.offers })
-    (λ _. next_made c s index (MakeLive box_no dirty_ms muzzy_ms now) idle stands of)
-make_keeps c s index setting idle stands of = absurd (cc)
+make_keeps c s index setting idle stands of = grind (arith, next_made)
 
 -- a step that only an arena makes which is in nobody's use
 free_keeps : (c : ℕ) (s : Space) (f : Reply → Next) (stage bound held flights threads : ℕ) (u : Stepped) → f (InUse held flights threads) ≡ Ends (Busy held flights threads) → Idle (mine c s) →
     Onto c f stage bound u → Onto c f stage bound (if_free s held flights threads u)
-free_keeps c s f stage bound held flights threads u busy idle onto =
-    elim (held == 0 && flights == 0 && threads == 0) as (λ v. Onto c f stage bound (cond v u (stays s (InUse held flights threads)))) [ true ↦ onto | false ↦ subst (Keeps c s stage bound) (sym busy) idle ]
+free_keeps c s f stage bound held flights threads u busy idle onto = grind arith
 
 reset_keeps : (c : ℕ) (s : Space) (cached : ℕ) → Idle (mine c s) → Onto c (turned (Resetting cached)) 2 0 (after_reset s c cached)
 reset_keeps c s cached idle =
@@ -116,9 +104,7 @@ doom_keeps c s (p ∷ ps) e idle dying =
     ((still, dying), inr (refl, omega (arith, fewer, count)))
 
 own_keeps : (c : ℕ) (s : Space) (addr : ℕ) (frees past : Bool) (o : Option Region) → Idle (mine c s) → Onto c (turned (Owning addr frees past)) 0 0 (take_over_at s c addr o)
-own_keeps c s addr frees past None idle = idle
-own_keeps c s addr true past (Some r) idle = record { flights = idle.flights; offers = idle.offers }
-own_keeps c s addr false past (Some r) idle = record { flights = idle.flights; offers = idle.offers }
+own_keeps c s addr frees past o idle = grind arith
 
 -- the answer to a split behind the run, or of a grant of more chunks than are needed
 trim_keeps : (c : ℕ) (s : Space) (wish : Wish) (span : Span) (b : Bool) (answer : Answer) → Gets (mine c s) wish → Alone (mine c s) span b → AnswersTo (Split span wish.pages) answer →
@@ -195,12 +181,10 @@ heard_keeps c s point asked found sound knows (is, kind) =
 -- a turn that found no memory changed nothing, and the client had nothing in flight
 pub starved_keeps : (c : ℕ) (s : Space) (point : TurnPoint) (stage bound : ℕ) → KnowsTurn (mine c s) point → is_marked (op_of point) ≡ true →
     Keeps c s stage bound (starved (is_marked (op_of point)))
-starved_keeps c s (Landing wish span) stage bound knows may = absurd (cc)
-starved_keeps c s point stage bound knows may = first_of (search rules, cc)
+starved_keeps c s point stage bound knows may = first_of (search rules, grind arith, cc)
 
 pub never_starves : (point : AskPoint) (asked : AskFacts) → is_marked (done_of point asked) ≡ false
-never_starves (Skipping wish span b skip) asked = refl
-never_starves point asked = refl
+never_starves point asked = grind arith
 
 -- what is known where a step leads is known there, in its own space and by its own reply
 moved : (c : ℕ) (f : Reply → Next) (stage bound : ℕ) (u : Stepped) (t : Space) (reply : Reply) → t ≡ u.after → reply ≡ u.reply → Onto c f stage bound u → Keeps c t stage bound (f reply)

@@ -1,7 +1,12 @@
 -- How long the run of a call is.
-use Rattle.std.specs.Prelude.{◌≡◌, ℕ, ◌+◌, ◌≤◌, Bool, true, false, List, Some, count_by, sum_by}
-use Rattle.call_table.specs.Words.{Request, Malloc, Memalign, Item, Replied, Told, Answered, Ends, NextFlight, Purge, Taken, Abandoned, Doomed, DeskFacts}
-use Rattle.call_table.specs.Runs.{begin, run}
+use Rattle.std.specs.Prelude.{◌≡◌, ℕ, ◌+◌, ◌*◌, ◌≤◌, Bool, true, false, List, [], ◌∷◌, Some, count_by, sum_by}
+use Rattle.space_model.specs.declared.Op.TheVariants.{Back}
+use Rattle.call_table.specs.Words.{Request, Malloc, Memalign, Free, FreeForeign, Flush, Cache, Item, Replied, Told, Answered, Giving, Turns, Next, Go, Ends, NextFlight, Purge, Taken, Abandoned, Doomed, Space, Sound, mine, DeskFacts}
+use Rattle.call_table.specs.Table.{want}
+use Rattle.call_table.specs.Runs.{Moment, after, begin, run, step_next}
+use Rattle.call_table.specs.Knows.{Knows}
+use Rattle.call_table.specs.Laws.{Moves}
+use Rattle.call_table.specs.Rooms.{empties}
 
 -- whether the item is an ask with its answer
 abbrev pub is_told : Item → Bool
@@ -51,3 +56,62 @@ most_asks request = 0
 abbrev pub AsksAreFew : Type 0
 AsksAreFew = (request : Request) (desk : DeskFacts) (items : List Item) (answer : Answered)
     → (run (begin request desk) items).stage.next ≡ Ends answer → count_by is_told items ≤ most_asks request + sum_by brings items
+
+-- ---- a free
+
+-- whether the request gives regions back
+abbrev pub is_free : Request → Bool
+is_free (Free addr) = true
+is_free (FreeForeign addr arena) = true
+is_free Flush = true
+is_free (Cache on) = true
+is_free request = false
+
+-- A stride of a call: what came of its need, and the space of the arena before that and after it.
+pub record Stride : Type 0 where
+  pub item : Item
+  pub before : Space
+  pub after : Space
+
+-- the stride is a step of the table, from a sound space in which the call knew what it has to
+abbrev pub Strides : ℕ → Next → Stride → Type 0
+Strides c (Go point) x = Sound x.before × Knows (mine c x.before) point × Moves c x.before (want point) x.item x.after
+Strides c next x = ⊥
+
+-- what the client has of an arena stays as a stride left it, where the call goes on there
+abbrev pub Follows : ℕ → Next → Space → List Stride → Type 0
+Follows c (Go point) t (x ∷ strides) = mine c x.before ≡ mine c t
+Follows c next t strides = Unit {0}
+
+-- the strides are those of a call from a moment on, whatever others did between them
+abbrev pub Walks : ℕ → Moment → List Stride → Type 0
+Walks c at [] = Unit {0}
+Walks c at (x ∷ strides) = Strides c at.stage.next x × Follows c (step_next at.stage.next x.item) x.after strides × Walks c (after at x.item) strides
+
+-- how many extents a stride emptied: only a return of regions does
+abbrev pub emptied_by : ℕ → Next → Space → ℕ
+emptied_by c (Go (Turns (Giving addrs))) s = empties c (Back addrs) s
+emptied_by c next s = 0
+
+-- how many extents the returns of a call emptied
+abbrev pub emptied : ℕ → Moment → List Stride → ℕ
+emptied c at [] = 0
+emptied c at (x ∷ strides) = emptied_by c at.stage.next x.before + emptied c (after at x.item) strides
+
+-- whether an extent that was put down is to be purged, since none may stay dirty
+abbrev pub is_purge : Item → Bool
+is_purge (Replied (Purge lazy)) = true
+is_purge item = false
+
+-- whether the stride is an ask
+abbrev pub asks : Stride → Bool
+asks x = is_told x.item
+
+-- whether the stride told of such an extent
+abbrev pub purges : Stride → Bool
+purges x = is_purge x.item
+
+-- a free has made at most 2 asks for each extent that its own returns emptied, and 6 more for each that is purged
+abbrev pub FreesAreFew : Type 0
+FreesAreFew = (c : ℕ) (request : Request) (desk : DeskFacts) (strides : List Stride) → is_free request ≡ true → Walks c (begin request desk) strides
+    → count_by asks strides ≤ 2 * emptied c (begin request desk) strides + 6 * count_by purges strides

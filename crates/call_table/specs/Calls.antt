@@ -1,6 +1,7 @@
 -- A call as contracts see it.
-use Rattle.std.specs.Prelude.{◌≤◌, ℕ}
-use Rattle.call_table.specs.Words.{Request, Next, Go, Stage, DeskFacts}
+use Rattle.std.specs.Prelude.{◌≡◌, ◌≤◌, ℕ, Bool, true, false, ◌||◌, Option, is_some}
+use Rattle.call_table.specs.Words.{Request, Malloc, Memalign, Free, FreeForeign, Publish, Take, Region, Finished, Ok, Later, Answers, DirtyToo, Then, Batches, Visiting, Visits, TurnPoint, Filling, Looking, Landing, Finding, Taking, Offering, Changing, Owning, AskPoint, Merging, Easing, Returning, Decommitting, Forcing, Point, Turns, Asks, Tells, Next, Go, Ends, Stage, Held, DeskFacts}
+use Rattle.call_table.specs.Desks.{flushes}
 use Rattle.call_table.specs.Points.{IsSizedNext}
 use Rattle.call_table.specs.Needs.{IsPlace}
 use Rattle.call_table.specs.Runs.{Moment}
@@ -19,7 +20,66 @@ moment_of call desk = record { request = call.request; desk = desk; stage = call
 abbrev pub IsCall : Stage → Type 0
 IsCall at = IsPlace at.next × IsSizedNext at.next
 
--- while the call is open, there is room for a region that its client comes to hold
-abbrev pub HasRoom : ℕ → Next → Type 0
-HasRoom room (Go point) = 1 ≤ room
-HasRoom room next = Unit {0}
+-- ---- room for a region that the client comes to hold
+
+-- whether the answer behind a visit is a region
+abbrev pub gets_later : Later → Bool
+gets_later (Answers (Region addr class)) = true
+gets_later (DirtyToo keep (Region addr class)) = true
+gets_later later = false
+
+abbrev pub gets_then : Then → Bool
+gets_then Batches = false
+gets_then (Visiting visit left) = gets_later visit.later
+
+-- whether a region may come of a point: it lands, is free or is taken over, or is the answer already
+abbrev pub gets_turn : TurnPoint → Bool
+gets_turn (Filling wish count) = true
+gets_turn (Looking wish) = true
+gets_turn (Landing wish span) = true
+gets_turn (Finding own tries fresh later) = gets_then later
+gets_turn (Taking visit left) = gets_later visit.later
+gets_turn (Offering span later) = gets_then later
+gets_turn (Changing setting (Visits visit)) = gets_later visit.later
+gets_turn (Owning addr frees past) = true
+gets_turn point = false
+
+abbrev pub gets_ask : AskPoint → Bool
+gets_ask (Merging low high own_low fresh later) = gets_then later
+gets_ask (Easing span later) = gets_then later
+gets_ask (Returning span later) = gets_then later
+gets_ask (Decommitting span later) = gets_then later
+gets_ask (Forcing span later) = gets_then later
+gets_ask point = true
+
+abbrev pub gets_at : Point → Bool
+gets_at (Turns point) = gets_turn point
+gets_at (Asks point heard) = gets_ask point
+gets_at (Tells span is_committed) = false
+
+-- whether the client may come to hold a region where its call goes: one that it gets, or the one in hand, held again
+abbrev pub wants_place : Option Held → Next → Bool
+wants_place hand (Go point) = is_some hand || gets_at point
+wants_place hand (Ends (Ok (Region addr class))) = true
+wants_place hand (Ends (Ok Finished)) = false
+wants_place hand (Ends answer) = is_some hand
+wants_place hand next = false
+
+-- while the call is open, there is room for a region that its client may come to hold
+abbrev pub HasRoom : Option Held → ℕ → Next → Type 0
+HasRoom hand room (Go point) = wants_place hand (Go point) ≡ true → 1 ≤ room
+HasRoom hand room next = Unit {0}
+
+-- whether a client may come to hold a region by a request: one that it gets, or gave away, where memory is wanting
+abbrev pub may_hold : Request → Bool
+may_hold (Malloc size) = true
+may_hold (Memalign align size) = true
+may_hold (Free addr) = true
+may_hold (FreeForeign addr arena) = true
+may_hold (Publish addr) = true
+may_hold (Take addr arena) = true
+may_hold request = false
+
+-- whether the start of a request takes memory: to make room for such a region, or to name those that go back
+abbrev pub takes_memory : Request → DeskFacts → Bool
+takes_memory request desk = may_hold request || flushes request || is_some desk.hand

@@ -11,5 +11,6 @@ pub mod Knows
 pub mod Laws
 pub mod Rooms
 pub mod Bounds
+pub mod Refusals
 pub mod Causes
 pub mod Aligned

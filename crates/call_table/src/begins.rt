@@ -1,9 +1,11 @@
 //! Where a request begins.
 
-ghost use Rattle.std.specs.Prelude.{◌≡◌, ◌<◌, ◌≤◌, min, false, IfOk, OnOk, OnErr, None};
+ghost use Rattle.std.specs.Prelude.{◌≡◌, ◌<◌, ◌≤◌, min, true, false, IfOk, IsOk, OnOk, OnErr, None};
 ghost use Rattle.std.specs.Option.{option_map};
 ghost use Rattle.space_model.specs.Slabs.{most_regions};
 ghost use Rattle.thread_cache.specs.Desks.{batch_facts, held_at};
+ghost use Rattle.call_table.specs.Calls.{may_hold};
+ghost use Rattle.call_table.specs.Desks.{flushes};
 ghost use Rattle.call_table.specs.Needs.{LeavesDesk};
 ghost use Rattle.call_table.specs.Points.{IsSizedNext};
 ghost use Rattle.call_table.specs.Runs.{after_time, batch_goes, begin_bind, begin_cache, begin_desk, begin_flush, begin_free, begin_get, begin_malloc, begin_memalign, begin_publish, begin_set, begin_stage, first_turn, first_turn_but_0, get, purge_visit, share, stage, time_of, whole_visit, wish_for};
@@ -214,7 +216,8 @@ impl Stage {
 
     /// The cache is on at once, or it is flushed first.
     fn cache(on: bool, desk: &Desk, alloc: Global) -> Result<Stage, NoMemory>
-        ensures { IfOk result (λ at. at ≡ begin_cache on desk.now.facts) }
+        ensures stage { IfOk result (λ at. at ≡ begin_cache on desk.now.facts) }
+        ensures spare { on ≡ true → IsOk result }
     {
         if on {
             Ok(Stage::ended(desk.arena(), Answered::Ok(Given::Done)))
@@ -361,6 +364,7 @@ impl Stage {
         ensures facts { OnOk result (desk.new.facts ≡ begin_desk request desk.old.facts) }
         ensures sized { IfOk result (λ at. IsSizedNext at.next) }
         ensures room { desk.old.room ≤ desk.new.room }
+        ensures spare { may_hold request ≡ false → flushes request ≡ false → IsOk result }
         ensures err { OnErr result (desk.new.facts ≡ desk.old.facts) }
     {
         match request {

@@ -1,7 +1,7 @@
 //! The automaton of a call.
 
-ghost use Rattle.std.specs.Prelude.{◌≡◌, List, ◌∷◌, None, false, true, IfOk, IsOk, OnOk, OnErr, ◌≤◌, length};
-ghost use Rattle.call_table.specs.Calls.{HasRoom, moment_of};
+ghost use Rattle.std.specs.Prelude.{◌≡◌, List, ◌∷◌, None, IfOk, IsOk, OnOk, OnErr, ◌≤◌, ◌||◌, true, false, is_some, length};
+ghost use Rattle.call_table.specs.Calls.{HasRoom, may_hold, moment_of, takes_memory};
 ghost use Rattle.call_table.specs.Desks.{flushes};
 ghost use Rattle.call_table.specs.Points.{IsSizedNext, IsSizedPoint};
 ghost use Rattle.call_table.specs.Needs.{Goes, HasFewAddresses, IsFewAddresses, IsPlace, NeedIs, NeedsWant};
@@ -168,6 +168,34 @@ impl Request {
             _ => false,
         }
     }
+
+    /// Whether its client may come to hold a region by it.
+    fn may_hold(self) -> bool
+        ensures { result ≡ may_hold self }
+    {
+        match self {
+            Request::Malloc { .. }
+            | Request::Memalign { .. }
+            | Request::Free { .. }
+            | Request::FreeForeign { .. }
+            | Request::Publish { .. }
+            | Request::Take { .. } => true,
+            _ => false,
+        }
+    }
+
+    /// Makes room for a region that its client may come to hold by it, or has in hand. Takes no memory where neither is.
+    fn make_room(self, desk: &mut Desk) -> Result<(), NoMemory>
+        ensures facts { desk.new.facts ≡ desk.old.facts }
+        ensures room { OnOk result ((may_hold self || is_some desk.old.facts.hand) ≡ true → 1 ≤ desk.new.room) }
+        ensures spare { (may_hold self || is_some desk.old.facts.hand) ≡ false → IsOk result }
+    {
+        if self.may_hold() || desk.hand().is_some() {
+            desk.reserve()
+        } else {
+            Ok(())
+        }
+    }
 }
 
 impl Stage {
@@ -304,7 +332,7 @@ impl Model for Call {
 impl Call {
     /// A call that carries out a request of a client. Its desk is from now on as the call leaves it, with room for the region
     /// that it may come to hold. `NoMemory` where there is none for that, or to name several regions that go back first: the
-    /// client has what it had.
+    /// client has what it had. A request that gets no region, gives none back and doesn't flush takes no memory.
     pub fn start(
         client: u32,
         desk: &mut Desk,
@@ -313,10 +341,11 @@ impl Call {
     ) -> Result<Call, NoMemory>
         ensures client { IfOk result (λ call. call.client ≡ client) }
         ensures moment { IfOk result (λ call. moment_of call desk.new.facts ≡ begin request desk.old.facts) }
-        ensures room { IfOk result (λ call. HasRoom desk.new.room call.stage.next) }
+        ensures room { IfOk result (λ call. HasRoom desk.new.facts.hand desk.new.room call.stage.next) }
+        ensures spare { takes_memory request desk.old.facts ≡ false → IsOk result }
         ensures err { OnErr result (desk.new.facts ≡ desk.old.facts) }
     {
-        desk.reserve()?;
+        request.make_room(desk)?;
         let stage = Stage::begin(request, desk, alloc)?;
         stage.close(request, desk);
         Ok(Call {
@@ -399,13 +428,13 @@ impl Call {
     /// call has ended with that answer.
     pub fn next(&mut self, desk: &mut Desk, item: Item, alloc: Global) -> Result<(), NoMemory>
         requires goes { Goes (after (moment_of self.old desk.old.facts) item).stage.next }
-        requires room { 1 ≤ desk.old.room }
+        requires room { HasRoom desk.old.facts.hand desk.old.room self.old.stage.next }
         ensures client { self.new.client ≡ self.old.client }
         ensures moment { OnOk result (moment_of self.new desk.new.facts ≡ after (moment_of self.old desk.old.facts) item) }
         ensures reads { OnOk result ((items : List Item) → run (moment_of self.old desk.old.facts) (item ∷ items) ≡ run (moment_of self.new desk.new.facts) items) }
         ensures err { OnErr result (moment_of self.new desk.new.facts ≡ starved_after (moment_of self.old desk.old.facts) item) }
         ensures more { OnErr result (step_next self.old.stage.next item ≡ More) }
-        ensures room { HasRoom desk.new.room self.new.stage.next }
+        ensures room { HasRoom desk.new.facts.hand desk.new.room self.new.stage.next }
     {
         self.stage.tell(desk, &item);
         let fed = self.stage.feed(self.request, desk, &item, alloc);

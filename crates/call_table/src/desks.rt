@@ -1,9 +1,10 @@
 //! How a call changes what its client has.
 
-ghost use Rattle.std.specs.Prelude.{◌≡◌, ◌<◌, ◌≤◌, length, take, drop};
-ghost use Rattle.call_table.specs.Calls.{HasRoom};
+ghost use Rattle.std.specs.Prelude.{◌≡◌, ◌<◌, ◌≤◌, true, length, take, drop};
+ghost use Rattle.call_table.specs.Calls.{HasRoom, wants_place};
 ghost use Rattle.call_table.specs.Desks.{address_behind, desk_closed, desk_ended, desk_fed, desk_turned, landed_behind, region_at, sharing, switched};
 ghost use Rattle.call_table.specs.Points.{IsSizedNext, IsSizedTurn};
+ghost use Rattle.call_table.specs.Stages.{Ends};
 
 use crate::{Answered, Change, Given, Item, Lead, Place, Request, Stage, TurnPoint};
 use size_classes::size_of;
@@ -100,7 +101,7 @@ impl Request {
 
     /// What the client has once its call has ended.
     fn end(self, desk: &mut Desk, arena: u32, answer: Answered)
-        requires { 1 ≤ desk.old.room }
+        requires { wants_place desk.old.facts.hand (Ends answer) ≡ true → 1 ≤ desk.old.room }
         ensures { desk.new.facts ≡ desk_ended self arena answer desk.old.facts }
     {
         match answer {
@@ -109,7 +110,8 @@ impl Request {
                 desk.keep_hand();
                 self.switch(desk);
             }
-            _ => desk.hold_hand(),
+            _ if desk.hand().is_some() => desk.hold_hand(),
+            _ => (),
         }
     }
 }
@@ -117,9 +119,9 @@ impl Request {
 impl Stage {
     /// What the client has where its call stands now.
     pub(crate) fn close(&self, request: Request, desk: &mut Desk)
-        requires { 1 ≤ desk.old.room }
+        requires { wants_place desk.old.facts.hand self.now.next ≡ true → 1 ≤ desk.old.room }
         ensures facts { desk.new.facts ≡ desk_closed request self.now.arena self.now.next desk.old.facts }
-        ensures room { HasRoom desk.new.room self.now.next }
+        ensures room { HasRoom desk.new.facts.hand desk.new.room self.now.next }
     {
         if let Lead::Ends(answer) = &self.lead {
             request.end(desk, self.arena, *answer);

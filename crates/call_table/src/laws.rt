@@ -3,7 +3,8 @@
 
 ghost use Rattle.call_table.specs.Laws.{BatchesKnow, BeginsKnow, KnowledgeIsOwn, RunsEndOnce, StepsKeep, WantsStand};
 ghost use Rattle.call_table.specs.Rooms.{RoomsSuffice};
-ghost use Rattle.call_table.specs.Bounds.{AsksAreFew, MallocsAreShort};
+ghost use Rattle.call_table.specs.Bounds.{AsksAreFew, FreesAreFew, MallocsAreShort};
+ghost use Rattle.call_table.specs.Refusals.{RefusalsStand};
 ghost use Rattle.call_table.specs.Causes.{AnswersHaveCauses};
 ghost use Rattle.call_table.specs.Aligned.{MemalignsAreAligned};
 
@@ -49,6 +50,17 @@ pub fn mallocs_are_short()
 /// purged.
 pub fn asks_are_few()
     ensures { AsksAreFew }
+{}
+
+/// A call that gives regions back has made at most 2 asks for each extent that its own returns emptied, and 6 more for
+/// each of these that was to be purged, whatever others did meanwhile.
+pub fn frees_are_few()
+    ensures { FreesAreFew }
+{}
+
+/// What a call wants once a hook refused its ask, and what its client then has in flight, ask by ask.
+pub fn refusals_stand()
+    ensures { RefusalsStand }
 {}
 
 /// Every answer of a call has its cause among what this very call was fed: a region that landed, that was free, or that was

@@ -19,8 +19,8 @@ mod turns;
 
 pub use calls::{Call, Stage};
 pub use laws::{
-    answers_have_causes, asks_are_few, batches_know, begins_know, knowledge_is_own,
-    mallocs_are_short, rooms_suffice, runs_end_once, steps_keep, wants_stand,
+    answers_have_causes, asks_are_few, batches_know, begins_know, frees_are_few, knowledge_is_own,
+    mallocs_are_short, refusals_stand, rooms_suffice, runs_end_once, steps_keep, wants_stand,
 };
 pub use needs::{Answered, Given, Item, Need, Request, Turn};
 pub use points::{AskPoint, Change, Later, Lead, Place, Then, TurnPoint, Visit, Wish};

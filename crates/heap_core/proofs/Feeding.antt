@@ -1,7 +1,7 @@
 -- What is kept of a call that was fed.
-use Rattle.std.proofs.Common.{inl, inr, ◌≡◌, ◌≤◌, ℕ, Option, Some, Result, Ok, Err, OnOk, OnErr, IfSome, sym, subst, ◌∙◌, ap}
-use Rattle.call_table.specs.Words.{DeskFacts}
-use Rattle.heap_core.specs.Words.{Item, Answered, Next, Go, Over, More, Gone, Ends, Nowhere}
+use Rattle.std.proofs.Common.{inl, inr, ◌≡◌, ℕ, Option, Some, Result, Ok, Err, OnOk, OnErr, IfSome, sym, subst, ◌∙◌, ap}
+use Rattle.call_table.specs.Words.{Held, DeskFacts}
+use Rattle.heap_core.specs.Words.{Item, Answered, Next, Go, More}
 use Rattle.call_table.specs.Calls.{CallFacts, HasRoom, moment_of}
 use Rattle.call_table.specs.Reads.{ended_by}
 use Rattle.call_table.specs.Runs.{Moment, after, starved_after, step_next}
@@ -9,16 +9,13 @@ use Rattle.heap_core.specs.Feeding.{FedTo}
 use Rattle.heap_core.specs.Seats.{Seat, answer_of, open_call, seat_of}
 
 -- a call that is kept has room for the region that it may get
-room_at : (c room : ℕ) (at : Moment) (next : Next) → HasRoom room next → IfSome (open_call c at next) (λ call. 1 ≤ room)
-room_at c room at (Go point) has = has
-room_at c room at (Over index point) has = tt
-room_at c room at More has = tt
-room_at c room at Gone has = tt
-room_at c room at (Ends answer) has = tt
-room_at c room at Nowhere has = tt
+room_at : (c room : ℕ) (hand : Option Held) (at : Moment) (next : Next) → HasRoom hand room at.stage.next → IfSome (open_call c at next) (λ call. HasRoom hand room call.stage.next)
+room_at c room hand at (Go point) has = has
+room_at c room hand at next has = tt
 
-pub room_kept : (c room : ℕ) (at : Moment) (next : Next) (kept : Option CallFacts) → kept ≡ open_call c at next → HasRoom room next → IfSome kept (λ call. 1 ≤ room)
-room_kept c room at next kept is has = subst (λ k. IfSome k (λ call. 1 ≤ room)) (sym is) (room_at c room at next has)
+pub room_kept : (c room : ℕ) (hand : Option Held) (at : Moment) (next : Next) (kept : Option CallFacts) → kept ≡ open_call c at next → HasRoom hand room at.stage.next →
+    IfSome kept (λ call. HasRoom hand room call.stage.next)
+room_kept c room hand at next kept is has = subst (λ k. IfSome k (λ call. HasRoom hand room call.stage.next)) (sym is) (room_at c room hand at next has)
 
 -- What the call and its client's desk are after an item is what the client is then.
 pub fed_to : {A E : Type 0} (seat : Seat) (desk desk' : DeskFacts) (call call' : CallFacts) (item : Item) (named : Result A E) (place : Option CallFacts) (ended : Option Answered) →

@@ -1,10 +1,10 @@
 -- A client, and its call as that is fed.
-use Rattle.std.specs.Prelude.{◌≡◌, ◌⊎◌, ◌≤◌, ℕ, Option, Some, Result, IfOk, IfSome, IsOk, IsSomeAnd}
+use Rattle.std.specs.Prelude.{◌≡◌, ◌⊎◌, ℕ, Option, Some, Result, IfOk, IfSome, IsOk, IsSomeAnd}
 use Rattle.std.specs.Option.{option_map}
 use Rattle.call_table.specs.Words.{DeskFacts}
 use Rattle.heap_core.specs.Words.{Item, Answered, NoMemory, More}
 use Rattle.call_table.specs.declared.needs.Need.{Need}
-use Rattle.call_table.specs.Calls.{CallFacts, moment_of}
+use Rattle.call_table.specs.Calls.{CallFacts, HasRoom, moment_of}
 use Rattle.call_table.specs.Needs.{IsFewAddresses, NeedIs}
 use Rattle.call_table.specs.Reads.{aimed}
 use Rattle.call_table.specs.Runs.{after, starved_after, step_next}
@@ -15,9 +15,9 @@ use Rattle.heap_core.specs.Seats.{Seat, answer_of, seat_of}
 abbrev pub shown : Inside → Seat
 shown c = record { desk = c.desk.facts; call = c.call }
 
--- while its call is open, there is room for a region that it comes to hold
+-- while its call is open, there is room for a region that it may come to hold
 abbrev pub HasDeskRoom : Inside → Type 0
-HasDeskRoom c = IfSome c.call (λ call. 1 ≤ c.desk.room)
+HasDeskRoom c = IfSome c.call (λ call. HasRoom c.desk.facts.hand c.desk.room call.stage.next)
 
 -- what a call needs, or that memory is wanting to name several regions that go back
 abbrev pub NeedOf : {E : Type 0} → Option CallFacts → Result Need E → Type 0
