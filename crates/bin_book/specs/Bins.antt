@@ -10,8 +10,8 @@ pub record Slab : Type 0 where
   pub first : ℕ
   pub free : List ℕ
 
--- the slabs in order of first page, the regions that are out by address, how many more slabs there is a place for, and the
--- client that holds what comes out next
+-- the slabs in order of first page, the regions that are out by address, how many more slabs there is a place for, and
+-- the client that holds what comes out next
 pub record Bins : Type 0 where
   pub slabs : List Slab
   pub regions : List Region
