@@ -1,40 +1,6 @@
 -- A book of slabs beside a space, as regions land in an extent in flight, at the lowest places of a new slab.
-use Rattle.std.proofs.Common.{◌≡◌, ℕ, ◌+◌, ◌-◌, ◌*◌, ◌<◌, ◌≤◌, zero, suc, Bool, true, false, not, ◌||◌, leb, ◌∷◌, Contains, filter, map, inl, inr, refl, sym, ap, ◌∙◌, arith, ◌≢◌, ◌/◌, cond, List, [], ◌++◌, append-nil, get_or, All, max, subst, ◌&&◌, eqb, ltb, lt-ltb, find, Some}
-use mathlib.Core.Logic.{dite}
-use native.Mathlib.Decide.{ℕ_discrete}
-use Rattle.std.specs.List.{list_any, range_with_len, sum_by}
-use Rattle.std.proofs.lemmas.Bool.{cases_lt, eq-eqb, eqb-true, false_from_ne_true, cases_Bool, le-ltb, leb-true}
-use Rattle.std.proofs.lemmas.Bool.Decides.{nat_tests}
-use Rattle.std.proofs.lemmas.List.Elements.{All-contains, All-append, All-cons, All-contains_itself, All-filter, filter-append}
-use Rattle.size_classes.specs.Classes.{regions_at, size_at, pages_at}
-use Rattle.space_model.specs.Region.{address_of, landing, region_of, regions_from, starts_at, houses, is_slab, lies_in}
-use Rattle.space_model.specs.Slabs.{places, land_at, slabs_of}
-use Rattle.bin_book.specs.Bins.{place, Slab, meets_slab, of_class, slab_with_out, with_slab}
-use Rattle.list_facts.proofs.Members.{any_has, any_map, any_none, filter_map_is, filter_same, map_has, range_from, range_has, any_from, count_some, filter_swap, map_from, map_same}
-use Rattle.bin_book.proofs.Places.{same_place}
-use Rattle.arena_core.specs.Booked.{LandsTakeTheFirst, slab_of}
+use Rattle.arena_core.proofs.Words.{◌≡◌, ℕ, ◌+◌, ◌-◌, ◌*◌, ◌<◌, ◌≤◌, zero, suc, Bool, true, false, not, ◌||◌, leb, ◌∷◌, Contains, filter, map, inl, inr, refl, sym, ap, ◌∙◌, arith, ◌≢◌, ◌/◌, cond, List, [], ◌++◌, append-nil, get_or, All, max, subst, ◌&&◌, eqb, ltb, lt-ltb, find, Some, dite, ℕ_discrete, list_any, range_with_len, sum_by, cases_lt, eq-eqb, eqb-true, false_from_ne_true, cases_Bool, le-ltb, leb-true, nat_tests, All-contains, All-append, All-cons, All-contains_itself, All-filter, filter-append, regions_at, size_at, pages_at, address_of, landing, region_of, regions_from, starts_at, houses, is_slab, lies_in, places, land_at, slabs_of, place, Slab, meets_slab, of_class, slab_with_out, with_slab, any_has, any_map, any_none, filter_map_is, filter_same, map_has, range_from, range_has, any_from, count_some, filter_swap, map_from, map_same, same_place, LandsTakeTheFirst, slab_of, map-append, sum_by-filter_both, sum_by-cons, row_fits, pages_bounds, size_bounds, filter_from, filter_has, Part, Region, Span, Active, Space, end_of, has_page, pages_end, begins_at, is_active, turned_in_order, Sound, filter-begins_at, filter-without, share, eqb_itself, lies_between, both_true, some_pages, IsBooked, CanBeSlab, slabs_landed}
 use Rattle.arena_core.proofs.Booked.{any_landing, idle_no_slab, serves_none, place_page, served_page, slab_at}
-use Rattle.std.proofs.lemmas.List.{map-append}
-use Rattle.std.proofs.lemmas.List.Filters.{sum_by-filter_both}
-use Rattle.std.proofs.lemmas.List.Sums.{sum_by-cons}
-use Rattle.std.proofs.lemmas.Nat.{row_fits}
-use Rattle.size_classes.proofs.Table.{pages_bounds, size_bounds}
-use Rattle.ordered_set.proofs.Members.{filter_from, filter_has}
-use Rattle.space_model.specs.declared.parts.Part.{Part}
-use Rattle.space_model.specs.declared.parts.Region.{Region}
-use Rattle.space_model.specs.declared.parts.Span.{Span}
-use Rattle.space_model.specs.declared.parts.State.TheVariants.{Active}
-use Rattle.space_model.specs.declared.spaces.Space.{Space}
-use Rattle.space_model.specs.Span.{end_of, has_page, pages_end}
-use Rattle.space_model.specs.Part.{begins_at, is_active, turned_in_order}
-use Rattle.space_model.specs.Sound.{Sound}
-use Rattle.space_model.proofs.Exchange.{filter-begins_at, filter-without, share}
-use Rattle.space_model.proofs.Landing.{eqb_itself, lies_between}
-use Rattle.space_model.proofs.Pieces.{both_true}
-use Rattle.space_model.proofs.Settled.{some_pages}
-use Rattle.arena_core.specs.Slabs.{IsBooked}
-use Rattle.region_book.specs.RegionLists.{CanBeSlab}
-use Rattle.region_book.specs.Slabs.{slabs_landed}
 use Rattle.arena_core.proofs.Books.{class_stays, from_slabs, only, stands_at}
 use Rattle.arena_core.proofs.Emptying.{ones}
 use Rattle.arena_core.proofs.Homes.{none_begins}

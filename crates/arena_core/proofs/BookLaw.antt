@@ -1,32 +1,5 @@
 -- The book of slabs after any operation that gives nothing back.
-use Rattle.std.proofs.Common.{◌⊎◌, ap, inl, inr, length, ◌≡◌, ℕ, ◌<◌, ◌≤◌, Bool, true, false, cond, List, [], ◌∷◌, find, Option, None, Some, refl, sym, ◌∙◌, subst, ◌&&◌, eqb, lt-ltb, ltb as nat_lt, leb as nat_le}
-use Rattle.std.proofs.lemmas.Bool.{eqb-true}
-use Rattle.std.proofs.lemmas.List.{nil_from_length}
-use Rattle.std.proofs.lemmas.List.Elements.{All-map}
-use Rattle.size_classes.specs.Classes.{pages_at, regions_at}
-use Rattle.space_model.specs.declared.entries.Op.{Op}
-use Rattle.space_model.specs.declared.entries.Op.TheVariants.{Look, CutDone, GrowDone, CommitDone, Land, PutLook, MergeDone, Fill, Advance, PurgeTake, LazyDone, Offer, OfferDone, DecommitDone, ForcedDone, Publish, TakeOver, Reset, Destroy, DestroyTake, Counts, Set, Widen, JoinDone, Trim, TrimDone}
-use Rattle.space_model.specs.declared.entries.Reply.TheVariants.{Busy, NoArena}
-use Rattle.space_model.specs.declared.parts.Part.{Part}
-use Rattle.space_model.specs.declared.parts.Region.{Region}
-use Rattle.space_model.specs.declared.parts.Span.{Span}
-use Rattle.space_model.specs.declared.spaces.Space.{Space}
-use Rattle.space_model.specs.Part.{is_flight_at}
-use Rattle.space_model.specs.Region.{held_anew}
-use Rattle.space_model.specs.Ending.{doom_at, emptied, ended, flight_count, held_count}
-use Rattle.space_model.specs.Holding.{is_held_at, is_published_at, take_over_at}
-use Rattle.space_model.specs.Resizing.{large_home}
-use Rattle.space_model.specs.Slabs.{after_fill, fill_at, land_at, land_stands, lowest_free, most_regions}
-use Rattle.space_model.specs.Step.{is_live, op_stands, step_of}
-use Rattle.space_model.specs.Stepped.{Stepped, found_passes, if_live, stays}
-use Rattle.space_model.specs.Sound.{Sound}
-use Rattle.space_model.proofs.Pieces.{both_true}
-use Rattle.space_model.proofs.Steps.{op_keeps}
-use Rattle.bin_book.specs.Bins.{Slab, without}
-use Rattle.arena_core.specs.Arenas.{is_return, opens}
-use Rattle.arena_core.specs.Slabs.{CanFollow, IsBooked, slabs_begun, slabs_filled, slabs_followed, slabs_left, slabs_taken}
-use Rattle.region_book.specs.RegionLists.{CanBeSlab}
-use Rattle.region_book.specs.Slabs.{slabs_landed}
+use Rattle.arena_core.proofs.Words.{◌⊎◌, ap, inl, inr, length, ◌≡◌, ℕ, ◌<◌, ◌≤◌, Bool, true, false, cond, List, [], ◌∷◌, find, Option, None, Some, refl, sym, ◌∙◌, subst, ◌&&◌, eqb, lt-ltb, nat_lt, nat_le, eqb-true, nil_from_length, All-map, pages_at, regions_at, Op, Look, CutDone, GrowDone, CommitDone, Land, PutLook, MergeDone, Fill, Advance, PurgeTake, LazyDone, Offer, OfferDone, DecommitDone, ForcedDone, Publish, TakeOver, Reset, Destroy, DestroyTake, Counts, Set, Widen, JoinDone, Trim, TrimDone, Busy, NoArena, Part, Region, Span, Space, is_flight_at, held_anew, doom_at, emptied, ended, flight_count, held_count, is_held_at, is_published_at, take_over_at, large_home, after_fill, fill_at, land_at, land_stands, lowest_free, most_regions, is_live, op_stands, step_of, Stepped, found_passes, if_live, stays, Sound, both_true, op_keeps, Slab, without, is_return, opens, CanFollow, IsBooked, slabs_begun, slabs_filled, slabs_followed, slabs_left, slabs_taken, CanBeSlab, slabs_landed}
 use Rattle.arena_core.proofs.Booked.{fills_taken, stay_handed}
 use Rattle.arena_core.proofs.BookLands.{Lands, can_land, landed_booked}
 use Rattle.arena_core.proofs.Resized.{join_step, trim_step}

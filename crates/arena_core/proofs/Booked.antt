@@ -1,33 +1,6 @@
 -- A book of slabs beside a space, as a fill takes regions, and which extent serves a region.
-use Rattle.std.proofs.Common.{◌≡◌, ℕ, ◌<◌, Bool, true, false, not, ◌&&◌, ◌||◌, eqb, ltb, List, [], ◌∷◌, map, filter, take, drop, count_by, Contains, IsTrue, if◌then◌else◌, inl, inr, refl, sym, ap, ◌∙◌, arith, ◌+◌, ◌*◌, ◌/◌, ◌≤◌, length, All, subst}
-use Rattle.std.specs.List.{flat_map, list_any, position_or_len, range_with_len, sum_by}
-use Rattle.std.proofs.lemmas.Bool.{cases_Bool, eq-eqb, eqb-true, false_from_ne_true}
-use Rattle.std.proofs.lemmas.List.{take-append-drop, length-map}
-use Rattle.std.proofs.lemmas.List.Elements.{All-contains}
-use Rattle.std.proofs.lemmas.List.Folds.{flat_map-map, list_any-append}
-use Rattle.std.proofs.lemmas.List.Sums.{sum_by-cons, sum_by-le-sum_by}
-use Rattle.ordered_set.proofs.Members.{contains_later, filter_from, filter_has, contains_cases}
-use Rattle.space_model.specs.declared.parts.Part.{Part}
-use Rattle.space_model.specs.declared.parts.Region.{Region}
-use Rattle.space_model.specs.declared.spaces.Space.{Space}
-use Rattle.space_model.specs.Part.{is_active, turned_in_order}
-use Rattle.space_model.specs.Region.{houses, inserted, is_slab, landing, region_of, residents, starts_at, address_of, covers, homes}
-use Rattle.space_model.specs.Slabs.{free_places, lowest_free, places, slabs_of}
-use Rattle.space_model.specs.Sound.{IsInSlab, Sound}
-use Rattle.space_model.proofs.Fills.{Spot, lowest_spots}
-use Rattle.bin_book.specs.Bins.{Slab, is_among, without, is_unused}
-use Rattle.list_facts.proofs.Members.{any_false, any_from, any_has, any_map, any_none, bit, filter_both, filter_map_is, filter_same, head, map_both, map_from, map_same, filter_all_of, map_has, range_from, range_has}
-use Rattle.arena_core.specs.Booked.{AreBooked, BooksStayWhereHoldersChange, BooksStayWhileExtentsDo, FillsTakeTheLowest, ReturnsAreFree, filled, slab_of}
-use Rattle.std.proofs.lemmas.Bool.Decides.{nat_tests}
-use Rattle.std.proofs.lemmas.List.Filters.{length-filter_both}
-use Rattle.std.proofs.lemmas.List.FromFn.{length-range_with_len}
-use Rattle.std.proofs.lemmas.Nat.{row_fits}
-use Rattle.size_classes.specs.Classes.{pages_at, regions_at, size_at}
-use Rattle.size_classes.proofs.Table.{size_bounds, slab_filled}
-use Rattle.space_model.specs.Span.{has_page}
-use Rattle.space_model.proofs.Exchange.{share}
-use Rattle.space_model.proofs.Pieces.{both_true}
-use Rattle.space_model.proofs.Settled.{serves, serves-le-share}
+use Rattle.arena_core.proofs.Words.{◌≡◌, ℕ, ◌<◌, Bool, true, false, not, ◌&&◌, ◌||◌, eqb, ltb, List, [], ◌∷◌, map, filter, take, drop, Contains, IsTrue, if◌then◌else◌, inl, inr, refl, sym, ap, ◌∙◌, arith, ◌+◌, ◌*◌, ◌/◌, ◌≤◌, length, All, subst, flat_map, list_any, position_or_len, range_with_len, sum_by, cases_Bool, eq-eqb, eqb-true, false_from_ne_true, take-append-drop, length-map, All-contains, flat_map-map, list_any-append, sum_by-cons, sum_by-le-sum_by, contains_later, filter_from, filter_has, contains_cases, Part, Region, Space, is_active, turned_in_order, houses, inserted, is_slab, landing, region_of, residents, starts_at, address_of, covers, homes, free_places, lowest_free, places, slabs_of, IsInSlab, Sound, Spot, lowest_spots, Slab, is_among, without, is_unused, any_false, any_from, any_has, any_map, any_none, bit, filter_both, filter_map_is, filter_same, head, map_both, map_from, map_same, filter_all_of, map_has, range_from, range_has, AreBooked, BooksStayWhereHoldersChange, BooksStayWhileExtentsDo, FillsTakeTheLowest, ReturnsAreFree, filled, slab_of, nat_tests, length-filter_both, length-range_with_len, row_fits, pages_at, regions_at, size_at, size_bounds, slab_filled, has_page, share, both_true, serves, serves-le-share}
+use Rattle.std.proofs.Common.{count_by}
 use Rattle.arena_core.proofs.Emptying.{ones_le}
 
 -- ---- tests of regions that landed

@@ -1,37 +1,7 @@
 -- A book of slabs beside a space, as regions land and are given back.
-use Rattle.std.proofs.Common.{◌≡◌, ℕ, ◌/◌, ◌<◌, ◌≤◌, Bool, true, false, not, IsTrue, List, [], ◌∷◌, length, get_or, All, Contains, filter, map, inl, inr, refl, sym, ◌∙◌, ap, subst, arith, ◌&&◌, eqb, lt-ltb, find, Some, cond}
-use Rattle.std.specs.List.{count_by, list_any, sum_by}
-use Rattle.std.proofs.lemmas.Bool.{cases_Bool, cases_lt, eq-eqb, eqb-true, false_from_ne_true, le-ltb}
-use Rattle.std.proofs.lemmas.Bool.Decides.{nat_tests}
-use Rattle.std.proofs.lemmas.List.{nil_from_length}
-use Rattle.std.proofs.lemmas.List.Elements.{All-cons, All-contains, All-contains_itself, All-filter, All-map, All-nil, All-head}
-use Rattle.std.proofs.lemmas.List.Filters.{sum_by-filter_both}
-use Rattle.std.proofs.lemmas.List.{ext_get_or, length-map}
-use Rattle.std.proofs.lemmas.List.FromFn.{length-map-range_with_len}
-use Rattle.std.proofs.lemmas.List.Sums.{length-filter, sum_by-cons}
-use Rattle.ordered_set.proofs.Members.{contains_cases, contains_later, filter_from, filter_has}
-use Rattle.space_model.specs.declared.parts.Part.{Part}
-use Rattle.space_model.specs.declared.parts.Region.{Region}
-use Rattle.space_model.specs.declared.spaces.Space.{Space}
-use Rattle.space_model.specs.Span.{has_page}
-use Rattle.space_model.specs.Part.{begins_at, taken_out, turned_in_order}
-use Rattle.space_model.specs.Region.{fills, houses, is_slab, residents, starts_at}
-use Rattle.space_model.specs.Counts.{slabs_by_class}
-use Rattle.space_model.specs.Slabs.{places, slabs_of}
-use Rattle.space_model.specs.Sound.{Sound}
-use Rattle.space_model.specs.Step.{after_back, holds_at, is_emptied, is_given_back, staying}
-use Rattle.space_model.proofs.Landing.{eqb_itself}
-use Rattle.space_model.proofs.Lists.{only_one}
-use Rattle.space_model.proofs.Pieces.{both_true}
-use Rattle.space_model.proofs.Turned.{All-turned, turned_sum}
-use Rattle.bin_book.specs.Bins.{Slab, is_out, is_unused, of_class, with_free}
-use Rattle.list_facts.proofs.Members.{any_from, any_has, any_map, filter_all_of, filter_both, filter_map_is, filter_none_of, filter_same, filter_swap, head, map_both, map_from, map_same}
-use Rattle.arena_core.specs.Booked.{slab_of}
-use Rattle.arena_core.specs.Slabs.{IsBooked, NothingIsBooked, slabs_left}
-use Rattle.region_book.specs.Slabs.{is_last, slabs_returned}
+use Rattle.arena_core.proofs.Words.{◌≡◌, ℕ, ◌/◌, ◌<◌, ◌≤◌, Bool, true, false, not, IsTrue, List, [], ◌∷◌, length, get_or, All, Contains, filter, map, inl, inr, refl, sym, ◌∙◌, ap, subst, arith, ◌&&◌, eqb, lt-ltb, find, Some, cond, count_by, list_any, sum_by, cases_Bool, cases_lt, eq-eqb, eqb-true, false_from_ne_true, le-ltb, nat_tests, nil_from_length, All-cons, All-contains, All-contains_itself, All-filter, All-map, All-nil, All-head, sum_by-filter_both, ext_get_or, length-map, length-map-range_with_len, length-filter, sum_by-cons, contains_cases, contains_later, filter_from, filter_has, Part, Region, Space, has_page, begins_at, taken_out, turned_in_order, fills, houses, is_slab, residents, starts_at, slabs_by_class, places, slabs_of, Sound, after_back, holds_at, is_emptied, is_given_back, staying, eqb_itself, only_one, both_true, All-turned, turned_sum, Slab, is_out, is_unused, of_class, with_free, any_from, any_has, any_map, filter_all_of, filter_both, filter_map_is, filter_none_of, filter_same, filter_swap, head, map_both, map_from, map_same, slab_of, IsBooked, NothingIsBooked, slabs_left, is_last, slabs_returned, at_tally, tally}
 use Rattle.arena_core.proofs.Booked.{among_kept, both_ways, freed, idle_no_slab, serves_none, stay_still, SlabAt, slab_at, starts_served, still_slab, unused_is}
 use Rattle.arena_core.proofs.Emptying.{Empties, Gives, any_counts, begins_alone, counts_any, empties, given_parts, gives, is_left, ones}
-use Rattle.region_book.proofs.ByClass.{at_tally, tally}
 use Rattle.arena_core.proofs.Finds.{find_alone}
 use Rattle.arena_core.proofs.InOrder.{order_stays}
 use Rattle.arena_core.proofs.Still.{Still, kept_exchanged}

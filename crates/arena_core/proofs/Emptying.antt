@@ -1,25 +1,5 @@
 -- One region is given back: its extent is the only one that can be emptied.
-use Rattle.std.proofs.Common.{◌≡◌, ℕ, ◌/◌, ◌<◌, ◌≤◌, Bool, true, false, not, cond, IsTrue, List, [], ◌∷◌, append-nil, length, get_or, find, filter, Some, refl, sym, ◌∙◌, ap, subst, arith, All, ◌&&◌, ◌||◌, eqb, inl, inr}
-use Rattle.std.specs.List.{count_by, list_any, sum_by}
-use Rattle.std.proofs.lemmas.Bool.{cases_Bool, eqb-true}
-use Rattle.std.proofs.lemmas.Bool.Decides.{nat_tests}
-use Rattle.std.proofs.lemmas.List.Elements.{All-cons, All-filter, All-head, All-nil, All-tail, filter_passes, recursion_from_All}
-use Rattle.std.proofs.lemmas.List.Filters.{sum_by-filter_both}
-use Rattle.std.proofs.lemmas.List.Sums.{length-filter, sum_by-cons}
-use Rattle.size_classes.specs.Classes.{size_at}
-use Rattle.size_classes.proofs.Table.{size_bounds}
-use Rattle.ordered_set.proofs.Sorted.{filter_none}
-use Rattle.space_model.specs.declared.parts.Part.{Part}
-use Rattle.space_model.specs.declared.parts.Region.{Region}
-use Rattle.space_model.specs.declared.spaces.Space.{Space}
-use Rattle.space_model.specs.Span.{IsPlaced, has_page}
-use Rattle.space_model.specs.Part.{begins_at, exchanged, holders, is_active, taken_out}
-use Rattle.space_model.specs.Region.{covers, homes, houses, is_held_by, residents, starts_at}
-use Rattle.space_model.specs.Step.{after_back, holds_at, is_emptied, is_given_back, staying, taken_in_order}
-use Rattle.space_model.specs.Sound.{Sound}
-use Rattle.space_model.proofs.Exchange.{filter-begins_at, find_has, find_passes}
-use Rattle.space_model.proofs.Settled.{serves, some_pages}
-use Rattle.space_model.proofs.Settled.{serves-le-share, sum_nothing}
+use Rattle.arena_core.proofs.Words.{◌≡◌, ℕ, ◌/◌, ◌<◌, ◌≤◌, Bool, true, false, not, cond, IsTrue, List, [], ◌∷◌, append-nil, length, get_or, find, filter, Some, refl, sym, ◌∙◌, ap, subst, arith, All, ◌&&◌, ◌||◌, eqb, inl, inr, count_by, list_any, sum_by, cases_Bool, eqb-true, nat_tests, All-cons, All-filter, All-head, All-nil, All-tail, filter_passes, recursion_from_All, sum_by-filter_both, length-filter, sum_by-cons, size_at, size_bounds, filter_none, Part, Region, Space, IsPlaced, has_page, begins_at, exchanged, holders, is_active, taken_out, covers, homes, houses, is_held_by, residents, starts_at, after_back, holds_at, is_emptied, is_given_back, staying, taken_in_order, Sound, filter-begins_at, find_has, find_passes, serves, some_pages, serves-le-share, sum_nothing}
 use Rattle.arena_core.proofs.Finds.{fewer_pass}
 use Rattle.arena_core.proofs.Homes.{home_shares}
 use Rattle.arena_core.proofs.Swaps.{keeps_all}

@@ -1,23 +1,7 @@
 -- What searches find among extents that are apart.
-use Rattle.std.proofs.Common.{◌≡◌, ℕ, ◌-◌, ◌≤◌, Bool, true, false, cond, List, [], ◌∷◌, get_or, find, filter, slice_get, Option, None, Some, IfSome, refl, sym, ◌∙◌, ap, subst, arith, All, ◌&&◌, eqb, leb as nat_le}
-use Rattle.std.specs.List.{count_by}
-use Rattle.std.specs.Option.{option_or}
-use Rattle.std.proofs.lemmas.Bool.Decides.{nat_tests}
-use Rattle.std.proofs.lemmas.List.Sums.{sum_by-cons}
-use Rattle.std.proofs.lemmas.List.Elements.{All-head, All-tail}
-use Rattle.space_model.specs.declared.parts.Part.{Part}
-use Rattle.space_model.specs.declared.parts.Span.{Span}
-use Rattle.space_model.specs.Span.{IsPlaced, end_of, has_page}
-use Rattle.space_model.specs.Part.{begins_at, is_flight, is_flight_at, is_unused}
-use Rattle.space_model.specs.Fit.{fit}
-use Rattle.space_model.specs.Resizing.{is_spare}
-use Rattle.space_model.specs.Step.{is_left_of, is_like, is_right_of}
-use Rattle.space_model.proofs.Exchange.{filter-begins_at}
-use Rattle.space_model.proofs.Settled.{some_pages}
-use Rattle.space_model.proofs.Pieces.{fit-listed}
-use Rattle.part_book.specs.Books.{Book, IsFirstFrom, ends_at, is_beside}
-use Rattle.list_facts.proofs.Members.{find_is, only_one}
-use Rattle.arena_core.specs.Extents.{IsApart, IsThere, kept}
+use Rattle.arena_core.proofs.Words.{◌≡◌, ℕ, ◌-◌, ◌≤◌, Bool, true, false, cond, List, [], ◌∷◌, get_or, find, filter, slice_get, Option, None, Some, IfSome, refl, sym, ◌∙◌, ap, subst, arith, All, ◌&&◌, eqb, nat_le, count_by, option_or, nat_tests, sum_by-cons, All-head, All-tail, Part, Span, IsPlaced, end_of, has_page, begins_at, is_flight, is_flight_at, fit, is_spare, is_left_of, is_like, is_right_of, filter-begins_at, some_pages, fit-listed, Book, IsFirstFrom, ends_at, is_beside, find_is, IsApart, IsThere, kept}
+use Rattle.space_model.specs.Part.{is_unused}
+use Rattle.list_facts.proofs.Members.{only_one}
 
 -- ---- what is found is there
 

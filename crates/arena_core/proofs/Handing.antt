@@ -1,16 +1,6 @@
 -- A region that gets another holder.
-use Rattle.std.proofs.Common.{◌≡◌, ◌≢◌, ℕ, suc, ◌+◌, ◌*◌, ◌/◌, ◌%◌, ◌<◌, ◌≤◌, Bool, true, false, not, cond, List, [], ◌∷◌, get_or, map, filter, find, Option, None, Some, Less, is_gt, is_lt, is_eq, refl, sym, ◌∙◌, ap, subst, arith, eqb, ltb as nat_lt, inl, inr}
-use Rattle.std.specs.List.{AllByRecursion as Every, Contains, count_by, sum_by, list_any}
-use Rattle.std.specs.Option.{option_map}
-use Rattle.std.proofs.lemmas.Bool.{cases_Bool, cases_order}
-use Rattle.std.proofs.lemmas.Bool.Decides.{nat_tests}
-use Rattle.std.proofs.lemmas.List.Sums.{sum_by-cons}
-use Rattle.space_model.specs.declared.parts.Region.{Region}
-use Rattle.space_model.specs.Region.{held_anew, is_held_by, is_published, starts_at}
-use Rattle.space_model.specs.Step.{holds_at}
-use Rattle.space_model.proofs.Exchange.{find-le-sum_by, find_passes}
-use Rattle.space_model.proofs.Pieces.{both_true}
-use Rattle.space_model.specs.Holding.{is_held_at, is_published_at}
+use Rattle.arena_core.proofs.Words.{◌≡◌, ◌≢◌, ℕ, suc, ◌+◌, ◌*◌, ◌/◌, ◌%◌, ◌<◌, ◌≤◌, Bool, true, false, not, cond, List, [], ◌∷◌, get_or, map, filter, find, Option, None, Some, Less, is_gt, is_lt, is_eq, refl, sym, ◌∙◌, ap, subst, arith, eqb, nat_lt, inl, inr, Every, count_by, sum_by, list_any, option_map, cases_Bool, cases_order, nat_tests, sum_by-cons, Region, held_anew, is_held_by, is_published, starts_at, holds_at, find-le-sum_by, find_passes, both_true, is_held_at, is_published_at}
+use Rattle.std.specs.List.{Contains}
 use Rattle.arena_core.proofs.Emptying.{any_counts, counts_any}
 use Rattle.arena_core.proofs.Finds.{fewer_pass}
 

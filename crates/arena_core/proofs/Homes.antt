@@ -1,28 +1,5 @@
 -- The extent that serves a region is the one that has the page of its address.
-use Rattle.std.proofs.Common.{◌≡◌, ℕ, ◌*◌, ◌/◌, ◌<◌, ◌≤◌, Bool, true, false, cond, IsTrue, List, [], ◌∷◌, get_or, find, Some, sym, ap, arith, eqb, inl, inr, ◌&&◌}
-use Rattle.std.specs.List.{list_any, sum_by}
-use Rattle.std.proofs.lemmas.Bool.{cases_Bool}
-use Rattle.std.proofs.lemmas.Bool.Decides.{nat_tests}
-use Rattle.std.proofs.lemmas.List.Folds.{list_any_none}
-use Rattle.std.proofs.lemmas.List.Sums.{sum_by-cons, sum_by-le-sum_by}
-use Rattle.size_classes.specs.Classes.{size_at}
-use Rattle.size_classes.proofs.Table.{size_bounds}
-use Rattle.space_model.specs.declared.parts.Part.{Part}
-use Rattle.space_model.specs.declared.asks.Answer.{Answer}
-use Rattle.space_model.specs.declared.asks.Ask.TheVariants.{Merge}
-use Rattle.space_model.specs.declared.parts.Region.{Region}
-use Rattle.space_model.specs.declared.parts.Span.{Span}
-use Rattle.space_model.specs.declared.spaces.Space.{Space}
-use Rattle.space_model.specs.Span.{IsPlaced, end_of, has_page}
-use Rattle.space_model.specs.Part.{holders, is_active, is_flight, is_flight_at}
-use Rattle.space_model.specs.Region.{covers, homes}
-use Rattle.space_model.specs.Step.{is_yes_or_no, merge_stands}
-use Rattle.space_model.specs.Sound.{Sound}
-use Rattle.space_model.proofs.Exchange.{find_has, find_passes, share}
-use Rattle.space_model.proofs.Settled.{idle-serves, serves}
-use Rattle.space_model.proofs.Settled.{serves-le-share}
-use Rattle.space_model.proofs.Pieces.{both_true, flight-idle}
-use Rattle.part_book.specs.Books.{AreBeside}
+use Rattle.arena_core.proofs.Words.{◌≡◌, ℕ, ◌*◌, ◌/◌, ◌<◌, ◌≤◌, Bool, true, false, cond, IsTrue, List, [], ◌∷◌, get_or, find, Some, sym, ap, arith, eqb, inl, inr, ◌&&◌, list_any, sum_by, cases_Bool, nat_tests, list_any_none, sum_by-cons, sum_by-le-sum_by, size_at, size_bounds, Part, Answer, Merge, Region, Span, Space, IsPlaced, end_of, has_page, holders, is_active, is_flight, is_flight_at, covers, homes, is_yes_or_no, merge_stands, Sound, find_has, find_passes, share, idle-serves, serves, serves-le-share, both_true, flight-idle, AreBeside}
 
 -- where a sum is no more than that of smaller terms, each term is no more than the smaller one
 exact_at : {X : Type 0} (f g : X → ℕ) (test : X → Bool) (xs : List X) (x : X) → ((y : X) → g y ≤ f y) → sum_by f xs ≤ sum_by g xs → find test xs ≡ Some x → f x ≤ g x

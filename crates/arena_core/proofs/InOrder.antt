@@ -1,13 +1,5 @@
 -- Extents in order of address, as some go or one comes.
-use Rattle.std.proofs.Common.{◌≡◌, ◌≢◌, ◌<◌, ◌≤◌, suc, Bool, true, false, cond, List, [], ◌∷◌, ◌++◌, All, filter, ltb, fold, take, drop, ◌+◌, subst, inl, inr, refl, sym, ap, ◌∙◌, arith}
-use Rattle.std.specs.List.{AllByRecursion as Every, position_or_len}
-use Rattle.std.proofs.lemmas.Bool.{cases_Bool, cases_lt}
-use Rattle.std.proofs.lemmas.Bool.Decides.{nat_tests}
-use Rattle.std.proofs.lemmas.List.Elements.{recursion_from_All}
-use Rattle.ordered_set.proofs.Sorted.{every_filter, every_map, filter_all, filter_none}
-use Rattle.space_model.specs.declared.parts.Part.{Part}
-use Rattle.space_model.specs.Part.{placed, turned_in_order}
-use Rattle.arena_core.specs.Booked.{OrderGrows, OrderStays}
+use Rattle.arena_core.proofs.Words.{◌≡◌, ◌≢◌, ◌<◌, ◌≤◌, suc, Bool, true, false, cond, List, [], ◌∷◌, ◌++◌, All, filter, ltb, fold, take, drop, ◌+◌, subst, inl, inr, refl, sym, ap, ◌∙◌, arith, Every, position_or_len, cases_Bool, cases_lt, nat_tests, recursion_from_All, every_filter, every_map, filter_all, filter_none, Part, placed, turned_in_order, OrderGrows, OrderStays}
 
 -- each extent begins no later than those behind it
 Rising : List Part → Type 0

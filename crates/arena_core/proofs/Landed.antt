@@ -1,38 +1,8 @@
 -- Regions of a class that land in an extent, or are taken as the lowest free ones.
-use Rattle.std.proofs.Common.{◌≡◌, ℕ, ◌+◌, ◌<◌, ◌≤◌, ◌^◌, false, List, [], ◌∷◌, length, get_or, drop, sym, ap, ◌∙◌, subst, arith, ltb as nat_lt, ◌*◌, true, cond, IsTrue, find, Some, refl, ◌&&◌, eqb, leb as nat_le, inl, inr, zero, suc, Bool, ◌↔◌, ◌++◌, map, take, lt-ltb}
-use Rattle.std.specs.List.{count_by, list_any, position_or_len, sum_by}
-use Rattle.std.proofs.lemmas.Bool.{false_from_ne_true, cases_lt, eqb-true, le-ltb, leb-true, lt-ltb, ltb-true}
-use Rattle.std.proofs.lemmas.List.{drop_all, drop_more, get_or-map}
-use Rattle.std.proofs.lemmas.List.Sums.{sum_by-cons, sum_by-insert}
-use Rattle.size_classes.specs.Classes.{size_at, pages_at, regions_at}
-use Rattle.space_model.specs.declared.parts.Region.{Region}
-use Rattle.space_model.specs.declared.spaces.Space.{Space}
-use Rattle.space_model.specs.Counts.{region_bytes}
-use Rattle.space_model.specs.Region.{inserted, landing, starts_at, address_of, regions_from, region_of}
-use Rattle.space_model.specs.Sound.{Sound}
-use Rattle.space_model.proofs.Landing.{eqb_itself}
-use Rattle.space_model.proofs.Sums.{region_bytes_fits}
-use Rattle.region_book.specs.RegionLists.{CanCome}
+use Rattle.arena_core.proofs.Words.{◌≡◌, ℕ, ◌+◌, ◌<◌, ◌≤◌, ◌^◌, false, List, [], ◌∷◌, length, get_or, drop, sym, ap, ◌∙◌, subst, arith, nat_lt, ◌*◌, true, cond, IsTrue, find, Some, refl, ◌&&◌, eqb, nat_le, inl, inr, zero, suc, Bool, ◌↔◌, ◌++◌, map, take, lt-ltb, count_by, list_any, position_or_len, sum_by, false_from_ne_true, cases_lt, eqb-true, le-ltb, leb-true, ltb-true, drop_all, drop_more, get_or-map, sum_by-cons, sum_by-insert, size_at, pages_at, regions_at, Region, Space, region_bytes, inserted, landing, starts_at, address_of, regions_from, region_of, Sound, eqb_itself, region_bytes_fits, CanCome, nat_tests, mul-le-mul_left, large_size, slab_filled, Land, Fill, Part, Span, is_flight_at, pages_end, land_at, land_stands, most_regions, after_fill, fill_at, lowest_free, is_live, op_stands, both_true, op_keeps, NoArena, Nothing, Regions, stays, Slab, free_of, without, filter_all_of, filled, IsBooked, slabs_filled, slabs_taken}
+use Rattle.std.proofs.lemmas.Bool.{lt-ltb}
 use Rattle.arena_core.proofs.Emptying.{any_counts, begins_alone, ones}
-use Rattle.std.proofs.lemmas.Bool.Decides.{nat_tests}
-use Rattle.std.proofs.Math.Nat.{mul-le-mul_left}
-use Rattle.size_classes.proofs.Table.{large_size, slab_filled}
-use Rattle.space_model.specs.declared.entries.Op.TheVariants.{Land, Fill}
-use Rattle.space_model.specs.declared.parts.Part.{Part}
-use Rattle.space_model.specs.declared.parts.Span.{Span}
-use Rattle.space_model.specs.Part.{is_flight_at}
-use Rattle.space_model.specs.Span.{pages_end}
-use Rattle.space_model.specs.Slabs.{land_at, land_stands, most_regions, after_fill, fill_at, lowest_free}
-use Rattle.space_model.specs.Step.{is_live, op_stands}
-use Rattle.space_model.proofs.Pieces.{both_true}
-use Rattle.space_model.proofs.Steps.{op_keeps}
 use Rattle.arena_core.proofs.Homes.{in_flight}
-use Rattle.space_model.specs.declared.entries.Reply.TheVariants.{NoArena, Nothing, Regions}
-use Rattle.space_model.specs.Stepped.{stays}
-use Rattle.bin_book.specs.Bins.{Slab, free_of, without}
-use Rattle.list_facts.proofs.Members.{filter_all_of}
-use Rattle.arena_core.specs.Booked.{filled}
-use Rattle.arena_core.specs.Slabs.{IsBooked, slabs_filled, slabs_taken}
 use Rattle.arena_core.proofs.Booked.{fills_taken}
 use Rattle.arena_core.proofs.Books.{map_itself}
 

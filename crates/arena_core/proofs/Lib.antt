@@ -1,3 +1,4 @@
+pub mod Words
 pub mod Emptying
 pub mod Finds
 pub mod Handing

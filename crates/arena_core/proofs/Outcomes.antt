@@ -1,24 +1,5 @@
 -- What a step leaves: its outcome for the space, and the body as it shall be.
-use Rattle.std.proofs.Common.{◌≡◌, ◌≢◌, ◌∙◌, ◌⊎◌, inl, inr, ℕ, ◌<◌, IsTrue, List, [], ◌∷◌, ◌++◌, ltb as nat_lt, Result, Ok, Err, IfOk, OnOk, OnErr, length, refl, sym, ap, subst, arith}
-use Rattle.std.proofs.lemmas.Bool.{ltb-true}
-use Rattle.std.proofs.lemmas.List.{get_or-set_other, get_or-set_same}
-use Rattle.std.proofs.Math.ListN.{length-set}
-use Rattle.space_model.specs.declared.entries.Entry.{Entry}
-use Rattle.space_model.specs.declared.entries.Op.{Op}
-use Rattle.space_model.specs.declared.entries.Reply.{Reply}
-use Rattle.space_model.specs.declared.spaces.Space.{Space}
-use Rattle.space_model.specs.Step.{op_stands, reply_to, space_after, stands}
-use Rattle.space_model.specs.Sound.{Sound}
-use Rattle.space_model.specs.Opening.{absent_space, first_space, new_pace}
-use Rattle.space_model.specs.Journal.{Good}
-use Rattle.space_model.specs.Own.{mine}
-use Rattle.space_model.proofs.Pieces.{both_true}
-use Rattle.space_model.proofs.Steps.{Outcome, Outcome-good, Outcome-others, Outcome-sound}
-use Rattle.space_model.proofs.LawLemmas.{absent_replays_are_good, first_replays_are_good}
-use Rattle.arena_core.specs.declared.steps.Body.{Body}
-use Rattle.arena_core.specs.Arenas.{IsBody, Standing, all_rooms, entry_of, room_after, room_of, rooms_after, standing_of}
-use Rattle.arena_core.specs.Indexes.{HasPlaces, space_of}
-use Rattle.arena_core.specs.Slabs.{IsBooked}
+use Rattle.arena_core.proofs.Words.{◌≡◌, ◌≢◌, ◌∙◌, ◌⊎◌, inl, inr, ℕ, ◌<◌, IsTrue, List, [], ◌∷◌, ◌++◌, nat_lt, Result, Ok, Err, IfOk, OnOk, OnErr, length, refl, sym, ap, subst, arith, ltb-true, get_or-set_other, get_or-set_same, length-set, Entry, Op, Reply, Space, op_stands, reply_to, space_after, stands, Sound, absent_space, first_space, new_pace, Good, mine, both_true, Outcome, Outcome-good, Outcome-others, Outcome-sound, absent_replays_are_good, first_replays_are_good, Body, IsBody, Standing, all_rooms, entry_of, room_after, room_of, rooms_after, standing_of, HasPlaces, space_of, IsBooked}
 
 -- What a step leaves of a body that callers see as `a`.
 pub record Stepped {E : Type 0} (a : Standing) (new : Body) (client : ℕ) (op : Op) (r : Result Reply E) : Type 0 where

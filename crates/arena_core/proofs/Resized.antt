@@ -1,44 +1,9 @@
 -- A large region that takes another class: its extent is the one that begins at its address, and the slabs stay.
-use Rattle.std.proofs.Common.{◌≡◌, ℕ, ◌*◌, ◌/◌, ◌<◌, ◌≤◌, ◌==◌, Bool, true, false, not, cond, IsTrue, List, [], ◌∷◌, get_or, find, filter, Option, None, Some, refl, sym, ◌∙◌, ap, subst, arith, ◌&&◌, ◌||◌, leb as nat_le, ◌+◌, All, Contains, take, drop, eqb, ltb as nat_lt}
-use Rattle.std.specs.List.{count_by, list_any, position_or_len, sum_by}
-use Rattle.std.specs.Option.{IsSome, option_map}
-use Rattle.std.proofs.lemmas.Bool.{eqb-true, leb-true, ltb-true}
-use Rattle.std.proofs.lemmas.Bool.Decides.{nat_tests}
-use Rattle.std.proofs.lemmas.List.Filters.{sum_by-filter_both}
-use Rattle.std.proofs.lemmas.List.Sums.{sum_by-cons, sum_by-insert}
-use Rattle.size_classes.specs.Classes.{pages_at, size_at}
-use Rattle.size_classes.proofs.Table.{large_size, size_bounds}
-use Rattle.space_model.specs.declared.asks.Ask.{Ask}
-use Rattle.space_model.specs.declared.asks.Ask.TheVariants.{Split, Merge}
-use Rattle.space_model.specs.declared.asks.Answer.{Answer}
-use Rattle.space_model.specs.declared.asks.Answer.TheVariants.{Done, Refused as Refuses, Refused}
-use Rattle.space_model.specs.declared.parts.Span.{Span}
-use Rattle.space_model.specs.declared.parts.Part.{Part}
-use Rattle.space_model.specs.declared.parts.Region.{Region}
-use Rattle.space_model.specs.declared.spaces.Space.{Space}
-use Rattle.space_model.specs.Span.{IsPlaced, same_span, end_of}
-use Rattle.space_model.specs.Part.{begins_at, is_active, exchanged, is_flight_at, taken_out}
-use Rattle.space_model.specs.Region.{houses, inserted, is_held_by, starts_at, address_of, is_slab, lies_in}
-use Rattle.space_model.specs.Counts.{region_bytes}
-use Rattle.space_model.specs.Resizing.{has_large, is_large_at, large_home, reclassed, trim_answered, trim_done_stands, trimmed_at, after_join, after_trim_done, is_large_class, join_stands, widened_at}
-use Rattle.space_model.specs.Step.{holds_at, is_given_back, staying}
-use Rattle.space_model.specs.Stepped.{found_passes, begins_either, high_piece, is_yes_or_no, joined, low_piece}
-use Rattle.space_model.specs.Sound.{Sound}
-use Rattle.space_model.proofs.Lists.{find_passes, nothing_sum, only_one}
-use Rattle.space_model.proofs.Pieces.{both_true, two_left}
-use Rattle.space_model.proofs.Resizes.{home_found, housed}
+use Rattle.arena_core.proofs.Words.{◌≡◌, ℕ, ◌*◌, ◌/◌, ◌<◌, ◌≤◌, ◌==◌, Bool, true, false, not, cond, IsTrue, List, [], ◌∷◌, get_or, find, filter, Option, None, Some, refl, sym, ◌∙◌, ap, subst, arith, ◌&&◌, ◌||◌, nat_le, ◌+◌, All, Contains, take, drop, eqb, nat_lt, count_by, list_any, position_or_len, sum_by, IsSome, option_map, eqb-true, leb-true, ltb-true, nat_tests, sum_by-filter_both, sum_by-cons, sum_by-insert, pages_at, size_at, large_size, size_bounds, Ask, Split, Merge, Answer, Done, Refuses, Refused, Span, Part, Region, Space, IsPlaced, same_span, end_of, begins_at, is_active, exchanged, is_flight_at, taken_out, houses, inserted, is_held_by, starts_at, address_of, is_slab, lies_in, region_bytes, has_large, is_large_at, large_home, reclassed, trim_answered, trim_done_stands, trimmed_at, after_join, after_trim_done, is_large_class, join_stands, widened_at, holds_at, is_given_back, staying, found_passes, Sound, nothing_sum, only_one, both_true, two_left, home_found, housed, All-cons, All-contains_itself, All-nil, Contains-append_right, is_in, without_client, one_left, filter_nothing, find_has, find_passes, eqb_itself, lies_between, Slab, filter_same, head, slab_of, IsBooked, places}
+use Rattle.space_model.specs.Stepped.{begins_either, high_piece, is_yes_or_no, joined, low_piece}
+use Rattle.space_model.proofs.Lists.{find_passes}
 use Rattle.arena_core.proofs.Emptying.{any_counts, begins_alone, ones}
 use Rattle.arena_core.proofs.Finds.{fewer_pass, found_there}
-use Rattle.std.proofs.lemmas.List.Elements.{All-cons, All-contains_itself, All-nil, Contains-append_right}
-use Rattle.space_model.specs.Settings.{is_in, without_client}
-use Rattle.space_model.proofs.Changes.{one_left}
-use Rattle.space_model.proofs.Exchange.{filter_nothing, find_has, find_passes}
-use Rattle.space_model.proofs.Landing.{eqb_itself, lies_between}
-use Rattle.bin_book.specs.Bins.{Slab}
-use Rattle.list_facts.proofs.Members.{filter_same, head}
-use Rattle.arena_core.specs.Booked.{slab_of}
-use Rattle.arena_core.specs.Slabs.{IsBooked}
-use Rattle.space_model.specs.Slabs.{places}
 use Rattle.arena_core.proofs.Booked.{idle_no_slab, no_slab}
 use Rattle.arena_core.proofs.Books.{class_stays, same_any, still_booked}
 use Rattle.arena_core.proofs.Homes.{in_flight}

@@ -1,13 +1,5 @@
 -- The sum of all rooms where one of them changes.
-use Rattle.std.proofs.Common.{◌≡◌, ℕ, ◌+◌, ◌<◌, ◌≤◌, false, List, length, slice_set, refl, sym, subst, arith}
-use Rattle.std.proofs.lemmas.List.Sums.{sum_by-set}
-use Rattle.space_model.specs.declared.entries.Op.{Op}
-use Rattle.space_model.specs.declared.entries.Op.TheVariants.{Back}
-use Rattle.space_model.specs.declared.spaces.Space.{Space}
-use Rattle.arena_core.specs.declared.steps.Body.{Body}
-use Rattle.arena_core.specs.Arenas.{all_rooms, emptied_by, is_return, room_of}
-use Rattle.arena_core.specs.declared.indexes.Indexes.{Indexes}
-use Rattle.arena_core.specs.Indexes.{HasPlaces}
+use Rattle.arena_core.proofs.Words.{◌≡◌, ℕ, ◌+◌, ◌<◌, ◌≤◌, false, List, length, slice_set, refl, sym, subst, arith, sum_by-set, Op, Back, Space, Body, all_rooms, emptied_by, is_return, room_of, Indexes, HasPlaces}
 
 -- the sum with a client's new room, and its old one
 pub rooms_with : (rooms : List ℕ) (client room : ℕ) → client < length rooms → all_rooms (slice_set rooms client room) + room_of client rooms ≡ all_rooms rooms + room

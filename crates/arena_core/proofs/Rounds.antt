@@ -1,33 +1,7 @@
 -- Extents that change and regions that are given back, one after the other from the lowest on.
-use Rattle.std.proofs.Common.{◌≡◌, ℕ, ◌+◌, ◌<◌, ◌≤◌, Bool, true, false, cond, not, List, [], ◌∷◌, ◌++◌, append_assoc, append-nil, length, get_or, filter, fold, refl, sym, ◌∙◌, ap, subst, arith, All, ltb as nat_lt, inl, inr, suc, ◌*◌, IsTrue, ◌&&◌, ◌||◌, eqb, leb as nat_le, drop, add-one, drop-cons}
-use Rattle.std.specs.List.{insert, position_or_len, sum_by, count_by, list_all, list_any}
-use Rattle.std.proofs.lemmas.Bool.{cases_Bool, cases_lt, not-true}
-use Rattle.std.proofs.lemmas.Bool.Decides.{nat_tests}
-use Rattle.std.proofs.lemmas.List.Elements.{All-append, All-cons, All-filter, All-head, All-nil, All-tail, filter-append, filter_passes, All-weaker}
-use Rattle.std.proofs.lemmas.List.Filters.{length-filter_both, sum_by-filter_both}
-use Rattle.std.proofs.lemmas.List.Sums.{get_or-le-sum_by, sum_by-cons}
-use Rattle.space_model.specs.declared.parts.Part.{Part}
-use Rattle.space_model.specs.Span.{IsPlaced, end_of}
-use Rattle.space_model.specs.Part.{begins_at, exchanged, placed, turned, turned_in_order, is_active, taken_out}
-use Rattle.space_model.specs.declared.parts.Span.{Span}
-use Rattle.space_model.proofs.Exchange.{filter-begins_at, filter-without, share, find_has, find_passes}
-use Rattle.space_model.proofs.Landing.{All-insert}
-use Rattle.space_model.proofs.Settled.{some_pages, serves}
-use Rattle.list_facts.proofs.Members.{filter_swap, filter_both}
-use Rattle.arena_core.specs.Extents.{IsApart, IsThere}
+use Rattle.arena_core.proofs.Words.{◌≡◌, ℕ, ◌+◌, ◌<◌, ◌≤◌, Bool, true, false, cond, not, List, [], ◌∷◌, ◌++◌, append_assoc, append-nil, length, get_or, filter, fold, refl, sym, ◌∙◌, ap, subst, arith, All, nat_lt, inl, inr, suc, ◌*◌, IsTrue, ◌&&◌, ◌||◌, eqb, nat_le, drop, add-one, drop-cons, insert, position_or_len, sum_by, count_by, list_all, list_any, cases_Bool, cases_lt, not-true, nat_tests, All-append, All-cons, All-filter, All-head, All-nil, All-tail, filter-append, filter_passes, All-weaker, length-filter_both, sum_by-filter_both, get_or-le-sum_by, sum_by-cons, Part, IsPlaced, end_of, begins_at, exchanged, placed, turned, turned_in_order, is_active, taken_out, Span, filter-begins_at, filter-without, share, find_has, find_passes, All-insert, some_pages, serves, filter_swap, filter_both, IsApart, IsThere, drop_all, Region, Life, Live, Absent, Dying, Space, houses, is_held_by, residents, after_back, holds_at, is_emptied, is_given_back, is_live, rises_from, staying, taken_in_order, Sound, lawful_sound, back_does, both_true}
 use Rattle.arena_core.proofs.Emptying.{All-split, none_kept, Empties, any_counts, counts_any, empties, filter_alike, given_parts, is_left, ones, some_found}
 use Rattle.arena_core.proofs.Swaps.{changed, keeps_all, there_placed}
-use Rattle.std.proofs.lemmas.List.{drop_all}
-use Rattle.space_model.specs.declared.parts.Region.{Region}
-use Rattle.space_model.specs.declared.spaces.Life.{Life}
-use Rattle.space_model.specs.declared.spaces.Life.TheVariants.{Live, Absent, Dying}
-use Rattle.space_model.specs.declared.spaces.Space.{Space}
-use Rattle.space_model.specs.Region.{houses, is_held_by, residents}
-use Rattle.space_model.specs.Step.{after_back, holds_at, is_emptied, is_given_back, is_live, rises_from, staying, taken_in_order}
-use Rattle.space_model.specs.Sound.{Sound}
-use Rattle.space_model.proofs.Changes.{lawful_sound}
-use Rattle.space_model.proofs.Giving.{back_does}
-use Rattle.space_model.proofs.Pieces.{both_true}
 
 -- what is inserted behind the first element
 insert_later : {X : Type 0} (x y : X) (xs : List X) (n : ℕ) → insert (x ∷ xs) (1 + n) y ≡ x ∷ insert xs n y

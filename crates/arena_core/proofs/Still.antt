@@ -1,40 +1,8 @@
 -- What leaves the extents that serve regions, and the regions, as they were.
-use Rattle.std.proofs.Common.{◌≡◌, ℕ, ◌-◌, ◌<◌, Bool, true, false, not, cond, IsTrue, List, [], ◌∷◌, ◌++◌, append-nil, filter, find, Option, None, Some, refl, sym, ◌∙◌, ap, All, ◌||◌, ◌&&◌, arith, eqb, ltb as nat_lt}
-use Rattle.std.specs.Option.{option_or}
-use Rattle.std.proofs.lemmas.List.Elements.{All-cons, All-nil, filter-append}
-use Rattle.space_model.specs.declared.asks.Answer.{Answer}
-use Rattle.space_model.specs.declared.asks.Answer.TheVariants.{Done, Refused, Placed}
-use Rattle.space_model.specs.declared.asks.Ask.{Ask}
-use Rattle.space_model.specs.declared.asks.Ask.TheVariants.{Alloc, Commit, Dalloc, Decommit, Merge, PurgeLazy, Split}
-use Rattle.space_model.specs.declared.entries.Reply.TheVariants.{Abandoned, Kept, NoArena, Noted, Nothing, Purge}
-use Rattle.space_model.specs.declared.entries.Setting.{Setting}
-use Rattle.space_model.specs.declared.entries.Setting.TheVariants.{DirtyMs, MuzzyMs, HookBox, Bind, Unbind, GrowLimit, Live as MakeLive}
-use Rattle.space_model.specs.declared.entries.Why.{Why}
-use Rattle.space_model.specs.declared.parts.Part.{Part}
-use Rattle.space_model.specs.declared.parts.Region.{Region}
-use Rattle.space_model.specs.declared.parts.Rest.{Rest}
-use Rattle.space_model.specs.declared.parts.Span.{Span}
-use Rattle.space_model.specs.declared.parts.Rest.TheVariants.{Muzzy as ToMuzzy, Retained as ToRetained}
-use Rattle.space_model.specs.declared.parts.State.TheVariants.{Active, Dirty, Flight, Muzzy, Retained}
-use Rattle.space_model.specs.declared.parts.State.{State}
-use Rattle.space_model.specs.declared.spaces.Space.{Space}
-use Rattle.space_model.specs.Part.{begins_at, exchanged, is_active, is_flight_at, is_listed, is_unused, next_flight, pages_listed, put_down, rest_of, taken_out}
-use Rattle.space_model.specs.Span.{end_of}
-use Rattle.space_model.specs.Stepped.{Stepped, if_live, is_lazy, is_live, stays, whole_at}
-use Rattle.space_model.specs.Fit.{fit}
-use Rattle.space_model.specs.Step.{after_commit, after_cut, after_grow, after_look, after_merge, apart_at, begins_either, commit_at, cut_at, grow_unless, high_piece, is_left_of, is_like, is_purged, is_right_of, join_at, joined, look_at, low_piece, neighbour, put_at, put_at_rest, put_beside, why_not}
-use Rattle.space_model.specs.Purging.{after_decommit, after_lazy, after_offer, after_purge_take, decommit_at, is_regranted, lazy_at, offer_at, purge_at, without_offer}
-use Rattle.space_model.specs.Resizing.{is_spare, widen_at, widen_by}
-use Rattle.space_model.specs.Settings.{after_set, is_absent, made_live}
-use Rattle.space_model.specs.Ending.{doom_at}
-use Rattle.space_model.specs.Own.{is_dying}
-use Rattle.space_model.specs.Region.{residents}
-use Rattle.space_model.specs.Sound.{IsQuiet, Sound}
-use Rattle.space_model.specs.declared.spaces.Life.{Life}
-use Rattle.space_model.specs.declared.spaces.Life.TheVariants.{Absent, Dying, Live}
-use Rattle.space_model.proofs.Exchange.{filter-begins_at, filter-without, find_has, find_passes}
-use Rattle.space_model.proofs.Pieces.{Listed, both_true, fit-listed, listed-idle, put_down-idle}
-use Rattle.space_model.proofs.Settled.{some_pages}
+use Rattle.arena_core.proofs.Words.{◌≡◌, ℕ, ◌-◌, ◌<◌, Bool, true, false, not, cond, IsTrue, List, [], ◌∷◌, ◌++◌, append-nil, filter, find, Option, None, Some, refl, sym, ◌∙◌, ap, All, ◌||◌, ◌&&◌, arith, eqb, nat_lt, option_or, All-cons, All-nil, filter-append, Answer, Done, Refused, Placed, Ask, Alloc, Commit, Dalloc, Decommit, Merge, PurgeLazy, Split, Abandoned, Kept, NoArena, Noted, Nothing, Purge, Setting, DirtyMs, MuzzyMs, HookBox, Bind, Unbind, GrowLimit, MakeLive, Why, Part, Region, Rest, Span, ToMuzzy, ToRetained, Active, Dirty, Flight, Muzzy, State, Space, begins_at, exchanged, is_active, is_flight_at, is_listed, next_flight, pages_listed, put_down, rest_of, taken_out, end_of, Stepped, if_live, is_lazy, stays, whole_at, fit, after_commit, after_cut, after_grow, after_look, after_merge, apart_at, begins_either, commit_at, cut_at, grow_unless, high_piece, is_left_of, is_like, is_purged, is_right_of, join_at, joined, look_at, low_piece, neighbour, put_at, put_at_rest, put_beside, why_not, after_decommit, after_lazy, after_offer, after_purge_take, decommit_at, is_regranted, lazy_at, offer_at, purge_at, without_offer, is_spare, widen_at, widen_by, after_set, is_absent, made_live, doom_at, is_dying, residents, IsQuiet, Sound, Life, Absent, Dying, Live, filter-begins_at, filter-without, find_has, find_passes, Listed, both_true, fit-listed, listed-idle, put_down-idle, some_pages}
+use Rattle.space_model.specs.declared.parts.State.TheVariants.{Retained}
+use Rattle.space_model.specs.Part.{is_unused}
+use Rattle.space_model.specs.Stepped.{is_live}
 use Rattle.arena_core.proofs.Emptying.{none_kept}
 use Rattle.arena_core.proofs.Homes.{in_flight}
 

@@ -1,21 +1,5 @@
 -- Extents that are apart stay apart, with sums that are known, where one or two of them are exchanged.
-use Rattle.std.proofs.Common.{◌≡◌, ◌≢◌, ℕ, ◌+◌, ◌-◌, ◌<◌, ◌≤◌, Bool, true, false, not, cond, List, [], ◌∷◌, ◌++◌, find, filter, Option, Some, IfSome, refl, sym, ap, subst, arith, All, append_assoc, inl, inr}
-use Rattle.std.specs.List.{count_by, list_any, sum_by}
-use Rattle.std.proofs.lemmas.Bool.{cases_Bool, cases_lt}
-use Rattle.std.proofs.lemmas.Bool.Decides.{nat_tests}
-use Rattle.std.proofs.lemmas.List.Sums.{sum_by-append, sum_by_push, sum_by-cons, sum_by-le-sum_by}
-use Rattle.std.proofs.lemmas.List.Elements.{All-cons, All-head, All-nil, All-push, All-tail, All-weaker, filter-append}
-use Rattle.space_model.specs.declared.parts.Part.{Part}
-use Rattle.space_model.specs.declared.parts.Span.{Span}
-use Rattle.space_model.specs.declared.parts.State.{State}
-use Rattle.space_model.specs.Span.{IsPlaced, end_of, has_page, meets, pages_end}
-use Rattle.space_model.specs.Part.{begins_at, exchanged, holders, is_active}
-use Rattle.space_model.specs.Step.{begins_either, high_piece, joined, low_piece}
-use Rattle.space_model.proofs.Exchange.{All-exchanged, filter-begins_at, filter_nothing, find-le-sum_by, find_has, share, sum_by-either, sum_by-exchanged, sum_by-replaced}
-use Rattle.space_model.proofs.Settled.{some_pages}
-use Rattle.space_model.proofs.Intervals.{lengths-le}
-use Rattle.part_book.specs.Books.{AreBeside, Book}
-use Rattle.arena_core.specs.Extents.{IsApart, IsThere, active_pages, all_pages}
+use Rattle.arena_core.proofs.Words.{◌≡◌, ◌≢◌, ℕ, ◌+◌, ◌-◌, ◌<◌, ◌≤◌, Bool, true, false, not, cond, List, [], ◌∷◌, ◌++◌, find, filter, Option, Some, IfSome, refl, sym, ap, subst, arith, All, append_assoc, inl, inr, count_by, list_any, sum_by, cases_Bool, cases_lt, nat_tests, sum_by-append, sum_by_push, sum_by-cons, sum_by-le-sum_by, All-cons, All-head, All-nil, All-push, All-tail, All-weaker, filter-append, Part, Span, State, IsPlaced, end_of, has_page, meets, pages_end, begins_at, exchanged, holders, is_active, begins_either, high_piece, joined, low_piece, All-exchanged, filter-begins_at, filter_nothing, find-le-sum_by, find_has, share, sum_by-either, sum_by-exchanged, sum_by-replaced, some_pages, lengths-le, AreBeside, Book, IsApart, IsThere, active_pages, all_pages}
 use Rattle.arena_core.proofs.Finds.{begins_once}
 
 -- the pages of an extent, and those that serve regions

@@ -1,30 +1,6 @@
 -- The counts of bytes are those of pages, what is read of all extents, and what others have in an arena.
-use Rattle.std.proofs.Common.{◌≡◌, ℕ, ◌+◌, ◌-◌, ◌*◌, ◌^◌, ◌<◌, ◌≤◌, Bool, true, false, cond, List, [], ◌∷◌, get_or, find, filter, refl, sym, arith, not, IsTrue, length, All, ◌&&◌, eqb, leb as nat_le}
-use Rattle.std.specs.List.{list_any, sum_by, count_by}
-use Rattle.std.specs.Option.{is_some}
-use Rattle.std.proofs.lemmas.Bool.Decides.{nat_tests}
-use Rattle.std.proofs.lemmas.List.Folds.{list_any_none}
-use Rattle.std.proofs.lemmas.List.Sums.{sum_by-cons}
-use Rattle.space_model.specs.declared.parts.Part.{Part}
-use Rattle.space_model.specs.declared.parts.Rest.{Rest}
-use Rattle.space_model.specs.declared.parts.Rest.TheVariants.{Dirty as ToDirty, Muzzy as ToMuzzy, Retained as ToRetained}
-use Rattle.space_model.specs.declared.parts.State.{State}
-use Rattle.space_model.specs.declared.spaces.Space.{Space}
-use Rattle.space_model.specs.Span.{IsPlaced, chunk_span, meets, pages_end}
-use Rattle.space_model.specs.Part.{is_active, is_listed, pages_listed, is_flight, is_in_flight}
-use Rattle.space_model.specs.Counts.{bytes_of, bytes_where, is_mapped}
-use Rattle.space_model.specs.Sound.{Sound, is_in_flight}
-use Rattle.space_model.proofs.Sums.{bytes_le, bytes_pages, listed_fit_space, mapped_sum, whole_sum}
-use Rattle.part_book.specs.Books.{pages_of}
-use Rattle.arena_core.specs.Extents.{active_pages, all_pages}
-use Rattle.arena_core.specs.declared.indexes.Indexes.{Indexes}
-use Rattle.arena_core.specs.Indexes.{space_of}
-use Rattle.space_model.specs.declared.parts.Offered.{Offered}
-use Rattle.space_model.specs.Region.{is_held_by}
-use Rattle.space_model.specs.Ending.{flight_count, reset_stands}
-use Rattle.space_model.proofs.Lists.{all_sum_le, not_true}
-use Rattle.space_model.proofs.Pieces.{both_true}
-use Rattle.space_model.proofs.Settled.{some_pages}
+use Rattle.arena_core.proofs.Words.{◌≡◌, ℕ, ◌+◌, ◌-◌, ◌*◌, ◌^◌, ◌<◌, ◌≤◌, Bool, true, false, cond, List, [], ◌∷◌, get_or, find, filter, refl, sym, arith, not, IsTrue, length, All, ◌&&◌, eqb, nat_le, list_any, sum_by, count_by, is_some, nat_tests, list_any_none, sum_by-cons, Part, Rest, ToDirty, ToMuzzy, ToRetained, State, Space, IsPlaced, chunk_span, meets, pages_end, is_active, is_listed, pages_listed, is_flight, is_in_flight, bytes_of, bytes_where, is_mapped, Sound, bytes_le, bytes_pages, listed_fit_space, mapped_sum, whole_sum, pages_of, active_pages, all_pages, Indexes, space_of, Offered, is_held_by, flight_count, reset_stands, all_sum_le, not_true, both_true, some_pages}
+use Rattle.space_model.specs.Sound.{is_in_flight}
 use Rattle.arena_core.proofs.Emptying.{most_one}
 
 -- the pages of an extent whose state passes, or none

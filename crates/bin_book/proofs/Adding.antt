@@ -1,38 +1,9 @@
 -- A slab comes, or goes.
-use Rattle.std.proofs.Common.{Some, None, ◌≡◌, ◌≢◌, ℕ, ◌+◌, ◌-◌, ◌*◌, ◌^◌, ◌<◌, ◌≤◌, Bool, false, eqb, ltb, List, [], ◌∷◌, ◌++◌, length, length-set, map, filter, find, get_or, set, count_by, ◌⊎◌, inl, inr, refl, sym, ap, ◌∙◌, subst, arith, Contains, vec_len, vec_capacity, zero, slice_get}
-use Rattle.std.specs.FinMap as map_of
-use Rattle.std.specs.List.{list_any, range_with_len}
-use Rattle.std.proofs.lemmas.Bool.{cases_eq, cases_lt, eq-eqb}
-use Rattle.std.proofs.lemmas.Grind.{get_or-set_at}
-use Rattle.std.proofs.lemmas.Bool.Decides.{nat_tests}
-use Rattle.std.proofs.lemmas.List.{get_or-set_other, get_or-set_same, length-map, map-append}
-use Rattle.std.proofs.lemmas.List.Elements.{Contains-append_left, Contains-push, Contains-push_cases}
-use Rattle.std.proofs.lemmas.List.FromFn.{length-range_with_len}
-use Rattle.std.proofs.lemmas.List.Sums.{count_by-le-length, sum_by-append, sum_by-cons}
-use Rattle.size_classes.specs.Classes.{pages_at, regions_at, size_at}
-use Rattle.size_classes.proofs.Table.{pages_bounds, size_bounds, slab_filled}
-use Rattle.space_model.specs.declared.parts.Region.{Region}
-use Rattle.space_model.specs.Region.{landing, region_of, regions_from, starts_at}
-use Rattle.slab_bits.specs.Slabs.{AreFreeFrom, Slab as Bits}
-use Rattle.ordered_set.specs.declared.key.Key.{Key}
-use Rattle.ordered_set.specs.Keys.{IsAscending, is_above, is_below, is_from, key_cmp, with_key, without_key}
-use Rattle.ordered_set.proofs.Calls.{length_with, length_without}
-use Rattle.ordered_set.proofs.KeyOrder.{key_tie, key_total}
-use Rattle.ordered_set.proofs.Members.{every_from, filter_from, with_from, with_keeps, with_self, without_from, without_keeps}
-use Rattle.ordered_set.proofs.Sorted.{absent, others_is, parts, present}
-use Rattle.bin_book.specs.declared.chart.Chart.{Chart}
-use Rattle.bin_book.specs.declared.table.Table.{Table}
-use Rattle.bin_book.specs.Bins.{addr_of, meets_slab, place, slab_with_out, with_slab}
-use Rattle.bin_book.specs.Charts.{HasPage}
-use Rattle.bin_book.specs.Holders.{holder_at}
-use Rattle.bin_book.specs.Tables.{AreCounts, AreFree, IsBinned, IsCharted, IsKept, IsSlabIn, IsTable, bin_key, bin_of, bits_at, left_of, ones, region_at, regions_in, regions_of, slab_at, slab_of, slabs_in, slabs_without}
-use Rattle.list_facts.proofs.Members.{count_none, any_false, bit, count_map, count_same, count_some, filter_map_is, filter_same, map_from, map_has, map_same, range_from, range_has}
+use Rattle.bin_book.proofs.Words.{Some, None, ◌≡◌, ◌≢◌, ℕ, ◌+◌, ◌-◌, ◌*◌, ◌^◌, ◌<◌, ◌≤◌, Bool, false, eqb, ltb, List, [], ◌∷◌, ◌++◌, length, length-set, map, filter, find, get_or, set, count_by, ◌⊎◌, inl, inr, refl, sym, ap, ◌∙◌, subst, arith, Contains, vec_len, vec_capacity, zero, slice_get, list_any, range_with_len, cases_eq, cases_lt, eq-eqb, get_or-set_at, nat_tests, get_or-set_other, get_or-set_same, length-map, map-append, Contains-append_left, Contains-push, Contains-push_cases, length-range_with_len, count_by-le-length, sum_by-append, sum_by-cons, pages_at, regions_at, size_at, pages_bounds, size_bounds, slab_filled, Region, landing, region_of, regions_from, starts_at, AreFreeFrom, Bits, Key, IsAscending, is_above, is_below, is_from, key_cmp, with_key, without_key, length_with, length_without, key_tie, key_total, every_from, filter_from, with_from, with_keeps, with_self, without_from, without_keeps, absent, others_is, parts, present, Chart, Table, addr_of, meets_slab, place, slab_with_out, with_slab, HasPage, holder_at, AreCounts, AreFree, IsBinned, IsCharted, IsKept, IsSlabIn, IsTable, bin_key, bin_of, bits_at, left_of, ones, region_at, regions_in, regions_of, slab_at, slab_of, slabs_in, slabs_without, count_none, any_false, bit, count_map, count_same, count_some, filter_map_is, filter_same, map_from, map_has, map_same, range_from, range_has, AreNew, not_found, same_members, get_or_from_slice_get, slice_get_within}
 use Rattle.bin_book.proofs.Places.{length_ones, place_inside, run_ones, bits_here, bits_there, same_slab}
 use Rattle.bin_book.proofs.Taking.{small_numbers}
-use Rattle.list_facts.specs.ByKey.{AreNew}
-use Rattle.list_facts.proofs.ByKey.{not_found, same_members}
 use Rattle.bin_book.proofs.Regions.{out_from, out_has, regions_agree, regions_rise, from_rises, landed, landed_from, landed_new, landed_old}
-use Rattle.std.proofs.lemmas.Option.{get_or_from_slice_get, slice_get_within}
+use Rattle.std.specs.FinMap as map_of
 
 -- ---- a new slab
 

@@ -1,14 +1,7 @@
 -- The pages of a slab get its number.
-use Rattle.std.proofs.Common.{Bool, leb, ◌≡◌, ℕ, ◌+◌, ◌-◌, ◌/◌, ◌<◌, ◌≤◌, true, false, if◌then◌else◌, cond, eqb, ◌||◌, ◌⊎◌, Some, None, refl, ap, ◌∙◌, arith, nat_cmp}
-use Rattle.std.specs.Cmp.{nat_cmp_total, unsigned_tied}
+use Rattle.bin_book.proofs.Words.{Bool, leb, ◌≡◌, ℕ, ◌+◌, ◌-◌, ◌/◌, ◌<◌, ◌≤◌, true, false, if◌then◌else◌, cond, eqb, ◌||◌, ◌⊎◌, Some, None, refl, ap, ◌∙◌, arith, nat_cmp, nat_cmp_total, unsigned_tied, nat_tests, leb-true, eq-eqb, class_sizes, least_pages, pages_at, at, passes_below, Pages, HasPage}
 use Rattle.std.specs.FinMap as map_of
 use Rattle.std.specs.FinSet as set_of
-use Rattle.std.proofs.lemmas.Bool.Decides.{nat_tests}
-use Rattle.std.proofs.lemmas.Bool.{leb-true, eq-eqb}
-use Rattle.size_classes.specs.Classes.{class_sizes, least_pages, pages_at}
-use Rattle.size_classes.proofs.Table.{at, passes_below}
-use Rattle.page_map.specs.Pages.{Pages}
-use Rattle.bin_book.specs.Charts.{HasPage}
 
 get_set : (m : map_of.FinMap nat_cmp ℕ) (p v q : ℕ) → map_of.get (map_of.insert m p v) q ≡ cond (eqb q p) (Some v) (map_of.get m q)
 get_set m p v q = map_of.get-insert nat_cmp_total m p v q ∙ ap (λ b. cond b (Some v) (map_of.get m q)) (unsigned_tied q p)

@@ -1,31 +1,7 @@
 -- The regions that are out, as one is taken, put back or handed over.
-use Rattle.std.proofs.Common.{◌≡◌, ◌≢◌, ℕ, ◌+◌, ◌*◌, ◌<◌, ◌≤◌, Bool, true, false, not, cond, List, [], ◌∷◌, length, length-set, filter, map, get_or, set, Option, Some, inl, inr, refl, sym, ap, ◌∙◌, subst, arith, Contains, vec_len}
-use mathlib.Core.Logic.{dite}
-use native.Mathlib.Decide.{ℕ_discrete}
-use Rattle.std.specs.List.{range_with_len}
-use Rattle.std.proofs.lemmas.Bool.{eq-eqb, eqb-true, false_from_ne_true}
-use Rattle.std.proofs.lemmas.List.{get_or-set_other, get_or-set_same}
-use Rattle.std.proofs.lemmas.List.FromFn.{length-range_with_len}
-use Rattle.std.proofs.lemmas.List.Kept.{IsStrictlySortedBy-filter}
-use Rattle.std.proofs.lemmas.List.Sums.{count_by-le-length, length-filter}
-use Rattle.size_classes.specs.Classes.{regions_at}
-use Rattle.size_classes.proofs.Table.{slab_filled}
-use Rattle.space_model.specs.declared.parts.Region.{Region}
-use Rattle.space_model.specs.Region.{held_anew, inserted, landing, region_of, starts_at}
-use Rattle.slab_bits.specs.Slabs.{Slab as Bits}
-use Rattle.ordered_set.specs.declared.key.Key.{Key}
-use Rattle.ordered_set.specs.Keys.{IsAscending, is_other, key_cmp, without_key}
-use Rattle.ordered_set.proofs.Members.{contains_cases, filter_from, filter_has, without_from, without_keeps}
-use Rattle.bin_book.specs.declared.holders.Holders.{Holders}
-use Rattle.bin_book.specs.declared.table.Table.{Table}
-use Rattle.bin_book.specs.Bins.{addr_of, place}
-use Rattle.bin_book.specs.Holders.{holder_at}
-use Rattle.bin_book.specs.Tables.{IsKept, IsSlabIn, IsTable, bits_at, left_of, region_at, regions_in, regions_of, regions_without, slabs_in}
-use Rattle.list_facts.specs.ByKey.{AreNew}
-use Rattle.list_facts.proofs.ByKey.{not_found, rising_changed, rising_filter, same_members}
+use Rattle.bin_book.proofs.Words.{◌≡◌, ◌≢◌, ℕ, ◌+◌, ◌*◌, ◌<◌, ◌≤◌, Bool, true, false, not, cond, List, [], ◌∷◌, length, length-set, filter, map, get_or, set, Option, Some, inl, inr, refl, sym, ap, ◌∙◌, subst, arith, Contains, vec_len, dite, ℕ_discrete, range_with_len, eq-eqb, eqb-true, false_from_ne_true, get_or-set_other, get_or-set_same, length-range_with_len, IsStrictlySortedBy-filter, count_by-le-length, length-filter, regions_at, slab_filled, Region, held_anew, inserted, landing, region_of, starts_at, Bits, Key, IsAscending, is_other, key_cmp, without_key, contains_cases, filter_from, filter_has, without_from, without_keeps, Holders, Table, addr_of, place, holder_at, IsKept, IsSlabIn, IsTable, bits_at, left_of, region_at, regions_in, regions_of, regions_without, slabs_in, AreNew, not_found, rising_changed, rising_filter, same_members, head, map_from, map_has}
 use Rattle.bin_book.proofs.Places.{by_key, class_stays, is_new, kept_changed, one_place, length_ones}
 use Rattle.bin_book.proofs.Regions.{landed, landed_from, landed_new, landed_old, out_from, out_has, regions_rise}
-use Rattle.list_facts.proofs.Members.{head, map_from, map_has}
 use Rattle.bin_book.proofs.Adding.{kept_less}
 use Rattle.bin_book.proofs.Taking.{in_items, more_left, with_bit}
 

@@ -1,30 +1,8 @@
 -- Which slab has an address, and the region that begins there, or none.
-use Rattle.std.proofs.Common.{Option, IfNone, IfSome, ◌≡◌, ℕ, ◌+◌, ◌-◌, ◌*◌, ◌/◌, ◌%◌, ◌<◌, ◌≤◌, true, false, ◌&&◌, eqb, ltb, List, length, map, filter, get_or, Some, None, ◌⊎◌, inl, inr, refl, sym, ap, ◌∙◌, subst, arith, Contains, is_lt, vec_len, find}
-use Rattle.std.specs.FinMap as map_of
-use Rattle.std.specs.Option.{option_map}
-use Rattle.std.specs.List.{list_any, range_with_len}
-use Rattle.std.proofs.lemmas.Nat.{div-add-mod'}
-use Rattle.std.proofs.Math.Nat.{mul-div_cancel, mul-mod_left}
-use Rattle.std.proofs.lemmas.Bool.{cases_Bool, eq-eqb, eqb-true, false_from_ne_true}
-use Rattle.std.proofs.lemmas.Bool.Decides.{nat_tests}
-use Rattle.std.proofs.lemmas.List.Kept.{IsStrictlySortedBy-filter}
-use Rattle.std.proofs.lemmas.Option.{get_or_from_slice_get, slice_get-get_or, slice_get_within}
-use Rattle.size_classes.specs.Classes.{pages_at, regions_at, size_at}
-use Rattle.size_classes.proofs.Table.{pages_bounds, size_bounds}
-use Rattle.ordered_set.specs.declared.key.Key.{Key}
-use Rattle.ordered_set.specs.Keys.{IsAscending, is_below, key_cmp, last_of}
-use Rattle.ordered_set.proofs.Members.{filter_from, filter_has}
-use Rattle.ordered_set.proofs.Orders.{last_greatest, less_from_parts, less_parts, start}
-use Rattle.ordered_set.proofs.Sorted.{every_member, less_from_lt}
-use Rattle.bin_book.specs.declared.table.Table.{Table}
-use Rattle.bin_book.specs.Bins.{Slab, is_among, is_out, place, places, addr_of}
-use Rattle.bin_book.specs.Tables.{HasOut, IsLastBelow, IsOutAt, IsTable, bits_at, ones, slab_at, slabs_in, region_at, regions_in}
-use Rattle.list_facts.proofs.Members.{any_from, any_has, any_map, any_none, map_from, map_has, range_from, range_has}
+use Rattle.bin_book.proofs.Words.{Option, IfNone, IfSome, ◌≡◌, ℕ, ◌+◌, ◌-◌, ◌*◌, ◌/◌, ◌%◌, ◌<◌, ◌≤◌, true, false, ◌&&◌, eqb, ltb, List, length, map, filter, get_or, Some, None, ◌⊎◌, inl, inr, refl, sym, ap, ◌∙◌, subst, arith, Contains, is_lt, vec_len, find, option_map, list_any, range_with_len, div-add-mod', mul-div_cancel, mul-mod_left, cases_Bool, eq-eqb, eqb-true, false_from_ne_true, nat_tests, IsStrictlySortedBy-filter, get_or_from_slice_get, slice_get-get_or, slice_get_within, pages_at, regions_at, size_at, pages_bounds, size_bounds, Key, IsAscending, is_below, key_cmp, last_of, filter_from, filter_has, last_greatest, less_from_parts, less_parts, start, every_member, less_from_lt, Table, Slab, is_among, is_out, place, places, addr_of, HasOut, IsLastBelow, IsOutAt, IsTable, bits_at, ones, slab_at, slabs_in, region_at, regions_in, any_from, any_has, any_map, any_none, map_from, map_has, range_from, range_has, Region, starts_at, member_found}
 use Rattle.bin_book.proofs.Places.{among_ones, place_inside}
-use Rattle.space_model.specs.declared.parts.Region.{Region}
-use Rattle.space_model.specs.Region.{starts_at}
-use Rattle.list_facts.proofs.ByKey.{member_found}
 use Rattle.bin_book.proofs.Regions.{out_from, out_has, regions_rise}
+use Rattle.std.specs.FinMap as map_of
 
 below_page : (k : Key) (page : ℕ) → k.major < page → is_below (start page) k ≡ true
 below_page k page l = ap is_lt (less_from_parts k (start page) (inl l))

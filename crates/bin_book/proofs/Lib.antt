@@ -1,3 +1,4 @@
+pub mod Words
 pub mod Regions
 pub mod Charting
 pub mod Places

@@ -1,27 +1,5 @@
 -- The places of a slab with their addresses, and slabs under their keys, as bits are written.
-use Rattle.std.proofs.Common.{◌≡◌, ℕ, ◌+◌, ◌-◌, ◌*◌, ◌<◌, ◌≤◌, zero, suc, Bool, true, false, not, ◌&&◌, ◌||◌, eqb, List, [], ◌∷◌, length, map, filter, get_or, set, count_by, position, Some, inl, inr, refl, sym, ap, ◌∙◌, arith, ◌≢◌, ◌^◌, ◌⊎◌, subst, Contains}
-use mathlib.Core.Logic.{dite}
-use native.Mathlib.Decide.{ℕ_discrete}
-use Rattle.std.specs.List.{range_with_len}
-use Rattle.std.proofs.Math.Nat.{mul-le-mul_right}
-use Rattle.std.proofs.lemmas.Bool.{cases_Bool, cases_eq, eq-eqb, eqb-true, false_from_ne_true}
-use Rattle.std.proofs.lemmas.Grind.{get_or-set_at}
-use Rattle.std.proofs.lemmas.List.{get_or-set_other, get_or-set_same}
-use Rattle.std.proofs.lemmas.List.Quantifiers.{position-Some}
-use Rattle.std.proofs.lemmas.List.Sums.{length-filter, sum_by-cons}
-use Rattle.size_classes.specs.Classes.{size_at, pages_at, regions_at}
-use Rattle.size_classes.proofs.Table.{size_bounds, slab_filled}
-use Rattle.ordered_set.proofs.Members.{filter_from, filter_has, with_from, with_keeps, with_self, without_from, without_keeps}
-use Rattle.bin_book.specs.Bins.{is_among, place, with_free, without}
-use Rattle.bin_book.specs.Tables.{ones, slab_of, IsBinned, IsCharted, IsKept, IsMoved, IsSlabIn, bin_key, bin_of, bits_at, left_of, no_bits, slab_at}
-use Rattle.list_facts.proofs.Members.{any_has, any_none, bit, filter_both, filter_map_is, filter_same, map_has, map_from, range_from, range_has, count_map, count_same}
-use Rattle.std.proofs.lemmas.Cmp.{tied_itself}
-use Rattle.slab_bits.specs.Slabs.{Slab as Bits}
-use Rattle.ordered_set.specs.declared.key.Key.{Key}
-use Rattle.ordered_set.specs.Keys.{with_key, without_key}
-use Rattle.ordered_set.proofs.KeyOrder.{key_tie, key_total}
-use Rattle.bin_book.specs.declared.chart.Chart.{Chart}
-use Rattle.bin_book.specs.Charts.{HasPage}
+use Rattle.bin_book.proofs.Words.{◌≡◌, ℕ, ◌+◌, ◌-◌, ◌*◌, ◌<◌, ◌≤◌, zero, suc, Bool, true, false, not, ◌&&◌, ◌||◌, eqb, List, [], ◌∷◌, length, map, filter, get_or, set, count_by, position, Some, inl, inr, refl, sym, ap, ◌∙◌, arith, ◌≢◌, ◌^◌, ◌⊎◌, subst, Contains, dite, ℕ_discrete, range_with_len, mul-le-mul_right, cases_Bool, cases_eq, eq-eqb, eqb-true, false_from_ne_true, get_or-set_at, get_or-set_other, get_or-set_same, position-Some, length-filter, sum_by-cons, size_at, pages_at, regions_at, size_bounds, slab_filled, filter_from, filter_has, with_from, with_keeps, with_self, without_from, without_keeps, is_among, place, with_free, without, ones, slab_of, IsBinned, IsCharted, IsKept, IsMoved, IsSlabIn, bin_key, bin_of, bits_at, left_of, no_bits, slab_at, any_has, any_none, bit, filter_both, filter_map_is, filter_same, map_has, map_from, range_from, range_has, count_map, count_same, tied_itself, Bits, Key, with_key, without_key, key_tie, key_total, Chart, HasPage}
 
 -- ---- free places, by their numbers
 

@@ -1,29 +1,7 @@
 -- The regions that are out, by address, and some that land among others.
-use Rattle.std.proofs.Common.{◌≡◌, ℕ, ◌+◌, ◌*◌, ◌<◌, ◌≤◌, zero, suc, Bool, true, false, not, List, [], ◌∷◌, ◌++◌, map, filter, find, get_or, Option, Some, None, inl, inr, refl, sym, ap, ◌∙◌, subst, arith, Contains, Less, ◌⊎◌}
-use Rattle.std.specs.List.{flat_map, list_any, range_with_len}
-use Rattle.std.specs.List.Sorted.{IsStrictlySortedBy}
-use Rattle.std.proofs.Math.Nat.{mul-le-mul_right}
-use Rattle.std.proofs.lemmas.Bool.{cases_Bool, eq-eqb}
-use Rattle.std.proofs.lemmas.List.Elements.{Contains-append_cases, Contains-append_left, Contains-append_right}
-use Rattle.size_classes.specs.Classes.{regions_at, size_at}
-use Rattle.size_classes.proofs.Table.{size_bounds}
-use Rattle.space_model.specs.declared.parts.Region.{Region}
-use Rattle.space_model.specs.Region.{starts_at, landing, region_of}
-use Rattle.slab_bits.specs.Slabs.{Slab as Bits}
-use Rattle.ordered_set.specs.declared.key.Key.{Key}
-use Rattle.ordered_set.specs.Keys.{IsAscending, key_cmp}
-use Rattle.ordered_set.proofs.Members.{contains_cases, contains_later, filter_from, filter_has}
-use Rattle.ordered_set.proofs.Orders.{less_major}
-use Rattle.ordered_set.proofs.Sorted.{every_member}
-use Rattle.bin_book.specs.Bins.{addr_of, place}
-use Rattle.bin_book.specs.Holders.{holder_at}
-use Rattle.bin_book.specs.Tables.{IsKept, bits_at, out_of, region_at, regions_of, zeros}
-use Rattle.list_facts.specs.ByKey.{IsRising, AreNew}
-use Rattle.list_facts.proofs.ByKey.{behind_members, not_found, rising_both, Landed, found_member, lands, member_found, rising_distinct}
-use Rattle.list_facts.proofs.Members.{any_has, head, map_from, map_has, map_same, range_from, range_has}
+use Rattle.bin_book.proofs.Words.{◌≡◌, ℕ, ◌+◌, ◌*◌, ◌<◌, ◌≤◌, zero, suc, Bool, true, false, not, List, [], ◌∷◌, ◌++◌, map, filter, find, get_or, Option, Some, None, inl, inr, refl, sym, ap, ◌∙◌, subst, arith, Contains, Less, ◌⊎◌, flat_map, list_any, range_with_len, IsStrictlySortedBy, mul-le-mul_right, cases_Bool, eq-eqb, Contains-append_cases, Contains-append_left, Contains-append_right, regions_at, size_at, size_bounds, Region, starts_at, landing, region_of, Bits, Key, IsAscending, key_cmp, contains_cases, contains_later, filter_from, filter_has, less_major, every_member, addr_of, place, holder_at, IsKept, bits_at, out_of, region_at, regions_of, zeros, IsRising, AreNew, behind_members, not_found, rising_both, Landed, found_member, lands, member_found, rising_distinct, any_has, head, map_from, map_has, map_same, range_from, range_has, option_or}
 use Rattle.bin_book.proofs.Taking.{less_ne}
 use Rattle.bin_book.proofs.Places.{place_inside}
-use Rattle.std.specs.Option.{option_or}
 
 -- ---- the regions that are out
 

@@ -1,11 +1,5 @@
 -- Region after region is taken.
-use Rattle.std.proofs.Common.{◌≡◌, ℕ, ◌+◌, ◌≤◌, not, ◌&&◌, eqb, List, [], ◌∷◌, ◌++◌, length, length-append, map, take, append_assoc, refl, sym, ap, ◌∙◌, arith}
-use Rattle.std.proofs.lemmas.List.{length_push, length-take-le, take_at}
-use Rattle.std.proofs.lemmas.List.Folds.{list_any-append}
-use Rattle.space_model.specs.declared.parts.Region.{Region}
-use Rattle.space_model.specs.Region.{inserted, landing}
-use Rattle.bin_book.specs.Bins.{Slab, is_among, without}
-use Rattle.list_facts.proofs.Members.{filter_all_of, filter_both, filter_same, map_both}
+use Rattle.bin_book.proofs.Words.{◌≡◌, ℕ, ◌+◌, ◌≤◌, not, ◌&&◌, eqb, List, [], ◌∷◌, ◌++◌, length, length-append, map, take, append_assoc, refl, sym, ap, ◌∙◌, arith, length_push, length-take-le, take_at, list_any-append, Region, inserted, landing, Slab, is_among, without, filter_all_of, filter_both, filter_same, map_both}
 
 -- one more of a list whose rest begins with it
 pub take_next : (xs rest : List ℕ) (i a : ℕ) → i ≤ length xs → take i xs ++ a ∷ rest ≡ xs → take (i + 1) xs ≡ take i xs ++ a ∷ []

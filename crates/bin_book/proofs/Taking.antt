@@ -1,28 +1,6 @@
 -- The lowest slab with a free region, a region that is taken out of it or put back, and a slab that leaves.
-use Rattle.std.proofs.Common.{◌≡◌, ◌≢◌, ℕ, ◌+◌, ◌*◌, ◌^◌, ◌<◌, Bool, true, false, eqb, List, [], ◌∷◌, ◌++◌, length, length-append, map, find, get_or, Option, Some, None, ◌⊎◌, inl, inr, refl, sym, ap, ◌∙◌, subst, arith, Contains, Less, Equal, vec_len, is_some, IfNone, IfSome, ◌≤◌, suc, ltb, length-set, set, count_by, position, vec_capacity, IsSome, not, filter, is_eq}
-use Rattle.std.specs.List.Sorted.{IsStrictlySortedBy}
-use Rattle.std.proofs.lemmas.Bool.{cases_Bool, cases_eq, cases_lt, eq-eqb, eqb-true, false_from_ne_true}
-use Rattle.std.proofs.lemmas.Grind.{get_or-set_at}
-use Rattle.std.proofs.lemmas.Bool.Decides.{nat_tests}
-use Rattle.std.proofs.lemmas.Cmp.{tied_itself}
-use Rattle.std.proofs.lemmas.List.{get_or_read_under, length-map, get_or-set_other}
-use Rattle.ordered_set.specs.declared.key.Key.{Key}
-use Rattle.ordered_set.specs.Keys.{IsAscending, is_from, key_cmp, KeySet, is_other, without_key}
-use Rattle.ordered_set.proofs.KeyOrder.{key_total}
-use Rattle.ordered_set.proofs.Members.{contains_cases, contains_later, other_from, without_from}
-use Rattle.ordered_set.proofs.Orders.{first_of, less_parts, start, start_from, less_major}
-use Rattle.ordered_set.proofs.Sorted.{every_member}
-use Rattle.slab_bits.specs.Slabs.{Slab as Bits}
-use Rattle.size_classes.specs.Classes.{regions_at}
-use Rattle.bin_book.specs.declared.table.Table.{Table}
-use Rattle.bin_book.specs.Bins.{free_of, place, Slab, with_free, without, is_unused}
-use Rattle.bin_book.specs.Tables.{IsLowestOpen, IsTable, bin_of, bits_at, left_of, no_bits, ones, slab_at, slabs_in, IsMoved, IsOutAt, IsSlabIn, bin_key, slab_of, slabs_without}
-use Rattle.list_facts.proofs.Members.{found, head, bit, map_both, map_same, any_has, any_map, any_none, filter_all_of, filter_map_is, filter_same, map_from, map_has}
+use Rattle.bin_book.proofs.Words.{◌≡◌, ◌≢◌, ℕ, ◌+◌, ◌*◌, ◌^◌, ◌<◌, Bool, true, false, eqb, List, [], ◌∷◌, ◌++◌, length, length-append, map, find, get_or, Option, Some, None, ◌⊎◌, inl, inr, refl, sym, ap, ◌∙◌, subst, arith, Contains, Less, Equal, vec_len, is_some, IfNone, IfSome, ◌≤◌, suc, ltb, length-set, set, count_by, position, vec_capacity, IsSome, not, filter, is_eq, IsStrictlySortedBy, cases_Bool, cases_eq, cases_lt, eq-eqb, eqb-true, false_from_ne_true, get_or-set_at, nat_tests, tied_itself, get_or_read_under, length-map, get_or-set_other, Key, IsAscending, is_from, key_cmp, KeySet, is_other, without_key, key_total, contains_cases, contains_later, other_from, without_from, first_of, less_parts, start, start_from, less_major, every_member, Bits, regions_at, Table, free_of, place, Slab, with_free, without, is_unused, IsLowestOpen, IsTable, bin_of, bits_at, left_of, no_bits, ones, slab_at, slabs_in, IsMoved, IsOutAt, IsSlabIn, bin_key, slab_of, slabs_without, found, head, bit, map_both, map_same, any_has, any_map, any_none, filter_all_of, filter_map_is, filter_same, map_from, map_has, position_or_len, list_any, position-Some, pages_bounds, slab_filled, fails_before_first, sum_by-cons, sum_by-set}
 use Rattle.bin_book.proofs.Places.{length_ones, freed_slab, lowest_one, same_place, taken_slab, binned_changed, charted_changed, by_key, counts_stay, is_new, kept_changed, one_place, others_stay, key_cases}
-use Rattle.std.specs.List.{position_or_len, list_any}
-use Rattle.std.proofs.lemmas.List.Quantifiers.{position-Some}
-use Rattle.size_classes.proofs.Table.{pages_bounds, slab_filled}
-use Rattle.std.proofs.lemmas.List.Sums.{fails_before_first, sum_by-cons, sum_by-set}
 
 -- a key below another one is another one
 pub less_ne : (a b : Key) → key_cmp a b ≡ Less → a ≢ b

@@ -1,17 +1,5 @@
 -- The alignments that may be asked for, and the classes at them.
-use Rattle.std.proofs.Common.{◌≡◌, ℕ, ◌+◌, ◌^◌, ◌<◌, ◌≤◌, ◌==◌, inl, inr, max, true, false, cond, ◌&&◌, get_or, sym, zero-add, refl, ◌∙◌, ap, arith, leb, ltb}
-use Rattle.std.proofs.Math.Nat.{pow-le-pow_right}
-use Rattle.std.specs.List.{range_with_len}
-use Rattle.std.specs.Int.{is_power_of_two, next_multiple_of}
-use Rattle.std.proofs.lemmas.Bool.Decides.{nat_tests}
-use Rattle.std.proofs.lemmas.Bool.{cases_lt, eqb-true}
-use Rattle.std.proofs.lemmas.List.Folds.{Any-from_list_any, list_any_at}
-use Rattle.std.proofs.lemmas.List.FromFn.{get_or-range_with_len, length-range_with_len}
-use lib.Count.{ones}
-use Rattle.size_classes.proofs.Least.{class_for_exists}
-use Rattle.size_classes.proofs.Table.{passes_below, at}
-use Rattle.call_table.specs.Words.{IsAlignment, aligned_for, class_for}
-use Rattle.call_table.specs.Runs.{is_alignment, page_align}
+use Rattle.call_table.proofs.Words.{◌≡◌, ℕ, ◌+◌, ◌^◌, ◌<◌, ◌≤◌, ◌==◌, inl, inr, max, true, false, cond, ◌&&◌, get_or, sym, zero-add, refl, ◌∙◌, ap, arith, leb, ltb, pow-le-pow_right, range_with_len, is_power_of_two, next_multiple_of, nat_tests, cases_lt, eqb-true, Any-from_list_any, list_any_at, get_or-range_with_len, length-range_with_len, ones, class_for_exists, passes_below, at, IsAlignment, aligned_for, class_for, is_alignment, page_align}
 
 -- an alignment passes the test
 pub alignment_passes : (align : ℕ) → IsAlignment align → is_alignment align ≡ true

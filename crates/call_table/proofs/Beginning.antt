@@ -1,20 +1,5 @@
 -- Each request in range begins with what its first point has to know.
-use Rattle.std.proofs.Common.{◌≡◌, ℕ, ◌≤◌, ◌<◌, ◌&&◌, inl, inr, Bool, true, false, min, List, [], ◌∷◌, suc, zero, sym, ap, ◌∙◌, Option, None, Some, refl, arith, nat_le, ◌+◌, Contains}
-use Rattle.std.specs.Int.{is_power_of_two}
-use Rattle.std.proofs.lemmas.Bool.Decides.{nat_tests}
-use Rattle.std.proofs.lemmas.Bool.{cond_both}
-use lib.Count.{ones}
-use Rattle.size_classes.proofs.Least.{class_for_exists}
-use Rattle.size_classes.proofs.Table.{slab_filled}
-use Rattle.space_model.specs.Step.{rises_from}
-use Rattle.thread_cache.specs.Desks.{has_slot, older_count, rising_from}
-use Rattle.thread_cache.proofs.Going.{batch_is, cached_is_flat, taken_is_in}
-use Rattle.call_table.specs.Words.{Malloc, Memalign, Free, Publish, Flush, Cache}
-use Rattle.call_table.specs.Words.{Mine, Held, DeskFacts, most_regions, cached_in, BatchFacts, batch_of, freeing, going, caching, going_with, held_at, is_cacheable}
-use Rattle.call_table.specs.Runs.{batch_goes, begin_flush, begin_free, begin_get, begin_malloc, begin_memalign, begin_publish, get, share, wish_for}
-use Rattle.call_table.specs.Desks.{flushes}
-use Rattle.call_table.specs.Knows.{IsWish, Idle, Gets, is_held}
-use Rattle.call_table.specs.Laws.{Ready, KnowsNext, BatchesKnow, BeginsKnow, Has}
+use Rattle.call_table.proofs.Words.{◌≡◌, ℕ, ◌≤◌, ◌<◌, ◌&&◌, inl, inr, Bool, true, false, min, List, [], ◌∷◌, suc, zero, sym, ap, ◌∙◌, Option, None, Some, refl, arith, nat_le, ◌+◌, Contains, is_power_of_two, nat_tests, cond_both, ones, class_for_exists, slab_filled, rises_from, has_slot, older_count, rising_from, batch_is, cached_is_flat, taken_is_in, Malloc, Memalign, Free, Publish, Flush, Cache, Mine, Held, DeskFacts, most_regions, cached_in, BatchFacts, batch_of, freeing, going, caching, going_with, held_at, is_cacheable, batch_goes, begin_flush, begin_free, begin_get, begin_malloc, begin_memalign, begin_publish, get, share, wish_for, flushes, IsWish, Idle, Gets, is_held, Ready, KnowsNext, BatchesKnow, BeginsKnow, Has}
 use Rattle.call_table.proofs.Aligned.{aligned_below, page_power}
 
 -- 1 is a power of two

@@ -1,14 +1,6 @@
 -- What each step of a call keeps is so after all of them: so each step leaves fewer asks, but for those that its reply brings,
 -- and a malloc fewer turns too.
-use Rattle.std.proofs.Common.{◌≡◌, ℕ, ◌+◌, ◌-◌, ◌≤◌, Bool, true, false, cond, List, [], ◌∷◌, ◌++◌, Option, None, Some, sym, subst, arith, append_assoc, append-nil, sum_by, count_by, refl, ap, ◌∙◌}
-use Rattle.std.proofs.lemmas.Bool.Decides.{nat_tests}
-use Rattle.std.proofs.lemmas.List.Sums.{sum_by_push}
-use Rattle.call_table.specs.Words.{Request, Item, Answered, Finished, Ok, NoSuchArena, TurnPoint, Filling, Looking, Landing, Giving, Finding, Offering, Point, Turns, Asks, Tells, Next, Go, Over, More, Gone, Ends, Nowhere, Stage, BatchFacts, DeskFacts, batch_of, going}
-use Rattle.call_table.specs.Words.{AskPoint, Skipping, Trimming, Growing, Paring, Needing, Granting, Committing, Merging, Easing, Returning, Decommitting, Forcing}
-use Rattle.call_table.specs.Runs.{IsRun, begin, Moment, after, batch_goes, run, settle, step_next}
-use Rattle.call_table.specs.Desks.{desk_fed, flushes}
-use Rattle.call_table.specs.Laws.{RunsEndOnce, unheard}
-use Rattle.call_table.specs.Bounds.{is_told, is_turn, brings}
+use Rattle.call_table.proofs.Words.{◌≡◌, ℕ, ◌+◌, ◌-◌, ◌≤◌, Bool, true, false, cond, List, [], ◌∷◌, ◌++◌, Option, None, Some, sym, subst, arith, append_assoc, append-nil, sum_by, count_by, refl, ap, ◌∙◌, nat_tests, sum_by_push, Request, Item, Answered, Finished, Ok, NoSuchArena, TurnPoint, Filling, Looking, Landing, Giving, Finding, Offering, Point, Turns, Asks, Tells, Next, Go, Over, More, Gone, Ends, Nowhere, Stage, BatchFacts, DeskFacts, batch_of, going, AskPoint, Skipping, Trimming, Growing, Paring, Needing, Granting, Committing, Merging, Easing, Returning, Decommitting, Forcing, IsRun, begin, Moment, after, batch_goes, run, settle, step_next, desk_fed, flushes, RunsEndOnce, unheard, is_told, is_turn, brings}
 
 -- a choice of where to begin
 pub chosen_stage : (P : Next → Type 0) (v : Bool) (x y : Stage) → P x.next → P y.next → P (cond v x y).next

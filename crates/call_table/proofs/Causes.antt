@@ -1,11 +1,5 @@
 -- Every answer has its cause: each step keeps the reasons of the point to which it leads.
-use Rattle.std.proofs.Common.{◌≡◌, ℕ, Bool, false, List, [], ◌∷◌, ◌++◌, Option, None, Some, refl, ◌∙◌, ap, arith, Contains}
-use Rattle.std.proofs.lemmas.List.Elements.{Contains-append_left, Contains-append_right}
-use Rattle.std.proofs.lemmas.List.Sums.{fold-append}
-use Rattle.space_model.specs.Step.{after_cut, after_commit, after_grow, why_not}
-use Rattle.call_table.specs.Words.{Item, Alloc, Commit, Split, Answer, Placed, Refuses, Whole, Refuse, Bad, Grown, Space, Span, Why}
-use Rattle.call_table.specs.Table.{answered_span}
-use Rattle.call_table.specs.Causes.{Extent, extent_after, extent_of, NothingFits}
+use Rattle.call_table.proofs.Words.{◌≡◌, ℕ, Bool, false, List, [], ◌∷◌, ◌++◌, Option, None, Some, refl, ◌∙◌, ap, arith, Contains, Contains-append_left, Contains-append_right, fold-append, after_cut, after_commit, after_grow, why_not, Item, Alloc, Commit, Split, Answer, Placed, Refuses, Whole, Refuse, Bad, Grown, Space, Span, Why, answered_span, Extent, extent_after, extent_of, NothingFits}
 
 -- ---- what a reply says of the answer that its turn took in
 

@@ -1,17 +1,6 @@
 -- Where a request begins there is room for its asks and turns. And what a call asks for fits into a number.
-use Rattle.std.proofs.Common.{◌≡◌, ◌≤◌, ◌<◌, ℕ, ◌^◌, true, false, cond, not, min, Option, None, Some, Result, Ok, Err, OnOk, OnErr, List, [], arith, nat_lt, subst, sym}
-use Rattle.std.proofs.lemmas.Bool.{cond_both}
-use Rattle.std.proofs.lemmas.Bool.Decides.{nat_tests}
-use Rattle.size_classes.proofs.Least.{class_for_exists}
-use Rattle.size_classes.proofs.Table.{pages_bounds}
-use Rattle.call_table.specs.Words.{Request, Malloc, Memalign, Free, Publish, Flush, Cache, Item, Answered, TooLarge, aligned_for, class_for, most_regions, BatchFacts, batch_of, going, held_at, hit}
-use Rattle.call_table.specs.Words.{Next, Go, More, Ends, Nowhere, Stage, Held, DeskFacts}
-use Rattle.call_table.specs.Runs.{Moment, batch_goes, begin, begin_free, begin_get, begin_publish, begin_stage, is_alignment, page_align, run, settle, share, small_hit, stage, step_next, wish_for}
-use Rattle.call_table.specs.Desks.{flushes}
-use Rattle.call_table.specs.Points.{IsFew, IsSizedPoint, IsSizedNext}
-use Rattle.call_table.specs.Needs.{Goes, IsPlace}
-use Rattle.call_table.specs.Calls.{IsCall}
-use Rattle.call_table.specs.Bounds.{is_malloc, most_asks, AsksAreFew, IsShort, MallocsAreShort}
+use Rattle.call_table.proofs.Words.{◌≡◌, ◌≤◌, ◌<◌, ℕ, ◌^◌, true, false, cond, not, min, Option, None, Some, Result, Err, OnOk, OnErr, List, [], arith, nat_lt, subst, sym, cond_both, nat_tests, class_for_exists, pages_bounds, Request, Malloc, Memalign, Free, Publish, Flush, Cache, Item, Answered, TooLarge, aligned_for, class_for, most_regions, BatchFacts, batch_of, going, held_at, hit, Next, Go, More, Ends, Nowhere, Stage, Held, DeskFacts, Moment, batch_goes, begin, begin_free, begin_get, begin_publish, begin_stage, is_alignment, page_align, run, settle, share, small_hit, stage, step_next, wish_for, flushes, IsFew, IsSizedPoint, IsSizedNext, Goes, IsPlace, IsCall, is_malloc, most_asks, AsksAreFew, IsShort, MallocsAreShort}
+use Rattle.std.proofs.Common.{Ok}
 use Rattle.call_table.proofs.Aligned.{aligned_below}
 use Rattle.call_table.proofs.Bounds.{AsksLeft, IsShortStill, chosen_stage, credit, run_left, run_short, settle_keeps, turns_at}
 

@@ -1,25 +1,5 @@
 -- What the turns of a call leave that purges extents: what it knows where it goes on.
-use Rattle.std.proofs.Common.{inr, IsTrue, is_some, ◌≡◌, ℕ, ◌+◌, ◌-◌, ◌*◌, ◌<◌, ◌≤◌, ◌==◌, ◌&&◌, ◌||◌, Bool, true, false, not, cond, List, [], ◌∷◌, ◌++◌, Option, None, Some, refl, sym, ◌∙◌, ap, subst, arith, All, filter, find, length}
-use Rattle.std.specs.Option.{option_or}
-use Rattle.std.proofs.lemmas.Bool.Decides.{nat_tests}
-use Rattle.std.proofs.lemmas.List.Elements.{All-filter, All-head, filter-append}
-use Rattle.std.proofs.Math.ListN.{length-append}
-use Rattle.std.proofs.lemmas.List.Folds.{find-append}
-use Rattle.space_model.specs.declared.Offered.{Offered}
-use Rattle.space_model.specs.declared.State.TheVariants.{Dirty, Flight}
-use Rattle.space_model.specs.Span.{IsPlaced, meets}
-use Rattle.space_model.specs.Part.{exchanged, begins_at, is_flight, is_flight_at, is_listed, is_backed, rest_of, listed, taken_out}
-use Rattle.space_model.specs.Stepped.{stays, is_lazy}
-use Rattle.space_model.specs.Step.{next_flight}
-use Rattle.space_model.specs.Purging.{after_lazy, lazy_at, offer_at, offer_of, without_offer, is_offer, is_regranted, after_offer, after_decommit, decommit_at, after_purge_take, purge_at, count_listed, is_purgeable}
-use Rattle.space_model.proofs.Exchange.{find_passes, find_has}
-use Rattle.space_model.proofs.Outcomes.{belongs}
-use Rattle.space_model.proofs.Pieces.{both_true}
-use Rattle.space_model.proofs.Moves.{itself}
-use Rattle.call_table.specs.Words.{Visit, Then, Visiting, Taking, Offering, Easing, Returning, Decommitting, Forcing, Dalloc, Decommit, PurgeLazy, Answer, Placed, Done, Refuses, Noted, Kept, Abandoned, Rest, ToDirty, ToMuzzy, ToRetained, Space, Part, Span, Sound, mine, same_span, AnswersTo}
-use Rattle.call_table.specs.Table.{decommitted, eased, forced, put_purged, returned, takes_left, turned}
-use Rattle.call_table.specs.Knows.{Idle, Flies, Droppable, HasOffered, IsThen, IsVisit, HasLeft, in_flight}
-use Rattle.call_table.specs.Laws.{Keeps, stages_then, stages_later, left, left_then, left_visit, stages_visit, left_turn, left_ask, flights_of}
+use Rattle.call_table.proofs.Words.{inr, IsTrue, is_some, ◌≡◌, ℕ, ◌+◌, ◌-◌, ◌*◌, ◌<◌, ◌≤◌, ◌==◌, ◌&&◌, ◌||◌, Bool, true, false, not, cond, List, [], ◌∷◌, ◌++◌, Option, None, Some, refl, sym, ◌∙◌, ap, subst, arith, All, filter, find, length, option_or, nat_tests, All-filter, All-head, filter-append, length-append, find-append, Offered, Dirty, Flight, IsPlaced, meets, exchanged, begins_at, is_flight, is_flight_at, is_listed, is_backed, rest_of, listed, taken_out, stays, is_lazy, next_flight, after_lazy, lazy_at, offer_at, offer_of, without_offer, is_offer, is_regranted, after_offer, after_decommit, decommit_at, after_purge_take, purge_at, count_listed, is_purgeable, find_passes, find_has, belongs, both_true, itself, Visit, Then, Visiting, Taking, Offering, Easing, Returning, Decommitting, Forcing, Dalloc, Decommit, PurgeLazy, Answer, Placed, Done, Refuses, Noted, Kept, Abandoned, Rest, ToDirty, ToMuzzy, ToRetained, Space, Part, Span, Sound, mine, same_span, AnswersTo, decommitted, eased, forced, put_purged, returned, takes_left, turned, Idle, Flies, Droppable, HasOffered, IsThen, IsVisit, HasLeft, in_flight, Keeps, stages_then, stages_later, left, left_then, left_visit, stages_visit, left_turn, left_ask, flights_of}
 use Rattle.call_table.proofs.Lists.{find-none, filter-fewer, filter-swap, find-gone, any-none, filter-removed, passes_alone}
 use Rattle.call_table.proofs.Own.{flights_exchanged}
 use Rattle.call_table.proofs.Putting.{Room, fewer_room, found_at, begins_as, gone_flights, next_goes, drop_goes, visited_goes, listed_dirty}

@@ -1,16 +1,5 @@
 -- A free makes few asks for what its own returns emptied.
-use Rattle.std.proofs.Common.{◌≡◌, ℕ, ◌+◌, ◌-◌, ◌*◌, ◌≤◌, Bool, true, cond, List, [], ◌∷◌, Option, None, Some, sym, subst, arith, ap, add-zero, length, count_by}
-use Rattle.std.proofs.lemmas.Bool.Decides.{nat_tests}
-use Rattle.std.proofs.lemmas.List.Sums.{sum_by-cons}
-use Rattle.space_model.specs.Flights.{lost, won}
-use Rattle.call_table.specs.Words.{Request, Item, Replied, Told, Starved, Batches, TurnPoint, Giving, Finding, Offering, Owning, AskPoint, Merging, Easing, Returning, Decommitting, Forcing, Point, Turns, Asks, Tells, Next, Go, Over, More, Reply, Space, Sound, mine, AskFacts, DeskFacts, BatchFacts}
-use Rattle.call_table.specs.Table.{done_of, is_marked, op_of, starved, step, told, turned, want}
-use Rattle.call_table.specs.Runs.{Moment, after, batch_goes, begin, begin_stage, settle, step_next}
-use Rattle.call_table.specs.Desks.{desk_fed}
-use Rattle.call_table.specs.Knows.{Knows, KnowsTurn}
-use Rattle.call_table.specs.Laws.{Keeps, Moves, left, stages, unheard, with_found}
-use Rattle.call_table.specs.Rooms.{flying}
-use Rattle.call_table.specs.Bounds.{is_free, is_told, is_purge, Stride, Strides, Follows, Walks, emptied_by, emptied, asks, purges, FreesAreFew}
+use Rattle.call_table.proofs.Words.{◌≡◌, ℕ, ◌+◌, ◌-◌, ◌*◌, ◌≤◌, Bool, true, cond, List, [], ◌∷◌, Option, None, Some, sym, subst, arith, ap, add-zero, length, count_by, nat_tests, sum_by-cons, lost, won, Request, Item, Replied, Told, Starved, Batches, TurnPoint, Giving, Finding, Offering, Owning, AskPoint, Merging, Easing, Returning, Decommitting, Forcing, Point, Turns, Asks, Tells, Next, Go, Over, More, Reply, Space, Sound, mine, AskFacts, DeskFacts, BatchFacts, done_of, is_marked, op_of, starved, step, told, turned, want, Moment, after, batch_goes, begin, begin_stage, settle, step_next, desk_fed, Knows, KnowsTurn, Keeps, Moves, left, stages, unheard, with_found, flying, is_free, is_told, is_purge, Stride, Strides, Follows, Walks, emptied_by, emptied, asks, purges, FreesAreFew}
 use Rattle.call_table.proofs.Rooms.{HasNext, flown, found_not, keeps_next, turn_flies}
 use Rattle.call_table.proofs.Standing.{wants-stand}
 use Rattle.call_table.proofs.Steps.{never_starves, steps-keep}

@@ -1,23 +1,7 @@
 -- What the turns of a call leave that gets an extent: what it knows where it goes on.
-use Rattle.std.proofs.Common.{min, ◌≡◌, ◌≢◌, ℕ, ◌+◌, ◌-◌, ◌<◌, ◌≤◌, Bool, true, false, not, cond, List, [], ◌∷◌, ◌++◌, Option, None, Some, refl, sym, ◌∙◌, ap, subst, arith, filter, find, count_ones}
-use Rattle.std.specs.Int.{is_power_of_two}
-use Rattle.std.proofs.lemmas.Bool.Decides.{nat_tests}
-use Rattle.std.proofs.lemmas.Bool.{cond_both, leb-true, eqb-true}
-use Rattle.std.proofs.lemmas.Nat.{ones_le_self}
-use Rattle.std.proofs.lemmas.List.Elements.{filter-append}
-use Rattle.size_classes.proofs.Table.{pages_bounds}
-use Rattle.space_model.specs.Span.{run_start, holds_run}
-use Rattle.space_model.specs.Part.{exchanged, begins_at, is_flight, is_flight_at, put_down, taken_out, listed, rest_of}
-use Rattle.space_model.specs.Fit.{fit, fit_of, is_best, is_candidate}
-use Rattle.space_model.specs.Stepped.{Stepped, is_live, whole_at}
-use Rattle.space_model.specs.Step.{after_cut, cut_at, kept_piece, other_piece, after_look, look_at, after_grow, grow_unless, why_not, new_part, after_commit, commit_at}
-use Rattle.space_model.proofs.Exchange.{find_passes}
-use Rattle.space_model.proofs.Pieces.{put_down-nobody, both_true}
-use Rattle.space_model.proofs.Moves.{itself}
-use Rattle.call_table.specs.Words.{Wish, Looking, Landing, Next, Alloc, Commit, Split, Answer, Placed, Done, Refuses, Reply, Noted, Cut, Whole, Refuse as Refused, Bad, Grown, Rest, Space, Part, Span, Why, mine, same_span, end_of, land_at, AnswersTo as Answers}
-use Rattle.call_table.specs.Table.{commit, grant, grow, trim, skip_to, turned}
-use Rattle.call_table.specs.Knows.{IsWish, Idle, Alone, Gets, is_served, in_flight}
-use Rattle.call_table.specs.Laws.{Keeps}
+use Rattle.call_table.proofs.Words.{min, ◌≡◌, ◌≢◌, ℕ, ◌+◌, ◌-◌, ◌<◌, ◌≤◌, Bool, true, false, not, cond, List, [], ◌∷◌, ◌++◌, Option, None, Some, refl, sym, ◌∙◌, ap, subst, arith, filter, find, count_ones, is_power_of_two, nat_tests, cond_both, leb-true, eqb-true, ones_le_self, filter-append, pages_bounds, run_start, holds_run, exchanged, begins_at, is_flight, is_flight_at, put_down, taken_out, listed, rest_of, fit, fit_of, is_best, is_candidate, Stepped, whole_at, after_cut, cut_at, kept_piece, other_piece, after_look, look_at, after_grow, grow_unless, why_not, new_part, after_commit, commit_at, find_passes, put_down-nobody, both_true, itself, Wish, Looking, Landing, Next, Alloc, Commit, Split, Answer, Placed, Done, Refuses, Reply, Noted, Cut, Whole, Bad, Grown, Rest, Space, Part, Span, Why, mine, same_span, end_of, land_at, Answers, commit, grant, grow, trim, skip_to, turned, IsWish, Idle, Alone, Gets, is_served, in_flight, Keeps}
+use Rattle.space_model.specs.Stepped.{is_live}
+use Rattle.call_table.specs.Words.{Refuse as Refused}
 use Rattle.call_table.proofs.Lists.{passes_alone}
 use Rattle.call_table.proofs.Own.{flight_found, flights_exchanged}
 

@@ -1,3 +1,4 @@
+pub mod Words
 pub mod Lists
 pub mod Powers
 pub mod Aligned
@@ -15,6 +16,7 @@ pub mod Reasons
 pub mod Credits
 pub mod Rooms
 pub mod Frees
+pub mod Purges
 pub mod Places
 pub mod Refusals
 pub mod Multiples

@@ -1,11 +1,5 @@
 -- Searches and filters of lists, one after the other.
-use Rattle.std.proofs.Common.{suc, ◌≡◌, ℕ, ◌+◌, ◌<◌, ◌&&◌, ◌||◌, Bool, true, false, not, cond, List, [], ◌∷◌, None, Some, All, refl, sym, ◌∙◌, ap, subst, arith, filter, find, length}
-use Rattle.std.specs.List.{list_any, remove, position_or_len}
-use Rattle.std.proofs.Math.Bool.{and-true, and_comm}
-use Rattle.std.proofs.lemmas.List.Elements.{All-head, filter_passes}
-use Rattle.std.proofs.lemmas.List.Filters.{length-filter_both}
-use Rattle.std.proofs.lemmas.List.Sums.{length-filter}
-use Rattle.space_model.proofs.Lists.{find-le-sum_by}
+use Rattle.call_table.proofs.Words.{suc, ◌≡◌, ℕ, ◌+◌, ◌<◌, ◌&&◌, ◌||◌, Bool, true, false, not, cond, List, [], ◌∷◌, None, Some, All, refl, sym, ◌∙◌, ap, subst, arith, filter, find, length, list_any, remove, position_or_len, and-true, and_comm, All-head, filter_passes, length-filter_both, length-filter, find-le-sum_by}
 
 -- what passes two tests is sought among what passes the first
 pub find-both : {X : Type 0} (a b : X → Bool) (xs : List X) → find (λ x. a x && b x) xs ≡ find b (filter a xs)

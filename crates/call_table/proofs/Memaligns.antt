@@ -1,26 +1,6 @@
 -- Where the region of a memalign stands: each step of it keeps what the first page of its extent is a multiple of.
-use Prim.Native.Nat.{◌∣◌}
-use Rattle.std.proofs.Common.{◌≡◌, ℕ, ◌+◌, ◌*◌, ◌%◌, ◌<◌, ◌≤◌, ◌^◌, max, min, Bool, true, false, cond, not, List, [], ◌∷◌, Option, None, Some, refl, sym, subst, arith, nat_lt, find, All, rules, slice_get}
-use Rattle.std.proofs.lemmas.Bool.{cond_both, not-false, ltb-true}
-use Rattle.std.proofs.lemmas.Bool.Decides.{nat_tests}
-use Rattle.std.proofs.lemmas.List.Elements.{All-head}
-use Rattle.std.proofs.lemmas.Nat.Gcd.{dvd_of_mod-eq-zero, dvd_trans, mod-eq-zero_of_dvd}
-use Rattle.std.proofs.lemmas.Option.{get_or_from_slice_get, slice_get_within}
-use Rattle.space_model.specs.Part.{is_flight_at}
-use Rattle.space_model.specs.Region.{region_of}
-use Rattle.space_model.specs.Slabs.{after_fill}
-use Rattle.space_model.specs.Stepped.{Stepped}
-use Rattle.space_model.specs.Step.{after_cut, after_grow, after_look, is_live, step_of}
-use Rattle.space_model.proofs.Fills.{Spot, lowest_spots}
-use Rattle.space_model.proofs.Found.{found_span}
-use Rattle.thread_cache.specs.Desks.{before_last}
-use Rattle.call_table.specs.Words.{Memalign, Item, Replied, Told, Starved, Region, Ok, Wish, TurnPoint, Filling, Looking, Landing, AskPoint, Skipping, Trimming, Growing, Paring, Needing, Granting, Committing, Point, Turns, Asks, Tells, Next, Go, Over, More, Ends, Stage}
-use Rattle.call_table.specs.Words.{Alloc, Split, Answer, Reply, Noted, Took, Grow, Cut, Grown, Landed, Regions, Space, Part, Span, Sound, AskFacts, Held, DeskFacts, align_at, aligned_for, fill_at, land_at, lowest_free, most_regions, max_series, cached_in, is_cacheable}
-use Rattle.call_table.specs.Table.{alloc_of, ask_of, chunks_for, commit, done_of, op_of, told, trim, turned, whole_chunks}
-use Rattle.call_table.specs.Runs.{begin, begin_get, begin_memalign, get, is_alignment, page_align, share, small_hit, step_next, wish_for}
-use Rattle.call_table.specs.Laws.{with_found}
-use Rattle.call_table.specs.Causes.{AllCame, Came}
-use Rattle.call_table.specs.Aligned.{IsCacheAligned, MemalignsAreAligned}
+use Rattle.call_table.proofs.Words.{◌∣◌, ◌≡◌, ℕ, ◌+◌, ◌*◌, ◌%◌, ◌<◌, ◌≤◌, ◌^◌, max, min, Bool, true, false, cond, not, List, [], ◌∷◌, Option, None, Some, refl, sym, subst, arith, nat_lt, find, All, rules, slice_get, cond_both, not-false, ltb-true, nat_tests, All-head, dvd_of_mod-eq-zero, dvd_trans, mod-eq-zero_of_dvd, get_or_from_slice_get, slice_get_within, is_flight_at, region_of, after_fill, Stepped, after_cut, after_grow, after_look, is_live, step_of, Spot, lowest_spots, found_span, before_last, Memalign, Item, Replied, Told, Starved, Ok, Wish, TurnPoint, Filling, Looking, Landing, AskPoint, Skipping, Trimming, Growing, Paring, Needing, Granting, Committing, Point, Turns, Asks, Tells, Next, Go, Over, More, Ends, Stage, Alloc, Split, Answer, Reply, Noted, Took, Grow, Cut, Grown, Landed, Regions, Space, Part, Span, Sound, AskFacts, Held, DeskFacts, align_at, aligned_for, fill_at, land_at, lowest_free, most_regions, max_series, cached_in, is_cacheable, alloc_of, ask_of, chunks_for, commit, done_of, op_of, told, trim, turned, whole_chunks, begin, begin_get, begin_memalign, get, is_alignment, page_align, share, small_hit, step_next, wish_for, with_found, AllCame, Came, IsCacheAligned, MemalignsAreAligned}
+use Rattle.call_table.specs.Words.{Region}
 use Rattle.call_table.proofs.Bounds.{chosen_stage, run_keeps}
 use Rattle.call_table.proofs.Multiples.{page_divides, paged_of, run_divides, small_divides}
 

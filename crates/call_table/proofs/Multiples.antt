@@ -1,16 +1,5 @@
 -- What the alignments of a memalign divide: the alignment of a small class, and the first bytes of pages.
-use Prim.Native.Nat.{◌∣◌}
-use Rattle.std.proofs.Common.{◌≡◌, ℕ, ◌+◌, ◌-◌, ◌*◌, ◌/◌, ◌%◌, ◌^◌, ◌<◌, ◌≤◌, ◌==◌, ◌&&◌, max, Bool, true, cond, leb, ltb, refl, sym, ◌∙◌, ap, subst, arith}
-use Rattle.std.proofs.Math.Nat.{add-mod-mod, div-add-mod, dvd-mul_left, mod-lt, mod_self, mul-add-mod_self_left, mul-dvd-mul_left}
-use Rattle.std.proofs.lemmas.Nat.Gcd.{dvd_of_mod-eq-zero, dvd_trans}
-use Rattle.std.proofs.lemmas.Nat.{pow_pos}
-use Rattle.std.proofs.lemmas.Bool.{and_parts, eqb-true, ltb-true}
-use Rattle.std.proofs.lemmas.Bool.Decides.{nat_tests}
-use Rattle.std.specs.Int.{next_multiple_of}
-use Rattle.size_classes.proofs.Alignment.{aligned_divides}
-use Rattle.size_classes.proofs.Table.{passes_below, at}
-use Rattle.call_table.specs.Words.{align_at, aligned_for, class_for}
-use Rattle.call_table.specs.Runs.{is_alignment, page_align}
+use Rattle.call_table.proofs.Words.{◌∣◌, ◌≡◌, ℕ, ◌+◌, ◌-◌, ◌*◌, ◌/◌, ◌%◌, ◌^◌, ◌<◌, ◌≤◌, ◌==◌, ◌&&◌, max, Bool, true, cond, leb, ltb, refl, sym, ◌∙◌, ap, subst, arith, add-mod-mod, div-add-mod, dvd-mul_left, mod-lt, mod_self, mul-add-mod_self_left, mul-dvd-mul_left, dvd_of_mod-eq-zero, dvd_trans, pow_pos, and_parts, eqb-true, ltb-true, nat_tests, next_multiple_of, aligned_divides, passes_below, at, align_at, aligned_for, class_for, is_alignment, page_align}
 use Rattle.call_table.proofs.Aligned.{passing_is, power_of}
 
 -- What an alignment in bytes and one in pages have to do with each other and with a chunk of 512 pages.

@@ -1,16 +1,5 @@
 -- What a client owns, seen in the lists of the space: what the step finds, it finds among the client's own.
-use Rattle.std.proofs.Common.{arith, ◌≡◌, ℕ, ◌==◌, ◌||◌, Bool, true, false, not, List, [], ◌∷◌, ◌++◌, All, refl, ◌∙◌, ap, filter, find}
-use Rattle.std.specs.List.{list_any}
-use Rattle.std.proofs.lemmas.List.Elements.{All-head, All-tail, filter-append}
-use Rattle.space_model.specs.declared.Region.{Region}
-use Rattle.space_model.specs.declared.State.{State}
-use Rattle.space_model.specs.declared.Life.{Life}
-use Rattle.space_model.specs.Part.{is_flight, is_flight_at, exchanged}
-use Rattle.space_model.specs.Region.{is_held_by}
-use Rattle.space_model.specs.Step.{is_live, is_customer, holds_at}
-use Rattle.space_model.specs.Sound.{IsQuiet, is_in_flight}
-use Rattle.call_table.specs.Words.{Space, Part, Span, Sound, Mine, mine, same_span}
-use Rattle.call_table.specs.Knows.{is_served, in_flight}
+use Rattle.call_table.proofs.Words.{arith, ◌≡◌, ℕ, ◌==◌, ◌||◌, Bool, true, false, not, List, [], ◌∷◌, ◌++◌, All, refl, ◌∙◌, ap, filter, find, list_any, All-head, All-tail, filter-append, Region, State, Life, is_flight, is_flight_at, exchanged, is_held_by, is_live, is_customer, holds_at, IsQuiet, is_in_flight, Space, Part, Span, Sound, Mine, mine, same_span, is_served, in_flight}
 use Rattle.call_table.proofs.Lists.{any-both, any-filter, filter-swap, find-both}
 
 -- ---- the client's own

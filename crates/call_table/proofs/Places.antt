@@ -1,11 +1,7 @@
 -- A region that its client comes to hold has room: where none is wanted, none is wanted either where the call goes.
-use Rattle.std.proofs.Common.{◌≡◌, ℕ, ◌≤◌, ◌||◌, Bool, true, false, Option, is_some, Result, Ok, Err, OnOk, OnErr, arith, refl, sym, subst, ap, ◌∙◌}
-use Rattle.std.proofs.lemmas.Bool.Decides.{nat_tests}
-use Rattle.call_table.specs.Words.{Request, Flush, Cache, Item, Region, Ok as Answers, NoMemory, TurnPoint, Point, Next, Go, Over, More, Ends, Stage, Reply, Held, DeskFacts, BatchFacts, batch_of, going}
-use Rattle.call_table.specs.Calls.{gets_at, gets_turn, may_hold, wants_place, HasRoom}
-use Rattle.call_table.specs.Desks.{desk_fed, desk_turned}
-use Rattle.call_table.specs.Runs.{batch_goes, begin_desk, begin_stage, settle, stage, step_next}
-use Rattle.call_table.specs.Table.{step}
+use Rattle.call_table.proofs.Words.{◌≡◌, ℕ, ◌≤◌, ◌||◌, Bool, true, false, Option, is_some, Result, Err, OnOk, OnErr, arith, refl, sym, subst, ap, ◌∙◌, nat_tests, Request, Flush, Cache, Item, NoMemory, TurnPoint, Point, Next, Go, Over, More, Ends, Stage, Reply, Held, DeskFacts, BatchFacts, batch_of, going, gets_at, gets_turn, may_hold, wants_place, HasRoom, desk_fed, desk_turned, batch_goes, begin_desk, begin_stage, settle, stage, step_next, step}
+use Rattle.std.proofs.Common.{Ok}
+use Rattle.call_table.specs.Words.{Region, Ok as Answers}
 use Rattle.call_table.proofs.Bounds.{settle_keeps}
 use Rattle.call_table.proofs.Credits.{led_or_ended}
 

@@ -1,7 +1,5 @@
 -- Powers of two that the alloc hook is asked for.
-use Rattle.std.proofs.Common.{◌≡◌, ℕ, max, true, refl, arith}
-use Rattle.std.specs.Int.{is_power_of_two}
-use lib.Count.{ones}
+use Rattle.call_table.proofs.Words.{◌≡◌, ℕ, max, true, refl, arith, is_power_of_two, ones}
 
 -- 512 is a power of two
 power_512 : is_power_of_two 512 ≡ true

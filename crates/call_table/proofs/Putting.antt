@@ -1,26 +1,7 @@
 -- What the turns of a call leave that puts extents down: what it knows where it goes on.
-use Rattle.std.proofs.Common.{append-nil, inl, inr, ◌⊎◌, ◌≡◌, ◌≢◌, ℕ, ◌+◌, ◌-◌, ◌*◌, ◌<◌, ◌≤◌, ◌==◌, ◌&&◌, ◌||◌, Bool, true, false, not, cond, List, [], ◌∷◌, ◌++◌, Option, None, Some, refl, sym, ◌∙◌, ap, subst, arith, filter, find, length, ltb as nat_lt, lt-ltb}
-use Rattle.std.specs.Bool.{beq}
-use Rattle.std.specs.Option.{option_map, option_or}
-use Rattle.std.proofs.lemmas.Bool.Decides.{nat_tests}
-use Rattle.std.proofs.lemmas.Bool.{cond_both, eqb-true, ltb-true, or_right}
-use Rattle.std.proofs.Math.ListN.{length-append}
-use Rattle.std.proofs.lemmas.List.Folds.{find-append}
-use Rattle.space_model.specs.declared.State.TheVariants.{Dirty}
-use Rattle.space_model.specs.Part.{exchanged, begins_at, is_flight, is_flight_at, is_listed, rest_of, listed, put_down, taken_out}
-use Rattle.space_model.specs.Stepped.{Stepped, joined, begins_either, is_lazy}
-use Rattle.space_model.specs.Step.{is_purged, next_flight, is_like, is_right_of, is_left_of, neighbour, put_at_rest, put_beside, may_merge, join_at, after_merge, after_back}
-use Rattle.space_model.proofs.Exchange.{find_passes, find_has, filter-begins_at}
-use Rattle.space_model.proofs.Found.{span_is}
-use Rattle.space_model.proofs.Lists.{if_found}
-use Rattle.space_model.proofs.Outcomes.{belongs, beq_itself}
-use Rattle.space_model.proofs.Settled.{some_pages}
-use Rattle.space_model.proofs.Pieces.{put_down-nobody, listed-nobody, both_true}
-use Rattle.space_model.proofs.Moves.{itself}
-use Rattle.call_table.specs.Words.{Later, Then, Batches, Giving, Finding, Point, Turns, Merge, Answer, Placed, Done, Refuses, Purge, Rest, ToDirty, Space, Part, Span, Sound, mine, same_span, end_of, AnswersTo}
-use Rattle.call_table.specs.Table.{drop, look_on, merged, onward, put_next, turned, visited}
-use Rattle.call_table.specs.Knows.{Idle, Flies, Pair, Settled, Droppable, IsThen, in_flight}
-use Rattle.call_table.specs.Laws.{Keeps, IsNearer, stages, stages_then, stages_later, left, left_then, left_turn, flights_of, looks_left, purges_left}
+use Rattle.call_table.proofs.Words.{append-nil, inl, inr, ◌⊎◌, ◌≡◌, ◌≢◌, ℕ, ◌+◌, ◌-◌, ◌*◌, ◌<◌, ◌≤◌, ◌==◌, ◌&&◌, ◌||◌, Bool, true, false, not, cond, List, [], ◌∷◌, ◌++◌, Option, None, Some, refl, sym, ◌∙◌, ap, subst, arith, filter, find, length, lt-ltb, beq, option_map, option_or, nat_tests, cond_both, eqb-true, ltb-true, or_right, length-append, find-append, Dirty, exchanged, begins_at, is_flight, is_flight_at, is_listed, rest_of, listed, put_down, taken_out, Stepped, joined, begins_either, is_lazy, is_purged, next_flight, is_like, is_right_of, is_left_of, neighbour, put_at_rest, put_beside, may_merge, join_at, after_merge, after_back, find_passes, find_has, filter-begins_at, span_is, if_found, belongs, beq_itself, some_pages, put_down-nobody, listed-nobody, both_true, itself, Later, Then, Batches, Giving, Finding, Point, Turns, Merge, Answer, Placed, Done, Refuses, Purge, Rest, ToDirty, Space, Part, Span, Sound, mine, same_span, end_of, AnswersTo, look_on, merged, onward, put_next, turned, visited, Idle, Flies, Pair, Settled, Droppable, IsThen, in_flight, Keeps, IsNearer, stages, stages_then, stages_later, left, left_then, left_turn, flights_of, looks_left, purges_left}
+use Rattle.std.proofs.Common.{ltb as nat_lt}
+use Rattle.call_table.specs.Table.{drop}
 use Rattle.call_table.proofs.Lists.{filter-swap, find-kept, find-none, filter-none, filter-fewer, filter-either, first_heads, none_passes, find-gone}
 use Rattle.call_table.proofs.Own.{flight_found, flights_exchanged}
 use Rattle.call_table.proofs.Getting.{Onto, span_itself, begins_itself}

@@ -1,15 +1,6 @@
 -- The reasons of each point to which a call comes, and of its answer.
-use Rattle.std.proofs.Common.{rules, ◌≡◌, ℕ, ◌*◌, ◌^◌, ◌⊎◌, inl, inr, Bool, true, false, not, min, max, List, [], ◌∷◌, ◌++◌, Option, None, Some, refl, sym, ◌∙◌, ap, subst, arith, nat_lt, append_assoc, Contains}
-use Rattle.std.proofs.lemmas.Bool.{cond_both, ltb-true, not-true, not-false}
-use Rattle.std.proofs.lemmas.Bool.Decides.{nat_tests}
-use Rattle.space_model.specs.Step.{step_of, after_cut, after_commit, after_grow}
-use Rattle.call_table.specs.Words.{Request, Malloc, Memalign, Free, FreeForeign, Publish, Take, Item, Replied, Told, Starved, Given, Refused, BadAnswer, NotHeld, aligned_for, class_for, most_regions, BatchFacts, held_at, hit}
-use Rattle.call_table.specs.Words.{Wish, Later, Answers, DirtyToo, Then, Batches, Visiting, Change, Visits, TurnPoint, Filling, Looking, Landing, Finding, Taking, Offering, Changing, Owning, AskPoint, Skipping, Trimming, Growing, Paring, Needing, Granting, Committing, Merging, Easing, Returning, Decommitting, Forcing, Point, Turns, Asks, Tells, Next, Go, Over, Gone, Ends, Stage}
-use Rattle.call_table.specs.Words.{Refuses, Reply, NoArena, Nothing, Took, Cut, Whole, Refuse, Bad, Grown, Landed, Regions, Owned, Space, Span, Why, AskFacts, Held, DeskFacts}
-use Rattle.call_table.specs.Table.{answered_span, alloc_of, ask_of, done_of, op_of, is_marked, starved, whole_chunks, step, turned, told, commit, trim, put_next, took_over}
-use Rattle.call_table.specs.Runs.{batch_goes, begin, begin_free, begin_get, begin_malloc, begin_memalign, begin_publish, begin_stage, get, is_alignment, page_align, settle, share, small_hit, step_next, wish_for}
-use Rattle.call_table.specs.Laws.{with_found}
-use Rattle.call_table.specs.Causes.{extent, extent_of, NothingFits, WasGranted, IsNeeded, IsWishOf, RegionCause, GivenCause, CauseOf, Came, AllCame, AnswersHaveCauses}
+use Rattle.call_table.proofs.Words.{rules, ◌≡◌, ℕ, ◌*◌, ◌^◌, ◌⊎◌, inl, inr, Bool, true, false, not, min, max, List, [], ◌∷◌, ◌++◌, Option, None, Some, refl, sym, ◌∙◌, ap, subst, arith, nat_lt, append_assoc, Contains, cond_both, ltb-true, not-true, not-false, nat_tests, step_of, after_cut, after_commit, after_grow, Request, Malloc, Memalign, Free, FreeForeign, Publish, Take, Item, Replied, Told, Starved, Given, Refused, BadAnswer, NotHeld, aligned_for, class_for, most_regions, BatchFacts, held_at, hit, Wish, Later, DirtyToo, Then, Batches, Visiting, Change, Visits, TurnPoint, Filling, Looking, Landing, Finding, Taking, Offering, Changing, Owning, AskPoint, Skipping, Trimming, Growing, Paring, Needing, Granting, Committing, Merging, Easing, Returning, Decommitting, Forcing, Point, Turns, Asks, Tells, Next, Go, Over, Gone, Ends, Stage, Refuses, Reply, NoArena, Nothing, Took, Cut, Whole, Refuse, Bad, Grown, Landed, Regions, Owned, Space, Span, Why, AskFacts, Held, DeskFacts, answered_span, alloc_of, ask_of, done_of, op_of, is_marked, starved, whole_chunks, step, turned, told, commit, trim, put_next, took_over, batch_goes, begin, begin_free, begin_get, begin_malloc, begin_memalign, begin_publish, begin_stage, get, is_alignment, page_align, settle, share, small_hit, step_next, wish_for, with_found, extent, extent_of, NothingFits, WasGranted, IsNeeded, IsWishOf, RegionCause, GivenCause, CauseOf, Came, AllCame, AnswersHaveCauses}
+use Rattle.call_table.specs.Words.{Answers}
 use Rattle.call_table.proofs.Aligned.{failing_is_not, passing_is}
 use Rattle.call_table.proofs.Bounds.{Settles, run_keeps, settle_keeps}
 use Rattle.call_table.proofs.Causes.{cut_whole, commit_whole, grow_refused, grow_bad, grow_grown, last_in, more_in, extent_next, fits_more}

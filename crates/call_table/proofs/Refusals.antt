@@ -1,15 +1,5 @@
 -- What stands after each refused ask.
-use Rattle.std.proofs.Common.{◌≡◌, ℕ, ◌+◌, Bool, true, false, cond, Option, Some, inl, inr, ◌∙◌, ap, subst, arith, find}
-use Rattle.space_model.specs.Flights.{lost, won}
-use Rattle.space_model.specs.Part.{is_flight_at}
-use Rattle.space_model.specs.Stepped.{Stepped, whole_at}
-use Rattle.space_model.specs.Step.{apart_at, next_flight, step_of}
-use Rattle.space_model.specs.Purging.{is_regranted}
-use Rattle.call_table.specs.Words.{Replied, Refused, AskPoint, Skipping, Trimming, Growing, Paring, Needing, Granting, Committing, Merging, Easing, Returning, Decommitting, Forcing, Asks, Next, Ends, Refuses, Reply, Whole, Joined, Kept, Abandoned, Part, Space, Span, Sound, mine, AskFacts}
-use Rattle.call_table.specs.Table.{ask_of, done_of, need_chunks, told}
-use Rattle.call_table.specs.Knows.{Alone, Flies, Idle, KnowsAsk}
-use Rattle.call_table.specs.Laws.{Keeps, flights_of, left_ask, stages_ask, with_found}
-use Rattle.call_table.specs.Refusals.{AfterRefusal, Holds, Rests, RefusalsStand}
+use Rattle.call_table.proofs.Words.{◌≡◌, ℕ, ◌+◌, Bool, true, false, cond, Option, Some, inl, inr, ◌∙◌, ap, subst, arith, find, lost, won, is_flight_at, Stepped, whole_at, apart_at, next_flight, step_of, is_regranted, Replied, Refused, AskPoint, Skipping, Trimming, Growing, Paring, Needing, Granting, Committing, Merging, Easing, Returning, Decommitting, Forcing, Asks, Next, Ends, Refuses, Reply, Whole, Joined, Kept, Abandoned, Part, Space, Span, Sound, mine, AskFacts, ask_of, done_of, need_chunks, told, Alone, Flies, Idle, KnowsAsk, Keeps, flights_of, left_ask, stages_ask, with_found, AfterRefusal, Holds, Rests, RefusalsStand}
 use Rattle.call_table.proofs.Getting.{alone_found}
 use Rattle.call_table.proofs.Putting.{found_at}
 use Rattle.call_table.proofs.Rooms.{flown}

@@ -1,17 +1,5 @@
 -- Whoever has the room that is needed at a point has it wherever the call goes.
-use Rattle.std.proofs.Common.{◌≡◌, ℕ, ◌+◌, ◌-◌, ◌*◌, ◌<◌, ◌≤◌, Bool, true, false, cond, max, Option, None, Some, refl, sym, ap, subst, arith, length, sum_by}
-use Rattle.std.proofs.lemmas.Bool.Decides.{nat_tests}
-use Rattle.std.proofs.lemmas.List.Sums.{length-filter}
-use Rattle.space_model.specs.Part.{is_flight}
-use Rattle.space_model.specs.Flights.{flight, lost, won}
-use Rattle.space_model.specs.Step.{op_stands, step_of}
-use Rattle.space_model.proofs.Steps.{op_keeps}
-use Rattle.call_table.specs.Words.{Replied, Told, Starved, Op, Reply, Space, Sound, Mine, mine, AskFacts, same_span}
-use Rattle.call_table.specs.Words.{TurnPoint, Finding, AskPoint, Turns, Asks, Tells, Next, Go}
-use Rattle.call_table.specs.Table.{is_marked, op_of, done_of, starved, turned, told}
-use Rattle.call_table.specs.Knows.{Idle, KnowsTurn}
-use Rattle.call_table.specs.Laws.{Keeps, left, stages, with_found}
-use Rattle.call_table.specs.Rooms.{empties, flying, needed_ask, needed_next, needed_turn, room_then, RoomsSuffice}
+use Rattle.call_table.proofs.Words.{◌≡◌, ℕ, ◌+◌, ◌-◌, ◌*◌, ◌<◌, ◌≤◌, Bool, true, false, cond, max, Option, None, Some, refl, sym, ap, subst, arith, length, sum_by, nat_tests, length-filter, is_flight, flight, lost, won, op_stands, step_of, op_keeps, Replied, Told, Starved, Op, Reply, Space, Sound, Mine, mine, AskFacts, same_span, TurnPoint, Finding, AskPoint, Turns, Asks, Tells, Next, Go, is_marked, op_of, done_of, starved, turned, told, Idle, KnowsTurn, Keeps, left, stages, with_found, empties, flying, needed_ask, needed_next, needed_turn, room_then, RoomsSuffice}
 use Rattle.call_table.proofs.Lists.{filter-fewer}
 use Rattle.call_table.proofs.Standing.{wants-stand}
 use Rattle.call_table.proofs.Steps.{never_starves, starved_keeps, steps-keep}

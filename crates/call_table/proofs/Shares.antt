@@ -1,8 +1,6 @@
 -- Regions that are shared out, one after another.
-use Rattle.std.proofs.Common.{◌≡◌, ℕ, ◌+◌, ◌-◌, ◌<◌, ◌≤◌, map, min, ap, arith, suc, zero}
-use Rattle.std.specs.List.{range_with_len}
+use Rattle.call_table.proofs.Words.{◌≡◌, ℕ, ◌+◌, ◌-◌, ◌<◌, ◌≤◌, map, min, ap, arith, suc, zero, range_with_len, address_behind, region_at, sharing}
 use Rattle.thread_cache.specs.Desks.{DeskFacts, caching}
-use Rattle.call_table.specs.Desks.{address_behind, region_at, sharing}
 
 -- one more of those that landed
 pub landed_more : (arena class first place count : ℕ) (desk : DeskFacts) → place < count →

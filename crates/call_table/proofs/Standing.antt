@@ -1,23 +1,6 @@
 -- Every turn that a call wants may stand.
-use Rattle.std.proofs.Common.{filter, ◌≡◌, ◌≢◌, ℕ, ◌*◌, ◌<◌, ◌≤◌, ◌==◌, ◌&&◌, Bool, true, false, List, [], ◌∷◌, Option, None, Some, refl, sym, ◌∙◌, ap, subst, arith, length, lt-ltb, le-leb, eq-eqb}
-use Rattle.std.specs.List.{list_any, list_all, count_by}
-use Rattle.std.specs.Bool.{beq}
-use Rattle.std.proofs.Math.Bool.{and_assoc}
-use Rattle.std.proofs.lemmas.List.Sums.{length-filter}
-use Rattle.space_model.specs.declared.Offered.{Offered}
-use Rattle.space_model.specs.declared.Op.TheVariants.{CutDone, GrowDone}
-use Rattle.space_model.specs.declared.Region.{Region}
-use Rattle.space_model.specs.Part.{is_flight}
-use Rattle.space_model.specs.Region.{is_held_by}
-use Rattle.space_model.specs.Ending.{reset_stands}
-use Rattle.space_model.specs.Purging.{is_offer}
-use Rattle.space_model.specs.Step.{op_stands, is_live, is_yes_or_no, is_range_or_no, holds_at}
-use Rattle.hook_api.specs.Asked.{heard_in}
-use Rattle.call_table.specs.Words.{Wish, TurnPoint, Filling, Looking, Landing, Giving, Finding, Taking, Offering, Advancing, Changing, Making, Resetting, Destroying, Dooming, Publishing, Owning, AskPoint, Skipping, Trimming, Growing, Paring, Needing, Granting, Committing, Merging, Easing, Returning, Decommitting, Forcing, Turns, Asks, Tells}
-use Rattle.call_table.specs.Words.{Split, Answer, Placed, Done, Space, Part, Span, Sound, mine, AskFacts, pages_at, same_span, AnswersTo}
-use Rattle.call_table.specs.Table.{done_of, op_of, alloc_of, whole_chunks}
-use Rattle.call_table.specs.Knows.{Idle, Alone, HasOffered, Gets, KnowsAsk, KnowsTurn, Heard, is_held, is_served, in_flight}
-use Rattle.call_table.specs.Laws.{with_found, WantsStand}
+use Rattle.call_table.proofs.Words.{filter, ◌≡◌, ◌≢◌, ℕ, ◌*◌, ◌<◌, ◌≤◌, ◌==◌, ◌&&◌, Bool, true, false, List, [], ◌∷◌, Option, None, Some, refl, sym, ◌∙◌, ap, subst, arith, length, lt-ltb, le-leb, eq-eqb, list_any, list_all, beq, and_assoc, length-filter, Offered, CutDone, GrowDone, Region, is_flight, is_held_by, reset_stands, is_offer, op_stands, is_live, is_yes_or_no, is_range_or_no, holds_at, heard_in, Wish, TurnPoint, Filling, Looking, Landing, Giving, Finding, Taking, Offering, Advancing, Changing, Making, Resetting, Destroying, Dooming, Publishing, Owning, AskPoint, Skipping, Trimming, Growing, Paring, Needing, Granting, Committing, Merging, Easing, Returning, Decommitting, Forcing, Turns, Asks, Tells, Split, Answer, Placed, Done, Space, Part, Span, Sound, mine, AskFacts, pages_at, same_span, AnswersTo, done_of, op_of, alloc_of, whole_chunks, Idle, Alone, HasOffered, Gets, KnowsAsk, KnowsTurn, Heard, is_held, is_served, in_flight, with_found, WantsStand}
+use Rattle.std.specs.List.{count_by}
 use Rattle.call_table.proofs.Lists.{any-both, none-any}
 use Rattle.call_table.proofs.Own.{flight_found, region_found, served, live_where}
 use Rattle.call_table.proofs.Getting.{span_itself, wish_some, alone_found}

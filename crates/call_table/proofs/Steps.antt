@@ -1,24 +1,7 @@
 -- Whatever comes of what a call wants leads on.
-use Rattle.std.proofs.Common.{rules, add-zero, append-nil, inl, inr, fold, take, drop, filter, ◌++◌, ◌≡◌, ℕ, ◌+◌, ◌-◌, ◌*◌, Bool, true, false, not, cond, List, [], ◌∷◌, Option, None, Some, refl, sym, ◌∙◌, ap, subst, arith, max, length, find, ltb as nat_lt}
-use Rattle.std.specs.List.{position_or_len}
-use Rattle.std.proofs.lemmas.List.Elements.{filter-append}
-use Rattle.std.proofs.lemmas.Bool.Decides.{nat_tests}
-use Rattle.std.proofs.lemmas.List.{take-append-drop}
-use Rattle.space_model.specs.declared.Region.{Region}
-use Rattle.space_model.specs.Part.{is_active, is_listed, is_flight, begins_at, moved_to, placed, turned as turned_parts, turned_in_order}
-use Rattle.space_model.specs.Stepped.{Stepped, stays, replaced, if_live, is_lazy, is_dirty_time_over}
-use Rattle.space_model.specs.Pace.{after_advance, advance_all}
-use Rattle.space_model.specs.Settings.{after_set, setting_stands}
-use Rattle.space_model.specs.Holding.{take_over_at, is_published_at}
-use Rattle.space_model.specs.Ending.{held_count, flight_count, if_free, after_reset, emptied, after_destroy, ended, doom_at}
-use Rattle.space_model.specs.Step.{step_of, after_cut}
-use Rattle.space_model.proofs.Pieces.{put_down-nobody}
-use Rattle.space_model.proofs.Moves.{itself}
-use Rattle.call_table.specs.Words.{Replied, Told, Starved, Busy, Split, Answer, Reply, NoArena, Noted, Purge, Doomed, InUse, Rest, ToDirty, ToRetained, Setting, Space, Part, Span, Sound, mine, AskFacts, fill_at, lowest_free, AnswersTo}
-use Rattle.call_table.specs.Words.{Wish, Change, TurnPoint, Filling, Looking, Landing, Giving, Finding, Taking, Offering, Advancing, Changing, Making, Resetting, Destroying, Dooming, Publishing, Owning, AskPoint, Skipping, Trimming, Growing, Paring, Needing, Granting, Committing, Merging, Easing, Returning, Decommitting, Forcing, Turns, Asks, Tells, Next, Go, Gone, Ends}
-use Rattle.call_table.specs.Table.{ask_of, turned, starved, is_marked, told, done_of, op_of, whole_chunks, limited, changed, make_next, skipped, trimmed, grown, needed, granted, committed}
-use Rattle.call_table.specs.Knows.{Idle, Alone, Gets, KnowsAsk, KnowsTurn, Heard, IsChange, is_of_arena}
-use Rattle.call_table.specs.Laws.{with_found, Keeps, stages_turn, stages_ask, stages_change, left, left_ask, flights_of, StepsKeep}
+use Rattle.call_table.proofs.Words.{rules, add-zero, append-nil, inl, inr, fold, take, drop, filter, ◌++◌, ◌≡◌, ℕ, ◌+◌, ◌-◌, ◌*◌, Bool, true, false, not, cond, List, [], ◌∷◌, Option, None, Some, refl, sym, ◌∙◌, ap, subst, arith, max, length, find, position_or_len, filter-append, nat_tests, take-append-drop, Region, is_active, is_listed, is_flight, begins_at, moved_to, placed, turned_parts, turned_in_order, Stepped, stays, replaced, if_live, is_lazy, is_dirty_time_over, after_advance, advance_all, after_set, setting_stands, take_over_at, is_published_at, held_count, flight_count, if_free, after_reset, after_destroy, ended, doom_at, step_of, after_cut, put_down-nobody, itself, Replied, Told, Starved, Busy, Split, Answer, Reply, NoArena, Noted, Purge, Doomed, InUse, Rest, ToDirty, ToRetained, Setting, Space, Part, Span, Sound, mine, AskFacts, fill_at, lowest_free, AnswersTo, Wish, Change, TurnPoint, Filling, Looking, Landing, Giving, Finding, Taking, Offering, Advancing, Changing, Making, Resetting, Destroying, Dooming, Publishing, Owning, AskPoint, Skipping, Trimming, Growing, Paring, Needing, Granting, Committing, Merging, Easing, Returning, Decommitting, Forcing, Turns, Asks, Tells, Next, Go, Gone, Ends, ask_of, turned, starved, is_marked, told, done_of, op_of, whole_chunks, limited, changed, make_next, skipped, trimmed, grown, needed, granted, committed, Idle, Alone, Gets, KnowsAsk, KnowsTurn, Heard, IsChange, is_of_arena, with_found, Keeps, stages_turn, stages_ask, stages_change, left, left_ask, flights_of, StepsKeep}
+use Rattle.std.proofs.Common.{ltb as nat_lt}
+use Rattle.space_model.specs.Ending.{emptied}
 use Rattle.call_table.proofs.Lists.{filter-fewer}
 use Rattle.call_table.proofs.Own.{flight_found}
 use Rattle.call_table.proofs.Getting.{Onto, kept_span, cut_onto, commit_onto, alloc_onto, look_onto, land_onto, commit_goes, grant_goes, trim_goes, gets_kept, replaced_idle, begins_itself}

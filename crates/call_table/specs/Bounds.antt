@@ -1,7 +1,9 @@
 -- How long the run of a call is.
-use Rattle.std.specs.Prelude.{◌≡◌, ℕ, ◌+◌, ◌*◌, ◌≤◌, Bool, true, false, List, [], ◌∷◌, Some, count_by, sum_by}
+use Rattle.std.specs.Prelude.{◌≡◌, ℕ, ◌+◌, ◌*◌, ◌≤◌, Bool, true, false, List, [], ◌∷◌, Option, None, Some, count_by, sum_by, if◌then◌else◌}
 use Rattle.space_model.specs.declared.Op.TheVariants.{Back}
-use Rattle.call_table.specs.Words.{Request, Malloc, Memalign, Free, FreeForeign, Flush, Cache, Item, Replied, Told, Answered, Giving, Turns, Next, Go, Ends, NextFlight, Purge, Taken, Abandoned, Doomed, Space, Sound, mine, DeskFacts}
+use Rattle.space_model.specs.Part.{is_listed, listed}
+use Rattle.space_model.specs.Purging.{count_listed}
+use Rattle.call_table.specs.Words.{Request, Malloc, Memalign, Free, FreeForeign, Flush, Cache, Item, Replied, Told, Answered, Giving, Taking, Turns, Next, Go, Ends, NextFlight, Purge, Taken, Abandoned, Doomed, Rest, Space, Sound, mine, DeskFacts}
 use Rattle.call_table.specs.Table.{want}
 use Rattle.call_table.specs.Runs.{Moment, after, begin, run, step_next}
 use Rattle.call_table.specs.Knows.{Knows}
@@ -115,3 +117,30 @@ purges x = is_purge x.item
 abbrev pub FreesAreFew : Type 0
 FreesAreFew = (c : ℕ) (request : Request) (desk : DeskFacts) (strides : List Stride) → is_free request ≡ true → Walks c (begin request desk) strides
     → count_by asks strides ≤ 2 * emptied c (begin request desk) strides + 6 * count_by purges strides
+
+-- ---- a purge
+
+-- how many extents a stride takes out of a list: only the turns of a visit to that list do
+abbrev pub taken_by : Rest → Next → Item → ℕ
+taken_by rest (Go (Turns (Taking visit left))) (Replied (Taken span lazy count)) = if is_listed rest (listed visit.rest) then 1 else 0
+taken_by rest next item = 0
+
+-- how many extents stood in a list where a stride is the first turn of a visit to it
+abbrev pub found_by : Rest → Next → Space → ℕ
+found_by rest (Go (Turns (Taking visit None))) s = if is_listed rest (listed visit.rest) then count_listed visit.rest s.parts else 0
+found_by rest next s = 0
+
+-- how many extents a call took out of a list
+abbrev pub taken_of : Rest → Moment → List Stride → ℕ
+taken_of rest at [] = 0
+taken_of rest at (x ∷ strides) = taken_by rest at.stage.next x.item + taken_of rest (after at x.item) strides
+
+-- how many stood in the list at the first turns of its visits
+abbrev pub found_of : Rest → Moment → List Stride → ℕ
+found_of rest at [] = 0
+found_of rest at (x ∷ strides) = found_by rest at.stage.next x.before + found_of rest (after at x.item) strides
+
+-- a call takes no more extents out of a list than stood in it at its first turn there
+abbrev pub PurgesAreFew : Type 0
+PurgesAreFew = (c : ℕ) (request : Request) (desk : DeskFacts) (rest : Rest) (strides : List Stride) → Walks c (begin request desk) strides
+    → taken_of rest (begin request desk) strides ≤ found_of rest (begin request desk) strides

@@ -332,7 +332,7 @@ impl Model for Call {
 impl Call {
     /// A call that carries out a request of a client. Its desk is from now on as the call leaves it, with room for the region
     /// that it may come to hold. `NoMemory` where there is none for that, or to name several regions that go back first: the
-    /// client has what it had. A request that gets no region, gives none back and doesn't flush takes no memory.
+    /// client has what it had. A request by which no region is got, given away or flushed takes no memory.
     pub fn start(
         client: u32,
         desk: &mut Desk,

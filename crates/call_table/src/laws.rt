@@ -3,7 +3,7 @@
 
 ghost use Rattle.call_table.specs.Laws.{BatchesKnow, BeginsKnow, KnowledgeIsOwn, RunsEndOnce, StepsKeep, WantsStand};
 ghost use Rattle.call_table.specs.Rooms.{RoomsSuffice};
-ghost use Rattle.call_table.specs.Bounds.{AsksAreFew, FreesAreFew, MallocsAreShort};
+ghost use Rattle.call_table.specs.Bounds.{AsksAreFew, FreesAreFew, MallocsAreShort, PurgesAreFew};
 ghost use Rattle.call_table.specs.Refusals.{RefusalsStand};
 ghost use Rattle.call_table.specs.Causes.{AnswersHaveCauses};
 ghost use Rattle.call_table.specs.Aligned.{MemalignsAreAligned};
@@ -56,6 +56,12 @@ pub fn asks_are_few()
 /// each of these that was to be purged, whatever others did meanwhile.
 pub fn frees_are_few()
     ensures { FreesAreFew }
+{}
+
+/// A call takes no more dirty or muzzy extents out of their list than stood in it at the first turn of its visit there,
+/// whatever others did meanwhile.
+pub fn purges_are_few()
+    ensures { PurgesAreFew }
 {}
 
 /// What a call wants once a hook refused its ask, and what its client then has in flight, ask by ask.

@@ -1,6 +1,6 @@
 //! Calls that are fed by hand, one reply or answer at a time.
 
-ghost use Rattle.std.specs.Prelude.{◌≡◌, IfOk};
+ghost use Rattle.std.specs.Prelude.{IfOk};
 ghost use Rattle.call_table.specs.Points.{IsSizedNext};
 
 use crate::{Answered, Given, Item, Lead, Need, Request, Stage};
@@ -11,95 +11,127 @@ use std::alloc::{AllocError as NoMemory, Global};
 use std::test::Fail;
 use thread_cache::{Desk, Held};
 
-/// What a call needed, one after the other, and how it and its client's desk stand then.
+/// A call that is played by hand: the script says what it must need next, and what comes of that.
 #[derive(Drop)]
-struct Played {
-    turns: Vec<Op>,
-    asks: Vec<Ask>,
+struct Play {
+    request: Request,
     desk: Desk,
     stage: Stage,
+    as_told: bool,
+    alloc: Global,
 }
 
-impl Played {
-    /// Notes what is needed.
-    fn note(&mut self, alloc: Global) -> Result<(), NoMemory>
-        requires { IsSizedNext self.old.stage.next }
-        ensures { self.new.stage ≡ self.old.stage }
+impl Play {
+    /// A request of a client, at its start.
+    fn start(request: Request, mut desk: Desk, alloc: Global) -> Result<Play, NoMemory>
+        ensures { IfOk result (λ play. IsSizedNext play.stage.next) }
     {
-        if let Lead::To(place) = &self.stage.lead {
-            match place.need(&self.stage.heard, self.stage.arena, 1, alloc)? {
-                Need::Turn(turn) => self.turns.push(turn.op)?,
-                Need::Ask { ask, .. } => self.asks.push(ask)?,
-                Need::Done(_) => (),
-            }
-        }
-        Ok(())
-    }
-
-    /// Where it stands after an item.
-    fn feed(self, request: Request, item: Item, alloc: Global) -> Result<Played, NoMemory>
-        requires { IsSizedNext self.stage.next }
-        ensures { IfOk result (λ played. IsSizedNext played.stage.next) }
-    {
-        let Played {
-            turns,
-            asks,
-            mut desk,
-            mut stage,
-        } = self;
         desk.reserve()?;
-        stage.tell(&mut desk, &item);
-        stage.feed(request, &desk, &item, alloc)?;
+        let stage = Stage::begin(request, &mut desk, alloc)?;
         stage.close(request, &mut desk);
-        Ok(Played {
-            turns,
-            asks,
+        let as_told = true;
+        Ok(Play {
+            request,
             desk,
             stage,
+            as_told,
+            alloc,
         })
     }
 
-    /// The region that the call has answered.
+    /// What it needs now, while it waits.
+    fn need(&self) -> Result<Option<Need>, NoMemory>
+        requires { IsSizedNext self.now.stage.next }
+    {
+        match &self.stage.lead {
+            Lead::To(place) => {
+                let Stage { arena, heard, .. } = &self.stage;
+                let need = place.need(heard, *arena, 1, self.alloc)?;
+                Ok(Some(need))
+            }
+            _ => Ok(None),
+        }
+    }
+
+    /// It is fed an item, and its need was as the script says, or it wasn't.
+    fn feed(&mut self, same: bool, item: Item) -> Result<(), NoMemory>
+        requires { IsSizedNext self.old.stage.next }
+        ensures { IsSizedNext self.new.stage.next }
+    {
+        self.as_told = self.as_told && same;
+        self.desk.reserve()?;
+        self.stage.tell(&mut self.desk, &item);
+        self.stage
+            .feed(self.request, &self.desk, &item, self.alloc)?;
+        self.stage.close(self.request, &mut self.desk);
+        Ok(())
+    }
+
+    /// It needs this turn.
+    fn needs_turn(&self, op: &Op) -> Result<bool, NoMemory>
+        requires { IsSizedNext self.now.stage.next }
+    {
+        match self.need()? {
+            Some(Need::Turn(turn)) => Ok(turn.op == *op),
+            _ => Ok(false),
+        }
+    }
+
+    /// It needs this turn, and is told this reply.
+    fn turn(&mut self, op: Op, reply: Reply) -> Result<(), NoMemory>
+        requires { IsSizedNext self.old.stage.next }
+        ensures { IsSizedNext self.new.stage.next }
+    {
+        let same = self.needs_turn(&op)?;
+        self.feed(same, Item::Replied(reply))
+    }
+
+    /// It needs this turn, which finds no memory.
+    fn starve(&mut self, op: Op) -> Result<(), NoMemory>
+        requires { IsSizedNext self.old.stage.next }
+        ensures { IsSizedNext self.new.stage.next }
+    {
+        let same = self.needs_turn(&op)?;
+        self.feed(same, Item::Starved)
+    }
+
+    /// It needs the turn that takes the answer in, and is told this reply.
+    fn take_in(&mut self, reply: Reply) -> Result<(), NoMemory>
+        requires { IsSizedNext self.old.stage.next }
+        ensures { IsSizedNext self.new.stage.next }
+    {
+        let same = match self.need()? {
+            Some(Need::Turn(turn)) => turn.asked.is_some(),
+            _ => false,
+        };
+        self.feed(same, Item::Replied(reply))
+    }
+
+    /// It needs this ask, which box 0 answers, or refuses where that is planned.
+    fn ask(&mut self, ask: Ask, planned: Option<Kind>) -> Result<(), NoMemory>
+        requires { IsSizedNext self.old.stage.next }
+        ensures { IsSizedNext self.new.stage.next }
+    {
+        let same = match self.need()? {
+            Some(Need::Ask { ask: needed, .. }) => needed == ask,
+            _ => false,
+        };
+        let item = answer(self.alloc, ask, planned)?;
+        self.feed(same, item)
+    }
+
+    /// The region that it has answered, where all was as told.
     fn region(&self) -> Option<u64> {
         match &self.stage.lead {
-            Lead::Ends(Answered::Ok(Given::Region { addr, .. })) => Some(*addr),
+            Lead::Ends(Answered::Ok(Given::Region { addr, .. })) if self.as_told => Some(*addr),
             _ => None,
         }
     }
 
-    /// Whether the call has ended, and is done.
+    /// Whether it has ended, is done, and all was as told.
     fn is_done(&self) -> bool {
-        matches!(&self.stage.lead, Lead::Ends(Answered::Ok(Given::Done)))
+        self.as_told && matches!(&self.stage.lead, Lead::Ends(Answered::Ok(Given::Done)))
     }
-}
-
-/// A request that is fed these items.
-fn play(request: Request, mut desk: Desk, items: Vec<Item>) -> Result<Played, NoMemory> {
-    let alloc = *items.allocator();
-    desk.reserve()?;
-    let stage = Stage::begin(request, &mut desk, alloc)?;
-    stage.close(request, &mut desk);
-    let mut played = Played {
-        turns: Vec::new(alloc),
-        asks: Vec::new(alloc),
-        desk,
-        stage,
-    };
-    for item in items {
-        played.note(alloc)?;
-        played = played.feed(request, item, alloc)?;
-    }
-    played.note(alloc)?;
-    Ok(played)
-}
-
-/// A request that is fed these replies.
-fn replay(request: Request, desk: Desk, replies: Vec<Reply>) -> Result<Played, NoMemory> {
-    let mut items = Vec::new(*replies.allocator());
-    for reply in replies {
-        items.push(Item::Replied(reply))?;
-    }
-    play(request, desk, items)
 }
 
 /// The answer of box 0 to an ask, which it refuses where that is planned.
@@ -182,21 +214,15 @@ fn a_malloc_in_an_empty_arena(rt: HostRuntime) -> Result<(), Fail> {
     let alloc = rt.alloc();
     let (grant, own, committed) = (span(512, 512), span(512, 5), true);
     let (span, left) = (grant, 5);
-    let split = Ask::Split { span, left };
-    let items = vec![in alloc;
-        Item::Replied(Reply::Grow { series: 1 }),
-        answer(alloc, chunk(512), None)?,
-        Item::Replied(Reply::Grown { span, committed }),
-        answer(alloc, split, None)?,
-        Item::Replied(Reply::Cut(own)),
-        Item::Replied(landed(0x20_0000, 1)),
-    ]?;
-    let played = play(Request::Malloc { size: 20000 }, Desk::new(alloc)?, items)?;
-    assert_eq!(rt; played.asks, vec![in alloc; chunk(512), split]?);
-    assert_eq!(rt; played.turns.first(), Some(&look(5, 1)));
-    assert_eq!(rt; played.turns.last(), Some(&land(own, 37, 1)));
-    assert_eq!(rt; played.region(), Some(0x20_0000));
-    assert!(rt; played.desk.held_at(0x20_0000).is_some());
+    let mut play = Play::start(Request::Malloc { size: 20000 }, Desk::new(alloc)?, alloc)?;
+    play.turn(look(5, 1), Reply::Grow { series: 1 })?;
+    play.ask(chunk(512), None)?;
+    play.take_in(Reply::Grown { span, committed })?;
+    play.ask(Ask::Split { span, left }, None)?;
+    play.take_in(Reply::Cut(own))?;
+    play.turn(land(own, 37, 1), landed(0x20_0000, 1))?;
+    assert_eq!(rt; play.region(), Some(0x20_0000));
+    assert!(rt; play.desk.held_at(0x20_0000).is_some());
     Ok(())
 }
 
@@ -204,31 +230,20 @@ fn a_malloc_in_an_empty_arena(rt: HostRuntime) -> Result<(), Fail> {
 fn a_free_that_purges(rt: HostRuntime) -> Result<(), Fail> {
     let alloc = rt.alloc();
     let (addr, span, committed) = (0x20_0000, span(512, 5), true);
-    let (lazy, whole) = (Ask::PurgeLazy(span), Ask::Dalloc { span, committed });
-    let items = vec![in alloc;
-        Item::Replied(Reply::Next(Some(span))),
-        Item::Replied(Reply::Purge { lazy: true }),
-        answer(alloc, lazy, Some(Kind::PurgeLazy))?,
-        Item::Replied(Reply::Lazy(false)),
-        Item::Replied(Reply::Noted),
-        answer(alloc, whole, None)?,
-        Item::Replied(Reply::Kept),
-        answer(alloc, Ask::Decommit(span), None)?,
-        Item::Replied(Reply::Decommitted(true)),
-        Item::Replied(Reply::Next(None)),
-    ]?;
-    let played = play(
-        Request::Free { addr },
-        desk_with(addr, 37, 3, alloc)?,
-        items,
-    )?;
-    assert_eq!(rt; played.stage.arena, 3);
-    assert_eq!(rt;
-        played.asks,
-        vec![in alloc; lazy, whole, Ask::Decommit(span)]?
-    );
-    assert_eq!(rt; played.turns.first(), Some(&back(alloc, addr, 0, 1)?));
-    assert!(rt; played.is_done());
+    let desk = desk_with(addr, 37, 3, alloc)?;
+    let mut play = Play::start(Request::Free { addr }, desk, alloc)?;
+    play.turn(back(alloc, addr, 0, 1)?, Reply::Next(Some(span)))?;
+    play.turn(Op::PutLook { span, tries: 0 }, Reply::Purge { lazy: true })?;
+    play.ask(Ask::PurgeLazy(span), Some(Kind::PurgeLazy))?;
+    play.take_in(Reply::Lazy(false))?;
+    play.turn(Op::Offer { span }, Reply::Noted)?;
+    play.ask(Ask::Dalloc { span, committed }, None)?;
+    play.take_in(Reply::Kept)?;
+    play.ask(Ask::Decommit(span), None)?;
+    play.take_in(Reply::Decommitted(true))?;
+    play.turn(Op::PutLook { span, tries: 0 }, Reply::Next(None))?;
+    assert_eq!(rt; play.stage.arena, 3);
+    assert!(rt; play.is_done());
     Ok(())
 }
 
@@ -236,14 +251,11 @@ fn a_free_that_purges(rt: HostRuntime) -> Result<(), Fail> {
 fn an_aligned_malloc(rt: HostRuntime) -> Result<(), Fail> {
     let alloc = rt.alloc();
     let (align, size) = (4194304, 16384);
-    let replies = vec![in alloc; Reply::Grow { series: 1 }]?;
-    let played = replay(
-        Request::Memalign { align, size },
-        Desk::new(alloc)?,
-        replies,
-    )?;
-    assert_eq!(rt; played.turns, vec![in alloc; look(4, 1024)]?);
-    assert_eq!(rt; played.asks, vec![in alloc; chunk(1024)]?);
+    let request = Request::Memalign { align, size };
+    let mut play = Play::start(request, Desk::new(alloc)?, alloc)?;
+    play.turn(look(4, 1024), Reply::Grow { series: 1 })?;
+    play.ask(chunk(1024), None)?;
+    assert!(rt; play.as_told);
     Ok(())
 }
 
@@ -267,11 +279,13 @@ fn a_malloc_fills_the_cache(rt: HostRuntime) -> Result<(), Fail> {
         committed,
         skip,
     };
-    let replies = vec![in alloc; Reply::Nothing, took, landed(0x20_0000, 2)]?;
-    let played = replay(Request::Malloc { size: 14336 }, desk, replies)?;
-    assert_eq!(rt; played.turns.last(), Some(&land(span, 35, 2)));
-    assert_eq!(rt; played.region(), Some(0x20_0000));
-    assert_eq!(rt; played.desk.cached_of(0), 1);
+    let (class, count) = (35, 10);
+    let mut play = Play::start(Request::Malloc { size: 14336 }, desk, alloc)?;
+    play.turn(Op::Fill { class, count }, Reply::Nothing)?;
+    play.turn(look(7, 1), took)?;
+    play.turn(land(span, 35, 2), landed(0x20_0000, 2))?;
+    assert_eq!(rt; play.region(), Some(0x20_0000));
+    assert_eq!(rt; play.desk.cached_of(0), 1);
     Ok(())
 }
 
@@ -279,9 +293,9 @@ fn a_malloc_fills_the_cache(rt: HostRuntime) -> Result<(), Fail> {
 fn a_cached_region_is_handed_out(rt: HostRuntime) -> Result<(), Fail> {
     let alloc = rt.alloc();
     let desk = caching_desk(0x20_3800, alloc)?;
-    let played = play(Request::Malloc { size: 14336 }, desk, Vec::new(alloc))?;
-    assert_eq!(rt; played.region(), Some(0x20_3800));
-    assert_eq!(rt; played.desk.cached_of(0), 0);
+    let play = Play::start(Request::Malloc { size: 14336 }, desk, alloc)?;
+    assert_eq!(rt; play.region(), Some(0x20_3800));
+    assert_eq!(rt; play.desk.cached_of(0), 0);
     Ok(())
 }
 
@@ -289,11 +303,10 @@ fn a_cached_region_is_handed_out(rt: HostRuntime) -> Result<(), Fail> {
 fn a_cache_is_flushed_before_it_is_off(rt: HostRuntime) -> Result<(), Fail> {
     let alloc = rt.alloc();
     let desk = caching_desk(0x20_3800, alloc)?;
-    let replies = vec![in alloc; Reply::Next(None)]?;
-    let played = replay(Request::Cache { on: false }, desk, replies)?;
-    assert_eq!(rt; played.turns.first(), Some(&back(alloc, 0x20_3800, 0, 1)?));
-    assert!(rt; played.is_done());
-    assert!(rt; !played.desk.caches());
+    let mut play = Play::start(Request::Cache { on: false }, desk, alloc)?;
+    play.turn(back(alloc, 0x20_3800, 0, 1)?, Reply::Next(None))?;
+    assert!(rt; play.is_done());
+    assert!(rt; !play.desk.caches());
     Ok(())
 }
 
@@ -301,16 +314,12 @@ fn a_cache_is_flushed_before_it_is_off(rt: HostRuntime) -> Result<(), Fail> {
 fn a_free_into_a_full_cache(rt: HostRuntime) -> Result<(), Fail> {
     let alloc = rt.alloc();
     let addr = 0x10_0000;
-    let replies = vec![in alloc; Reply::Next(None), Reply::Next(None)]?;
-    let played = replay(Request::Free { addr }, full_desk(alloc)?, replies)?;
-    let (one, other) = (
-        back(alloc, 0x20_0000, 32768, 5)?,
-        back(alloc, 0x20_4000, 32768, 5)?,
-    );
-    assert_eq!(rt; played.turns, vec![in alloc; one, other]?);
-    assert!(rt; played.is_done());
-    assert_eq!(rt; played.desk.cached_of(0), 1);
-    assert_eq!(rt; played.desk.cached_of(3), 10);
+    let mut play = Play::start(Request::Free { addr }, full_desk(alloc)?, alloc)?;
+    play.turn(back(alloc, 0x20_0000, 32768, 5)?, Reply::Next(None))?;
+    play.turn(back(alloc, 0x20_4000, 32768, 5)?, Reply::Next(None))?;
+    assert!(rt; play.is_done());
+    assert_eq!(rt; play.desk.cached_of(0), 1);
+    assert_eq!(rt; play.desk.cached_of(3), 10);
     Ok(())
 }
 
@@ -318,16 +327,11 @@ fn a_free_into_a_full_cache(rt: HostRuntime) -> Result<(), Fail> {
 fn a_free_of_a_region_of_another_client(rt: HostRuntime) -> Result<(), Fail> {
     let alloc = rt.alloc();
     let (addr, arena) = (0x20_0000, 2);
-    let items = vec![in alloc; Item::Replied(Reply::Owned { class: 37 }), Item::Starved]?;
-    let played = play(
-        Request::FreeForeign { addr, arena },
-        Desk::new(alloc)?,
-        items,
-    )?;
-    assert_eq!(rt;
-        played.turns,
-        vec![in alloc; Op::TakeOver { addr }, back(alloc, addr, 0, 1)?]?
-    );
-    assert!(rt; played.desk.held_at(addr).is_some());
+    let request = Request::FreeForeign { addr, arena };
+    let mut play = Play::start(request, Desk::new(alloc)?, alloc)?;
+    play.turn(Op::TakeOver { addr }, Reply::Owned { class: 37 })?;
+    play.starve(back(alloc, addr, 0, 1)?)?;
+    assert!(rt; play.as_told);
+    assert!(rt; play.desk.held_at(addr).is_some());
     Ok(())
 }

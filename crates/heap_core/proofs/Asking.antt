@@ -1,19 +1,6 @@
 -- How many asks may come where a call goes next: no more than its client has room in its arena, and one.
-use Rattle.std.proofs.Common.{◌≡◌, ◌≤◌, ℕ, ◌+◌, ◌^◌, ◌==◌, Bool, true, false, cond, not, List, Option, None, Some, refl, arith, nat_lt}
-use Rattle.std.proofs.lemmas.Bool.{cond_both}
-use Rattle.std.proofs.lemmas.Bool.Decides.{nat_tests}
-use Rattle.arena_core.specs.Arenas.{opens}
-use Rattle.heap_core.specs.Words.{Request, Malloc, Memalign, Free, Publish, Flush, Cache, Reset, Destroy, Create, Bind, Item, Replied}
-use Rattle.heap_core.specs.Words.{TurnPoint, Filling, Skipping, Point, Turns, Asks, Tells, Next, Go, Over, More}
-use Rattle.call_table.specs.Words.{Nothing, Held, DeskFacts, BatchFacts, batch_of, freeing, going, going_with, held_at, hit, aligned_for, class_for}
-use Rattle.call_table.specs.Desks.{desk_fed, flushes}
-use Rattle.call_table.specs.Runs.{Moment, after, batch_goes, begin, begin_desk, begin_free, begin_get, begin_publish, begin_stage, closed, first_turn, is_alignment, moved, page_align, small_hit, stage, step_next}
-use Rattle.call_table.specs.Table.{op_of}
-use Rattle.call_table.proofs.Bounds.{chosen_stage}
-use Rattle.heap_core.specs.Arenas.{room_in}
-use Rattle.heap_core.specs.Owing.{asks_at, owing}
-use Rattle.heap_core.specs.Records.{Record}
-use Rattle.heap_core.specs.Seats.{seat_of}
+use Rattle.heap_core.proofs.Words.{◌≡◌, ◌≤◌, ℕ, ◌+◌, ◌^◌, ◌==◌, Bool, true, false, cond, not, List, Option, None, Some, refl, arith, nat_lt, cond_both, nat_tests, opens, Request, Malloc, Memalign, Free, Flush, Cache, Reset, Destroy, Create, Item, Replied, TurnPoint, Filling, Skipping, Point, Turns, Asks, Tells, Next, Go, Over, More, Nothing, Held, DeskFacts, BatchFacts, batch_of, freeing, going, going_with, held_at, hit, aligned_for, class_for, desk_fed, flushes, Moment, after, batch_goes, begin, begin_desk, begin_free, begin_get, begin_publish, begin_stage, closed, first_turn, is_alignment, moved, page_align, small_hit, stage, step_next, op_of, chosen_stage, room_in, asks_at, owing, Record, seat_of}
+use Rattle.heap_core.specs.Words.{Publish, Bind}
 
 -- ---- at a point
 

@@ -1,16 +1,5 @@
 -- A request begins, and so does a heap.
-use Rattle.std.proofs.Common.{◌≡◌, ◌≤◌, ◌<◌, ℕ, ◌+◌, List, Option, None, Some, Result, Ok, Err, OnOk, OnErr, length, replicate, slice_set, [], ◌∷◌, ◌++◌, length-append, refl, sym, ap, subst, ◌∙◌, arith}
-use Rattle.std.proofs.lemmas.List.{get_or-replicate, length-replicate, replicate-append-replicate, set-get_or}
-use Rattle.call_table.specs.Words.{Held, held_at}
-use Rattle.heap_core.specs.Words.{Request, Malloc, Free}
-use Rattle.call_table.specs.Laws.{IsInRange}
-use Rattle.call_table.specs.Runs.{begin}
-use Rattle.heap_core.specs.Arenas.{IsArenas, opening_records}
-use Rattle.heap_core.specs.Logs.{owed_to}
-use Rattle.heap_core.specs.Owing.{IsHeap, owing}
-use Rattle.heap_core.specs.Records.{Record}
-use Rattle.heap_core.specs.Seats.{Seat, asked_for, first_seat, free_of, held_by, holder_of, seat_at, seat_of}
-use Rattle.heap_core.specs.Sitting.{IsSeated, SeatSound}
+use Rattle.heap_core.proofs.Words.{◌≡◌, ◌≤◌, ◌<◌, ℕ, ◌+◌, List, Option, None, Some, Result, Ok, Err, OnOk, OnErr, length, replicate, slice_set, [], ◌∷◌, ◌++◌, length-append, refl, sym, ap, subst, ◌∙◌, arith, get_or-replicate, length-replicate, replicate-append-replicate, set-get_or, Held, held_at, Request, Malloc, Free, IsInRange, begin, IsArenas, opening_records, owed_to, IsHeap, owing, Record, Seat, asked_for, first_seat, free_of, held_by, holder_of, seat_at, seat_of, IsSeated, SeatSound}
 use Rattle.heap_core.proofs.Asking.{owed_begun}
 use Rattle.heap_core.proofs.Changes.{heap_seated}
 use Rattle.heap_core.proofs.Sitting.{opening-sits, starts-sit}

@@ -1,22 +1,6 @@
 -- A client that rests may begin any request.
-use Rattle.std.proofs.Common.{◌≡◌, ℕ, ◌+◌, ◌/◌, ◌<◌, ◌≤◌, ◌^◌, ◌==◌, ◌&&◌, inl, true, false, not, cond, List, [], ◌∷◌, Option, None, Some, length, refl, sym, ◌∙◌, ap, subst, arith, nat_lt, lt-ltb, min, ℤ}
-use Rattle.std.proofs.lemmas.Bool.{ltb-true}
-use Rattle.std.proofs.lemmas.Bool.Decides.{nat_tests}
-use Rattle.std.proofs.lemmas.List.Sums.{sum_by-cons}
-use Rattle.thread_cache.specs.Desks.{has_slot, not_holding}
-use Rattle.heap_core.specs.Words.{Request, Malloc, Memalign, Free, FreeForeign, Publish, Take, Flush, Cache, PurgeAll, Decay, Time, Reset, Destroy, Create, Bind, HookBox, GrowLimit, Region, Finished, Ok, TooLarge, BadAlign, NotHeld, NoSuchArena as NoArena, Automatic}
-use Rattle.heap_core.specs.Words.{Stops, Leaves, TurnPoint, Filling, Looking, Taking, Advancing, Changing, Making, Resetting, Destroying, Publishing, Owning, Turns, Next, Go, Ends, Stage}
-use Rattle.call_table.specs.Words.{Rest, SetBox, SetBound, SetLimit, MakeLive, Held, DeskFacts, batch_of, cached_of, caching, freeing, going, going_with, held_at, hit, hitting, is_cacheable, aligned_for, class_for, slots_at, most_regions, cached_in}
-use Rattle.call_table.specs.Desks.{region_at}
-use Rattle.call_table.specs.Laws.{KnowsNext}
-use Rattle.call_table.specs.Rooms.{needed_at}
-use Rattle.call_table.specs.Runs.{after_time, batch_goes, begin, begin_bind, begin_free, begin_get, begin_malloc, begin_memalign, begin_publish, begin_stage, closed, desk_freed, desk_got, desk_published, first_turn, first_turn_but_0, is_alignment, page_align, purge_visit, share, small_hit, stage, time_of, wish_for}
-use Rattle.call_table.proofs.Beginning.{begins-know}
-use Rattle.space_model.proofs.Pieces.{both_true}
-use Rattle.heap_core.specs.Arenas.{IsArenas}
-use Rattle.heap_core.specs.Clients.{IsIdle, mine_in}
-use Rattle.heap_core.specs.Records.{Record}
-use Rattle.heap_core.specs.Sitting.{Comes, HasSlots, StartsSit, Suits, SuitsChange, SuitsTurn}
+use Rattle.heap_core.proofs.Words.{◌≡◌, ℕ, ◌+◌, ◌/◌, ◌<◌, ◌≤◌, ◌^◌, ◌==◌, ◌&&◌, inl, true, false, not, cond, List, [], ◌∷◌, Option, None, Some, length, refl, sym, ◌∙◌, ap, subst, arith, nat_lt, lt-ltb, min, ℤ, ltb-true, nat_tests, sum_by-cons, has_slot, not_holding, Request, Malloc, Memalign, Free, FreeForeign, Take, Flush, Cache, PurgeAll, Decay, Time, Reset, Destroy, Create, HookBox, GrowLimit, Finished, TooLarge, BadAlign, NotHeld, NoArena, Automatic, Stops, Leaves, TurnPoint, Filling, Looking, Taking, Advancing, Changing, Making, Resetting, Destroying, Publishing, Owning, Turns, Next, Go, Ends, Stage, Rest, SetBox, SetBound, SetLimit, MakeLive, Held, DeskFacts, batch_of, cached_of, caching, freeing, going, going_with, held_at, hit, hitting, is_cacheable, aligned_for, class_for, slots_at, most_regions, cached_in, region_at, KnowsNext, needed_at, after_time, batch_goes, begin, begin_bind, begin_free, begin_get, begin_malloc, begin_memalign, begin_publish, begin_stage, closed, desk_freed, desk_got, desk_published, first_turn, first_turn_but_0, is_alignment, page_align, purge_visit, share, small_hit, stage, time_of, wish_for, begins-know, both_true, IsArenas, IsIdle, mine_in, Record, Comes, HasSlots, StartsSit, Suits, SuitsChange, SuitsTurn}
+use Rattle.heap_core.specs.Words.{Publish, Bind, Region, Ok}
 use Rattle.heap_core.proofs.Hands.{had_counts}
 use Rattle.heap_core.proofs.Having.{cache_hand, drop_over, drop_shaped, free_gains, hit_is, miss_is, of_hand}
 use Rattle.heap_core.proofs.Regions.{one_in}

@@ -1,30 +1,6 @@
 -- What a turn of a client does to the regions that it holds, and to those that it has.
-use Rattle.std.proofs.Common.{◌≡◌, ◌≢◌, ℕ, ◌+◌, ◌-◌, ◌*◌, ◌<◌, ◌≤◌, ◌==◌, ◌&&◌, ◌||◌, Bool, true, false, cond, List, [], ◌∷◌, Option, None, Some, length, map, refl, sym, ◌∙◌, ap, subst, arith, suc, zero, filter, find, min, nat_lt}
-use Rattle.std.specs.List.{count_by, list_any, range_with_len}
-use Rattle.std.proofs.lemmas.Bool.{eqb-true, ltb-true}
-use Rattle.std.proofs.lemmas.List.{length-map, length-take}
-use Rattle.std.proofs.lemmas.List.Elements.{All-cons, All-nil, All-weaker, filter_passes}
-use Rattle.std.proofs.lemmas.List.FromFn.{length-range_with_len}
-use Rattle.std.proofs.lemmas.List.Sums.{sum_by-cons}
-use Rattle.size_classes.specs.Classes.{regions_at, size_at}
-use Rattle.space_model.specs.declared.parts.Region.{Region}
-use Rattle.space_model.specs.Ending.{emptied, ended, flight_count, held_count, if_free}
-use Rattle.space_model.specs.Holding.{is_published_at, take_over_at}
-use Rattle.space_model.specs.Part.{is_flight_at}
-use Rattle.space_model.specs.Region.{address_of, is_held_by_other, landing, region_of, regions_from}
-use Rattle.space_model.specs.Span.{IsPlaced}
-use Rattle.space_model.specs.Step.{is_live, stays, step_of}
-use Rattle.space_model.specs.Stepped.{Stepped, is_dirty_time_over, is_lazy}
-use Rattle.space_model.proofs.Lists.{find_has}
-use Rattle.space_model.proofs.Pieces.{both_true}
-use Rattle.thread_cache.specs.Desks.{discarding, empty_handed, gave, is_in}
-use Rattle.heap_core.specs.Words.{Request}
-use Rattle.heap_core.specs.Words.{Wish, Change, Stops, Visits, Leaves, TurnPoint, Filling, Landing, Giving, Changing, Making, Resetting, Destroying, Publishing, Owning}
-use Rattle.call_table.specs.Words.{Reply, NoArena, Noted, Purge, InUse as Busy, Setting, Space, Part, Span, Sound, mine, Held, DeskFacts, cached_of, freeing, going, most_regions, fill_at, land_at, lowest_free}
-use Rattle.call_table.specs.Desks.{address_behind, desk_turned, flushes, landed_behind, region_at, sharing}
-use Rattle.call_table.specs.Knows.{KnowsTurn}
-use Rattle.call_table.specs.Table.{op_of}
-use Rattle.heap_core.specs.Sitting.{HasSlots, IsTheHand, SuitsTurn}
+use Rattle.heap_core.proofs.Words.{◌≡◌, ◌≢◌, ℕ, ◌+◌, ◌-◌, ◌*◌, ◌<◌, ◌≤◌, ◌==◌, ◌&&◌, ◌||◌, Bool, true, false, cond, List, [], ◌∷◌, Option, None, Some, length, map, refl, sym, ◌∙◌, ap, subst, arith, suc, zero, filter, find, min, nat_lt, count_by, list_any, range_with_len, eqb-true, ltb-true, length-map, length-take, All-cons, All-nil, All-weaker, filter_passes, length-range_with_len, sum_by-cons, regions_at, size_at, Region, emptied, ended, flight_count, held_count, if_free, is_published_at, take_over_at, is_flight_at, address_of, is_held_by_other, landing, region_of, regions_from, IsPlaced, is_live, stays, step_of, Stepped, is_dirty_time_over, is_lazy, find_has, both_true, discarding, empty_handed, gave, is_in, Request, Wish, Change, Stops, Visits, Leaves, TurnPoint, Filling, Landing, Giving, Changing, Making, Resetting, Destroying, Publishing, Owning, Reply, Noted, Purge, Busy, Setting, Space, Part, Span, Sound, mine, Held, DeskFacts, cached_of, freeing, going, most_regions, fill_at, land_at, lowest_free, address_behind, desk_turned, flushes, landed_behind, region_at, sharing, KnowsTurn, op_of, HasSlots, IsTheHand, SuitsTurn}
+use Rattle.call_table.specs.Words.{NoArena}
 use Rattle.heap_core.proofs.Hands.{Count, Hands, Single, hands_come, hands_discard, hands_part}
 use Rattle.heap_core.proofs.Having.{Shaped, discard_shaped, free_gains, of_hand, over, share_all}
 use Rattle.heap_core.proofs.Parting.{Parts, addrs_any, batch_addrs, gave_parts}

@@ -1,18 +1,5 @@
 -- What a change of one client leaves of a heap.
-use Rattle.std.proofs.Common.{◌≡◌, ◌≢◌, ◌≤◌, ◌<◌, ℕ, ◌-◌, ◌==◌, Bool, true, false, List, Option, None, Some, length, slice_set, get_or, refl, sym, ap, subst, ◌∙◌, arith}
-use Rattle.std.proofs.lemmas.Bool.Decides.{nat_tests}
-use Rattle.std.proofs.lemmas.List.{get_or_default, get_or-set_other, get_or-set_same, length-set}
-use Rattle.arena_core.specs.Arenas.{opens, room_after, room_of}
-use Rattle.call_table.specs.Words.{Op, AskFacts}
-use Rattle.call_table.specs.Calls.{CallFacts}
-use Rattle.heap_core.specs.Arenas.{IsArenas, no_record, record_after, record_at, room_in, spaces_of}
-use Rattle.heap_core.specs.Chunks.{settled}
-use Rattle.heap_core.specs.Clients.{CanTurn, after_turn}
-use Rattle.heap_core.specs.Logs.{owed_to}
-use Rattle.heap_core.specs.Owing.{IsHeap, asks_next, owing}
-use Rattle.heap_core.specs.Records.{Record}
-use Rattle.heap_core.specs.Seats.{Seat, first_seat, seat_at}
-use Rattle.heap_core.specs.Sitting.{SeatSound}
+use Rattle.heap_core.proofs.Words.{◌≡◌, ◌≢◌, ◌≤◌, ◌<◌, ℕ, ◌-◌, ◌==◌, Bool, true, false, List, Option, None, Some, length, slice_set, get_or, refl, sym, ap, subst, ◌∙◌, arith, nat_tests, get_or_default, get_or-set_other, get_or-set_same, length-set, opens, room_after, room_of, Op, AskFacts, CallFacts, IsArenas, no_record, record_after, record_at, room_in, spaces_of, settled, CanTurn, after_turn, owed_to, IsHeap, asks_next, owing, Record, Seat, first_seat, seat_at, SeatSound}
 use Rattle.heap_core.proofs.Clients.{at_or_else, elsewhere_is, opens_settled, there_is}
 use Rattle.heap_core.proofs.Sitting.{others-sit}
 

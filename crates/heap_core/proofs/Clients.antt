@@ -1,30 +1,5 @@
 -- What a turn leaves of the calls of all clients.
-use Rattle.std.proofs.Common.{◌≡◌, ◌≢◌, ℕ, ◌<◌, ◌≤◌, ◌==◌, ◌&&◌, Bool, true, false, List, Option, None, Some, slice_set, refl, sym, ◌∙◌, ap, subst, arith, IsTrue, IfSome, IsSomeAnd, lt-ltb, nat_lt}
-use Rattle.std.proofs.lemmas.Bool.{eqb-true}
-use Rattle.std.proofs.lemmas.Bool.Decides.{nat_tests}
-use Rattle.std.proofs.lemmas.List.{get_or-set_other, get_or-set_same}
-use Rattle.space_model.specs.declared.entries.Op.TheVariants.{Look, Back, GrowDone, OfferDone}
-use Rattle.space_model.specs.declared.asks.Heard.{Heard}
-use Rattle.space_model.specs.Step.{op_stands, stands, step_of}
-use Rattle.space_model.proofs.Pieces.{both_true}
-use Rattle.space_model.proofs.Steps.{op_keeps}
-use Rattle.hook_api.specs.Asked.{heard_in}
-use Rattle.hook_api.specs.Kept.{IsKept, heard_of}
-use Rattle.arena_core.specs.Arenas.{entry_of, opens, room_after, room_of}
-use Rattle.heap_core.specs.Words.{Replied}
-use Rattle.heap_core.specs.Words.{TurnPoint, Filling, AskPoint, Skipping, Point, Turns, Asks, Tells, Next, Go, Over, More, Gone, Ends, Nowhere}
-use Rattle.call_table.specs.Words.{Op, Reply, Space, Sound, mine, AskFacts, AnswersTo}
-use Rattle.call_table.specs.Table.{WantTurn, ask_of, done_of, is_marked, op_of, step, want}
-use Rattle.call_table.specs.Knows.{Idle, Knows}
-use Rattle.call_table.specs.Laws.{Keeps, Moves, Stands, left, stages, with_found}
-use Rattle.call_table.specs.Rooms.{Suffices, flying, needed_at, needed_next, room_then}
-use Rattle.call_table.proofs.Rooms.{rooms-suffice}
-use Rattle.call_table.proofs.Standing.{wants-stand}
-use Rattle.call_table.proofs.Steps.{steps-keep}
-use Rattle.heap_core.specs.Arenas.{IsArenas, no_record, record_after, record_at, room_in, spaces_of}
-use Rattle.heap_core.specs.Chunks.{met_by_alloc, met_by_dalloc, others_of, settled}
-use Rattle.heap_core.specs.Clients.{AsksLeadOn, CanTurn, IsIdle, OthersStay, TurnsLeadOn, Waits, WaitsNext, after_turn, mine_in}
-use Rattle.heap_core.specs.Records.{Record}
+use Rattle.heap_core.proofs.Words.{◌≡◌, ◌≢◌, ℕ, ◌<◌, ◌≤◌, ◌==◌, ◌&&◌, Bool, true, false, List, Option, None, Some, slice_set, refl, sym, ◌∙◌, ap, subst, arith, IsTrue, IfSome, IsSomeAnd, lt-ltb, nat_lt, eqb-true, nat_tests, get_or-set_other, get_or-set_same, Look, Back, GrowDone, OfferDone, Heard, op_stands, stands, step_of, both_true, op_keeps, heard_in, IsKept, heard_of, entry_of, opens, room_after, room_of, Replied, TurnPoint, Filling, AskPoint, Skipping, Point, Turns, Asks, Tells, Next, Go, Over, More, Gone, Ends, Nowhere, Op, Reply, Space, Sound, mine, AskFacts, AnswersTo, WantTurn, ask_of, done_of, is_marked, op_of, step, want, Idle, Knows, Keeps, Moves, Stands, left, stages, with_found, Suffices, flying, needed_at, needed_next, room_then, rooms-suffice, wants-stand, steps-keep, IsArenas, no_record, record_after, record_at, room_in, spaces_of, met_by_alloc, met_by_dalloc, others_of, settled, AsksLeadOn, CanTurn, IsIdle, OthersStay, TurnsLeadOn, Waits, WaitsNext, after_turn, mine_in, Record}
 use Rattle.heap_core.proofs.Turned.{replayed_sound}
 
 -- ---- the arena of a turn, and the others

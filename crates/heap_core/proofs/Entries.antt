@@ -1,18 +1,6 @@
 -- Sums over the regions that are held by address, and over cached lists.
-use Rattle.std.proofs.Common.{◌≡◌, ℕ, ◌+◌, ◌-◌, ◌<◌, true, false, cond, List, [], ◌∷◌, All, Option, None, Some, length, map, get_or, slice_set, refl, sym, ◌∙◌, ap, arith, suc, zero, nat_eq}
-use Rattle.std.specs.List.{flat_map, position, sum_by, swap_remove}
-use Rattle.std.specs.Map.{keys_of, lookup}
-use Rattle.std.specs.Option.{option_map_or}
-use Rattle.std.proofs.lemmas.Bool.{eqb-true}
-use Rattle.std.proofs.lemmas.List.Concat.{flat_map-cons}
-use Rattle.std.proofs.lemmas.List.Elements.{All-cons, All-head, All-nil, All-set, All-tail, All-take}
-use Rattle.std.proofs.lemmas.List.Sums.{sum_by-append, sum_by-cons, sum_by-swap_remove}
-use Rattle.indexmap.proofs.MapLemmas.{Found-position, Missing-position}
+use Rattle.heap_core.proofs.Words.{◌≡◌, ℕ, ◌+◌, ◌-◌, ◌<◌, true, false, cond, List, [], ◌∷◌, All, Option, None, Some, length, map, get_or, slice_set, refl, sym, ◌∙◌, ap, arith, suc, zero, nat_eq, flat_map, position, sum_by, swap_remove, keys_of, lookup, option_map_or, eqb-true, flat_map-cons, All-cons, All-head, All-nil, All-set, All-tail, All-take, sum_by-append, sum_by-cons, sum_by-swap_remove, Found-position, Missing-position, get_or_from_slice_get, slice_get, insert_entry, swap_remove_entry, Held}
 use Rattle.std.proofs.lemmas.List.{get_or-map}
-use Rattle.std.proofs.lemmas.Option.{get_or_from_slice_get}
-use Rattle.std.specs.List.{slice_get}
-use Rattle.indexmap.specs.IndexMap.{insert_entry, swap_remove_entry}
-use Rattle.call_table.specs.Words.{Held}
 
 -- what is summed over regions, over entries with them
 abbrev pub of_entry : (Held → ℕ) → ℕ × Held → ℕ

@@ -1,12 +1,5 @@
 -- What is kept of a call that was fed.
-use Rattle.std.proofs.Common.{inl, inr, ◌≡◌, ℕ, Option, Some, Result, Ok, Err, OnOk, OnErr, IfSome, sym, subst, ◌∙◌, ap}
-use Rattle.call_table.specs.Words.{Held, DeskFacts}
-use Rattle.heap_core.specs.Words.{Item, Answered, Next, Go, More}
-use Rattle.call_table.specs.Calls.{CallFacts, HasRoom, moment_of}
-use Rattle.call_table.specs.Reads.{ended_by}
-use Rattle.call_table.specs.Runs.{Moment, after, starved_after, step_next}
-use Rattle.heap_core.specs.Feeding.{FedTo}
-use Rattle.heap_core.specs.Seats.{Seat, answer_of, open_call, seat_of}
+use Rattle.heap_core.proofs.Words.{inl, inr, ◌≡◌, ℕ, Option, Some, Result, Ok, Err, OnOk, OnErr, IfSome, sym, subst, ◌∙◌, ap, Held, DeskFacts, Item, Answered, Next, Go, More, CallFacts, HasRoom, moment_of, ended_by, Moment, after, starved_after, step_next, FedTo, Seat, answer_of, open_call, seat_of}
 
 -- a call that is kept has room for the region that it may get
 room_at : (c room : ℕ) (hand : Option Held) (at : Moment) (next : Next) → HasRoom hand room at.stage.next → IfSome (open_call c at next) (λ call. HasRoom hand room call.stage.next)

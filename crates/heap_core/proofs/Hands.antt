@@ -1,21 +1,7 @@
 -- The regions that a client has are those that it holds in the arenas, however they are counted there.
-use Rattle.std.proofs.Common.{◌≡◌, ◌≢◌, ℕ, ◌+◌, ◌<◌, ◌≤◌, ◌==◌, ◌&&◌, ◌||◌, inl, inr, Bool, true, false, cond, List, [], ◌∷◌, All, None, Some, length, get_or, refl, sym, ◌∙◌, ap, subst, arith, suc, zero, nat_eq, filter}
-use Rattle.std.specs.List.{count_by, flat_map, sum_by}
-use Rattle.std.specs.Map.{lookup}
-use Rattle.std.proofs.lemmas.Bool.{eqb-true}
-use Rattle.std.proofs.lemmas.Bool.Decides.{nat_tests}
-use Rattle.std.proofs.lemmas.List.Elements.{All-head, All-tail}
-use Rattle.std.proofs.lemmas.List.Sums.{get_or-le-sum_by, sum_by-cons}
-use Rattle.space_model.specs.declared.parts.Region.{Region}
-use Rattle.space_model.proofs.Landing.{eqb_itself}
-use Rattle.space_model.proofs.Lists.{ones}
-use Rattle.thread_cache.specs.Caches.{is_elsewhere}
-use Rattle.thread_cache.specs.Desks.{discarding, holding, is_in}
-use Rattle.call_table.specs.Words.{Held, DeskFacts, cached_of, held_at}
+use Rattle.heap_core.proofs.Words.{◌≡◌, ◌≢◌, ℕ, ◌+◌, ◌<◌, ◌≤◌, ◌==◌, ◌&&◌, ◌||◌, inl, inr, Bool, true, false, cond, List, [], ◌∷◌, All, None, Some, length, get_or, refl, sym, ◌∙◌, ap, subst, arith, suc, zero, nat_eq, filter, count_by, flat_map, sum_by, lookup, eqb-true, nat_tests, All-head, All-tail, get_or-le-sum_by, sum_by-cons, Region, eqb_itself, ones, is_elsewhere, discarding, holding, is_in, Held, DeskFacts, cached_of, held_at, is_region, both_true}
 use Rattle.call_table.specs.Laws.{Has}
-use Rattle.heap_core.specs.Sitting.{is_region}
 use Rattle.heap_core.proofs.Entries.{IsKeyed, none_found, of_entry}
-use Rattle.space_model.proofs.Pieces.{both_true}
 use Rattle.heap_core.proofs.Clients.{at_or_else}
 use Rattle.heap_core.proofs.Having.{Shaped, hold_over, of_hand, over}
 use Rattle.heap_core.proofs.Parting.{Parts}

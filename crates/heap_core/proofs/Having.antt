@@ -1,17 +1,7 @@
 -- What changes of what a client has do to its regions.
-use Rattle.std.proofs.Common.{◌≡◌, ℕ, ◌+◌, ◌-◌, ◌<◌, ◌≤◌, ◌==◌, ◌&&◌, ◌≢◌, Bool, true, false, cond, List, [], ◌∷◌, ◌++◌, All, Option, None, Some, length, map, get_or, take, drop, slice_get, slice_set, refl, sym, ◌∙◌, ap, subst, arith, suc, nat_lt, lt-ltb}
-use Rattle.std.specs.List.{flat_map, sum_by}
-use Rattle.std.proofs.lemmas.Bool.{ltb-true}
-use Rattle.std.proofs.lemmas.Bool.Decides.{nat_tests}
-use Rattle.std.proofs.lemmas.Option.{get_or_from_slice_get, slice_get-get_or, slice_get_within}
-use Rattle.std.proofs.lemmas.List.{drop_more, length-drop, nil_from_length, get_or-set_other, get_or-set_same, length-append, length-set}
-use Rattle.std.proofs.lemmas.List.Elements.{All-append, All-cons, All-filter, All-nil, All-take}
-use Rattle.std.proofs.lemmas.List.Sums.{sum_by-cons, sum_by-take-drop, sum_by_push}
-use Rattle.space_model.proofs.Pieces.{both_true}
-use Rattle.thread_cache.specs.Caches.{is_elsewhere, put_in}
-use Rattle.thread_cache.specs.Desks.{before_last, discarding, has_slot, held_again, held_again_with, holding, kept, kept_with, not_holding}
-use Rattle.call_table.specs.Words.{Held, DeskFacts, caching, freeing, held_at, hit, hitting, is_cacheable, slots_at, cached_in}
-use Rattle.call_table.specs.Desks.{region_at, sharing}
+use Rattle.heap_core.proofs.Words.{◌≡◌, ℕ, ◌+◌, ◌-◌, ◌<◌, ◌≤◌, ◌==◌, ◌&&◌, ◌≢◌, Bool, true, false, cond, List, [], ◌∷◌, ◌++◌, All, Option, None, Some, length, map, get_or, take, drop, slice_set, refl, sym, ◌∙◌, ap, subst, arith, suc, nat_lt, lt-ltb, flat_map, sum_by, ltb-true, nat_tests, get_or_from_slice_get, slice_get-get_or, slice_get_within, drop_more, length-drop, nil_from_length, get_or-set_other, get_or-set_same, length-set, All-append, All-cons, All-filter, All-nil, All-take, sum_by-cons, sum_by-take-drop, sum_by_push, both_true, is_elsewhere, put_in, before_last, discarding, has_slot, held_again, held_again_with, holding, kept, kept_with, not_holding, Held, DeskFacts, caching, freeing, held_at, hit, hitting, is_cacheable, slots_at, cached_in, region_at, sharing}
+use Rattle.std.proofs.Common.{slice_get}
+use Rattle.std.proofs.lemmas.List.{length-append}
 use Rattle.heap_core.proofs.Entries.{IsKeyed, keyed_insert, keyed_remove, of_entry, sum_insert, sum_remove, sum_set}
 
 -- what is summed over the region in hand

@@ -1,3 +1,4 @@
+pub mod Words
 pub mod Owning
 pub mod Spaces
 pub mod Turned

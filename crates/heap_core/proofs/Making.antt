@@ -1,26 +1,5 @@
 -- What a turn, an ask or the want of memory leaves of a heap, and what a step then tells.
-use Rattle.std.proofs.Common.{inl, inr, ◌≡◌, ◌≢◌, ◌⊎◌, ◌≤◌, ◌<◌, ℕ, ◌+◌, Bool, true, false, List, Option, None, Some, Result, Ok, Err, IfSome, IsOk, IsSomeAnd, slice_set, refl, sym, ap, subst, ◌∙◌, arith, ◌++◌, ◌∷◌, []}
-use Rattle.hook_api.specs.Shelf.{AskStep, Shelf}
-use Rattle.arena_core.specs.Arenas.{opens}
-use Rattle.call_table.specs.Words.{Ask, Op, Reply, AskFacts}
-use Rattle.heap_core.specs.Words.{Replied, Told, Starved, Answered, NoMemory, Point, More}
-use Rattle.call_table.specs.declared.needs.Turn.{Turn}
-use Rattle.call_table.specs.Calls.{moment_of}
-use Rattle.call_table.specs.Needs.{Goes}
-use Rattle.call_table.specs.Runs.{Moment, after, starved_after}
-use Rattle.call_table.specs.Table.{WantTurn, WantAsk, is_marked, step, want}
-use Rattle.heap_core.specs.Arenas.{IsArenas, record_at, reply_in, room_in, spaces_of}
-use Rattle.heap_core.specs.Chunks.{settled}
-use Rattle.heap_core.specs.Clients.{CanTurn, after_turn}
-use Rattle.heap_core.specs.Feeding.{FedTo}
-use Rattle.heap_core.specs.Heaps.{HeapFacts, IsStarved, IsStep, IsSure, answered_by, holder_for, starved_on, told_to, turned_for, turned_on, unnamed_on}
-use Rattle.heap_core.specs.declared.heaps.Did.TheVariants.{Turn as DidTurn, Ask as DidAsk}
-use Rattle.heap_core.specs.Logs.{owed_to}
-use Rattle.heap_core.specs.Owing.{IsHeap, asks_at, asks_next, owing}
-use Rattle.heap_core.specs.Records.{Record}
-use Rattle.heap_core.specs.Seats.{Seat, answer_of, seat_at, seat_of}
-use Rattle.heap_core.specs.Sitting.{Comes, SeatSound}
-use Rattle.heap_core.specs.Stepping.{MadeTurn, item_of}
+use Rattle.heap_core.proofs.Words.{inl, inr, ◌≡◌, ◌≢◌, ◌⊎◌, ◌≤◌, ◌<◌, ℕ, ◌+◌, Bool, true, false, List, Option, None, Some, Result, Ok, Err, IfSome, IsOk, IsSomeAnd, slice_set, refl, sym, ap, subst, ◌∙◌, arith, ◌++◌, ◌∷◌, [], AskStep, Shelf, opens, Ask, Op, Reply, AskFacts, Replied, Told, Starved, Answered, NoMemory, Point, More, Turn, moment_of, Goes, Moment, after, starved_after, WantTurn, WantAsk, is_marked, step, want, IsArenas, record_at, reply_in, room_in, spaces_of, settled, CanTurn, after_turn, FedTo, HeapFacts, IsStarved, IsStep, IsSure, answered_by, holder_for, starved_on, told_to, turned_for, turned_on, unnamed_on, DidTurn, DidAsk, owed_to, IsHeap, asks_at, asks_next, owing, Record, Seat, answer_of, seat_at, seat_of, Comes, SeatSound, MadeTurn, item_of}
 use Rattle.heap_core.proofs.Asking.{owed_after}
 use Rattle.heap_core.proofs.Changes.{heap_seated, heap_turned, room_used}
 use Rattle.heap_core.proofs.Sitting.{asks-sit, starves-sit, turns-sit}

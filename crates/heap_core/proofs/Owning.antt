@@ -1,25 +1,6 @@
 -- No chunk comes to have two owners.
-use Rattle.std.proofs.Common.{◌≡◌, ◌≢◌, ◌⊎◌, inl, inr, ℕ, ◌+◌, ◌*◌, ◌/◌, ◌%◌, ◌<◌, ◌≤◌, ◌==◌, ◌&&◌, ◌||◌, Bool, true, false, not, cond, List, [], ◌∷◌, Option, None, Some, find, max, length, get_or, refl, sym, ◌∙◌, ap, subst, arith, ltb as nat_lt, All, suc, zero, ◌-◌, slice_set}
-use Rattle.std.specs.Option.{option_map}
-use Rattle.std.proofs.lemmas.List.Elements.{All-head, All-tail}
-use Rattle.std.proofs.lemmas.List.Sums.{sum_by-cons}
-use Rattle.std.specs.List.{list_any, range_with_len}
-use Rattle.std.proofs.lemmas.Bool.{ltb-true}
-use Rattle.std.proofs.lemmas.Bool.Decides.{nat_tests}
-use Rattle.std.proofs.lemmas.List.{get_or-set_other, get_or-set_same}
-use Rattle.space_model.specs.declared.entries.Op.TheVariants.{GrowDone, Offer, OfferDone, DestroyTake}
-use Rattle.space_model.specs.Opening.{absent_space}
-use Rattle.space_model.specs.Part.{holders}
-use Rattle.space_model.specs.Span.{IsPlaced, chunk_span, chunks_of, has_page, meets}
-use Rattle.space_model.specs.declared.entries.Why.TheVariants.{OffSpace, Unaligned, Meets}
-use Rattle.space_model.specs.Purging.{after_offer, keep_offer, without_offer}
-use Rattle.space_model.specs.Step.{after_grow, grow_unless, is_in_space, is_owned, op_stands, step_of}
-use Rattle.space_model.specs.Journal.{granted_by, is_in_dalloc}
-use Rattle.space_model.proofs.Lists.{ones}
-use Rattle.space_model.proofs.Pieces.{both_true}
-use Rattle.space_model.proofs.Steps.{op_keeps}
-use Rattle.call_table.specs.Words.{Ask, Alloc, Dalloc, Answer, Placed, Refuses, Op, Reply, Grown, Kept, Doomed, Space, Part, Span, Sound, end_of}
-use Rattle.heap_core.specs.Chunks.{Apart, met_by_alloc, met_by_dalloc, met_in, others_of, owns, settled, space_at}
+use Rattle.heap_core.proofs.Words.{◌≡◌, ◌≢◌, ◌⊎◌, inl, inr, ℕ, ◌+◌, ◌*◌, ◌/◌, ◌%◌, ◌<◌, ◌≤◌, ◌==◌, ◌&&◌, ◌||◌, Bool, true, false, not, cond, List, [], ◌∷◌, Option, None, Some, find, max, length, get_or, refl, sym, ◌∙◌, ap, subst, arith, All, suc, zero, ◌-◌, slice_set, option_map, All-head, All-tail, sum_by-cons, list_any, range_with_len, ltb-true, nat_tests, get_or-set_other, get_or-set_same, GrowDone, Offer, OfferDone, DestroyTake, absent_space, holders, IsPlaced, chunk_span, chunks_of, has_page, meets, OffSpace, Unaligned, Meets, after_offer, keep_offer, without_offer, after_grow, grow_unless, is_in_space, is_owned, op_stands, step_of, granted_by, is_in_dalloc, ones, both_true, op_keeps, Ask, Alloc, Dalloc, Answer, Placed, Refuses, Op, Reply, Grown, Kept, Doomed, Space, Part, Span, Sound, end_of, Apart, met_by_alloc, met_by_dalloc, met_in, others_of, owns, settled, space_at}
+use Rattle.std.proofs.Common.{ltb as nat_lt}
 
 -- ---- tests over lists
 

@@ -1,20 +1,5 @@
 -- The regions that go back of those that a client has.
-use Rattle.std.proofs.Common.{◌≡◌, ℕ, ◌+◌, ◌<◌, ◌==◌, ◌&&◌, ◌||◌, Bool, true, false, cond, List, [], ◌∷◌, ◌++◌, All, Option, None, Some, map, take, drop, slice_set, refl, sym, ◌∙◌, ap, subst, arith, nat_lt, filter, fold}
-use Rattle.std.specs.BTreeSet.{insert_key}
-use Rattle.std.specs.List.{flat_map, list_any, sum_by}
-use Rattle.std.specs.Option.{option_map}
-use Rattle.std.specs.Ordering.{nat_cmp}
-use Rattle.std.proofs.lemmas.Bool.{ltb-true}
-use Rattle.std.proofs.lemmas.Bool.Decides.{nat_tests}
-use Rattle.std.proofs.lemmas.List.{length-map}
-use Rattle.std.proofs.Math.ListN.{get_or-map}
-use Rattle.std.proofs.lemmas.List.Concat.{flat_map-cons}
-use Rattle.std.proofs.lemmas.List.Elements.{All-append, All-drop, All-filter, All-take, filter-append}
-use Rattle.std.proofs.lemmas.List.Filters.{sum_by-filter_both}
-use Rattle.std.proofs.lemmas.List.Sums.{sum_by-append, sum_by-cons, sum_by-take-drop}
-use Rattle.thread_cache.specs.Caches.{gone_from, is_elsewhere}
-use Rattle.thread_cache.specs.Desks.{added, addrs_in, gave, gave_with, is_in, least_arena, lesser, older_count}
-use Rattle.call_table.specs.Words.{Held, DeskFacts, BatchFacts, batch_of, going, going_with, is_cacheable, cached_in}
+use Rattle.heap_core.proofs.Words.{◌≡◌, ℕ, ◌+◌, ◌<◌, ◌==◌, ◌&&◌, ◌||◌, Bool, true, false, cond, List, [], ◌∷◌, ◌++◌, All, Option, None, Some, map, take, drop, slice_set, refl, sym, ◌∙◌, ap, subst, arith, nat_lt, filter, fold, insert_key, flat_map, list_any, sum_by, option_map, nat_cmp, ltb-true, nat_tests, length-map, get_or-map, flat_map-cons, All-append, All-drop, All-filter, All-take, filter-append, sum_by-filter_both, sum_by-append, sum_by-cons, sum_by-take-drop, gone_from, is_elsewhere, added, addrs_in, gave, gave_with, is_in, least_arena, lesser, older_count, Held, DeskFacts, BatchFacts, batch_of, going, going_with, is_cacheable, cached_in}
 use Rattle.heap_core.proofs.Entries.{sum_set}
 use Rattle.heap_core.proofs.Having.{Shaped, of_hand, over, set_classed}
 

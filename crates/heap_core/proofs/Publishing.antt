@@ -1,28 +1,6 @@
 -- A client may publish a region that it holds at any moment.
-use Rattle.std.proofs.Common.{rules, ◌≡◌, ◌≢◌, inl, inr, ℕ, ◌*◌, ◌<◌, ◌≤◌, ◌==◌, ◌&&◌, ◌||◌, Bool, true, false, cond, IsTrue, List, [], ◌∷◌, Option, None, Some, length, max, refl, sym, ◌∙◌, ap, subst, arith, lt-ltb}
-use Rattle.std.specs.List.{count_by, list_any}
-use Rattle.std.proofs.lemmas.List.{get_or-set_same}
-use Rattle.std.proofs.lemmas.List.Elements.{All-cons, All-nil}
-use Rattle.std.proofs.lemmas.List.Sums.{sum_by-cons}
-use Rattle.space_model.specs.declared.entries.Op.TheVariants.{Publish}
-use Rattle.space_model.specs.Step.{holds_at, is_live}
-use Rattle.arena_core.specs.Arenas.{emptied_by, room_after, room_of}
-use Rattle.thread_cache.specs.Desks.{not_holding}
-use Rattle.heap_core.specs.Words.{Request, Flush}
-use Rattle.heap_core.specs.Words.{Wish, Then, Batches, Visiting, Change, Stops, Leaves, TurnPoint, Filling, Looking, Landing, Giving, Finding, Changing, Resetting, Destroying, Dooming, Publishing, AskPoint, Skipping, Merging, Point, Turns, Asks, Tells, Next, Go}
-use Rattle.call_table.specs.Words.{Op, Setting, Unbind, SetBound as Bind, Space, Part, Span, Mine, mine, Held, DeskFacts, BatchFacts, batch_of, going_with, held_at}
-use Rattle.call_table.specs.Calls.{CallFacts}
-use Rattle.call_table.specs.Desks.{flushes}
-use Rattle.call_table.specs.Knows.{Alone, Flies, Settled, in_flight, Gets, Gives, HasOffered, Idle, Knows, KnowsAsk, KnowsTurn, Pair, is_held}
-use Rattle.call_table.specs.Laws.{KnowsNext, Ready}
-use Rattle.call_table.specs.Rooms.{flying, needed_at}
-use Rattle.call_table.specs.Runs.{batch_goes, stage}
-use Rattle.call_table.proofs.Beginning.{batches-know}
-use Rattle.call_table.proofs.Own.{Nothing, live_where, region_found}
-use Rattle.heap_core.specs.Arenas.{IsArenas, record_after, record_at, room_in}
-use Rattle.heap_core.specs.Clients.{CanTurn, IsIdle, after_turn, mine_in}
-use Rattle.heap_core.specs.Records.{Record}
-use Rattle.heap_core.specs.Sitting.{AimsSit, Has, HoldersPublish, IsSeated, IsTheHand, Sits, SitsAt, Suits, SuitsAsk, SuitsChange, SuitsGet, SuitsThen, SuitsTurn, is_region}
+use Rattle.heap_core.proofs.Words.{rules, ◌≡◌, ◌≢◌, inl, inr, ℕ, ◌*◌, ◌<◌, ◌≤◌, ◌==◌, ◌&&◌, ◌||◌, Bool, true, false, cond, IsTrue, List, [], ◌∷◌, Option, None, Some, length, max, refl, sym, ◌∙◌, ap, subst, arith, lt-ltb, count_by, list_any, get_or-set_same, All-cons, All-nil, sum_by-cons, Publish, holds_at, is_live, emptied_by, room_after, room_of, not_holding, Request, Flush, Wish, Then, Batches, Visiting, Change, Stops, Leaves, TurnPoint, Filling, Looking, Landing, Giving, Finding, Changing, Resetting, Destroying, Dooming, Publishing, AskPoint, Skipping, Merging, Point, Turns, Asks, Tells, Next, Go, Op, Setting, Unbind, Bind, Space, Part, Span, Mine, mine, Held, DeskFacts, BatchFacts, batch_of, going_with, held_at, CallFacts, flushes, Alone, Flies, Settled, in_flight, Gets, Gives, HasOffered, Idle, Knows, KnowsAsk, KnowsTurn, Pair, is_held, KnowsNext, Ready, flying, needed_at, batch_goes, stage, batches-know, live_where, region_found, IsArenas, record_after, record_at, room_in, CanTurn, IsIdle, after_turn, mine_in, Record, AimsSit, Has, HoldersPublish, IsSeated, IsTheHand, Sits, SitsAt, Suits, SuitsAsk, SuitsChange, SuitsGet, SuitsThen, SuitsTurn, is_region}
+use Rattle.call_table.proofs.Own.{Nothing}
 use Rattle.heap_core.proofs.Clients.{at_or_else, by_arena, sound_at}
 use Rattle.heap_core.proofs.Hands.{had_counts, hands_part, held_is}
 use Rattle.heap_core.proofs.Having.{drop_over, drop_shaped}

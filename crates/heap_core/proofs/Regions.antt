@@ -1,17 +1,5 @@
 -- How the regions that a client holds in an arena come, go and change hands.
-use Rattle.std.proofs.Common.{◌≡◌, ◌≢◌, ℕ, ◌+◌, ◌==◌, ◌&&◌, Bool, true, not, cond, List, [], ◌∷◌, None, map, refl, sym, ◌∙◌, ap, arith, nat_lt, filter}
-use Rattle.std.specs.List.{count_by, list_any, position_or_len, sum_by}
-use Rattle.std.proofs.lemmas.Bool.Decides.{nat_tests}
-use Rattle.std.proofs.lemmas.List.Sums.{sum_by-cons, sum_by-insert}
-use Rattle.space_model.specs.declared.parts.Region.{Region}
-use Rattle.space_model.specs.Holding.{is_held_at}
-use Rattle.space_model.specs.Region.{held_anew, inserted, is_held_by, landing, region_of}
-use Rattle.space_model.specs.Step.{is_given_back, staying}
-use Rattle.space_model.proofs.Landing.{eqb_itself}
-use Rattle.space_model.proofs.Lists.{ones}
-use Rattle.call_table.specs.Words.{Held}
-use Rattle.call_table.specs.Desks.{region_at}
-use Rattle.heap_core.specs.Sitting.{is_region, is_region_in}
+use Rattle.heap_core.proofs.Words.{◌≡◌, ◌≢◌, ℕ, ◌+◌, ◌==◌, ◌&&◌, Bool, true, not, cond, List, [], ◌∷◌, None, map, refl, sym, ◌∙◌, ap, arith, nat_lt, filter, count_by, list_any, position_or_len, sum_by, nat_tests, sum_by-cons, sum_by-insert, Region, is_held_at, held_anew, inserted, is_held_by, landing, region_of, is_given_back, staying, eqb_itself, ones, Held, region_at, is_region, is_region_in}
 
 -- 1 where a region of the arena is at the address and of the class
 abbrev pub one_in : ℕ → ℕ → ℕ → Held → ℕ

@@ -1,27 +1,6 @@
 -- Where a call came, its client is as it has to be.
-use Rattle.std.proofs.Common.{◌≡◌, ℕ, ◌+◌, ◌-◌, ◌/◌, ◌<◌, ◌≤◌, ◌==◌, ◌&&◌, ◌||◌, ◌++◌, Bool, true, false, cond, List, [], ◌∷◌, Option, None, Some, length, map, take, refl, sym, ◌∙◌, ap, subst, arith, min, nat_lt}
-use Rattle.std.specs.List.{count_by, flat_map, list_all, list_any, sum_by}
-use Rattle.std.proofs.lemmas.Bool.{eqb-true, ltb-true}
-use Rattle.std.proofs.lemmas.Bool.Decides.{nat_tests}
-use Rattle.std.proofs.lemmas.List.{length-take}
-use Rattle.std.proofs.lemmas.List.Sums.{sum_by-append, sum_by-cons}
-use Rattle.space_model.specs.declared.parts.Region.{Region as SpaceRegion}
-use Rattle.space_model.specs.Span.{has_page}
-use Rattle.space_model.proofs.Lists.{counted_any, map_terms, ones}
-use Rattle.thread_cache.specs.Desks.{held_again, holding, kept, older_count}
-use Rattle.heap_core.specs.Words.{Request, Cache, Region, Finished, Arena, Limits, Answered, Ok, NoSuchArena as NoArena, Giving, Point, Turns, Next, Go, Over, More, Gone, Ends, Nowhere, Stage}
-use Rattle.call_table.specs.Words.{Mine, mine, Held, DeskFacts, BatchFacts, batch_of, going, going_with, is_cacheable, slots_at, cached_in}
-use Rattle.call_table.specs.Desks.{desk_ended, flushes, region_at, switched}
-use Rattle.call_table.specs.Knows.{Gives, Idle, Knows, is_held, is_served}
-use Rattle.call_table.specs.Laws.{KnowsNext, Ready}
-use Rattle.call_table.specs.Rooms.{flying, needed_at}
-use Rattle.call_table.specs.Runs.{batch_goes, closed, moved, settle}
-use Rattle.call_table.proofs.Beginning.{batches-know}
-use Rattle.space_model.proofs.Pieces.{both_true}
-use Rattle.heap_core.specs.Arenas.{IsArenas, no_record, record_at, room_in}
-use Rattle.heap_core.specs.Clients.{IsIdle, Waits, WaitsNext, mine_in}
-use Rattle.heap_core.specs.Records.{Record}
-use Rattle.heap_core.specs.Sitting.{Comes, Has, Rests, in_hand, is_region, is_region_in, regions_of}
+use Rattle.heap_core.proofs.Words.{◌≡◌, ℕ, ◌+◌, ◌-◌, ◌/◌, ◌<◌, ◌≤◌, ◌==◌, ◌&&◌, ◌||◌, ◌++◌, Bool, true, false, cond, List, [], ◌∷◌, Option, None, Some, length, map, take, refl, sym, ◌∙◌, ap, subst, arith, min, nat_lt, count_by, flat_map, list_all, list_any, sum_by, eqb-true, ltb-true, nat_tests, length-take, sum_by-append, sum_by-cons, SpaceRegion, has_page, counted_any, map_terms, ones, held_again, holding, kept, older_count, Request, Cache, Finished, Arena, Limits, Answered, NoArena, Giving, Point, Turns, Next, Go, Over, More, Gone, Ends, Nowhere, Stage, Mine, mine, Held, DeskFacts, BatchFacts, batch_of, going, going_with, is_cacheable, slots_at, cached_in, desk_ended, flushes, region_at, switched, Gives, Idle, Knows, is_held, is_served, KnowsNext, Ready, flying, needed_at, batch_goes, closed, moved, settle, batches-know, both_true, IsArenas, no_record, record_at, room_in, IsIdle, Waits, WaitsNext, mine_in, Record, Comes, Has, Rests, in_hand, is_region, is_region_in, regions_of}
+use Rattle.heap_core.specs.Words.{Region, Ok}
 use Rattle.heap_core.proofs.Clients.{sound_at}
 use Rattle.heap_core.proofs.Hands.{Count, Hands, Single, had_counts, hand_alone, hands_held, no_more}
 use Rattle.heap_core.proofs.Having.{CanKeep, Settles, Shaped, hold_settles, hold_shaped, keep_settles, of_hand, over}

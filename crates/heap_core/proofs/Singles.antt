@@ -1,24 +1,5 @@
 -- At each address a client holds at most one region, and what it comes to hold is at none of them.
-use Rattle.std.proofs.Common.{◌≡◌, ◌≢◌, ℕ, ◌+◌, ◌-◌, ◌*◌, ◌/◌, ◌^◌, ◌<◌, ◌≤◌, ◌==◌, ◌&&◌, Bool, true, false, cond, List, [], ◌∷◌, All, Option, None, Some, refl, sym, ◌∙◌, ap, arith, suc, zero, filter, find, min}
-use Rattle.std.specs.List.{count_by, sum_by}
-use Rattle.std.specs.Option.{is_none}
-use Rattle.std.proofs.lemmas.Bool.{eqb-true}
-use Rattle.std.proofs.lemmas.Bool.Decides.{nat_tests}
-use Rattle.std.proofs.lemmas.List.Elements.{All-weaker}
-use Rattle.std.proofs.lemmas.List.Sums.{sum_by-cons}
-use Rattle.size_classes.specs.Classes.{regions_at, size_at}
-use Rattle.size_classes.proofs.Table.{pages_bounds, size_bounds, slab_filled}
-use Rattle.space_model.specs.declared.parts.Region.{Region}
-use Rattle.space_model.specs.Holding.{is_published_at}
-use Rattle.space_model.specs.Part.{holders}
-use Rattle.space_model.specs.Region.{covers, held_anew, homes, is_held_by, is_published, sharers}
-use Rattle.space_model.proofs.Landing.{eqb_itself}
-use Rattle.space_model.proofs.Lists.{all_sum_le, find_passes, nothing_sum, ones, only_one, sum_add}
-use Rattle.space_model.proofs.Pieces.{both_true}
-use Rattle.space_model.proofs.Settled.{covered, homes-le-holders}
-use Rattle.call_table.specs.Words.{Space, Part, Sound, pages_at}
-use Rattle.call_table.specs.Desks.{region_at}
-use Rattle.heap_core.specs.Sitting.{is_region}
+use Rattle.heap_core.proofs.Words.{◌≡◌, ◌≢◌, ℕ, ◌+◌, ◌-◌, ◌*◌, ◌/◌, ◌^◌, ◌<◌, ◌≤◌, ◌==◌, ◌&&◌, Bool, true, false, cond, List, [], ◌∷◌, All, Option, None, Some, refl, sym, ◌∙◌, ap, arith, suc, zero, filter, find, min, count_by, sum_by, is_none, eqb-true, nat_tests, All-weaker, sum_by-cons, regions_at, size_at, pages_bounds, size_bounds, slab_filled, Region, is_published_at, holders, covers, held_anew, homes, is_held_by, is_published, sharers, eqb_itself, all_sum_le, find_passes, nothing_sum, ones, only_one, sum_add, both_true, covered, homes-le-holders, Space, Part, Sound, pages_at, region_at, is_region}
 use Rattle.heap_core.proofs.Regions.{count_at, count_sum, one_at, one_in}
 
 -- ---- one at each address

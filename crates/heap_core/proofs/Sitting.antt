@@ -1,16 +1,6 @@
 -- The laws of the clients of a heap, and that the clients of a new one rest.
-use Rattle.std.proofs.Common.{◌≡◌, ℕ, ◌+◌, ◌<◌, ◌≤◌, ◌==◌, ◌||◌, Bool, true, false, cond, List, [], All, refl, sym, ap, subst, arith, suc, zero, nat_lt, get_or, replicate}
-use Rattle.std.specs.List.{count_by, range_with_len}
-use Rattle.std.proofs.lemmas.Bool.{ltb-true}
-use Rattle.std.proofs.lemmas.Bool.Decides.{nat_tests}
-use Rattle.std.proofs.lemmas.List.Elements.{All-nil}
+use Rattle.heap_core.proofs.Words.{◌≡◌, ℕ, ◌+◌, ◌<◌, ◌≤◌, ◌==◌, ◌||◌, Bool, true, false, cond, List, [], All, refl, sym, ap, subst, arith, suc, zero, nat_lt, get_or, replicate, count_by, range_with_len, ltb-true, nat_tests, All-nil, absent_space, first_space, Mine, mine, Held, no_record, opening_records, mine_in, Record, opening, OpeningSits, is_region}
 use Rattle.space_model.specs.Clients.{is_in}
-use Rattle.space_model.specs.Opening.{absent_space, first_space}
-use Rattle.call_table.specs.Words.{Mine, mine, Held}
-use Rattle.heap_core.specs.Arenas.{no_record, opening_records}
-use Rattle.heap_core.specs.Clients.{mine_in}
-use Rattle.heap_core.specs.Records.{Record, opening}
-use Rattle.heap_core.specs.Sitting.{OpeningSits, is_region}
 use Rattle.heap_core.proofs.Entries.{IsKeyed}
 use Rattle.heap_core.proofs.Turned.{opening_at, past}
 pub use Rattle.heap_core.proofs.Begins.{starts-sit}

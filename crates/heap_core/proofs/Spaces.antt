@@ -1,9 +1,5 @@
 -- Tests over arenas are tests over their spaces.
-use Rattle.std.proofs.Common.{◌≡◌, ℕ, suc, zero, ◌+◌, ◌||◌, Bool, true, false, List, [], ◌∷◌, take, drop, refl, ◌∙◌, ap, arith}
-use Rattle.std.specs.List.{list_any}
-use Rattle.heap_core.specs.Arenas.{spaces_of}
-use Rattle.heap_core.specs.Chunks.{others_of, owns}
-use Rattle.heap_core.specs.Records.{Record}
+use Rattle.heap_core.proofs.Words.{◌≡◌, ℕ, suc, zero, ◌+◌, ◌||◌, Bool, true, false, List, [], ◌∷◌, take, drop, refl, ◌∙◌, ap, arith, list_any, spaces_of, others_of, owns, Record}
 
 pub any_of_spaces : (chunk : ℕ) (rs : List Record) → list_any (λ r. owns chunk r.space) rs ≡ list_any (owns chunk) (spaces_of rs)
 any_of_spaces chunk [] = refl

@@ -1,11 +1,7 @@
 -- Which operations of an arena leave its regions and its clients alone.
-use Rattle.std.proofs.Common.{◌≡◌, ℕ, true, false, cond, List, [], ◌∷◌, ◌++◌, refl, arith}
-use Rattle.std.proofs.lemmas.Bool.Decides.{nat_tests}
-use Rattle.space_model.specs.declared.entries.Op.TheVariants.{Look, CutDone, GrowDone, CommitDone, Land, Back, PutLook, MergeDone, Fill, Advance, PurgeTake, LazyDone, Offer, OfferDone, DecommitDone, ForcedDone, Publish, TakeOver, Reset, Destroy, DestroyTake, Set}
-use Rattle.space_model.specs.Clients.{is_in, with_client}
-use Rattle.space_model.specs.Settings.{after_set}
-use Rattle.space_model.specs.Step.{step_of}
-use Rattle.call_table.specs.Words.{Op, Setting, Unbind, DirtyMs, SetBound as Bind, Space}
+use Rattle.heap_core.proofs.Words.{◌≡◌, ℕ, true, false, cond, List, [], ◌∷◌, ◌++◌, refl, arith, nat_tests, Look, CutDone, GrowDone, CommitDone, Land, Back, PutLook, MergeDone, Fill, Advance, PurgeTake, LazyDone, Offer, OfferDone, DecommitDone, ForcedDone, Publish, TakeOver, DestroyTake, Set, with_client, after_set, step_of, Op, Setting, Unbind, DirtyMs, Bind, Space}
+use Rattle.space_model.specs.declared.entries.Op.TheVariants.{Reset, Destroy}
+use Rattle.space_model.specs.Clients.{is_in}
 
 -- The regions and the clients of an arena stay.
 pub record Steady (s t : Space) : Type 0 where

@@ -1,15 +1,6 @@
 -- What a client has suits each point to which its call comes.
-use Rattle.std.proofs.Common.{rules, ◌≡◌, ℕ, ◌<◌, ◌≤◌, true, false, List, [], ◌∷◌, None, refl, sym, ◌∙◌, subst, arith, nat_lt}
-use Rattle.std.proofs.lemmas.Bool.{cond_both, ltb-true}
-use Rattle.std.proofs.lemmas.Bool.Decides.{nat_tests}
-use Rattle.thread_cache.specs.Desks.{discarding}
-use Rattle.heap_core.specs.Words.{Request, Given, Region, Answered, Ok}
-use Rattle.heap_core.specs.Words.{Change, Stops, Visits, Leaves, TurnPoint, Filling, Looking, Landing, Changing, Making, Resetting, Owning, AskPoint, Skipping, Next, Go, Over, Ends}
-use Rattle.call_table.specs.Words.{Reply, Nothing, Noted, Took, Grow, Refuse, Landed, Regions, Owned, Setting, SetBound as Bind, AskFacts, Held, DeskFacts}
-use Rattle.call_table.specs.Desks.{desk_turned, landed_behind, region_at, sharing}
-use Rattle.call_table.specs.Rooms.{needed_at}
-use Rattle.call_table.specs.Table.{make_next, told, turned}
-use Rattle.heap_core.specs.Sitting.{HasSlots, IsPlain, Suits, SuitsChange, SuitsAsk, SuitsTurn}
+use Rattle.heap_core.proofs.Words.{rules, ◌≡◌, ℕ, ◌<◌, ◌≤◌, true, false, List, [], ◌∷◌, None, refl, sym, ◌∙◌, subst, arith, nat_lt, cond_both, ltb-true, nat_tests, discarding, Request, Given, Answered, Change, Stops, Visits, Leaves, TurnPoint, Filling, Looking, Landing, Changing, Making, Resetting, Owning, AskPoint, Skipping, Next, Go, Over, Ends, Reply, Nothing, Noted, Took, Grow, Refuse, Landed, Regions, Owned, Setting, Bind, AskFacts, Held, DeskFacts, desk_turned, landed_behind, region_at, sharing, needed_at, make_next, told, turned, HasSlots, IsPlain, Suits, SuitsChange, SuitsAsk, SuitsTurn}
+use Rattle.heap_core.specs.Words.{Region, Ok}
 use Rattle.heap_core.proofs.Having.{CanKeep, cache_hand}
 
 -- a region that came by a turn and is handed out

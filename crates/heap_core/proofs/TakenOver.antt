@@ -1,28 +1,8 @@
 -- A region that its holder publishes for another client's call.
-use Rattle.std.proofs.Common.{inl, ◌≡◌, ◌≢◌, ◌≤◌, ◌<◌, ℕ, ◌+◌, true, false, List, Option, None, Some, Ok, Err, IsSomeAnd, is_some, length, get_or, slice_set, refl, sym, ap, subst, ◌∙◌, arith}
-use Rattle.std.specs.Option.{option_map}
-use Rattle.std.proofs.lemmas.List.{get_or_default, get_or-set_other, get_or-set_same}
-use Rattle.std.proofs.lemmas.List.Quantifiers.{position-Some}
-use Rattle.space_model.specs.declared.entries.Op.TheVariants.{Publish, TakeOver}
-use Rattle.hook_api.specs.Shelf.{Shelf}
-use Rattle.thread_cache.specs.Desks.{not_holding}
-use Rattle.call_table.specs.Words.{Reply, AskFacts, Held, held_at}
-use Rattle.heap_core.specs.Words.{Owning, Turns, Next, Go}
-use Rattle.call_table.specs.declared.needs.Turn.{Turn}
-use Rattle.call_table.specs.Calls.{CallFacts}
-use Rattle.call_table.specs.Reads.{aimed, published_next, taken_next}
-use Rattle.heap_core.specs.Arenas.{IsArenas, room_in, turned}
-use Rattle.heap_core.specs.Clients.{CanTurn, after_turn}
-use Rattle.heap_core.specs.Feeding.{aimed_seat}
-use Rattle.heap_core.specs.Heaps.{HeapFacts, IsMade, IsStep, IsSure, SureAt, WantedAt, answered_by, holder_at, holder_for, parted, published_for, region_at, region_for, seated, turned_for}
-use Rattle.heap_core.specs.declared.heaps.Did.TheVariants.{Turn as DidTurn}
+use Rattle.heap_core.proofs.Words.{inl, ◌≡◌, ◌≢◌, ◌≤◌, ◌<◌, ℕ, ◌+◌, true, false, List, Option, None, Some, Ok, Err, IsSomeAnd, is_some, length, get_or, slice_set, refl, sym, ap, subst, ◌∙◌, arith, option_map, get_or_default, get_or-set_other, get_or-set_same, position-Some, Publish, TakeOver, Shelf, not_holding, Reply, AskFacts, Held, held_at, Owning, Turns, Next, Go, Turn, CallFacts, aimed, published_next, taken_next, IsArenas, room_in, CanTurn, after_turn, aimed_seat, HeapFacts, IsMade, IsStep, IsSure, SureAt, WantedAt, answered_by, holder_at, holder_for, parted, published_for, region_for, seated, turned_for, DidTurn, owed_to, IsHeap, asks_next, owing, Record, Seat, first_seat, holder_of, seat_at, IsSeated, SeatSound, Sits, SitsAt, HolderIs, IsPublished, MadeTurn, StarvesAt, StarvesNext, TakesAt}
+use Rattle.heap_core.specs.Arenas.{turned}
+use Rattle.heap_core.specs.Heaps.{region_at}
 use Rattle.heap_core.specs.declared.heaps.Stepped.{Stepped}
-use Rattle.heap_core.specs.Logs.{owed_to}
-use Rattle.heap_core.specs.Owing.{IsHeap, asks_next, owing}
-use Rattle.heap_core.specs.Records.{Record}
-use Rattle.heap_core.specs.Seats.{Seat, first_seat, holder_of, seat_at}
-use Rattle.heap_core.specs.Sitting.{IsSeated, SeatSound, Sits, SitsAt}
-use Rattle.heap_core.specs.Stepping.{HolderIs, IsPublished, MadeTurn, StarvesAt, StarvesNext, TakesAt}
 use Rattle.heap_core.proofs.Asking.{few_asks}
 use Rattle.heap_core.proofs.Clients.{at_or_else}
 use Rattle.heap_core.proofs.Changes.{heap_seated, heap_turned, room_elsewhere}

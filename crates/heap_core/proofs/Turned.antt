@@ -1,29 +1,5 @@
 -- What a turn in one of the arenas leaves of all of them.
-use Rattle.std.proofs.Common.{inr, ◌≡◌, ℕ, ◌+◌, ◌/◌, ◌<◌, ◌≤◌, ◌^◌, ◌==◌, Bool, true, false, cond, suc, zero, List, [], ◌∷◌, Option, Result, Ok, Err, OnOk, OnErr, IfSome, IsSomeAnd, length, nat_lt, map, slice_set, get_or, refl, sym, ◌∙◌, ap, subst, arith, IsTrue}
-use Rattle.std.specs.List.{list_any, range_with_len}
-use Rattle.std.proofs.lemmas.Bool.{ltb-true}
-use Rattle.std.proofs.lemmas.Bool.Decides.{nat_tests}
-use Rattle.std.proofs.lemmas.Grind.{same_number_lists}
-use Rattle.std.proofs.lemmas.List.FromFn.{get_or-map-range_with_len, get_or-range_with_len}
-use Rattle.hook_api.specs.declared.kept.Journal.{Journal}
-use Rattle.hook_api.specs.Journals.{IsByIndex}
-use Rattle.std.proofs.lemmas.List.{get_or_default, get_or-set_other, get_or-set_same, length-map, length-set, map-set, set-get_or}
-use Rattle.std.proofs.Math.ListN.{get_or-map}
-use Rattle.space_model.specs.declared.entries.Op.TheVariants.{GrowDone, OfferDone}
-use Rattle.arena_core.proofs.Emptying.{any_counts}
-use Rattle.space_model.specs.Span.{chunk_span, has_page, meets}
-use Rattle.space_model.specs.Step.{op_stands, stands, step_of}
-use Rattle.space_model.specs.Journal.{all_stand, replay}
-use Rattle.space_model.specs.Opening.{absent_space, first_space}
-use Rattle.space_model.proofs.LawLemmas.{first_replays_are_good, absent_replays_are_good}
-use Rattle.space_model.proofs.Pieces.{both_true}
-use Rattle.hook_api.specs.Asked.{heard_in}
-use Rattle.hook_api.specs.Kept.{IsKept, KeptFacts, heard_of}
-use Rattle.arena_core.specs.Arenas.{all_rooms, room_of, entry_of}
-use Rattle.call_table.specs.Words.{Op, Reply, Space, Sound, AskFacts}
-use Rattle.heap_core.specs.Arenas.{AreRecorded, room_in, IsArenas, journal_of, no_record, opening_record, opening_records, record_after, record_at, spaces_of}
-use Rattle.heap_core.specs.Chunks.{Apart, owns, settled, space_at}
-use Rattle.heap_core.specs.Records.{IsReplayed, most_room, Record, entries_of, opening}
+use Rattle.heap_core.proofs.Words.{inr, ◌≡◌, ℕ, ◌+◌, ◌/◌, ◌<◌, ◌≤◌, ◌^◌, ◌==◌, Bool, true, false, cond, suc, zero, List, [], ◌∷◌, Option, Result, Ok, Err, OnOk, OnErr, IfSome, IsSomeAnd, length, nat_lt, map, slice_set, get_or, refl, sym, ◌∙◌, ap, subst, arith, IsTrue, list_any, range_with_len, ltb-true, nat_tests, same_number_lists, get_or-map-range_with_len, get_or-range_with_len, Journal, IsByIndex, get_or_default, get_or-set_other, get_or-set_same, length-map, length-set, map-set, set-get_or, get_or-map, GrowDone, OfferDone, any_counts, chunk_span, has_page, meets, op_stands, stands, step_of, all_stand, replay, absent_space, first_space, first_replays_are_good, absent_replays_are_good, both_true, heard_in, IsKept, KeptFacts, heard_of, all_rooms, room_of, entry_of, Op, Reply, Space, Sound, AskFacts, AreRecorded, room_in, IsArenas, journal_of, no_record, opening_record, opening_records, record_after, record_at, spaces_of, Apart, owns, settled, space_at, IsReplayed, most_room, Record, entries_of, opening}
 use Rattle.heap_core.proofs.Owning.{apart_turn, page_owned}
 
 -- what a journal leaves is sound

@@ -1,18 +1,5 @@
 -- What a turn does to a journal and to the places behind it.
-use Rattle.std.proofs.Common.{◌≡◌, ℕ, ◌+◌, ◌-◌, ◌*◌, ◌<◌, ◌≤◌, ◌&&◌, Bool, true, false, List, [], ◌∷◌, ◌++◌, length, max, cond, refl, sym, ◌∙◌, ap, subst, arith, nat_lt, IsTrue}
-use Rattle.std.proofs.lemmas.Bool.{ltb-true}
-use Rattle.std.proofs.lemmas.List.{length-set}
-use Rattle.std.proofs.lemmas.List.Sums.{get_or-le-sum_by}
-use Rattle.space_model.specs.declared.entries.Entry.{Entry}
-use Rattle.space_model.specs.Step.{op_stands, space_after, stands}
-use Rattle.space_model.specs.Journal.{all_stand, replay}
-use Rattle.hook_api.specs.Kept.{KeptFacts}
-use Rattle.arena_core.specs.Arenas.{all_rooms, emptied_by, entry_of, given_by, opens, room_after, room_of, rooms_after}
-use Rattle.space_model.proofs.Pieces.{both_true}
-use Rattle.arena_core.proofs.RoomSums.{rooms_with}
-use Rattle.call_table.specs.Words.{Op, Space}
-use Rattle.heap_core.specs.Records.{IsRecorded, IsReplayed, Record, entries_of, most_room, opening, shown}
-use Rattle.heap_core.specs.declared.records.Recorded.TheInside.{Inside}
+use Rattle.heap_core.proofs.Words.{◌≡◌, ℕ, ◌+◌, ◌-◌, ◌*◌, ◌<◌, ◌≤◌, ◌&&◌, Bool, true, false, List, [], ◌∷◌, ◌++◌, length, max, cond, refl, sym, ◌∙◌, ap, subst, arith, nat_lt, IsTrue, ltb-true, length-set, get_or-le-sum_by, Entry, op_stands, space_after, stands, all_stand, replay, KeptFacts, all_rooms, emptied_by, entry_of, given_by, opens, room_after, room_of, rooms_after, both_true, rooms_with, Op, Space, IsRecorded, IsReplayed, Record, entries_of, most_room, opening, shown, Inside}
 
 -- a journal with one more entry that may stand leaves what that entry leaves
 one_more : (s : Space) (es : List Entry) (e : Entry) → all_stand s es ≡ true → stands (replay s es) e ≡ true →

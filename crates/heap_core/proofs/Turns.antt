@@ -1,28 +1,7 @@
 -- The turn that a call wants leads on, with all that its client has.
-use Rattle.std.proofs.Common.{rules, ◌≡◌, ◌≢◌, ◌⊎◌, inl, inr, ℕ, ◌<◌, true, false, cond, IsTrue, List, [], ◌∷◌, Option, None, Some, Ok, Result, slice_set, refl, sym, ◌∙◌, ap, subst, arith}
-use Rattle.std.specs.List.{count_by}
-use Rattle.space_model.specs.declared.entries.Op.TheVariants.{Set}
+use Rattle.heap_core.proofs.Words.{rules, ◌≡◌, ◌≢◌, ◌⊎◌, inl, inr, ℕ, ◌<◌, true, false, cond, IsTrue, List, [], ◌∷◌, Option, None, Some, Ok, Result, slice_set, refl, sym, ◌∙◌, ap, subst, arith, count_by, Set, with_setting, is_live, stands, stays, step_of, Stepped, entry_of, gave, Request, Item, Replied, Told, Starved, NoMemory, Change, Stops, Visits, Leaves, TurnPoint, Filling, Landing, Giving, Changing, Making, Resetting, Destroying, Publishing, Owning, AskPoint, Skipping, Point, Turns, Asks, Tells, Next, Go, More, Ends, Op, Reply, Noted, Landed, NextFlight, Regions, Owned, Setting, Unbind, Bind, MakeLive, Space, Mine, mine, AskFacts, Held, DeskFacts, freeing, CallFacts, desk_fed, desk_turned, landed_behind, region_at, sharing, Idle, KnowsTurn, is_of_arena, after, closed, moved, stage, step_next, WantTurn, WantAsk, done_of, is_marked, op_of, starved, step, want, IsArenas, record_after, record_at, reply_in, spaces_of, settled, CanTurn, IsIdle, Waits, WaitsNext, after_turn, mine_in, IsReplayed, Record, seat_of, AsksSit, Comes, Has, IsSeated, OthersSit, SeatSound, Sits, SitsAt, StarvesSit, Suits, SuitsChange, SuitsTurn, TurnsSit, is_region, never_starves}
 use Rattle.space_model.specs.Clients.{is_in}
-use Rattle.space_model.specs.Settings.{with_setting}
-use Rattle.space_model.specs.Step.{is_live, stands, stays, step_of}
-use Rattle.space_model.specs.Stepped.{Stepped}
-use Rattle.arena_core.specs.Arenas.{entry_of}
-use Rattle.thread_cache.specs.Desks.{gave}
-use Rattle.heap_core.specs.Words.{Request, Item, Replied, Told, Starved, NoMemory}
-use Rattle.heap_core.specs.Words.{Change, Stops, Visits, Leaves, TurnPoint, Filling, Landing, Giving, Changing, Making, Resetting, Destroying, Publishing, Owning, AskPoint, Skipping, Point, Turns, Asks, Tells, Next, Go, More, Ends}
-use Rattle.call_table.specs.Words.{Op, Reply, NoArena, Noted, Landed, NextFlight, Regions, Owned, Setting, Unbind, SetBound as Bind, MakeLive, Space, Mine, mine, AskFacts, Held, DeskFacts, freeing}
-use Rattle.call_table.specs.Calls.{CallFacts}
-use Rattle.call_table.specs.Desks.{desk_fed, desk_turned, landed_behind, region_at, sharing}
-use Rattle.call_table.specs.Knows.{Idle, KnowsTurn, is_of_arena}
-use Rattle.call_table.specs.Runs.{after, closed, moved, stage, step_next}
-use Rattle.call_table.specs.Table.{WantTurn, WantAsk, done_of, is_marked, op_of, starved, step, want}
-use Rattle.heap_core.specs.Arenas.{IsArenas, record_after, record_at, reply_in, spaces_of}
-use Rattle.heap_core.specs.Chunks.{settled}
-use Rattle.heap_core.specs.Clients.{CanTurn, IsIdle, Waits, WaitsNext, after_turn, mine_in}
-use Rattle.heap_core.specs.Records.{IsReplayed, Record}
-use Rattle.heap_core.specs.Seats.{seat_of}
-use Rattle.heap_core.specs.Sitting.{AsksSit, Comes, Has, IsSeated, OthersSit, SeatSound, Sits, SitsAt, StarvesSit, Suits, SuitsChange, SuitsTurn, TurnsSit, is_region}
-use Rattle.call_table.proofs.Steps.{never_starves}
+use Rattle.call_table.specs.Words.{NoArena}
 use Rattle.heap_core.proofs.Carrying.{carries}
 use Rattle.heap_core.proofs.Clients.{asks-lead_on, at_or_else, elsewhere_is, others-stay, others_own, sound_at, there_is, turns-lead_on}
 use Rattle.heap_core.proofs.Having.{cache_arena}

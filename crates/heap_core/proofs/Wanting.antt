@@ -1,28 +1,6 @@
 -- What a client's open call wants, and where a step for it leads.
-use Rattle.std.proofs.Common.{inl, inr, ◌≡◌, ◌⊎◌, ◌≤◌, ◌<◌, ℕ, ◌+◌, true, false, List, Option, None, Some, Result, Ok, IfSome, IsSomeAnd, refl, sym, ap, subst, ◌∙◌, arith}
-use Rattle.hook_api.specs.Shelf.{Shelf}
-use Rattle.arena_core.specs.Arenas.{opens}
-use Rattle.heap_core.specs.Words.{Item, Told, Starved, Answered, NoMemory, TurnPoint, Dooming, Owning, AskPoint, Needing, Point, Turns, Asks, Tells, Next, Go, More, Ends}
-use Rattle.call_table.specs.Words.{Ask, Op, AskFacts, DeskFacts}
-use Rattle.call_table.specs.declared.needs.Need.{Need}
-use Rattle.call_table.specs.declared.needs.Need.TheVariants.{Turn as NeedsTurn, Ask as NeedsAsk}
-use Rattle.call_table.specs.declared.needs.Turn.{Turn}
-use Rattle.call_table.specs.Calls.{CallFacts, moment_of}
-use Rattle.call_table.specs.Desks.{desk_fed}
-use Rattle.call_table.specs.Needs.{NeedIs, NeedsWant}
-use Rattle.call_table.specs.Reads.{taken_next}
-use Rattle.call_table.specs.Runs.{Moment, after, moved, starved_after, step_next}
-use Rattle.call_table.specs.Table.{Want, WantTurn, WantAsk, done_of, is_marked, op_of, starved, step, want}
-use Rattle.heap_core.specs.Arenas.{room_in}
-use Rattle.heap_core.specs.Feeding.{FedTo, NeedOf}
-use Rattle.call_table.proofs.Steps.{never_starves}
-use Rattle.heap_core.specs.Heaps.{HeapFacts, IsMade, IsStep, IsSure, SureAt, SureFor, WantedAt}
+use Rattle.heap_core.proofs.Words.{inl, inr, ◌≡◌, ◌⊎◌, ◌≤◌, ◌<◌, ℕ, ◌+◌, true, false, List, Option, None, Some, Result, Ok, IfSome, IsSomeAnd, refl, sym, ap, subst, ◌∙◌, arith, Shelf, opens, Item, Told, Starved, Answered, NoMemory, TurnPoint, Dooming, Owning, AskPoint, Needing, Point, Turns, Asks, Tells, Next, Go, More, Ends, Ask, Op, AskFacts, DeskFacts, Need, NeedsTurn, NeedsAsk, Turn, CallFacts, moment_of, desk_fed, NeedIs, NeedsWant, taken_next, Moment, after, moved, starved_after, step_next, Want, WantTurn, WantAsk, done_of, is_marked, op_of, starved, step, want, room_in, FedTo, NeedOf, never_starves, HeapFacts, IsMade, IsStep, IsSure, SureAt, SureFor, WantedAt, asks_at, asks_next, owing, Record, Seat, answer_of, seat_at, seat_of, IsSeated, SeatSound, Sits, SitsAt, IsMarked, Needs, StarvesAt, StarvesNext}
 use Rattle.heap_core.specs.declared.heaps.Stepped.{Stepped}
-use Rattle.heap_core.specs.Owing.{asks_at, asks_next, owing}
-use Rattle.heap_core.specs.Records.{Record}
-use Rattle.heap_core.specs.Seats.{Seat, answer_of, seat_at, seat_of}
-use Rattle.heap_core.specs.Sitting.{IsSeated, SeatSound, Sits, SitsAt}
-use Rattle.heap_core.specs.Stepping.{IsMarked, Needs, StarvesAt, StarvesNext}
 
 -- ---- the point of an open call
 

@@ -1,34 +1,5 @@
 -- After a step an arena owns just the chunks that its extents meet.
-use Rattle.std.proofs.Common.{◌≡◌, ◌⊎◌, inl, inr, ℕ, ◌+◌, ◌*◌, ◌-◌, ◌/◌, ◌%◌, ◌<◌, ◌≤◌, ◌==◌, ◌&&◌, ◌||◌, Bool, true, false, not, cond, List, Option, None, Some, find, max, refl, sym, ◌∙◌, ap, subst, arith, nat_lt, All, suc, zero}
-use Rattle.std.specs.Option.{option_map}
-use Rattle.std.specs.List.{list_any, range_with_len}
-use Rattle.std.proofs.lemmas.Bool.{ltb-true}
-use Rattle.std.proofs.lemmas.Bool.Decides.{nat_tests}
-use Rattle.std.proofs.lemmas.List.Folds.{Any-from_list_any, list_any-from_Any}
-use Rattle.chunk_table.specs.declared.view.Share.{Share}
-use Rattle.chunk_table.specs.Rule.{owns}
-use Rattle.space_model.specs.declared.asks.Ask.{Ask}
-use Rattle.space_model.specs.declared.asks.Ask.TheVariants.{Alloc, Dalloc}
-use Rattle.space_model.specs.declared.asks.Answer.{Answer}
-use Rattle.space_model.specs.declared.asks.Answer.TheVariants.{Refused as Refuses, Placed}
-use Rattle.space_model.specs.declared.entries.Op.{Op}
-use Rattle.space_model.specs.declared.entries.Op.TheVariants.{GrowDone, Offer, OfferDone, DestroyTake}
-use Rattle.space_model.specs.declared.entries.Reply.{Reply}
-use Rattle.space_model.specs.declared.entries.Reply.TheVariants.{Doomed, Grown, Kept}
-use Rattle.space_model.specs.declared.entries.Why.TheVariants.{OffSpace, Unaligned, Meets}
-use Rattle.space_model.specs.declared.parts.Part.{Part}
-use Rattle.space_model.specs.declared.parts.Span.{Span}
-use Rattle.space_model.specs.declared.spaces.Space.{Space}
-use Rattle.space_model.specs.Part.{holders}
-use Rattle.space_model.specs.Span.{IsPlaced, chunk_span, chunks_of, end_of, has_page, meets}
-use Rattle.space_model.specs.Sound.{Sound}
-use Rattle.space_model.specs.Purging.{after_offer, keep_offer, without_offer}
-use Rattle.space_model.specs.Step.{after_grow, grow_unless, is_in_space, is_owned, op_stands, step_of}
-use Rattle.space_model.specs.Journal.{granted_by, is_in_dalloc}
-use Rattle.space_model.proofs.Lists.{any_counts, counted_any, ones}
-use Rattle.space_model.proofs.Steps.{op_keeps}
-use Rattle.arena_core.specs.Arenas.{opens}
-use Rattle.heap_shared.specs.Claims.{Claimed, IsBefore, Released, found_in, granted_span, is_in, is_met, refused_span, touched, wanted}
+use Rattle.heap_shared.proofs.Words.{◌≡◌, ◌⊎◌, inl, inr, ℕ, ◌+◌, ◌*◌, ◌-◌, ◌/◌, ◌%◌, ◌<◌, ◌≤◌, ◌==◌, ◌&&◌, ◌||◌, Bool, true, false, not, cond, List, Option, None, Some, find, max, refl, sym, ◌∙◌, ap, subst, arith, nat_lt, All, suc, zero, option_map, list_any, range_with_len, ltb-true, nat_tests, Any-from_list_any, list_any-from_Any, Share, owns, Ask, Alloc, Dalloc, Answer, Refuses, Placed, Op, GrowDone, Offer, OfferDone, DestroyTake, Reply, Doomed, Grown, Kept, OffSpace, Unaligned, Meets, Part, Span, Space, holders, IsPlaced, chunk_span, chunks_of, end_of, has_page, meets, Sound, after_offer, keep_offer, without_offer, after_grow, grow_unless, is_in_space, is_owned, op_stands, step_of, granted_by, is_in_dalloc, any_counts, counted_any, ones, op_keeps, opens, Claimed, IsBefore, Released, found_in, granted_span, is_in, is_met, refused_span, touched, wanted}
 
 -- ---- chunks and their pages
 

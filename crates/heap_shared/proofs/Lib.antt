@@ -1,3 +1,4 @@
+pub mod Words
 mod Chunks
 mod Rooms
 mod Sweeps

@@ -1,21 +1,5 @@
 -- The rooms of the clients, and what an entry does to what a client owns.
-use Rattle.std.proofs.Common.{◌≡◌, ◌≢◌, ℕ, ◌<◌, ◌++◌, false, IsTrue, List, [], ◌∷◌, Option, length, sym, refl, ap, ◌∙◌, subst}
-use Rattle.std.proofs.lemmas.List.{get_or-set_other, get_or-set_same, length-set}
-use Rattle.std.specs.declared.snapshot.Snapshot.{Snapshot}
-use Rattle.space_model.specs.declared.entries.Entry.{Entry}
-use Rattle.space_model.specs.declared.entries.Op.{Op}
-use Rattle.space_model.specs.declared.entries.Reply.{Reply}
-use Rattle.space_model.specs.Own.{mine}
-use Rattle.space_model.specs.Sound.{Sound}
-use Rattle.space_model.specs.declared.entries.Op.TheVariants.{GrowDone, OfferDone}
-use Rattle.space_model.specs.declared.spaces.Space.{Space}
-use Rattle.space_model.specs.Step.{space_after, reply_to, stands}
-use Rattle.arena_core.specs.Arenas.{Standing, entry_of, opens, room_after, room_of, rooms_after}
-use Rattle.turn_lock.specs.declared.view.Turn.{Turn}
-use Rattle.turn_lock.specs.History.{replay}
-use Rattle.chunk_table.specs.declared.table.ChunkTable.{ChunkTable}
-use Rattle.heap_shared.specs.Claims.{with_found}
-use Rattle.heap_shared.specs.Shared.{Facts, Logs, MayStand, after_entry, facts_of, owned_by}
+use Rattle.heap_shared.proofs.Words.{◌≡◌, ◌≢◌, ℕ, ◌<◌, ◌++◌, false, IsTrue, List, [], ◌∷◌, Option, length, sym, refl, ap, ◌∙◌, subst, get_or-set_other, get_or-set_same, length-set, Snapshot, Entry, Op, Reply, mine, Sound, GrowDone, OfferDone, Space, space_after, reply_to, stands, Standing, entry_of, opens, room_after, room_of, rooms_after, Turn, replay, ChunkTable, with_found, Facts, Logs, MayStand, after_entry, facts_of, owned_by}
 
 -- whether an operation may stand, and whether it is the first of a unit, has nothing to do with what is found
 found_stands : (s : Space) (client : ℕ) (op : Op) (chunk : Option ℕ) → stands s (entry_of client (with_found op chunk)) ≡ stands s (entry_of client op)

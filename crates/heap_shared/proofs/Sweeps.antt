@@ -1,16 +1,5 @@
 -- Claims and releases of the chunks of a span, one after another.
-use Rattle.std.proofs.Common.{◌≡◌, ℕ, ◌+◌, ◌<◌, ◌≤◌, ◌==◌, ◌&&◌, ◌||◌, true, false, not, cond, Option, None, refl, sym, ◌∙◌, ap, subst, arith, nat_lt, nat_le}
-use Rattle.std.proofs.lemmas.Bool.Decides.{nat_tests}
-use mathlib.Core.Logic.{dite}
-use native.Mathlib.Decide.{ℕ_discrete}
-use Rattle.chunk_table.specs.declared.view.Share.{Share}
-use Rattle.chunk_table.specs.Rule.{owns}
-use Rattle.chunk_table.specs.Steps.{without}
-use Rattle.chunk_table.proofs.Keeps.{any_without}
-use Rattle.space_model.specs.declared.entries.Op.{Op}
-use Rattle.space_model.specs.declared.entries.Op.TheVariants.{GrowDone, OfferDone}
-use Rattle.space_model.specs.declared.spaces.Space.{Space}
-use Rattle.heap_shared.specs.Claims.{Claimed, found_in, is_met, wanted, with_found}
+use Rattle.heap_shared.proofs.Words.{◌≡◌, ℕ, ◌+◌, ◌<◌, ◌≤◌, ◌==◌, ◌&&◌, ◌||◌, true, false, not, cond, Option, None, refl, sym, ◌∙◌, ap, subst, arith, nat_lt, nat_le, nat_tests, dite, ℕ_discrete, Share, owns, without, any_without, Op, GrowDone, OfferDone, Space, Claimed, found_in, is_met, wanted, with_found}
 
 -- the chunks from one number up to another were claimed, but for those that were owned, and no claim failed
 pub record ClaimedTo (low k : ℕ) (old new : Share) : Type 0 where

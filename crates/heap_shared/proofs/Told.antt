@@ -1,20 +1,5 @@
 -- What a turn of the lock tells of the arena.
-use Rattle.std.proofs.Common.{◌≡◌, Result, Ok, Err, IfOk, ◌<◌, sym, ap, ◌∙◌, subst}
-use Rattle.std.specs.declared.snapshot.Snapshot.{Snapshot}
-use Rattle.space_model.specs.declared.entries.Entry.{Entry}
-use Rattle.space_model.specs.declared.entries.Op.{Op}
-use Rattle.space_model.specs.declared.entries.Reply.{Reply}
-use Rattle.space_model.specs.Own.{mine}
-use Rattle.space_model.specs.Step.{space_after, reply_to}
-use Rattle.arena_core.specs.Arenas.{entry_of, room_after}
-use Rattle.turn_lock.specs.declared.machine.Machine.{Ghosts}
-use Rattle.turn_lock.specs.declared.lock.TurnLock.{TurnLock}
-use Rattle.turn_lock.specs.declared.lock.Pass.{Pass}
-use Rattle.turn_lock.specs.History.{replay}
-use Rattle.turn_lock.specs.Locks.{first, number, seen, Turned as LockTurned}
-use Rattle.heap_shared.specs.Claims.{with_found}
-use Rattle.heap_shared.specs.Shared.{Facts, Logs, Owned, after_entry, owned_by}
-use Rattle.heap_shared.specs.Turns.{Turned, space_at}
+use Rattle.heap_shared.proofs.Words.{◌≡◌, Result, Ok, Err, IfOk, ◌<◌, sym, ap, ◌∙◌, subst, Snapshot, Entry, Op, Reply, mine, space_after, reply_to, entry_of, room_after, Ghosts, TurnLock, Pass, replay, first, number, seen, LockTurned, with_found, Facts, Logs, Owned, after_entry, owned_by, Turned, space_at}
 use Rattle.heap_shared.proofs.Rooms.{own_room, rooms_stay}
 
 -- what follows of each answer follows of the one that came

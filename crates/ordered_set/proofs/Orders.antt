@@ -1,12 +1,6 @@
 -- What the order of keys says of their numbers.
-use Rattle.std.proofs.Common.{◌≡◌, ℕ, ◌<◌, ◌≤◌, suc, zero, true, false, List, [], ◌∷◌, find, Some, Ordering, Less, Equal, Greater, is_lt, nat_cmp, ◌⊎◌, inl, inr, refl, ap, ◌∙◌, subst, arith, length, slice_get, ◌-◌}
-use Rattle.std.specs.List.{Contains, AllByRecursion as Every}
-use Rattle.std.specs.List.Sorted.{IsStrictlySortedBy}
-use Rattle.std.specs.Ordering.{ordering_then, MatchOrdering}
-use Rattle.std.proofs.lemmas.Bool.{cases_Bool, cases_order, not-true, lt-ltb}
-use Rattle.std.proofs.lemmas.Cmp.{ranked}
-use Rattle.ordered_set.specs.declared.key.Key.{Key}
-use Rattle.ordered_set.specs.Keys.{key_cmp, IsAscending, is_from, last_of}
+use Rattle.ordered_set.proofs.Words.{◌≡◌, ℕ, ◌<◌, ◌≤◌, suc, zero, true, false, List, [], ◌∷◌, Some, Ordering, Less, Equal, Greater, is_lt, nat_cmp, ◌⊎◌, inl, inr, refl, ap, ◌∙◌, subst, arith, length, slice_get, ◌-◌, Contains, Every, IsStrictlySortedBy, ordering_then, MatchOrdering, cases_Bool, cases_order, not-true, lt-ltb, ranked, Key, key_cmp, IsAscending, is_from, last_of}
+use Rattle.std.proofs.Common.{find}
 use Rattle.ordered_set.proofs.Sorted.{every_member, less_from_lt}
 use Rattle.ordered_set.proofs.Members.{contains_cases, contains_later}
 

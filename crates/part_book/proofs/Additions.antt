@@ -1,36 +1,10 @@
 -- An extent comes, or goes.
-use Rattle.std.proofs.Common.{◌≡◌, ◌≢◌, ℕ, ◌+◌, ◌-◌, ◌/◌, ◌^◌, ◌<◌, ◌≤◌, Bool, true, false, cond, eqb, ltb, ◌||◌, List, [], ◌∷◌, ◌++◌, map, filter, find, length, count_by, Option, Some, None, is_some, option_map, set as set_at, vec_len, vec_capacity, inl, inr, refl, sym, ap, ◌∙◌, subst, arith, All, length-append, Contains, option_to_list, nat_cmp, sum_by, not, IsSome}
-use Rattle.std.specs.Option.{option_or}
-use Rattle.std.specs.Cmp.{unsigned_tied, nat_cmp_total}
-use Rattle.std.specs.FinMap as map_of
-use Rattle.std.proofs.lemmas.Bool.{cases_Bool, eq-eqb, false_from_ne_true, eqb-true, not-true, not_from_false}
-use Rattle.std.proofs.lemmas.Bool.Decides.{nat_tests}
-use Rattle.std.proofs.lemmas.List.{get_or-set_other, get_or-set_same, length-map, map-append}
-use Rattle.std.proofs.lemmas.List.Elements.{All-contains, All-filter, All-map, All-push, All-weaker, filter-append}
-use Rattle.std.proofs.lemmas.List.Folds.{find-append}
-use Rattle.std.proofs.lemmas.List.Sums.{count_by-le-length, length-filter, sum_by-append, sum_by-cons, sum_by_push}
-use Rattle.space_model.specs.declared.parts.Part.{Part}
-use Rattle.space_model.specs.declared.parts.Rest.{Rest}
-use Rattle.space_model.specs.declared.parts.Rest.TheVariants.{Dirty as ToDirty, Muzzy as ToMuzzy, Retained as ToRetained}
-use Rattle.space_model.specs.declared.parts.State.{State}
-use Rattle.space_model.specs.declared.parts.State.TheVariants.{Active, Dirty, Muzzy, Retained, Flight}
-use Rattle.space_model.specs.Span.{IsPlaced, end_of, meets, has_page}
-use Rattle.space_model.specs.Part.{is_listed, begins_at}
-use Rattle.space_model.specs.Sound.{is_in_flight}
-use Rattle.part_book.specs.declared.table.AgeList.{AgeList}
-use Rattle.part_book.specs.declared.table.Table.{Table}
-use Rattle.part_book.specs.Leaves.{HasMore, leaves_for}
-use Rattle.part_book.specs.Lists.{CanList, Gets, CanUnlist, Loses}
-use Rattle.part_book.specs.Rows.{IsApart, IsKeyed, Row, first_key, is_edge, keys_with, listed_in, numbers_of, part_at, rank_of, ranked_key, row_at, size_key, with_edges, keys_without, without_edges}
-use Rattle.part_book.specs.Tables.{CanLower, HasListRoom, IsIndexed, IsListOf, IsSlotted, IsTable, Keeps, parts_of, rows_of, IsRowAt}
+use Rattle.part_book.proofs.Words.{◌≡◌, ◌≢◌, ℕ, ◌+◌, ◌-◌, ◌/◌, ◌^◌, ◌<◌, ◌≤◌, Bool, true, false, cond, eqb, ltb, ◌||◌, List, [], ◌∷◌, ◌++◌, map, filter, find, length, count_by, Option, Some, None, is_some, option_map, set_at, vec_len, vec_capacity, inl, inr, refl, sym, ap, ◌∙◌, subst, arith, All, length-append, Contains, option_to_list, nat_cmp, sum_by, not, IsSome, option_or, unsigned_tied, nat_cmp_total, cases_Bool, eq-eqb, false_from_ne_true, eqb-true, not-true, not_from_false, nat_tests, get_or-set_other, get_or-set_same, length-map, map-append, All-contains, All-filter, All-map, All-push, All-weaker, filter-append, find-append, count_by-le-length, length-filter, sum_by-append, sum_by-cons, sum_by_push, Part, Rest, ToDirty, ToMuzzy, ToRetained, State, Active, Dirty, Muzzy, Retained, Flight, IsPlaced, end_of, meets, has_page, is_listed, begins_at, is_in_flight, AgeList, Table, HasMore, leaves_for, CanList, Gets, CanUnlist, Loses, IsApart, IsKeyed, Row, first_key, is_edge, keys_with, listed_in, numbers_of, part_at, rank_of, ranked_key, row_at, size_key, with_edges, keys_without, without_edges, CanLower, HasListRoom, IsIndexed, IsListOf, IsSlotted, IsTable, Keeps, parts_of, rows_of, IsRowAt, all_from, bit, count_some, find_none, map_has, map_same, count_less_one, count_kept, count_map, filter_all_of, filter_map_is, filter_none_of, filter_swap, find_kept, found, kept_length, only, sum_by-filter_both, filter_from, filter_has, Pages}
 use Rattle.part_book.proofs.Indexes.{IsLeafed, in_slot, in_slots, keeps, parts_in, edge_none, edge_part, edge_row, slot_of, small_numbers}
 use Rattle.part_book.proofs.Keyed.{first_own, key_absent, keyed_more, size_own, keyed_less}
-use Rattle.list_facts.proofs.Members.{all_from, bit, count_some, find_none, map_has, map_same, count_less_one, count_kept, count_map, filter_all_of, filter_map_is, filter_none_of, filter_swap, find_kept, found, kept_length, only}
 use Rattle.part_book.proofs.Parts.{edge_has, begins_by_edge}
 use Rattle.part_book.proofs.Rowed.{apart_more, page_meets, pages_most, row_placed, apart_less, numbers_most, one_number, one_row, other_row, others, others_apart, others_begin}
-use Rattle.std.proofs.lemmas.List.Filters.{sum_by-filter_both}
-use Rattle.ordered_set.proofs.Members.{filter_from, filter_has}
-use Rattle.page_map.specs.Pages.{Pages}
+use Rattle.std.specs.FinMap as map_of
 
 -- an extent with a number that no other has, and that meets no other
 pub record IsFresh (t : Table) (rows : List Row) (row : Row) : Type 0 where

@@ -1,31 +1,13 @@
 -- What an exchange makes of the extents, and of their slots.
-use Rattle.std.proofs.Common.{◌≡◌, ℕ, ◌+◌, ◌-◌, true, false, not, eqb, ltb, [], ◌∷◌, ◌++◌, filter, length-append, Some, option_map, vec_len, vec_capacity, inl, inr, refl, sym, ap, ◌∙◌, subst, arith, All, Contains, count_by, ◌/◌, ◌<◌, ◌||◌, List, find, Option, None, append_assoc, IfSome, IsSome}
-use Rattle.std.specs.FinMap as map_of
-use Rattle.std.proofs.lemmas.Bool.{cases_Bool, eq-eqb, eqb-true, not_from_false}
-use Rattle.std.proofs.lemmas.Bool.Decides.{nat_tests}
-use Rattle.std.proofs.lemmas.List.{map-append}
-use Rattle.std.proofs.lemmas.List.Elements.{All-contains, All-filter, All-push, All-weaker}
-use Rattle.std.proofs.lemmas.List.Sums.{sum_by_push}
-use Rattle.page_map.specs.Pages.{Pages}
-use Rattle.space_model.specs.declared.parts.Part.{Part}
-use Rattle.space_model.specs.declared.parts.Span.{Span}
-use Rattle.space_model.specs.Span.{IsPlaced, end_of, has_page, meets}
-use Rattle.space_model.specs.Part.{begins_at, exchanged}
-use Rattle.part_book.specs.declared.table.Table.{Table}
-use Rattle.part_book.specs.Rows.{IsKeyed, Own, Row, first_key, is_edge, keys_without, with_edges, without_edges, IsApart}
-use Rattle.part_book.specs.Tables.{CanLower, HasListRoom, IsIndexed, IsLifted, IsTable, Keeps, parts_of, rows_of}
+use Rattle.part_book.proofs.Words.{◌≡◌, ℕ, ◌+◌, ◌-◌, true, false, not, eqb, ltb, [], ◌∷◌, ◌++◌, filter, length-append, Some, option_map, vec_len, vec_capacity, inl, inr, refl, sym, ap, ◌∙◌, subst, arith, All, Contains, count_by, ◌/◌, ◌<◌, ◌||◌, List, find, Option, None, append_assoc, IfSome, IsSome, cases_Bool, eq-eqb, eqb-true, not_from_false, nat_tests, map-append, All-contains, All-filter, All-push, All-weaker, sum_by_push, Pages, Part, Span, IsPlaced, end_of, has_page, meets, begins_at, exchanged, Table, IsKeyed, Own, Row, first_key, is_edge, keys_without, with_edges, without_edges, IsApart, CanLower, HasListRoom, IsIndexed, IsLifted, IsTable, Keeps, parts_of, rows_of, bit, find_is, all_from, filter_neither, filter_swap, find_kept, found, State, low_piece, high_piece, AreBeside, joined, leaves_for}
 use Rattle.part_book.proofs.Additions.{IsAdded, IsFresh, added, can_lower, numbers_more, rows_added, count_fewer, fewer, numbers_less, one, removed, rows_removed}
 use Rattle.part_book.proofs.Indexes.{IsLeafed, in_slots, keeps, parts_in}
 use Rattle.part_book.proofs.Keyed.{keyed_same}
-use Rattle.list_facts.proofs.Members.{bit, find_is, all_from, filter_neither, filter_swap, find_kept, found}
 use Rattle.part_book.proofs.Parts.{edge_has, placed}
 use Rattle.part_book.proofs.Rowed.{one_row, other_row, others, others_begin, row_placed}
-use Rattle.std.specs.FinSet as set
-use Rattle.space_model.specs.declared.parts.State.{State}
-use Rattle.space_model.specs.Step.{low_piece, high_piece}
-use Rattle.part_book.specs.Books.{AreBeside, joined}
-use Rattle.part_book.specs.Leaves.{leaves_for}
 use Rattle.part_book.proofs.Chunks.{leaves_both, leaves_none}
+use Rattle.std.specs.FinMap as map_of
+use Rattle.std.specs.FinSet as set
 
 -- ---- the first and the last page
 

@@ -1,20 +1,6 @@
 -- The leaves that are left after chunks got some.
-use Rattle.std.proofs.Common.{◌≡◌, ℕ, ◌+◌, ◌-◌, ◌/◌, ◌<◌, ◌≤◌, min, Bool, true, false, not, cond, eqb, ◌||◌, List, length, filter, count_by, inl, inr, refl, sym, ap, ◌∙◌, subst, arith, Contains, nat_cmp}
-use Rattle.std.specs.List.{range_with_len}
-use Rattle.std.specs.Cmp.{unsigned_tied, nat_cmp_total}
+use Rattle.part_book.proofs.Words.{◌≡◌, ℕ, ◌+◌, ◌-◌, ◌/◌, ◌<◌, ◌≤◌, min, Bool, true, false, not, cond, eqb, ◌||◌, List, length, filter, count_by, inl, inr, refl, sym, ap, ◌∙◌, subst, arith, Contains, nat_cmp, range_with_len, unsigned_tied, nat_cmp_total, cases_Bool, eq-eqb, filter_agree, sum_by-filter_both, count_by-le-length, length-filter, get_or-range_with_len, length-range_with_len, filter_has, Pages, CHUNKS, Span, IsPlaced, end_of, HasLeaves, HasMore, leaves_for, missing, bit, count_some, filter_neither}
 use Rattle.std.specs.FinSet as set
-use Rattle.std.proofs.lemmas.Bool.{cases_Bool, eq-eqb}
-use Rattle.std.proofs.lemmas.List.Elements.{filter_agree}
-use Rattle.std.proofs.lemmas.List.Filters.{sum_by-filter_both}
-use Rattle.std.proofs.lemmas.List.Sums.{count_by-le-length, length-filter}
-use Rattle.std.proofs.lemmas.List.FromFn.{get_or-range_with_len, length-range_with_len}
-use Rattle.ordered_set.proofs.Members.{filter_has}
-use Rattle.page_map.specs.Pages.{Pages}
-use Rattle.page_map.specs.declared.table.TheConstants.{CHUNKS}
-use Rattle.space_model.specs.declared.parts.Span.{Span}
-use Rattle.space_model.specs.Span.{IsPlaced, end_of}
-use Rattle.part_book.specs.Leaves.{HasLeaves, HasMore, leaves_for, missing}
-use Rattle.list_facts.proofs.Members.{bit, count_some, filter_neither}
 
 -- a chunk is in a set to which another one was added where it is that one or was in it
 pub contains_more : (s : set.FinSet nat_cmp) (k q : ℕ) → set.contains (set.insert s k) q ≡ (eqb q k || set.contains s q)

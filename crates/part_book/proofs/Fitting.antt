@@ -1,30 +1,7 @@
 -- The walk through the unused extents by size finds the one that fits best.
-use Rattle.std.proofs.Common.{◌≡◌, ℕ, ◌+◌, ◌*◌, ◌-◌, ◌/◌, ◌%◌, ◌^◌, ◌<◌, ◌≤◌, Bool, true, false, ◌&&◌, eqb, List, [], ◌∷◌, length, count_by, cond, filter, find, slice_get, Some, None, Ordering, Less, Equal, Greater, is_gt, inl, inr, refl, sym, ap, ◌∙◌, subst, arith, sum_by, Contains}
-use Rattle.std.specs.List.{list_any}
-use Rattle.std.specs.Ordering.{ordering_reverse}
-use Rattle.std.proofs.lemmas.Bool.{and_left, and_parts, cases_Bool, cases_lt, eq-eqb, false_from_ne_true, ne_eqb, not-true}
-use Rattle.std.proofs.lemmas.Bool.Decides.{nat_tests}
-use Rattle.std.proofs.lemmas.List.Folds.{list_any-from_Any, list_any_none}
-use Rattle.std.proofs.lemmas.List.Sums.{get_or-le-sum_by, sum_by-cons}
-use Rattle.std.proofs.lemmas.Nat.{mul-le}
-use Rattle.ordered_set.specs.declared.key.Key.{Key}
-use Rattle.ordered_set.specs.Keys.{IsAscending, is_above, is_from, key_cmp}
-use Rattle.ordered_set.proofs.KeyOrder.{key_tie, key_total}
-use Rattle.ordered_set.proofs.Members.{contains_later, filter_has}
-use Rattle.ordered_set.proofs.Orders.{from_start, less_from_parts, less_major, start, start_from}
-use Rattle.space_model.specs.declared.parts.Part.{Part}
-use Rattle.space_model.specs.declared.parts.Rest.{Rest}
-use Rattle.space_model.specs.declared.parts.Rest.TheVariants.{Dirty as ToDirty, Muzzy as ToMuzzy, Retained as ToRetained}
-use Rattle.space_model.specs.declared.parts.Span.{Span}
-use Rattle.space_model.specs.declared.parts.State.{State}
-use Rattle.space_model.specs.declared.parts.State.TheVariants.{Dirty, Muzzy, Retained}
-use Rattle.space_model.specs.Span.{IsPlaced, holds_run}
-use Rattle.space_model.specs.Part.{is_listed}
-use Rattle.space_model.specs.Fit.{fit_of, is_best, is_better, is_candidate}
-use Rattle.part_book.specs.Rows.{IsApart, IsKeyed, Row, key_span, listed_in, numbers_of, pages_in, rank, rank_of, ranked_key, size_key}
+use Rattle.part_book.proofs.Words.{◌≡◌, ℕ, ◌+◌, ◌*◌, ◌-◌, ◌/◌, ◌%◌, ◌^◌, ◌<◌, ◌≤◌, Bool, true, false, ◌&&◌, eqb, List, [], ◌∷◌, length, count_by, cond, filter, find, slice_get, Some, None, Ordering, Less, Equal, Greater, is_gt, inl, inr, refl, sym, ap, ◌∙◌, subst, arith, sum_by, Contains, list_any, ordering_reverse, and_left, and_parts, cases_Bool, cases_lt, eq-eqb, false_from_ne_true, ne_eqb, not-true, nat_tests, list_any-from_Any, list_any_none, get_or-le-sum_by, sum_by-cons, mul-le, Key, IsAscending, is_above, is_from, key_cmp, key_tie, key_total, contains_later, filter_has, from_start, less_from_parts, less_major, start, start_from, Part, Rest, ToDirty, ToMuzzy, ToRetained, Span, State, Dirty, Muzzy, Retained, IsPlaced, holds_run, is_listed, fit_of, is_best, is_better, is_candidate, IsApart, IsKeyed, Row, key_span, listed_in, numbers_of, pages_in, rank, rank_of, ranked_key, size_key, all_from, find_is, find_none, head, map_from, map_has, mapped_some, none_found}
 use Rattle.part_book.proofs.Walks.{find_some}
 use Rattle.part_book.proofs.Indexes.{parts_in}
-use Rattle.list_facts.proofs.Members.{all_from, find_is, find_none, head, map_from, map_has, mapped_some, none_found}
 use Rattle.part_book.proofs.Parts.{one_owner, placed}
 use Rattle.part_book.proofs.Rowed.{row_placed}
 

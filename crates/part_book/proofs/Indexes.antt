@@ -1,35 +1,8 @@
 -- What the indexes of a table say of its extents.
-use Rattle.std.proofs.Common.{◌≡◌, ℕ, ◌-◌, ◌/◌, ◌^◌, ◌<◌, ◌≤◌, Bool, true, false, cond, not, eqb, List, [], ◌∷◌, length, map, filter, find, get_or, slice_get, Option, Some, None, option_map, count_by, vec_len, inl, inr, refl, sym, ap, ◌∙◌, subst, arith, All, Contains, nat_cmp}
-use Rattle.std.proofs.lemmas.Bool.{cases_Bool, cases_lt, true_from_ne_false}
+use Rattle.part_book.proofs.Words.{◌≡◌, ℕ, ◌-◌, ◌/◌, ◌^◌, ◌<◌, ◌≤◌, Bool, true, false, cond, not, eqb, List, [], ◌∷◌, length, map, filter, find, get_or, slice_get, Option, Some, None, option_map, count_by, vec_len, inl, inr, refl, sym, ap, ◌∙◌, subst, arith, All, Contains, nat_cmp, cases_Bool, cases_lt, true_from_ne_false, IsPlaced, end_of, nat_tests, All-contains, All-head, All-nil, All-tail, Contains-get_or, get_or_default_zero, find_at, position_or_len_is, sum_by-cons, IsStrictlySortedBy-filter, get_or_from_slice_get, slice_get-get_or, slice_get_within, Key, IsAscending, is_below, is_from, key_cmp, last_of, every_member, filter_from, filter_has, from_start, last_greatest, major_less, start, start_from, Part, State, Active, Dirty, Muzzy, Retained, Flight, is_flight, is_in_flight, Rest, ToDirty, ToMuzzy, ToRetained, AgeList, Table, IsFirstFrom, IsKeyed, IsLastBelow, Row, first_key, flights_in, is_edge, part_at, row_at, size_key, IsIndexed, IsListOf, IsSlotted, IsTable, Keeps, rows_of, all_from, count_some, find_map, find_none, found, map_from, map_has, mapped_none, mapped_some, none_found}
+use Rattle.part_book.proofs.Walks.{find_some}
 use Rattle.std.specs.FinMap as map_of
 use Rattle.std.specs.FinSet as set
-use Rattle.space_model.specs.Span.{IsPlaced, end_of}
-use Rattle.std.proofs.lemmas.Bool.Decides.{nat_tests}
-use Rattle.std.proofs.lemmas.List.Elements.{All-contains, All-head, All-nil, All-tail, Contains-get_or}
-use Rattle.std.proofs.lemmas.Grind.{get_or_default_zero}
-use Rattle.std.proofs.lemmas.List.Folds.{find_at}
-use Rattle.std.proofs.lemmas.List.Sums.{position_or_len_is, sum_by-cons}
-use Rattle.std.proofs.lemmas.List.Kept.{IsStrictlySortedBy-filter}
-use Rattle.std.proofs.lemmas.Option.{get_or_from_slice_get, slice_get-get_or, slice_get_within}
-use Rattle.ordered_set.specs.declared.key.Key.{Key}
-use Rattle.ordered_set.specs.Keys.{IsAscending, is_below, is_from, key_cmp, last_of}
-use Rattle.ordered_set.proofs.Sorted.{every_member}
-use Rattle.ordered_set.proofs.Members.{filter_from, filter_has}
-use Rattle.ordered_set.proofs.Orders.{from_start, last_greatest, major_less, start, start_from}
-use Rattle.space_model.specs.declared.parts.Part.{Part}
-use Rattle.space_model.specs.declared.parts.State.{State}
-use Rattle.space_model.specs.declared.parts.State.TheVariants.{Active, Dirty, Muzzy, Retained, Flight}
-use Rattle.space_model.specs.Part.{is_flight}
-use Rattle.space_model.specs.Sound.{is_in_flight}
-use Rattle.space_model.specs.declared.parts.Rest.{Rest}
-use Rattle.space_model.specs.declared.parts.Rest.TheVariants.{Dirty as ToDirty, Muzzy as ToMuzzy, Retained as ToRetained}
-use Rattle.part_book.specs.declared.table.AgeList.{AgeList}
-use Rattle.part_book.specs.declared.table.Table.{Table}
-use Rattle.part_book.specs.Books.{IsFirstFrom}
-use Rattle.part_book.specs.Rows.{IsKeyed, IsLastBelow, Row, first_key, flights_in, is_edge, part_at, row_at, size_key}
-use Rattle.part_book.specs.Tables.{IsIndexed, IsListOf, IsSlotted, IsTable, Keeps, rows_of}
-use Rattle.list_facts.proofs.Members.{all_from, count_some, find_map, find_none, found, map_from, map_has, mapped_none, mapped_some, none_found}
-use Rattle.part_book.proofs.Walks.{find_some}
 
 -- the extents of some rows
 abbrev pub parts_in : List Row → List Part

@@ -1,11 +1,5 @@
 -- Sets of the keys of extents that get an extent, lose one, or have one exchanged.
-use Rattle.std.proofs.Common.{◌≡◌, ◌≢◌, ◌+◌, ◌*◌, ◌^◌, ◌<◌, true, false, not, eqb, List, [], ◌∷◌, ◌++◌, Option, Some, None, inl, inr, refl, sym, ap, ◌∙◌, subst, arith, Contains, IfSome}
-use Rattle.std.proofs.lemmas.Bool.{cases_Bool, eq-eqb, eqb-true, false_from_ne_true, not_from_false}
-use Rattle.std.proofs.lemmas.List.Elements.{Contains-append_left, Contains-push, Contains-push_cases}
-use Rattle.ordered_set.specs.declared.key.Key.{Key}
-use Rattle.ordered_set.proofs.Members.{filter_has, with_from, with_keeps, with_self, without_from, without_keeps}
-use Rattle.part_book.specs.Rows.{IsKeyed, Row, first_key, keys_with, keys_without, rank_of, ranked_key, size_key}
-use Rattle.list_facts.proofs.Members.{mapped_some}
+use Rattle.part_book.proofs.Words.{◌≡◌, ◌≢◌, ◌+◌, ◌*◌, ◌^◌, ◌<◌, true, false, not, eqb, List, [], ◌∷◌, ◌++◌, Option, Some, None, inl, inr, refl, sym, ap, ◌∙◌, subst, arith, Contains, IfSome, cases_Bool, eq-eqb, eqb-true, false_from_ne_true, not_from_false, Contains-append_left, Contains-push, Contains-push_cases, Key, filter_has, with_from, with_keeps, with_self, without_from, without_keeps, IsKeyed, Row, first_key, keys_with, keys_without, rank_of, ranked_key, size_key, mapped_some}
 use Rattle.part_book.proofs.Rowed.{other_row, others}
 
 module _ (key_of : Row → Option Key) (rows : List Row) (row : Row) (keys : List Key) (i : IsKeyed key_of rows keys) where

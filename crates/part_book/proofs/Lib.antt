@@ -1,3 +1,4 @@
+pub mod Words
 pub mod Chunks
 pub mod Changed
 pub mod Walks

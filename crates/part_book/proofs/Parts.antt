@@ -1,17 +1,5 @@
 -- Extents of which no two have a page in common: what is found by a page.
-use Rattle.std.proofs.Common.{◌≡◌, ℕ, ◌+◌, ◌<◌, ◌≤◌, true, false, cond, List, find, Option, Some, None, inl, inr, ap, ◌∙◌, arith, All, ltb, min, Contains}
-use Rattle.std.specs.List.{list_any}
-use Rattle.std.proofs.lemmas.Bool.{cases_Bool, false_from_ne_true, or_left, or_right}
-use Rattle.std.proofs.lemmas.Bool.Decides.{nat_tests}
-use Rattle.std.proofs.lemmas.List.Elements.{All-contains, All-weaker}
-use Rattle.std.proofs.lemmas.List.Folds.{list_any-from_Any, list_any_none}
-use Rattle.space_model.specs.declared.parts.Part.{Part}
-use Rattle.space_model.specs.declared.parts.Span.{Span}
-use Rattle.space_model.specs.Span.{IsPlaced, end_of, has_page, meets, pages_end}
-use Rattle.space_model.specs.Part.{begins_at}
-use Rattle.part_book.specs.Books.{ends_at}
-use Rattle.part_book.specs.Rows.{IsApart, IsLastBelow, is_edge}
-use Rattle.list_facts.proofs.Members.{all_from, find_closer, find_is, find_none, only_one}
+use Rattle.part_book.proofs.Words.{◌≡◌, ℕ, ◌+◌, ◌<◌, ◌≤◌, true, false, cond, List, find, Option, Some, None, inl, inr, ap, ◌∙◌, arith, All, ltb, min, Contains, list_any, cases_Bool, false_from_ne_true, or_left, or_right, nat_tests, All-contains, All-weaker, list_any-from_Any, list_any_none, Part, Span, IsPlaced, end_of, has_page, meets, pages_end, begins_at, ends_at, IsApart, IsLastBelow, is_edge, all_from, find_closer, find_is, find_none, only_one}
 
 pub placed : (parts : List Part) (p : Part) → IsApart parts → Contains parts p → IsPlaced p.span
 placed parts p apart m = All-contains (λ q. IsPlaced q.span) parts p apart.placed m

@@ -1,13 +1,7 @@
 -- A table that was given room keeps its extents.
-use Rattle.std.proofs.Common.{◌≡◌, ℕ, ◌+◌, ◌<◌, ◌≤◌, eqb, ltb, map, count_by, vec_len, vec_capacity, sym, ap, ◌∙◌, subst, arith, refl, All, Contains}
-use Rattle.std.specs.FinMap as map_of
-use Rattle.space_model.specs.declared.parts.Part.{Part}
-use Rattle.part_book.specs.declared.table.Table.{Table}
-use Rattle.part_book.specs.Lists.{Grows}
-use Rattle.part_book.specs.Rows.{IsKeyed, Row, first_key, part_at, row_at, size_key}
-use Rattle.part_book.specs.Tables.{HasRoom, IsTable, Keeps, parts_of, rows_of}
+use Rattle.part_book.proofs.Words.{◌≡◌, ℕ, ◌+◌, ◌<◌, ◌≤◌, eqb, ltb, map, count_by, vec_len, vec_capacity, sym, ap, ◌∙◌, subst, arith, refl, All, Contains, Part, Table, Grows, IsKeyed, Row, first_key, part_at, row_at, size_key, HasRoom, IsTable, Keeps, parts_of, rows_of, all_from, bit, map_has, map_same}
 use Rattle.part_book.proofs.Indexes.{IsLeafed, in_slot, in_slots, keeps}
-use Rattle.list_facts.proofs.Members.{all_from, bit, map_has, map_same}
+use Rattle.std.specs.FinMap as map_of
 
 -- each index of the second table has the same
 pub record IsSame (t u : Table) : Type 0 where

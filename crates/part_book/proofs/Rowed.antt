@@ -1,19 +1,6 @@
 -- The extents of a table and their numbers: which are the same, and which share no page.
-use Rattle.std.proofs.Common.{◌≡◌, ℕ, ◌*◌, ◌≤◌, Bool, true, false, not, eqb, List, [], ◌∷◌, ◌++◌, filter, length, count_by, inl, inr, refl, sym, ap, ◌∙◌, subst, arith, All, Contains}
-use Rattle.std.proofs.lemmas.Bool.{cases_Bool, cases_lt, eq-eqb, eqb-true, false_from_ne_true, not-true}
-use Rattle.std.proofs.lemmas.Bool.Decides.{nat_tests}
-use Rattle.std.proofs.lemmas.List.Elements.{All-contains, All-filter, All-push}
-use Rattle.std.proofs.lemmas.List.Sums.{count_by-le-length, length-filter, sum_by-le, sum_by_push}
-use Rattle.ordered_set.proofs.Members.{filter_from}
-use Rattle.space_model.specs.declared.parts.Part.{Part}
-use Rattle.space_model.specs.Span.{IsPlaced, has_page, meets, pages_end}
-use Rattle.space_model.specs.declared.parts.Rest.{Rest}
-use Rattle.space_model.specs.Part.{begins_at, is_listed}
-use Rattle.part_book.specs.declared.table.Table.{Table}
-use Rattle.part_book.specs.Rows.{IsApart, Row, pages_in}
-use Rattle.part_book.specs.Tables.{IsSlotted, IsTable}
+use Rattle.part_book.proofs.Words.{◌≡◌, ℕ, ◌*◌, ◌≤◌, Bool, true, false, not, eqb, List, [], ◌∷◌, ◌++◌, filter, length, count_by, inl, inr, refl, sym, ap, ◌∙◌, subst, arith, All, Contains, cases_Bool, cases_lt, eq-eqb, eqb-true, false_from_ne_true, not-true, nat_tests, All-contains, All-filter, All-push, count_by-le-length, length-filter, sum_by-le, sum_by_push, filter_from, Part, IsPlaced, has_page, meets, pages_end, Rest, begins_at, is_listed, Table, IsApart, Row, pages_in, IsSlotted, IsTable, all_from, bit, count_kept, count_map, count_none, filter_map_is, filter_same, map_from, map_has, only_one}
 use Rattle.part_book.proofs.Indexes.{parts_in}
-use Rattle.list_facts.proofs.Members.{all_from, bit, count_kept, count_map, count_none, filter_map_is, filter_same, map_from, map_has, only_one}
 use Rattle.part_book.proofs.Parts.{begins_has, placed}
 
 pub row_placed : (rows : List Row) (r : Row) → IsApart (parts_in rows) → Contains rows r → IsPlaced r.part.span

@@ -1,15 +1,6 @@
 -- The first key of a list that passes a test.
-use Rattle.std.proofs.Common.{◌≡◌, ◌<◌, zero, Bool, true, false, List, [], ◌∷◌, length, filter, find, Some, Ordering, Less, Equal, Greater, is_gt, inl, inr, refl, sym, ap, ◌∙◌, subst, arith}
-use Rattle.std.specs.List.{Contains, AllByRecursion as Every}
-use Rattle.std.specs.List.Sorted.{IsStrictlySortedBy}
-use Rattle.std.specs.Ordering.{ordering_reverse}
-use Rattle.std.proofs.lemmas.Bool.{cases_Bool}
-use Rattle.std.proofs.lemmas.Cmp.{tied_itself}
-use Rattle.ordered_set.specs.declared.key.Key.{Key}
-use Rattle.ordered_set.specs.Keys.{key_cmp, IsAscending, is_above}
-use Rattle.ordered_set.proofs.KeyOrder.{key_total}
-use Rattle.ordered_set.proofs.Sorted.{every_map, every_member, filter_all}
-use Rattle.ordered_set.proofs.Members.{contains_cases, contains_later}
+use Rattle.part_book.proofs.Words.{◌≡◌, ◌<◌, zero, Bool, true, false, List, [], ◌∷◌, length, filter, find, Some, Ordering, Less, Equal, Greater, is_gt, inl, inr, refl, sym, ap, ◌∙◌, subst, arith, Every, IsStrictlySortedBy, ordering_reverse, cases_Bool, tied_itself, Key, key_cmp, IsAscending, is_above, key_total, every_map, every_member, filter_all, contains_cases, contains_later}
+use Rattle.std.specs.List.{Contains}
 
 -- it is listed, passes, and none below it passes
 pub find_some : (p : Key → Bool) (ks : List Key) (y : Key) → IsAscending ks → find p ks ≡ Some y → Contains ks y × (p y ≡ true) × ((k : Key) → Contains ks k → key_cmp k y ≡ Less → p k ≡ false)

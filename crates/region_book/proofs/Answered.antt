@@ -1,27 +1,5 @@
 -- What the calls of a book need to know of its regions.
-use Rattle.std.proofs.Common.{◌≡◌, ℕ, ◌+◌, ◌-◌, ◌*◌, ◌<◌, ◌≤◌, ◌^◌, Bool, true, false, not, List, [], ◌∷◌, ◌++◌, length-append, map, filter, find, length, Option, None, Some, refl, sym, ◌∙◌, ap, subst, arith, ltb as nat_lt, leb as nat_le, ◌&&◌, inl, inr}
-use Rattle.std.specs.List.{AllByRecursion as Every, list_any, range_with_len}
-use Rattle.std.specs.Option.{option_or}
-use Rattle.std.proofs.lemmas.Bool.Decides.{nat_tests}
-use Rattle.std.proofs.lemmas.List.FromFn.{length-range_with_len}
-use Rattle.size_classes.specs.Classes.{size_at}
-use Rattle.ordered_set.proofs.Sorted.{every_map}
-use Rattle.space_model.specs.declared.parts.Region.{Region}
-use Rattle.space_model.specs.Region.{inserted, landing, region_of, regions_from, starts_at}
-use Rattle.space_model.specs.Counts.{region_bytes}
-use Rattle.space_model.specs.Step.{holds_at, is_given_back, staying}
-use Rattle.list_facts.specs.ByKey.{AreApart, IsRising, changed}
-use Rattle.list_facts.specs.Codes.{code_of}
-use Rattle.list_facts.proofs.ByKey.{absent_changed, absent_filter, change_both, changed_is, drop_both, every_changed, every_landing, found_there, land_left, land_right, Landed, merged, new_apart, taken_out}
-use Rattle.list_facts.proofs.Members.{every_member, found}
-use Rattle.bin_book.specs.Bins.{Bins, Slab, is_unused, with_free}
-use Rattle.large_book.specs.Larges.{IsHolder, addr_of}
-use Rattle.region_book.specs.declared.totals.Totals.{Totals}
-use Rattle.region_book.specs.declared.RegionBook.TheInside.{Inside}
-use Rattle.region_book.specs.Books.{IsBook}
-use Rattle.region_book.specs.RegionLists.{CanCome, IsOf}
-use Rattle.region_book.specs.Slabs.{is_last, slabs_returned}
-use Rattle.region_book.specs.Totals.{AreMore, AreTotals, CanGrow, CanShrink}
+use Rattle.region_book.proofs.Words.{◌≡◌, ℕ, ◌+◌, ◌-◌, ◌*◌, ◌<◌, ◌≤◌, ◌^◌, Bool, true, false, not, List, [], ◌∷◌, ◌++◌, length-append, map, filter, find, length, Option, None, Some, refl, sym, ◌∙◌, ap, subst, arith, nat_lt, nat_le, ◌&&◌, inl, inr, Every, list_any, range_with_len, option_or, nat_tests, length-range_with_len, size_at, every_map, Region, inserted, landing, region_of, regions_from, starts_at, region_bytes, holds_at, is_given_back, staying, AreApart, IsRising, changed, code_of, absent_changed, absent_filter, change_both, changed_is, drop_both, every_changed, every_landing, found_there, land_left, land_right, Landed, merged, new_apart, taken_out, every_member, found, Bins, Slab, is_unused, with_free, IsHolder, addr_of, Totals, Inside, IsBook, CanCome, IsOf, is_last, slabs_returned, AreMore, AreTotals, CanGrow, CanShrink}
 use Rattle.region_book.proofs.Tallies.{HaveCome, can_grow, can_shrink, one_comes, some_come, totals_less, totals_more}
 use Rattle.region_book.proofs.Changes.{can_come, found_so, gives, one_from}
 

@@ -1,15 +1,5 @@
 -- Numbers by class and by holder, as lists.
-use Rattle.std.proofs.Common.{◌≡◌, ◌≢◌, ℕ, ◌+◌, ◌<◌, not, cond, ltb, length-set, List, [], ◌∷◌, length, get_or, set, map, take, drop, sym, refl, ap, ◌∙◌, arith}
-use mathlib.Core.Logic.{dite}
-use native.Mathlib.Decide.{ℕ_discrete}
-use Rattle.std.specs.List.{range_with_len}
-use Rattle.std.proofs.lemmas.List.{ext_get_or, get_or-set_same, get_or-set_other}
-use Rattle.std.proofs.lemmas.List.FromFn.{length-map-range_with_len, get_or-map-range_with_len}
-use Rattle.std.proofs.lemmas.List.Sums.{sum_by-cons}
-use Rattle.size_classes.specs.Classes.{size_at}
-use Rattle.space_model.specs.declared.parts.Region.{Region}
-use Rattle.space_model.specs.Counts.{region_bytes, region_bytes_where, regions_by_class}
-use Rattle.region_book.specs.Totals.{IsMoreAt}
+use Rattle.region_book.proofs.Words.{◌≡◌, ◌≢◌, ℕ, ◌+◌, ◌<◌, not, cond, ltb, length-set, List, [], ◌∷◌, length, get_or, set, map, take, drop, sym, refl, ap, ◌∙◌, arith, dite, ℕ_discrete, range_with_len, ext_get_or, get_or-set_same, get_or-set_other, length-map-range_with_len, get_or-map-range_with_len, sum_by-cons, size_at, Region, region_bytes, region_bytes_where, regions_by_class, IsMoreAt}
 
 -- the numbers of so many classes
 abbrev pub tally : (ℕ → ℕ) → ℕ → List ℕ

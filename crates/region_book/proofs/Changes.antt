@@ -1,19 +1,5 @@
 -- What is told of regions by address: what a client gives back, what is published, and what can come.
-use Rattle.std.proofs.Common.{◌≡◌, ℕ, ◌+◌, ◌*◌, ◌≤◌, Bool, true, false, not, eqb, eqb-true, List, [], ◌∷◌, length, filter, find, Option, None, Some, refl, sym, ◌∙◌, ap, arith, ◌&&◌, count_by, Contains}
-use Rattle.std.specs.List.{list_any}
-use Rattle.std.proofs.lemmas.Bool.Decides.{nat_tests}
-use Rattle.std.proofs.lemmas.List.Sums.{sum_by-cons}
-use Rattle.size_classes.specs.Classes.{size_at}
-use Rattle.space_model.specs.declared.parts.Region.{Region}
-use Rattle.space_model.specs.Region.{is_held_by, is_held_by_other, landing, region_of, regions_from, starts_at}
-use Rattle.space_model.specs.Holding.{is_published_at}
-use Rattle.space_model.specs.Step.{holds_at, is_given_back, staying}
-use Rattle.list_facts.specs.ByKey.{AreDistinct, AreNew, IsRising}
-use Rattle.list_facts.specs.Codes.{code_of}
-use Rattle.list_facts.proofs.ByKey.{distinct_new, found_alone, member_found}
-use Rattle.list_facts.proofs.Members.{any_from, bit, filter_same, find_closer, found}
-use Rattle.large_book.specs.Larges.{addr_of}
-use Rattle.region_book.specs.RegionLists.{if_published}
+use Rattle.region_book.proofs.Words.{◌≡◌, ℕ, ◌+◌, ◌*◌, ◌≤◌, Bool, true, false, not, eqb, eqb-true, List, [], ◌∷◌, length, filter, find, Option, None, Some, refl, sym, ◌∙◌, ap, arith, ◌&&◌, count_by, Contains, list_any, nat_tests, sum_by-cons, size_at, Region, is_held_by, is_held_by_other, landing, region_of, regions_from, starts_at, is_published_at, holds_at, is_given_back, staying, AreDistinct, AreNew, IsRising, code_of, distinct_new, found_alone, member_found, any_from, bit, filter_same, find_closer, found, addr_of, if_published}
 use Rattle.region_book.proofs.Tallies.{landing_sum}
 
 -- where no two begin at one address afterwards, what comes is distinct and new

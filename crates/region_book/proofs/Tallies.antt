@@ -1,17 +1,5 @@
 -- The totals of regions as some come or go.
-use Rattle.std.proofs.Common.{◌≡◌, ◌≢◌, ℕ, ◌+◌, ◌*◌, ◌<◌, ◌≤◌, ◌^◌, Bool, true, false, cond, eqb, eq-eqb, ne_eqb, ltb as nat_lt, List, [], ◌∷◌, get_or, map, length, count_by, Option, Some, sym, refl, ap, ◌∙◌, arith}
-use Rattle.std.specs.List.{AllByRecursion as Every, position_or_len, sum_by}
-use Rattle.std.proofs.lemmas.List.Sums.{sum_by-cons, sum_by-insert, sum_by-le-sum_by}
-use Rattle.size_classes.specs.Classes.{size_at}
-use Rattle.size_classes.proofs.Table.{size_bounds}
-use Rattle.space_model.specs.declared.parts.Region.{Region}
-use Rattle.space_model.specs.Region.{inserted, landing, region_of}
-use Rattle.space_model.specs.Counts.{region_bytes, region_bytes_where}
-use Rattle.list_facts.specs.Codes.{code_of}
-use Rattle.list_facts.proofs.Members.{bit}
-use Rattle.region_book.specs.declared.totals.Totals.{Totals}
-use Rattle.region_book.specs.RegionLists.{IsOf}
-use Rattle.region_book.specs.Totals.{AreMore, AreTotals, CanGrow, CanShrink, small_size_at}
+use Rattle.region_book.proofs.Words.{◌≡◌, ◌≢◌, ℕ, ◌+◌, ◌*◌, ◌<◌, ◌≤◌, ◌^◌, Bool, true, false, cond, eqb, eq-eqb, ne_eqb, nat_lt, List, [], ◌∷◌, get_or, map, length, count_by, Option, Some, sym, refl, ap, ◌∙◌, arith, Every, position_or_len, sum_by, sum_by-cons, sum_by-insert, sum_by-le-sum_by, size_at, size_bounds, Region, inserted, landing, region_of, region_bytes, region_bytes_where, code_of, bit, Totals, IsOf, AreMore, AreTotals, CanGrow, CanShrink, small_size_at}
 use Rattle.region_book.proofs.ByClass.{at_tally, tally_less, tally_more}
 
 -- how many regions are of a class, and how many a holder has

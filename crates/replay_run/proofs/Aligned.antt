@@ -1,50 +1,7 @@
 -- The region that a memalign is given is aligned: each step of the call keeps what is so of its place.
-use Rattle.std.proofs.Common.{◌≡◌, ℕ, ◌%◌, ◌<◌, ◌==◌, Bool, true, false, All, inl, inr, List, [], ◌∷◌, ◌++◌, Option, None, Some, IfSome, length, get_or, refl, sym, ◌∙◌, ap, subst, arith, nat_lt}
-use Rattle.std.specs.List.{Contains, count_by}
-use Rattle.std.proofs.lemmas.Bool.{eqb-true, ltb-true}
-use Rattle.std.proofs.lemmas.Bool.Decides.{nat_tests}
-use Rattle.std.proofs.lemmas.List.{get_or_default}
-use Rattle.std.proofs.lemmas.List.Elements.{All-filter, All-head, All-tail}
-use Rattle.std.proofs.lemmas.List.Sums.{sum_by-cons}
-use Rattle.space_model.proofs.Lists.{ones}
-use Rattle.size_classes.specs.Classes.{align_at}
-use Rattle.space_model.specs.declared.Region.{Region as SpaceRegion}
-use Rattle.space_model.specs.declared.Space.{Space}
-use Rattle.space_model.specs.Region.{is_held_by}
-use Rattle.space_model.specs.Sound.{Sound}
-use Rattle.space_model.proofs.Pieces.{both_true}
-use Rattle.thread_cache.specs.declared.Held.{Held}
-use Rattle.thread_cache.specs.Caches.{cached_in}
-use Rattle.thread_cache.specs.Desks.{DeskFacts}
-use Rattle.thread_cache.proofs.Going.{cached_is_flat}
-use Rattle.call_table.specs.declared.needs.Answered.{Answered}
+use Rattle.replay_run.proofs.Words.{◌≡◌, ℕ, ◌%◌, ◌<◌, ◌==◌, Bool, true, false, All, inl, inr, List, [], ◌∷◌, ◌++◌, Option, None, Some, IfSome, length, get_or, refl, sym, ◌∙◌, ap, subst, arith, nat_lt, Contains, count_by, eqb-true, ltb-true, nat_tests, get_or_default, All-filter, All-head, All-tail, sum_by-cons, ones, align_at, SpaceRegion, Space, is_held_by, Sound, both_true, Held, cached_in, DeskFacts, cached_is_flat, Answered, Region, Item, Request, Memalign, Owning, Point, Turns, Next, Go, Over, More, Gone, Ends, Nowhere, IsCacheAligned, CallFacts, AllCame, desk_fed, Moment, after, begin, begin_memalign, begin_stage, run, settle, step_next, step, memaligns-are_aligned, IsArenas, opening_records, record_at, HeapFacts, Record, Seat, asked_for, first_desk, first_seat, seat_at, Has, IsSeated, SitsAt, is_region, sound_at, had_counts, Owns, count_in, counts_low, has_owns, opening-sits, opening_is, past, IsAligned, IsAlignedFor, MemalignsAreAligned, Tale, answer_in, tale_fed, tale_in, Event, IsSound, World}
 use Rattle.call_table.specs.declared.needs.Answered.TheVariants.{Ok}
-use Rattle.call_table.specs.declared.needs.Given.TheVariants.{Region}
-use Rattle.call_table.specs.declared.needs.Item.{Item}
-use Rattle.call_table.specs.declared.needs.Request.{Request}
-use Rattle.call_table.specs.declared.needs.Request.TheVariants.{Memalign}
-use Rattle.call_table.specs.declared.points.TurnPoint.TheVariants.{Owning}
-use Rattle.call_table.specs.Stages.{Point, Turns, Next, Go, Over, More, Gone, Ends, Nowhere}
-use Rattle.call_table.specs.Aligned.{IsCacheAligned}
-use Rattle.call_table.specs.Calls.{CallFacts}
-use Rattle.call_table.specs.Causes.{AllCame, Came}
-use Rattle.call_table.specs.Desks.{desk_fed}
-use Rattle.call_table.specs.Runs.{Moment, after, begin, begin_memalign, begin_stage, run, settle, step_next}
-use Rattle.call_table.specs.Table.{step}
-use Rattle.call_table.proofs.Memaligns.{memaligns-are_aligned}
-use Rattle.heap_core.specs.Arenas.{IsArenas, opening_records, record_at}
-use Rattle.heap_core.specs.Heaps.{HeapFacts}
-use Rattle.heap_core.specs.Records.{Record}
-use Rattle.heap_core.specs.Seats.{Seat, asked_for, first_desk, first_seat, seat_at}
-use Rattle.heap_core.specs.Sitting.{Has, IsSeated, SitsAt, is_region}
-use Rattle.heap_core.proofs.Clients.{sound_at}
-use Rattle.heap_core.proofs.Hands.{had_counts}
-use Rattle.heap_core.proofs.Settling.{Owns, count_in, counts_low, has_owns}
-use Rattle.heap_core.proofs.Sitting.{opening-sits}
-use Rattle.heap_core.proofs.Turned.{opening_is, past}
-use Rattle.replay_run.specs.Answers.{IsAligned, IsAlignedFor, MemalignsAreAligned, Tale, answer_in, tale_fed, tale_in}
-use Rattle.replay_run.specs.Plays.{Event, IsSound}
-use Rattle.replay_run.specs.World.{World}
+use Rattle.call_table.specs.Causes.{Came}
 use Rattle.replay_run.proofs.Getting.{Gets, begin_gets, step_gets}
 use Rattle.replay_run.proofs.Tales.{EndsWith, IsEnded, Kept, each_event}
 

@@ -1,19 +1,5 @@
 -- The asks of a play are those that its heap has heard.
-use Rattle.std.proofs.Common.{◌≡◌, ℕ, Bool, true, false, List, [], ◌∷◌, ◌++◌, Option, None, Some, refl, sym, ◌∙◌, ap, append-nil, append_assoc}
-use Rattle.space_model.specs.declared.Op.{Op}
-use Rattle.thread_cache.specs.declared.Held.{Held}
-use Rattle.hook_api.specs.Asked.{AskFacts}
-use Rattle.call_table.specs.declared.needs.Answered.{Answered}
-use Rattle.call_table.specs.declared.needs.Request.{Request}
-use Rattle.call_table.specs.Calls.{CallFacts}
-use Rattle.heap_core.specs.Heaps.{HeapFacts, holder_for, published_for, region_for, started, turned_for}
-use Rattle.heap_core.specs.Seats.{answer_of, begun}
-use Rattle.trace_text.specs.declared.lines.Line.{Line}
-use Rattle.trace_text.specs.declared.lines.Line.TheVariants.{Step, End}
-use Rattle.trace_text.specs.declared.lines.Verb.{Verb}
-use Rattle.replay_run.specs.Plays.{Event, Read, Began, Turned, Told, Starved, Unnamed, after_event, ask_in, asks_in, world_after}
-use Rattle.replay_run.specs.SoFar.{Came, Now, Outset}
-use Rattle.replay_run.specs.World.{Awaits, World, awaits_or_idle, begins, begun_as, is_open, line_read, opening, request_of}
+use Rattle.replay_run.proofs.Words.{◌≡◌, ℕ, Bool, true, false, List, [], ◌∷◌, ◌++◌, Option, None, Some, refl, sym, ◌∙◌, ap, append-nil, append_assoc, Op, Held, AskFacts, Answered, Request, CallFacts, HeapFacts, holder_for, published_for, region_for, started, turned_for, answer_of, begun, Line, Step, End, Verb, Event, Read, Began, Turned, Told, Starved, Unnamed, after_event, ask_in, asks_in, world_after, Came, Now, Outset, Awaits, World, awaits_or_idle, begins, begun_as, is_open, line_read, opening, request_of}
 
 -- no line asks anything
 idle_hears : (w : World) (c : ℕ) (open_call : Bool) (awaits : Awaits) → (awaits_or_idle w c open_call awaits).heap.heard ≡ w.heap.heard

@@ -1,19 +1,8 @@
 -- Lines that aren't carried out, each with its first cause.
-use Rattle.std.proofs.Common.{arith, Bool, cond, ltb, true, false, length, take, ◌≡◌, ◌≢◌, ◌<◌, ◌≤◌, ℕ, List, [], ◌∷◌, ◌++◌, Some, None, Result, Ok, Err, ◌∙◌, ap}
-use Rattle.std.proofs.lemmas.Bool.Decides.{nat_tests}
-use Rattle.report_text.specs.declared.causes.Cause.{Cause}
-use Rattle.report_text.specs.declared.causes.Cause.TheVariants.{Clock, Cut, LimitBytes, LimitLines}
-use Rattle.trace_text.specs.declared.faults.LineFault.{LineFault}
-use Rattle.trace_text.specs.declared.faults.LineFault.TheVariants as fault
-use Rattle.trace_text.specs.declared.lines.Line.{Line}
-use Rattle.trace_text.specs.declared.lines.Line.TheVariants as line
-use Rattle.trace_text.specs.declared.lines.Verb.{Verb}
-use Rattle.trace_text.specs.declared.lines.Verb.TheVariants.{CtlPlain, CtlWrite}
-use Rattle.trace_text.specs.Grammar.{line_of}
-use Rattle.trace_text.specs.Lines.{HasNoNewline}
-use Rattle.replay_run.specs.Causes.{byte_limit, cause_of, fault_cause, first_line, has_newline, line_cause, line_limit, said_cause, verb_cause}
-use Rattle.replay_run.specs.Replays.{IsBadLine}
+use Rattle.replay_run.proofs.Words.{arith, Bool, cond, ltb, true, false, length, take, ◌≡◌, ◌≢◌, ◌<◌, ◌≤◌, ℕ, List, [], ◌∷◌, ◌++◌, Some, None, Result, Ok, Err, ◌∙◌, ap, nat_tests, Cause, Clock, Cut, LimitBytes, LimitLines, LineFault, Line, Verb, CtlPlain, CtlWrite, line_of, HasNoNewline, byte_limit, cause_of, fault_cause, first_line, has_newline, line_cause, line_limit, said_cause, verb_cause, IsBadLine}
 use Rattle.replay_run.proofs.LinesRead.{first_line-long, first_line-none, first_line-whole, has_newline-none, has_newline-whole}
+use Rattle.trace_text.specs.declared.faults.LineFault.TheVariants as fault
+use Rattle.trace_text.specs.declared.lines.Line.TheVariants as line
 
 -- ---- the order of the causes
 

@@ -1,20 +1,5 @@
 -- The beginning of a call is an event.
-use Rattle.std.proofs.Common.{◌≡◌, ◌≢◌, ℕ, Bool, true, false, List, [], ◌++◌, Option, None, Some, is_some, Result, Ok, Err, IfErr, OnOk, OnErr, refl, ap}
-use Rattle.std.proofs.KnownBytes.{Appends-trans}
-use Rattle.std.specs.Prelude.{slice_set}
-use Rattle.edge_io.specs.Bytes.{Appends, AppendsPrefix}
-use Rattle.call_table.specs.declared.needs.Answered.{Answered}
-use Rattle.call_table.specs.declared.needs.Answered.TheVariants.{NotHeld}
-use Rattle.call_table.specs.declared.needs.Request.{Request}
-use Rattle.heap_core.specs.Heaps.{HeapFacts, started}
-use Rattle.heap_core.specs.Seats.{answer_of, begun, seat_at}
-use Rattle.trace_text.specs.declared.lines.Verb.{Verb}
-use Rattle.replay_run.specs.declared.input.Stop.{Stop}
-use Rattle.replay_run.specs.Heads.{answer_line}
-use Rattle.replay_run.specs.Plays.{Began, IsSound}
-use Rattle.replay_run.specs.SoFar.{Came, EndsHere, Goes, Here, Now, Outset, is_one_step, world_at}
-use Rattle.replay_run.specs.Stops.{HasStopCause, status_for}
-use Rattle.replay_run.specs.World.{Awaits, Memory, Nothing, OneStep, TheEnd, TheEndBefore, TheStart, awaits_after, awaits_begun, awaits_call, begins, is_open, names_ended, request_of, target_of}
+use Rattle.replay_run.proofs.Words.{◌≡◌, ◌≢◌, ℕ, Bool, true, false, List, [], ◌++◌, Option, None, Some, is_some, Result, Ok, Err, IfErr, OnOk, OnErr, refl, ap, Appends-trans, slice_set, Appends, AppendsPrefix, Answered, NotHeld, Request, HeapFacts, started, answer_of, begun, seat_at, Verb, Stop, answer_line, Began, IsSound, Came, EndsHere, Goes, Here, Now, Outset, is_one_step, world_at, HasStopCause, status_for, Awaits, Memory, Nothing, OneStep, TheEnd, TheEndBefore, TheStart, awaits_after, awaits_begun, awaits_call, begins, is_open, names_ended, request_of, target_of}
 use Rattle.replay_run.proofs.Came.{Leads, came_next, came_sound}
 use Rattle.replay_run.proofs.Endings.{all_of, behind, sink_fault}
 use Rattle.replay_run.proofs.Stops.{stops_after}

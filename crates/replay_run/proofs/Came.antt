@@ -1,18 +1,5 @@
 -- A play that goes on by an event, and where it ends.
-use Rattle.std.proofs.Common.{arith, length, length-append, ◌+◌, ◌≡◌, ◌≤◌, ◌<◌, ℕ, Bool, List, [], ◌∷◌, ◌++◌, Option, Ok, sym, ◌∙◌, ap, subst, append-nil, append_assoc}
-use Rattle.std.proofs.lemmas.Grind.{flat_map-append}
-use Rattle.std.proofs.KnownBytes.{Appends-trans, Consumes-trans}
-use Rattle.edge_io.specs.Bytes.{Appends}
-use Rattle.hook_api.specs.Chain.{Chain}
-use Rattle.hook_api.specs.Chain.{Event as ShelfEvent}
-use Rattle.trace_text.specs.declared.lines.Line.{Line}
-use Rattle.trace_text.specs.Grammar.{line_of}
-use Rattle.trace_text.specs.Lines.{HasNoNewline}
-use Rattle.replay_run.specs.Causes.{byte_limit, line_limit}
-use Rattle.replay_run.specs.Input.{ReadsTo, TakesMore}
-use Rattle.replay_run.specs.Plays.{Event, HasSoundHeap, IsNext, IsSound, after_event, line_in, lines_in, shelf_event, shelf_events, world_after}
-use Rattle.replay_run.specs.SoFar.{Came, Here, Now, Outset, world_at}
-use Rattle.replay_run.specs.World.{Awaits, World, opening}
+use Rattle.replay_run.proofs.Words.{arith, length, length-append, ◌+◌, ◌≡◌, ◌≤◌, ◌<◌, ℕ, Bool, List, [], ◌∷◌, ◌++◌, Option, Ok, sym, ◌∙◌, ap, subst, append-nil, append_assoc, flat_map-append, Appends-trans, Consumes-trans, Appends, Chain, ShelfEvent, Line, line_of, HasNoNewline, byte_limit, line_limit, ReadsTo, TakesMore, Event, HasSoundHeap, IsNext, IsSound, after_event, line_in, lines_in, shelf_event, shelf_events, world_after, Came, Here, Now, Outset, world_at, Awaits, World, opening}
 use Rattle.replay_run.proofs.LinesRead.{reads_further, reads_one_more}
 use Rattle.replay_run.proofs.Plays.{chain_append, last_world, play_push, world_push, worlds_push}
 

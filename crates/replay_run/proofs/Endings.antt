@@ -1,14 +1,5 @@
 -- What a replay printed, by its status.
-use Rattle.std.proofs.Common.{arith, length, length-append, take, ◌+◌, ◌≡◌, ◌≢◌, ◌≤◌, inl, inr, ℕ, List, ◌++◌, Option, None, Some, ◌∙◌, Result, Ok, Err, IfErr, refl, sym, subst}
-use Rattle.std.proofs.KnownBytes.{Appends-trans}
-use Rattle.std.proofs.Math.Seq.{take-append-add, take-length}
-use Rattle.std.proofs.lemmas.Grind.{common_steps}
-use Rattle.std.specs.Result.{IsErrAnd}
-use Rattle.edge_io.specs.Bytes.{Appends, AppendsPrefix, Consumes, Keeps, Rose}
-use Rattle.replay_run.specs.declared.input.Stop.{Stop}
-use Rattle.replay_run.specs.declared.input.Stop.TheVariants.{ReadFault, WriteFault, NoMemory}
-use Rattle.replay_run.specs.Stops.{HasStopCause, status_for}
-use Rattle.replay_run.specs.Input.{TakesSome}
+use Rattle.replay_run.proofs.Words.{arith, length, length-append, take, ◌+◌, ◌≡◌, ◌≢◌, ◌≤◌, inl, inr, ℕ, List, ◌++◌, Option, None, Some, ◌∙◌, Result, Ok, Err, IfErr, refl, sym, subst, Appends-trans, take-append-add, take-length, common_steps, IsErrAnd, Appends, AppendsPrefix, Consumes, Keeps, Rose, Stop, ReadFault, WriteFault, NoMemory, HasStopCause, status_for, TakesSome}
 
 -- ---- stops
 

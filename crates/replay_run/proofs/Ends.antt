@@ -1,24 +1,5 @@
 -- Replays at their beginning and at their end.
-use Rattle.std.proofs.Common.{arith, length, map, true, IfErr, IfOk, replicate, ◌≡◌, ◌≤◌, ◌⊎◌, inl, inr, ℕ, Bool, List, [], ◌++◌, eqb, false, Option, None, Result, Ok, Err, refl, sym, ◌∙◌, subst}
-use Rattle.std.specs.Result.{IsErrAnd}
-use Rattle.std.proofs.KnownBytes.{Appends-nil, Consumes-nil}
-use Rattle.std.proofs.lemmas.List.Elements.{All-nil}
-use Rattle.edge_io.specs.Bytes.{Consumes, Keeps, Rose}
-use Rattle.hook_api.specs.Asked.{AskFacts}
-use Rattle.hook_api.specs.Shelf.{Shelf}
-use Rattle.hook_api.specs.declared.kept.Journal.{Journal}
-use Rattle.heap_core.specs.Arenas.{journal_of}
-use Rattle.heap_core.specs.Heaps.{opening_heap}
-use Rattle.replay_run.specs.declared.input.Stop.{Stop}
-use Rattle.replay_run.specs.declared.input.Stop.TheVariants.{NoMemory, ReadFault, WriteFault}
-use Rattle.report_text.specs.declared.causes.Cause.{Cause}
-use Rattle.replay_run.specs.Causes.{status_of}
-use Rattle.replay_run.specs.Input.{TakesSome}
-use Rattle.replay_run.specs.Plays.{IsSound, lines_in, world_after}
-use Rattle.replay_run.specs.Replays.{Ending, IsEnding, Open, Prints, ReplayOf, ending_text}
-use Rattle.replay_run.specs.SoFar.{Here, Now, Outset}
-use Rattle.replay_run.specs.Stops.{HasStopCause, status_for, status_in}
-use Rattle.replay_run.specs.World.{Nothing, World, opening}
+use Rattle.replay_run.proofs.Words.{arith, length, map, true, IfErr, IfOk, replicate, ◌≡◌, ◌≤◌, ◌⊎◌, inl, inr, ℕ, Bool, List, [], ◌++◌, eqb, false, Option, None, Result, Ok, Err, refl, sym, ◌∙◌, subst, IsErrAnd, Appends-nil, Consumes-nil, All-nil, Consumes, Keeps, Rose, AskFacts, Shelf, Journal, journal_of, opening_heap, Stop, NoMemory, ReadFault, WriteFault, Cause, status_of, TakesSome, IsSound, lines_in, world_after, Ending, IsEnding, Open, Prints, ReplayOf, ending_text, Here, Now, Outset, HasStopCause, status_for, status_in, Nothing, World, opening}
 use Rattle.replay_run.proofs.Endings.{kept_after, kept_begun, sink_fault}
 use Rattle.replay_run.proofs.Stops.{status_cause}
 

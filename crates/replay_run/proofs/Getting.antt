@@ -1,24 +1,7 @@
 -- A call that gets a region goes nowhere else until it ends.
-use Rattle.std.proofs.Common.{ℕ, ◌^◌, Bool, true, false, cond, not, min, [], ◌∷◌, Option, None, Some, nat_lt}
-use Rattle.size_classes.specs.Classes.{aligned_for}
-use Rattle.space_model.specs.declared.Reply.{Reply}
-use Rattle.space_model.specs.declared.Reply.TheVariants.{Nothing, Noted, Took, Grow, Cut, Refused as Refuse, Grown, Landed, Regions}
-use Rattle.space_model.specs.declared.Span.{Span}
-use Rattle.space_model.specs.Span.{max_series}
-use Rattle.hook_api.specs.Asked.{AskFacts}
-use Rattle.thread_cache.specs.declared.Held.{Held}
-use Rattle.thread_cache.specs.Desks.{DeskFacts}
-use Rattle.call_table.specs.declared.needs.Item.{Item}
-use Rattle.call_table.specs.declared.needs.Item.TheVariants.{Replied, Told, Starved}
-use Rattle.call_table.specs.declared.points.Wish.{Wish}
-use Rattle.call_table.specs.declared.points.TurnPoint.{TurnPoint}
-use Rattle.call_table.specs.declared.points.TurnPoint.TheVariants.{Filling, Looking, Landing}
-use Rattle.call_table.specs.declared.points.AskPoint.{AskPoint}
-use Rattle.call_table.specs.declared.points.AskPoint.TheVariants.{Skipping, Trimming, Growing, Paring, Needing, Granting, Committing}
-use Rattle.call_table.specs.Stages.{Point, Turns, Asks, Tells, Next, Go, Over, More}
-use Rattle.call_table.specs.Runs.{begin_get, begin_memalign, is_alignment, page_align, small_hit}
-use Rattle.call_table.specs.Table.{chunks_for, commit, is_marked, op_of, starved, step, told, trim, turned}
-use Rattle.call_table.proofs.Bounds.{chosen_stage}
+use Rattle.replay_run.proofs.Words.{ℕ, ◌^◌, Bool, true, false, cond, not, min, [], ◌∷◌, Option, None, Some, nat_lt, aligned_for, Reply, Noted, Took, Grow, Refuse, Grown, Landed, Regions, Span, max_series, AskFacts, Held, DeskFacts, Item, Replied, Wish, TurnPoint, Filling, Looking, Landing, AskPoint, Skipping, Trimming, Growing, Paring, Needing, Granting, Committing, Point, Turns, Asks, Tells, Next, Go, Over, More, begin_get, begin_memalign, is_alignment, page_align, small_hit, chunks_for, commit, is_marked, op_of, starved, step, told, trim, turned, chosen_stage}
+use Rattle.space_model.specs.declared.Reply.TheVariants.{Nothing, Cut}
+use Rattle.call_table.specs.declared.needs.Item.TheVariants.{Told, Starved}
 
 -- the points at which a call gets a region
 abbrev pub TurnGets : TurnPoint → Type 0

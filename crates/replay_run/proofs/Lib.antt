@@ -1,3 +1,4 @@
+pub mod Words
 pub mod LinesRead
 pub mod BadLines
 pub mod Endings

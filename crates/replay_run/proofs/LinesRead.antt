@@ -1,17 +1,5 @@
 -- The lines of the bytes that a source had.
-use Rattle.std.proofs.Common.{arith, Bool, cond, eqb, true, false, get_or, take, drop, length, ◌+◌, ◌≡◌, ◌≢◌, ◌<◌, ◌≤◌, ◌||◌, ℕ, suc, zero, List, [], ◌∷◌, ◌++◌, Some, None, Ok, refl, sym, ◌∙◌, ap, append_assoc}
-use Rattle.trace_text.specs.declared.lines.Line.{Line as SaidLine}
-use Rattle.trace_text.specs.Grammar.{line_of}
-use Rattle.trace_text.specs.Lines.{HasNoNewline}
-use Rattle.std.specs.List.{position, position_or_len}
-use Rattle.std.proofs.lemmas.Grind.{common_steps}
-use Rattle.std.proofs.lemmas.Bool.{eqb-true}
-use Rattle.std.proofs.lemmas.List.{drop_more, take-append-drop}
-use Rattle.std.proofs.lemmas.List.Elements.{All-head, All-tail, All-take}
-use Rattle.std.proofs.lemmas.List.Sums.{fails_before_first}
-use Rattle.std.proofs.lemmas.List.Quantifiers.{position-Some}
-use Rattle.replay_run.specs.Causes.{byte_limit, first_line, has_newline}
-use Rattle.replay_run.specs.Input.{ReadsTo}
+use Rattle.replay_run.proofs.Words.{arith, Bool, cond, eqb, true, false, get_or, take, drop, length, ◌+◌, ◌≡◌, ◌≢◌, ◌<◌, ◌≤◌, ◌||◌, ℕ, suc, zero, List, [], ◌∷◌, ◌++◌, Some, None, Ok, refl, sym, ◌∙◌, ap, append_assoc, SaidLine, line_of, HasNoNewline, position, position_or_len, common_steps, eqb-true, drop_more, take-append-drop, All-head, All-tail, All-take, fails_before_first, position-Some, byte_limit, first_line, has_newline, ReadsTo}
 
 -- ---- where a newline stands
 

@@ -1,29 +1,7 @@
 -- Each step that doesn't end for want of memory adds an entry to a journal, or an ask.
-use Rattle.std.proofs.Common.{arith, length, length-append, All, ◌+◌, ◌^◌, ◌≤◌, ◌≡◌, ◌≢◌, ◌<◌, inl, inr, ℕ, true, List, [], ◌∷◌, Option, None, Some, is_some, refl, ap}
-use Rattle.std.specs.List.{sum_by}
-use Rattle.std.proofs.lemmas.List.{get_or_default}
-use Rattle.std.proofs.lemmas.List.Quantifiers.{position-Some}
-use Rattle.std.proofs.lemmas.List.Sums.{sum_by-le, sum_by-set}
-use Rattle.space_model.specs.declared.Op.{Op}
-use Rattle.space_model.specs.declared.Op.TheVariants.{Publish}
-use Rattle.hook_api.specs.Asked.{AskFacts}
-use Rattle.hook_api.specs.Shelf.{Shelf}
-use Rattle.thread_cache.specs.declared.Held.{Held}
-use Rattle.thread_cache.specs.Desks.{held_at}
+use Rattle.replay_run.proofs.Words.{arith, length, length-append, All, ◌+◌, ◌^◌, ◌≤◌, ◌≡◌, ◌≢◌, ◌<◌, inl, inr, ℕ, true, List, [], ◌∷◌, Option, None, Some, is_some, refl, ap, sum_by, get_or_default, position-Some, sum_by-le, sum_by-set, Op, Publish, AskFacts, Shelf, Held, held_at, Next, Go, Point, CallFacts, taken_next, Want, WantAsk, WantTurn, want, Stepped, no_record, record_after, record_at, Record, HeapFacts, IsMade, IsStep, WantedAt, holder_at, holder_for, op_for, region_at, turned_for, Seat, first_seat, seat_at, HoldersPublish, IsSeated, SitsAt, IsSound, entries, step_limit, steps_of, is_open}
 use Rattle.call_table.specs.declared.needs.Answered.TheVariants.{NoMemory}
-use Rattle.call_table.specs.Stages.{Next, Go, Point}
-use Rattle.call_table.specs.Calls.{CallFacts}
-use Rattle.call_table.specs.Reads.{taken_next}
-use Rattle.call_table.specs.Table.{Want, WantAsk, WantTurn, want}
-use Rattle.heap_core.specs.declared.heaps.Stepped.{Stepped}
-use Rattle.heap_core.specs.Arenas.{no_record, record_after, record_at, turned}
-use Rattle.heap_core.specs.Records.{Record}
-use Rattle.heap_core.specs.Heaps.{HeapFacts, IsMade, IsStep, WantedAt, holder_at, holder_for, op_for, region_at, turned_for}
-use Rattle.heap_core.specs.Seats.{Seat, first_seat, seat_at}
-use Rattle.heap_core.specs.Sitting.{HoldersPublish, IsSeated, SitsAt}
-use Rattle.replay_run.specs.Plays.{IsSound}
-use Rattle.replay_run.specs.Steps.{entries, step_limit, steps_of}
-use Rattle.replay_run.specs.World.{is_open}
+use Rattle.heap_core.specs.Arenas.{turned}
 
 -- a turn in an arena adds an entry to its journal
 turn_longer : (records : List Record) (arena c : ℕ) (op : Op) (asked : Option AskFacts) → arena < length records →

@@ -1,13 +1,5 @@
 -- A new heap is sound.
-use Rattle.std.proofs.Common.{sym, subst}
-use Rattle.std.proofs.lemmas.List.{get_or-replicate}
-use Rattle.heap_core.specs.Arenas.{opening_records}
-use Rattle.heap_core.specs.Heaps.{opening_heap}
-use Rattle.heap_core.specs.Seats.{first_seat}
-use Rattle.heap_core.specs.Sitting.{SeatSound}
-use Rattle.heap_core.proofs.Sitting.{opening-sits}
-use Rattle.heap_core.proofs.Turned.{opening_is}
-use Rattle.replay_run.specs.Plays.{IsSound}
+use Rattle.replay_run.proofs.Words.{sym, subst, get_or-replicate, opening_records, opening_heap, first_seat, SeatSound, opening-sits, opening_is, IsSound}
 
 -- the arenas and the clients of a new heap are as they have to be
 pub opening_sound : IsSound opening_heap

@@ -1,23 +1,8 @@
 -- The look for the next line.
-use Rattle.std.proofs.Common.{arith, length, take, drop, ◌+◌, ◌≡◌, ◌≢◌, ◌<◌, ◌≤◌, ℕ, Bool, true, List, [], ◌∷◌, Option, Some, Result, Ok, Err, refl}
-use Rattle.std.specs.Result.{IsErrAnd}
-use Rattle.std.proofs.lemmas.List.{length-take-le}
-use Rattle.edge_io.specs.Bytes.{IsAtEnd, Keeps}
-use Rattle.report_text.specs.declared.causes.Cause.{Cause}
-use Rattle.report_text.specs.declared.causes.Cause.TheVariants.{Cut}
-use Rattle.trace_text.specs.declared.lines.Line.{Line}
-use Rattle.trace_text.specs.Grammar.{line_of}
-use Rattle.trace_text.specs.Lines.{HasNoNewline}
-use Rattle.replay_run.specs.declared.input.Found.{Found}
-use Rattle.replay_run.specs.declared.input.Found.TheVariants.{Line as FoundLine, TooLong, End}
-use Rattle.replay_run.specs.declared.input.Stop.{Stop}
+use Rattle.replay_run.proofs.Words.{arith, length, take, drop, ◌+◌, ◌≡◌, ◌≢◌, ◌<◌, ◌≤◌, ℕ, Bool, true, List, [], ◌∷◌, Option, Some, Result, Ok, Err, refl, IsErrAnd, length-take-le, IsAtEnd, Keeps, Cause, Cut, Line, line_of, HasNoNewline, Found, FoundLine, TooLong, Stop, byte_limit, line_limit, said_cause, InBounds, IsFirst, MetEnd, TakesMore, EndsHere, GoesNext, Here, IsUnread, Now, Outset, status_for, Awaits, Nothing}
+use Rattle.replay_run.specs.declared.input.Found.TheVariants.{End}
 use Rattle.replay_run.specs.declared.replays.Next.{Next}
 use Rattle.replay_run.specs.declared.replays.Next.TheVariants.{Bad, Over}
-use Rattle.replay_run.specs.Causes.{byte_limit, line_limit, said_cause}
-use Rattle.replay_run.specs.Input.{InBounds, IsFirst, MetEnd, TakesMore}
-use Rattle.replay_run.specs.SoFar.{EndsHere, GoesNext, Here, IsUnread, Now, Outset}
-use Rattle.replay_run.specs.Stops.{status_for}
-use Rattle.replay_run.specs.World.{Awaits, Nothing}
 use Rattle.replay_run.proofs.BadLines.{bad_cut, bad_long, bad_said}
 use Rattle.replay_run.proofs.Came.{here_ahead, here_read}
 use Rattle.replay_run.proofs.Endings.{kept_after}

@@ -1,25 +1,7 @@
 -- A call that has no answer is open.
-use Rattle.std.proofs.Common.{arith, length, length-set, ◌≡◌, ◌≢◌, ◌<◌, inl, inr, ℕ, true, Option, None, Some, is_none, is_some, set, refl, sym, ◌∙◌, ap, get_or-set_same}
-use Rattle.space_model.specs.declared.Op.{Op}
-use Rattle.hook_api.specs.Asked.{AskFacts}
-use Rattle.hook_api.specs.Shelf.{Shelf}
+use Rattle.replay_run.proofs.Words.{arith, length, length-set, ◌≡◌, ◌≢◌, ◌<◌, inl, inr, ℕ, true, Option, None, Some, is_none, is_some, set, refl, sym, ◌∙◌, ap, get_or-set_same, Op, AskFacts, Shelf, Item, Request, Next, Go, Over, More, Gone, Ends, Nowhere, Point, CallFacts, desk_fed, IsPlace, ended_by, taken_next, Moment, step_next, Want, WantAsk, WantTurn, want, begin-is_call, settle_place, Stepped, HeapFacts, IsMade, IsStep, WantedAt, answered_by, holder_for, moment_after, parted, started, turned_for, Seat, answer_of, asked_for, begun, first_seat, open_call, seat_at, seat_of, AsksSit, HoldersPublish, IsSeated, SitsAt, TurnsSit, IsSound, is_open}
 use Rattle.call_table.specs.declared.needs.Answered.TheVariants.{NoMemory}
-use Rattle.call_table.specs.declared.needs.Item.{Item}
-use Rattle.call_table.specs.declared.needs.Request.{Request}
-use Rattle.call_table.specs.Stages.{Next, Go, Over, More, Gone, Ends, Nowhere, Point}
-use Rattle.call_table.specs.Calls.{CallFacts}
-use Rattle.call_table.specs.Desks.{desk_fed}
-use Rattle.call_table.specs.Needs.{Goes, IsPlace}
-use Rattle.call_table.specs.Reads.{ended_by, taken_next}
-use Rattle.call_table.specs.Runs.{Moment, step_next}
-use Rattle.call_table.specs.Table.{Want, WantAsk, WantTurn, want}
-use Rattle.call_table.proofs.Credits.{begin-is_call, settle_place}
-use Rattle.heap_core.specs.declared.heaps.Stepped.{Stepped}
-use Rattle.heap_core.specs.Heaps.{HeapFacts, IsMade, IsStep, WantedAt, answered_by, holder_for, moment_after, parted, started, turned_for}
-use Rattle.heap_core.specs.Seats.{Seat, answer_of, asked_for, begun, first_seat, open_call, seat_at, seat_of}
-use Rattle.heap_core.specs.Sitting.{AsksSit, HoldersPublish, IsSeated, SitsAt, TurnsSit}
-use Rattle.replay_run.specs.Plays.{IsSound}
-use Rattle.replay_run.specs.World.{is_open}
+use Rattle.call_table.specs.Needs.{Goes}
 use Rattle.replay_run.proofs.Longer.{holder_region}
 
 -- a call that came to a place is open there, or has its answer

@@ -1,11 +1,5 @@
 -- Plays that grow by an event.
-use Rattle.std.proofs.Common.{◌≡◌, List, [], ◌∷◌, ◌++◌, subst}
-use Rattle.std.proofs.lemmas.List.Sums.{fold_push}
-use Rattle.hook_api.specs.Chain.{Chain}
-use Rattle.hook_api.specs.Chain.{Event as ShelfEvent}
-use Rattle.hook_api.specs.Shelf.{Shelf}
-use Rattle.replay_run.specs.Plays.{AllWorlds, Event, IsNext, IsPlay, after_event, world_after}
-use Rattle.replay_run.specs.World.{World}
+use Rattle.replay_run.proofs.Words.{◌≡◌, List, [], ◌∷◌, ◌++◌, subst, fold_push, Chain, ShelfEvent, Shelf, AllWorlds, Event, IsNext, IsPlay, after_event, world_after, World}
 
 -- the world after one more event
 pub world_push : (w : World) (events : List Event) (event : Event) → world_after w (events ++ event ∷ []) ≡ after_event (world_after w events) event

@@ -1,22 +1,6 @@
 -- A line that is read is an event.
-use Rattle.std.proofs.Common.{◌≡◌, ◌≢◌, ℕ, Bool, true, false, List, [], ◌∷◌, ◌++◌, Option, None, Result, Ok, Err, IfErr, OnOk, OnErr, refl, sym, ◌∙◌, ap, subst, append-nil}
-use Rattle.std.proofs.KnownBytes.{Appends-nil, Appends-trans}
-use Rattle.edge_io.specs.Bytes.{Appends, AppendsPrefix}
-use Rattle.hook_api.specs.Chain.{Chain}
-use Rattle.hook_api.specs.Shelf.{PlanStep, Shelf}
-use Rattle.hook_api.specs.declared.plans.Kind.{Kind}
-use Rattle.space_model.specs.declared.Counts.{Counts}
-use Rattle.heap_core.specs.Arenas.{record_at}
-use Rattle.report_text.specs.Lines.{idle_line}
-use Rattle.trace_text.specs.declared.lines.Line.{Line}
-use Rattle.trace_text.specs.declared.lines.Line.TheVariants.{Blank, Call, Start, Step, End, At, Refuse, Counts as CountsOf}
-use Rattle.trace_text.specs.declared.lines.Verb.{Verb}
-use Rattle.replay_run.specs.declared.input.Stop.{Stop}
-use Rattle.replay_run.specs.Causes.{line_cause}
-use Rattle.replay_run.specs.Plays.{IsSound, Read, plan_in}
-use Rattle.replay_run.specs.SoFar.{Came, EndsHere, Goes, Here, Now, Outset, world_at}
-use Rattle.replay_run.specs.Stops.{HasStopCause, status_for}
-use Rattle.replay_run.specs.World.{Awaits, Nothing, OneStep, TheEnd, awaits_call, awaits_or_idle, counts_text, is_open, line_read, live_counts}
+use Rattle.replay_run.proofs.Words.{◌≡◌, ◌≢◌, ℕ, Bool, true, false, List, [], ◌∷◌, ◌++◌, Option, None, Result, Ok, Err, IfErr, OnOk, OnErr, refl, sym, ◌∙◌, ap, subst, append-nil, Appends-nil, Appends-trans, Appends, AppendsPrefix, Chain, PlanStep, Shelf, Kind, Counts, record_at, idle_line, Line, Blank, Call, Start, Step, End, At, CountsOf, Verb, Stop, line_cause, IsSound, Read, plan_in, Came, EndsHere, Goes, Here, Now, Outset, world_at, HasStopCause, status_for, Awaits, Nothing, OneStep, TheEnd, awaits_call, awaits_or_idle, counts_text, is_open, line_read, live_counts}
+use Rattle.trace_text.specs.declared.lines.Line.TheVariants.{Refuse}
 use Rattle.replay_run.proofs.Came.{Leads, came_next, came_sound}
 use Rattle.replay_run.proofs.Endings.{behind, sink_fault}
 use Rattle.replay_run.proofs.Stops.{stops_after}

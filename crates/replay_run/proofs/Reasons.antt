@@ -1,12 +1,5 @@
 -- Every answer of a play has its cause: the reasons of a call are kept by each step.
-use Rattle.std.proofs.Common.{ℕ, List, Option, None, Some, IfSome}
-use Rattle.call_table.specs.declared.needs.Answered.{Answered}
-use Rattle.call_table.specs.Stages.{Next}
-use Rattle.heap_core.specs.Seats.{asked_for, seat_at}
-use Rattle.call_table.proofs.Reasons.{NextWhy, begin_why, settle_why, step_why}
-use Rattle.replay_run.specs.Answers.{AnswerCause, AnswersHaveCauses, IsCaused, Tale, answer_in, tale_in}
-use Rattle.replay_run.specs.Plays.{Event}
-use Rattle.replay_run.specs.World.{World}
+use Rattle.replay_run.proofs.Words.{ℕ, List, Option, None, Some, IfSome, Answered, Next, asked_for, seat_at, NextWhy, begin_why, settle_why, step_why, AnswerCause, AnswersHaveCauses, IsCaused, Tale, answer_in, tale_in, Event, World}
 use Rattle.replay_run.proofs.Tales.{EndsWith, IsEnded, Kept, each_event}
 
 -- the reasons of a place of a call, by its tale

@@ -1,27 +1,6 @@
 -- A step of a client's open call is an event.
-use Rattle.std.proofs.Common.{◌≡◌, ◌≢◌, inl, inr, ℕ, Bool, true, List, [], ◌++◌, Option, None, Some, is_none, is_some, refl, sym, ◌∙◌, ap, append-nil}
-use Rattle.std.proofs.KnownBytes.{Appends-trans}
-use Rattle.edge_io.specs.Bytes.{Appends, AppendsPrefix}
-use Rattle.hook_api.specs.Chain.{Chain}
-use Rattle.hook_api.specs.Shelf.{Shelf}
+use Rattle.replay_run.proofs.Words.{◌≡◌, ◌≢◌, inl, inr, ℕ, Bool, true, List, [], ◌++◌, Option, None, Some, is_none, is_some, refl, sym, ◌∙◌, ap, append-nil, Appends-trans, Appends, AppendsPrefix, Chain, Shelf, Next, Go, Point, CallFacts, Want, WantAsk, WantTurn, want, Did, Stepped, ToldItem, HeapFacts, IsMade, IsStep, WantedAt, answered_by, holder_for, moment_after, answer_of, seat_at, ask_line, turn_line, Line, Verb, Event, IsNext, Starved, Told, Turned, Unnamed, after_event, client_awaited, line_in, shelf_event, Stop, IsSound, Came, EndsHere, Here, Now, Outset, did_line, is_one_step, shown_line, world_at, status_for, Awaits, OneStep, World, awaits_after, ended_line, is_open, names_closed, step_text, stepped, verb_at, verbs_closed}
 use Rattle.call_table.specs.declared.needs.Answered.TheVariants.{NoMemory}
-use Rattle.call_table.specs.Stages.{Next, Go, Point}
-use Rattle.call_table.specs.Calls.{CallFacts}
-use Rattle.call_table.specs.Table.{Want, WantAsk, WantTurn, want}
-use Rattle.heap_core.specs.declared.heaps.Did.{Did}
-use Rattle.heap_core.specs.declared.heaps.Stepped.{Stepped}
-use Rattle.call_table.specs.declared.needs.Item.TheVariants.{Told as ToldItem}
-use Rattle.heap_core.specs.Heaps.{HeapFacts, IsMade, IsStep, WantedAt, answered_by, holder_for, moment_after}
-use Rattle.heap_core.specs.Seats.{answer_of, seat_at}
-use Rattle.report_text.specs.Lines.{ask_line, turn_line}
-use Rattle.trace_text.specs.declared.lines.Line.{Line}
-use Rattle.trace_text.specs.declared.lines.Verb.{Verb}
-use Rattle.replay_run.specs.Plays.{Event, IsNext, Starved, Told, Turned, Unnamed, after_event, client_awaited, line_in, shelf_event}
-use Rattle.replay_run.specs.declared.input.Stop.{Stop}
-use Rattle.replay_run.specs.Plays.{IsSound}
-use Rattle.replay_run.specs.SoFar.{Came, EndsHere, Here, Now, Outset, did_line, is_one_step, shown_line, world_at}
-use Rattle.replay_run.specs.Stops.{status_for}
-use Rattle.replay_run.specs.World.{Awaits, OneStep, World, awaits_after, ended_line, is_open, names_closed, step_text, stepped, verb_at, verbs_closed}
 use Rattle.replay_run.proofs.Came.{Leads, came_next}
 use Rattle.replay_run.proofs.Endings.{all_of, behind, longer}
 use Rattle.replay_run.proofs.Stops.{stops_after}

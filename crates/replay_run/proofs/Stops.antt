@@ -1,22 +1,5 @@
 -- Replays that end.
-use Rattle.std.proofs.Common.{arith, length, map, ◌≡◌, ◌≢◌, ◌⊎◌, inl, inr, ℕ, Bool, List, [], ◌++◌, Option, Result, Ok, Err, IfOk, IfErr, OnOk, OnErr, refl, sym, ◌∙◌, ap, subst, append-nil}
-use Rattle.std.proofs.KnownBytes.{Appends-trans}
-use Rattle.std.specs.Result.{IsErrAnd}
-use Rattle.edge_io.specs.Bytes.{Appends, AppendsPrefix}
-use Rattle.heap_core.specs.Arenas.{journal_of}
-use Rattle.report_text.specs.declared.causes.Cause.{Cause}
-use Rattle.report_text.specs.declared.causes.Cause.TheVariants.{LimitBytes, LimitLines, LimitThreads}
-use Rattle.trace_text.specs.declared.lines.Line.{Line}
-use Rattle.trace_text.specs.Lines.{HasNoNewline}
-use Rattle.replay_run.specs.declared.input.Stop.{Stop}
-use Rattle.replay_run.specs.declared.input.Stop.TheVariants.{ReadFault}
-use Rattle.replay_run.specs.Causes.{status_of}
-use Rattle.replay_run.specs.Input.{ReadsTo, TakesSome}
-use Rattle.replay_run.specs.Plays.{lines_in, world_after}
-use Rattle.replay_run.specs.Replays.{Bad, Ending, IsEnding, Open, Prints, Whole, ending_text}
-use Rattle.replay_run.specs.SoFar.{Came, EndsHere, Goes, Here, Now, Outset, world_at}
-use Rattle.replay_run.specs.Stops.{HasStopCause, status_for, status_in}
-use Rattle.replay_run.specs.World.{Awaits, Nothing, World, opening}
+use Rattle.replay_run.proofs.Words.{arith, length, map, ◌≡◌, ◌≢◌, ◌⊎◌, inl, inr, ℕ, Bool, List, [], ◌++◌, Option, Result, Ok, Err, IfOk, IfErr, OnOk, OnErr, refl, sym, ◌∙◌, ap, subst, append-nil, Appends-trans, IsErrAnd, Appends, AppendsPrefix, journal_of, Cause, LimitBytes, LimitLines, LimitThreads, Line, HasNoNewline, Stop, ReadFault, status_of, ReadsTo, TakesSome, lines_in, world_after, Bad, Ending, IsEnding, Open, Prints, Whole, ending_text, Came, EndsHere, Goes, Here, Now, Outset, world_at, HasStopCause, status_for, status_in, Awaits, Nothing, World, opening}
 use Rattle.replay_run.proofs.Asks.{came_asks}
 use Rattle.replay_run.proofs.Came.{here_read}
 use Rattle.replay_run.proofs.Endings.{all_of, behind, longer, read_fault, sink_fault, stop_bounds}

@@ -1,48 +1,9 @@
 -- What is kept by each step of a call is so of each open call of a play by its tale, and of each answer.
-use Rattle.std.proofs.Common.{◌≡◌, ◌≢◌, ℕ, ◌<◌, ◌≤◌, ◌==◌, Bool, true, false, List, [], ◌∷◌, Option, None, Some, IfSome, is_none, length, slice_set, refl, sym, ◌∙◌, ap, subst, arith, nat_lt}
-use Rattle.std.specs.Option.{option_map}
-use Rattle.std.proofs.lemmas.Bool.{ltb-true}
-use Rattle.std.proofs.lemmas.Bool.Decides.{nat_tests}
-use Rattle.std.proofs.lemmas.List.{get_or-replicate, get_or-set_other, get_or-set_same, length-replicate, set-get_or}
+use Rattle.replay_run.proofs.Words.{◌≡◌, ◌≢◌, ℕ, ◌<◌, ◌≤◌, ◌==◌, Bool, true, false, List, [], ◌∷◌, Option, None, Some, IfSome, is_none, length, refl, sym, ◌∙◌, ap, subst, arith, nat_lt, option_map, ltb-true, nat_tests, get_or-replicate, get_or-set_other, length-replicate, set-get_or, Op, Space, Sound, step_of, AskFacts, Held, DeskFacts, not_holding, Answered, NotHeld, Item, Replied, ToldItem, Request, Owning, Point, Turns, Next, Go, Over, More, Gone, Ends, Nowhere, CallFacts, moment_of, desk_fed, Moves, aimed, ended_by, published_next, Moment, after, begin_stage, settle, step_next, Want, WantAsk, WantTurn, step, record_at, spaces_of, settled, HeapFacts, answered_by, holder_for, moment_after, parted, published_for, region_for, replied, started, told_to, turned_for, Seat, answer_of, asked_for, begun, first_seat, open_call, seat_at, seat_of, IsSeated, SitsAt, found_for, settled_is, sound_at, past, ask_line, turn_line, Line, Call, Start, Step, End, Verb, Take, CtlPlain, CtlWrite, AllEvents, NowhereCause, Tale, answer_begun, answer_in, no_tales, tale_at, tale_begun, tale_fed, tale_in, tale_turned, tale_until, tales_after, tales_begun, line_cause, verb_cause, address_at, AllWorlds, Event, HasSoundHeap, IsAskOf, IsPlay, IsSound, IsWanted, client_awaited, Read, Began, Turned, Told, Starved, Unnamed, after_event, Awaits, Memory, Nothing, OneStep, TheEnd, TheEndBefore, TheStart, World, arena_with, awaits_after, awaits_call, awaits_or_idle, begins, begun_as, is_open, line_read, opening, request_of, stepped, take_in, target_of}
+use Rattle.std.proofs.Common.{slice_set}
+use Rattle.std.proofs.lemmas.List.{get_or-set_same}
 use Rattle.std.proofs.Math.ListN.{length-set}
-use Rattle.space_model.specs.declared.Op.{Op}
-use Rattle.space_model.specs.declared.Space.{Space}
-use Rattle.space_model.specs.Sound.{Sound}
-use Rattle.space_model.specs.Step.{step_of}
-use Rattle.hook_api.specs.Asked.{AskFacts}
-use Rattle.thread_cache.specs.declared.Held.{Held}
-use Rattle.thread_cache.specs.Desks.{DeskFacts, not_holding}
-use Rattle.call_table.specs.declared.needs.Answered.{Answered}
-use Rattle.call_table.specs.declared.needs.Answered.TheVariants.{NotHeld}
-use Rattle.call_table.specs.declared.needs.Item.{Item}
-use Rattle.call_table.specs.declared.needs.Item.TheVariants.{Replied, Told as ToldItem}
-use Rattle.call_table.specs.declared.needs.Request.{Request}
-use Rattle.call_table.specs.declared.points.TurnPoint.TheVariants.{Owning}
-use Rattle.call_table.specs.Stages.{Point, Turns, Next, Go, Over, More, Gone, Ends, Nowhere}
-use Rattle.call_table.specs.Calls.{CallFacts, moment_of}
 use Rattle.call_table.specs.Causes.{Came}
-use Rattle.call_table.specs.Desks.{desk_fed}
-use Rattle.call_table.specs.Laws.{Moves}
-use Rattle.call_table.specs.Reads.{aimed, ended_by, published_next}
-use Rattle.call_table.specs.Runs.{Moment, after, begin_stage, settle, step_next}
-use Rattle.call_table.specs.Table.{Want, WantAsk, WantTurn, step}
-use Rattle.heap_core.specs.Arenas.{record_at, spaces_of}
-use Rattle.heap_core.specs.Chunks.{settled}
-use Rattle.heap_core.specs.Heaps.{HeapFacts, answered_by, holder_for, moment_after, parted, published_for, region_for, replied, started, told_to, turned_for}
-use Rattle.heap_core.specs.Seats.{Seat, answer_of, asked_for, begun, first_seat, open_call, seat_at, seat_of}
-use Rattle.heap_core.specs.Sitting.{IsSeated, SitsAt}
-use Rattle.heap_core.proofs.Clients.{found_for, settled_is, sound_at}
-use Rattle.heap_core.proofs.Turned.{past}
-use Rattle.report_text.specs.Lines.{ask_line, turn_line}
-use Rattle.trace_text.specs.declared.lines.Line.{Line}
-use Rattle.trace_text.specs.declared.lines.Line.TheVariants.{Call, Start, Step, End}
-use Rattle.trace_text.specs.declared.lines.Verb.{Verb}
-use Rattle.trace_text.specs.declared.lines.Verb.TheVariants.{Take, CtlPlain, CtlWrite}
-use Rattle.replay_run.specs.Answers.{AllEvents, NowhereCause, Tale, answer_begun, answer_in, no_tales, tale_at, tale_begun, tale_fed, tale_in, tale_turned, tale_until, tales_after, tales_begun}
-use Rattle.replay_run.specs.Causes.{line_cause, verb_cause}
-use Rattle.replay_run.specs.Names.{address_at}
-use Rattle.replay_run.specs.Plays.{AllWorlds, Event, HasSoundHeap, IsAskOf, IsPlay, IsSound, IsWanted, client_awaited, Read, Began, Turned, Told, Starved, Unnamed, after_event}
-use Rattle.replay_run.specs.World.{Awaits, Memory, Nothing, OneStep, TheEnd, TheEndBefore, TheStart, World, arena_with, awaits_after, awaits_call, awaits_or_idle, begins, begun_as, is_open, line_read, opening, request_of, stepped, take_in, target_of}
 
 -- the call that is to begin is one that is carried out
 abbrev pub IsBuilt : Awaits → Type 0

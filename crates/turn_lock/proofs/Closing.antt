@@ -1,28 +1,5 @@
 -- What the claims of all passes say of the whole history.
-use Rattle.std.proofs.Common.{◌≡◌, ℕ, ◌+◌, ◌-◌, ◌<◌, ◌≤◌, ◌≢◌, suc, List, [], ◌∷◌, ◌++◌, length, set, sym, refl, ap, ◌∙◌, subst, lt_of_not-le, arith, append_assoc, append-nil}
-use Rattle.std.specs.List.{All, AllPairs, flat_map, sum_by, range_with_len}
-use Rattle.std.proofs.lemmas.List.Elements.{All-nil, All-cons, All-tail}
-use Rattle.std.proofs.lemmas.List.Kept.{AllPairs-cons}
-use Rattle.std.proofs.lemmas.List.Sums.{sum_by-cons}
-use Rattle.std.proofs.lemmas.Grind.{flat_map-append}
-use Rattle.std.proofs.lemmas.Bool.Decides.{nat_tests}
-use mathlib.Core.Option.{some}
-use mathlib.Core.List.{IsPrefix}
-use mathlib.Core.Logic.{dite}
-use native.Mathlib.Decide.{dec_le, ℕ_discrete}
-use lib.ListN.{get_elem?}
-use Rattle.atomic_table.specs.Table.{State}
-use Rattle.atomic_table.proofs.Lists.{at_longer}
-use Rattle.turn_lock.specs.declared.machine.Machine.{Ghosts}
-use Rattle.turn_lock.specs.declared.lock.Pass.{Pass}
-use Rattle.turn_lock.specs.declared.view.Turn.{Turn}
-use Rattle.turn_lock.specs.declared.view.Claim.{Claim}
-use Rattle.turn_lock.specs.declared.view.View.{View}
-use Rattle.turn_lock.specs.History.{entries_by, replay}
-use Rattle.turn_lock.specs.Rule.{total, times, counted, has, IsClaim, Rule}
-use Rattle.turn_lock.specs.Steps.{spent}
-use Rattle.turn_lock.specs.Views.{seen_by, numbers_of}
-use Rattle.turn_lock.specs.Locks.{number, held, HasMade, IsWhole}
+use Rattle.turn_lock.proofs.Words.{◌≡◌, ℕ, ◌+◌, ◌-◌, ◌<◌, ◌≤◌, ◌≢◌, suc, List, [], ◌∷◌, ◌++◌, length, set, sym, refl, ap, ◌∙◌, subst, lt_of_not-le, arith, append_assoc, append-nil, All, AllPairs, flat_map, sum_by, range_with_len, All-nil, All-cons, All-tail, AllPairs-cons, sum_by-cons, flat_map-append, nat_tests, some, IsPrefix, dite, dec_le, ℕ_discrete, get_elem?, State, at_longer, Ghosts, Pass, Turn, Claim, View, entries_by, replay, total, times, counted, has, IsClaim, Rule, spent, seen_by, numbers_of, number, held, HasMade, IsWhole}
 use Rattle.turn_lock.proofs.Totals.{total_one, total_set, total_append, total_le, times_range, length_range}
 use Rattle.turn_lock.proofs.Histories.{start_stays}
 use Rattle.turn_lock.proofs.Turned.{only_one}

@@ -1,14 +1,5 @@
 -- A history that grows.
-use Rattle.std.proofs.Common.{◌≡◌, ℕ, ◌≢◌, Bool, cond, eqb, List, [], ◌∷◌, ◌++◌, map, sym, refl, ap, ◌∙◌, subst, ne_eqb, eq-eqb, append_assoc, append-nil}
-use Rattle.std.specs.List.{filter}
-use Rattle.std.proofs.lemmas.List.{append_cancel_left, map-append}
-use Rattle.std.proofs.lemmas.List.Elements.{filter-append}
-use Rattle.std.proofs.lemmas.List.Sums.{fold-append}
-use mathlib.Core.List.{IsPrefix}
-use mathlib.Core.Logic.{dite}
-use native.Mathlib.Decide.{ℕ_discrete}
-use Rattle.turn_lock.specs.declared.view.Turn.{Turn}
-use Rattle.turn_lock.specs.History.{turn_of, entries, entries_by, replay, IsLegal}
+use Rattle.turn_lock.proofs.Words.{◌≡◌, ℕ, ◌≢◌, Bool, cond, eqb, List, [], ◌∷◌, ◌++◌, map, sym, refl, ap, ◌∙◌, subst, ne_eqb, eq-eqb, append_assoc, append-nil, filter, append_cancel_left, map-append, filter-append, fold-append, IsPrefix, dite, ℕ_discrete, Turn, turn_of, entries, entries_by, replay, IsLegal}
 
 module _ {E : Type 0} where
   -- the entries of a number in two parts of a history

@@ -1,24 +1,5 @@
 -- Each step keeps the rule.
-use Rattle.std.proofs.Common.{◌≡◌, ℕ, ◌+◌, ◌-◌, ◌%◌, ◌^◌, ◌<◌, ◌≤◌, ◌≢◌, ◌⊎◌, zero, suc, true, false, cond, ltb, List, [], ◌∷◌, ◌++◌, map, length, get_or, take, drop, set, Some, sym, refl, ap, ◌∙◌, subst, inl, inr, ⊎_elim, arith, length-append}
-use mathlib.Core.Option.{Option, none, some, some-injective, some-ne-none}
-use mathlib.Core.Logic.{dite}
-use native.Mathlib.Decide.{ℕ_discrete}
-use lib.ListN.{get_elem?}
-use lib.Seq.{set-get_or}
-use Rattle.std.proofs.Math.Nat.{mod-add-mod}
-use Rattle.std.proofs.lemmas.Bool.Decides.{nat_tests}
-use Rattle.std.proofs.lemmas.List.{append_cancel_left}
-use Rattle.std.specs.List.{range_with_len}
-use Rattle.atomic_table.specs.Table.{State, Me, step, keeps, takes, gives, stepped, rest, Allows, Splits, Joins, opening}
-use Rattle.atomic_table.proofs.Lists.{at_set, set_again, set_else, at_snoc, at_longer, one_turn}
-use Rattle.turn_lock.specs.declared.view.Turn.{Turn}
-use Rattle.turn_lock.specs.declared.view.Claim.{Claim}
-use Rattle.turn_lock.specs.declared.view.Stage.{Stage}
-use Rattle.turn_lock.specs.declared.view.Stage.TheVariants.{Idle, Waiting, Serving}
-use Rattle.turn_lock.specs.declared.view.View.{View}
-use Rattle.turn_lock.specs.History.{turn_of, entries, entries_by, replay, IsLegal}
-use Rattle.turn_lock.specs.Rule.{total, times, tickets_in, ticket_of, is_serving, is_idle, IsClaim, StandsIn, counted, has, tickets, staged, Knows, Slot, opening_view, Rule}
-use Rattle.turn_lock.specs.Steps.{drew, looked, with_turn, added, skipped, first_part, later_part, joined, spent}
+use Rattle.turn_lock.proofs.Words.{◌≡◌, ℕ, ◌+◌, ◌-◌, ◌%◌, ◌^◌, ◌<◌, ◌≤◌, ◌≢◌, ◌⊎◌, zero, suc, true, false, cond, ltb, List, [], ◌∷◌, ◌++◌, map, length, get_or, take, drop, set, Some, sym, refl, ap, ◌∙◌, subst, inl, inr, ⊎_elim, arith, length-append, Option, none, some, some-injective, some-ne-none, dite, ℕ_discrete, get_elem?, set-get_or, mod-add-mod, nat_tests, append_cancel_left, range_with_len, State, Me, step, keeps, takes, gives, stepped, rest, Allows, Splits, Joins, opening, at_set, set_again, set_else, at_snoc, at_longer, one_turn, Turn, Claim, Stage, Idle, Waiting, Serving, View, turn_of, entries, entries_by, replay, IsLegal, total, times, tickets_in, ticket_of, is_serving, is_idle, IsClaim, StandsIn, counted, has, tickets, staged, Knows, Slot, opening_view, Rule, drew, looked, with_turn, added, skipped, first_part, later_part, joined, spent}
 use Rattle.turn_lock.proofs.Totals.{total_set, total_append, total_one, total_two, total_le, times_range, times_parts, length_parts, length_range, total_parts, at_mapped, at_append}
 use Rattle.turn_lock.proofs.Histories.{by_other, entries_append, prefix_all, prefix_more, replay_append, legal_more}
 

@@ -1,3 +1,4 @@
+pub mod Words
 mod Closing
 mod Histories
 mod Keeps

@@ -1,10 +1,5 @@
 -- Sums over the views, and over the numbers that they have.
-use Rattle.std.proofs.Common.{◌≡◌, ℕ, ◌+◌, ◌≤◌, ◌≢◌, zero, suc, cond, ltb, List, [], ◌∷◌, ◌++◌, map, length, take, drop, set, sym, refl, ap, arith}
-use Rattle.std.specs.List.{range_with_len}
-use Rattle.std.proofs.lemmas.Bool.Decides.{nat_tests}
-use mathlib.Core.Option.{some, some-injective, some-ne-none}
-use lib.ListN.{get_elem?}
-use Rattle.turn_lock.specs.Rule.{total, times}
+use Rattle.turn_lock.proofs.Words.{◌≡◌, ℕ, ◌+◌, ◌≤◌, ◌≢◌, zero, suc, cond, ltb, List, [], ◌∷◌, ◌++◌, map, length, take, drop, set, sym, refl, ap, arith, range_with_len, nat_tests, some, some-injective, some-ne-none, get_elem?, total, times}
 
 module _ {A : Type 0} (f : A → ℕ) where
   -- the sum after one element is replaced

@@ -1,20 +1,5 @@
 -- What a turn shows of the history that it met.
-use Rattle.std.proofs.Common.{◌≡◌, ℕ, ◌+◌, ◌-◌, ◌%◌, ◌^◌, ◌<◌, ◌≢◌, true, Result, Ok, Err, IfOk, OnErr, List, [], ◌∷◌, ◌++◌, length, get_or, Some, sym, refl, ap, ◌∙◌, subst, arith}
-use Rattle.std.specs.List.{range_with_len}
-use Rattle.std.proofs.lemmas.Bool.Decides.{nat_tests}
-use mathlib.Core.Option.{none, some-injective}
-use mathlib.Core.List.{IsPrefix}
-use lib.ListN.{get_elem?}
-use Rattle.atomic_table.specs.Table.{rest, step, Allows}
-use Rattle.turn_lock.specs.declared.view.Turn.{Turn}
-use Rattle.turn_lock.specs.declared.view.Claim.{Claim}
-use Rattle.turn_lock.specs.declared.view.View.{View}
-use Rattle.turn_lock.specs.declared.view.Stage.{Stage}
-use Rattle.turn_lock.specs.declared.view.Stage.TheVariants.{Idle, Serving}
-use Rattle.turn_lock.specs.Steps.{Sat, Enters, added, skipped, with_turn}
-use Rattle.turn_lock.specs.History.{turn_of, entries, entries_by, replay, IsLegal}
-use Rattle.turn_lock.specs.Rule.{times, is_idle, IsClaim, staged, Rule}
-use Rattle.turn_lock.specs.Views.{seen_by, numbers_of, Served}
+use Rattle.turn_lock.proofs.Words.{◌≡◌, ℕ, ◌+◌, ◌-◌, ◌%◌, ◌^◌, ◌<◌, ◌≢◌, true, Result, Ok, Err, IfOk, OnErr, List, [], ◌∷◌, ◌++◌, length, get_or, Some, sym, refl, ap, ◌∙◌, subst, arith, range_with_len, nat_tests, none, some-injective, IsPrefix, get_elem?, rest, step, Allows, Turn, Claim, View, Stage, Idle, Serving, Sat, Enters, added, skipped, with_turn, turn_of, entries, entries_by, replay, IsLegal, times, is_idle, IsClaim, staged, Rule, seen_by, numbers_of, Served}
 use Rattle.turn_lock.proofs.Totals.{times_range}
 use Rattle.turn_lock.proofs.Histories.{by_append, by_other, by_same, nothing_after, replay_append, legal_later, legal_more, own_stays}
 use Rattle.turn_lock.proofs.Keeps.{adds, skips, first_there}

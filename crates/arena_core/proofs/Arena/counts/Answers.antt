@@ -1,5 +1,4 @@
-use Rattle.std.proofs.Common.{ap, ◌∙◌}
-use Rattle.space_model.specs.Counts.{counts_of}
+use Rattle.arena_core.proofs.Words.{ap, ◌∙◌, counts_of}
 use Rattle.arena_core.proofs.Arena.counts.Goals as goal
 
 pub returns : goal.returns

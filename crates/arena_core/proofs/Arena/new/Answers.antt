@@ -1,7 +1,4 @@
-use Rattle.std.proofs.Common.{◌≡◌, arith, rules, refl, sym, ap, subst, length}
-use Rattle.space_model.specs.Opening.{new_pace}
-use Rattle.space_model.specs.Sound.{Sound}
-use Rattle.arena_core.specs.Arenas.{all_rooms}
+use Rattle.arena_core.proofs.Words.{◌≡◌, arith, rules, refl, sym, ap, subst, length, new_pace, Sound, all_rooms}
 use Rattle.arena_core.proofs.Books.{booked_as, nothing_booked}
 use Rattle.arena_core.proofs.Outcomes.{opening_sound}
 use Rattle.arena_core.proofs.Arena.new.Goals as goal

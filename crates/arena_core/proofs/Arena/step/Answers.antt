@@ -1,5 +1,4 @@
-use Rattle.std.proofs.Common.{OnOk, ◌≤◌, subst}
-use Rattle.arena_core.specs.Arenas.{Standing, emptied_by, given_by}
+use Rattle.arena_core.proofs.Words.{OnOk, ◌≤◌, subst, Standing, emptied_by, given_by}
 use Rattle.arena_core.proofs.Outcomes.{stepped}
 use Rattle.arena_core.proofs.Arena.step.Goals as goal
 

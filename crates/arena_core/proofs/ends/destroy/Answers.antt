@@ -1,7 +1,4 @@
-use Rattle.std.proofs.Common.{◌≡◌, ◌∙◌, ap, rules, sym}
-use Rattle.space_model.specs.Ending.{after_destroy}
-use Rattle.arena_core.specs.Indexes.{space_of}
-use Rattle.arena_core.specs.Slabs.{slabs_left}
+use Rattle.arena_core.proofs.Words.{◌≡◌, ◌∙◌, ap, rules, sym, after_destroy, space_of, slabs_left}
 use Rattle.arena_core.proofs.Books.{same_left}
 use Rattle.arena_core.proofs.ends.destroy.Goals as goal
 

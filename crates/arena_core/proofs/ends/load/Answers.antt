@@ -1,6 +1,4 @@
-use Rattle.std.proofs.Common.{arith}
-use Rattle.space_model.proofs.Bounds.{cached_least, held_apart}
-use Rattle.arena_core.specs.Indexes.{space_of}
+use Rattle.arena_core.proofs.Words.{arith, cached_least, held_apart, space_of}
 use Rattle.arena_core.proofs.Totals.{flights_few, flights_of_others}
 use Rattle.arena_core.proofs.ends.load.Goals as goal
 

@@ -1,9 +1,5 @@
-use Rattle.std.proofs.Common.{◌≡◌, false, refl, ◌∙◌, arith}
-use Rattle.space_model.specs.declared.parts.Part.{Part}
-use Rattle.space_model.specs.declared.parts.Rest.{Rest}
-use Rattle.space_model.specs.declared.parts.Rest.TheVariants.{Dirty, Muzzy, Retained}
-use Rattle.space_model.specs.Part.{listed, moved_to}
-use Rattle.arena_core.specs.Extents.{goes_to}
+use Rattle.arena_core.proofs.Words.{◌≡◌, false, refl, ◌∙◌, arith, Part, Rest, Retained, listed, moved_to, goes_to}
+use Rattle.space_model.specs.declared.parts.Rest.TheVariants.{Dirty, Muzzy}
 use Rattle.arena_core.proofs.Swaps.{there_placed}
 use Rattle.arena_core.proofs.Rounds.{none_ahead, walk_begins, walk_ends, walk_goes}
 use Rattle.arena_core.proofs.ends.move_all.Goals as goal

@@ -1,7 +1,4 @@
-use Rattle.std.proofs.Common.{◌≡◌, ◌-◌}
-use Rattle.space_model.specs.Span.{pages_end}
-use Rattle.space_model.specs.Part.{moved_to}
-use Rattle.arena_core.specs.Extents.{goes_to}
+use Rattle.arena_core.proofs.Words.{◌≡◌, ◌-◌, pages_end, moved_to, goes_to}
 use Rattle.arena_core.proofs.Rounds.{Walk}
 use Rattle.arena_core.proofs.ends.move_all.Given as goal
 

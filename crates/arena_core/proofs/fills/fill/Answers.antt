@@ -1,6 +1,4 @@
-use Rattle.std.proofs.Common.{◌∙◌, sym}
-use Rattle.bin_book.specs.Bins.{free_of}
-use Rattle.arena_core.specs.Indexes.{space_of}
+use Rattle.arena_core.proofs.Words.{◌∙◌, sym, free_of, space_of}
 use Rattle.arena_core.proofs.Landed.{no_free, nothing_free}
 use Rattle.arena_core.proofs.fills.fill.Goals as goal
 

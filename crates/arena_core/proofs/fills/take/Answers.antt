@@ -1,11 +1,4 @@
-use Rattle.std.proofs.Common.{◌∙◌, map, ap, subst, sym, refl}
-use Rattle.space_model.specs.declared.entries.Reply.TheVariants.{Regions}
-use Rattle.space_model.specs.Region.{landing, region_of}
-use Rattle.region_book.specs.RegionLists.{CanCome}
-use Rattle.space_model.specs.Slabs.{lowest_free}
-use Rattle.bin_book.specs.Bins.{free_of}
-use Rattle.arena_core.specs.Indexes.{space_of}
-use Rattle.arena_core.specs.Slabs.{slabs_taken}
+use Rattle.arena_core.proofs.Words.{◌∙◌, map, ap, subst, sym, refl, Regions, landing, region_of, CanCome, lowest_free, free_of, space_of, slabs_taken}
 use Rattle.arena_core.proofs.Landed.{filled_is, filled_reply, lowest_come, take_none, taken_are}
 use Rattle.arena_core.proofs.fills.take.Goals as goal
 

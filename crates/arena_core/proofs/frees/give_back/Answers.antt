@@ -1,4 +1,4 @@
-use Rattle.std.proofs.Common.{◌≡◌, ◌∙◌, cond, refl, arith, rules}
+use Rattle.arena_core.proofs.Words.{◌≡◌, ◌∙◌, cond, refl, arith, rules}
 use Rattle.arena_core.proofs.Emptying.{most_one}
 use Rattle.arena_core.proofs.Rounds.{left_end, left_held, left_step}
 use Rattle.arena_core.proofs.frees.give_back.Goals as goal

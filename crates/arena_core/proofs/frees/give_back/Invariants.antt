@@ -1,6 +1,4 @@
-use Rattle.std.proofs.Common.{ℕ, ◌≤◌, drop}
-use Rattle.arena_core.specs.Indexes.{HasPlaces, space_of}
-use Rattle.arena_core.specs.Slabs.{IsBooked}
+use Rattle.arena_core.proofs.Words.{ℕ, ◌≤◌, drop, HasPlaces, space_of, IsBooked}
 use Rattle.arena_core.proofs.Rounds.{Left}
 use Rattle.arena_core.proofs.frees.give_back.Given as goal
 

@@ -1,7 +1,4 @@
-use Rattle.std.proofs.Common.{◌≡◌, ◌∙◌, ◌∷◌, [], Some, ap, cond, refl, subst, sym, true, false}
-use Rattle.space_model.specs.declared.parts.State.TheVariants.{Flight}
-use Rattle.space_model.specs.Part.{begins_at, exchanged}
-use Rattle.arena_core.specs.Indexes.{space_of}
+use Rattle.arena_core.proofs.Words.{◌≡◌, ◌∙◌, ◌∷◌, [], Some, ap, cond, refl, subst, sym, true, false, Flight, begins_at, exchanged, space_of}
 use Rattle.arena_core.proofs.Books.{booked_as, returns_one}
 use Rattle.arena_core.proofs.Emptying.{Gives, begins_alone}
 use Rattle.arena_core.proofs.frees.give_one.Goals as goal

@@ -1,7 +1,4 @@
-use Rattle.std.proofs.Common.{IsTrue, arith, subst, sym}
-use Rattle.space_model.specs.Step.{merge_stands}
-use Rattle.space_model.proofs.Steps.{joined_fits}
-use Rattle.arena_core.specs.Indexes.{space_of}
+use Rattle.arena_core.proofs.Words.{IsTrue, arith, subst, sym, merge_stands, joined_fits, space_of}
 use Rattle.arena_core.proofs.Homes.{merged_beside}
 use Rattle.arena_core.proofs.frees.merge_done.Goals as goal
 

@@ -1,8 +1,6 @@
-use Rattle.std.proofs.Common.{◌∙◌, None}
-use Rattle.arena_core.specs.Indexes.{space_of}
+use Rattle.arena_core.proofs.Words.{◌∙◌, None, space_of, is_held_at}
 use Rattle.arena_core.proofs.Emptying.{begins_alone}
 use Rattle.arena_core.proofs.Handing.{anew_alone, held_at, held_there}
-use Rattle.space_model.specs.Holding.{is_held_at}
 use Rattle.arena_core.proofs.holders.publish.Goals as goal
 
 pub hand_over-requires-clause-there : goal.hand_over-requires-clause-there

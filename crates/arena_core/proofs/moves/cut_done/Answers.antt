@@ -1,7 +1,4 @@
-use Rattle.std.proofs.Common.{IsTrue, arith, subst}
-use Rattle.std.proofs.lemmas.Bool.Decides.{nat_tests}
-use Rattle.space_model.specs.Step.{cut_stands}
-use Rattle.arena_core.specs.Indexes.{space_of}
+use Rattle.arena_core.proofs.Words.{IsTrue, arith, subst, nat_tests, cut_stands, space_of}
 use Rattle.arena_core.proofs.Homes.{in_flight}
 use Rattle.arena_core.proofs.RoomSums.{places_kept}
 use Rattle.arena_core.proofs.moves.cut_done.Goals as goal

@@ -1,10 +1,4 @@
-use Rattle.std.proofs.Common.{◌∷◌, [], arith, sym}
-use Rattle.std.proofs.lemmas.List.Sums.{sum_by-append, sum_by-cons}
-use Rattle.space_model.specs.declared.parts.Part.{Part}
-use Rattle.space_model.specs.declared.parts.State.TheVariants.{Flight}
-use Rattle.space_model.specs.declared.parts.Rest.TheVariants.{Retained}
-use Rattle.space_model.proofs.Exchange.{share}
-use Rattle.space_model.proofs.Growth.{free-holders, why_not-free}
+use Rattle.arena_core.proofs.Words.{◌∷◌, [], arith, sym, sum_by-append, sum_by-cons, Part, Flight, Retained, share, free-holders, why_not-free}
 use Rattle.arena_core.proofs.moves.grow_done.Goals as goal
 
 pub add-requires-clause-owners : goal.add-requires-clause-owners

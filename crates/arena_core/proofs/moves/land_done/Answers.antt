@@ -1,7 +1,4 @@
-use Rattle.std.proofs.Common.{ap, arith, subst, sym, ◌∙◌}
-use Rattle.region_book.specs.RegionLists.{CanBeSlab}
-use Rattle.region_book.specs.Slabs.{slabs_landed}
-use Rattle.arena_core.specs.Indexes.{space_of}
+use Rattle.arena_core.proofs.Words.{ap, arith, subst, sym, ◌∙◌, CanBeSlab, slabs_landed, space_of}
 use Rattle.arena_core.proofs.Landed.{fitting}
 use Rattle.arena_core.proofs.Homes.{in_flight}
 use Rattle.arena_core.proofs.moves.land_done.Goals as goal

@@ -1,4 +1,4 @@
-use Rattle.std.proofs.Common.{◌∙◌, sym}
+use Rattle.arena_core.proofs.Words.{◌∙◌, sym}
 use Rattle.arena_core.proofs.offers.keep_offer.Goals as goal
 
 pub add-requires-clause-owners : goal.add-requires-clause-owners

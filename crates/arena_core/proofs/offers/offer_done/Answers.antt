@@ -1,10 +1,4 @@
-use Rattle.std.proofs.Common.{arith, subst, sym}
-use Rattle.space_model.specs.declared.asks.Ask.TheVariants.{Dalloc}
-use Rattle.space_model.specs.declared.entries.Op.TheVariants.{OfferDone}
-use Rattle.space_model.specs.Purging.{after_offer, keep_offer}
-use Rattle.space_model.specs.Sound.{Sound}
-use Rattle.space_model.proofs.Steps.{op_keeps}
-use Rattle.arena_core.specs.Indexes.{space_of}
+use Rattle.arena_core.proofs.Words.{arith, subst, sym, Dalloc, OfferDone, after_offer, keep_offer, Sound, op_keeps, space_of}
 use Rattle.arena_core.proofs.offers.offer_done.Goals as goal
 
 pub keep_offer-requires-clause-sound : goal.keep_offer-requires-clause-sound

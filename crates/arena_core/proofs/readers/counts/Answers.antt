@@ -1,10 +1,5 @@
-use Rattle.std.proofs.Common.{◌≡◌, ℕ, ◌+◌, ◌-◌, ◌*◌, not, ltb, arith, rules}
-use Rattle.space_model.specs.declared.parts.Rest.TheVariants.{Dirty as ToDirty, Muzzy as ToMuzzy, Retained as ToRetained}
-use Rattle.space_model.specs.Part.{is_active, is_listed}
-use Rattle.space_model.specs.Counts.{bytes_where, is_mapped, region_bytes_where}
-use Rattle.arena_core.specs.Indexes.{space_of}
+use Rattle.arena_core.proofs.Words.{◌≡◌, ℕ, ◌+◌, ◌-◌, ◌*◌, not, ltb, arith, rules, ToDirty, ToMuzzy, ToRetained, is_active, is_listed, bytes_where, is_mapped, region_bytes_where, space_of, both_bytes}
 use Rattle.arena_core.proofs.Books.{slabs_counted}
-use Rattle.region_book.proofs.ByClass.{both_bytes}
 use Rattle.arena_core.proofs.Totals.{summed}
 use Rattle.arena_core.proofs.readers.counts.Goals as goal
 

@@ -1,6 +1,4 @@
-use Rattle.std.proofs.Common.{◌∙◌, ap}
-use Rattle.std.specs.Option.{is_some}
-use Rattle.space_model.specs.Span.{has_page}
+use Rattle.arena_core.proofs.Words.{◌∙◌, ap, is_some, has_page}
 use Rattle.arena_core.proofs.Totals.{found_any}
 use Rattle.arena_core.proofs.readers.holds_page.Goals as goal
 

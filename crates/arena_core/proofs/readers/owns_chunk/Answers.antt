@@ -1,5 +1,4 @@
-use Rattle.std.proofs.Common.{sym}
-use Rattle.arena_core.specs.Indexes.{space_of}
+use Rattle.arena_core.proofs.Words.{sym, space_of}
 use Rattle.arena_core.proofs.Totals.{none_past}
 use Rattle.arena_core.proofs.readers.owns_chunk.Goals as goal
 

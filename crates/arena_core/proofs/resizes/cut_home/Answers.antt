@@ -1,12 +1,4 @@
-use Rattle.std.proofs.Common.{◌≡◌, ◌∙◌, ◌*◌, [], ◌∷◌, ap, arith, sym}
-use Rattle.std.proofs.lemmas.Bool.Decides.{nat_tests}
-use Rattle.space_model.specs.declared.parts.State.TheVariants.{Flight}
-use Rattle.space_model.specs.Part.{begins_at, exchanged}
-use Rattle.space_model.specs.Span.{same_span}
-use Rattle.space_model.specs.Resizing.{trimmed_at}
-use Rattle.space_model.specs.Step.{high_piece, low_piece}
-use Rattle.space_model.proofs.Sums.{region_bytes_fits}
-use Rattle.arena_core.specs.Indexes.{space_of}
+use Rattle.arena_core.proofs.Words.{◌≡◌, ◌∙◌, ◌*◌, [], ◌∷◌, ap, arith, sym, nat_tests, Flight, begins_at, exchanged, same_span, trimmed_at, high_piece, low_piece, region_bytes_fits, space_of}
 use Rattle.arena_core.proofs.Resized.{page_begins, page_homed, reclassed_is}
 use Rattle.arena_core.proofs.resizes.cut_home.Goals as goal
 

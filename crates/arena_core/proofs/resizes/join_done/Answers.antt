@@ -1,7 +1,4 @@
-use Rattle.std.proofs.Common.{IsTrue, arith, subst}
-use Rattle.std.proofs.lemmas.Bool.Decides.{nat_tests}
-use Rattle.space_model.specs.Resizing.{join_stands}
-use Rattle.arena_core.specs.Indexes.{space_of}
+use Rattle.arena_core.proofs.Words.{IsTrue, arith, subst, nat_tests, join_stands, space_of}
 use Rattle.arena_core.proofs.Homes.{in_flight}
 use Rattle.arena_core.proofs.resizes.join_done.Goals as goal
 

@@ -1,10 +1,4 @@
-use Rattle.std.proofs.Common.{◌∙◌, ◌*◌, Some, ap, arith, sym}
-use Rattle.std.proofs.lemmas.Bool.Decides.{nat_tests}
-use Rattle.space_model.specs.declared.entries.Reply.TheVariants.{Landed}
-use Rattle.space_model.specs.Span.{same_span}
-use Rattle.space_model.specs.Resizing.{widened_at}
-use Rattle.space_model.proofs.Sums.{region_bytes_fits}
-use Rattle.arena_core.specs.Indexes.{space_of}
+use Rattle.arena_core.proofs.Words.{◌∙◌, ◌*◌, Some, ap, arith, sym, nat_tests, Landed, same_span, widened_at, region_bytes_fits, space_of}
 use Rattle.arena_core.proofs.Resized.{page_begins, page_homed, reclassed_is}
 use Rattle.arena_core.proofs.resizes.join_home.Goals as goal
 

@@ -1,4 +1,4 @@
-use Rattle.arena_core.specs.Indexes.{space_of}
+use Rattle.arena_core.proofs.Words.{space_of}
 use Rattle.arena_core.proofs.Resized.{shrinks}
 use Rattle.arena_core.proofs.resizes.trim_answered.Goals as goal
 

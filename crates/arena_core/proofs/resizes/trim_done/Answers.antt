@@ -1,6 +1,5 @@
-use Rattle.std.proofs.Common.{◌∙◌, ap, sym}
+use Rattle.arena_core.proofs.Words.{◌∙◌, ap, sym, space_of}
 use Rattle.space_model.specs.Clients.{without_client}
-use Rattle.arena_core.specs.Indexes.{space_of}
 use Rattle.arena_core.proofs.Resized.{shrinking_aside}
 use Rattle.arena_core.proofs.resizes.trim_done.Goals as goal
 

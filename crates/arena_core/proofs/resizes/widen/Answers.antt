@@ -1,7 +1,4 @@
-use Rattle.std.proofs.Common.{◌∙◌, ap, arith, sym, ltb as nat_lt}
-use Rattle.std.proofs.lemmas.Bool.{ltb-true}
-use Rattle.space_model.specs.Resizing.{widen_at}
-use Rattle.arena_core.specs.Indexes.{space_of}
+use Rattle.arena_core.proofs.Words.{◌∙◌, ap, arith, sym, nat_lt, ltb-true, widen_at, space_of}
 use Rattle.arena_core.proofs.Resized.{home_begins, homed}
 use Rattle.arena_core.proofs.resizes.widen.Goals as goal
 

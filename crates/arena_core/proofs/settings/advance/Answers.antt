@@ -1,5 +1,4 @@
-use Rattle.space_model.specs.declared.parts.Rest.TheVariants.{Dirty as ToDirty, Muzzy as ToMuzzy}
-use Rattle.arena_core.specs.Indexes.{space_of}
+use Rattle.arena_core.proofs.Words.{ToDirty, ToMuzzy, space_of}
 use Rattle.arena_core.proofs.Totals.{listed_fit}
 use Rattle.arena_core.proofs.settings.advance.Goals as goal
 

@@ -1,4 +1,4 @@
-use Rattle.std.proofs.Common.{◌≡◌, IfOk, subst}
+use Rattle.arena_core.proofs.Words.{◌≡◌, IfOk, subst}
 use Rattle.arena_core.proofs.settings.boxed_counts.Goals as goal
 
 pub returns : goal.returns

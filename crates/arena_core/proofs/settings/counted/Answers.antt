@@ -1,6 +1,4 @@
-use Rattle.std.proofs.Common.{◌≡◌, ◌∙◌, true, ap, sym}
-use Rattle.space_model.specs.declared.entries.Reply.TheVariants.{Counted}
-use Rattle.space_model.specs.Step.{is_live}
+use Rattle.arena_core.proofs.Words.{◌≡◌, ◌∙◌, true, ap, sym, Counted, is_live}
 use Rattle.arena_core.proofs.settings.counted.Goals as goal
 
 pub returns-in_ok-boxed_counts-clause-reply : goal.returns-in_ok-boxed_counts-clause-reply

@@ -1,9 +1,6 @@
-use Rattle.std.proofs.Common.{◌≡◌, ◌∙◌, ◌*◌, ◌≤◌, arith, ap, length, max, slice_set}
-use Rattle.space_model.specs.declared.entries.Reply.TheVariants.{Next}
-use Rattle.space_model.specs.declared.spaces.Space.{Space}
-use Rattle.space_model.specs.Step.{after_back, next_flight}
-use Rattle.arena_core.specs.Arenas.{all_rooms, emptied, room_of}
-use Rattle.arena_core.specs.Indexes.{space_of}
+use Rattle.arena_core.proofs.Words.{◌≡◌, ◌∙◌, ◌*◌, ◌≤◌, arith, ap, length, max, slice_set, Next, Space, after_back, all_rooms, room_of, space_of}
+use Rattle.space_model.specs.Step.{next_flight}
+use Rattle.arena_core.specs.Arenas.{emptied}
 use Rattle.arena_core.proofs.RoomSums.{places_fewer, room_of_all, rooms_fewer}
 use Rattle.arena_core.proofs.Books.{booked_as}
 use Rattle.arena_core.proofs.steps.give_back.Goals as goal

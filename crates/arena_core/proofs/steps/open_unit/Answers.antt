@@ -1,8 +1,4 @@
-use Rattle.std.proofs.Common.{◌∙◌, ap, slice_set, subst, sym}
-use Rattle.space_model.specs.Step.{step_of}
-use Rattle.arena_core.specs.Arenas.{all_rooms}
-use Rattle.arena_core.specs.Indexes.{HasPlaces, space_of}
-use Rattle.arena_core.specs.Slabs.{slabs_begun}
+use Rattle.arena_core.proofs.Words.{◌∙◌, ap, slice_set, subst, sym, step_of, all_rooms, HasPlaces, space_of, slabs_begun}
 use Rattle.arena_core.proofs.BookLaw.{begins_booked}
 use Rattle.arena_core.proofs.Books.{booked_as}
 use Rattle.arena_core.proofs.RoomSums.{room_of_all}

@@ -1,6 +1,4 @@
-use Rattle.std.proofs.Common.{◌≡◌, ◌+◌, ◌-◌, arith, ap, subst}
-use Rattle.arena_core.specs.Arenas.{all_rooms}
-use Rattle.arena_core.specs.Indexes.{HasPlaces, space_of}
+use Rattle.arena_core.proofs.Words.{◌≡◌, ◌+◌, ◌-◌, arith, ap, subst, all_rooms, HasPlaces, space_of}
 use Rattle.arena_core.proofs.BookLaw.{can_follow, follows_booked}
 use Rattle.arena_core.proofs.Books.{booked_as}
 use Rattle.arena_core.proofs.RoomSums.{rooms_with}

@@ -1,5 +1,4 @@
-use Rattle.std.proofs.Common.{ap}
-use Rattle.bin_book.specs.Bins.{Bins, free_of}
+use Rattle.bin_book.proofs.Words.{ap, Bins, free_of}
 use Rattle.bin_book.proofs.Taking.{free_told}
 use Rattle.bin_book.proofs.BinBook.has_free.Goals as goal
 

@@ -1,9 +1,4 @@
-use Rattle.std.proofs.Common.{◌+◌, ◌<◌, not, filter, map, sym, ap, ◌∙◌, subst, IfSome}
-use Rattle.std.specs.List.{list_any}
-use Rattle.size_classes.specs.Classes.{regions_at}
-use Rattle.space_model.specs.Region.{starts_at}
-use Rattle.bin_book.specs.Bins.{Bins, is_unused, place, with_free}
-use Rattle.bin_book.specs.Tables.{IsOutAt, regions_in, slabs_in}
+use Rattle.bin_book.proofs.Words.{◌+◌, ◌<◌, not, filter, map, sym, ap, ◌∙◌, subst, IfSome, list_any, regions_at, starts_at, Bins, is_unused, place, with_free, IsOutAt, regions_in, slabs_in}
 use Rattle.bin_book.proofs.Taking.{all_used, none_unused, one_unused, others_used}
 use Rattle.bin_book.proofs.Handing.{region_gone}
 use Rattle.bin_book.proofs.BinBook.put_back.Goals as goal

@@ -1,8 +1,4 @@
-use Rattle.std.proofs.Common.{[], ◌∷◌, ◌++◌, append-nil, append_assoc, map, take, sym, ap, ◌∙◌, arith}
-use Rattle.std.proofs.lemmas.List.{map-append}
-use Rattle.space_model.specs.Region.{inserted, landing, region_of}
-use Rattle.bin_book.specs.Bins.{Bins, free_of, without}
-use Rattle.bin_book.specs.Tables.{regions_in, slabs_in}
+use Rattle.bin_book.proofs.Words.{[], ◌∷◌, ◌++◌, append-nil, append_assoc, map, take, sym, ap, ◌∙◌, arith, map-append, inserted, landing, region_of, Bins, free_of, without, regions_in, slabs_in}
 use Rattle.bin_book.proofs.Rounds.{landing_more, more_left, rest_next, take_next, without_more, without_none}
 use Rattle.bin_book.proofs.BinBook.take.Goals as goal
 

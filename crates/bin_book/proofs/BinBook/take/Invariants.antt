@@ -1,7 +1,4 @@
-use Rattle.std.proofs.Common.{◌≡◌, ◌+◌, ◌<◌, ◌≤◌, ◌++◌, length, map, take, vec_len}
-use Rattle.space_model.specs.Region.{landing, region_of}
-use Rattle.bin_book.specs.Bins.{free_of, without}
-use Rattle.bin_book.specs.Tables.{IsTable, regions_in, slabs_in}
+use Rattle.bin_book.proofs.Words.{◌≡◌, ◌+◌, ◌<◌, ◌≤◌, ◌++◌, length, map, take, vec_len, landing, region_of, free_of, without, IsTable, regions_in, slabs_in}
 use Rattle.bin_book.proofs.BinBook.take.Given as goal
 
 abbrev pub invariant-loop-turn : goal.invariant-loop-turn

@@ -1,5 +1,4 @@
-use Rattle.std.proofs.Common.{subst, Contains}
-use Rattle.ordered_set.proofs.Members.{without_from}
+use Rattle.bin_book.proofs.Words.{subst, Contains, without_from}
 use Rattle.bin_book.proofs.Places.{moved}
 use Rattle.bin_book.proofs.changes.move_key.Goals as goal
 

@@ -1,4 +1,4 @@
-use Rattle.std.proofs.Common.{refl, arith}
+use Rattle.bin_book.proofs.Words.{refl, arith}
 use Rattle.bin_book.proofs.Growing.{bits_more, numbers_more}
 use Rattle.bin_book.proofs.table.add_slots.Goals as goal
 

@@ -1,6 +1,4 @@
-use Rattle.std.proofs.Common.{◌≡◌, ℕ, ◌+◌, ◌-◌, ◌<◌, ◌≤◌, ◌++◌, vec_len, vec_capacity}
-use Rattle.std.specs.List.{range_with_len}
-use Rattle.bin_book.specs.Tables.{bits_at}
+use Rattle.bin_book.proofs.Words.{◌≡◌, ℕ, ◌+◌, ◌-◌, ◌<◌, ◌≤◌, ◌++◌, vec_len, vec_capacity, range_with_len, bits_at}
 use Rattle.bin_book.proofs.table.add_slots.Given as goal
 
 abbrev pub invariant-loop-number : goal.invariant-loop-number

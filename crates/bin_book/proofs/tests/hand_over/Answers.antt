@@ -1,5 +1,4 @@
-use Rattle.std.proofs.Common.{is_some, sym, ap, ◌∙◌}
-use Rattle.list_facts.proofs.Members.{is_some_find}
+use Rattle.bin_book.proofs.Words.{is_some, sym, ap, ◌∙◌, is_some_find}
 use Rattle.bin_book.proofs.tests.hand_over.Goals as goal
 
 pub hand_over-requires-clause-there : goal.hand_over-requires-clause-there

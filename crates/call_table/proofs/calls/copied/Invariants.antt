@@ -1,4 +1,4 @@
-use Rattle.std.proofs.Common.{◌≡◌, ◌+◌, ◌≤◌, length, take}
+use Rattle.call_table.proofs.Words.{◌≡◌, ◌+◌, ◌≤◌, length, take}
 use Rattle.call_table.proofs.calls.copied.Given as goal
 
 -- the addresses so far, and room for the others

@@ -1,5 +1,4 @@
-use Rattle.std.proofs.Common.{◌≡◌, ◌≤◌, drop}
-use Rattle.call_table.specs.Desks.{sharing}
+use Rattle.call_table.proofs.Words.{◌≡◌, ◌≤◌, drop, sharing}
 use Rattle.call_table.proofs.desks.share.Given as goal
 
 -- those from the place on are cached

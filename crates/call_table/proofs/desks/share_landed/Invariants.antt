@@ -1,6 +1,4 @@
-use Rattle.std.proofs.Common.{◌≡◌, ◌≤◌, ◌-◌, map}
-use Rattle.std.specs.List.{range_with_len}
-use Rattle.call_table.specs.Desks.{address_behind, sharing}
+use Rattle.call_table.proofs.Words.{◌≡◌, ◌≤◌, ◌-◌, map, range_with_len, address_behind, sharing}
 use Rattle.call_table.proofs.desks.share_landed.Given as goal
 
 -- those from the place on are cached

@@ -1,4 +1,4 @@
-use Rattle.std.proofs.Common.{◌-◌, ◌≤◌, vec_len}
+use Rattle.call_table.proofs.Words.{◌-◌, ◌≤◌, vec_len}
 use Rattle.call_table.proofs.tests.answer.Given as goal
 
 abbrev pub invariant-loop-boxes : goal.invariant-loop-boxes

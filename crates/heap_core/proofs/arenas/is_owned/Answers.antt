@@ -1,4 +1,4 @@
-use Rattle.std.proofs.Common.{◌∙◌}
+use Rattle.heap_core.proofs.Words.{◌∙◌}
 use Rattle.heap_core.proofs.Spaces.{any_of_spaces}
 use Rattle.heap_core.proofs.arenas.is_owned.Goals as goal
 

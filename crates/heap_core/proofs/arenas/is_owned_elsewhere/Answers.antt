@@ -1,7 +1,4 @@
-use Rattle.std.proofs.Common.{◌∙◌, ◌+◌, ◌-◌, ◌||◌, ap, arith, drop, length, sym}
-use Rattle.std.proofs.lemmas.List.{length-drop, take_all}
-use Rattle.std.specs.List.{list_any}
-use Rattle.heap_core.specs.Chunks.{owns}
+use Rattle.heap_core.proofs.Words.{◌∙◌, ◌+◌, ◌-◌, ◌||◌, ap, arith, drop, length, sym, length-drop, take_all, list_any, owns}
 use Rattle.heap_core.proofs.Spaces.{any_of_others}
 use Rattle.heap_core.proofs.arenas.is_owned_elsewhere.Goals as goal
 

@@ -1,5 +1,4 @@
-use Rattle.std.proofs.Common.{◌≡◌, ◌+◌, ◌≤◌, ℕ, Result, Ok, Err, OnOk, ap, arith}
-use Rattle.arena_core.specs.Arenas.{all_rooms}
+use Rattle.heap_core.proofs.Words.{◌≡◌, ◌+◌, ◌≤◌, ℕ, Result, Ok, Err, OnOk, ap, arith, all_rooms}
 use Rattle.heap_core.proofs.steps.make_turn.Goals as goal
 
 -- so many places serve for the room that there is then

@@ -1,5 +1,5 @@
 use Rattle.heap_core.proofs.tests.look.Goals as goal
-use Rattle.std.proofs.Common.{refl}
+use Rattle.heap_core.proofs.Words.{refl}
 
 pub turn-requires-clause-stands : goal.turn-requires-clause-stands
 unfolding lib.Count.ones

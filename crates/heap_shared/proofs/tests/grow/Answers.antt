@@ -1,20 +1,5 @@
-use Rattle.std.proofs.Common.{◌≡◌, ◌<◌, ◌∙◌, ℕ, IsTrue, true, false, [], None, nat_lt, arith, refl, sym, ap, subst, cond}
-use Rattle.std.proofs.lemmas.Bool.Decides.{nat_tests}
-use Rattle.arena_core.specs.Arenas.{entry_of}
-use Rattle.space_model.specs.declared.asks.Ask.TheVariants.{Alloc}
-use Rattle.space_model.specs.declared.asks.Answer.TheVariants.{Placed}
-use Rattle.space_model.specs.declared.entries.Op.TheVariants.{Counts, GrowDone}
-use Rattle.space_model.specs.declared.entries.Reply.TheVariants.{Counted, NoArena}
-use Rattle.space_model.specs.declared.spaces.Life.{Life}
-use Rattle.space_model.specs.declared.spaces.Life.TheVariants.{Absent, Dying, Live}
-use Rattle.space_model.specs.declared.spaces.Space.{Space}
+use Rattle.heap_shared.proofs.Words.{◌≡◌, ◌<◌, ◌∙◌, ℕ, IsTrue, true, false, [], None, nat_lt, arith, refl, sym, ap, subst, cond, nat_tests, entry_of, Alloc, Placed, Counts, GrowDone, Counted, NoArena, Life, Absent, Dying, Live, Space, counts_of, Mine, mine, IsQuiet, Sound, is_live, space_after, stands, stays, number, seen, space_at}
 use Rattle.space_model.specs.Clients.{is_in}
-use Rattle.space_model.specs.Counts.{counts_of}
-use Rattle.space_model.specs.Own.{Mine, mine}
-use Rattle.space_model.specs.Sound.{IsQuiet, Sound}
-use Rattle.space_model.specs.Step.{is_live, space_after, stands, stays}
-use Rattle.turn_lock.specs.Locks.{number, seen}
-use Rattle.heap_shared.specs.Turns.{space_at}
 use Rattle.heap_shared.proofs.tests.grow.Goals as goal
 
 -- an arena with a client is live

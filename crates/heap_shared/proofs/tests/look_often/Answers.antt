@@ -1,6 +1,4 @@
-use Rattle.std.proofs.Common.{◌≡◌, ◌<◌, ◌&&◌, Bool, IsTrue, true, nat_lt, arith, refl, sym, subst}
-use Rattle.std.proofs.lemmas.Bool.Decides.{nat_tests}
-use Rattle.turn_lock.specs.Locks.{number}
+use Rattle.heap_shared.proofs.Words.{◌≡◌, ◌<◌, ◌&&◌, Bool, IsTrue, true, nat_lt, arith, refl, sym, subst, nat_tests, number}
 use Rattle.heap_shared.proofs.tests.look_often.Goals as goal
 
 pub turn-requires-clause-may : goal.turn-requires-clause-may

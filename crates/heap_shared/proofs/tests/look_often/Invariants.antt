@@ -1,5 +1,4 @@
-use Rattle.std.proofs.Common.{◌≡◌}
-use Rattle.turn_lock.specs.Locks.{number, spare, IsPassOf}
+use Rattle.heap_shared.proofs.Words.{◌≡◌, number, spare, IsPassOf}
 use Rattle.heap_shared.proofs.tests.look_often.Given as goal
 
 abbrev pub invariant-loop : goal.invariant-loop

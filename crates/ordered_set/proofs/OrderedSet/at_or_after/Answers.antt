@@ -1,7 +1,4 @@
-use Rattle.std.proofs.Common.{slice_get, sym, ap, ◌∙◌}
-use Rattle.std.specs.List.{find}
-use Rattle.ordered_set.specs.Blocks.{joined}
-use Rattle.ordered_set.specs.Keys.{is_from}
+use Rattle.ordered_set.proofs.Words.{slice_get, sym, ap, ◌∙◌, find, joined, is_from}
 use Rattle.ordered_set.proofs.Sorted.{find_is}
 use Rattle.ordered_set.proofs.OrderedSet.at_or_after.Goals as goal
 

@@ -1,5 +1,4 @@
-use Rattle.std.proofs.Common.{◌≡◌, slice_get, filter, sym, ◌∙◌}
-use Rattle.ordered_set.specs.Keys.{is_from}
+use Rattle.ordered_set.proofs.Words.{◌≡◌, slice_get, filter, sym, ◌∙◌, is_from}
 use Rattle.ordered_set.proofs.Calls.{has_from_first, first_from_has, some_is, some_same}
 use Rattle.ordered_set.proofs.Sorted.{find_is}
 use Rattle.ordered_set.proofs.OrderedSet.contains.Goals as goal

@@ -1,4 +1,4 @@
-use Rattle.std.proofs.Common.{slice_get, ap, ◌∙◌}
+use Rattle.ordered_set.proofs.Words.{slice_get, ap, ◌∙◌}
 use Rattle.ordered_set.proofs.Calls.{first_of_all}
 use Rattle.ordered_set.proofs.OrderedSet.first.Goals as goal
 

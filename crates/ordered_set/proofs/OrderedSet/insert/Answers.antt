@@ -1,6 +1,4 @@
-use Rattle.std.proofs.Common.{arith, ap, ◌∙◌, length, subst}
-use Rattle.std.specs.List.{Contains}
-use Rattle.ordered_set.specs.Blocks.{index_keys}
+use Rattle.ordered_set.proofs.Words.{arith, ap, ◌∙◌, length, subst, Contains, index_keys}
 use Rattle.ordered_set.proofs.Calls.{length_with}
 use Rattle.ordered_set.proofs.OrderedSet.insert.Goals as goal
 

@@ -1,5 +1,4 @@
-use Rattle.std.proofs.Common.{◌-◌, [], length, get_or, sym, ap, ◌∙◌, arith}
-use Rattle.ordered_set.specs.Keys.{last_of}
+use Rattle.ordered_set.proofs.Words.{◌-◌, [], length, get_or, sym, ap, ◌∙◌, arith, last_of}
 use Rattle.ordered_set.proofs.Calls.{last_of_all}
 use Rattle.ordered_set.proofs.OrderedSet.last.Goals as goal
 

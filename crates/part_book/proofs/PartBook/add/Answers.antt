@@ -1,5 +1,4 @@
-use Rattle.std.proofs.Common.{◌≡◌, ◌+◌, ◌-◌, ◌*◌, ap, subst, arith}
-use Rattle.part_book.specs.Tables.{HasRoom}
+use Rattle.part_book.proofs.Words.{◌≡◌, ◌+◌, ◌-◌, ◌*◌, ap, subst, arith, HasRoom}
 use Rattle.part_book.proofs.Chunks.{leaves_most}
 use Rattle.part_book.proofs.PartBook.add.Goals as goal
 

@@ -1,4 +1,4 @@
-use Rattle.std.proofs.Common.{◌+◌, ◌*◌, arith}
+use Rattle.part_book.proofs.Words.{◌+◌, ◌*◌, arith}
 use Rattle.part_book.proofs.Chunks.{more_leaves}
 use Rattle.part_book.proofs.Rooms.{room_less}
 use Rattle.part_book.proofs.PartBook.drop_part.Goals as goal

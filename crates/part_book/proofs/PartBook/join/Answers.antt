@@ -1,6 +1,4 @@
-use Rattle.std.proofs.Common.{◌+◌, ◌*◌, find, refl, sym, ap, ◌∙◌, subst, arith, IsSome}
-use Rattle.space_model.specs.Part.{begins_at}
-use Rattle.part_book.specs.Tables.{parts_of}
+use Rattle.part_book.proofs.Words.{◌+◌, ◌*◌, find, refl, sym, ap, ◌∙◌, subst, arith, IsSome, begins_at, parts_of}
 use Rattle.part_book.proofs.Changed.{join_parts, joined_apart, joined_leaves, joined_placed, others_from, pair, pair_is}
 use Rattle.part_book.proofs.Chunks.{more_leaves}
 use Rattle.part_book.proofs.Rooms.{room_less}

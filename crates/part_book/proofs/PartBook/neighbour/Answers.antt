@@ -1,7 +1,4 @@
-use Rattle.std.proofs.Common.{◌≤◌, sym, ap, ◌∙◌, arith, find}
-use Rattle.space_model.specs.Part.{begins_at}
-use Rattle.space_model.specs.Span.{end_of, pages_end}
-use Rattle.part_book.specs.Tables.{parts_of}
+use Rattle.part_book.proofs.Words.{◌≤◌, sym, ap, ◌∙◌, arith, find, begins_at, end_of, pages_end, parts_of}
 use Rattle.part_book.proofs.Parts.{none_begins}
 use Rattle.part_book.proofs.PartBook.neighbour.Goals as goal
 

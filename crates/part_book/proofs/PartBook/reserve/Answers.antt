@@ -1,4 +1,4 @@
-use Rattle.std.proofs.Common.{◌*◌}
+use Rattle.part_book.proofs.Words.{◌*◌}
 use Rattle.part_book.proofs.PartBook.reserve.Goals as goal
 
 pub invariant_of-self : goal.invariant_of-self

@@ -1,5 +1,4 @@
-use Rattle.std.proofs.Common.{◌*◌, ap, arith}
-use Rattle.part_book.specs.Tables.{parts_of}
+use Rattle.part_book.proofs.Words.{◌*◌, ap, arith, parts_of}
 use Rattle.part_book.proofs.Changed.{changed_parts, others_from}
 use Rattle.part_book.proofs.PartBook.set_state.Goals as goal
 

@@ -1,4 +1,4 @@
-use Rattle.std.proofs.Common.{rules, not, eqb}
+use Rattle.part_book.proofs.Words.{rules, not, eqb}
 use Rattle.std.proofs.lemmas.Fn.{filter_same}
 use Rattle.part_book.proofs.changes.land.Goals as goal
 

@@ -1,7 +1,6 @@
-use Rattle.std.proofs.Common.{sym, subst, arith, ◌≡◌}
-use Rattle.part_book.specs.Rows.{no_part, with_edges, without_edges}
-use Rattle.std.specs.FinMap as map_of
+use Rattle.part_book.proofs.Words.{sym, subst, arith, ◌≡◌, no_part, with_edges, without_edges}
 use Rattle.part_book.proofs.Changed.{own_again, same_span}
+use Rattle.std.specs.FinMap as map_of
 use Rattle.part_book.proofs.changes.move_edges.Goals as goal
 
 pub returns-else-to-from-clause-numbers : goal.returns-else-to-from-clause-numbers

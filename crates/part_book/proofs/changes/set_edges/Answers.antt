@@ -1,5 +1,4 @@
-use Rattle.std.proofs.Common.{◌+◌, ◌-◌, ◌/◌, arith}
-use Rattle.space_model.specs.Span.{end_of}
+use Rattle.part_book.proofs.Words.{◌+◌, ◌-◌, ◌/◌, arith, end_of}
 use Rattle.part_book.proofs.Chunks.{chunk_inside, has_leaf, leaves_after, leaves_kept, wanted, wanted_less}
 use Rattle.part_book.proofs.changes.set_edges.Goals as goal
 

@@ -1,11 +1,4 @@
-use Rattle.std.proofs.Common.{◌≡◌, ◌+◌, true, not, eqb, filter, length, ap, arith}
-use Rattle.space_model.specs.declared.parts.Rest.{Rest}
-use Rattle.space_model.specs.declared.parts.Rest.TheVariants.{Dirty as ToDirty, Muzzy as ToMuzzy, Retained as ToRetained}
-use Rattle.space_model.specs.Part.{is_listed}
-use Rattle.part_book.specs.declared.table.AgeList.{AgeList}
-use Rattle.part_book.specs.Lists.{CanUnlist, Loses}
-use Rattle.part_book.specs.Rows.{Row}
-use Rattle.list_facts.proofs.Members.{kept_length}
+use Rattle.part_book.proofs.Words.{◌≡◌, ◌+◌, true, not, eqb, filter, length, ap, arith, Rest, ToDirty, ToMuzzy, ToRetained, is_listed, AgeList, CanUnlist, Loses, Row, kept_length}
 use Rattle.part_book.proofs.changes.unlist.Goals as goal
 
 -- a list loses an extent that it has

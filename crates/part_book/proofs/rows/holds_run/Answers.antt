@@ -1,5 +1,4 @@
-use Rattle.std.proofs.Common.{arith, ◌/◌, ◌^◌}
-use Rattle.std.proofs.lemmas.Bool.Decides.{nat_tests}
+use Rattle.part_book.proofs.Words.{arith, ◌/◌, ◌^◌, nat_tests}
 use Rattle.part_book.proofs.Fitting.{next_multiple}
 use Rattle.part_book.proofs.rows.holds_run.Goals as goal
 

@@ -1,4 +1,4 @@
-use Rattle.std.proofs.Common.{◌/◌, arith}
+use Rattle.part_book.proofs.Words.{◌/◌, arith}
 use Rattle.part_book.proofs.rows.pages_to_multiple.Goals as goal
 
 pub returns-then-over-eq0-clause-multiple : goal.returns-then-over-eq0-clause-multiple

@@ -1,5 +1,4 @@
-use Rattle.std.proofs.Common.{◌≡◌, ◌+◌, ◌<◌, ◌≤◌, ℕ, cond, ltb as nat_lt, eqb, count_by, vec_len, vec_capacity}
-use Rattle.part_book.specs.Rows.{part_at}
+use Rattle.part_book.proofs.Words.{◌≡◌, ◌+◌, ◌<◌, ◌≤◌, ℕ, cond, nat_lt, eqb, count_by, vec_len, vec_capacity, part_at}
 use Rattle.part_book.proofs.table.reserve_numbers.Given as goal
 
 abbrev pub invariant-loop-number : goal.invariant-loop-number

@@ -1,9 +1,4 @@
-use Rattle.std.proofs.Common.{sym, ap, ◌∙◌, find}
-use Rattle.std.specs.Option.{option_or}
-use Rattle.space_model.specs.Region.{starts_at}
-use Rattle.space_model.specs.Holding.{is_published_at}
-use Rattle.region_book.specs.Books.{regions_in}
-use Rattle.region_book.specs.RegionLists.{if_published}
+use Rattle.region_book.proofs.Words.{sym, ap, ◌∙◌, find, option_or, starts_at, is_published_at, regions_in, if_published}
 use Rattle.region_book.proofs.Answered.{both}
 use Rattle.region_book.proofs.Changes.{published}
 use Rattle.region_book.proofs.RegionBook.at.Goals as goal

@@ -1,7 +1,4 @@
-use Rattle.std.proofs.Common.{ap, arith, get_or, count_by, ◌+◌, ◌≡◌, ◌∙◌, ℕ, ◌<◌}
-use Rattle.space_model.specs.Region.{is_held_by_other}
-use Rattle.region_book.specs.Books.{IsBook, regions_in}
-use Rattle.region_book.specs.declared.RegionBook.TheInside.{Inside}
+use Rattle.region_book.proofs.Words.{ap, arith, get_or, count_by, ◌+◌, ◌≡◌, ◌∙◌, ℕ, ◌<◌, is_held_by_other, IsBook, regions_in, Inside}
 use Rattle.region_book.proofs.ByClass.{at_tally}
 use Rattle.region_book.proofs.Changes.{all_held}
 use Rattle.region_book.proofs.Tallies.{held_of}

@@ -1,9 +1,4 @@
-use Rattle.std.proofs.Common.{ap, arith, subst, sym, length, map, take, ◌∙◌, ◌-◌}
-use Rattle.space_model.specs.Region.{landing, region_of}
-use Rattle.list_facts.proofs.ByKey.{every_landing}
-use Rattle.bin_book.specs.Bins.{Bins, free_of}
-use Rattle.large_book.specs.Larges.{addr_of}
-use Rattle.region_book.specs.RegionLists.{CanCome, IsOf, Regions}
+use Rattle.region_book.proofs.Words.{ap, arith, subst, sym, length, map, take, ◌∙◌, ◌-◌, landing, region_of, every_landing, Bins, free_of, addr_of, CanCome, IsOf, Regions}
 use Rattle.region_book.proofs.Answered.{fill_lands, made_of, taken_many}
 use Rattle.region_book.proofs.RegionBook.fill.Goals as goal
 

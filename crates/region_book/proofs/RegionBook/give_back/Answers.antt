@@ -1,9 +1,4 @@
-use Rattle.std.proofs.Common.{ap, sym, filter, map, not, refl, ◌∷◌, [], ◌∙◌}
-use Rattle.ordered_set.proofs.Sorted.{every_filter}
-use Rattle.space_model.specs.Region.{starts_at}
-use Rattle.space_model.specs.Step.{holds_at, is_given_back, staying}
-use Rattle.region_book.specs.RegionLists.{IsOf}
-use Rattle.region_book.specs.Slabs.{is_last, slabs_returned}
+use Rattle.region_book.proofs.Words.{ap, sym, filter, map, not, refl, ◌∷◌, [], ◌∙◌, every_filter, starts_at, holds_at, is_given_back, staying, IsOf, is_last, slabs_returned}
 use Rattle.region_book.proofs.Answered.{backs_large, backs_small, found_of, last_large, last_small, small_there}
 use Rattle.region_book.proofs.RegionBook.give_back.Goals as goal
 

@@ -1,11 +1,4 @@
-use Rattle.std.proofs.Common.{ap, arith, find, is_some, refl, subst, sym, ◌∙◌}
-use Rattle.space_model.specs.Region.{held_anew, starts_at}
-use Rattle.list_facts.proofs.ByKey.{every_changed}
-use Rattle.list_facts.proofs.Members.{is_some_find}
-use Rattle.large_book.specs.Larges.{addr_of}
-use Rattle.large_book.proofs.Listing.{held_by}
-use Rattle.region_book.specs.RegionLists.{IsOf}
-use Rattle.region_book.specs.Totals.{AreTotals}
+use Rattle.region_book.proofs.Words.{ap, arith, find, is_some, refl, subst, sym, ◌∙◌, held_anew, starts_at, every_changed, is_some_find, addr_of, held_by, IsOf, AreTotals}
 use Rattle.region_book.proofs.Answered.{found_in, found_small, swapped_large, swapped_small, swaps}
 use Rattle.region_book.proofs.RegionBook.hand_over.Goals as goal
 

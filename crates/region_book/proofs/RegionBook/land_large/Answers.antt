@@ -1,8 +1,4 @@
-use Rattle.std.proofs.Common.{ap, subst, sym, ◌∙◌, ◌*◌}
-use Rattle.space_model.specs.Region.{landing, region_of, regions_from}
-use Rattle.list_facts.proofs.ByKey.{every_inserted}
-use Rattle.large_book.specs.Larges.{addr_of}
-use Rattle.region_book.specs.RegionLists.{CanCome, IsOf, Regions}
+use Rattle.region_book.proofs.Words.{ap, subst, sym, ◌∙◌, ◌*◌, landing, region_of, regions_from, every_inserted, addr_of, CanCome, IsOf, Regions}
 use Rattle.region_book.proofs.Answered.{page_free, page_lands}
 use Rattle.region_book.proofs.RegionBook.land_large.Goals as goal
 

@@ -1,10 +1,4 @@
-use Rattle.std.proofs.Common.{ap, arith, subst, sym, ◌+◌, ◌∙◌, ◌*◌}
-use Rattle.std.specs.List.{range_with_len}
-use Rattle.size_classes.specs.Classes.{size_at}
-use Rattle.space_model.specs.Region.{landing, regions_from}
-use Rattle.list_facts.proofs.ByKey.{every_landing}
-use Rattle.large_book.specs.Larges.{addr_of}
-use Rattle.region_book.specs.RegionLists.{CanCome, IsOf, Regions}
+use Rattle.region_book.proofs.Words.{ap, arith, subst, sym, ◌+◌, ◌∙◌, ◌*◌, range_with_len, size_at, landing, regions_from, every_landing, addr_of, CanCome, IsOf, Regions}
 use Rattle.region_book.proofs.Answered.{made_of, slab_lands}
 use Rattle.region_book.proofs.RegionBook.land_small.Goals as goal
 

@@ -1,6 +1,4 @@
-use Rattle.std.proofs.Common.{ap, take, drop, ◌∙◌}
-use Rattle.space_model.specs.Counts.{regions_by_class}
-use Rattle.region_book.specs.Books.{regions_in}
+use Rattle.region_book.proofs.Words.{ap, take, drop, ◌∙◌, regions_by_class, regions_in}
 use Rattle.region_book.proofs.ByClass.{large_last}
 use Rattle.region_book.proofs.RegionBook.large_numbers.Goals as goal
 

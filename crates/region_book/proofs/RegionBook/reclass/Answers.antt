@@ -1,12 +1,4 @@
-use Rattle.std.proofs.Common.{ap, arith, filter, not, refl, subst, sym, ◌*◌, ◌∙◌}
-use Rattle.std.specs.List.{list_any}
-use Rattle.size_classes.proofs.Table.{size_bounds}
-use Rattle.space_model.specs.Counts.{region_bytes}
-use Rattle.space_model.specs.Region.{inserted, region_of, starts_at}
-use Rattle.list_facts.proofs.ByKey.{every_changed}
-use Rattle.large_book.specs.Larges.{addr_of}
-use Rattle.region_book.specs.RegionLists.{IsOf}
-use Rattle.region_book.specs.Totals.{AreTotals}
+use Rattle.region_book.proofs.Words.{ap, arith, filter, not, refl, subst, sym, ◌*◌, ◌∙◌, list_any, size_bounds, region_bytes, inserted, region_of, starts_at, every_changed, addr_of, IsOf, AreTotals}
 use Rattle.region_book.proofs.Answered.{becomes, found_large, in_both, in_one, is_large, large_there, swapped_large, swaps}
 use Rattle.region_book.proofs.RegionBook.reclass.Goals as goal
 

@@ -1,4 +1,4 @@
-use Rattle.std.proofs.Common.{refl}
+use Rattle.region_book.proofs.Words.{refl}
 use Rattle.region_book.proofs.Answered.{book_again}
 use Rattle.region_book.proofs.RegionBook.reserve.Goals as goal
 

@@ -1,8 +1,4 @@
-use Rattle.std.proofs.Common.{◌≡◌, true, false, is_none, sym, ◌∙◌, ap}
-use Rattle.heap_core.specs.Heaps.{HeapFacts}
-use Rattle.call_table.specs.declared.needs.Answered.TheVariants.{NotHeld}
-use Rattle.replay_run.specs.declared.input.Stop.TheVariants.{NoMemory}
-use Rattle.replay_run.specs.World.{is_open}
+use Rattle.replay_run.proofs.Words.{◌≡◌, true, false, is_none, sym, ◌∙◌, ap, HeapFacts, NotHeld, NoMemory, is_open}
 use Rattle.replay_run.proofs.Begins.{answered_result, awaits_open, opened_goes, refused_result, unbegun_stops}
 use Rattle.replay_run.proofs.Opens.{start_open}
 use Rattle.replay_run.proofs.Stops.{goes_stop}

@@ -1,5 +1,4 @@
-use Rattle.std.proofs.Common.{refl}
-use Rattle.replay_run.specs.World.{TheEnd, TheEndBefore, is_open}
+use Rattle.replay_run.proofs.Words.{refl, TheEnd, TheEndBefore, is_open}
 use Rattle.replay_run.proofs.Begins.{awaits_before, awaits_begun_only}
 use Rattle.replay_run.proofs.Stops.{goes_stop}
 use Rattle.replay_run.proofs.calls.carry_call.Goals as goal

@@ -1,5 +1,4 @@
-use Rattle.std.proofs.Common.{refl}
-use Rattle.report_text.specs.Lines.{call_line}
+use Rattle.replay_run.proofs.Words.{refl, call_line}
 use Rattle.replay_run.proofs.calls.head.Goals as goal
 
 pub returns-in-Malloc : goal.returns-in-Malloc

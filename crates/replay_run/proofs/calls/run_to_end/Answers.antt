@@ -1,5 +1,4 @@
-use Rattle.std.proofs.Common.{arith, ◌≡◌, true, false, sym, ◌∙◌}
-use Rattle.replay_run.specs.World.{is_open}
+use Rattle.replay_run.proofs.Words.{arith, ◌≡◌, true, false, sym, ◌∙◌, is_open}
 use Rattle.replay_run.proofs.Begins.{awaits_going}
 use Rattle.replay_run.proofs.Longer.{steps_few}
 use Rattle.replay_run.proofs.Stops.{goes_stop}

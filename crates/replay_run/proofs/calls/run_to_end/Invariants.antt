@@ -1,8 +1,4 @@
-use Rattle.std.proofs.Common.{◌≡◌, ◌≤◌, ◌-◌, ℕ, Some, false, []}
-use Rattle.replay_run.specs.Plays.{client_awaited}
-use Rattle.replay_run.specs.SoFar.{Here, Outset, Reading, is_one_step, now_of}
-use Rattle.replay_run.specs.Steps.{step_limit, steps_of}
-use Rattle.replay_run.specs.World.{Awaits, awaits_after, is_open}
+use Rattle.replay_run.proofs.Words.{◌≡◌, ◌≤◌, ◌-◌, ℕ, Some, false, [], client_awaited, Here, Outset, Reading, is_one_step, now_of, step_limit, steps_of, Awaits, awaits_after, is_open}
 use Rattle.replay_run.proofs.calls.run_to_end.Given as goal
 
 -- the call goes on, or has ended

@@ -1,8 +1,4 @@
-use Rattle.std.proofs.Common.{◌≡◌, is_none}
-use Rattle.heap_core.proofs.Sitting.{asks-sit, holders-publish, turns-sit}
-use Rattle.replay_run.specs.declared.input.Stop.TheVariants.{NoMemory}
-use Rattle.replay_run.specs.Plays.{IsSound}
-use Rattle.replay_run.specs.World.{is_open}
+use Rattle.replay_run.proofs.Words.{◌≡◌, is_none, asks-sit, holders-publish, turns-sit, NoMemory, IsSound, is_open}
 use Rattle.replay_run.proofs.Endings.{all_of, sink_fault}
 use Rattle.replay_run.proofs.Longer.{step_longer}
 use Rattle.replay_run.proofs.Opens.{step_open}

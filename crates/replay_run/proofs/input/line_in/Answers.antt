@@ -1,4 +1,4 @@
-use Rattle.std.proofs.Common.{arith, sym, ◌∙◌}
+use Rattle.replay_run.proofs.Words.{arith, sym, ◌∙◌}
 use Rattle.replay_run.proofs.LinesRead.{newline_first, none_stands, none_in_front, stands_behind}
 use Rattle.replay_run.proofs.input.line_in.Goals.{in_default-via-in-Some+else-place-le-LINE_BYTES, in_default-via-in_default}
 use Rattle.replay_run.proofs.input.line_in.Goals as goal

@@ -1,5 +1,4 @@
-use Rattle.std.proofs.Common.{◌++◌, take}
-use Rattle.std.proofs.KnownBytes.{Consumes-trans}
+use Rattle.replay_run.proofs.Words.{◌++◌, take, Consumes-trans}
 use Rattle.replay_run.proofs.Endings.{takes_unread}
 use Rattle.replay_run.proofs.input.read_to_line.Goals as goal
 

@@ -1,6 +1,4 @@
-use Rattle.std.proofs.Common.{◌≤◌, length}
-use Rattle.edge_io.specs.Bytes.{Keeps}
-use Rattle.replay_run.specs.Input.{TakesMore}
+use Rattle.replay_run.proofs.Words.{◌≤◌, length, Keeps, TakesMore}
 use Rattle.replay_run.proofs.input.read_to_line.Given as goal
 
 -- the pending bytes are those from before and those that were taken, at least one in each turn

@@ -1,4 +1,4 @@
-use Rattle.std.proofs.Common.{refl}
+use Rattle.replay_run.proofs.Words.{refl}
 use Rattle.replay_run.proofs.ReadLines.{line_result, line_silent, reads_at, reads_blank, reads_call, reads_counts, reads_refuse, reads_start}
 use Rattle.replay_run.proofs.lines.carry_line.Goals as goal
 

@@ -1,5 +1,4 @@
-use Rattle.std.proofs.Common.{◌≡◌, true, refl, sym, ◌∙◌}
-use Rattle.replay_run.specs.World.{TheEnd, is_open}
+use Rattle.replay_run.proofs.Words.{◌≡◌, true, refl, sym, ◌∙◌, TheEnd, is_open}
 use Rattle.replay_run.proofs.ReadLines.{line_result, line_silent, reads_end, reads_end_idle}
 use Rattle.replay_run.proofs.lines.end_line.Goals as goal
 

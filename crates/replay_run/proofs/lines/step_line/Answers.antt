@@ -1,5 +1,4 @@
-use Rattle.std.proofs.Common.{refl, sym, ◌∙◌}
-use Rattle.replay_run.specs.World.{OneStep}
+use Rattle.replay_run.proofs.Words.{refl, sym, ◌∙◌, OneStep}
 use Rattle.replay_run.proofs.ReadLines.{line_result, line_silent, reads_step, reads_step_idle}
 use Rattle.replay_run.proofs.lines.step_line.Goals as goal
 

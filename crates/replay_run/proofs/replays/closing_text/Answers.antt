@@ -1,9 +1,4 @@
-use Rattle.std.proofs.Common.{arith, ◌≡◌, ◌++◌, ℕ, List, [], sym, ◌∙◌, ap}
-use Rattle.std.specs.List.{flat_map, range_with_len}
-use Rattle.std.proofs.lemmas.List.{flat_map_more}
-use Rattle.space_model.proofs.Ranges.{range_with_len_more}
-use Rattle.heap_core.specs.Arenas.{record_at}
-use Rattle.replay_run.specs.World.{closing_line, live_counts}
+use Rattle.replay_run.proofs.Words.{arith, ◌≡◌, ◌++◌, ℕ, List, [], sym, ◌∙◌, ap, flat_map, range_with_len, flat_map_more, range_with_len_more, record_at, closing_line, live_counts}
 use Rattle.replay_run.proofs.replays.closing_text.Goals as goal
 
 pub loop-index-preserved : goal.loop-index-preserved

@@ -1,7 +1,4 @@
-use Rattle.std.proofs.Common.{◌≡◌}
-use Rattle.std.specs.List.{flat_map, range_with_len}
-use Rattle.heap_core.specs.Arenas.{record_at}
-use Rattle.replay_run.specs.World.{closing_line, live_counts}
+use Rattle.replay_run.proofs.Words.{◌≡◌, flat_map, range_with_len, record_at, closing_line, live_counts}
 use Rattle.replay_run.proofs.replays.closing_text.Given as goal
 
 -- the closing lines of the arenas so far

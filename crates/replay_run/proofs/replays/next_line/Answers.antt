@@ -1,8 +1,4 @@
-use Rattle.std.proofs.Common.{◌+◌, subst}
-use Rattle.replay_run.specs.declared.input.Found.{Found}
-use Rattle.replay_run.specs.declared.input.Stop.TheVariants.{NoMemory}
-use Rattle.replay_run.specs.Input.{InBounds, IsFirst}
-use Rattle.replay_run.specs.SoFar.{reading}
+use Rattle.replay_run.proofs.Words.{◌+◌, subst, Found, NoMemory, InBounds, IsFirst, reading}
 use Rattle.replay_run.proofs.NextLines.{ahead_goes, bad_goes, here_found, here_kept, next_stop, unread_goes}
 use Rattle.replay_run.proofs.Stops.{stops_between, stops_reading}
 use Rattle.replay_run.proofs.replays.next_line.Goals as goal

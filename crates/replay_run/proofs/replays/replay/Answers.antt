@@ -1,6 +1,4 @@
-use Rattle.std.proofs.Common.{map, [], refl, inr}
-use Rattle.heap_core.specs.Arenas.{journal_of}
-use Rattle.heap_core.specs.Heaps.{opening_heap}
+use Rattle.replay_run.proofs.Words.{map, [], refl, inr, journal_of, opening_heap}
 use Rattle.replay_run.proofs.Ends.{last_status, replay_ended, replay_none, replay_or, status_flushed}
 use Rattle.replay_run.proofs.NewHeaps.{opening_sound}
 use Rattle.replay_run.proofs.replays.replay.Goals as goal

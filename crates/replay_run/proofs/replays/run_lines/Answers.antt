@@ -1,8 +1,4 @@
-use Rattle.std.proofs.Common.{arith, ◌≡◌, ◌<◌, ◌++◌, refl}
-use Rattle.report_text.specs.declared.causes.Cause.TheVariants.{LimitLines}
-use Rattle.replay_run.specs.declared.input.Stop.TheVariants.{ReadFault}
-use Rattle.replay_run.specs.Causes.{line_limit, status_of}
-use Rattle.replay_run.specs.Replays.{Bad, Whole}
+use Rattle.replay_run.proofs.Words.{arith, ◌≡◌, ◌<◌, ◌++◌, refl, LimitLines, ReadFault, line_limit, status_of, Bad, Whole}
 use Rattle.replay_run.proofs.BadLines.{bad_many}
 use Rattle.replay_run.proofs.Ends.{cause_wider, here_none, replay_passed, status_closed, takes_none}
 use Rattle.replay_run.proofs.NextLines.{here_found, here_kept}

@@ -1,6 +1,4 @@
-use Rattle.std.proofs.Common.{◌≤◌, []}
-use Rattle.replay_run.specs.SoFar.{Here, now_of, reading}
-use Rattle.replay_run.specs.World.{Nothing}
+use Rattle.replay_run.proofs.Words.{◌≤◌, [], Here, now_of, reading, Nothing}
 use Rattle.replay_run.proofs.replays.run_lines.Given as goal
 
 -- as many lines as turns were carried out so far

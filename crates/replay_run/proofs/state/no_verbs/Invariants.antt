@@ -1,4 +1,4 @@
-use Rattle.std.proofs.Common.{◌≡◌, None, replicate}
+use Rattle.replay_run.proofs.Words.{◌≡◌, None, replicate}
 use Rattle.replay_run.proofs.state.no_verbs.Given as goal
 
 abbrev pub invariant-loop-client : goal.invariant-loop-client

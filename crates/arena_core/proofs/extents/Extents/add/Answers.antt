@@ -1,5 +1,4 @@
-use Rattle.std.proofs.Common.{arith, ap, subst, sym}
-use Rattle.arena_core.specs.Extents.{IsApart, active_pages, all_pages}
+use Rattle.arena_core.proofs.Words.{arith, ap, subst, sym, IsApart, active_pages, all_pages}
 use Rattle.arena_core.proofs.Swaps.{added, pages_fit}
 use Rattle.arena_core.proofs.extents.Extents.add.Goals as goal
 

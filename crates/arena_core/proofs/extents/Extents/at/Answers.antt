@@ -1,5 +1,4 @@
-use Rattle.space_model.specs.Part.{begins_at}
-use Rattle.arena_core.specs.Extents.{IsThere}
+use Rattle.arena_core.proofs.Words.{begins_at, IsThere}
 use Rattle.arena_core.proofs.Finds.{found_inside}
 use Rattle.arena_core.proofs.Swaps.{at_some}
 use Rattle.arena_core.proofs.extents.Extents.at.Goals as goal

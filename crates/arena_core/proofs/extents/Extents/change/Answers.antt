@@ -1,7 +1,4 @@
-use Rattle.std.proofs.Common.{◌≡◌, [], ◌∷◌, arith, refl, ap, subst, sym}
-use Rattle.space_model.specs.declared.parts.Part.{Part}
-use Rattle.space_model.specs.Part.{begins_at, exchanged}
-use Rattle.arena_core.specs.Extents.{IsApart, active_pages, all_pages}
+use Rattle.arena_core.proofs.Words.{◌≡◌, [], ◌∷◌, arith, refl, ap, subst, sym, Part, begins_at, exchanged, IsApart, active_pages, all_pages}
 use Rattle.arena_core.proofs.Swaps.{at_some, changed, there_inside, there_within}
 use Rattle.arena_core.proofs.extents.Extents.change.Goals as goal
 

@@ -1,4 +1,4 @@
-use Rattle.space_model.specs.Span.{has_page}
+use Rattle.arena_core.proofs.Words.{has_page}
 use Rattle.arena_core.proofs.Finds.{found_inside}
 use Rattle.arena_core.proofs.extents.Extents.holding.Goals as goal
 

@@ -1,9 +1,6 @@
-use Rattle.std.proofs.Common.{◌≡◌, [], ◌∷◌, ◌||◌, arith, ap, subst, sym, find}
+use Rattle.arena_core.proofs.Words.{◌≡◌, [], ◌∷◌, ◌||◌, arith, ap, subst, sym, find, sum_by-cons, begins_at, exchanged, IsApart, active_pages, all_pages}
 use Rattle.std.specs.Option.{IfSome}
-use Rattle.std.proofs.lemmas.List.Sums.{sum_by-cons}
-use Rattle.space_model.specs.Part.{begins_at, exchanged}
 use Rattle.part_book.specs.Books.{joined}
-use Rattle.arena_core.specs.Extents.{IsApart, active_pages, all_pages}
 use Rattle.arena_core.proofs.Swaps.{at_some, joined_active, joined_swaps, serving, there_inside, there_within}
 use Rattle.arena_core.proofs.extents.Extents.join.Goals as goal
 

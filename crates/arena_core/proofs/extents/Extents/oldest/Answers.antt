@@ -1,4 +1,4 @@
-use Rattle.space_model.specs.Part.{is_listed}
+use Rattle.arena_core.proofs.Words.{is_listed}
 use Rattle.arena_core.proofs.Finds.{found_inside}
 use Rattle.arena_core.proofs.extents.Extents.oldest.Goals as goal
 

@@ -1,4 +1,4 @@
-use Rattle.std.proofs.Common.{◌∙◌}
+use Rattle.arena_core.proofs.Words.{◌∙◌}
 use Rattle.arena_core.proofs.Swaps.{low_behind}
 use Rattle.arena_core.proofs.extents.Extents.split.Goals as goal
 

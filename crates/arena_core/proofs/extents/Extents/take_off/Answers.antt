@@ -1,5 +1,4 @@
-use Rattle.std.proofs.Common.{◌∙◌, append-nil, arith, ap, subst, sym}
-use Rattle.arena_core.specs.Extents.{IsApart, active_pages, all_pages}
+use Rattle.arena_core.proofs.Words.{◌∙◌, append-nil, arith, ap, subst, sym, IsApart, active_pages, all_pages}
 use Rattle.arena_core.proofs.Swaps.{gone, there_inside, there_within}
 use Rattle.arena_core.proofs.extents.Extents.take_off.Goals as goal
 

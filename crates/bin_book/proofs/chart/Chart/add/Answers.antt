@@ -1,8 +1,7 @@
-use Rattle.std.proofs.Common.{arith}
-use Rattle.bin_book.specs.Charts.{HasPage}
+use Rattle.bin_book.proofs.Words.{arith, HasPage}
 use Rattle.bin_book.proofs.Charting.{longer_run, own_set, some_leaf}
-use Rattle.bin_book.proofs.chart.Chart.add.Goals as goal
 use Rattle.bin_book.proofs.chart.Chart.add.Goals.{then-spare-gt0, else-spare-gt0}
+use Rattle.bin_book.proofs.chart.Chart.add.Goals as goal
 
 pub loop-page-preserved : goal.loop-page-preserved
 loop-page-preserved c =

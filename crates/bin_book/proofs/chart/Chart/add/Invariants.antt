@@ -1,4 +1,4 @@
-use Rattle.std.proofs.Common.{◌≡◌, ◌<◌, ◌≤◌}
+use Rattle.bin_book.proofs.Words.{◌≡◌, ◌<◌, ◌≤◌}
 use Rattle.bin_book.proofs.Charting.{AreOwn, HasRun}
 use Rattle.bin_book.proofs.chart.Chart.add.Given as goal
 

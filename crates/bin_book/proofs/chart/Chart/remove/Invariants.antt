@@ -1,4 +1,4 @@
-use Rattle.std.proofs.Common.{◌≡◌, ℕ, ◌<◌, ◌≤◌, None, Some}
+use Rattle.bin_book.proofs.Words.{◌≡◌, ℕ, ◌<◌, ◌≤◌, None, Some}
 use Rattle.std.specs.FinMap as map_of
 use Rattle.bin_book.proofs.chart.Chart.remove.Given as goal
 

@@ -1,5 +1,4 @@
-use Rattle.std.proofs.Common.{◌≡◌, ℕ, ◌<◌, ◌≤◌, vec_len, vec_capacity}
-use Rattle.bin_book.specs.Charts.{first_at}
+use Rattle.bin_book.proofs.Words.{◌≡◌, ℕ, ◌<◌, ◌≤◌, vec_len, vec_capacity, first_at}
 use Rattle.bin_book.proofs.chart.Chart.reserve.Given as goal
 
 abbrev pub invariant-loop : goal.invariant-loop

@@ -1,5 +1,4 @@
-use Rattle.std.proofs.Common.{◌≡◌, ℕ, ◌+◌, ◌*◌, ◌<◌, ◌≤◌, ◌⊎◌, Some, vec_len}
-use Rattle.bin_book.specs.Holders.{holder_at}
+use Rattle.bin_book.proofs.Words.{◌≡◌, ℕ, ◌+◌, ◌*◌, ◌<◌, ◌≤◌, ◌⊎◌, Some, vec_len, holder_at}
 use Rattle.bin_book.proofs.holders.Holders.give.Given as goal
 
 abbrev pub invariant-loop-region : goal.invariant-loop-region

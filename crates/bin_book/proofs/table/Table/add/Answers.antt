@@ -1,9 +1,4 @@
-use Rattle.std.proofs.Common.{IsSome, length, vec_len, ◌≡◌, ◌<◌, ◌≤◌, ◌+◌, ◌^◌, ◌∷◌, ◌++◌, [], eqb, set, Contains, option_to_list, Some, refl, sym, ap, ◌∙◌, subst, arith}
-use Rattle.size_classes.specs.Classes.{pages_at, regions_at}
-use Rattle.ordered_set.specs.Keys.{IsAscending, with_key}
-use Rattle.bin_book.specs.Bins.{slab_with_out, with_slab}
-use Rattle.bin_book.specs.Charts.{HasPage}
-use Rattle.bin_book.specs.Tables.{IsSlabIn, bin_key, regions_of, slabs_in}
+use Rattle.bin_book.proofs.Words.{IsSome, length, vec_len, ◌≡◌, ◌<◌, ◌≤◌, ◌+◌, ◌^◌, ◌∷◌, ◌++◌, [], eqb, set, Contains, option_to_list, Some, refl, sym, ap, ◌∙◌, subst, arith, pages_at, regions_at, IsAscending, with_key, slab_with_out, with_slab, HasPage, IsSlabIn, bin_key, regions_of, slabs_in}
 use Rattle.bin_book.proofs.Adding.{chart_place, charted_added, codes_room, few_slabs, in_items, new_bin, new_in, new_key, new_slab, regions_added, slabs_added, table_added}
 use Rattle.bin_book.proofs.Charting.{small_pages}
 use Rattle.bin_book.proofs.table.Table.add.Goals as goal

@@ -1,5 +1,4 @@
-use Rattle.std.proofs.Common.{length, sym, ap, ◌∙◌, arith}
-use Rattle.slab_bits.specs.Slabs.{Slab as Bits}
+use Rattle.bin_book.proofs.Words.{length, sym, ap, ◌∙◌, arith, Bits}
 use Rattle.bin_book.proofs.Taking.{read_bits}
 use Rattle.bin_book.proofs.Regions.{no_regions}
 use Rattle.bin_book.proofs.Adding.{first_there, length_slabs, no_slabs, none_there}

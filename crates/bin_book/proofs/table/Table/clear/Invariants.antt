@@ -1,5 +1,4 @@
-use Rattle.std.proofs.Common.{◌≡◌, ◌+◌, length, vec_len}
-use Rattle.bin_book.specs.Tables.{IsTable}
+use Rattle.bin_book.proofs.Words.{◌≡◌, ◌+◌, length, vec_len, IsTable}
 use Rattle.bin_book.proofs.table.Table.clear.Given as goal
 
 abbrev pub invariant-loop-slab : goal.invariant-loop-slab

@@ -1,8 +1,4 @@
-use Rattle.std.proofs.Common.{ap, is_some, ◌∙◌, subst, arith, false, ◌≡◌}
-use Rattle.std.specs.List.{list_any}
-use Rattle.slab_bits.specs.Slabs.{Slab as Bits}
-use Rattle.bin_book.specs.Bins.{is_out}
-use Rattle.bin_book.specs.Tables.{IsOutAt, bits_at, slabs_in}
+use Rattle.bin_book.proofs.Words.{ap, is_some, ◌∙◌, subst, arith, false, ◌≡◌, list_any, Bits, is_out, IsOutAt, bits_at, slabs_in}
 use Rattle.bin_book.proofs.Holding.{none_last, none_starts, some_starts, pages_far}
 use Rattle.bin_book.proofs.Taking.{read_bits}
 use Rattle.bin_book.proofs.table.Table.find.Goals as goal

@@ -1,4 +1,4 @@
-use Rattle.std.proofs.Common.{is_some, ap, ◌∙◌, arith}
+use Rattle.bin_book.proofs.Words.{is_some, ap, ◌∙◌, arith}
 use Rattle.bin_book.proofs.Holding.{none_out, pages_far}
 use Rattle.bin_book.proofs.table.Table.holder.Goals as goal
 

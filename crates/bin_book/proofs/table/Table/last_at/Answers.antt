@@ -1,5 +1,5 @@
+use Rattle.bin_book.proofs.Words.{◌+◌, sym, ◌∙◌}
 use Rattle.bin_book.proofs.Holding.{charted_found, charted_place, last_found, none_found}
-use Rattle.std.proofs.Common.{◌+◌, sym, ◌∙◌}
 use Rattle.bin_book.proofs.table.Table.last_at.Goals as goal
 
 pub find-requires : goal.find-requires

@@ -1,6 +1,4 @@
-use Rattle.std.proofs.Common.{◌+◌, ltb, sym, ap, ◌∙◌, arith}
-use Rattle.size_classes.specs.Classes.{pages_at}
-use Rattle.slab_bits.specs.Slabs.{Slab as Bits}
+use Rattle.bin_book.proofs.Words.{◌+◌, ltb, sym, ap, ◌∙◌, arith, pages_at, Bits}
 use Rattle.bin_book.proofs.Holding.{last_below, meets_last, meets_none, none_below}
 use Rattle.bin_book.proofs.Taking.{read_bits}
 use Rattle.bin_book.proofs.table.Table.meets.Goals as goal

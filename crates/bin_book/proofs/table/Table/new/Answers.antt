@@ -1,6 +1,4 @@
-use Rattle.std.proofs.Common.{ap, refl}
-use Rattle.std.proofs.lemmas.List.{get_or-replicate}
-use Rattle.ordered_set.specs.Keys.{KeySet}
+use Rattle.bin_book.proofs.Words.{ap, refl, get_or-replicate, KeySet}
 use Rattle.bin_book.proofs.Growing.{empty_slabs, empty_table}
 use Rattle.bin_book.proofs.Regions.{no_regions}
 use Rattle.bin_book.proofs.table.Table.new.Goals as goal

@@ -1,6 +1,4 @@
-use Rattle.std.proofs.Common.{◌≡◌, ◌*◌, find, None, Some, sym, subst, arith}
-use Rattle.ordered_set.specs.Keys.{is_from}
-use Rattle.ordered_set.proofs.Orders.{start}
+use Rattle.bin_book.proofs.Words.{◌≡◌, ◌*◌, find, None, Some, sym, subst, arith, is_from, start}
 use Rattle.bin_book.proofs.Taking.{found_later, found_open, not_found}
 use Rattle.bin_book.proofs.table.Table.open_slab.Goals as goal
 

@@ -1,9 +1,7 @@
-use Rattle.std.proofs.Common.{◌≡◌, ◌-◌, ◌*◌, ◌/◌, ◌%◌, false, true, sym, ◌∙◌, subst, arith}
-use Rattle.size_classes.proofs.Table.{slab_filled}
-use Rattle.bin_book.specs.Tables.{HasOut, IsOutAt, bits_at}
+use Rattle.bin_book.proofs.Words.{◌≡◌, ◌-◌, ◌*◌, ◌/◌, ◌%◌, false, true, sym, ◌∙◌, subst, arith, slab_filled, HasOut, IsOutAt, bits_at}
 use Rattle.bin_book.proofs.Holding.{out_at, out_not, out_somewhere}
-use Rattle.bin_book.proofs.table.Table.out_at.Goals as goal
 use Rattle.bin_book.proofs.table.Table.out_at.Goals.{else-has_out-via-then-has_out+else-offset-size-eq0, else-has_out-via-else-has_out}
+use Rattle.bin_book.proofs.table.Table.out_at.Goals as goal
 
 pub overflow_mul-offset : goal.overflow_mul-offset
 overflow_mul-offset c =

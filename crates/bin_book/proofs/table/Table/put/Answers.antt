@@ -1,11 +1,4 @@
-use Rattle.std.proofs.Common.{◌≡◌, ◌<◌, eqb, false, true, filter, get_or, not, set, sym, ap, ◌∙◌, subst, arith, refl, Contains}
-use Rattle.std.proofs.lemmas.Bool.Decides.{nat_tests}
-use Rattle.size_classes.specs.Classes.{regions_at}
-use Rattle.slab_bits.specs.Slabs.{Slab as Bits}
-use Rattle.ordered_set.specs.declared.key.Key.{Key}
-use Rattle.space_model.specs.Region.{starts_at}
-use Rattle.bin_book.specs.Bins.{place}
-use Rattle.bin_book.specs.Tables.{IsMoved, bin_key, bin_of, bits_at, left_of, regions_in, regions_of}
+use Rattle.bin_book.proofs.Words.{◌≡◌, ◌<◌, eqb, false, true, filter, get_or, not, set, sym, ap, ◌∙◌, subst, arith, refl, Contains, nat_tests, regions_at, Bits, Key, starts_at, place, IsMoved, bin_key, bin_of, bits_at, left_of, regions_in, regions_of}
 use Rattle.bin_book.proofs.Places.{bin_absent}
 use Rattle.bin_book.proofs.Taking.{read_bits, small_numbers, in_items, inside_regions, left_put, put_in, put_slabs, table_changed, with_bit, within_bits}
 use Rattle.bin_book.proofs.Handing.{region_put}

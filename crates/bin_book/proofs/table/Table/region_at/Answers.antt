@@ -1,8 +1,4 @@
-use Rattle.std.proofs.Common.{Some, sym, ap, ◌∙◌}
-use Rattle.slab_bits.specs.Slabs.{Slab as Bits}
-use Rattle.std.specs.List.{list_any}
-use Rattle.bin_book.specs.Bins.{is_out}
-use Rattle.bin_book.specs.Tables.{regions_in, slabs_in}
+use Rattle.bin_book.proofs.Words.{Some, sym, ap, ◌∙◌, Bits, list_any, is_out, regions_in, slabs_in}
 use Rattle.bin_book.proofs.Holding.{found_there, out_somewhere}
 use Rattle.bin_book.proofs.Handing.{code_inside}
 use Rattle.bin_book.proofs.Taking.{read_bits}

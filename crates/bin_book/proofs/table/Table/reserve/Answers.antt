@@ -1,4 +1,4 @@
-use Rattle.std.proofs.Common.{◌∙◌, refl, arith}
+use Rattle.bin_book.proofs.Words.{◌∙◌, refl, arith}
 use Rattle.bin_book.proofs.Growing.{table_roomy}
 use Rattle.bin_book.proofs.table.Table.reserve.Goals as goal
 

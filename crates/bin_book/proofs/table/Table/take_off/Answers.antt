@@ -1,8 +1,4 @@
-use Rattle.std.proofs.Common.{◌≡◌, ◌+◌, ◌≤◌, eqb, List, length, set, get_or, ◌-◌, Contains, refl, sym, ap, ◌∙◌, subst, vec_len}
-use Rattle.size_classes.specs.Classes.{pages_at}
-use Rattle.ordered_set.specs.declared.key.Key.{Key}
-use Rattle.ordered_set.specs.Keys.{without_key}
-use Rattle.bin_book.specs.Tables.{bin_key, bin_of}
+use Rattle.bin_book.proofs.Words.{◌≡◌, ◌+◌, ◌≤◌, eqb, List, length, set, get_or, ◌-◌, Contains, refl, sym, ap, ◌∙◌, subst, vec_len, pages_at, Key, without_key, bin_key, bin_of}
 use Rattle.bin_book.proofs.Adding.{charted_less, fewer_keys, slabs_less, some_count, table_less}
 use Rattle.bin_book.proofs.table.Table.take_off.Goals as goal
 

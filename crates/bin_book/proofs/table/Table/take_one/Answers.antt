@@ -1,10 +1,4 @@
-use Rattle.std.proofs.Common.{◌≡◌, ◌<◌, ◌+◌, ◌*◌, eqb, false, set, position, Some, sym, ap, ◌∙◌, subst, arith, refl, Contains, IsSome}
-use Rattle.std.proofs.lemmas.Bool.Decides.{nat_tests}
-use Rattle.size_classes.specs.Classes.{regions_at, size_at}
-use Rattle.slab_bits.specs.Slabs.{Slab as Bits}
-use Rattle.ordered_set.specs.declared.key.Key.{Key}
-use Rattle.bin_book.specs.Bins.{place}
-use Rattle.bin_book.specs.Tables.{IsMoved, bin_key, bin_of, bits_at, left_of, regions_of}
+use Rattle.bin_book.proofs.Words.{◌≡◌, ◌<◌, ◌+◌, ◌*◌, eqb, false, set, position, Some, sym, ap, ◌∙◌, subst, arith, refl, Contains, IsSome, nat_tests, regions_at, size_at, Bits, Key, place, IsMoved, bin_key, bin_of, bits_at, left_of, regions_of}
 use Rattle.bin_book.proofs.Places.{bin_absent, place_inside}
 use Rattle.bin_book.proofs.Taking.{read_bits, small_numbers, in_items, some_position, table_changed, taken_bits, is_free, taken_in, taken_lowest, taken_slabs, with_bit, within}
 use Rattle.bin_book.proofs.Handing.{region_taken}

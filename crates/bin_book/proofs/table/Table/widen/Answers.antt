@@ -1,5 +1,4 @@
-use Rattle.std.proofs.Common.{refl, ap, arith}
-use Rattle.ordered_set.specs.Keys.{KeySet}
+use Rattle.bin_book.proofs.Words.{refl, ap, arith, KeySet}
 use Rattle.bin_book.proofs.Growing.{regions_grown, same_chart, slabs_grown, table_grown, table_roomy}
 use Rattle.bin_book.proofs.table.Table.widen.Goals as goal
 

@@ -1,7 +1,4 @@
-use Rattle.std.proofs.Common.{subst, sym}
-use Rattle.call_table.specs.Calls.{CallFacts, HasRoom, moment_of}
-use Rattle.call_table.specs.Needs.{Goes, IsPlace}
-use Rattle.call_table.specs.Runs.{after, settle, step_next}
+use Rattle.call_table.proofs.Words.{subst, sym, CallFacts, HasRoom, moment_of, Goes, IsPlace, after, settle, step_next}
 use Rattle.call_table.proofs.Credits.{led_or_ended, settle_place}
 use Rattle.call_table.proofs.Places.{fed_room}
 use Rattle.call_table.proofs.calls.Call.next.Goals as goal

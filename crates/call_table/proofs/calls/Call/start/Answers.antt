@@ -1,6 +1,4 @@
-use Rattle.std.proofs.Common.{◌≡◌, ◌≤◌, ◌||◌, true, is_some, subst, sym}
-use Rattle.call_table.specs.Words.{DeskFacts}
-use Rattle.call_table.specs.Calls.{IsCall, may_hold}
+use Rattle.call_table.proofs.Words.{◌≡◌, ◌≤◌, ◌||◌, true, is_some, subst, sym, DeskFacts, IsCall, may_hold}
 use Rattle.call_table.proofs.Credits.{begin-is_call}
 use Rattle.call_table.proofs.Places.{begin_room}
 use Rattle.call_table.proofs.calls.Call.start.Goals as goal

@@ -1,6 +1,4 @@
-use Rattle.std.proofs.Common.{subst, sym}
-use Rattle.call_table.specs.Words.{Malloc, Memalign, Stage}
-use Rattle.call_table.specs.Points.{IsSizedNext}
+use Rattle.call_table.proofs.Words.{subst, sym, Malloc, Memalign, Stage, IsSizedNext}
 use Rattle.call_table.proofs.Credits.{begin-is_call}
 use Rattle.call_table.proofs.calls.Stage.begin.Goals as goal
 

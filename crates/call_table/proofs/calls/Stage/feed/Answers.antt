@@ -1,6 +1,4 @@
-use Rattle.std.proofs.Common.{subst, sym}
-use Rattle.call_table.specs.Points.{IsSizedNext}
-use Rattle.call_table.specs.Runs.{settle, step_next}
+use Rattle.call_table.proofs.Words.{subst, sym, IsSizedNext, settle, step_next}
 use Rattle.call_table.proofs.Credits.{led_or_ended, next_few, settle_few}
 use Rattle.call_table.proofs.calls.Stage.feed.Goals as goal
 

@@ -1,5 +1,4 @@
-use Rattle.std.proofs.Common.{◌≡◌, map}
-use Rattle.heap_core.specs.Arenas.{journal_of}
+use Rattle.heap_core.proofs.Words.{◌≡◌, map, journal_of}
 use Rattle.heap_core.proofs.arenas.Arenas.into_journals.Given as goal
 
 -- the journals so far are those of the arenas so far

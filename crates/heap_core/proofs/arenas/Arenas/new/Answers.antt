@@ -1,7 +1,4 @@
-use Rattle.std.proofs.Common.{◌≡◌, ◌∙◌, ◌++◌, ◌∷◌, [], ap, arith, map, subst, sym}
-use Rattle.std.specs.List.{range_with_len}
-use Rattle.std.proofs.lemmas.List.FromFn.{map-range_with_len_more}
-use Rattle.heap_core.specs.Arenas.{AreRecorded, opening_record}
+use Rattle.heap_core.proofs.Words.{◌≡◌, ◌∙◌, ◌++◌, ◌∷◌, [], ap, arith, map, subst, sym, range_with_len, map-range_with_len_more, AreRecorded, opening_record}
 use Rattle.heap_core.proofs.Turned.{opening_recorded}
 use Rattle.heap_core.proofs.arenas.Arenas.new.Goals as goal
 

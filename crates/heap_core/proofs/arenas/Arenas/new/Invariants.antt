@@ -1,6 +1,4 @@
-use Rattle.std.proofs.Common.{◌≡◌, map}
-use Rattle.std.specs.List.{range_with_len}
-use Rattle.heap_core.specs.Arenas.{opening_record}
+use Rattle.heap_core.proofs.Words.{◌≡◌, map, range_with_len, opening_record}
 use Rattle.heap_core.proofs.arenas.Arenas.new.Given as goal
 
 -- the arenas so far are those of a new heap

@@ -1,10 +1,4 @@
-use Rattle.std.proofs.lemmas.List.{get_or_default}
-use Rattle.std.proofs.Common.{◌∙◌, List, arith, IsTrue, ap, subst, sym}
-use Rattle.space_model.specs.Step.{stands}
-use Rattle.arena_core.specs.Arenas.{entry_of}
-use Rattle.heap_core.specs.Records.{Record}
-use Rattle.heap_core.specs.Chunks.{settled}
-use Rattle.heap_core.specs.Arenas.{no_record, record_at, spaces_of}
+use Rattle.heap_core.proofs.Words.{get_or_default, ◌∙◌, List, arith, IsTrue, ap, subst, sym, stands, entry_of, Record, settled, no_record, record_at, spaces_of}
 use Rattle.heap_core.proofs.Turned.{arenas_turned_from, kept_settled, recorded_turned, room_turned}
 use Rattle.heap_core.proofs.arenas.Arenas.turn.Goals as goal
 

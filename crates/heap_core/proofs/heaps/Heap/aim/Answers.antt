@@ -1,8 +1,4 @@
-use Rattle.std.proofs.Common.{◌∙◌, ap, sym, subst}
-use Rattle.heap_core.specs.Feeding.{aimed_seat}
-use Rattle.heap_core.specs.Heaps.{HeapFacts}
-use Rattle.heap_core.specs.Seats.{Seat, seat_at}
-use Rattle.heap_core.specs.Stepping.{TakesAt}
+use Rattle.heap_core.proofs.Words.{◌∙◌, ap, sym, subst, aimed_seat, HeapFacts, Seat, seat_at, TakesAt}
 use Rattle.heap_core.proofs.Changes.{seat_is}
 use Rattle.heap_core.proofs.TakenOver.{aim_heap}
 use Rattle.heap_core.proofs.heaps.Heap.aim.Goals as goal

@@ -1,13 +1,4 @@
-use Rattle.std.proofs.Common.{◌<◌, ◌∙◌, IfSome, IsSomeAnd, ap, slice_set, subst, sym}
-use Rattle.call_table.specs.Words.{Space}
-use Rattle.heap_core.specs.Words.{Told}
-use Rattle.call_table.specs.Calls.{moment_of}
-use Rattle.call_table.specs.Needs.{Goes}
-use Rattle.call_table.specs.Runs.{after}
-use Rattle.heap_core.specs.Feeding.{FedTo}
-use Rattle.heap_core.specs.Heaps.{HeapFacts, IsSure}
-use Rattle.heap_core.specs.Seats.{Seat, seat_at}
-use Rattle.call_table.specs.Table.{WantAsk}
+use Rattle.heap_core.proofs.Words.{◌<◌, ◌∙◌, IfSome, IsSomeAnd, ap, slice_set, subst, sym, Space, Told, moment_of, Goes, after, FedTo, HeapFacts, IsSure, Seat, seat_at, WantAsk}
 use Rattle.heap_core.proofs.Changes.{seat_is}
 use Rattle.heap_core.proofs.Making.{ask_goes, ask_heap, ask_place, ask_step_at}
 use Rattle.heap_core.proofs.Wanting.{ask_seen, sure_made}

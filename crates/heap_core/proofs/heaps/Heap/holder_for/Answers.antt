@@ -1,5 +1,4 @@
-use Rattle.std.proofs.Common.{◌∙◌, ap, sym}
-use Rattle.heap_core.specs.Seats.{holder_of}
+use Rattle.heap_core.proofs.Words.{◌∙◌, ap, sym, holder_of}
 use Rattle.heap_core.proofs.TakenOver.{held_there}
 use Rattle.heap_core.proofs.heaps.Heap.holder_for.Goals as goal
 

@@ -1,5 +1,4 @@
-use Rattle.std.proofs.Common.{◌≡◌, ◌∙◌, ap, arith, length, replicate}
-use Rattle.heap_core.specs.Seats.{first_seat}
+use Rattle.heap_core.proofs.Words.{◌≡◌, ◌∙◌, ap, arith, length, replicate, first_seat}
 use Rattle.heap_core.proofs.Beginning.{opening_heap_is}
 use Rattle.heap_core.proofs.heaps.Heap.new.Goals as goal
 

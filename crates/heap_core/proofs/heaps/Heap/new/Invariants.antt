@@ -1,5 +1,4 @@
-use Rattle.std.proofs.Common.{◌≡◌, ◌≤◌, ◌-◌, length, replicate}
-use Rattle.heap_core.specs.Seats.{first_seat}
+use Rattle.heap_core.proofs.Words.{◌≡◌, ◌≤◌, ◌-◌, length, replicate, first_seat}
 use Rattle.heap_core.proofs.heaps.Heap.new.Given as goal
 
 -- the clients so far are those of a new heap

@@ -1,9 +1,4 @@
-use Rattle.std.proofs.Common.{◌≡◌, ◌∙◌, Some, ap, sym, subst}
-use Rattle.thread_cache.specs.Desks.{not_holding}
-use Rattle.call_table.specs.Words.{held_at}
-use Rattle.heap_core.specs.Heaps.{HeapFacts}
-use Rattle.heap_core.specs.Seats.{Seat, seat_at}
-use Rattle.heap_core.specs.Stepping.{MadeTurn}
+use Rattle.heap_core.proofs.Words.{◌≡◌, ◌∙◌, Some, ap, sym, subst, not_holding, held_at, HeapFacts, Seat, seat_at, MadeTurn}
 use Rattle.heap_core.proofs.Changes.{seat_is}
 use Rattle.heap_core.proofs.TakenOver.{holder_led, publish_heap, publish_kept, published_is, publishing}
 use Rattle.heap_core.proofs.heaps.Heap.publish.Goals as goal

@@ -1,6 +1,4 @@
-use Rattle.std.proofs.Common.{◌≡◌, ◌∙◌, None, ap, sym, subst}
-use Rattle.heap_core.specs.Heaps.{HeapFacts}
-use Rattle.heap_core.specs.Seats.{asked_for, seat_at}
+use Rattle.heap_core.proofs.Words.{◌≡◌, ◌∙◌, None, ap, sym, subst, HeapFacts, asked_for, seat_at}
 use Rattle.heap_core.proofs.Beginning.{start_heap}
 use Rattle.heap_core.proofs.Changes.{seat_is}
 use Rattle.heap_core.proofs.heaps.Heap.start.Goals as goal

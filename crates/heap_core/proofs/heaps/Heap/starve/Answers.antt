@@ -1,12 +1,4 @@
-use Rattle.std.proofs.Common.{IfSome, IsSomeAnd, slice_set, subst, sym}
-use Rattle.heap_core.specs.Words.{Starved}
-use Rattle.call_table.specs.Calls.{moment_of}
-use Rattle.call_table.specs.Needs.{Goes}
-use Rattle.call_table.specs.Runs.{after}
-use Rattle.heap_core.specs.Feeding.{FedTo}
-use Rattle.heap_core.specs.Heaps.{HeapFacts, IsStep, IsSure}
-use Rattle.heap_core.specs.declared.heaps.Did.TheVariants.{Turn as DidTurn}
-use Rattle.heap_core.specs.Seats.{Seat, seat_at}
+use Rattle.heap_core.proofs.Words.{IfSome, IsSomeAnd, slice_set, subst, sym, Starved, moment_of, Goes, after, FedTo, HeapFacts, IsStep, IsSure, DidTurn, Seat, seat_at}
 use Rattle.heap_core.proofs.Changes.{seat_is}
 use Rattle.heap_core.proofs.Making.{starve_goes, starve_heap, starve_step}
 use Rattle.heap_core.proofs.Wanting.{starving_seen, starving_sure}

@@ -1,6 +1,4 @@
-use Rattle.std.proofs.Common.{◌<◌, subst, sym}
-use Rattle.heap_core.specs.Heaps.{IsSure}
-use Rattle.heap_core.specs.Seats.{seat_at}
+use Rattle.heap_core.proofs.Words.{◌<◌, subst, sym, IsSure, seat_at}
 use Rattle.heap_core.proofs.Changes.{seat_is}
 use Rattle.heap_core.proofs.Wanting.{step_of, turn_told}
 use Rattle.heap_core.proofs.heaps.Heap.step_client.Goals as goal

@@ -1,8 +1,4 @@
-use Rattle.std.proofs.Common.{None, sym, subst}
-use Rattle.heap_core.specs.Heaps.{HeapFacts, IsStep}
-use Rattle.heap_core.specs.declared.heaps.Did.TheVariants.{Turn as DidTurn}
-use Rattle.heap_core.specs.Seats.{seat_at}
-use Rattle.heap_core.specs.Stepping.{StarvesAt}
+use Rattle.heap_core.proofs.Words.{None, sym, subst, HeapFacts, IsStep, DidTurn, seat_at, StarvesAt}
 use Rattle.heap_core.proofs.TakenOver.{found, found_starves, found_sure, found_takes, taken_step}
 use Rattle.heap_core.proofs.heaps.Heap.take_over.Goals as goal
 

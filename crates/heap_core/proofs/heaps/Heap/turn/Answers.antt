@@ -1,12 +1,4 @@
-use Rattle.std.proofs.Common.{None, IfSome, IsSomeAnd, slice_set, subst, sym}
-use Rattle.call_table.specs.Calls.{moment_of}
-use Rattle.call_table.specs.Needs.{Goes}
-use Rattle.call_table.specs.Runs.{after}
-use Rattle.heap_core.specs.Feeding.{FedTo}
-use Rattle.heap_core.specs.Heaps.{HeapFacts, IsStep}
-use Rattle.heap_core.specs.declared.heaps.Did.TheVariants.{Turn as DidTurn}
-use Rattle.heap_core.specs.Seats.{Seat, seat_at}
-use Rattle.heap_core.specs.Stepping.{HolderIs, item_of}
+use Rattle.heap_core.proofs.Words.{None, IfSome, IsSomeAnd, slice_set, subst, sym, moment_of, Goes, after, FedTo, HeapFacts, IsStep, DidTurn, Seat, seat_at, HolderIs, item_of}
 use Rattle.heap_core.proofs.Changes.{seat_is}
 use Rattle.heap_core.proofs.Making.{turn_can, turn_goes, turn_heap, turn_step, turn_sure, turn_there}
 use Rattle.heap_core.proofs.Wanting.{turn_seen}

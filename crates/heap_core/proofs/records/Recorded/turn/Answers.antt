@@ -1,6 +1,4 @@
-use Rattle.std.proofs.Common.{◌∙◌, ◌++◌, ◌∷◌, [], ap, refl}
-use Rattle.hook_api.specs.Kepts.{kept_of}
-use Rattle.arena_core.specs.Arenas.{opens}
+use Rattle.heap_core.proofs.Words.{◌∙◌, ◌++◌, ◌∷◌, [], ap, refl, kept_of, opens}
 use Rattle.heap_core.proofs.Turning.{has_place, room_bound, turn_recorded}
 use Rattle.heap_core.proofs.records.Recorded.turn.Goals as goal
 

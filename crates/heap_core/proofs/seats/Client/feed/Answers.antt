@@ -1,5 +1,4 @@
-use Rattle.std.proofs.Common.{◌∙◌, Option, ap, sym}
-use Rattle.call_table.specs.Calls.{CallFacts, moment_of}
+use Rattle.heap_core.proofs.Words.{◌∙◌, Option, ap, sym, CallFacts, moment_of}
 use Rattle.heap_core.proofs.Feeding.{fed_to, room_kept}
 use Rattle.heap_core.proofs.seats.Client.feed.Goals as goal
 

@@ -1,4 +1,4 @@
-use Rattle.call_table.specs.Calls.{moment_of}
+use Rattle.heap_core.proofs.Words.{moment_of}
 use Rattle.heap_core.proofs.Feeding.{room_kept}
 use Rattle.heap_core.proofs.seats.Client.start.Goals as goal
 

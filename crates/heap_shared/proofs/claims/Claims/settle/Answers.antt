@@ -1,7 +1,4 @@
-use Rattle.std.proofs.Common.{◌∙◌, Some, None, sym, subst}
-use Rattle.chunk_table.specs.Tables.{share_of}
-use Rattle.heap_shared.specs.declared.claims.Claims.{Claims}
-use Rattle.heap_shared.specs.Claims.{Claimed}
+use Rattle.heap_shared.proofs.Words.{◌∙◌, Some, None, sym, subst, share_of, Claims, Claimed}
 use Rattle.heap_shared.proofs.Sweeps.{claimed_nothing, settled}
 use Rattle.heap_shared.proofs.claims.Claims.settle.Goals.{in-Some, in-None}
 use Rattle.heap_shared.proofs.claims.Claims.settle.Goals as goal

@@ -1,8 +1,4 @@
-use Rattle.std.proofs.Common.{◌≡◌, subst}
-use Rattle.chunk_table.specs.Rule.{owns}
-use Rattle.chunk_table.specs.Tables.{share_of}
-use Rattle.heap_shared.specs.Claims.{is_met}
-use Rattle.heap_shared.specs.Shared.{Facts}
+use Rattle.heap_shared.proofs.Words.{◌≡◌, subst, owns, share_of, is_met, Facts}
 use Rattle.heap_shared.proofs.machine.SharedArena.into_seat.Goals as goal
 
 pub returns-clause-owned : goal.returns-clause-owned

@@ -1,15 +1,4 @@
-use Rattle.std.proofs.Common.{◌≡◌, ◌∙◌, ◌++◌, ◌∷◌, [], sym, ap, subst}
-use Rattle.std.specs.Arc.{arc_value}
-use Rattle.arena_core.specs.Arenas.{entry_of}
-use Rattle.chunk_table.specs.Rule.{owns}
-use Rattle.chunk_table.specs.Tables.{share_of}
-use Rattle.heap_shared.specs.Claims.{Released, is_met, touched}
-use Rattle.heap_shared.specs.Shared.{Facts, Logs, MayStand, after_entry, facts_of, owned_by}
-use Rattle.space_model.specs.declared.entries.Reply.{Reply}
-use Rattle.space_model.specs.Own.{mine}
-use Rattle.space_model.specs.declared.spaces.Space.{Space}
-use Rattle.space_model.specs.Step.{space_after}
-use Rattle.space_model.proofs.Pieces.{both_true}
+use Rattle.heap_shared.proofs.Words.{◌≡◌, ◌∙◌, ◌++◌, ◌∷◌, [], sym, ap, subst, arc_value, entry_of, owns, share_of, Released, is_met, touched, Facts, Logs, MayStand, after_entry, facts_of, owned_by, Reply, mine, Space, space_after, both_true}
 use Rattle.heap_shared.proofs.Chunks.{owns_after}
 use Rattle.heap_shared.proofs.Rooms.{after_is, found_may, logs_entry}
 use Rattle.heap_shared.proofs.machine.SharedArena.take.Goals as goal

@@ -1,5 +1,4 @@
-use Rattle.std.proofs.Common.{sym, ap, ◌∙◌, Some}
-use Rattle.part_book.specs.Tables.{rows_of}
+use Rattle.part_book.proofs.Words.{sym, ap, ◌∙◌, Some, rows_of}
 use Rattle.part_book.proofs.Indexes.{edge_none, edge_part, edge_row, slot_of}
 use Rattle.part_book.proofs.table.Table.at_edge.Goals as goal
 

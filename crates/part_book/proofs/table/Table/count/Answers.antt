@@ -1,5 +1,4 @@
-use Rattle.std.proofs.Common.{◌∙◌, ap, length}
-use Rattle.part_book.specs.Tables.{rows_of}
+use Rattle.part_book.proofs.Words.{◌∙◌, ap, length, rows_of}
 use Rattle.part_book.proofs.Fitting.{count_listed}
 use Rattle.part_book.proofs.table.Table.count.Goals as goal
 

@@ -1,5 +1,4 @@
-use Rattle.std.proofs.Common.{ap, length, arith}
-use Rattle.part_book.specs.Tables.{rows_of}
+use Rattle.part_book.proofs.Words.{ap, length, arith, rows_of}
 use Rattle.part_book.proofs.Indexes.{count_flights}
 use Rattle.part_book.proofs.table.Table.count_flights.Goals as goal
 

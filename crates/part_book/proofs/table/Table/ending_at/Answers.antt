@@ -1,8 +1,4 @@
-use Rattle.std.proofs.Common.{◌≡◌, ◌+◌, sym, ◌∙◌, arith}
-use Rattle.std.proofs.lemmas.Bool.Decides.{nat_tests}
-use Rattle.part_book.specs.Rows.{is_edge}
-use Rattle.part_book.specs.Tables.{parts_of}
-use Rattle.list_facts.proofs.Members.{found}
+use Rattle.part_book.proofs.Words.{◌≡◌, ◌+◌, sym, ◌∙◌, arith, nat_tests, is_edge, parts_of, found}
 use Rattle.part_book.proofs.Parts.{ends_by_edge, none_ends, placed}
 use Rattle.part_book.proofs.table.Table.ending_at.Goals as goal
 

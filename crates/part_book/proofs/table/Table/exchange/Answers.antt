@@ -1,11 +1,7 @@
-use Rattle.std.proofs.Common.{ℕ, refl, sym, ap, ◌∙◌, subst, arith, vec_len}
-use Rattle.std.specs.FinMap as map_of
-use Rattle.page_map.specs.Pages.{Pages}
-use Rattle.part_book.specs.Leaves.{HasMore}
-use Rattle.part_book.specs.Rows.{with_edges, without_edges}
-use Rattle.part_book.specs.Tables.{rows_of}
+use Rattle.part_book.proofs.Words.{ℕ, refl, sym, ap, ◌∙◌, subst, arith, vec_len, Pages, HasMore, with_edges, without_edges, rows_of}
 use Rattle.part_book.proofs.Changed.{lowerable, own, table_exchanged}
 use Rattle.part_book.proofs.Rowed.{row_placed}
+use Rattle.std.specs.FinMap as map_of
 use Rattle.part_book.proofs.table.Table.exchange.Goals as goal
 
 pub move_edges-requires-clause-from : goal.move_edges-requires-clause-from

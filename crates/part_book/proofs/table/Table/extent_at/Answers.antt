@@ -1,5 +1,4 @@
-use Rattle.std.proofs.Common.{refl, sym, ◌∙◌}
-use Rattle.part_book.specs.Tables.{rows_of}
+use Rattle.part_book.proofs.Words.{refl, sym, ◌∙◌, rows_of}
 use Rattle.part_book.proofs.Indexes.{in_slots}
 use Rattle.part_book.proofs.Additions.{leaves_there, row_apart, row_first, row_read, some_number}
 use Rattle.part_book.proofs.Rowed.{row_placed}

@@ -1,5 +1,4 @@
-use Rattle.std.proofs.Common.{sym, ap, ◌∙◌, Some, slice_get}
-use Rattle.part_book.specs.Tables.{rows_of}
+use Rattle.part_book.proofs.Words.{sym, ap, ◌∙◌, Some, slice_get, rows_of}
 use Rattle.part_book.proofs.Fitting.{first_row, no_first}
 use Rattle.part_book.proofs.Indexes.{slot_of}
 use Rattle.part_book.proofs.table.Table.first.Goals as goal

@@ -1,6 +1,4 @@
-use Rattle.std.proofs.Common.{sym, subst, ◌∙◌, arith}
-use Rattle.part_book.specs.Books.{IsFirstFrom}
-use Rattle.part_book.specs.Tables.{parts_of, rows_of}
+use Rattle.part_book.proofs.Words.{sym, subst, ◌∙◌, arith, IsFirstFrom, parts_of, rows_of}
 use Rattle.part_book.proofs.Indexes.{no_row_from, row_from, slot_of}
 use Rattle.part_book.proofs.table.Table.first_from.Goals as goal
 

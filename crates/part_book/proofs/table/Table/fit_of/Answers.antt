@@ -1,7 +1,4 @@
-use Rattle.std.proofs.Common.{◌≡◌, ◌<◌, Some, sym, ap, ◌∙◌, subst, arith, true}
-use Rattle.std.proofs.lemmas.Bool.Decides.{nat_tests}
-use Rattle.part_book.specs.Rows.{pages_in}
-use Rattle.part_book.specs.Tables.{rows_of}
+use Rattle.part_book.proofs.Words.{◌≡◌, ◌<◌, Some, sym, ap, ◌∙◌, subst, arith, true, nat_tests, pages_in, rows_of}
 use Rattle.part_book.proofs.Fitting.{IsWalk, begins, fits, goes_on, none_after, none_at_start, none_fits, none_of_others, serves, serves_both, serves_not, too_few}
 use Rattle.part_book.proofs.Indexes.{slot_of, small_numbers}
 use Rattle.part_book.proofs.Rowed.{pages_most}

@@ -1,5 +1,4 @@
-use Rattle.std.proofs.Common.{length, filter}
-use Rattle.ordered_set.specs.Keys.{is_above}
+use Rattle.part_book.proofs.Words.{length, filter, is_above}
 use Rattle.part_book.proofs.Fitting.{IsWalk}
 use Rattle.part_book.proofs.table.Table.fit_of.Given as goal
 

@@ -1,6 +1,4 @@
-use Rattle.std.proofs.Common.{◌+◌, sym, ◌∙◌, refl, arith}
-use Rattle.std.proofs.lemmas.Bool.Decides.{nat_tests}
-use Rattle.part_book.specs.Tables.{parts_of}
+use Rattle.part_book.proofs.Words.{◌+◌, sym, ◌∙◌, refl, arith, nat_tests, parts_of}
 use Rattle.part_book.proofs.Parts.{clamped, clamped_none, held_by_last, held_by_none, placed}
 use Rattle.part_book.proofs.table.Table.holding.Goals as goal
 

@@ -1,6 +1,4 @@
-use Rattle.std.proofs.Common.{sym, subst, ◌∙◌, arith}
-use Rattle.part_book.specs.Rows.{IsLastBelow}
-use Rattle.part_book.specs.Tables.{parts_of, rows_of}
+use Rattle.part_book.proofs.Words.{sym, subst, ◌∙◌, arith, IsLastBelow, parts_of, rows_of}
 use Rattle.part_book.proofs.Indexes.{last_row, no_row, slot_of}
 use Rattle.part_book.proofs.table.Table.last_below.Goals as goal
 

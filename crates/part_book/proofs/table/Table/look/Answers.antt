@@ -1,6 +1,4 @@
-use Rattle.std.proofs.Common.{sym, ◌∙◌, arith}
-use Rattle.std.proofs.lemmas.Bool.Decides.{nat_tests}
-use Rattle.part_book.specs.Tables.{parts_of}
+use Rattle.part_book.proofs.Words.{sym, ◌∙◌, arith, nat_tests, parts_of}
 use Rattle.part_book.proofs.Parts.{begins_by_edge}
 use Rattle.part_book.proofs.table.Table.look.Goals as goal
 

@@ -1,7 +1,4 @@
-use Rattle.std.proofs.Common.{◌≤◌, ltb, sym, ap, subst, ◌∙◌, refl, All}
-use Rattle.space_model.specs.Span.{end_of}
-use Rattle.part_book.specs.Rows.{IsLastBelow}
-use Rattle.part_book.specs.Tables.{parts_of}
+use Rattle.part_book.proofs.Words.{◌≤◌, ltb, sym, ap, subst, ◌∙◌, refl, All, end_of, IsLastBelow, parts_of}
 use Rattle.part_book.proofs.Parts.{clamped, clamped_none, met_by_last, met_by_none, placed}
 use Rattle.part_book.proofs.table.Table.meets.Goals as goal
 

@@ -1,4 +1,4 @@
-use Rattle.std.proofs.Common.{ap}
+use Rattle.part_book.proofs.Words.{ap}
 use Rattle.part_book.proofs.Indexes.{empty_table}
 use Rattle.part_book.proofs.table.Table.new.Goals as goal
 

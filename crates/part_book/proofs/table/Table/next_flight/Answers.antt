@@ -1,8 +1,4 @@
-use Rattle.std.proofs.Common.{◌≡◌, ◌<◌, vec_len, length, get_or, Some, false, sym, ap, subst, ◌∙◌, option_map, arith}
-use borrow.Author.Count.{below_more}
-use Rattle.space_model.specs.Part.{is_flight}
-use Rattle.part_book.specs.Rows.{part_at}
-use Rattle.part_book.specs.Tables.{rows_of}
+use Rattle.part_book.proofs.Words.{◌≡◌, ◌<◌, vec_len, length, get_or, Some, false, sym, ap, subst, ◌∙◌, option_map, arith, below_more, is_flight, part_at, rows_of}
 use Rattle.part_book.proofs.Indexes.{flight_of, first_number, flights_in_slots, is_flown, no_number}
 use Rattle.part_book.proofs.table.Table.next_flight.Goals as goal
 

@@ -1,4 +1,4 @@
-use Rattle.std.proofs.Common.{◌≡◌, ◌<◌, ℕ, false, get_or}
+use Rattle.part_book.proofs.Words.{◌≡◌, ◌<◌, ℕ, false, get_or}
 use Rattle.part_book.proofs.Indexes.{is_flown}
 use Rattle.part_book.proofs.table.Table.next_flight.Given as goal
 

@@ -1,5 +1,4 @@
-use Rattle.std.proofs.Common.{◌∙◌}
-use Rattle.part_book.specs.Tables.{rows_of}
+use Rattle.part_book.proofs.Words.{◌∙◌, rows_of}
 use Rattle.part_book.proofs.Fitting.{pages_listed}
 use Rattle.part_book.proofs.table.Table.pages.Goals as goal
 

@@ -1,9 +1,6 @@
-use Rattle.std.proofs.Common.{◌++◌, [], ◌∷◌, sym, ap, ◌∙◌, subst, arith, option_to_list, vec_len, vec_capacity}
-use Rattle.std.specs.FinMap as map_of
-use Rattle.page_map.specs.Pages.{Pages}
-use Rattle.part_book.specs.Leaves.{HasMore}
-use Rattle.part_book.specs.Tables.{rows_of}
+use Rattle.part_book.proofs.Words.{◌++◌, [], ◌∷◌, sym, ap, ◌∙◌, subst, arith, option_to_list, vec_len, vec_capacity, Pages, HasMore, rows_of}
 use Rattle.part_book.proofs.Additions.{absent_first, can_lower, fresh, table_added}
+use Rattle.std.specs.FinMap as map_of
 use Rattle.part_book.proofs.table.Table.put_on.Goals as goal
 
 pub index_mut-requires : goal.index_mut-requires

@@ -1,5 +1,4 @@
-use Rattle.std.proofs.Common.{◌*◌, refl, ap, arith}
-use Rattle.std.proofs.lemmas.Result.{on_ok_weaker}
+use Rattle.part_book.proofs.Words.{◌*◌, refl, ap, arith, on_ok_weaker}
 use Rattle.part_book.proofs.Chunks.{leaves_enough}
 use Rattle.part_book.proofs.Rooms.{grown, same_table}
 use Rattle.part_book.proofs.table.Table.reserve.Goals as goal

@@ -1,8 +1,4 @@
-use Rattle.std.proofs.Common.{◌++◌, [], ◌∷◌, List, Contains, refl, sym, ap, ◌∙◌, subst, arith, vec_len, vec_capacity}
-use Rattle.ordered_set.specs.declared.key.Key.{Key}
-use Rattle.ordered_set.specs.Keys.{without_key}
-use Rattle.part_book.specs.Rows.{without_edges}
-use Rattle.part_book.specs.Tables.{rows_of}
+use Rattle.part_book.proofs.Words.{◌++◌, [], ◌∷◌, List, Contains, refl, sym, ap, ◌∙◌, subst, arith, vec_len, vec_capacity, Key, without_key, without_edges, rows_of}
 use Rattle.part_book.proofs.Additions.{apart_removed, leaves_there, table_removed}
 use Rattle.part_book.proofs.Rowed.{row_placed}
 use Rattle.part_book.proofs.table.Table.take_off.Goals as goal

@@ -1,9 +1,4 @@
-use Rattle.std.proofs.Common.{arith, ◌≡◌, true, Some, sym, ◌∙◌, ap}
-use Rattle.std.proofs.lemmas.List.{get_or_past}
-use Rattle.space_model.specs.declared.Space.{Space}
-use Rattle.space_model.specs.Counts.{counts_of}
-use Rattle.space_model.specs.Step.{is_live}
-use Rattle.heap_core.specs.Arenas.{no_record, record_at}
+use Rattle.replay_run.proofs.Words.{arith, ◌≡◌, true, Some, sym, ◌∙◌, ap, get_or_past, Space, counts_of, is_live, no_record, record_at}
 use Rattle.replay_run.proofs.state.State.counts.Goals as goal
 
 pub returns-then-index-ge-ARENAS : goal.returns-then-index-ge-ARENAS

@@ -1,8 +1,4 @@
-use Rattle.std.proofs.Common.{rules, ◌≡◌, ◌∷◌, ◌++◌, [], ap, sym, ◌∙◌, subst}
-use mathlib.Core.Option.{some-injective}
-use lib.ListN.{get_elem?}
-use Rattle.turn_lock.specs.Locks.{IsPassOf, IsWhole}
-use Rattle.turn_lock.specs.Rule.{is_idle}
+use Rattle.turn_lock.proofs.Words.{rules, ◌≡◌, ◌∷◌, ◌++◌, [], ap, sym, ◌∙◌, subst, some-injective, get_elem?, IsPassOf, IsWhole, is_idle}
 use Rattle.turn_lock.proofs.Keeps.{joins, closes}
 use Rattle.turn_lock.proofs.Closing.{all_parts, empty_is, claims_in, claims_move, whole}
 use Rattle.turn_lock.proofs.lock.TurnLock.close.Goals as goal

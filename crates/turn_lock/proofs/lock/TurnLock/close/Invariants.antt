@@ -1,7 +1,4 @@
-use Rattle.std.proofs.Common.{◌≡◌, ◌++◌, true, [], vec_len}
-use Rattle.std.specs.List.{All}
-use Rattle.turn_lock.specs.Rule.{is_idle}
-use Rattle.turn_lock.specs.Locks.{IsPassOf}
+use Rattle.turn_lock.proofs.Words.{◌≡◌, ◌++◌, true, [], vec_len, All, is_idle, IsPassOf}
 use Rattle.turn_lock.proofs.Closing.{claims_in}
 use Rattle.turn_lock.proofs.lock.TurnLock.close.Given as goal
 

@@ -1,6 +1,4 @@
-use Rattle.std.proofs.Common.{rules, ap, sym, ◌∙◌, subst}
-use Rattle.turn_lock.specs.Steps.{Enters}
-use Rattle.turn_lock.specs.declared.view.Stage.TheVariants.{Waiting}
+use Rattle.turn_lock.proofs.Words.{rules, ap, sym, ◌∙◌, subst, Enters, Waiting}
 use Rattle.turn_lock.proofs.Turned.{waited}
 use Rattle.turn_lock.proofs.Keeps.{draws, looks}
 use Rattle.turn_lock.proofs.lock.TurnLock.enter.Goals as goal

@@ -1,4 +1,4 @@
-use Rattle.std.proofs.Common.{◌≡◌}
+use Rattle.turn_lock.proofs.Words.{◌≡◌}
 use Rattle.turn_lock.proofs.lock.TurnLock.enter.Given as goal
 
 abbrev pub invariant-loop : goal.invariant-loop

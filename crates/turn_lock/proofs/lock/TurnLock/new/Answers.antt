@@ -1,6 +1,4 @@
-use Rattle.std.proofs.Common.{◌≡◌, ◌<◌, ◌∷◌, ◌++◌, [], ap, sym, ◌∙◌, subst}
-use Rattle.atomic_table.specs.Table.{opening}
-use Rattle.turn_lock.specs.Rule.{Rule, opening_view}
+use Rattle.turn_lock.proofs.Words.{◌≡◌, ◌<◌, ◌∷◌, ◌++◌, [], ap, sym, ◌∙◌, subst, opening, Rule, opening_view}
 use Rattle.turn_lock.proofs.Keeps.{opens}
 use Rattle.turn_lock.proofs.lock.TurnLock.new.Goals as goal
 

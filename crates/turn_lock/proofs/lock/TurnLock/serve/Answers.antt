@@ -1,4 +1,4 @@
-use Rattle.std.proofs.Common.{rules, sym, subst}
+use Rattle.turn_lock.proofs.Words.{rules, sym, subst}
 use Rattle.turn_lock.proofs.Turned.{met, leaves_as_it_was, leaves_with, left, served}
 use Rattle.turn_lock.proofs.lock.TurnLock.serve.Goals as goal
 

@@ -1,4 +1,4 @@
-use Rattle.std.proofs.Common.{rules}
+use Rattle.turn_lock.proofs.Words.{rules}
 use Rattle.turn_lock.proofs.Keeps.{splits}
 use Rattle.turn_lock.proofs.lock.TurnLock.split_pass.Goals as goal
 

@@ -1,6 +1,4 @@
-use Rattle.std.proofs.Common.{length, ap, ◌∙◌}
-use Rattle.std.proofs.lemmas.Result.{IfOk-weaker}
-use Rattle.turn_lock.specs.Views.{seen_by, numbers_of, Served}
+use Rattle.turn_lock.proofs.Words.{length, ap, ◌∙◌, IfOk-weaker, seen_by, numbers_of, Served}
 use Rattle.turn_lock.proofs.Turned.{fresh_stays, left_with, made_one}
 use Rattle.turn_lock.proofs.lock.TurnLock.turn.Goals as goal
 

@@ -1,5 +1,4 @@
-use Rattle.std.proofs.Common.{◌≡◌}
-use Rattle.turn_lock.specs.Locks.{number, spare, IsPassOf}
+use Rattle.turn_lock.proofs.Words.{◌≡◌, number, spare, IsPassOf}
 use Rattle.turn_lock.proofs.tests.adder.add_thousand.Given as goal
 
 abbrev pub invariant-loop-i : goal.invariant-loop-i

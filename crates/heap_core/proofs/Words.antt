@@ -1,0 +1,91 @@
+-- The words of the proofs: definitions and lemmas of std, of the crates below and of this one, each under one name.
+pub use Rattle.std.specs.BTreeSet.{insert_key}
+pub use Rattle.std.specs.List.{count_by, list_any, range_with_len, flat_map, position, sum_by, swap_remove, slice_get, position_or_len, list_all}
+pub use Rattle.std.specs.Map.{keys_of, lookup}
+pub use Rattle.std.specs.Option.{option_map_or, option_map, is_none}
+pub use Rattle.std.specs.Ordering.{nat_cmp}
+pub use Rattle.std.proofs.Common.{◌≡◌, ◌≤◌, ℕ, ◌+◌, ◌^◌, ◌==◌, Bool, true, false, cond, not, List, Option, None, Some, refl, arith, nat_lt, ◌<◌, Result, Ok, Err, OnOk, OnErr, length, replicate, slice_set, [], ◌∷◌, ◌++◌, length-append, sym, ap, subst, ◌∙◌, ◌/◌, ◌&&◌, inl, lt-ltb, min, ℤ, ◌≢◌, ◌-◌, ◌*◌, ◌||◌, map, suc, zero, filter, find, get_or, IsTrue, IfSome, IsSomeAnd, All, nat_eq, inr, take, drop, ◌⊎◌, IsOk, ◌%◌, max, fold, rules, is_some, vec_len}
+pub use Rattle.std.proofs.Math.ListN.{get_or-map}
+pub use Rattle.std.proofs.lemmas.Bool.{cond_both, ltb-true, eqb-true}
+pub use Rattle.std.proofs.lemmas.Bool.Decides.{nat_tests}
+pub use Rattle.std.proofs.lemmas.Grind.{same_number_lists}
+pub use Rattle.std.proofs.lemmas.List.{get_or-replicate, length-replicate, replicate-append-replicate, set-get_or, length-map, length-take, get_or_default, get_or-set_other, get_or-set_same, length-set, drop_more, length-drop, nil_from_length, map-set, take_all}
+pub use Rattle.std.proofs.lemmas.List.Concat.{flat_map-cons}
+pub use Rattle.std.proofs.lemmas.List.Elements.{All-cons, All-nil, All-weaker, filter_passes, All-head, All-set, All-tail, All-take, All-append, All-filter, All-drop, filter-append}
+pub use Rattle.std.proofs.lemmas.List.Filters.{sum_by-filter_both}
+pub use Rattle.std.proofs.lemmas.List.FromFn.{length-range_with_len, get_or-map-range_with_len, get_or-range_with_len, map-range_with_len_more}
+pub use Rattle.std.proofs.lemmas.List.Quantifiers.{position-Some}
+pub use Rattle.std.proofs.lemmas.List.Sums.{sum_by-cons, sum_by-append, sum_by-swap_remove, get_or-le-sum_by, sum_by-take-drop, sum_by_push, sum_by-insert}
+pub use Rattle.std.proofs.lemmas.Option.{get_or_from_slice_get, slice_get-get_or, slice_get_within}
+pub use Rattle.arena_core.proofs.Emptying.{any_counts}
+pub use Rattle.arena_core.proofs.RoomSums.{rooms_with}
+pub use Rattle.arena_core.specs.Arenas.{opens, room_after, room_of, entry_of, emptied_by, all_rooms, given_by, rooms_after}
+pub use Rattle.call_table.proofs.Beginning.{begins-know, batches-know}
+pub use Rattle.call_table.proofs.Bounds.{chosen_stage}
+pub use Rattle.call_table.proofs.Own.{live_where, region_found}
+pub use Rattle.call_table.proofs.Rooms.{rooms-suffice}
+pub use Rattle.call_table.proofs.Standing.{wants-stand}
+pub use Rattle.call_table.proofs.Steps.{steps-keep, never_starves}
+pub use Rattle.call_table.specs.Calls.{CallFacts, HasRoom, moment_of}
+pub use Rattle.call_table.specs.Desks.{desk_fed, flushes, region_at, address_behind, desk_turned, landed_behind, sharing, desk_ended, switched}
+pub use Rattle.call_table.specs.Knows.{KnowsTurn, Idle, Knows, Alone, Flies, Settled, in_flight, Gets, Gives, HasOffered, KnowsAsk, Pair, is_held, is_served, is_of_arena}
+pub use Rattle.call_table.specs.Laws.{IsInRange, KnowsNext, Keeps, Moves, Stands, left, stages, with_found, Ready}
+pub use Rattle.call_table.specs.Needs.{Goes, NeedIs, NeedsWant}
+pub use Rattle.call_table.specs.Reads.{ended_by, aimed, published_next, taken_next}
+pub use Rattle.call_table.specs.Rooms.{needed_at, Suffices, flying, needed_next, room_then}
+pub use Rattle.call_table.specs.Runs.{Moment, after, batch_goes, begin, begin_desk, begin_free, begin_get, begin_publish, begin_stage, closed, first_turn, is_alignment, moved, page_align, small_hit, stage, step_next, after_time, begin_bind, begin_malloc, begin_memalign, desk_freed, desk_got, desk_published, first_turn_but_0, purge_visit, share, time_of, wish_for, starved_after, settle}
+pub use Rattle.call_table.specs.Table.{op_of, WantTurn, ask_of, done_of, is_marked, step, want, WantAsk, make_next, told, turned, starved, Want}
+pub use Rattle.call_table.specs.Words.{Nothing, Held, DeskFacts, BatchFacts, batch_of, freeing, going, going_with, held_at, hit, aligned_for, class_for, Rest, SetBox, SetBound, SetLimit, MakeLive, cached_of, caching, hitting, is_cacheable, slots_at, most_regions, cached_in, Reply, Noted, Purge, InUse as Busy, Setting, Space, Part, Span, Sound, mine, fill_at, land_at, lowest_free, Op, AskFacts, AnswersTo, Ask, Alloc, Dalloc, Answer, Placed, Refuses, Grown, Kept, Doomed, end_of, Unbind, SetBound as Bind, Mine, pages_at, DirtyMs, Took, Grow, Refuse, Landed, Regions, Owned, NextFlight}
+pub use Rattle.call_table.specs.declared.needs.Need.{Need}
+pub use Rattle.call_table.specs.declared.needs.Need.TheVariants.{Turn as NeedsTurn, Ask as NeedsAsk}
+pub use Rattle.call_table.specs.declared.needs.Turn.{Turn}
+pub use Rattle.hook_api.specs.Asked.{heard_in}
+pub use Rattle.hook_api.specs.Journals.{IsByIndex}
+pub use Rattle.hook_api.specs.Kept.{IsKept, heard_of, KeptFacts}
+pub use Rattle.hook_api.specs.Kepts.{kept_of}
+pub use Rattle.hook_api.specs.Shelf.{AskStep, Shelf}
+pub use Rattle.hook_api.specs.declared.kept.Journal.{Journal}
+pub use Rattle.indexmap.proofs.MapLemmas.{Found-position, Missing-position}
+pub use Rattle.indexmap.specs.IndexMap.{insert_entry, swap_remove_entry}
+pub use Rattle.size_classes.proofs.Table.{pages_bounds, size_bounds, slab_filled}
+pub use Rattle.size_classes.specs.Classes.{regions_at, size_at}
+pub use Rattle.space_model.proofs.Landing.{eqb_itself}
+pub use Rattle.space_model.proofs.LawLemmas.{first_replays_are_good, absent_replays_are_good}
+pub use Rattle.space_model.proofs.Lists.{find_has, counted_any, map_terms, all_sum_le, find_passes, nothing_sum, only_one, sum_add}
+unfoldable pub use Rattle.space_model.proofs.Lists.{ones}
+pub use Rattle.space_model.proofs.Pieces.{both_true}
+pub use Rattle.space_model.proofs.Settled.{covered, homes-le-holders}
+pub use Rattle.space_model.proofs.Steps.{op_keeps}
+pub use Rattle.space_model.specs.Clients.{with_client}
+pub use Rattle.space_model.specs.Ending.{emptied, ended, flight_count, held_count, if_free}
+pub use Rattle.space_model.specs.Holding.{is_published_at, take_over_at, is_held_at}
+pub use Rattle.space_model.specs.Journal.{granted_by, is_in_dalloc, all_stand, replay}
+pub use Rattle.space_model.specs.Opening.{absent_space, first_space}
+pub use Rattle.space_model.specs.Part.{is_flight_at, holders}
+pub use Rattle.space_model.specs.Purging.{after_offer, keep_offer, without_offer}
+pub use Rattle.space_model.specs.Region.{address_of, is_held_by_other, landing, region_of, regions_from, held_anew, inserted, is_held_by, covers, homes, is_published, sharers}
+pub use Rattle.space_model.specs.Settings.{after_set, with_setting}
+pub use Rattle.space_model.specs.Span.{IsPlaced, chunk_span, chunks_of, has_page, meets}
+pub use Rattle.space_model.specs.Step.{is_live, stays, step_of, op_stands, stands, after_grow, grow_unless, is_in_space, is_owned, holds_at, is_given_back, staying, space_after}
+pub use Rattle.space_model.specs.Stepped.{Stepped, is_dirty_time_over, is_lazy}
+pub use Rattle.space_model.specs.declared.asks.Heard.{Heard}
+pub use Rattle.space_model.specs.declared.entries.Entry.{Entry}
+pub use Rattle.space_model.specs.declared.entries.Op.TheVariants.{Look, Back, GrowDone, OfferDone, Offer, DestroyTake, Publish, CutDone, CommitDone, Land, PutLook, MergeDone, Fill, Advance, PurgeTake, LazyDone, DecommitDone, ForcedDone, TakeOver, Set}
+pub use Rattle.space_model.specs.declared.entries.Why.TheVariants.{OffSpace, Unaligned, Meets}
+pub use Rattle.space_model.specs.declared.parts.Region.{Region, Region as SpaceRegion}
+pub use Rattle.thread_cache.specs.Caches.{is_elsewhere, put_in, gone_from}
+pub use Rattle.thread_cache.specs.Desks.{has_slot, not_holding, discarding, empty_handed, gave, is_in, holding, before_last, held_again, held_again_with, kept, kept_with, added, addrs_in, gave_with, least_arena, lesser, older_count}
+pub use Rattle.heap_core.specs.Arenas.{room_in, IsArenas, opening_records, no_record, record_after, record_at, spaces_of, reply_in, AreRecorded, journal_of, opening_record}
+pub use Rattle.heap_core.specs.Chunks.{settled, met_by_alloc, met_by_dalloc, others_of, Apart, met_in, owns, space_at}
+pub use Rattle.heap_core.specs.Clients.{IsIdle, mine_in, CanTurn, after_turn, AsksLeadOn, OthersStay, TurnsLeadOn, Waits, WaitsNext}
+pub use Rattle.heap_core.specs.Feeding.{FedTo, aimed_seat, NeedOf}
+pub use Rattle.heap_core.specs.Heaps.{HeapFacts, IsStarved, IsStep, IsSure, answered_by, holder_for, starved_on, told_to, turned_for, turned_on, unnamed_on, IsMade, SureAt, WantedAt, holder_at, parted, published_for, region_for, seated, SureFor}
+pub use Rattle.heap_core.specs.Logs.{owed_to}
+pub use Rattle.heap_core.specs.Owing.{asks_at, owing, IsHeap, asks_next}
+pub use Rattle.heap_core.specs.Records.{Record, opening, IsReplayed, most_room, entries_of, IsRecorded, shown}
+pub use Rattle.heap_core.specs.Seats.{seat_of, Seat, asked_for, first_seat, free_of, held_by, holder_of, seat_at, answer_of, open_call}
+pub use Rattle.heap_core.specs.Sitting.{IsSeated, SeatSound, Comes, HasSlots, StartsSit, Suits, SuitsChange, SuitsTurn, IsTheHand, is_region, AimsSit, Has, HoldersPublish, Sits, SitsAt, SuitsAsk, SuitsGet, SuitsThen, is_region_in, Rests, in_hand, regions_of, OpeningSits, IsPlain, AsksSit, OthersSit, StarvesSit, TurnsSit}
+pub use Rattle.heap_core.specs.Stepping.{MadeTurn, item_of, HolderIs, IsPublished, StarvesAt, StarvesNext, TakesAt, IsMarked, Needs}
+pub use Rattle.heap_core.specs.Words.{Request, Malloc, Memalign, Free, Flush, Cache, Reset, Destroy, Create, Item, Replied, TurnPoint, Filling, Skipping, Point, Turns, Asks, Tells, Next, Go, Over, More, FreeForeign, Take, PurgeAll, Decay, Time, HookBox, GrowLimit, Finished, TooLarge, BadAlign, NotHeld, NoSuchArena as NoArena, Automatic, Stops, Leaves, Looking, Taking, Advancing, Changing, Making, Resetting, Destroying, Publishing, Owning, Ends, Stage, Wish, Change, Visits, Landing, Giving, AskPoint, Gone, Nowhere, Answered, Told, Starved, NoMemory, Then, Batches, Visiting, Finding, Dooming, Merging, Arena, Limits, Given, Needing}
+pub use Rattle.heap_core.specs.declared.heaps.Did.TheVariants.{Turn as DidTurn, Ask as DidAsk}
+pub use Rattle.heap_core.specs.declared.records.Recorded.TheInside.{Inside}

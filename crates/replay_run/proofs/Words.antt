@@ -1,0 +1,107 @@
+-- The words of the proofs: definitions and lemmas of std, of the crates below and of this one, each under one name.
+pub use Rattle.std.specs.List.{Contains, count_by, position, position_or_len, sum_by, flat_map, range_with_len}
+pub use Rattle.std.specs.Option.{option_map}
+pub use Rattle.std.specs.Prelude.{slice_set}
+pub use Rattle.std.specs.Result.{IsErrAnd}
+pub use Rattle.std.proofs.Common.{◌≡◌, ℕ, ◌%◌, ◌<◌, ◌==◌, Bool, true, false, All, inl, inr, List, [], ◌∷◌, ◌++◌, Option, None, Some, IfSome, length, get_or, refl, sym, ◌∙◌, ap, subst, arith, nat_lt, append-nil, append_assoc, cond, ltb, take, ◌≢◌, ◌≤◌, Result, Ok, Err, is_some, IfErr, OnOk, OnErr, length-append, ◌+◌, map, IfOk, replicate, ◌⊎◌, eqb, ◌^◌, not, min, drop, ◌||◌, suc, zero, length-set, is_none, set, get_or-set_same, ◌-◌}
+pub use Rattle.std.proofs.KnownBytes.{Appends-trans, Consumes-trans, Appends-nil, Consumes-nil}
+pub use Rattle.std.proofs.Math.Seq.{take-append-add, take-length}
+pub use Rattle.std.proofs.lemmas.Bool.{eqb-true, ltb-true}
+pub use Rattle.std.proofs.lemmas.Bool.Decides.{nat_tests}
+pub use Rattle.std.proofs.lemmas.Grind.{flat_map-append, common_steps}
+pub use Rattle.std.proofs.lemmas.List.{get_or_default, drop_more, take-append-drop, get_or-replicate, length-take-le, get_or-set_other, length-replicate, set-get_or, flat_map_more, get_or_past}
+pub use Rattle.std.proofs.lemmas.List.Elements.{All-filter, All-head, All-tail, All-nil, All-take}
+pub use Rattle.std.proofs.lemmas.List.Quantifiers.{position-Some}
+pub use Rattle.std.proofs.lemmas.List.Sums.{sum_by-cons, fails_before_first, sum_by-le, sum_by-set, fold_push}
+pub use Rattle.call_table.proofs.Bounds.{chosen_stage}
+pub use Rattle.call_table.proofs.Credits.{begin-is_call, settle_place}
+pub use Rattle.call_table.proofs.Memaligns.{memaligns-are_aligned}
+pub use Rattle.call_table.proofs.Reasons.{NextWhy, begin_why, settle_why, step_why}
+pub use Rattle.call_table.specs.Aligned.{IsCacheAligned}
+pub use Rattle.call_table.specs.Calls.{CallFacts, moment_of}
+pub use Rattle.call_table.specs.Causes.{AllCame}
+pub use Rattle.call_table.specs.Desks.{desk_fed}
+pub use Rattle.call_table.specs.Laws.{Moves}
+pub use Rattle.call_table.specs.Needs.{IsPlace}
+pub use Rattle.call_table.specs.Reads.{taken_next, ended_by, aimed, published_next}
+pub use Rattle.call_table.specs.Runs.{Moment, after, begin, begin_memalign, begin_stage, run, settle, step_next, begin_get, is_alignment, page_align, small_hit}
+pub use Rattle.call_table.specs.Stages.{Point, Turns, Next, Go, Over, More, Gone, Ends, Nowhere, Asks, Tells}
+pub use Rattle.call_table.specs.Table.{step, chunks_for, commit, is_marked, op_of, starved, told, trim, turned, Want, WantAsk, WantTurn, want}
+pub use Rattle.call_table.specs.declared.needs.Answered.{Answered}
+pub use Rattle.call_table.specs.declared.needs.Answered.TheVariants.{NotHeld}
+pub use Rattle.call_table.specs.declared.needs.Given.TheVariants.{Region}
+pub use Rattle.call_table.specs.declared.needs.Item.{Item}
+pub use Rattle.call_table.specs.declared.needs.Item.TheVariants.{Replied, Told as ToldItem}
+pub use Rattle.call_table.specs.declared.needs.Request.{Request}
+pub use Rattle.call_table.specs.declared.needs.Request.TheVariants.{Memalign}
+pub use Rattle.call_table.specs.declared.points.AskPoint.{AskPoint}
+pub use Rattle.call_table.specs.declared.points.AskPoint.TheVariants.{Skipping, Trimming, Growing, Paring, Needing, Granting, Committing}
+pub use Rattle.call_table.specs.declared.points.TurnPoint.{TurnPoint}
+pub use Rattle.call_table.specs.declared.points.TurnPoint.TheVariants.{Owning, Filling, Looking, Landing}
+pub use Rattle.call_table.specs.declared.points.Wish.{Wish}
+pub use Rattle.edge_io.specs.Bytes.{Appends, AppendsPrefix, Consumes, Keeps, Rose, IsAtEnd}
+pub use Rattle.heap_core.proofs.Clients.{sound_at, found_for, settled_is}
+pub use Rattle.heap_core.proofs.Hands.{had_counts}
+pub use Rattle.heap_core.proofs.Settling.{Owns, count_in, counts_low, has_owns}
+pub use Rattle.heap_core.proofs.Sitting.{opening-sits, asks-sit, holders-publish, turns-sit}
+pub use Rattle.heap_core.proofs.Turned.{opening_is, past}
+pub use Rattle.heap_core.specs.Arenas.{IsArenas, opening_records, record_at, journal_of, no_record, record_after, spaces_of}
+pub use Rattle.heap_core.specs.Chunks.{settled}
+pub use Rattle.heap_core.specs.Heaps.{HeapFacts, holder_for, published_for, region_for, started, turned_for, opening_heap, IsMade, IsStep, WantedAt, holder_at, op_for, region_at, answered_by, moment_after, parted, replied, told_to}
+pub use Rattle.heap_core.specs.Records.{Record}
+pub use Rattle.heap_core.specs.Seats.{Seat, asked_for, first_desk, first_seat, seat_at, answer_of, begun, open_call, seat_of}
+pub use Rattle.heap_core.specs.Sitting.{Has, IsSeated, SitsAt, is_region, HoldersPublish, SeatSound, AsksSit, TurnsSit}
+pub use Rattle.heap_core.specs.declared.heaps.Did.{Did}
+pub use Rattle.heap_core.specs.declared.heaps.Stepped.{Stepped}
+pub use Rattle.hook_api.specs.Asked.{AskFacts}
+pub use Rattle.hook_api.specs.Chain.{Chain, Event as ShelfEvent}
+pub use Rattle.hook_api.specs.Shelf.{Shelf, PlanStep}
+pub use Rattle.hook_api.specs.declared.kept.Journal.{Journal}
+pub use Rattle.hook_api.specs.declared.plans.Kind.{Kind}
+pub use Rattle.report_text.specs.Lines.{idle_line, ask_line, turn_line}
+unfoldable pub use Rattle.report_text.specs.Lines.{call_line}
+pub use Rattle.report_text.specs.declared.causes.Cause.{Cause}
+pub use Rattle.report_text.specs.declared.causes.Cause.TheVariants.{Clock, Cut, LimitBytes, LimitLines, LimitThreads}
+pub use Rattle.size_classes.specs.Classes.{align_at, aligned_for}
+pub use Rattle.space_model.proofs.Lists.{ones}
+pub use Rattle.space_model.proofs.Pieces.{both_true}
+pub use Rattle.space_model.proofs.Ranges.{range_with_len_more}
+pub use Rattle.space_model.specs.Counts.{counts_of}
+pub use Rattle.space_model.specs.Region.{is_held_by}
+pub use Rattle.space_model.specs.Sound.{Sound}
+pub use Rattle.space_model.specs.Span.{max_series}
+pub use Rattle.space_model.specs.Step.{step_of, is_live}
+pub use Rattle.space_model.specs.declared.Counts.{Counts}
+pub use Rattle.space_model.specs.declared.Op.{Op}
+pub use Rattle.space_model.specs.declared.Op.TheVariants.{Publish}
+pub use Rattle.space_model.specs.declared.Region.{Region as SpaceRegion}
+pub use Rattle.space_model.specs.declared.Reply.{Reply}
+pub use Rattle.space_model.specs.declared.Reply.TheVariants.{Noted, Took, Grow, Refused as Refuse, Grown, Landed, Regions}
+pub use Rattle.space_model.specs.declared.Space.{Space}
+pub use Rattle.space_model.specs.declared.Span.{Span}
+pub use Rattle.thread_cache.proofs.Going.{cached_is_flat}
+pub use Rattle.thread_cache.specs.Caches.{cached_in}
+pub use Rattle.thread_cache.specs.Desks.{DeskFacts, held_at, not_holding}
+pub use Rattle.thread_cache.specs.declared.Held.{Held}
+pub use Rattle.trace_text.specs.Grammar.{line_of}
+pub use Rattle.trace_text.specs.Lines.{HasNoNewline}
+pub use Rattle.trace_text.specs.declared.faults.LineFault.{LineFault}
+pub use Rattle.trace_text.specs.declared.lines.Line.{Line, Line as SaidLine}
+pub use Rattle.trace_text.specs.declared.lines.Line.TheVariants.{Step, End, Blank, Call, Start, At, Counts as CountsOf}
+pub use Rattle.trace_text.specs.declared.lines.Verb.{Verb}
+pub use Rattle.trace_text.specs.declared.lines.Verb.TheVariants.{CtlPlain, CtlWrite, Take}
+pub use Rattle.replay_run.specs.Answers.{IsAligned, IsAlignedFor, MemalignsAreAligned, Tale, answer_in, tale_fed, tale_in, AnswerCause, AnswersHaveCauses, IsCaused, AllEvents, NowhereCause, answer_begun, no_tales, tale_at, tale_begun, tale_turned, tale_until, tales_after, tales_begun}
+pub use Rattle.replay_run.specs.Causes.{byte_limit, cause_of, fault_cause, first_line, has_newline, line_cause, line_limit, said_cause, verb_cause, status_of}
+pub use Rattle.replay_run.specs.Heads.{answer_line}
+pub use Rattle.replay_run.specs.Input.{ReadsTo, TakesMore, TakesSome, InBounds, IsFirst, MetEnd}
+pub use Rattle.replay_run.specs.Names.{address_at}
+pub use Rattle.replay_run.specs.Plays.{Event, IsSound, Read, Began, Turned, Told, Starved, Unnamed, after_event, ask_in, asks_in, world_after, HasSoundHeap, IsNext, line_in, lines_in, shelf_event, shelf_events, AllWorlds, IsPlay, plan_in, client_awaited, IsAskOf, IsWanted}
+pub use Rattle.replay_run.specs.Replays.{IsBadLine, Ending, IsEnding, Open, Prints, ReplayOf, ending_text, Bad, Whole}
+pub use Rattle.replay_run.specs.SoFar.{Came, Now, Outset, EndsHere, Goes, Here, is_one_step, world_at, GoesNext, IsUnread, did_line, shown_line, Reading, now_of, reading}
+pub use Rattle.replay_run.specs.Steps.{entries, step_limit, steps_of}
+pub use Rattle.replay_run.specs.Stops.{HasStopCause, status_for, status_in}
+pub use Rattle.replay_run.specs.World.{World, Awaits, awaits_or_idle, begins, begun_as, is_open, line_read, opening, request_of, Memory, Nothing, OneStep, TheEnd, TheEndBefore, TheStart, awaits_after, awaits_begun, awaits_call, names_ended, target_of, counts_text, live_counts, ended_line, names_closed, step_text, stepped, verb_at, verbs_closed, arena_with, take_in, closing_line}
+pub use Rattle.replay_run.specs.declared.input.Found.{Found}
+pub use Rattle.replay_run.specs.declared.input.Found.TheVariants.{Line as FoundLine, TooLong}
+pub use Rattle.replay_run.specs.declared.input.Stop.{Stop}
+pub use Rattle.replay_run.specs.declared.input.Stop.TheVariants.{ReadFault, WriteFault, NoMemory}
