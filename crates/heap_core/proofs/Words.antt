@@ -51,8 +51,7 @@ pub use Rattle.size_classes.proofs.Table.{pages_bounds, size_bounds, slab_filled
 pub use Rattle.size_classes.specs.Classes.{regions_at, size_at}
 pub use Rattle.space_model.proofs.Landing.{eqb_itself}
 pub use Rattle.space_model.proofs.LawLemmas.{first_replays_are_good, absent_replays_are_good}
-pub use Rattle.space_model.proofs.Lists.{find_has, counted_any, map_terms, all_sum_le, find_passes, nothing_sum, only_one, sum_add}
-unfoldable pub use Rattle.space_model.proofs.Lists.{ones}
+pub use Rattle.space_model.proofs.Lists.{find_has, counted_any, map_terms, all_sum_le, find_passes, nothing_sum, only_one, sum_add, ones}
 pub use Rattle.space_model.proofs.Pieces.{both_true}
 pub use Rattle.space_model.proofs.Settled.{covered, homes-le-holders}
 pub use Rattle.space_model.proofs.Steps.{op_keeps}

@@ -15,8 +15,7 @@ pub use Rattle.chunk_table.specs.Steps.{without}
 pub use Rattle.chunk_table.specs.Tables.{share_of}
 pub use Rattle.chunk_table.specs.declared.table.ChunkTable.{ChunkTable}
 pub use Rattle.chunk_table.specs.declared.view.Share.{Share}
-pub use Rattle.space_model.proofs.Lists.{any_counts, counted_any}
-unfoldable pub use Rattle.space_model.proofs.Lists.{ones}
+pub use Rattle.space_model.proofs.Lists.{any_counts, counted_any, ones}
 pub use Rattle.space_model.proofs.Pieces.{both_true}
 pub use Rattle.space_model.proofs.Steps.{op_keeps}
 pub use Rattle.space_model.specs.Counts.{counts_of}
