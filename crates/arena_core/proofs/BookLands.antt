@@ -1,5 +1,5 @@
 -- A book of slabs beside a space, as regions land in an extent in flight, at the lowest places of a new slab.
-use Rattle.arena_core.proofs.Words.{◌≡◌, ℕ, ◌+◌, ◌-◌, ◌*◌, ◌<◌, ◌≤◌, zero, suc, Bool, true, false, not, ◌||◌, leb, ◌∷◌, Contains, filter, map, inl, inr, refl, sym, ap, ◌∙◌, arith, ◌≢◌, ◌/◌, cond, List, [], ◌++◌, append-nil, get_or, All, max, subst, ◌&&◌, eqb, ltb, lt-ltb, find, Some, dite, ℕ_discrete, list_any, range_with_len, sum_by, cases_lt, eq-eqb, eqb-true, false_from_ne_true, cases_Bool, le-ltb, leb-true, nat_tests, All-contains, All-append, All-cons, All-contains_itself, All-filter, filter-append, regions_at, size_at, pages_at, address_of, landing, region_of, regions_from, starts_at, houses, is_slab, lies_in, places, land_at, slabs_of, place, Slab, meets_slab, of_class, slab_with_out, with_slab, any_has, any_map, any_none, filter_map_is, filter_same, map_has, range_from, range_has, any_from, count_some, filter_swap, map_from, map_same, same_place, LandsTakeTheFirst, slab_of, map-append, sum_by-filter_both, sum_by-cons, row_fits, pages_bounds, size_bounds, filter_from, filter_has, Part, Region, Span, Active, Space, end_of, has_page, pages_end, begins_at, is_active, turned_in_order, Sound, filter-begins_at, filter-without, share, eqb_itself, lies_between, both_true, some_pages, IsBooked, CanBeSlab, slabs_landed}
+use Rattle.arena_core.proofs.Words.{◌≡◌, ℕ, ◌+◌, ◌-◌, ◌*◌, ◌<◌, ◌≤◌, zero, suc, Bool, true, false, not, ◌||◌, leb, ◌∷◌, Contains, filter, map, inl, inr, refl, sym, ap, ◌∙◌, arith, ◌≢◌, ◌/◌, cond, List, [], ◌++◌, append-nil, get_or, All, max, subst, ◌&&◌, eqb, ltb, lt-ltb, find, Some, dite, ℕ_discrete, list_any, range_with_len, sum_by, cases_lt, eq-eqb, eqb-true, false_from_ne_true, cases_Bool, le-ltb, leb-true, nat_tests, All-contains, All-append, All-cons, All-contains_itself, All-filter, filter-append, regions_at, size_at, pages_at, address_of, landing, region_of, regions_from, starts_at, houses, is_slab, lies_in, places, land_at, slabs_of, place, BinSlab, meets_slab, of_class, slab_with_out, with_slab, any_has, any_map, any_none, filter_map_is, filter_same, map_has, range_from, range_has, any_from, count_some, filter_swap, map_from, map_same, same_place, LandsTakeTheFirst, booked_slab, map-append, sum_by-filter_both, sum_by-cons, row_fits, pages_bounds, size_bounds, filter_from, filter_has, Part, Region, Span, Active, Space, end_of, has_page, pages_end, begins_at, is_active, turned_in_order, Sound, filter-begins_at, filter-without, share, eqb_itself, lies_between, both_true, some_pages, IsBooked, CanBeSlab, slabs_landed}
 use Rattle.arena_core.proofs.Booked.{any_landing, idle_no_slab, serves_none, place_page, served_page, slab_at}
 use Rattle.arena_core.proofs.Books.{class_stays, from_slabs, only, stands_at}
 use Rattle.arena_core.proofs.Emptying.{ones}
@@ -63,7 +63,7 @@ pub record Lands (c : ℕ) (s : Space) (test : Part → Bool) (p : Part) (class 
   pub most : class < 36 → count ≤ regions_at class
   pub last : p.span.first + p.span.pages ≤ pages_end
 
-module _ (c : ℕ) (s : Space) (test : Part → Bool) (p : Part) (class count : ℕ) (l : Lands c s test p class count) (slabs : List Slab) (book : IsBooked s slabs) where
+module _ (c : ℕ) (s : Space) (test : Part → Bool) (p : Part) (class count : ℕ) (l : Lands c s test p class count) (slabs : List BinSlab) (book : IsBooked s slabs) where
   abbrev stay : List Part
   stay = filter (λ q. not (begins_at p.span.first q)) s.parts
 
@@ -124,7 +124,7 @@ module _ (c : ℕ) (s : Space) (test : Part → Bool) (p : Part) (class count : 
   slab_stays : (d : ℕ) (q : Part) → Contains stay q → is_slab d after.regions q ≡ is_slab d s.regions q
   slab_stays d q m = any_landing (λ r. eqb r.class d && houses q r) come s.regions ∙ ap (λ b. b || is_slab d s.regions q) (serves_none d come q (any_none (houses q) come (λ r there. away q m r there)))
 
-  free_stays : (d : ℕ) (q : Part) → d < 36 → Contains s.parts q → is_slab d s.regions q ≡ true → slab_of after.regions d q ≡ slab_of s.regions d q
+  free_stays : (d : ℕ) (q : Part) → d < 36 → Contains s.parts q → is_slab d s.regions q ≡ true → booked_slab after.regions d q ≡ booked_slab s.regions d q
   free_stays d q low at slab = λ k. record {
     class = d;
     first = q.span.first;
@@ -172,13 +172,13 @@ module _ (c : ℕ) (s : Space) (test : Part → Bool) (p : Part) (class count : 
       ∙ (λ k. (filter_same (is_slab d after.regions) (is_slab d s.regions) stay (λ q m. slab_stays d q m) ∙ filter-without (is_slab d s.regions) (begins_at p.span.first) s.parts gone) k ++ cond (active_slab d k) (active ∷ []) [])
 
   -- where the class is another one, its slabs stay
-  others_stay : (d : ℕ) → d < 36 → eqb class d ≡ false → of_class d slabs ≡ map (slab_of after.regions d) (slabs_of d after)
+  others_stay : (d : ℕ) → d < 36 → eqb class d ≡ false → of_class d slabs ≡ map (booked_slab after.regions d) (slabs_of d after)
   others_stay d low other =
       class_stays s after slabs d (slabs_then d ∙ ap (λ b. filter (is_slab d s.regions) s.parts ++ cond b (active ∷ []) []) other ∙ append-nil _)
       (λ q m slab. free_stays d q low m slab) (book.booked d low)
 
   -- the slabs of a class, and a new one at the extent
-  abbrev new : Slab
+  abbrev new : BinSlab
   new = slab_with_out class p.span.first count
 
   abbrev below : Part → Bool
@@ -196,16 +196,16 @@ module _ (c : ℕ) (s : Space) (test : Part → Bool) (p : Part) (class count : 
       absurd (cc)
 
   with_of_class : (d : ℕ) → d < 36 → of_class d (with_slab slabs new)
-      ≡ map (slab_of s.regions d) (filter below (slabs_of d s)) ++ (cond (eqb class d) (new ∷ []) [] ++ map (slab_of s.regions d) (filter above (slabs_of d s)))
+      ≡ map (booked_slab s.regions d) (filter below (slabs_of d s)) ++ (cond (eqb class d) (new ∷ []) [] ++ map (booked_slab s.regions d) (filter above (slabs_of d s)))
   with_of_class d low =
-      let under = λ (x : Slab). ltb x.first p.span.first in
-      let over = λ (x : Slab). ltb p.span.first x.first in
-      let of = λ (x : Slab). eqb x.class d in
-      let first = filter_swap of under slabs ∙ ap (filter under) (book.booked d low) ∙ filter_map_is (slab_of s.regions d) under (slabs_of d s) in
-      let second = filter_swap of over slabs ∙ ap (filter over) (book.booked d low) ∙ filter_map_is (slab_of s.regions d) over (slabs_of d s) in
+      let under = λ (x : BinSlab). ltb x.first p.span.first in
+      let over = λ (x : BinSlab). ltb p.span.first x.first in
+      let of = λ (x : BinSlab). eqb x.class d in
+      let first = filter_swap of under slabs ∙ ap (filter under) (book.booked d low) ∙ filter_map_is (booked_slab s.regions d) under (slabs_of d s) in
+      let second = filter_swap of over slabs ∙ ap (filter over) (book.booked d low) ∙ filter_map_is (booked_slab s.regions d) over (slabs_of d s) in
       filter-append of (filter under slabs) (new ∷ filter over slabs) ∙ (λ k. first k ++ (in_front (eqb class d) (filter of (filter over slabs)) ∙ ap (λ xs. cond (eqb class d) (new ∷ []) [] ++ xs) second) k)
     where
-      in_front : (b : Bool) (xs : List Slab) → cond b (new ∷ xs) xs ≡ cond b (new ∷ []) [] ++ xs
+      in_front : (b : Bool) (xs : List BinSlab) → cond b (new ∷ xs) xs ≡ cond b (new ∷ []) [] ++ xs
       in_front b xs = grind arith
 
   with_booked : class < 36 → IsBooked after (with_slab slabs new)
@@ -214,16 +214,16 @@ module _ (c : ℕ) (s : Space) (test : Part → Bool) (p : Part) (class count : 
         (All-filter (λ x. ltb x.first p.span.first) (λ x. x.class < 36) slabs book.small)
         (All-cons (λ x. x.class < 36) new (filter (λ x. ltb p.span.first x.first) slabs) small (All-filter (λ x. ltb p.span.first x.first) (λ x. x.class < 36) slabs book.small));
     booked = λ d low. with_of_class d low ∙ elim (cases_Bool (eqb class d)) [
-      | inr other ↦ rw other (sym (map-append (slab_of s.regions d) (filter below (slabs_of d s)) (filter above (slabs_of d s)))
-          ∙ ap (map (slab_of s.regions d)) (order_splits (filter (is_slab d s.regions) s.parts) p (others_differ d)) ∙ sym (book.booked d low) ∙ others_stay d low other)
+      | inr other ↦ rw other (sym (map-append (booked_slab s.regions d) (filter below (slabs_of d s)) (filter above (slabs_of d s)))
+          ∙ ap (map (booked_slab s.regions d)) (order_splits (filter (is_slab d s.regions) s.parts) p (others_differ d)) ∙ sym (book.booked d low) ∙ others_stay d low other)
       | inl same ↦ rw same (grown d low (eqb-true _ _ same) same)
     ];
   }
     where
-      kept : (d : ℕ) → d < 36 → (test : Part → Bool) → map (slab_of s.regions d) (filter test (slabs_of d s)) ≡ map (slab_of after.regions d) (filter test (slabs_of d s))
-      kept d low test = map_same (slab_of s.regions d) (slab_of after.regions d) (filter test (slabs_of d s)) (λ q m. let at = from_slabs s d q (filter_from test (slabs_of d s) q m).0 in sym (free_stays d q low at.0 at.1))
+      kept : (d : ℕ) → d < 36 → (test : Part → Bool) → map (booked_slab s.regions d) (filter test (slabs_of d s)) ≡ map (booked_slab after.regions d) (filter test (slabs_of d s))
+      kept d low test = map_same (booked_slab s.regions d) (booked_slab after.regions d) (filter test (slabs_of d s)) (λ q m. let at = from_slabs s d q (filter_from test (slabs_of d s) q m).0 in sym (free_stays d q low at.0 at.1))
 
-      first : (d : ℕ) → class ≡ d → new ≡ slab_of after.regions d active
+      first : (d : ℕ) → class ≡ d → new ≡ booked_slab after.regions d active
       first d is = sym (lands_first s.regions c class count p small (l.most small)
           (λ k x h. let a : ℕ = get_or (places class p) k x in false_from_ne_true _ (λ t.
           let r = any_from (starts_at a) s.regions t in
@@ -232,16 +232,16 @@ module _ (c : ℕ) (s : Space) (test : Part → Bool) (p : Part) (class count : 
           let none = none_begins s test p r.0.addr l.sound l.found l.idle bounds.0 bounds.1 in
           let there = any_has (λ y. eqb y.addr r.0.addr) s.regions r.0 r.1 (eqb_itself r.0.addr) in
           let no : true ≡ false = sym there ∙ none in
-          cc))) ∙ ap (λ k. slab_of after.regions k active) is
+          cc))) ∙ ap (λ k. booked_slab after.regions k active) is
         where
           page_bounds : (a : ℕ) (q : Part) → has_page (a / 4096) q.span ≡ true → (4096 * q.span.first ≤ a) × (a < 4096 * end_of q.span)
           page_bounds a q h = (grind (arith, nat_tests), grind (arith, nat_tests))
 
-      grown : (d : ℕ) → d < 36 → class ≡ d → eqb class d ≡ true → map (slab_of s.regions d) (filter below (slabs_of d s)) ++ new ∷ map (slab_of s.regions d) (filter above (slabs_of d s)) ≡ map (slab_of after.regions d) (slabs_of d after)
+      grown : (d : ℕ) → d < 36 → class ≡ d → eqb class d ≡ true → map (booked_slab s.regions d) (filter below (slabs_of d s)) ++ new ∷ map (booked_slab s.regions d) (filter above (slabs_of d s)) ≡ map (booked_slab after.regions d) (slabs_of d after)
       grown d low is same =
           (λ k. kept d low below k ++ first d is k ∷ kept d low above k)
-          ∙ sym (map-append (slab_of after.regions d) (filter below (slabs_of d s)) (active ∷ filter above (slabs_of d s)))
-          ∙ ap (map (slab_of after.regions d)) (sym (order_grows (filter (is_slab d s.regions) s.parts) active (others_differ d))
+          ∙ sym (map-append (booked_slab after.regions d) (filter below (slabs_of d s)) (active ∷ filter above (slabs_of d s)))
+          ∙ ap (map (booked_slab after.regions d)) (sym (order_grows (filter (is_slab d s.regions) s.parts) active (others_differ d))
           ∙ ap (turned_in_order (λ q. q)) (sym (slabs_then d ∙ ap (λ b. filter (is_slab d s.regions) s.parts ++ cond b (active ∷ []) []) same)))
 
   pub landed_booked : (span : Span) → span.first ≡ p.span.first → IsBooked after (slabs_landed class span.first count slabs)
@@ -260,7 +260,7 @@ module _ (c : ℕ) (s : Space) (test : Part → Bool) (p : Part) (class count : 
         let at = stands_at s slabs book x m in
         let q : Part = at.extent in
         let pages = (slab_at s x.class q l.sound at.low at.there at.slab).pages in
-        let first : q.span.first ≡ x.first = ap (λ (y : Slab). y.first) at.is in
+        let first : q.span.first ≡ x.first = ap (λ (y : BinSlab). y.first) at.is in
         let some = (pages_bounds class (omega (arith, l.low))).0 in
         let also_some = (pages_bounds x.class (omega (arith, at.low))).0 in
         let meets = both (span.first) (pages_at class) x.first (pages_at x.class) t in

@@ -1,5 +1,5 @@
 -- The book of slabs after any operation that gives nothing back.
-use Rattle.arena_core.proofs.Words.{◌⊎◌, ap, inl, inr, length, ◌≡◌, ℕ, ◌<◌, ◌≤◌, Bool, true, false, cond, List, [], ◌∷◌, find, Option, None, Some, refl, sym, ◌∙◌, subst, ◌&&◌, eqb, lt-ltb, nat_lt, nat_le, eqb-true, nil_from_length, All-map, pages_at, regions_at, Op, Look, CutDone, GrowDone, CommitDone, Land, PutLook, MergeDone, Fill, Advance, PurgeTake, LazyDone, Offer, OfferDone, DecommitDone, ForcedDone, Publish, TakeOver, Reset, Destroy, DestroyTake, Counts, Set, Widen, JoinDone, Trim, TrimDone, Busy, NoArena, Part, Region, Span, Space, is_flight_at, held_anew, doom_at, emptied, ended, flight_count, held_count, is_held_at, is_published_at, take_over_at, large_home, after_fill, fill_at, land_at, land_stands, lowest_free, most_regions, is_live, op_stands, step_of, Stepped, found_passes, if_live, stays, Sound, both_true, op_keeps, Slab, without, is_return, opens, CanFollow, IsBooked, slabs_begun, slabs_filled, slabs_followed, slabs_left, slabs_taken, CanBeSlab, slabs_landed}
+use Rattle.arena_core.proofs.Words.{◌⊎◌, ap, inl, inr, length, ◌≡◌, ℕ, ◌<◌, ◌≤◌, Bool, true, false, cond, List, [], ◌∷◌, find, Option, None, Some, refl, sym, ◌∙◌, subst, ◌&&◌, eqb, lt-ltb, nat_lt, nat_le, eqb-true, nil_from_length, All-map, pages_at, regions_at, Op, Look, CutDone, GrowDone, CommitDone, Land, PutLook, MergeDone, Fill, Advance, PurgeTake, LazyDone, Offer, OfferDone, DecommitDone, ForcedDone, Publish, TakeOver, Reset, Destroy, DestroyTake, Counts, Set, Widen, JoinDone, Trim, TrimDone, Busy, NoArena, Part, Region, Span, Space, is_flight_at, held_anew, doom_at, emptied, ended, flight_count, held_count, is_held_at, is_published_at, take_over_at, large_home, after_fill, fill_at, land_at, land_stands, lowest_free, most_regions, is_live, op_stands, step_of, Stepped, found_passes, if_live, stays, Sound, both_true, op_keeps, BinSlab, with_regions_out, is_return, opens, CanFollow, IsBooked, slabs_begun, slabs_filled, slabs_followed, slabs_left, slabs_taken, CanBeSlab, slabs_landed}
 use Rattle.arena_core.proofs.Booked.{fills_taken, stay_handed}
 use Rattle.arena_core.proofs.BookLands.{Lands, can_land, landed_booked}
 use Rattle.arena_core.proofs.Resized.{join_step, trim_step}
@@ -34,13 +34,13 @@ no_extent class count s c span stands e =
     let none : found_passes (λ p. p.committed) None ≡ true = subst (λ (o : Option Part). found_passes (λ p. p.committed) o ≡ true) e (both_true (nat_lt class 121 && nat_lt 0 count && nat_le count (most_regions class) && eqb span.pages (pages_at class)) _ stands).1 in
     cc
 
-land_booked : (c : ℕ) (s : Space) (span : Span) (class count : ℕ) (o : Option Part) (slabs : List Slab) → find (is_flight_at c span) s.parts ≡ o → Sound s → land_stands s c span class count ≡ true → IsBooked s slabs →
+land_booked : (c : ℕ) (s : Space) (span : Span) (class count : ℕ) (o : Option Part) (slabs : List BinSlab) → find (is_flight_at c span) s.parts ≡ o → Sound s → land_stands s c span class count ≡ true → IsBooked s slabs →
     IsBooked (land_at s c class count o).after (slabs_landed class span.first count slabs)
 land_booked c s span class count None slabs e sound stands book = absurd (no_extent class count s c span stands e)
 land_booked c s span class count (Some p) slabs e sound stands book =
     landed_booked c s (is_flight_at c span) p class count (lands_of c s span class count p sound stands e) slabs book span (sym (in_flight c s span p sound (sym e)).first)
 
-land_can : (c : ℕ) (s : Space) (span : Span) (class count : ℕ) (o : Option Part) (slabs : List Slab) → find (is_flight_at c span) s.parts ≡ o → Sound s → land_stands s c span class count ≡ true → IsBooked s slabs →
+land_can : (c : ℕ) (s : Space) (span : Span) (class count : ℕ) (o : Option Part) (slabs : List BinSlab) → find (is_flight_at c span) s.parts ≡ o → Sound s → land_stands s c span class count ≡ true → IsBooked s slabs →
     class < 36 → CanBeSlab class span.first count slabs
 land_can c s span class count None slabs e sound stands book = absurd (no_extent class count s c span stands e)
 land_can c s span class count (Some p) slabs e sound stands book =
@@ -49,11 +49,11 @@ land_can c s span class count (Some p) slabs e sound stands book =
 -- ---- an operation that takes no memory
 
 -- its slab, if it makes one, can come
-pub can_follow : (c : ℕ) (s : Space) (op : Op) (slabs : List Slab) → Sound s → op_stands s c op ≡ true → IsBooked s slabs → CanFollow op slabs
+pub can_follow : (c : ℕ) (s : Space) (op : Op) (slabs : List BinSlab) → Sound s → op_stands s c op ≡ true → IsBooked s slabs → CanFollow op slabs
 can_follow c s (Land span class count) slabs sound stands book = land_can c s span class count (find (is_flight_at c span) s.parts) slabs refl sound (both_true (is_live s.life) _ stands).1 book
 can_follow c s op slabs sound stands book = tt
 
-pub follows_booked : (c : ℕ) (s : Space) (op : Op) (slabs : List Slab) → Sound s → op_stands s c op ≡ true → opens op ≡ false → IsBooked s slabs → IsBooked (step_of s c op).after (slabs_followed op slabs)
+pub follows_booked : (c : ℕ) (s : Space) (op : Op) (slabs : List BinSlab) → Sound s → op_stands s c op ≡ true → opens op ≡ false → IsBooked s slabs → IsBooked (step_of s c op).after (slabs_followed op slabs)
 follows_booked c s (CutDone heard keep_low) slabs sound stands follows book = still_booked s _ slabs book (cut_still s c keep_low heard.ask heard.answer sound)
 follows_booked c s (GrowDone heard found) slabs sound stands follows book = still_booked s _ slabs book (grow_still s c found heard.ask heard.answer)
 follows_booked c s (CommitDone heard) slabs sound stands follows book = still_booked s _ slabs book (commit_still s c heard.ask heard.answer sound)
@@ -74,17 +74,17 @@ follows_booked c s op slabs sound stands follows book = absurd (cc)
 -- ---- an operation that begins a unit
 
 -- nobody minds who holds a region
-anew_booked : (s : Space) (test : Region → Bool) (holder : Option ℕ) (slabs : List Slab) → IsBooked s slabs → IsBooked (record s { regions = held_anew test holder s.regions }) slabs
+anew_booked : (s : Space) (test : Region → Bool) (holder : Option ℕ) (slabs : List BinSlab) → IsBooked s slabs → IsBooked (record s { regions = held_anew test holder s.regions }) slabs
 anew_booked s test holder slabs book = record { small = book.small; booked = stay_handed s (record s { regions = held_anew test holder s.regions }) slabs test holder refl refl book.booked }
 
 -- the lowest free regions of a class are taken
-fill_booked : (c : ℕ) (s : Space) (class count : ℕ) (slabs : List Slab) → Sound s → class < 36 → IsBooked s slabs → IsBooked (after_fill s c class count).after (slabs_filled s class count slabs)
+fill_booked : (c : ℕ) (s : Space) (class count : ℕ) (slabs : List BinSlab) → Sound s → class < 36 → IsBooked s slabs → IsBooked (after_fill s c class count).after (slabs_filled s class count slabs)
 fill_booked c s class count slabs sound low book =
     let addrs = lowest_free class count s in
     elim (is_live s.life) as (λ b. IsBooked (cond b (fill_at s c class addrs) (stays s NoArena)).after (cond b (slabs_taken addrs slabs) slabs)) [
       | false ↦ book
       | true ↦ subst (λ t. IsBooked t (slabs_taken addrs slabs)) (sym (filled_is c s class addrs)) (record {
-        small = All-map (λ x. x.class < 36) (without addrs) slabs book.small;
+        small = All-map (λ x. x.class < 36) (with_regions_out addrs) slabs book.small;
         booked = (fills_taken s slabs c class count sound low book.booked).booked;
       })
     ]
@@ -99,7 +99,7 @@ left_or_none s true false t held flights threads none = inl refl
 left_or_none s false free t held flights threads none = inl refl
 
 -- the book without slabs, or the one that was, is that of what is left
-left_booked : (s t : Space) (slabs : List Slab) → IsBooked s slabs → (t ≡ s) ⊎ (t.regions ≡ []) → IsBooked t (slabs_left t slabs)
+left_booked : (s t : Space) (slabs : List BinSlab) → IsBooked s slabs → (t ≡ s) ⊎ (t.regions ≡ []) → IsBooked t (slabs_left t slabs)
 left_booked s t slabs book left = by (eqb (length t.regions) 0) refl left
   where
     by : (b : Bool) → eqb (length t.regions) 0 ≡ b → (t ≡ s) ⊎ (t.regions ≡ []) → IsBooked t (cond b [] slabs)
@@ -107,7 +107,7 @@ left_booked s t slabs book left = by (eqb (length t.regions) 0) refl left
     by false e (inl same) = subst (λ x. IsBooked x slabs) (sym same) book
     by false e (inr none) = absurd (let some : eqb (length t.regions) 0 ≡ true = ap (λ rs. eqb (length rs) 0) none in cc)
 
-pub begins_booked : (c : ℕ) (s : Space) (op : Op) (slabs : List Slab) → Sound s → op_stands s c op ≡ true → opens op ≡ true → is_return op ≡ false → IsBooked s slabs →
+pub begins_booked : (c : ℕ) (s : Space) (op : Op) (slabs : List BinSlab) → Sound s → op_stands s c op ≡ true → opens op ≡ true → is_return op ≡ false → IsBooked s slabs →
     IsBooked (step_of s c op).after (slabs_begun c s op slabs)
 begins_booked c s (Look pages align) slabs sound stands opens other book = still_booked s _ slabs book (look_still s c pages align sound)
 begins_booked c s (Fill class count) slabs sound stands opens other book = fill_booked c s class count slabs sound (may_fill s c class count stands).0 book

@@ -1,5 +1,5 @@
 -- A book of slabs beside a space, as a fill takes regions, and which extent serves a region.
-use Rattle.arena_core.proofs.Words.{◌≡◌, ℕ, ◌<◌, Bool, true, false, not, ◌&&◌, ◌||◌, eqb, ltb, List, [], ◌∷◌, map, filter, take, drop, Contains, IsTrue, if◌then◌else◌, inl, inr, refl, sym, ap, ◌∙◌, arith, ◌+◌, ◌*◌, ◌/◌, ◌≤◌, length, All, subst, flat_map, list_any, position_or_len, range_with_len, sum_by, cases_Bool, eq-eqb, eqb-true, false_from_ne_true, take-append-drop, length-map, All-contains, flat_map-map, list_any-append, sum_by-cons, sum_by-le-sum_by, contains_later, filter_from, filter_has, contains_cases, Part, Region, Space, is_active, turned_in_order, houses, inserted, is_slab, landing, region_of, residents, starts_at, address_of, covers, homes, free_places, lowest_free, places, slabs_of, IsInSlab, Sound, Spot, lowest_spots, Slab, is_among, without, is_unused, any_false, any_from, any_has, any_map, any_none, bit, filter_both, filter_map_is, filter_same, head, map_both, map_from, map_same, filter_all_of, map_has, range_from, range_has, AreBooked, BooksStayWhereHoldersChange, BooksStayWhileExtentsDo, FillsTakeTheLowest, ReturnsAreFree, filled, slab_of, nat_tests, length-filter_both, length-range_with_len, row_fits, pages_at, regions_at, size_at, size_bounds, slab_filled, has_page, share, both_true, serves, serves-le-share}
+use Rattle.arena_core.proofs.Words.{◌≡◌, ℕ, ◌<◌, Bool, true, false, not, ◌&&◌, ◌||◌, eqb, ltb, List, [], ◌∷◌, map, filter, take, drop, Contains, IsTrue, if◌then◌else◌, inl, inr, refl, sym, ap, ◌∙◌, arith, ◌+◌, ◌*◌, ◌/◌, ◌≤◌, length, All, subst, flat_map, list_any, position_or_len, range_with_len, sum_by, cases_Bool, eq-eqb, eqb-true, false_from_ne_true, take-append-drop, length-map, All-contains, flat_map-map, list_any-append, sum_by-cons, sum_by-le-sum_by, contains_later, filter_from, filter_has, contains_cases, Part, Region, Space, is_active, turned_in_order, houses, inserted, is_slab, landing, region_of, residents, starts_at, address_of, covers, homes, free_places, lowest_free, places, slabs_of, IsInSlab, Sound, Spot, lowest_spots, BinSlab, is_among, with_regions_out, is_all_free, any_false, any_from, any_has, any_map, any_none, bit, filter_both, filter_map_is, filter_same, head, map_both, map_from, map_same, filter_all_of, map_has, range_from, range_has, AreBooked, BooksStayWhereHoldersChange, BooksStayWhileExtentsDo, FillsTakeTheLowest, ReturnsAreFree, filled, booked_slab, nat_tests, length-filter_both, length-range_with_len, row_fits, pages_at, regions_at, size_at, size_bounds, slab_filled, has_page, share, both_true, serves, serves-le-share}
 use Rattle.std.proofs.Common.{count_by}
 use Rattle.arena_core.proofs.Emptying.{ones_le}
 
@@ -73,7 +73,7 @@ module _ (s : Space) (sound : Sound s) (client class count : ℕ) (small : class
   slabs_stay d = ap (turned_in_order (λ p. p)) (filter_same (is_slab d after) (is_slab d s.regions) s.parts (slab_stays d))
 
   -- the free places are those that were free, without the addresses
-  taken_places : (d : ℕ) (p : Part) → slab_of after d p ≡ without addrs (slab_of s.regions d p)
+  taken_places : (d : ℕ) (p : Part) → booked_slab after d p ≡ with_regions_out addrs (booked_slab s.regions d p)
   taken_places d p = λ k. record {
     class = d;
     first = p.span.first;
@@ -87,14 +87,14 @@ module _ (s : Space) (sound : Sound s) (client class count : ℕ) (small : class
       there : (a : ℕ) → not (list_any (starts_at a) after) ≡ (not (list_any (starts_at a) s.regions) && not (is_among addrs a))
       there a = ap not (any_landing (starts_at a) (map (region_of client class) addrs) s.regions ∙ ap (λ b. b || list_any (starts_at a) s.regions) (any_map (region_of client class) (starts_at a) addrs)) ∙ not_or (is_among addrs a) (list_any (starts_at a) s.regions)
 
-  pub taken_stays : (slabs : List Slab) → AreBooked s slabs → AreBooked (filled s client class addrs) (map (without addrs) slabs)
+  pub taken_stays : (slabs : List BinSlab) → AreBooked s slabs → AreBooked (filled s client class addrs) (map (with_regions_out addrs) slabs)
   taken_stays slabs booked d low =
-      filter_map_is (without addrs) (λ x. eqb x.class d) slabs ∙ ap (map (without addrs)) (booked d low)
-      ∙ sym (map_both (slab_of s.regions d) (without addrs) (slab_of after d) (slabs_of d s) (λ p m. taken_places d p)) ∙ ap (map (slab_of after d)) (sym (slabs_stay d))
+      filter_map_is (with_regions_out addrs) (λ x. eqb x.class d) slabs ∙ ap (map (with_regions_out addrs)) (booked d low)
+      ∙ sym (map_both (booked_slab s.regions d) (with_regions_out addrs) (booked_slab after d) (slabs_of d s) (λ p m. taken_places d p)) ∙ ap (map (booked_slab after d)) (sym (slabs_stay d))
 
 pub fills_taken : FillsTakeTheLowest
 fills_taken s slabs client class count sound small booked = record {
-  addrs = ap (take count) (ap (flat_map (λ (x : Slab). x.free)) (booked class small) ∙ flat_map-map (λ (x : Slab). x.free) (slab_of s.regions class) (slabs_of class s));
+  addrs = ap (take count) (ap (flat_map (λ (x : BinSlab). x.free)) (booked class small) ∙ flat_map-map (λ (x : BinSlab). x.free) (booked_slab s.regions class) (slabs_of class s));
   booked = taken_stays s sound client class count small slabs booked;
 }
 
@@ -117,7 +117,7 @@ active_slabs class regions parts = filter_both (λ p. is_active p.state) (is_sla
 pub stay_still : BooksStayWhileExtentsDo
 stay_still s t slabs parts regions booked class small =
     let same = sym (active_slabs class t.regions t.parts) ∙ ap (filter (is_slab class t.regions)) parts ∙ active_slabs class t.regions s.parts ∙ ap (λ rs. filter (is_slab class rs) s.parts) regions in
-    booked class small ∙ (λ k. map (slab_of (sym regions k) class) (turned_in_order (λ p. p) (sym same k)))
+    booked class small ∙ (λ k. map (booked_slab (sym regions k) class) (turned_in_order (λ p. p) (sym same k)))
 
 pub stay_handed : BooksStayWhereHoldersChange
 stay_handed s t slabs test holder parts regions booked class small =
@@ -126,8 +126,8 @@ stay_handed s t slabs test holder parts regions booked class small =
     let start = λ (a : ℕ). any_map anew (starts_at a) s.regions ∙ any_same (λ r. starts_at a (anew r)) (starts_at a) s.regions (λ r. elim (cases_Bool (test r)) [ inl e ↦ rw e refl | inr f ↦ rw f refl ]) in
     let same = filter_same (is_slab class (map anew s.regions)) (is_slab class s.regions) s.parts (λ p m. slab p) in
     let shown = λ (p : Part). filter_same (λ a. not (list_any (starts_at a) (map anew s.regions))) (λ a. not (list_any (starts_at a) s.regions)) (places class p) (λ a m. ap not (start a)) in
-    booked class small ∙ map_same (slab_of s.regions class) (slab_of (map anew s.regions) class) (slabs_of class s) (λ p m k. record { class = class; first = p.span.first; free = sym (shown p) k })
-    ∙ ap (λ ps. map (slab_of (map anew s.regions) class) (turned_in_order (λ p. p) ps)) (sym same) ∙ (λ k. map (slab_of (sym regions k) class) (turned_in_order (λ p. p) (filter (is_slab class (sym regions k)) (sym parts k))))
+    booked class small ∙ map_same (booked_slab s.regions class) (booked_slab (map anew s.regions) class) (slabs_of class s) (λ p m k. record { class = class; first = p.span.first; free = sym (shown p) k })
+    ∙ ap (λ ps. map (booked_slab (map anew s.regions) class) (turned_in_order (λ p. p) ps)) (sym same) ∙ (λ k. map (booked_slab (sym regions k) class) (turned_in_order (λ p. p) (filter (is_slab class (sym regions k)) (sym parts k))))
 
 -- ---- a return
 
@@ -263,7 +263,7 @@ module _ (s : Space) (class : ℕ) (q : Part) (sound : Sound s) (low : class < 3
         any_has (λ r. eqb r.class class && houses q r) few x.0 x.1 (rw (is, x.2) refl))
 
     -- and else all its places are free
-    pub unused_is : is_unused (slab_of few class q) ≡ not (list_any (houses q) few)
+    pub unused_is : is_all_free (booked_slab few class q) ≡ not (list_any (houses q) few)
     unused_is = elim (cases_Bool (list_any (houses q) few)) [
       | inr none ↦
           let all = filter_all_of keep (places class q) (λ a m. ap not (any_none (starts_at a) few (λ x there. false_from_ne_true _ (λ t.

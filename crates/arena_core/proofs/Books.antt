@@ -1,5 +1,5 @@
 -- A book of slabs beside a space, as regions land and are given back.
-use Rattle.arena_core.proofs.Words.{◌≡◌, ℕ, ◌/◌, ◌<◌, ◌≤◌, Bool, true, false, not, IsTrue, List, [], ◌∷◌, length, get_or, All, Contains, filter, map, inl, inr, refl, sym, ◌∙◌, ap, subst, arith, ◌&&◌, eqb, lt-ltb, find, Some, cond, count_by, list_any, sum_by, cases_Bool, cases_lt, eq-eqb, eqb-true, false_from_ne_true, le-ltb, nat_tests, nil_from_length, All-cons, All-contains, All-contains_itself, All-filter, All-map, All-nil, All-head, sum_by-filter_both, ext_get_or, length-map, length-map-range_with_len, length-filter, sum_by-cons, contains_cases, contains_later, filter_from, filter_has, Part, Region, Space, has_page, begins_at, taken_out, turned_in_order, fills, houses, is_slab, residents, starts_at, slabs_by_class, places, slabs_of, Sound, after_back, holds_at, is_emptied, is_given_back, staying, eqb_itself, only_one, both_true, All-turned, turned_sum, Slab, is_out, is_unused, of_class, with_free, any_from, any_has, any_map, filter_all_of, filter_both, filter_map_is, filter_none_of, filter_same, filter_swap, head, map_both, map_from, map_same, slab_of, IsBooked, NothingIsBooked, slabs_left, is_last, slabs_returned, at_tally, tally}
+use Rattle.arena_core.proofs.Words.{◌≡◌, ℕ, ◌/◌, ◌<◌, ◌≤◌, Bool, true, false, not, IsTrue, List, [], ◌∷◌, length, get_or, All, Contains, filter, map, inl, inr, refl, sym, ◌∙◌, ap, subst, arith, ◌&&◌, eqb, lt-ltb, find, Some, cond, count_by, list_any, sum_by, cases_Bool, cases_lt, eq-eqb, eqb-true, false_from_ne_true, le-ltb, nat_tests, nil_from_length, All-cons, All-contains, All-contains_itself, All-filter, All-map, All-nil, All-head, sum_by-filter_both, ext_get_or, length-map, length-map-range_with_len, length-filter, sum_by-cons, contains_cases, contains_later, filter_from, filter_has, Part, Region, Space, has_page, begins_at, taken_out, turned_in_order, fills, houses, is_slab, residents, starts_at, slabs_by_class, places, slabs_of, Sound, after_back, holds_at, is_emptied, is_given_back, staying, eqb_itself, only_one, both_true, All-turned, turned_sum, BinSlab, is_out, is_all_free, of_class, with_free, any_from, any_has, any_map, filter_all_of, filter_both, filter_map_is, filter_none_of, filter_same, filter_swap, head, map_both, map_from, map_same, booked_slab, IsBooked, NothingIsBooked, slabs_left, is_last, slabs_returned, at_tally, tally}
 use Rattle.arena_core.proofs.Booked.{among_kept, both_ways, freed, idle_no_slab, serves_none, stay_still, SlabAt, slab_at, starts_served, still_slab, unused_is}
 use Rattle.arena_core.proofs.Emptying.{Empties, Gives, any_counts, begins_alone, counts_any, empties, given_parts, gives, is_left, ones}
 use Rattle.arena_core.proofs.Finds.{find_alone}
@@ -24,49 +24,49 @@ pub from_slabs : (s : Space) (class : ℕ) (q : Part) → Contains (slabs_of cla
 from_slabs s class q m = filter_from (is_slab class s.regions) s.parts q (from_order (filter (is_slab class s.regions) s.parts) q m)
 
 -- Where a slab of a book stands.
-pub record Stands (s : Space) (x : Slab) : Type 0 where
+pub record Stands (s : Space) (x : BinSlab) : Type 0 where
   pub extent : Part
   pub there : Contains s.parts extent
   pub low : x.class < 36
   pub slab : is_slab x.class s.regions extent ≡ true
-  pub is : slab_of s.regions x.class extent ≡ x
+  pub is : booked_slab s.regions x.class extent ≡ x
 
-pub stands_at : (s : Space) (slabs : List Slab) → IsBooked s slabs → (x : Slab) → Contains slabs x → Stands s x
+pub stands_at : (s : Space) (slabs : List BinSlab) → IsBooked s slabs → (x : BinSlab) → Contains slabs x → Stands s x
 stands_at s slabs book x m =
-    let low = All-contains (λ (y : Slab). y.class < 36) slabs x book.small m in
+    let low = All-contains (λ (y : BinSlab). y.class < 36) slabs x book.small m in
     let alike = subst (λ ys. Contains ys x) (book.booked x.class low) (filter_has (λ y. eqb y.class x.class) slabs x m (eq-eqb _ _ refl)) in
-    let p = map_from (slab_of s.regions x.class) (slabs_of x.class s) x alike in
+    let p = map_from (booked_slab s.regions x.class) (slabs_of x.class s) x alike in
     let at = from_slabs s x.class p.0 p.1 in
     record { extent = p.0; there = at.0; low = low; slab = at.1; is = p.2 }
 
 -- what the slab of an extent passes, some slab of the book does
-pub book_any : (s : Space) (slabs : List Slab) → IsBooked s slabs → (t : Slab → Bool) (class : ℕ) (q : Part) → class < 36 → Contains s.parts q → is_slab class s.regions q ≡ true → t (slab_of s.regions class q) ≡ true → list_any t slabs ≡ true
+pub book_any : (s : Space) (slabs : List BinSlab) → IsBooked s slabs → (t : BinSlab → Bool) (class : ℕ) (q : Part) → class < 36 → Contains s.parts q → is_slab class s.regions q ≡ true → t (booked_slab s.regions class q) ≡ true → list_any t slabs ≡ true
 book_any s slabs book t class q low at slab h =
-    let there = any_has (λ p. t (slab_of s.regions class p)) (filter (is_slab class s.regions) s.parts) q (filter_has (is_slab class s.regions) s.parts q at slab) h in
-    let inside : list_any t (of_class class slabs) ≡ true = ap (list_any t) (book.booked class low) ∙ any_map (slab_of s.regions class) t (slabs_of class s) ∙ any_order (λ p. t (slab_of s.regions class p)) (filter (is_slab class s.regions) s.parts) ∙ there in
+    let there = any_has (λ p. t (booked_slab s.regions class p)) (filter (is_slab class s.regions) s.parts) q (filter_has (is_slab class s.regions) s.parts q at slab) h in
+    let inside : list_any t (of_class class slabs) ≡ true = ap (list_any t) (book.booked class low) ∙ any_map (booked_slab s.regions class) t (slabs_of class s) ∙ any_order (λ p. t (booked_slab s.regions class p)) (filter (is_slab class s.regions) s.parts) ∙ there in
     let x = any_from t (of_class class slabs) inside in
     any_has t slabs x.0 (filter_from (λ y. eqb y.class class) slabs x.0 x.1).0 x.2
 
 -- the slabs of a class stay booked where its extents and their free places stay
-pub class_stays : (s t : Space) (slabs : List Slab) (class : ℕ) → filter (is_slab class t.regions) t.parts ≡ filter (is_slab class s.regions) s.parts →
-    ((q : Part) → Contains s.parts q → is_slab class s.regions q ≡ true → slab_of t.regions class q ≡ slab_of s.regions class q) →
-    of_class class slabs ≡ map (slab_of s.regions class) (slabs_of class s) → of_class class slabs ≡ map (slab_of t.regions class) (slabs_of class t)
+pub class_stays : (s t : Space) (slabs : List BinSlab) (class : ℕ) → filter (is_slab class t.regions) t.parts ≡ filter (is_slab class s.regions) s.parts →
+    ((q : Part) → Contains s.parts q → is_slab class s.regions q ≡ true → booked_slab t.regions class q ≡ booked_slab s.regions class q) →
+    of_class class slabs ≡ map (booked_slab s.regions class) (slabs_of class s) → of_class class slabs ≡ map (booked_slab t.regions class) (slabs_of class t)
 class_stays s t slabs class parts same booked =
-    booked ∙ map_same (slab_of s.regions class) (slab_of t.regions class) (slabs_of class s) (λ q m. let at = from_slabs s class q m in sym (same q at.0 at.1))
-    ∙ ap (λ ps. map (slab_of t.regions class) (turned_in_order (λ p. p) ps)) (sym parts)
+    booked ∙ map_same (booked_slab s.regions class) (booked_slab t.regions class) (slabs_of class s) (λ q m. let at = from_slabs s class q m in sym (same q at.0 at.1))
+    ∙ ap (λ ps. map (booked_slab t.regions class) (turned_in_order (λ p. p) ps)) (sym parts)
 
 -- as many slabs of a class as the space has
-class_count : (s : Space) (slabs : List Slab) → IsBooked s slabs → (class : ℕ) → class < 36 → count_by (λ x. eqb x.class class) slabs ≡ count_by (is_slab class s.regions) s.parts
+class_count : (s : Space) (slabs : List BinSlab) → IsBooked s slabs → (class : ℕ) → class < 36 → count_by (λ x. eqb x.class class) slabs ≡ count_by (is_slab class s.regions) s.parts
 class_count s slabs book class low =
     let parts = filter (is_slab class s.regions) s.parts in
-    let many = ap length (book.booked class low) ∙ length-map (slabs_of class s) (slab_of s.regions class) in
+    let many = ap length (book.booked class low) ∙ length-map (slabs_of class s) (booked_slab s.regions class) in
     omega (arith, length-filter (λ x. eqb x.class class) slabs, many, each_one (slabs_of class s), turned_sum (λ p. p) (λ p. 1) [] parts, each_one parts, length-filter (is_slab class s.regions) s.parts)
   where
     each_one : (ps : List Part) → sum_by (λ p. 1) ps ≡ length ps
     each_one [] = refl
     each_one (p ∷ ps) = omega (arith, each_one ps, sum_by-cons (λ (q : Part). 1) p ps)
 
-pub slabs_counted : (s : Space) (slabs : List Slab) (numbers : List ℕ) → IsBooked s slabs → length numbers ≡ 36 → ((class : ℕ) → class < 36 → get_or numbers class 0 ≡ count_by (λ x. eqb x.class class) slabs) →
+pub slabs_counted : (s : Space) (slabs : List BinSlab) (numbers : List ℕ) → IsBooked s slabs → length numbers ≡ 36 → ((class : ℕ) → class < 36 → get_or numbers class 0 ≡ count_by (λ x. eqb x.class class) slabs) →
     numbers ≡ slabs_by_class s.regions s.parts
 slabs_counted s slabs numbers book long told =
     let f : ℕ → ℕ = λ class. count_by (is_slab class s.regions) s.parts in
@@ -74,34 +74,34 @@ slabs_counted s slabs numbers book long told =
     (λ k lt. let low : k < 36 = omega (arith, lt, long) in told k low ∙ class_count s slabs book k low ∙ sym (at_tally f 36 k low))
 
 -- all slabs stay booked where the extents that serve regions stay, with their regions
-pub still_booked : (s t : Space) (slabs : List Slab) → IsBooked s slabs → Still s t → IsBooked t slabs
+pub still_booked : (s t : Space) (slabs : List BinSlab) → IsBooked s slabs → Still s t → IsBooked t slabs
 still_booked s t slabs book h = record { small = book.small; booked = stay_still s t slabs h.parts h.regions book.booked }
 
 -- as the space and the slabs are told
-pub booked_as : {s t : Space} {slabs now : List Slab} → IsBooked s slabs → t ≡ s → now ≡ slabs → IsBooked t now
+pub booked_as : {s t : Space} {slabs now : List BinSlab} → IsBooked s slabs → t ≡ s → now ≡ slabs → IsBooked t now
 booked_as {s} {t} {slabs} {now} book same told = subst (λ x. IsBooked x now) (sym same) (subst (IsBooked s) (sym told) book)
 
 -- no regions, no slabs
 pub nothing_booked : NothingIsBooked
 nothing_booked s none = record {
-  small = All-nil (λ (x : Slab). x.class < 36);
+  small = All-nil (λ (x : BinSlab). x.class < 36);
   booked = λ class low.
       let empty = filter_none_of (is_slab class s.regions) s.parts (λ q m. ap (λ rs. is_slab class rs q) none) in
-      sym (ap (λ ps. map (slab_of s.regions class) (turned_in_order (λ p. p) ps)) empty);
+      sym (ap (λ ps. map (booked_slab s.regions class) (turned_in_order (λ p. p) ps)) empty);
 }
 
 -- and where no region is booked, no slab is
-none_left : (s : Space) (slabs : List Slab) → IsBooked s slabs → s.regions ≡ [] → slabs ≡ []
+none_left : (s : Space) (slabs : List BinSlab) → IsBooked s slabs → s.regions ≡ [] → slabs ≡ []
 none_left s [] book none = refl
 none_left s (x ∷ xs) book none =
-    let low = All-head (λ (y : Slab). y.class < 36) x xs book.small in
+    let low = All-head (λ (y : BinSlab). y.class < 36) x xs book.small in
     let is : of_class x.class (x ∷ xs) ≡ [] = book.booked x.class low ∙ sym ((nothing_booked s none).booked x.class low) in
     let own : eqb x.class x.class ≡ true = eq-eqb x.class x.class refl in
     let some : of_class x.class (x ∷ xs) ≡ x ∷ of_class x.class xs = rw own refl in
     absurd (cc)
 
 -- so a space that stays has the slabs that it had
-pub same_left : (s : Space) (slabs : List Slab) → IsBooked s slabs → slabs_left s slabs ≡ slabs
+pub same_left : (s : Space) (slabs : List BinSlab) → IsBooked s slabs → slabs_left s slabs ≡ slabs
 same_left s slabs book = by (eqb (length s.regions) 0) refl
   where
     by : (b : Bool) → eqb (length s.regions) 0 ≡ b → cond b [] slabs ≡ slabs
@@ -119,7 +119,7 @@ pub map_itself : {X : Type 0} (h : X → X) (xs : List X) → ((x : X) → Conta
 map_itself h [] same = refl
 map_itself h (x ∷ xs) same = λ k. same x (head x xs) k ∷ map_itself h xs (λ y m. same y (contains_later x xs y m)) k
 
-module _ (c addr : ℕ) (s : Space) (p : Part) (slabs : List Slab) (sound : Sound s) (e : Empties c addr s p) (book : IsBooked s slabs) where
+module _ (c addr : ℕ) (s : Space) (p : Part) (slabs : List BinSlab) (sound : Sound s) (e : Empties c addr s p) (book : IsBooked s slabs) where
   abbrev rest : List Region
   rest = staying c (addr ∷ []) s.regions
 
@@ -147,30 +147,30 @@ module _ (c addr : ℕ) (s : Space) (p : Part) (slabs : List Slab) (sound : Soun
       (λ t. given_starts x t)
       (λ t. subst (λ r. is_given_back c (addr ∷ []) r ≡ true) (same_region x m t) gone.1)))
 
-  freed_is : (class : ℕ) (q : Part) → slab_of rest class q ≡ with_free addr (slab_of s.regions class q)
-  freed_is class q = ap (λ rs. slab_of rs class q) rest_is ∙ freed s.regions addr class q
+  freed_is : (class : ℕ) (q : Part) → booked_slab rest class q ≡ with_free addr (booked_slab s.regions class q)
+  freed_is class q = ap (λ rs. booked_slab rs class q) rest_is ∙ freed s.regions addr class q
 
   -- a slab is unused where it is the extent that is emptied
-  unused : (class : ℕ) (q : Part) → class < 36 → Contains s.parts q → is_slab class s.regions q ≡ true → is_unused (with_free addr (slab_of s.regions class q)) ≡ (begins_at p.span.first q && is_left rest p)
+  unused : (class : ℕ) (q : Part) → class < 36 → Contains s.parts q → is_slab class s.regions q ≡ true → is_all_free (with_free addr (booked_slab s.regions class q)) ≡ (begins_at p.span.first q && is_left rest p)
   unused class q low at slab =
       let active = (slab_at s class q sound low at slab).active in
       let emptied : is_left rest q ≡ is_emptied rest q = sym (ap (λ b. b && is_left rest q) active) in
-      ap is_unused (sym (freed_is class q)) ∙ unused_is s class q sound low at slab rest sub ∙ emptied
+      ap is_all_free (sym (freed_is class q)) ∙ unused_is s class q sound low at slab rest sub ∙ emptied
       ∙ All-contains (λ x. is_emptied rest x ≡ (begins_at p.span.first x && is_left rest p)) s.parts q e.each at
 
   -- where the region's class is small, its extent is a slab
   own_slab : is_slab e.region.class s.regions p ≡ true
   own_slab = any_has (λ r. eqb r.class e.region.class && houses p r) s.regions e.region gone.0 (rw (eqb_itself e.region.class, e.home) refl)
 
-  last_small : e.region.class < 36 → list_any is_unused (map (with_free addr) slabs) ≡ is_left rest p
+  last_small : e.region.class < 36 → list_any is_all_free (map (with_free addr) slabs) ≡ is_left rest p
   last_small low = both_ways _ _
       (λ t.
-      let y = any_from is_unused (map (with_free addr) slabs) t in
+      let y = any_from is_all_free (map (with_free addr) slabs) t in
       let x = map_from (with_free addr) slabs y.0 y.1 in
       let at = stands_at s slabs book x.0 x.1 in
-      let is : is_unused (with_free addr (slab_of s.regions x.0.class at.extent)) ≡ true = ap (λ z. is_unused (with_free addr z)) at.is ∙ ap is_unused x.2 ∙ y.2 in
+      let is : is_all_free (with_free addr (booked_slab s.regions x.0.class at.extent)) ≡ true = ap (λ z. is_all_free (with_free addr z)) at.is ∙ ap is_all_free x.2 ∙ y.2 in
       (both_true (begins_at p.span.first at.extent) (is_left rest p) (sym (unused x.0.class at.extent at.low at.there at.slab) ∙ is)).1)
-      (λ t. any_map (with_free addr) is_unused slabs ∙ book_any s slabs book (λ z. is_unused (with_free addr z)) e.region.class p low home own_slab
+      (λ t. any_map (with_free addr) is_all_free slabs ∙ book_any s slabs book (λ z. is_all_free (with_free addr z)) e.region.class p low home own_slab
       (unused e.region.class p low home own_slab ∙ rw (eqb_itself p.span.first, t) refl))
 
   -- a large region is alone in its extent
@@ -203,7 +203,7 @@ module _ (c addr : ℕ) (s : Space) (p : Part) (slabs : List Slab) (sound : Soun
       (book_any s slabs book (is_out e.region.class addr) e.region.class p small home own_slab (rw (eqb_itself e.region.class, among, taken) refl))
 
   -- what is a slab then: one with a region left
-  one_slab : (class : ℕ) (q : Part) → class < 36 → Contains s.parts q → is_slab class rest q ≡ (is_slab class s.regions q && not (is_unused (slab_of rest class q)))
+  one_slab : (class : ℕ) (q : Part) → class < 36 → Contains s.parts q → is_slab class rest q ≡ (is_slab class s.regions q && not (is_all_free (booked_slab rest class q)))
   one_slab class q low at = elim (cases_Bool (is_slab class s.regions q)) [
     | inl t ↦ grind (arith, t, still_slab s class q sound low at t rest sub, unused_is s class q sound low at t rest sub)
     | inr f ↦
@@ -212,7 +212,7 @@ module _ (c addr : ℕ) (s : Space) (p : Part) (slabs : List Slab) (sound : Soun
         let u = any_has (λ r. eqb r.class class && houses q r) s.regions x.0 (sub x.0 x.1) x.2 in
         let no : true ≡ false = sym u ∙ f in
         cc) in
-        none ∙ ap (λ b. b && not (is_unused (slab_of rest class q))) (sym f)
+        none ∙ ap (λ b. b && not (is_all_free (booked_slab rest class q))) (sym f)
   ]
 
   abbrev after : Space
@@ -228,25 +228,25 @@ module _ (c addr : ℕ) (s : Space) (p : Part) (slabs : List Slab) (sound : Soun
       ∙ kept_exchanged (is_slab class rest) (begins_at p.span.first) s.parts (taken_out c p ∷ []) (ap (filter (is_slab class rest)) e.alone ∙ rw slab refl)
       (All-cons (λ q. is_slab class rest q ≡ false) (taken_out c p) [] (idle_no_slab class rest (taken_out c p) refl) (All-nil (λ q. is_slab class rest q ≡ false)))
 
-  abbrev keep : Slab → Bool
-  keep x = not (is_unused x)
+  abbrev keep : BinSlab → Bool
+  keep x = not (is_all_free x)
 
   returned : IsBooked after (filter keep (map (with_free addr) slabs))
   returned = record {
     small = All-filter keep (λ x. x.class < 36) (map (with_free addr) slabs) (All-map (λ x. x.class < 36) (with_free addr) slabs book.small);
     booked = λ class low.
         let slab = is_slab class s.regions in
-        let left = λ (q : Part). keep (slab_of rest class q) in
+        let left = λ (q : Part). keep (booked_slab rest class q) in
         let here = filter_both slab left s.parts ∙ filter_same (λ q. slab q && left q) (is_slab class rest) s.parts (λ q m. sym (one_slab class q low m)) ∙ sym (parts_stay class (is_left rest p) refl) in
         filter_swap (λ x. eqb x.class class) keep (map (with_free addr) slabs)
         ∙ ap (filter keep) (filter_map_is (with_free addr) (λ x. eqb x.class class) slabs ∙ ap (map (with_free addr)) (book.booked class low)
-        ∙ sym (map_both (slab_of s.regions class) (with_free addr) (slab_of rest class) (slabs_of class s) (λ q m. freed_is class q)))
-        ∙ filter_map_is (slab_of rest class) keep (slabs_of class s)
-        ∙ ap (map (slab_of rest class)) (sym (order_stays left (filter slab s.parts)) ∙ ap (turned_in_order (λ q. q)) here);
+        ∙ sym (map_both (booked_slab s.regions class) (with_free addr) (booked_slab rest class) (slabs_of class s) (λ q m. freed_is class q)))
+        ∙ filter_map_is (booked_slab rest class) keep (slabs_of class s)
+        ∙ ap (map (booked_slab rest class)) (sym (order_stays left (filter slab s.parts)) ∙ ap (turned_in_order (λ q. q)) here);
   }
 
   -- a large region is at no place of a slab
-  free_stays : (class : ℕ) (q : Part) → 36 ≤ e.region.class → class < 36 → Contains s.parts q → SlabAt class s.regions q → slab_of rest class q ≡ slab_of s.regions class q
+  free_stays : (class : ℕ) (q : Part) → 36 ≤ e.region.class → class < 36 → Contains s.parts q → SlabAt class s.regions q → booked_slab rest class q ≡ booked_slab s.regions class q
   free_stays class q big low at slab = λ k. record {
     class = class;
     first = q.span.first;
@@ -262,11 +262,11 @@ module _ (c addr : ℕ) (s : Space) (p : Part) (slabs : List Slab) (sound : Soun
 
   same_large : 36 ≤ e.region.class → filter keep (map (with_free addr) slabs) ≡ slabs
   same_large big =
-      let stays : (x : Slab) → Contains slabs x → with_free addr x ≡ x = λ x m.
+      let stays : (x : BinSlab) → Contains slabs x → with_free addr x ≡ x = λ x m.
       let at = stands_at s slabs book x m in
       let slab = slab_at s x.class at.extent sound at.low at.there at.slab in
       ap (with_free addr) (sym at.is) ∙ sym (freed_is x.class at.extent) ∙ free_stays x.class at.extent big at.low at.there slab ∙ at.is in
-      let used : (x : Slab) → Contains slabs x → keep (with_free addr x) ≡ true = λ x m.
+      let used : (x : BinSlab) → Contains slabs x → keep (with_free addr x) ≡ true = λ x m.
       let at = stands_at s slabs book x m in
       let slab = slab_at s x.class at.extent sound at.low at.there at.slab in
       let other = false_from_ne_true _ (λ t.
@@ -285,14 +285,14 @@ module _ (c addr : ℕ) (s : Space) (p : Part) (slabs : List Slab) (sound : Soun
   ])
 
 -- What giving one region back of a class that was told comes to, by a book.
-pub record Returns (c addr : ℕ) (s : Space) (class : ℕ) (slabs : List Slab) : Type 0 where
+pub record Returns (c addr : ℕ) (s : Space) (class : ℕ) (slabs : List BinSlab) : Type 0 where
   pub extent : Part
   pub found : find (λ q. has_page (addr / 4096) q.span) s.parts ≡ Some extent
   pub out : class < 36 → list_any (is_out class addr) slabs ≡ true
   pub gives : Gives c addr s extent (is_last class addr slabs)
   pub booked : IsBooked (after_back s c (addr ∷ [])).after (slabs_returned class addr slabs)
 
-pub returns_one : (c addr : ℕ) (s : Space) (class : ℕ) (slabs : List Slab) → Sound s → holds_at c s.regions addr ≡ true → IsBooked s slabs → map (λ r. r.class) (filter (is_given_back c (addr ∷ [])) s.regions) ≡ class ∷ [] →
+pub returns_one : (c addr : ℕ) (s : Space) (class : ℕ) (slabs : List BinSlab) → Sound s → holds_at c s.regions addr ≡ true → IsBooked s slabs → map (λ r. r.class) (filter (is_given_back c (addr ∷ [])) s.regions) ≡ class ∷ [] →
     Returns c addr s class slabs
 returns_one c addr s class slabs sound held book told =
     let e = empties c addr s sound held in

@@ -1,5 +1,5 @@
 -- What searches find among extents that are apart.
-use Rattle.arena_core.proofs.Words.{◌≡◌, ℕ, ◌-◌, ◌≤◌, Bool, true, false, cond, List, [], ◌∷◌, get_or, find, filter, slice_get, Option, None, Some, IfSome, refl, sym, ◌∙◌, ap, subst, arith, All, ◌&&◌, eqb, nat_le, count_by, option_or, nat_tests, sum_by-cons, All-head, All-tail, Part, Span, IsPlaced, end_of, has_page, begins_at, is_flight, is_flight_at, fit, is_spare, is_left_of, is_like, is_right_of, filter-begins_at, some_pages, fit-listed, Book, IsFirstFrom, ends_at, is_beside, find_is, IsApart, IsThere, kept}
+use Rattle.arena_core.proofs.Words.{◌≡◌, ℕ, ◌-◌, ◌≤◌, Bool, true, false, cond, List, [], ◌∷◌, get_or, find, filter, slice_get, Option, None, Some, IfSome, refl, sym, ◌∙◌, ap, subst, arith, All, ◌&&◌, eqb, nat_le, count_by, option_or, nat_tests, sum_by-cons, All-head, All-tail, Part, Span, IsPlaced, end_of, has_page, begins_at, is_flight, is_flight_at, fit, is_spare, is_left_of, is_like, is_right_of, filter-begins_at, some_pages, fit-listed, Book, IsFirstFrom, ends_at, is_beside, find_is, IsApart, IsThere, found_if}
 use Rattle.space_model.specs.Part.{is_unused}
 use Rattle.list_facts.proofs.Members.{only_one}
 
@@ -53,7 +53,7 @@ nothing_found a t [] none = refl
 nothing_found a t (x ∷ xs) none = grind (arith, nothing_found a t xs, sum_by-cons (λ y. cond (t y) 1 0) x xs)
 
 -- where at most one extent passes a test, what passes both is that one, if it passes the other
-pub only_find : (a t : Part → Bool) (xs : List Part) → count_by t xs ≤ 1 → find (λ x. a x && t x) xs ≡ kept a (find t xs)
+pub only_find : (a t : Part → Bool) (xs : List Part) → count_by t xs ≤ 1 → find (λ x. a x && t x) xs ≡ found_if a (find t xs)
 only_find a t [] once = refl
 only_find a t (x ∷ xs) once = grind (arith, nothing_found a t xs, only_find a t xs, sum_by-cons (λ y. cond (t y) 1 0) x xs)
 
@@ -93,31 +93,31 @@ pub record Kept (got : Option Part) (both : Part → Bool) (now : Book) : Type 0
 
 -- it is the only one that the first test can find
 kept_inside : {b now : Book} {near got : Option Part} (a t both : Part → Bool) → b ≡ now → IsApart b.parts → count_by t b.parts ≤ 1 → ((p : Part) → (a p && t p) ≡ both p) →
-    near ≡ find t b.parts → got ≡ kept a near → Kept got both now
+    near ≡ find t b.parts → got ≡ found_if a near → Kept got both now
 kept_inside {b} {now} {near} {got} a t both view apart once same near_is got_is =
-    let found : got ≡ find both b.parts = got_is ∙ ap (kept a) near_is ∙ sym (only_find a t b.parts once) ∙ (λ i. find (λ p. same p i) b.parts) in
+    let found : got ≡ find both b.parts = got_is ∙ ap (found_if a) near_is ∙ sym (only_find a t b.parts once) ∙ (λ i. find (λ p. same p i) b.parts) in
     record { found = found ∙ ap (λ (x : Book). find both x.parts) view; there = found_inside both view apart found }
 
 -- a client's extent in flight is the one at its first page, if that is the client's and as long
 pub flight_inside : {b now : Book} {near got : Option Part} (client : ℕ) (s : Span) → b ≡ now → IsApart b.parts → near ≡ find (begins_at s.first) b.parts →
-    got ≡ kept (λ p. is_flight client p.state && eqb p.span.pages s.pages) near → Kept got (is_flight_at client s) now
+    got ≡ found_if (λ p. is_flight client p.state && eqb p.span.pages s.pages) near → Kept got (is_flight_at client s) now
 flight_inside {b} client s view apart =
     kept_inside (λ p. is_flight client p.state && eqb p.span.pages s.pages) (begins_at s.first) (is_flight_at client s) view apart (begins_once s.first b.parts apart)
     (λ p. grind arith)
 
 -- the unused extent that begins at a page is the one that begins there, if it is unused and has so many pages
 pub spare_inside : {b now : Book} {near got : Option Part} (page pages : ℕ) → b ≡ now → IsApart b.parts → near ≡ find (begins_at page) b.parts →
-    got ≡ kept (λ p. is_unused p.state && nat_le pages p.span.pages) near → Kept got (is_spare page pages) now
+    got ≡ found_if (λ p. is_unused p.state && nat_le pages p.span.pages) near → Kept got (is_spare page pages) now
 spare_inside {b} page pages view apart =
     kept_inside (λ p. is_unused p.state && nat_le pages p.span.pages) (begins_at page) (is_spare page pages) view apart (begins_once page b.parts apart) (λ p. grind arith)
 
 -- a neighbour that a merge may join is the extent beside, if it is alike
 pub right_inside : {b now : Book} {near got : Option Part} (p : Part) → b ≡ now → IsApart b.parts → near ≡ find (is_beside p.span true) b.parts →
-    got ≡ kept (is_like p) near → Kept got (is_right_of p) now
+    got ≡ found_if (is_like p) near → Kept got (is_right_of p) now
 right_inside {b} p view apart =
     kept_inside (is_like p) (is_beside p.span true) (is_right_of p) view apart (begins_once (end_of p.span) b.parts apart) (λ q. refl)
 
 pub left_inside : {b now : Book} {near got : Option Part} (p : Part) → b ≡ now → IsApart b.parts → near ≡ find (is_beside p.span false) b.parts →
-    got ≡ kept (is_like p) near → Kept got (is_left_of p) now
+    got ≡ found_if (is_like p) near → Kept got (is_left_of p) now
 left_inside {b} p view apart =
     kept_inside (is_like p) (is_beside p.span false) (is_left_of p) view apart (ends_once p.span.first b.parts apart) (λ q. refl)

@@ -1,5 +1,5 @@
 -- A large region that takes another class: its extent is the one that begins at its address, and the slabs stay.
-use Rattle.arena_core.proofs.Words.{◌≡◌, ℕ, ◌*◌, ◌/◌, ◌<◌, ◌≤◌, ◌==◌, Bool, true, false, not, cond, IsTrue, List, [], ◌∷◌, get_or, find, filter, Option, None, Some, refl, sym, ◌∙◌, ap, subst, arith, ◌&&◌, ◌||◌, nat_le, ◌+◌, All, Contains, take, drop, eqb, nat_lt, count_by, list_any, position_or_len, sum_by, IsSome, option_map, eqb-true, leb-true, ltb-true, nat_tests, sum_by-filter_both, sum_by-cons, sum_by-insert, pages_at, size_at, large_size, size_bounds, Ask, Split, Merge, Answer, Done, Refuses, Refused, Span, Part, Region, Space, IsPlaced, same_span, end_of, begins_at, is_active, exchanged, is_flight_at, taken_out, houses, inserted, is_held_by, starts_at, address_of, is_slab, lies_in, region_bytes, has_large, is_large_at, large_home, reclassed, trim_answered, trim_done_stands, trimmed_at, after_join, after_trim_done, is_large_class, join_stands, widened_at, holds_at, is_given_back, staying, found_passes, Sound, nothing_sum, only_one, both_true, two_left, home_found, housed, All-cons, All-contains_itself, All-nil, Contains-append_right, is_in, without_client, one_left, filter_nothing, find_has, find_passes, eqb_itself, lies_between, Slab, filter_same, head, slab_of, IsBooked, places}
+use Rattle.arena_core.proofs.Words.{◌≡◌, ℕ, ◌*◌, ◌/◌, ◌<◌, ◌≤◌, ◌==◌, Bool, true, false, not, cond, IsTrue, List, [], ◌∷◌, get_or, find, filter, Option, None, Some, refl, sym, ◌∙◌, ap, subst, arith, ◌&&◌, ◌||◌, nat_le, ◌+◌, All, Contains, take, drop, eqb, nat_lt, count_by, list_any, position_or_len, sum_by, IsSome, option_map, eqb-true, leb-true, ltb-true, nat_tests, sum_by-filter_both, sum_by-cons, sum_by-insert, pages_at, size_at, large_size, size_bounds, Ask, Split, Merge, Answer, Done, Refuses, Refused, Span, Part, Region, Space, IsPlaced, same_span, end_of, begins_at, is_active, exchanged, is_flight_at, taken_out, houses, inserted, is_held_by, starts_at, address_of, is_slab, lies_in, region_bytes, has_large, is_large_at, large_home, reclassed, trim_answered, trim_done_stands, trimmed_at, after_join, after_trim_done, is_large_class, join_stands, widened_at, holds_at, is_given_back, staying, found_passes, Sound, nothing_sum, only_one, both_true, two_left, home_found, housed, All-cons, All-contains_itself, All-nil, Contains-append_right, is_in, without_client, one_left, filter_nothing, find_has, find_passes, eqb_itself, lies_between, BinSlab, filter_same, head, booked_slab, IsBooked, places}
 use Rattle.space_model.specs.Stepped.{begins_either, high_piece, is_yes_or_no, joined, low_piece}
 use Rattle.space_model.proofs.Lists.{find_passes}
 use Rattle.arena_core.proofs.Emptying.{any_counts, begins_alone, ones}
@@ -158,7 +158,7 @@ record Resized (s t : Space) (test : Region → Bool) (r : Region) (p new : Part
   start : r.addr ≡ address_of new.span.first
   pages : new.span.pages ≡ pages_at class
 
-resized_booked : {s t : Space} {test : Region → Bool} {r : Region} {p new : Part} {class : ℕ} {gone : Part → Bool} {others more : List Part} (slabs : List Slab) → Resized s t test r p new class gone others more →
+resized_booked : {s t : Space} {test : Region → Bool} {r : Region} {p new : Part} {class : ℕ} {gone : Part → Bool} {others more : List Part} (slabs : List BinSlab) → Resized s t test r p new class gone others more →
     IsBooked s slabs → IsBooked t slabs
 resized_booked {s} {t} {test} {r} {p} {new} {class} {gone} {others} {more} slabs x book = record { small = book.small; booked = λ k low. class_stays s t slabs k (parts k low) (λ q m slab. same k q) (book.booked k low) }
   where
@@ -185,7 +185,7 @@ resized_booked {s} {t} {test} {r} {p} {new} {class} {gone} {others} {more} slabs
         other k class h low big = grind (arith, nat_tests)
 
     -- a region begins where one did
-    same : (k : ℕ) (q : Part) → slab_of t.regions k q ≡ slab_of s.regions k q
+    same : (k : ℕ) (q : Part) → booked_slab t.regions k q ≡ booked_slab s.regions k q
     same k q = λ i. record {
       class = k;
       first = q.span.first;
@@ -232,7 +232,7 @@ home_first c addr s span home e h =
     let passes : same_span home.1.span span ≡ true = subst (λ o. found_passes (λ p. same_span p.span span) (option_map (λ x. x.1) o) ≡ true) e h in
     eqb-true _ _ (both_true (eqb home.1.span.first span.first) _ passes).0
 
-join_by : (c : ℕ) (s : Space) (class : ℕ) (low high : Span) (o : Option (Region × Part)) (u : Option Part) (slabs : List Slab) → large_home s c (address_of low.first) ≡ o →
+join_by : (c : ℕ) (s : Space) (class : ℕ) (low high : Span) (o : Option (Region × Part)) (u : Option Part) (slabs : List BinSlab) → large_home s c (address_of low.first) ≡ o →
     find (is_flight_at c high) s.parts ≡ u → Sound s → Sound (widened_at s class o u).after → join_stands s c class (Merge low high) Done ≡ true → IsBooked s slabs →
     IsBooked (widened_at s class o u).after slabs
 join_by c s class low high None u slabs e f sound also stands are = are
@@ -270,14 +270,14 @@ join_by c s class low high (Some home) (Some q) slabs e f sound also stands are 
       pages = omega (arith, pages, to.pages, whole);
     }) are
 
-pub join_step : (c : ℕ) (s : Space) (class : ℕ) (ask : Ask) (answer : Answer) (slabs : List Slab) → Sound s → Sound (after_join s c class ask answer).after → join_stands s c class ask answer ≡ true →
+pub join_step : (c : ℕ) (s : Space) (class : ℕ) (ask : Ask) (answer : Answer) (slabs : List BinSlab) → Sound s → Sound (after_join s c class ask answer).after → join_stands s c class ask answer ≡ true →
     IsBooked s slabs → IsBooked (after_join s c class ask answer).after slabs
 join_step c s class (Merge low high) Done slabs sound also stands are =
     join_by c s class low high (large_home s c (address_of low.first)) (find (is_flight_at c high) s.parts) slabs refl refl sound also stands are
 join_step c s class (Merge low high) Refused slabs sound also stands are = still_booked s _ slabs are (whole_still s c high (find (is_flight_at c high) s.parts) refl sound)
 join_step c s class ask answer slabs sound also stands are = are
 
-trim_by : (c : ℕ) (s : Space) (class : ℕ) (span : Span) (left : ℕ) (o : Option (Region × Part)) (slabs : List Slab) → large_home s c (address_of span.first) ≡ o → Sound s →
+trim_by : (c : ℕ) (s : Space) (class : ℕ) (span : Span) (left : ℕ) (o : Option (Region × Part)) (slabs : List BinSlab) → large_home s c (address_of span.first) ≡ o → Sound s →
     Sound (trimmed_at (record s { trims = without_client c s.trims }) c left class o).after → trim_done_stands s c class (Split span left) Done ≡ true → IsBooked s slabs →
     IsBooked (trimmed_at (record s { trims = without_client c s.trims }) c left class o).after slabs
 trim_by c s class span left None slabs e sound also stands are = still_booked s _ slabs are (still s _ refl refl)
@@ -309,7 +309,7 @@ trim_by c s class span left (Some home) slabs e sound also stands are =
       pages = eqb-true _ _ t3.1;
     }) are
 
-pub trim_step : (c : ℕ) (s : Space) (class : ℕ) (ask : Ask) (answer : Answer) (slabs : List Slab) → Sound s → Sound (after_trim_done s c class ask answer).after → trim_done_stands s c class ask answer ≡ true →
+pub trim_step : (c : ℕ) (s : Space) (class : ℕ) (ask : Ask) (answer : Answer) (slabs : List BinSlab) → Sound s → Sound (after_trim_done s c class ask answer).after → trim_done_stands s c class ask answer ≡ true →
     IsBooked s slabs → IsBooked (after_trim_done s c class ask answer).after slabs
 trim_step c s class (Split span left) Done slabs sound also stands are =
     trim_by c s class span left (large_home s c (address_of span.first)) slabs refl sound also stands are

@@ -1,5 +1,5 @@
 -- The sum of all rooms where one of them changes.
-use Rattle.arena_core.proofs.Words.{◌≡◌, ℕ, ◌+◌, ◌<◌, ◌≤◌, false, List, length, slice_set, refl, sym, subst, arith, sum_by-set, Op, Back, Space, Body, all_rooms, emptied_by, is_return, room_of, Indexes, HasPlaces}
+use Rattle.arena_core.proofs.Words.{◌≡◌, ℕ, ◌+◌, ◌<◌, ◌≤◌, false, List, length, slice_set, refl, sym, subst, arith, sum_by-set, Op, Back, Space, Body, all_rooms, emptied_by_op, is_return, room_of, Indexes, HasPlaces}
 
 -- the sum with a client's new room, and its old one
 pub rooms_with : (rooms : List ℕ) (client room : ℕ) → client < length rooms → all_rooms (slice_set rooms client room) + room_of client rooms ≡ all_rooms rooms + room
@@ -22,6 +22,6 @@ pub places_kept : {i j : Indexes} → ((n : ℕ) → HasPlaces i n → HasPlaces
 places_kept {i} keeps n h = keeps n (places_fewer i n (n + 1) (omega arith) h)
 
 -- an operation that is no return empties nothing
-pub empties_nothing : (client : ℕ) (op : Op) (s : Space) → is_return op ≡ false → emptied_by client op s ≡ 0
+pub empties_nothing : (client : ℕ) (op : Op) (s : Space) → is_return op ≡ false → emptied_by_op client op s ≡ 0
 empties_nothing client (Back addrs) s other = absurd (cc)
 empties_nothing client op s other = refl

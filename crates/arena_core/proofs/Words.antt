@@ -14,7 +14,7 @@ pub use Rattle.std.proofs.lemmas.List.FromFn.{length-range_with_len, length-map-
 pub use Rattle.std.proofs.lemmas.List.Sums.{sum_by-cons, sum_by-le-sum_by, length-filter, sum_by-insert, sum_by-set, get_or-le-sum_by, sum_by-append, sum_by_push}
 pub use Rattle.std.proofs.lemmas.Nat.{row_fits}
 pub use Rattle.bin_book.proofs.Places.{same_place}
-pub use Rattle.bin_book.specs.Bins.{place, Slab, meets_slab, of_class, slab_with_out, with_slab, without, is_among, is_unused, is_out, with_free, free_of}
+pub use Rattle.bin_book.specs.Bins.{place, BinSlab, meets_slab, of_class, slab_with_out, with_slab, with_regions_out, is_among, is_all_free, is_out, with_free, free_of}
 pub use Rattle.list_facts.proofs.Members.{any_has, any_map, any_none, filter_map_is, filter_same, map_has, range_from, range_has, any_from, count_some, filter_swap, map_from, map_same, any_false, bit, filter_both, head, map_both, filter_all_of, filter_none_of, find_is}
 pub use Rattle.ordered_set.proofs.Members.{filter_from, filter_has, contains_later, contains_cases}
 pub use Rattle.ordered_set.proofs.Sorted.{filter_none, every_filter, every_map, filter_all}
@@ -82,9 +82,10 @@ pub use Rattle.space_model.specs.declared.spaces.Life.TheVariants.{Live, Absent,
 pub use Rattle.space_model.specs.declared.spaces.Space.{Space}
 pub use mathlib.Core.Logic.{dite}
 pub use native.Mathlib.Decide.{ℕ_discrete}
-pub use Rattle.arena_core.specs.Arenas.{all_rooms, Standing, emptied_by, given_by, is_return, opens, IsBody, entry_of, room_after, room_of, rooms_after, standing_of}
-pub use Rattle.arena_core.specs.Booked.{LandsTakeTheFirst, slab_of, AreBooked, BooksStayWhereHoldersChange, BooksStayWhileExtentsDo, FillsTakeTheLowest, ReturnsAreFree, filled, OrderGrows, OrderStays}
-pub use Rattle.arena_core.specs.Extents.{IsApart, IsThere, kept, active_pages, all_pages, goes_to}
+pub use Rattle.arena_core.specs.Arenas.{all_rooms, Standing, emptied_by_op, given_by, is_return, opens, IsBody, entry_of, room_after, room_of, rooms_after, standing_of}
+pub use Rattle.arena_core.specs.Booked.{LandsTakeTheFirst, booked_slab, AreBooked, BooksStayWhereHoldersChange, BooksStayWhileExtentsDo, FillsTakeTheLowest, ReturnsAreFree, filled, OrderGrows, OrderStays}
+pub use Rattle.part_book.specs.Rows.{IsApart}
+pub use Rattle.arena_core.specs.Extents.{IsThere, found_if, active_pages, all_pages, goes_to}
 pub use Rattle.arena_core.specs.Indexes.{HasPlaces, space_of}
 pub use Rattle.arena_core.specs.Slabs.{IsBooked, CanFollow, slabs_begun, slabs_filled, slabs_followed, slabs_left, slabs_taken, NothingIsBooked}
 pub use Rattle.arena_core.specs.declared.indexes.Indexes.{Indexes}

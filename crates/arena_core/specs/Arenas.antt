@@ -48,13 +48,13 @@ is_return (Back addrs) = true
 is_return _ = false
 
 -- how many extents are emptied when the client gives regions back
-abbrev pub emptied : ℕ → List ℕ → Space → ℕ
-emptied client addrs s = length (filter (is_emptied (staying client addrs s.regions)) s.parts)
+abbrev pub emptied_by_return : ℕ → List ℕ → Space → ℕ
+emptied_by_return client addrs s = length (filter (is_emptied (staying client addrs s.regions)) s.parts)
 
 -- how many extents an operation empties: only a return does
-abbrev pub emptied_by : ℕ → Op → Space → ℕ
-emptied_by client (Back addrs) s = emptied client addrs s
-emptied_by client op s = 0
+abbrev pub emptied_by_op : ℕ → Op → Space → ℕ
+emptied_by_op client (Back addrs) s = emptied_by_return client addrs s
+emptied_by_op client op s = 0
 
 -- how many regions an operation gives back
 abbrev pub given_by : Op → ℕ
@@ -64,7 +64,7 @@ given_by op = 0
 -- a client's room after an operation: the first one of a unit makes room for 16 more, a return for 16 by each extent that
 -- it empties, and any other operation uses one up
 abbrev pub room_after : Space → ℕ → ℕ → Op → ℕ
-room_after s room client op = if opens op then max (max room 16) (16 * emptied_by client op s) else room - 1
+room_after s room client op = if opens op then max (max room 16) (16 * emptied_by_op client op s) else room - 1
 
 -- the rooms after an operation: that of the client alone changes
 abbrev pub rooms_after : Standing → ℕ → Op → List ℕ

@@ -1,13 +1,13 @@
 -- The extents of an arena with sums of their pages.
-use Rattle.std.specs.Prelude.{◌≡◌, ℕ, ◌≤◌, Bool, not, List, Option, None, Some, All, find, if◌then◌else◌}
+use Rattle.std.specs.Prelude.{◌≡◌, ℕ, Bool, not, List, Option, None, Some, find, if◌then◌else◌}
 use Rattle.std.specs.List.{sum_by}
 use Rattle.part_book.specs.Books.{Book}
+use Rattle.part_book.specs.Rows.{IsApart}
 use Rattle.space_model.specs.declared.parts.Part.{Part}
 use Rattle.space_model.specs.declared.parts.Rest.{Rest}
 use Rattle.space_model.specs.declared.parts.Rest.TheVariants.{Dirty}
 use Rattle.space_model.specs.declared.parts.State.{State}
-use Rattle.space_model.specs.Span.{IsPlaced}
-use Rattle.space_model.specs.Part.{begins_at, holders, is_active, is_listed}
+use Rattle.space_model.specs.Part.{begins_at, is_active, is_listed}
 use Rattle.arena_core.specs.declared.extents.Extents.TheInside.{Inside}
 
 -- the pages of the extents
@@ -23,20 +23,15 @@ abbrev pub IsThere : List Part → Part → Type 0
 IsThere parts p = find (begins_at p.span.first) parts ≡ Some p
 
 -- what was found, where it passes a test
-abbrev pub kept : (Part → Bool) → Option Part → Option Part
-kept test None = None
-kept test (Some p) = if test p then Some p else None
+abbrev pub found_if : (Part → Bool) → Option Part → Option Part
+found_if test None = None
+found_if test (Some p) = if test p then Some p else None
 
 -- whether an extent in a state goes to a list when an arena is emptied into it: to the dirty ones what serves regions, to
 -- another list whatever isn't there
 abbrev pub goes_to : Rest → State → Bool
 goes_to Dirty state = is_active state
 goes_to rest state = not (is_listed rest state)
-
--- each extent lies in the space, and no page is in two
-pub record IsApart (parts : List Part) : Type 0 where
-  pub placed : All (λ p. IsPlaced p.span) parts
-  pub owners : (page : ℕ) → holders page parts ≤ 1
 
 -- callers see the book of the extents
 abbrev pub shown : Inside → Book

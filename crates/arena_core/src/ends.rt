@@ -4,7 +4,8 @@ ghost use Rattle.std.specs.Prelude.{◌≡◌, ◌<◌, ◌≤◌, ℕ, IsTrue, 
 ghost use Rattle.space_model.specs.Part.{begins_at, exchanged, moved_to, turned};
 ghost use Rattle.space_model.specs.Ending.{after_destroy, after_destroy_take, after_reset, emptied, ended, flight_count, held_count, reset_stands};
 ghost use Rattle.space_model.specs.Sound.{Sound};
-ghost use Rattle.arena_core.specs.Extents.{IsApart, IsThere, goes_to};
+ghost use Rattle.part_book.specs.Rows.{IsApart};
+ghost use Rattle.arena_core.specs.Extents.{IsThere, goes_to};
 ghost use Rattle.arena_core.specs.Indexes.{HasPlaces, space_of};
 ghost use Rattle.arena_core.specs.Slabs.{IsBooked, slabs_left};
 

@@ -9,7 +9,8 @@ ghost use Rattle.space_model.specs.Purging.{count_listed};
 ghost use Rattle.space_model.specs.Resizing.{is_spare};
 ghost use Rattle.space_model.specs.Step.{begins_either, high_piece, is_left_of, is_like, is_right_of, joined, low_piece, neighbour, next_flight};
 ghost use Rattle.part_book.specs.Books.{AreBeside, IsFirstFrom, pages_of};
-ghost use Rattle.arena_core.specs.Extents.{IsApart, IsThere, active_pages, all_pages, kept};
+ghost use Rattle.part_book.specs.Rows.{IsApart};
+ghost use Rattle.arena_core.specs.Extents.{IsThere, active_pages, all_pages, found_if};
 
 use part_book::PartBook;
 use space_model::{Part, Rest, Span, State};
@@ -331,7 +332,7 @@ fn active_after(active: u64, part: &Part, state: State) -> u64
 
 /// What was found, where it is the client's extent in flight and has so many pages.
 fn flight_of(client: u32, pages: u64, found: Option<Part>) -> Option<Part>
-    ensures { result ≡ kept (λ p. is_flight client p.state && p.span.pages == pages) found }
+    ensures { result ≡ found_if (λ p. is_flight client p.state && p.span.pages == pages) found }
 {
     let part = found?;
     if part.state.is_flight_of(client) && part.span.pages == pages {
@@ -343,7 +344,7 @@ fn flight_of(client: u32, pages: u64, found: Option<Part>) -> Option<Part>
 
 /// What was found, where it is unused and has so many pages.
 fn spare_of(pages: u64, found: Option<Part>) -> Option<Part>
-    ensures { result ≡ kept (λ p. is_unused p.state && nat_le pages p.span.pages) found }
+    ensures { result ≡ found_if (λ p. is_unused p.state && nat_le pages p.span.pages) found }
 {
     let part = found?;
     if part.state.is_unused() && pages <= part.span.pages {
@@ -355,7 +356,7 @@ fn spare_of(pages: u64, found: Option<Part>) -> Option<Part>
 
 /// What was found, where it is listed where an extent in flight belongs, and as committed.
 fn like(part: &Part, found: Option<Part>) -> Option<Part>
-    ensures { result ≡ kept (is_like part.now) found }
+    ensures { result ≡ found_if (is_like part.now) found }
 {
     let other = found?;
     if part.is_like(&other) {

@@ -10,7 +10,7 @@ ghost use Rattle.space_model.specs.Sound.{Sound};
 ghost use Rattle.space_model.specs.Journal.{Good};
 ghost use Rattle.space_model.specs.Own.{mine};
 ghost use Rattle.space_model.specs.Counts.{counts_of};
-ghost use Rattle.arena_core.specs.Arenas.{all_rooms, emptied_by, entry_of, given_by, opens, room_after, room_of, rooms_after};
+ghost use Rattle.arena_core.specs.Arenas.{all_rooms, emptied_by_op, entry_of, given_by, opens, room_after, room_of, rooms_after};
 
 mod ends;
 mod extents;
@@ -100,7 +100,7 @@ impl Arena {
         ensures room { OnOk result (room_of client self.new.rooms ≡ room_after self.old.space (room_of client self.old.rooms) client op.now) }
         ensures other_rooms { (other : ℕ) → other ≢ client → room_of other self.new.rooms ≡ room_of other self.old.rooms }
         ensures rooms { OnOk result (self.new.rooms ≡ rooms_after self.old client op.now) }
-        ensures few { OnOk result (emptied_by client op.now self.old.space ≤ given_by op.now) }
+        ensures few { OnOk result (emptied_by_op client op.now self.old.space ≤ given_by op.now) }
         ensures err { OnErr result (self.new ≡ self.old) }
         ensures sure { opens op.now ≡ false → IsOk result }
         ensures sound { Sound self.new.space }

@@ -3,7 +3,7 @@
 ghost use Rattle.std.specs.Prelude.{◌≡◌, ℕ, ◌+◌, ◌*◌, ◌<◌, ◌≤◌, ◌^◌, false, true, length, max, IsTrue, IsOk, IfOk, OnOk, OnErr, slice_set};
 ghost use Rattle.space_model.specs.Step.{op_stands, step_of};
 ghost use Rattle.space_model.specs.Sound.{Sound};
-ghost use Rattle.arena_core.specs.Arenas.{IsBody, all_rooms, emptied_by, given_by, is_return, opens, room_of, rooms_after, standing_of};
+ghost use Rattle.arena_core.specs.Arenas.{IsBody, all_rooms, emptied_by_op, given_by, is_return, opens, room_of, rooms_after, standing_of};
 ghost use Rattle.arena_core.specs.Indexes.{HasPlaces, space_of};
 ghost use Rattle.arena_core.specs.Slabs.{CanFollow, IsBooked, slabs_begun, slabs_followed};
 
@@ -129,7 +129,7 @@ fn give_back(body: &mut Body, client: u32, addrs: &Addresses) -> Result<Reply, N
     ensures after { OnOk result (space_of body.new.indexes ≡ (step_of (space_of body.old.indexes) client (Op.Back addrs.now)).after) }
     ensures reply { IfOk result (λ told. told ≡ (step_of (space_of body.old.indexes) client (Op.Back addrs.now)).reply) }
     ensures rooms { OnOk result (body.new.rooms ≡ rooms_after (standing_of body.old) client (Op.Back addrs.now)) }
-    ensures few { OnOk result (emptied_by client (Op.Back addrs.now) (space_of body.old.indexes) ≤ length addrs.now) }
+    ensures few { OnOk result (emptied_by_op client (Op.Back addrs.now) (space_of body.old.indexes) ≤ length addrs.now) }
     ensures err { OnErr result (standing_of body.new ≡ standing_of body.old) }
     ensures places { HasPlaces body.new.indexes (all_rooms body.new.rooms) }
     ensures booked { IsBooked (space_of body.new.indexes) body.new.indexes.regions.slabs }
@@ -203,7 +203,7 @@ pub fn step(body: &mut Body, client: u32, op: &Op) -> Result<Reply, NoMemory>
     ensures reply { IfOk result (λ told. told ≡ (step_of (space_of body.old.indexes) client op.now).reply) }
     ensures rooms { OnOk result (body.new.rooms ≡ rooms_after (standing_of body.old) client op.now) }
     ensures err { OnErr result (standing_of body.new ≡ standing_of body.old) }
-    ensures few { OnOk result (emptied_by client op.now (space_of body.old.indexes) ≤ given_by op.now) }
+    ensures few { OnOk result (emptied_by_op client op.now (space_of body.old.indexes) ≤ given_by op.now) }
     ensures sure { opens op.now ≡ false → IsOk result }
     ensures places { HasPlaces body.new.indexes (all_rooms body.new.rooms) }
     ensures booked { IsBooked (space_of body.new.indexes) body.new.indexes.regions.slabs }

@@ -1,5 +1,5 @@
 -- A slab comes, or goes.
-use Rattle.bin_book.proofs.Words.{Some, None, ◌≡◌, ◌≢◌, ℕ, ◌+◌, ◌-◌, ◌*◌, ◌^◌, ◌<◌, ◌≤◌, Bool, false, eqb, ltb, List, [], ◌∷◌, ◌++◌, length, length-set, map, filter, find, get_or, set, count_by, ◌⊎◌, inl, inr, refl, sym, ap, ◌∙◌, subst, arith, Contains, vec_len, vec_capacity, zero, slice_get, list_any, range_with_len, cases_eq, cases_lt, eq-eqb, get_or-set_at, nat_tests, get_or-set_other, get_or-set_same, length-map, map-append, Contains-append_left, Contains-push, Contains-push_cases, length-range_with_len, count_by-le-length, sum_by-append, sum_by-cons, pages_at, regions_at, size_at, pages_bounds, size_bounds, slab_filled, Region, landing, region_of, regions_from, starts_at, AreFreeFrom, Bits, Key, IsAscending, is_above, is_below, is_from, key_cmp, with_key, without_key, length_with, length_without, key_tie, key_total, every_from, filter_from, with_from, with_keeps, with_self, without_from, without_keeps, absent, others_is, parts, present, Chart, Table, addr_of, meets_slab, place, slab_with_out, with_slab, HasPage, holder_at, AreCounts, AreFree, IsBinned, IsCharted, IsKept, IsSlabIn, IsTable, bin_key, bin_of, bits_at, left_of, ones, region_at, regions_in, regions_of, slab_at, slab_of, slabs_in, slabs_without, count_none, any_false, bit, count_map, count_same, count_some, filter_map_is, filter_same, map_from, map_has, map_same, range_from, range_has, AreNew, not_found, same_members, get_or_from_slice_get, slice_get_within}
+use Rattle.bin_book.proofs.Words.{Some, None, ◌≡◌, ◌≢◌, ℕ, ◌+◌, ◌-◌, ◌*◌, ◌^◌, ◌<◌, ◌≤◌, Bool, false, eqb, ltb, List, [], ◌∷◌, ◌++◌, length, length-set, map, filter, find, get_or, set, count_by, ◌⊎◌, inl, inr, refl, sym, ap, ◌∙◌, subst, arith, Contains, vec_len, vec_capacity, zero, slice_get, list_any, range_with_len, cases_eq, cases_lt, eq-eqb, get_or-set_at, nat_tests, get_or-set_other, get_or-set_same, length-map, map-append, Contains-append_left, Contains-push, Contains-push_cases, length-range_with_len, count_by-le-length, sum_by-append, sum_by-cons, pages_at, regions_at, size_at, pages_bounds, size_bounds, slab_filled, Region, landing, region_of, regions_from, starts_at, AreFreeFrom, Bits, Key, IsAscending, is_above, is_below, is_from, key_cmp, with_key, without_key, length_with, length_without, key_tie, key_total, every_from, filter_from, with_from, with_keeps, with_self, without_from, without_keeps, absent, others_is, parts, present, Chart, Table, addr_of, meets_slab, place, slab_with_out, with_slab, HasPage, holder_at, AreCounts, AreFreeSlots, IsBinned, IsCharted, AreSlabKeys, IsSlabIn, IsSlabTable, bin_key, bin_of, bits_at, left_of, ones, slab_region, regions_in, out_of_slabs, slab_at, slab_of, slabs_in, slabs_without, count_none, any_false, bit, count_map, count_same, count_some, filter_map_is, filter_same, map_from, map_has, map_same, range_from, range_has, AreNew, not_found, same_members, get_or_from_slice_get, slice_get_within}
 use Rattle.bin_book.proofs.Places.{length_ones, place_inside, run_ones, bits_here, bits_there, same_slab}
 use Rattle.bin_book.proofs.Taking.{small_numbers}
 use Rattle.bin_book.proofs.Regions.{out_from, out_has, regions_agree, regions_rise, from_rises, landed, landed_from, landed_new, landed_old}
@@ -62,7 +62,7 @@ counted_less ns class c low = grind (arith, nat_tests, get_or-set_at, get_or-set
 
 -- ---- a table with one more slab
 
-module _ (t : Table) (i : IsTable t) (class first number : ℕ) (bits : Bits) (is : bits.class ≡ class) (new : IsSlabIn bits first) (rest : List ℕ) (free : t.free.items ≡ rest ++ number ∷ []) (apart : list_any (meets_slab class first) (slabs_in t) ≡ false) where
+module _ (t : Table) (i : IsSlabTable t) (class first number : ℕ) (bits : Bits) (is : bits.class ≡ class) (new : IsSlabIn bits first) (rest : List ℕ) (free : t.free.items ≡ rest ++ number ∷ []) (apart : list_any (meets_slab class first) (slabs_in t) ≡ false) where
   abbrev slab : Key
   slab = record { major = first; minor = number }
 
@@ -117,7 +117,7 @@ module _ (t : Table) (i : IsTable t) (class first number : ℕ) (bits : Bits) (i
     | inr d ↦ subst (P k) (sym (bits_there t.slots.items number k.minor bits (other_number k d))) (others k d)
   ]
 
-  pub kept_added : IsKept slots keys
+  pub kept_added : AreSlabKeys slots keys
   kept_added = record {
     slab = by_new (λ k b. IsSlabIn b k.major) new (λ k m. i.kept.slab k m);
     apart = λ k l m n. by_new (λ k b. k.major ≤ l.major → (k ≡ l) ⊎ (k.major + pages_at b.class ≤ l.major))
@@ -163,7 +163,7 @@ module _ (t : Table) (i : IsTable t) (class first number : ℕ) (bits : Bits) (i
       let once = i.free.once n in
       omega arith
 
-  free_added : AreFree rest keys (vec_len t.slots)
+  free_added : AreFreeSlots rest keys (vec_len t.slots)
   free_added = record {
     in_slots = λ n m. i.free.in_slots n (subst (λ ns. Contains ns n) (sym free) (Contains-append_left rest (number ∷ []) n m));
     unused = λ n k m o f. grind (arith, nat_tests, with_from t.firsts.keys slab k o, count_some (λ x. eqb x n) rest n m (eq-eqb n n refl), count_rest n, i.free.unused n k (subst (λ ns. Contains ns n) (sym free) (Contains-append_left rest (number ∷ []) n m)), f);
@@ -186,7 +186,7 @@ module _ (t : Table) (i : IsTable t) (class first number : ℕ) (bits : Bits) (i
       omega (arith, counted_more t.counts class c (omega arith))
 
   pub table_added : (small : class < 36) → (u : Table) → u.firsts.keys ≡ keys → u.firsts.spare + 1 ≡ t.firsts.spare → IsAscending u.firsts.keys → u.slots.items ≡ slots → vec_len u.slots ≡ vec_len t.slots → u.free.items ≡ rest → vec_len u.free + 1 ≡ vec_len t.free → vec_capacity u.free ≡ vec_capacity t.free
-      → u.counts ≡ set t.counts class (get_or t.counts class 0 + 1) → IsCharted slots keys u.chart → vec_len u.chart.firsts ≡ vec_len t.chart.firsts → u.bins.keys ≡ with_key t.bins.keys (bin_key bits.class (eqb (left_of bits) 0) slab) → u.bins.spare + 1 ≡ t.bins.spare → vec_len u.holders.codes ≡ vec_len t.holders.codes → IsTable u
+      → u.counts ≡ set t.counts class (get_or t.counts class 0 + 1) → IsCharted slots keys u.chart → vec_len u.chart.firsts ≡ vec_len t.chart.firsts → u.bins.keys ≡ with_key t.bins.keys (bin_key bits.class (eqb (left_of bits) 0) slab) → u.bins.spare + 1 ≡ t.bins.spare → vec_len u.holders.codes ≡ vec_len t.holders.codes → IsSlabTable u
   unfolding slabs_in
   table_added small u firsts spare ascending items len free_items free_len cap counts charted chart_len bins bins_spare codes =
       let more = ap length firsts ∙ length_with t.firsts.keys slab i.ascending new_key in
@@ -229,7 +229,7 @@ module _ (t : Table) (i : IsTable t) (class first number : ℕ) (bits : Bits) (i
 
   -- the regions of the slab land among the others
   pub regions_added : (client count : ℕ) → count ≤ regions_at class → AreFreeFrom count bits → IsAscending keys → (codes : List ℕ) → ((n : ℕ) → n < count → holder_at codes (512 * number + n) ≡ Some client)
-      → ((p : ℕ) → (p < 512 * number) ⊎ (512 * number + count ≤ p) → holder_at codes p ≡ holder_at t.holders.codes.items p) → regions_of slots codes keys ≡ landing (regions_from client class (4096 * first) count) (regions_in t)
+      → ((p : ℕ) → (p < 512 * number) ⊎ (512 * number + count ≤ p) → holder_at codes p ≡ holder_at t.holders.codes.items p) → out_of_slabs slots codes keys ≡ landing (regions_from client class (4096 * first) count) (regions_in t)
   regions_added client count most run ascending codes here others =
       let small : class < 36 = subst (λ n. n < 36) is new.small in
       let size = (size_bounds class (omega arith)).0 in
@@ -241,8 +241,8 @@ module _ (t : Table) (i : IsTable t) (class first number : ℕ) (bits : Bits) (i
       let rising = regions_rise old was t.firsts.keys i.ascending i.kept in
       let mine = bits_here t.slots.items number number bits in_items refl in
       let class' = ap (λ (b : Bits). b.class) mine ∙ is in
-      let region : (n : ℕ) → n < count → region_at slots codes slab n ≡ made n = (λ n l x. record { addr = place (class' x) first n; class = class' x; holder = here n l x }) in
-      let theirs : regions_of slots codes t.firsts.keys ≡ regions_in t = regions_agree old slots was codes t.firsts.keys (λ k m. bits_there t.slots.items number k.minor bits (other_number k m)) (λ k n m low.
+      let region : (n : ℕ) → n < count → slab_region slots codes slab n ≡ made n = (λ n l x. record { addr = place (class' x) first n; class = class' x; holder = here n l x }) in
+      let theirs : out_of_slabs slots codes t.firsts.keys ≡ regions_in t = regions_agree old slots was codes t.firsts.keys (λ k m. bits_there t.slots.items number k.minor bits (other_number k m)) (λ k n m low.
       let few = (slab_filled (bits_at old k.minor).class (i.kept.slab k m).small).2 in
       let few' = (slab_filled class small).2 in
       let other = other_number k m in
@@ -260,7 +260,7 @@ module _ (t : Table) (i : IsTable t) (class first number : ℕ) (bits : Bits) (i
       let size' = (size_bounds b.class (omega arith)).0 in
       let at' : place b.class (o.0).major o.1 ≡ q.addr = ap (λ (x : Region). x.addr) o.2.is in
       elim (beside o.0 o.2.there) [ inl far ↦ omega arith | inr far ↦ omega arith ])) in
-      same_members addr_of (regions_of slots codes keys) (landing come (regions_in t)) (regions_rise slots codes keys ascending kept_added) (landed come (regions_in t) coming rising fresh).rising
+      same_members addr_of (out_of_slabs slots codes keys) (landing come (regions_in t)) (regions_rise slots codes keys ascending kept_added) (landed come (regions_in t) coming rising fresh).rising
       (λ r m.
       let p = out_from slots codes keys r m in
       let o = p.2 in
@@ -270,7 +270,7 @@ module _ (t : Table) (i : IsTable t) (class first number : ℕ) (bits : Bits) (i
             let low : p.1 < regions_at bits.class = subst (λ (b : Bits). p.1 < regions_at b.class) mine (subst (λ (z : Key). p.1 < regions_at (bits_at slots z.minor).class) e o.low) in
             let told = run p.1 in
             let l : p.1 < count = elim (cases_lt p.1 count) [ inl l ↦ l | inr g ↦ absurd (grind (arith, nat_tests)) ] in
-            let it : made p.1 ≡ r = sym (region p.1 l) ∙ ap (λ (z : Key). region_at slots codes z p.1) (sym e) ∙ o.is in
+            let it : made p.1 ≡ r = sym (region p.1 l) ∙ ap (λ (z : Key). slab_region slots codes z p.1) (sym e) ∙ o.is in
             landed_new come (regions_in t) coming rising fresh r (subst (Contains come) it (map_has made (range_with_len 0 count) p.1 (range_has 0 count p.1 (omega arith) (omega arith))))
         | inr d ↦ landed_old come (regions_in t) coming rising fresh r (subst (λ rs. Contains rs r) theirs (out_has slots codes t.firsts.keys r p.0 p.1 (record { there = d; low = o.low; out = o.out; is = o.is })))
       ])
@@ -289,7 +289,7 @@ module _ (t : Table) (i : IsTable t) (class first number : ℕ) (bits : Bits) (i
       ])
 
 -- how many slabs there are
-pub few_slabs : (t : Table) → IsTable t → (class : ℕ) → class < 36 → get_or t.counts class 0 < 2 ^ 32
+pub few_slabs : (t : Table) → IsSlabTable t → (class : ℕ) → class < 36 → get_or t.counts class 0 < 2 ^ 32
 unfolding slabs_in
 few_slabs t i class small =
     let most = count_by-le-length (λ s. eqb s.class class) (map (slab_at t.slots.items) t.firsts.keys) in
@@ -301,12 +301,12 @@ few_slabs t i class small =
 pub count_zero : (ns : List ℕ) (n : ℕ) → (Contains ns n → ⊥) → count_by (λ m. eqb m n) ns ≡ 0
 count_zero ns n none = count_none (λ m. eqb m n) ns (λ x m. grind (arith, nat_tests, none, m))
 
-module _ (t : Table) (i : IsTable t) (slab : Key) (there : Contains t.firsts.keys slab) where
+module _ (t : Table) (i : IsSlabTable t) (slab : Key) (there : Contains t.firsts.keys slab) where
   abbrev rest_keys : List Key
   rest_keys = without_key t.firsts.keys slab
 
   -- each other slab is as it was
-  pub kept_less : IsKept t.slots.items rest_keys
+  pub kept_less : AreSlabKeys t.slots.items rest_keys
   kept_less = record {
     slab = λ k m. i.kept.slab k (without_from t.firsts.keys slab k m).0;
     apart = λ k l m n. i.kept.apart k l (without_from t.firsts.keys slab k m).0 (without_from t.firsts.keys slab l n).0;
@@ -336,7 +336,7 @@ module _ (t : Table) (i : IsTable t) (slab : Key) (there : Contains t.firsts.key
         (h.0, record { there = without_keeps t.firsts.keys slab h.0 h.1.there gone; at = h.1.at; has = h.1.has });
   }
 
-  free_more : AreFree (t.free.items ++ slab.minor ∷ []) rest_keys (vec_len t.slots)
+  free_more : AreFreeSlots (t.free.items ++ slab.minor ∷ []) rest_keys (vec_len t.slots)
   free_more = record {
     in_slots = λ n m. grind (arith, Contains-push_cases t.free.items slab.minor n m, i.free.in_slots n, i.in_slots slab there);
     unused = λ n k m o f. let p = without_from t.firsts.keys slab k o in grind (arith, Contains-push_cases t.free.items slab.minor n m, i.free.unused n k, i.kept.numbers k slab p.0 there, p.0, p.1, f);
@@ -379,7 +379,7 @@ module _ (t : Table) (i : IsTable t) (slab : Key) (there : Contains t.firsts.key
   fewer_keys = length_without t.firsts.keys slab i.ascending there
 
   pub table_less : (u : Table) → u.firsts.keys ≡ rest_keys → u.firsts.spare ≡ t.firsts.spare + 1 → IsAscending u.firsts.keys → u.slots ≡ t.slots → u.free.items ≡ t.free.items ++ slab.minor ∷ [] → vec_len u.free ≡ vec_len t.free + 1 → vec_capacity t.free ≤ vec_capacity u.free
-      → u.counts ≡ set t.counts class_of_slab (get_or t.counts class_of_slab 0 - 1) → IsCharted t.slots.items rest_keys u.chart → vec_len u.chart.firsts ≡ vec_len t.chart.firsts → u.bins.keys ≡ without_key t.bins.keys (bin_of t.slots.items slab) → u.bins.spare ≡ t.bins.spare + 1 → vec_len u.holders.codes ≡ vec_len t.holders.codes → IsTable u
+      → u.counts ≡ set t.counts class_of_slab (get_or t.counts class_of_slab 0 - 1) → IsCharted t.slots.items rest_keys u.chart → vec_len u.chart.firsts ≡ vec_len t.chart.firsts → u.bins.keys ≡ without_key t.bins.keys (bin_of t.slots.items slab) → u.bins.spare ≡ t.bins.spare + 1 → vec_len u.holders.codes ≡ vec_len t.holders.codes → IsSlabTable u
   unfolding slabs_in
   table_less u firsts spare ascending slots free_items free_len cap counts charted chart_len bins bins_spare codes =
       let items = ap (λ v. v.items) slots in
@@ -410,7 +410,7 @@ module _ (t : Table) (i : IsTable t) (slab : Key) (there : Contains t.firsts.key
 
 -- ---- all slabs go
 
-pub no_slabs : (t : Table) → IsTable t → t.firsts.keys ≡ [] → slabs_in t ≡ []
+pub no_slabs : (t : Table) → IsSlabTable t → t.firsts.keys ≡ [] → slabs_in t ≡ []
 unfolding slabs_in
 no_slabs t i e = ap (map (slab_at t.slots.items)) e
 

@@ -1,5 +1,5 @@
 -- More slots.
-use Rattle.bin_book.proofs.Words.{nat_cmp, append-nil, append_assoc, ◌≡◌, ℕ, ◌+◌, ◌-◌, ◌*◌, ◌^◌, ◌<◌, ◌≤◌, zero, suc, eqb, List, [], ◌∷◌, ◌++◌, length, map, get_or, count_by, inl, inr, sym, ap, ◌∙◌, subst, arith, Contains, Some, None, refl, vec_len, vec_capacity, range_with_len, IsStrictlySortedBy, cases_lt, nat_tests, get_or_append_left, Contains-append_cases, sum_by-append, sum_by-cons, pages_at, slab_filled, Key, IsAscending, Bits, Chart, Table, Slab, Grows, HasPage, holder_at, AreFree, IsBinned, IsCharted, IsKept, IsSlabIn, IsTable, bin_key, bits_at, left_of, no_bits, regions_in, regions_of, slab_at, slab_of, slabs_in, bit, map_same, range_from}
+use Rattle.bin_book.proofs.Words.{nat_cmp, append-nil, append_assoc, ◌≡◌, ℕ, ◌+◌, ◌-◌, ◌*◌, ◌^◌, ◌<◌, ◌≤◌, zero, suc, eqb, List, [], ◌∷◌, ◌++◌, length, map, get_or, count_by, inl, inr, sym, ap, ◌∙◌, subst, arith, Contains, Some, None, refl, vec_len, vec_capacity, range_with_len, IsStrictlySortedBy, cases_lt, nat_tests, get_or_append_left, Contains-append_cases, sum_by-append, sum_by-cons, pages_at, slab_filled, Key, IsAscending, Bits, Chart, Table, BinSlab, Grows, HasPage, holder_at, AreFreeSlots, IsBinned, IsCharted, AreSlabKeys, IsSlabIn, IsSlabTable, bin_key, bits_at, left_of, no_bits, regions_in, out_of_slabs, slab_at, slab_of, slabs_in, bit, map_same, range_from}
 use Rattle.bin_book.proofs.Regions.{regions_agree}
 use Rattle.bin_book.proofs.Adding.{count_zero}
 use Rattle.std.specs.FinMap as map_of
@@ -27,19 +27,19 @@ count_range a zero m = omega arith
 count_range a (suc n) m = grind (arith, nat_tests, sum_by-cons (λ x. bit (eqb x m)) a (range_with_len (a + 1) n), count_range (a + 1) n m, count_low (a + 1) n m)
 
 -- the regions of a table with more slots and codes
-pub regions_grown : (t : Table) → IsTable t → (slots : List Bits) (codes : List ℕ) (keys : List Key) → keys ≡ t.firsts.keys → ((n : ℕ) → n < vec_len t.slots → bits_at slots n ≡ bits_at t.slots.items n)
-    → ((p : ℕ) → p < vec_len t.holders.codes → holder_at codes p ≡ holder_at t.holders.codes.items p) → regions_of slots codes keys ≡ regions_in t
+pub regions_grown : (t : Table) → IsSlabTable t → (slots : List Bits) (codes : List ℕ) (keys : List Key) → keys ≡ t.firsts.keys → ((n : ℕ) → n < vec_len t.slots → bits_at slots n ≡ bits_at t.slots.items n)
+    → ((p : ℕ) → p < vec_len t.holders.codes → holder_at codes p ≡ holder_at t.holders.codes.items p) → out_of_slabs slots codes keys ≡ regions_in t
 regions_grown t i slots codes keys same agree holders = rw same (regions_agree t.slots.items slots t.holders.codes.items codes t.firsts.keys (λ k m. agree k.minor (i.in_slots k m)) (λ k n m low.
     let few = (slab_filled (bits_at t.slots.items k.minor).class (i.kept.slab k m).small).2 in
     let mine = i.in_slots k m in
     holders (512 * k.minor + n) (omega arith)))
 
 -- a table with more slots, and more room
-module _ (t u : Table) (i : IsTable t) (firsts : u.firsts.keys ≡ t.firsts.keys) (bins : u.bins.keys ≡ t.bins.keys) (counts : u.counts ≡ t.counts) (agree : (n : ℕ) → n < vec_len t.slots → bits_at u.slots.items n ≡ bits_at t.slots.items n) (chart : Grows t.chart u.chart) where
+module _ (t u : Table) (i : IsSlabTable t) (firsts : u.firsts.keys ≡ t.firsts.keys) (bins : u.bins.keys ≡ t.bins.keys) (counts : u.counts ≡ t.counts) (agree : (n : ℕ) → n < vec_len t.slots → bits_at u.slots.items n ≡ bits_at t.slots.items n) (chart : Grows t.chart u.chart) where
   same_bits : (k : Key) → Contains t.firsts.keys k → bits_at u.slots.items k.minor ≡ bits_at t.slots.items k.minor
   same_bits k m = agree k.minor (i.in_slots k m)
 
-  kept_grown : IsKept u.slots.items t.firsts.keys
+  kept_grown : AreSlabKeys u.slots.items t.firsts.keys
   kept_grown = record {
     slab = λ k m. subst (λ (b : Bits). IsSlabIn b k.major) (sym (same_bits k m)) (i.kept.slab k m);
     apart = λ k l m n le. let same = same_bits k m in rw same (i.kept.apart k l m n le);
@@ -64,7 +64,7 @@ module _ (t u : Table) (i : IsTable t) (firsts : u.firsts.keys ≡ t.firsts.keys
   unfolding slabs_in
   slabs_grown = rw firsts (map_same (slab_at u.slots.items) (slab_at t.slots.items) t.firsts.keys (λ k m. ap (λ (b : Bits). slab_of b k.major) (same_bits k m)))
 
-  free_grown : (le : vec_len t.slots ≤ vec_len u.slots) → AreFree (t.free.items ++ range_with_len (vec_len t.slots) (vec_len u.slots - vec_len t.slots)) t.firsts.keys (vec_len u.slots)
+  free_grown : (le : vec_len t.slots ≤ vec_len u.slots) → AreFreeSlots (t.free.items ++ range_with_len (vec_len t.slots) (vec_len u.slots - vec_len t.slots)) t.firsts.keys (vec_len u.slots)
   free_grown le = record {
     in_slots = λ n m. grind (arith, Contains-append_cases t.free.items _ n m, i.free.in_slots n, range_from (vec_len t.slots) (vec_len u.slots - vec_len t.slots) n);
     unused = λ n k m o. grind (arith, Contains-append_cases t.free.items _ n m, i.free.unused n k, range_from (vec_len t.slots) (vec_len u.slots - vec_len t.slots) n, i.in_slots k o);
@@ -78,7 +78,7 @@ module _ (t u : Table) (i : IsTable t) (firsts : u.firsts.keys ≡ t.firsts.keys
   }
 
   pub table_grown : vec_len t.slots ≤ vec_len u.slots → u.free.items ≡ t.free.items ++ range_with_len (vec_len t.slots) (vec_len u.slots - vec_len t.slots) → vec_len u.free + vec_len t.slots ≡ vec_len t.free + vec_len u.slots
-      → vec_len u.slots < 2 ^ 32 → vec_len u.slots ≤ vec_capacity u.free → vec_len u.slots ≤ vec_len u.chart.firsts → vec_len u.free ≤ u.firsts.spare → vec_len u.free ≤ u.bins.spare → 512 * vec_len u.slots ≤ vec_len u.holders.codes → IsTable u
+      → vec_len u.slots < 2 ^ 32 → vec_len u.slots ≤ vec_capacity u.free → vec_len u.slots ≤ vec_len u.chart.firsts → vec_len u.free ≤ u.firsts.spare → vec_len u.free ≤ u.bins.spare → 512 * vec_len u.slots ≤ vec_len u.holders.codes → IsSlabTable u
   table_grown le free places small room chart_room firsts_room bins_room held =
       let len = ap length firsts in
       record {
@@ -89,7 +89,7 @@ module _ (t u : Table) (i : IsTable t) (firsts : u.firsts.keys ≡ t.firsts.keys
         in_slots = λ k m. let low = i.in_slots k (subst (λ ks. Contains ks k) firsts m) in omega arith;
         free = rw (free, firsts) (free_grown le);
         classes = ap length counts ∙ i.classes;
-        counts = λ class small. ap (λ ns. get_or ns class 0) counts ∙ i.counts class small ∙ sym (ap (count_by (λ (s : Slab). eqb s.class class)) slabs_grown);
+        counts = λ class small. ap (λ ns. get_or ns class 0) counts ∙ i.counts class small ∙ sym (ap (count_by (λ (s : BinSlab). eqb s.class class)) slabs_grown);
         places = omega arith;
         held = held;
         small = small;
@@ -100,7 +100,7 @@ module _ (t u : Table) (i : IsTable t) (firsts : u.firsts.keys ≡ t.firsts.keys
       }
 
 -- a table whose sets and chart have more room, and that is as it was otherwise
-pub table_roomy : (t u : Table) → IsTable t → u.firsts.keys ≡ t.firsts.keys → t.firsts.spare ≤ u.firsts.spare → u.bins.keys ≡ t.bins.keys → t.bins.spare ≤ u.bins.spare → u.slots ≡ t.slots → u.free ≡ t.free → u.counts ≡ t.counts → vec_len t.holders.codes ≤ vec_len u.holders.codes → Grows t.chart u.chart → IsTable u × (slabs_in u ≡ slabs_in t)
+pub table_roomy : (t u : Table) → IsSlabTable t → u.firsts.keys ≡ t.firsts.keys → t.firsts.spare ≤ u.firsts.spare → u.bins.keys ≡ t.bins.keys → t.bins.spare ≤ u.bins.spare → u.slots ≡ t.slots → u.free ≡ t.free → u.counts ≡ t.counts → vec_len t.holders.codes ≤ vec_len u.holders.codes → Grows t.chart u.chart → IsSlabTable u × (slabs_in u ≡ slabs_in t)
 table_roomy t u i firsts more bins wider slots free counts codes chart =
     let items = ap (λ v. v.items) slots in
     let len = ap (λ v. vec_len v) slots in
@@ -127,7 +127,7 @@ none_ascending : IsAscending []
 unfolding IsStrictlySortedBy
 none_ascending = tt
 
-pub empty_table : (t : Table) → t.firsts.keys ≡ [] → t.bins.keys ≡ [] → vec_len t.slots ≡ 0 → t.free.items ≡ [] → vec_len t.free ≡ 0 → length t.counts ≡ 36 → ((class : ℕ) → class < 36 → get_or t.counts class 0 ≡ 0) → t.chart.pages.numbers ≡ map_of.empty → IsTable t
+pub empty_table : (t : Table) → t.firsts.keys ≡ [] → t.bins.keys ≡ [] → vec_len t.slots ≡ 0 → t.free.items ≡ [] → vec_len t.free ≡ 0 → length t.counts ≡ 36 → ((class : ℕ) → class < 36 → get_or t.counts class 0 ≡ 0) → t.chart.pages.numbers ≡ map_of.empty → IsSlabTable t
 empty_table t firsts bins slots free free_len classes zeros chart =
     let none = λ (k : Key) (m : Contains t.firsts.keys k). no_member firsts m in
     record {
@@ -138,7 +138,7 @@ empty_table t firsts bins slots free free_len classes zeros chart =
       in_slots = λ k m. absurd (none k m);
       free = record { in_slots = λ n m. absurd (no_member free m); unused = λ n k m. absurd (no_member free m); once = λ n. rw free (omega arith) };
       classes = classes;
-      counts = λ class small. zeros class small ∙ sym (ap (count_by (λ (s : Slab). eqb s.class class)) (empty_slabs t firsts));
+      counts = λ class small. zeros class small ∙ sym (ap (count_by (λ (s : BinSlab). eqb s.class class)) (empty_slabs t firsts));
       places = let len = ap length firsts in omega arith;
       held = omega arith;
       small = omega arith;

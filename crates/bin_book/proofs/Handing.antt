@@ -1,5 +1,5 @@
 -- The regions that are out, as one is taken, put back or handed over.
-use Rattle.bin_book.proofs.Words.{◌≡◌, ◌≢◌, ℕ, ◌+◌, ◌*◌, ◌<◌, ◌≤◌, Bool, true, false, not, cond, List, [], ◌∷◌, length, length-set, filter, map, get_or, set, Option, Some, inl, inr, refl, sym, ap, ◌∙◌, subst, arith, Contains, vec_len, dite, ℕ_discrete, range_with_len, eq-eqb, eqb-true, false_from_ne_true, get_or-set_other, get_or-set_same, length-range_with_len, IsStrictlySortedBy-filter, count_by-le-length, length-filter, regions_at, slab_filled, Region, held_anew, inserted, landing, region_of, starts_at, Bits, Key, IsAscending, is_other, key_cmp, without_key, contains_cases, filter_from, filter_has, without_from, without_keeps, Holders, Table, addr_of, place, holder_at, IsKept, IsSlabIn, IsTable, bits_at, left_of, region_at, regions_in, regions_of, regions_without, slabs_in, AreNew, not_found, rising_changed, rising_filter, same_members, head, map_from, map_has}
+use Rattle.bin_book.proofs.Words.{◌≡◌, ◌≢◌, ℕ, ◌+◌, ◌*◌, ◌<◌, ◌≤◌, Bool, true, false, not, cond, List, [], ◌∷◌, length, length-set, filter, map, get_or, set, Option, Some, inl, inr, refl, sym, ap, ◌∙◌, subst, arith, Contains, vec_len, dite, ℕ_discrete, range_with_len, eq-eqb, eqb-true, false_from_ne_true, get_or-set_other, get_or-set_same, length-range_with_len, IsStrictlySortedBy-filter, count_by-le-length, length-filter, regions_at, slab_filled, Region, held_anew, inserted, landing, region_of, starts_at, Bits, Key, IsAscending, is_other, key_cmp, without_key, contains_cases, filter_from, filter_has, without_from, without_keeps, Holders, Table, addr_of, place, holder_at, AreSlabKeys, IsSlabIn, IsSlabTable, bits_at, left_of, slab_region, regions_in, out_of_slabs, regions_without, slabs_in, AreNew, not_found, rising_changed, rising_filter, same_members, head, map_from, map_has}
 use Rattle.bin_book.proofs.Places.{by_key, class_stays, is_new, kept_changed, one_place, length_ones}
 use Rattle.bin_book.proofs.Regions.{landed, landed_from, landed_new, landed_old, out_from, out_has, regions_rise}
 use Rattle.bin_book.proofs.Adding.{kept_less}
@@ -21,7 +21,7 @@ agree_back old new codes news keys addr a = record {
 }
 
 -- regions elsewhere are the same
-elsewhere : (old new : List Bits) (codes news : List ℕ) (keys : List Key) (addr : ℕ) → AgreeBut old new codes news keys addr → (r : Region) → Contains (regions_of old codes keys) r → r.addr ≢ addr → Contains (regions_of new news keys) r
+elsewhere : (old new : List Bits) (codes news : List ℕ) (keys : List Key) (addr : ℕ) → AgreeBut old new codes news keys addr → (r : Region) → Contains (out_of_slabs old codes keys) r → r.addr ≢ addr → Contains (out_of_slabs new news keys) r
 elsewhere old new codes news keys addr a r m ne =
     let p = out_from old codes keys r m in
     let k = p.0 in
@@ -29,7 +29,7 @@ elsewhere old new codes news keys addr a r m ne =
     let o = p.2 in
     let c = a.class k o.there in
     let other : place (bits_at old k.minor).class k.major j ≢ addr = (λ e. ne (sym (ap (λ (x : Region). x.addr) o.is) ∙ e)) in
-    let same : region_at new news k j ≡ region_at old codes k j = (λ x. record { addr = place (c x) k.major j; class = c x; holder = a.holder k j o.there o.low other x }) in
+    let same : slab_region new news k j ≡ slab_region old codes k j = (λ x. record { addr = place (c x) k.major j; class = c x; holder = a.holder k j o.there o.low other x }) in
     out_has new news keys r k j (record {
       there = o.there;
       low = subst (λ d. j < regions_at d) (sym c) o.low;
@@ -38,25 +38,25 @@ elsewhere old new codes news keys addr a r m ne =
     })
 
 -- what stands at the address of a place is the region of that place
-pub at_place : (slots : List Bits) (codes : List ℕ) (keys : List Key) → IsKept slots keys → (key : Key) → Contains keys key → (n : ℕ) → n < regions_at (bits_at slots key.minor).class
-    → (r : Region) → Contains (regions_of slots codes keys) r → r.addr ≡ place (bits_at slots key.minor).class key.major n → (get_or (bits_at slots key.minor).free n false ≡ false) × (region_at slots codes key n ≡ r)
+pub at_place : (slots : List Bits) (codes : List ℕ) (keys : List Key) → AreSlabKeys slots keys → (key : Key) → Contains keys key → (n : ℕ) → n < regions_at (bits_at slots key.minor).class
+    → (r : Region) → Contains (out_of_slabs slots codes keys) r → r.addr ≡ place (bits_at slots key.minor).class key.major n → (get_or (bits_at slots key.minor).free n false ≡ false) × (slab_region slots codes key n ≡ r)
 at_place slots codes keys kept key there n low r m e =
     let p = out_from slots codes keys r m in
     let o = p.2 in
     let same = one_place slots keys kept p.0 key o.there there p.1 n o.low low (ap (λ (x : Region). x.addr) o.is ∙ e) in (
       sym (λ x. get_or (bits_at slots (same.0 x).minor).free (same.1 x) false) ∙ o.out,
-      sym (λ x. region_at slots codes (same.0 x) (same.1 x)) ∙ o.is,
+      sym (λ x. slab_region slots codes (same.0 x) (same.1 x)) ∙ o.is,
     )
 
-module _ (old new : List Bits) (codes news : List ℕ) (keys : List Key) (ascending : IsAscending keys) (kept : IsKept old keys) (kept' : IsKept new keys) (key : Key) (there : Contains keys key) (n : ℕ) (low : n < regions_at (bits_at old key.minor).class) (a : AgreeBut old new codes news keys (place (bits_at old key.minor).class key.major n)) where
+module _ (old new : List Bits) (codes news : List ℕ) (keys : List Key) (ascending : IsAscending keys) (kept : AreSlabKeys old keys) (kept' : AreSlabKeys new keys) (key : Key) (there : Contains keys key) (n : ℕ) (low : n < regions_at (bits_at old key.minor).class) (a : AgreeBut old new codes news keys (place (bits_at old key.minor).class key.major n)) where
   abbrev addr : ℕ
   addr = place (bits_at old key.minor).class key.major n
 
   abbrev before : List Region
-  before = regions_of old codes keys
+  before = out_of_slabs old codes keys
 
   abbrev after : List Region
-  after = regions_of new news keys
+  after = out_of_slabs new news keys
 
   low' : n < regions_at (bits_at new key.minor).class
   low' = subst (λ d. n < regions_at d) (sym (a.class key there)) low
@@ -72,9 +72,9 @@ module _ (old new : List Bits) (codes news : List ℕ) (keys : List Key) (ascend
   earlier = elsewhere new old news codes keys addr (agree_back old new codes news keys addr a)
 
   -- a place that was free is out
-  pub place_taken : get_or (bits_at old key.minor).free n false ≡ true → get_or (bits_at new key.minor).free n false ≡ false → after ≡ inserted (region_at new news key n) before
+  pub place_taken : get_or (bits_at old key.minor).free n false ≡ true → get_or (bits_at new key.minor).free n false ≡ false → after ≡ inserted (slab_region new news key n) before
   place_taken was now =
-      let r = region_at new news key n in
+      let r = slab_region new news key n in
       let rising = regions_rise old codes keys ascending kept in
       let free : (q : Region) → Contains before q → q.addr ≢ r.addr = (λ q m e. let none = (at_place old codes keys kept key there n low q m (e ∙ addr')).0 in let no : false ≡ true = sym none ∙ was in cc) in
       let fresh : AreNew addr_of (r ∷ []) before = (not_found addr_of before r.addr free, tt) in
@@ -103,9 +103,9 @@ module _ (old new : List Bits) (codes news : List ℕ) (keys : List Key) (ascend
   pub place_held : get_or (bits_at old key.minor).free n false ≡ false → get_or (bits_at new key.minor).free n false ≡ false → (holder : Option ℕ) → holder_at news (512 * key.minor + n) ≡ holder → after ≡ held_anew (starts_at addr) holder before
   place_held was now holder held =
       let f = λ (r : Region). cond (starts_at addr r) (record r { holder = holder }) r in
-      let r = region_at old codes key n in
+      let r = slab_region old codes key n in
       let there_before : Contains before r = out_has old codes keys r key n (record { there = there; low = low; out = was; is = refl }) in
-      let here : f r ≡ region_at new news key n = ap (λ b. cond b (record r { holder = holder }) r) (eq-eqb addr addr refl) ∙ (λ x. record { addr = sym addr' x; class = sym (a.class key there) x; holder = sym held x }) in
+      let here : f r ≡ slab_region new news key n = ap (λ b. cond b (record r { holder = holder }) r) (eq-eqb addr addr refl) ∙ (λ x. record { addr = sym addr' x; class = sym (a.class key there) x; holder = sym held x }) in
       let stays : (q : Region) → q.addr ≢ addr → f q ≡ q = (λ q ne. ap (λ b. cond b (record q { holder = holder }) q) (false_from_ne_true _ (λ e. ne (eqb-true q.addr addr e)))) in
       same_members addr_of after (map f before) (regions_rise new news keys ascending kept') (rising_changed addr_of (λ r. record r { holder = holder }) (λ r. refl) (starts_at addr) before (regions_rise old codes keys ascending kept))
       (λ q m. dite (ℕ_discrete q.addr addr)
@@ -120,7 +120,7 @@ module _ (old new : List Bits) (codes news : List ℕ) (keys : List Key) (ascend
 
 -- ---- where one code is written, and one bit
 
-module _ (slots : List Bits) (keys : List Key) (kept : IsKept slots keys) (key : Key) (there : Contains keys key) (n : ℕ) (low : n < regions_at (bits_at slots key.minor).class) (codes news : List ℕ) (others : (p : ℕ) → p ≢ 512 * key.minor + n → holder_at news p ≡ holder_at codes p) where
+module _ (slots : List Bits) (keys : List Key) (kept : AreSlabKeys slots keys) (key : Key) (there : Contains keys key) (n : ℕ) (low : n < regions_at (bits_at slots key.minor).class) (codes news : List ℕ) (others : (p : ℕ) → p ≢ 512 * key.minor + n → holder_at news p ≡ holder_at codes p) where
   abbrev at : ℕ
   at = place (bits_at slots key.minor).class key.major n
 
@@ -166,7 +166,7 @@ only_out bits first n j is here out last low out' = dite (ℕ_discrete j n) (λ 
 
 -- ---- a table of which one region changes
 
-module _ (t : Table) (i : IsTable t) (key : Key) (there : Contains t.firsts.keys key) (n : ℕ) (low : n < regions_at (bits_at t.slots.items key.minor).class) where
+module _ (t : Table) (i : IsSlabTable t) (key : Key) (there : Contains t.firsts.keys key) (n : ℕ) (low : n < regions_at (bits_at t.slots.items key.minor).class) where
   abbrev bits : Bits
   bits = bits_at t.slots.items key.minor
 
@@ -178,7 +178,7 @@ module _ (t : Table) (i : IsTable t) (key : Key) (there : Contains t.firsts.keys
       omega arith
 
   pub region_held : get_or bits.free n false ≡ false → (codes : List ℕ) (holder : Option ℕ) → holder_at codes (512 * key.minor + n) ≡ holder → ((p : ℕ) → p ≢ 512 * key.minor + n → holder_at codes p ≡ holder_at t.holders.codes.items p)
-      → regions_of t.slots.items codes t.firsts.keys ≡ held_anew (starts_at (place bits.class key.major n)) holder (regions_in t)
+      → out_of_slabs t.slots.items codes t.firsts.keys ≡ held_anew (starts_at (place bits.class key.major n)) holder (regions_in t)
   region_held out codes holder here others = place_held t.slots.items t.slots.items t.holders.codes.items codes t.firsts.keys i.ascending i.kept i.kept key there n low
       (code_written t.slots.items t.firsts.keys i.kept key there n low t.holders.codes.items codes others) out out holder here
 
@@ -186,7 +186,7 @@ module _ (t : Table) (i : IsTable t) (key : Key) (there : Contains t.firsts.keys
   abbrev written : Bool → List Bits
   written v = set t.slots.items key.minor (with_bit bits n v)
 
-  kept_written : (v : Bool) → IsSlabIn (with_bit bits n v) key.major → IsKept (written v) t.firsts.keys
+  kept_written : (v : Bool) → IsSlabIn (with_bit bits n v) key.major → AreSlabKeys (written v) t.firsts.keys
   kept_written v is = kept_changed t.slots.items t.firsts.keys i.kept key there (in_items t i key there (with_bit bits n v) refl) (with_bit bits n v) refl is
 
   agree : (v : Bool) (codes : List ℕ) → ((p : ℕ) → p ≢ 512 * key.minor + n → holder_at codes p ≡ holder_at t.holders.codes.items p) → AgreeBut t.slots.items (written v) t.holders.codes.items codes t.firsts.keys (place bits.class key.major n)
@@ -199,14 +199,14 @@ module _ (t : Table) (i : IsTable t) (key : Key) (there : Contains t.firsts.keys
   new_bit v inside = ap (λ (b : Bits). get_or b.free n false) (new_bits v) ∙ get_or-set_same bits.free n v false inside
 
   pub region_taken : (client class : ℕ) → bits.class ≡ class → n < length bits.free → get_or bits.free n false ≡ true → IsSlabIn (with_bit bits n false) key.major → (codes : List ℕ) → holder_at codes (512 * key.minor + n) ≡ Some client
-      → ((p : ℕ) → p ≢ 512 * key.minor + n → holder_at codes p ≡ holder_at t.holders.codes.items p) → regions_of (written false) codes t.firsts.keys ≡ inserted (region_of client class (place bits.class key.major n)) (regions_in t)
+      → ((p : ℕ) → p ≢ 512 * key.minor + n → holder_at codes p ≡ holder_at t.holders.codes.items p) → out_of_slabs (written false) codes t.firsts.keys ≡ inserted (region_of client class (place bits.class key.major n)) (regions_in t)
   region_taken client class of_class inside free is codes here others =
       let class' = ap (λ (b : Bits). b.class) (new_bits false) in
-      let region : region_at (written false) codes key n ≡ region_of client class (place bits.class key.major n) = (λ x. record { addr = place (class' x) key.major n; class = (class' ∙ of_class) x; holder = here x }) in
+      let region : slab_region (written false) codes key n ≡ region_of client class (place bits.class key.major n) = (λ x. record { addr = place (class' x) key.major n; class = (class' ∙ of_class) x; holder = here x }) in
       place_taken t.slots.items (written false) t.holders.codes.items codes t.firsts.keys i.ascending i.kept (kept_written false is) key there n low (agree false codes others) free (new_bit false inside)
       ∙ ap (λ r. inserted r (regions_in t)) region
 
-  pub region_put : n < length bits.free → IsSlabIn (with_bit bits n true) key.major → regions_of (written true) t.holders.codes.items t.firsts.keys ≡ filter (λ r. not (starts_at (place bits.class key.major n) r)) (regions_in t)
+  pub region_put : n < length bits.free → IsSlabIn (with_bit bits n true) key.major → out_of_slabs (written true) t.holders.codes.items t.firsts.keys ≡ filter (λ r. not (starts_at (place bits.class key.major n) r)) (regions_in t)
   region_put inside is = place_freed t.slots.items (written true) t.holders.codes.items t.holders.codes.items t.firsts.keys i.ascending i.kept (kept_written true is) key there n low (agree true t.holders.codes.items (λ p ne. refl)) (new_bit true inside)
 
   -- the last one goes with its slab
@@ -216,13 +216,13 @@ module _ (t : Table) (i : IsTable t) (key : Key) (there : Contains t.firsts.keys
       let slots = t.slots.items in
       let codes = t.holders.codes.items in
       let keys = without_key t.firsts.keys key in
-      let gone : (r : Region) → Contains (regions_in t) r → r.addr ≢ place bits.class key.major n → Contains (regions_of slots codes keys) r = (λ r m ne.
+      let gone : (r : Region) → Contains (regions_in t) r → r.addr ≢ place bits.class key.major n → Contains (out_of_slabs slots codes keys) r = (λ r m ne.
       let q = out_from slots codes t.firsts.keys r m in
       let o = q.2 in
       let other : q.0 ≢ key = (λ e. ne (sym (ap (λ (x : Region). x.addr) o.is) ∙ (λ x. place (bits_at slots (e x).minor).class (e x).major q.1)
       ∙ ap (place bits.class key.major) (only_out bits key.major n q.1 (i.kept.slab key there) low out last (subst (λ (z : Key). q.1 < regions_at (bits_at slots z.minor).class) e o.low) (subst (λ (z : Key). get_or (bits_at slots z.minor).free q.1 false ≡ false) e o.out)))) in
       out_has slots codes keys r q.0 q.1 (record { there = without_keeps t.firsts.keys key q.0 o.there other; low = o.low; out = o.out; is = o.is })) in
-      same_members addr_of (regions_of slots codes keys) (filter p (regions_in t))
+      same_members addr_of (out_of_slabs slots codes keys) (filter p (regions_in t))
       (regions_rise slots codes keys (IsStrictlySortedBy-filter key_cmp (is_other key) t.firsts.keys i.ascending) (kept_less t i key there)) (rising_filter addr_of p (regions_in t) (regions_rise slots codes t.firsts.keys i.ascending i.kept))
       (λ r m.
       let q = out_from slots codes keys r m in
@@ -235,7 +235,7 @@ module _ (t : Table) (i : IsTable t) (key : Key) (there : Contains t.firsts.keys
       gone r d.0 (λ e. let no : false ≡ true = sym (ap not (eq-eqb r.addr _ e)) ∙ d.1 in cc))
 
 -- a table of which only the codes change keeps its slabs
-pub table_held : (t : Table) → IsTable t → (holders : Holders) → vec_len holders.codes ≡ vec_len t.holders.codes → IsTable (record t { holders = holders }) × (slabs_in (record t { holders = holders }) ≡ slabs_in t)
+pub table_held : (t : Table) → IsSlabTable t → (holders : Holders) → vec_len holders.codes ≡ vec_len t.holders.codes → IsSlabTable (record t { holders = holders }) × (slabs_in (record t { holders = holders }) ≡ slabs_in t)
 unfolding slabs_in
 table_held t i holders len = (
   record {

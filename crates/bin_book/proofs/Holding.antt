@@ -1,5 +1,5 @@
 -- Which slab has an address, and the region that begins there, or none.
-use Rattle.bin_book.proofs.Words.{Option, IfNone, IfSome, ◌≡◌, ℕ, ◌+◌, ◌-◌, ◌*◌, ◌/◌, ◌%◌, ◌<◌, ◌≤◌, true, false, ◌&&◌, eqb, ltb, List, length, map, filter, get_or, Some, None, ◌⊎◌, inl, inr, refl, sym, ap, ◌∙◌, subst, arith, Contains, is_lt, vec_len, find, option_map, list_any, range_with_len, div-add-mod', mul-div_cancel, mul-mod_left, cases_Bool, eq-eqb, eqb-true, false_from_ne_true, nat_tests, IsStrictlySortedBy-filter, get_or_from_slice_get, slice_get-get_or, slice_get_within, pages_at, regions_at, size_at, pages_bounds, size_bounds, Key, IsAscending, is_below, key_cmp, last_of, filter_from, filter_has, last_greatest, less_from_parts, less_parts, start, every_member, less_from_lt, Table, Slab, is_among, is_out, place, places, addr_of, HasOut, IsLastBelow, IsOutAt, IsTable, bits_at, ones, slab_at, slabs_in, region_at, regions_in, any_from, any_has, any_map, any_none, map_from, map_has, range_from, range_has, Region, starts_at, member_found}
+use Rattle.bin_book.proofs.Words.{Option, IfNone, IfSome, ◌≡◌, ℕ, ◌+◌, ◌-◌, ◌*◌, ◌/◌, ◌%◌, ◌<◌, ◌≤◌, true, false, ◌&&◌, eqb, ltb, List, length, map, filter, get_or, Some, None, ◌⊎◌, inl, inr, refl, sym, ap, ◌∙◌, subst, arith, Contains, is_lt, vec_len, find, option_map, list_any, range_with_len, div-add-mod', mul-div_cancel, mul-mod_left, cases_Bool, eq-eqb, eqb-true, false_from_ne_true, nat_tests, IsStrictlySortedBy-filter, get_or_from_slice_get, slice_get-get_or, slice_get_within, pages_at, regions_at, size_at, pages_bounds, size_bounds, Key, IsAscending, is_below, key_cmp, last_of, filter_from, filter_has, last_greatest, less_from_parts, less_parts, start, every_member, less_from_lt, Table, BinSlab, is_among, is_out, place, slab_places, addr_of, HasOut, IsLastKeyBelow, IsOutAt, IsSlabTable, bits_at, ones, slab_at, slabs_in, slab_region, regions_in, any_from, any_has, any_map, any_none, map_from, map_has, range_from, range_has, Region, starts_at, member_found}
 use Rattle.bin_book.proofs.Places.{among_ones, place_inside}
 use Rattle.bin_book.proofs.Regions.{out_from, out_has, regions_rise}
 use Rattle.std.specs.FinMap as map_of
@@ -10,7 +10,7 @@ below_page k page l = ap is_lt (less_from_parts k (start page) (inl l))
 page_below : (k : Key) (page : ℕ) → is_below (start page) k ≡ true → k.major < page
 page_below k page t = grind (arith, less_parts k (start page) (less_from_lt _ t))
 
-pub last_below : (keys : List Key) (page : ℕ) (key : Key) → IsAscending keys → last_of (filter (is_below (start page)) keys) ≡ Some key → IsLastBelow keys page key
+pub last_below : (keys : List Key) (page : ℕ) (key : Key) → IsAscending keys → last_of (filter (is_below (start page)) keys) ≡ Some key → IsLastKeyBelow keys page key
 last_below keys page key ascending e =
     let ks = filter (is_below (start page)) keys in
     let m = filter_from (is_below (start page)) keys key (length ks - 1, slice_get_within ks (length ks - 1) key e, get_or_from_slice_get ks (length ks - 1) key key e) in
@@ -29,7 +29,7 @@ none_below keys page e k m = grind (arith, no_last (filter (is_below (start page
         let no : None ≡ Some (get_or ks (length ks - 1) k) = sym e ∙ some in cc
 
 -- what a search below a page finds
-pub last_found : (keys : List Key) (page : ℕ) (found : Option Key) → IsAscending keys → found ≡ last_of (filter (is_below (start page)) keys) → IfSome found (λ key. IsLastBelow keys page key)
+pub last_found : (keys : List Key) (page : ℕ) (found : Option Key) → IsAscending keys → found ≡ last_of (filter (is_below (start page)) keys) → IfSome found (λ key. IsLastKeyBelow keys page key)
 last_found keys page None ascending e = tt
 last_found keys page (Some key) ascending e = last_below keys page key ascending (sym e)
 
@@ -37,16 +37,16 @@ pub none_found : (keys : List Key) (page : ℕ) (found : Option Key) → found �
 none_found keys page None e = λ k m. let far = none_below keys (page + 1) (sym e) k m in omega arith
 none_found keys page (Some key) e = tt
 
-module _ (t : Table) (i : IsTable t) where
+module _ (t : Table) (i : IsSlabTable t) where
   pages_of : (k : Key) → Contains t.firsts.keys k → 1 ≤ pages_at (bits_at t.slots.items k.minor).class
   pages_of k m = (pages_bounds _ (let s = (i.kept.slab k m).small in omega arith)).0
 
   -- a slab that begins below the last one that begins below a page ends where that one begins, or before
-  pub before_last : (page : ℕ) (key : Key) → IsLastBelow t.firsts.keys page key → (k : Key) → Contains t.firsts.keys k → (k ≡ key) ⊎ ((k.major + pages_at (bits_at t.slots.items k.minor).class ≤ key.major) ⊎ (page ≤ k.major))
+  pub before_last : (page : ℕ) (key : Key) → IsLastKeyBelow t.firsts.keys page key → (k : Key) → Contains t.firsts.keys k → (k ≡ key) ⊎ ((k.major + pages_at (bits_at t.slots.items k.minor).class ≤ key.major) ⊎ (page ≤ k.major))
   before_last page key last k m = grind (arith, i.kept.apart k key m last.there, last.last k m)
 
   -- a page has a number only where a slab has the page, which is the last one that begins there or below
-  pub charted_last : (page number : ℕ) → map_of.get t.chart.pages.numbers page ≡ Some number → IsLastBelow t.firsts.keys (page + 1) (record { major = get_or t.chart.firsts.items number 0; minor = number })
+  pub charted_last : (page number : ℕ) → map_of.get t.chart.pages.numbers page ≡ Some number → IsLastKeyBelow t.firsts.keys (page + 1) (record { major = get_or t.chart.firsts.items number 0; minor = number })
   charted_last page number e =
       let h = i.charted.holders page number e in
       let key = h.0 in
@@ -54,18 +54,18 @@ module _ (t : Table) (i : IsTable t) where
       let has = h.1.has in
       let first : get_or t.chart.firsts.items number 0 ≡ key.major = ap (λ n. get_or t.chart.firsts.items n 0) (sym h.1.at) ∙ i.charted.firsts key there in
       let same : key ≡ record { major = get_or t.chart.firsts.items number 0; minor = number } = (λ x. record { major = sym first x; minor = h.1.at x }) in
-      subst (IsLastBelow t.firsts.keys (page + 1)) same (record {
+      subst (IsLastKeyBelow t.firsts.keys (page + 1)) same (record {
         there = there;
         below = omega (arith, has.0);
         last = λ k m l. grind (arith, i.kept.apart key k there m, has.1, l);
       })
 
-  pub charted_found : (page : ℕ) (key : Key) → option_map (λ number. record { major = get_or t.chart.firsts.items number 0; minor = number }) (map_of.get t.chart.pages.numbers page) ≡ Some key → IsLastBelow t.firsts.keys (page + 1) key
+  pub charted_found : (page : ℕ) (key : Key) → option_map (λ number. record { major = get_or t.chart.firsts.items number 0; minor = number }) (map_of.get t.chart.pages.numbers page) ≡ Some key → IsLastKeyBelow t.firsts.keys (page + 1) key
   charted_found page key e = by (map_of.get t.chart.pages.numbers page) refl e
     where
-      by : (o : Option ℕ) → map_of.get t.chart.pages.numbers page ≡ o → option_map (λ number. record { major = get_or t.chart.firsts.items number 0; minor = number }) o ≡ Some key → IsLastBelow t.firsts.keys (page + 1) key
+      by : (o : Option ℕ) → map_of.get t.chart.pages.numbers page ≡ o → option_map (λ number. record { major = get_or t.chart.firsts.items number 0; minor = number }) o ≡ Some key → IsLastKeyBelow t.firsts.keys (page + 1) key
       by None is e = absurd (cc)
-      by (Some number) is e = subst (IsLastBelow t.firsts.keys (page + 1)) (cc) (charted_last page number is)
+      by (Some number) is e = subst (IsLastKeyBelow t.firsts.keys (page + 1)) (cc) (charted_last page number is)
 
   pub charted_place : (page number : ℕ) → map_of.get t.chart.pages.numbers page ≡ Some number → number < vec_len t.chart.firsts
   charted_place page number e =
@@ -75,11 +75,11 @@ module _ (t : Table) (i : IsTable t) where
 
   -- ---- sharing pages
 
-  pub meets_last : (first end : ℕ) → first < end → (key : Key) → IsLastBelow t.firsts.keys end key
+  pub meets_last : (first end : ℕ) → first < end → (key : Key) → IsLastKeyBelow t.firsts.keys end key
       → ltb first (key.major + pages_at (bits_at t.slots.items key.minor).class) ≡ list_any (λ s. ltb s.first end && ltb first (s.first + pages_at s.class)) (slabs_in t)
   unfolding slabs_in
   meets_last first end some key last =
-      let p = λ (s : Slab). ltb s.first end && ltb first (s.first + pages_at s.class) in
+      let p = λ (s : BinSlab). ltb s.first end && ltb first (s.first + pages_at s.class) in
       let below : ltb key.major end ≡ true = (let l = last.below in grind (arith, nat_tests)) in
       sym (elim (cases_Bool (ltb first (key.major + pages_at (bits_at t.slots.items key.minor).class))) [
         | inl y ↦ any_has p (map (slab_at t.slots.items) t.firsts.keys) (slab_at t.slots.items key) (map_has (slab_at t.slots.items) t.firsts.keys key last.there) (rw (below, y) refl) ∙ sym y
@@ -89,7 +89,7 @@ module _ (t : Table) (i : IsTable t) where
   pub meets_none : (first end : ℕ) → ((k : Key) → Contains t.firsts.keys k → end ≤ k.major) → false ≡ list_any (λ s. ltb s.first end && ltb first (s.first + pages_at s.class)) (slabs_in t)
   unfolding slabs_in
   meets_none first end none =
-      let p = λ (s : Slab). ltb s.first end && ltb first (s.first + pages_at s.class) in
+      let p = λ (s : BinSlab). ltb s.first end && ltb first (s.first + pages_at s.class) in
       sym (any_map (slab_at t.slots.items) p t.firsts.keys ∙ any_none (λ k. p (slab_at t.slots.items k)) t.firsts.keys (λ k m. let far = none k m in grind (arith, nat_tests)))
 
   -- ---- having an address
@@ -103,7 +103,7 @@ module _ (t : Table) (i : IsTable t) where
       let low : n < regions_at b.class = subst (λ c. n < regions_at c) (sym here) o.out.inside in
       let at : place b.class key.major n ≡ addr = ap (λ c. place c key.major n) here ∙ o.at in
       let one : eqb b.class class ≡ true = eq-eqb _ _ here in
-      let two : is_among (places b.class key.major) addr ≡ true = any_has (λ a. eqb a addr) (places b.class key.major) (place b.class key.major n) (map_has (place b.class key.major) (range_with_len 0 (regions_at b.class)) n (range_has 0 (regions_at b.class) n (omega arith) (omega arith))) (eq-eqb _ _ at) in
+      let two : is_among (slab_places b.class key.major) addr ≡ true = any_has (λ a. eqb a addr) (slab_places b.class key.major) (place b.class key.major n) (map_has (place b.class key.major) (range_with_len 0 (regions_at b.class)) n (range_has 0 (regions_at b.class) n (omega arith) (omega arith))) (eq-eqb _ _ at) in
       let three : is_among (map (place b.class key.major) (ones (regions_at b.class) b.free)) addr ≡ false = ap (is_among (map (place b.class key.major) (ones (regions_at b.class) b.free))) (sym at) ∙ among_ones b.class key.major (regions_at b.class) n b.free small low ∙ o.out.out in
       rw (one, two, three) refl
 
@@ -118,10 +118,10 @@ module _ (t : Table) (i : IsTable t) where
       let small = (i.kept.slab key m).small in
       let shown = map (place b.class key.major) (ones (regions_at b.class) b.free) in
       let one : eqb b.class class ≡ true = grind (arith, e) in
-      let two : is_among (places b.class key.major) addr ≡ true = grind (arith, e) in
+      let two : is_among (slab_places b.class key.major) addr ≡ true = grind (arith, e) in
       let three : is_among shown addr ≡ false = grind (arith, e) in
       let of_class = eqb-true b.class class one in
-      let a = any_from (λ a. eqb a addr) (places b.class key.major) two in
+      let a = any_from (λ a. eqb a addr) (slab_places b.class key.major) two in
       let p = map_from (place b.class key.major) (range_with_len 0 (regions_at b.class)) a.0 a.1 in
       let r = range_from 0 (regions_at b.class) p.0 p.1 in
       let low : p.0 < regions_at b.class = (let l = r.1 in omega arith) in
@@ -140,7 +140,7 @@ module _ (t : Table) (i : IsTable t) where
       )
 
   -- the slab of an address is the last one that begins at its page or below
-  pub only_holder : (class addr : ℕ) (key : Key) → IsLastBelow t.firsts.keys (addr / 4096 + 1) key → (k : Key) (n : ℕ) → IsOutAt t class addr k n → k ≡ key
+  pub only_holder : (class addr : ℕ) (key : Key) → IsLastKeyBelow t.firsts.keys (addr / 4096 + 1) key → (k : Key) (n : ℕ) → IsOutAt t class addr k n → k ≡ key
   only_holder class addr key last k n o =
       let b = bits_at t.slots.items k.minor in
       let small = (i.kept.slab k o.there).small in
@@ -160,7 +160,7 @@ module _ (t : Table) (i : IsTable t) where
 
 -- ---- the region at an address
 
-module _ (t : Table) (i : IsTable t) (class addr : ℕ) (small : class < 36) (key : Key) (last : IsLastBelow t.firsts.keys (addr / 4096 + 1) key) where
+module _ (t : Table) (i : IsSlabTable t) (class addr : ℕ) (small : class < 36) (key : Key) (last : IsLastKeyBelow t.firsts.keys (addr / 4096 + 1) key) where
   abbrev offset : ℕ
   offset = addr - 4096 * key.major
 
@@ -187,7 +187,7 @@ module _ (t : Table) (i : IsTable t) (class addr : ℕ) (small : class < 36) (ke
       none (ap (λ x. x % size_at class) is ∙ mul-mod_left n (size_at class)) (subst (HasOut (bits_at t.slots.items key.minor) class) (sym place) p.out))
 
 -- where no slab begins at the page of an address or below, no region stands there
-pub pages_far : (t : Table) → IsTable t → (class addr : ℕ) → ((k : Key) → Contains t.firsts.keys k → addr / 4096 + 1 ≤ k.major) → (k : Key) (n : ℕ) → IsOutAt t class addr k n → ⊥
+pub pages_far : (t : Table) → IsSlabTable t → (class addr : ℕ) → ((k : Key) → Contains t.firsts.keys k → addr / 4096 + 1 ≤ k.major) → (k : Key) (n : ℕ) → IsOutAt t class addr k n → ⊥
 pages_far t i class addr far k n o = let at = o.at in let above = far k o.there in omega arith
 
 -- where a slab has no region out at an address, none begins there
@@ -197,12 +197,12 @@ none_starts t addr none = sym (any_none (starts_at addr) (regions_in t) (λ r m.
     let o = p.2 in
     false_from_ne_true _ (λ e. none p.0 p.1 (record { there = o.there; at = ap (λ (x : Region). x.addr) o.is ∙ eqb-true r.addr addr e; out = record { of_class = refl; inside = o.low; out = o.out } }))))
 
-module _ (t : Table) (i : IsTable t) (addr : ℕ) (key : Key) where
+module _ (t : Table) (i : IsSlabTable t) (addr : ℕ) (key : Key) where
   abbrev class : ℕ
   class = (bits_at t.slots.items key.minor).class
 
   -- none does where the last slab that begins at its page or below has none out there
-  pub none_last : IsLastBelow t.firsts.keys (addr / 4096 + 1) key → false ≡ list_any (is_out class addr) (slabs_in t) → false ≡ list_any (starts_at addr) (regions_in t)
+  pub none_last : IsLastKeyBelow t.firsts.keys (addr / 4096 + 1) key → false ≡ list_any (is_out class addr) (slabs_in t) → false ≡ list_any (starts_at addr) (regions_in t)
   none_last last none = none_starts t addr (λ k n o.
       let is = only_holder t i (bits_at t.slots.items k.minor).class addr key last k n o in
       let yes = out_somewhere t i class addr key n (subst (λ (z : Key). IsOutAt t (bits_at t.slots.items z.minor).class addr z n) is o) in
@@ -210,11 +210,11 @@ module _ (t : Table) (i : IsTable t) (addr : ℕ) (key : Key) where
       cc)
 
   -- a region that is out is what begins at its address
-  pub starts : (n : ℕ) → IsOutAt t class addr key n → Contains (regions_in t) (region_at t.slots.items t.holders.codes.items key n)
+  pub starts : (n : ℕ) → IsOutAt t class addr key n → Contains (regions_in t) (slab_region t.slots.items t.holders.codes.items key n)
   starts n o = out_has t.slots.items t.holders.codes.items t.firsts.keys _ key n (record { there = o.there; low = o.out.inside; out = o.out.out; is = refl })
 
   pub some_starts : (n : ℕ) → IsOutAt t class addr key n → true ≡ list_any (starts_at addr) (regions_in t)
   some_starts n o = sym (any_has (starts_at addr) (regions_in t) _ (starts n o) (eq-eqb _ addr o.at))
 
-  pub found_there : (n : ℕ) → IsOutAt t class addr key n → find (starts_at addr) (regions_in t) ≡ Some (region_at t.slots.items t.holders.codes.items key n)
+  pub found_there : (n : ℕ) → IsOutAt t class addr key n → find (starts_at addr) (regions_in t) ≡ Some (slab_region t.slots.items t.holders.codes.items key n)
   found_there n o = ap (λ a. find (starts_at a) (regions_in t)) (sym o.at) ∙ member_found addr_of (regions_in t) _ (regions_rise t.slots.items t.holders.codes.items t.firsts.keys i.ascending i.kept) (starts n o)

@@ -1,5 +1,5 @@
 -- The places of a slab with their addresses, and slabs under their keys, as bits are written.
-use Rattle.bin_book.proofs.Words.{◌≡◌, ℕ, ◌+◌, ◌-◌, ◌*◌, ◌<◌, ◌≤◌, zero, suc, Bool, true, false, not, ◌&&◌, ◌||◌, eqb, List, [], ◌∷◌, length, map, filter, get_or, set, count_by, position, Some, inl, inr, refl, sym, ap, ◌∙◌, arith, ◌≢◌, ◌^◌, ◌⊎◌, subst, Contains, dite, ℕ_discrete, range_with_len, mul-le-mul_right, cases_Bool, cases_eq, eq-eqb, eqb-true, false_from_ne_true, get_or-set_at, get_or-set_other, get_or-set_same, position-Some, length-filter, sum_by-cons, size_at, pages_at, regions_at, size_bounds, slab_filled, filter_from, filter_has, with_from, with_keeps, with_self, without_from, without_keeps, is_among, place, with_free, without, ones, slab_of, IsBinned, IsCharted, IsKept, IsMoved, IsSlabIn, bin_key, bin_of, bits_at, left_of, no_bits, slab_at, any_has, any_none, bit, filter_both, filter_map_is, filter_same, map_has, map_from, range_from, range_has, count_map, count_same, tied_itself, Bits, Key, with_key, without_key, key_tie, key_total, Chart, HasPage}
+use Rattle.bin_book.proofs.Words.{◌≡◌, ℕ, ◌+◌, ◌-◌, ◌*◌, ◌<◌, ◌≤◌, zero, suc, Bool, true, false, not, ◌&&◌, ◌||◌, eqb, List, [], ◌∷◌, length, map, filter, get_or, set, count_by, position, Some, inl, inr, refl, sym, ap, ◌∙◌, arith, ◌≢◌, ◌^◌, ◌⊎◌, subst, Contains, dite, ℕ_discrete, range_with_len, mul-le-mul_right, cases_Bool, cases_eq, eq-eqb, eqb-true, false_from_ne_true, get_or-set_at, get_or-set_other, get_or-set_same, position-Some, length-filter, sum_by-cons, size_at, pages_at, regions_at, size_bounds, slab_filled, filter_from, filter_has, with_from, with_keeps, with_self, without_from, without_keeps, is_among, place, with_free, with_regions_out, ones, slab_of, IsBinned, IsCharted, AreSlabKeys, IsMoved, IsSlabIn, bin_key, bin_of, bits_at, left_of, no_bits, slab_at, any_has, any_none, bit, filter_both, filter_map_is, filter_same, map_has, map_from, range_from, range_has, count_map, count_same, tied_itself, Bits, Key, with_key, without_key, key_tie, key_total, Chart, HasPage}
 
 -- ---- free places, by their numbers
 
@@ -67,7 +67,7 @@ freed_slab class first addr old new small freed =
 
 -- a slab some of whose places are taken
 pub taken_slab : (class first : ℕ) (addrs : List ℕ) (old new : List Bool) → ((j : ℕ) → j < regions_at class → get_or new j false ≡ (get_or old j false && not (is_among addrs (place class first j))))
-    → slab_of (record { class = class; free = new }) first ≡ without addrs (slab_of (record { class = class; free = old }) first)
+    → slab_of (record { class = class; free = new }) first ≡ with_regions_out addrs (slab_of (record { class = class; free = old }) first)
 taken_slab class first addrs old new taken =
     let n = regions_at class in
     let kept = filter_map_is (place class first) (λ a. not (is_among addrs a)) (ones n old) in
@@ -130,7 +130,7 @@ pub bits_there : (slots : List Bits) (n m : ℕ) (b : Bits) → m ≢ n → bits
 bits_there slots n m b ne = get_or-set_other slots n m b no_bits ne
 
 -- regions of two slabs, or two regions of a slab, have two addresses
-pub one_place : (slots : List Bits) (keys : List Key) → IsKept slots keys → (k l : Key) → Contains keys k → Contains keys l → (i j : ℕ) → i < regions_at (bits_at slots k.minor).class → j < regions_at (bits_at slots l.minor).class
+pub one_place : (slots : List Bits) (keys : List Key) → AreSlabKeys slots keys → (k l : Key) → Contains keys k → Contains keys l → (i j : ℕ) → i < regions_at (bits_at slots k.minor).class → j < regions_at (bits_at slots l.minor).class
     → place (bits_at slots k.minor).class k.major i ≡ place (bits_at slots l.minor).class l.major j → (k ≡ l) × (i ≡ j)
 one_place slots keys kept k l m n i j inside within e =
     let low = place_inside (bits_at slots l.minor).class l.major j (kept.slab l n).small within in
@@ -148,7 +148,7 @@ one_place slots keys kept k l m n i j inside within e =
 
 -- ---- a slab whose bits change
 
-module _ (slots : List Bits) (keys : List Key) (kept : IsKept slots keys) (key : Key) (there : Contains keys key) (low : key.minor < length slots) (new : Bits) (class : new.class ≡ (bits_at slots key.minor).class) where
+module _ (slots : List Bits) (keys : List Key) (kept : AreSlabKeys slots keys) (key : Key) (there : Contains keys key) (low : key.minor < length slots) (new : Bits) (class : new.class ≡ (bits_at slots key.minor).class) where
   -- the bits of a slab of another key are as they were
   pub others_stay : (k : Key) → Contains keys k → k ≢ key → bits_at (set slots key.minor new) k.minor ≡ bits_at slots k.minor
   others_stay k m ne = bits_there slots key.minor k.minor new (λ e. ne (kept.numbers k key m there e))
@@ -166,7 +166,7 @@ module _ (slots : List Bits) (keys : List Key) (kept : IsKept slots keys) (key :
   pub class_stays : (k : Key) → Contains keys k → (bits_at (set slots key.minor new) k.minor).class ≡ (bits_at slots k.minor).class
   class_stays = by_key (λ k b. b.class ≡ (bits_at slots k.minor).class) class (λ k m ne. refl)
 
-  pub kept_changed : IsSlabIn new key.major → IsKept (set slots key.minor new) keys
+  pub kept_changed : IsSlabIn new key.major → AreSlabKeys (set slots key.minor new) keys
   kept_changed is = record {
     slab = by_key (λ k b. IsSlabIn b k.major) is (λ k m ne. kept.slab k m);
     apart = λ k l m n le. let same = class_stays k m in rw same (kept.apart k l m n le);

@@ -1,5 +1,5 @@
 -- The lowest slab with a free region, a region that is taken out of it or put back, and a slab that leaves.
-use Rattle.bin_book.proofs.Words.{◌≡◌, ◌≢◌, ℕ, ◌+◌, ◌*◌, ◌^◌, ◌<◌, Bool, true, false, eqb, List, [], ◌∷◌, ◌++◌, length, length-append, map, find, get_or, Option, Some, None, ◌⊎◌, inl, inr, refl, sym, ap, ◌∙◌, subst, arith, Contains, Less, Equal, vec_len, is_some, IfNone, IfSome, ◌≤◌, suc, ltb, length-set, set, count_by, position, vec_capacity, IsSome, not, filter, is_eq, IsStrictlySortedBy, cases_Bool, cases_eq, cases_lt, eq-eqb, eqb-true, false_from_ne_true, get_or-set_at, nat_tests, tied_itself, get_or_read_under, length-map, get_or-set_other, Key, IsAscending, is_from, key_cmp, KeySet, is_other, without_key, key_total, contains_cases, contains_later, other_from, without_from, first_of, less_parts, start, start_from, less_major, every_member, Bits, regions_at, Table, free_of, place, Slab, with_free, without, is_unused, IsLowestOpen, IsTable, bin_of, bits_at, left_of, no_bits, ones, slab_at, slabs_in, IsMoved, IsOutAt, IsSlabIn, bin_key, slab_of, slabs_without, found, head, bit, map_both, map_same, any_has, any_map, any_none, filter_all_of, filter_map_is, filter_same, map_from, map_has, position_or_len, list_any, position-Some, pages_bounds, slab_filled, fails_before_first, sum_by-cons, sum_by-set}
+use Rattle.bin_book.proofs.Words.{◌≡◌, ◌≢◌, ℕ, ◌+◌, ◌*◌, ◌^◌, ◌<◌, Bool, true, false, eqb, List, [], ◌∷◌, ◌++◌, length, length-append, map, find, get_or, Option, Some, None, ◌⊎◌, inl, inr, refl, sym, ap, ◌∙◌, subst, arith, Contains, Less, Equal, vec_len, is_some, IfNone, IfSome, ◌≤◌, suc, ltb, length-set, set, count_by, position, vec_capacity, IsSome, not, filter, is_eq, IsStrictlySortedBy, cases_Bool, cases_eq, cases_lt, eq-eqb, eqb-true, false_from_ne_true, get_or-set_at, nat_tests, tied_itself, get_or_read_under, length-map, get_or-set_other, Key, IsAscending, is_from, key_cmp, KeySet, is_other, without_key, key_total, contains_cases, contains_later, other_from, without_from, first_of, less_parts, start, start_from, less_major, every_member, Bits, regions_at, Table, free_of, place, BinSlab, with_free, with_regions_out, is_all_free, IsLowestOpen, IsSlabTable, bin_of, bits_at, left_of, no_bits, ones, slab_at, slabs_in, IsMoved, IsOutAt, IsSlabIn, bin_key, slab_of, slabs_without, found, head, bit, map_both, map_same, any_has, any_map, any_none, filter_all_of, filter_map_is, filter_same, map_from, map_has, position_or_len, list_any, position-Some, pages_bounds, slab_filled, fails_before_first, sum_by-cons, sum_by-set}
 use Rattle.bin_book.proofs.Places.{length_ones, freed_slab, lowest_one, same_place, taken_slab, binned_changed, charted_changed, by_key, counts_stay, is_new, kept_changed, one_place, others_stay, key_cases}
 
 -- a key below another one is another one
@@ -22,18 +22,18 @@ free_none slots class [] none = refl
 free_none slots class (k ∷ ks) none = grind (arith, nat_tests, free_none slots class ks (λ l m. none l (contains_later k ks l m)), none k (head k ks))
 
 -- the free places of a slab are as many as its bits say
-pub length_free : (t : Table) → IsTable t → (k : Key) → Contains t.firsts.keys k → length (ones (regions_at (bits_at t.slots.items k.minor).class) (bits_at t.slots.items k.minor).free) ≡ left_of (bits_at t.slots.items k.minor)
+pub length_free : (t : Table) → IsSlabTable t → (k : Key) → Contains t.firsts.keys k → length (ones (regions_at (bits_at t.slots.items k.minor).class) (bits_at t.slots.items k.minor).free) ≡ left_of (bits_at t.slots.items k.minor)
 length_free t i k m = length_ones (bits_at t.slots.items k.minor).free (regions_at (bits_at t.slots.items k.minor).class) (i.kept.slab k m).behind
 
-pub small_numbers : (t : Table) → IsTable t → (k : Key) → Contains t.firsts.keys k → k.minor < 2 ^ 32
+pub small_numbers : (t : Table) → IsSlabTable t → (k : Key) → Contains t.firsts.keys k → k.minor < 2 ^ 32
 small_numbers t i k m = let low = i.in_slots k m in let small = i.small in omega arith
 
 -- what is read of the slot of a slab
-pub read_bits : (t : Table) → IsTable t → (k : Key) → Contains t.firsts.keys k → (x : Bits) → x ≡ get_or t.slots.items k.minor x → x ≡ bits_at t.slots.items k.minor
+pub read_bits : (t : Table) → IsSlabTable t → (k : Key) → Contains t.firsts.keys k → (x : Bits) → x ≡ get_or t.slots.items k.minor x → x ≡ bits_at t.slots.items k.minor
 read_bits t i k m x e = get_or_read_under t.slots.items k.minor (vec_len t.slots) x no_bits e (i.in_slots k m) t.slots.ok.0
 
 -- a full slab has no free regions
-pub full_free : (t : Table) → IsTable t → (k : Key) → Contains t.firsts.keys k → left_of (bits_at t.slots.items k.minor) ≡ 0 → (slab_at t.slots.items k).free ≡ []
+pub full_free : (t : Table) → IsSlabTable t → (k : Key) → Contains t.firsts.keys k → left_of (bits_at t.slots.items k.minor) ≡ 0 → (slab_at t.slots.items k).free ≡ []
 full_free t i k m e = ap (map (place (bits_at t.slots.items k.minor).class k.major)) (no_ones _ (length_free t i k m ∙ e))
 
 -- a slab of a class with free regions has a key from the start of the class on
@@ -41,15 +41,15 @@ pub open_key : (t : Table) (class : ℕ) (k : Key) → (bits_at t.slots.items k.
 open_key t class k e some = let f : eqb (left_of (bits_at t.slots.items k.minor)) 0 ≡ false = grind (arith, nat_tests) in rw f (omega arith)
 
 -- where there is no such key, no region of the class is free
-pub none_open : (t : Table) → IsTable t → (class : ℕ) → ((b : Key) → Contains t.bins.keys b → b.major ≢ 2 * class) → free_of class (slabs_in t) ≡ []
+pub none_open : (t : Table) → IsSlabTable t → (class : ℕ) → ((b : Key) → Contains t.bins.keys b → b.major ≢ 2 * class) → free_of class (slabs_in t) ≡ []
 unfolding slabs_in
 none_open t i class none = free_none t.slots.items class t.firsts.keys (λ k m e. full_free t i k m (grind (arith, none (bin_of t.slots.items k) (i.binned.has k m), open_key t class k e)))
 
 -- no key is found from the start of the class on, or one of a later class
-pub not_found : (t : Table) → IsTable t → (class : ℕ) → IsAscending t.bins.keys → find (is_from (start (2 * class))) t.bins.keys ≡ None → free_of class (slabs_in t) ≡ []
+pub not_found : (t : Table) → IsSlabTable t → (class : ℕ) → IsAscending t.bins.keys → find (is_from (start (2 * class))) t.bins.keys ≡ None → free_of class (slabs_in t) ≡ []
 not_found t i class s e = none_open t i class (λ b m major. let p = first_of t.bins.keys (2 * class) b s m major in let no : None ≡ Some p.0 = sym e ∙ p.1 in cc)
 
-pub found_later : (t : Table) → IsTable t → (class : ℕ) → IsAscending t.bins.keys → (bin : Key) → find (is_from (start (2 * class))) t.bins.keys ≡ Some bin → bin.major ≢ 2 * class → free_of class (slabs_in t) ≡ []
+pub found_later : (t : Table) → IsSlabTable t → (class : ℕ) → IsAscending t.bins.keys → (bin : Key) → find (is_from (start (2 * class))) t.bins.keys ≡ Some bin → bin.major ≢ 2 * class → free_of class (slabs_in t) ≡ []
 found_later t i class s bin e other = none_open t i class (λ b m major.
     let p = first_of t.bins.keys (2 * class) b s m major in
     let one : Some bin ≡ Some p.0 = sym e ∙ p.1 in
@@ -57,7 +57,7 @@ found_later t i class s bin e other = none_open t i class (λ b m major.
     other (ap (λ (k : Key). k.major) same ∙ p.3))
 
 -- the key that is found is that of the lowest slab
-pub found_open : (t : Table) → IsTable t → (class : ℕ) → IsAscending t.bins.keys → (bin key : Key) → find (is_from (start (2 * class))) t.bins.keys ≡ Some bin → bin.major ≡ 2 * class → key.major * 2 ^ 32 + key.minor ≡ bin.minor → key.minor < 2 ^ 32 → IsLowestOpen t class key
+pub found_open : (t : Table) → IsSlabTable t → (class : ℕ) → IsAscending t.bins.keys → (bin key : Key) → find (is_from (start (2 * class))) t.bins.keys ≡ Some bin → bin.major ≡ 2 * class → key.major * 2 ^ 32 + key.minor ≡ bin.minor → key.minor < 2 ^ 32 → IsLowestOpen t class key
 found_open t i class s bin key e major minor low =
     let b = found (is_from (start (2 * class))) t.bins.keys bin e in
     let p = i.binned.from bin b.0 in
@@ -88,7 +88,7 @@ tail_nil [] ys e = e
 tail_nil (x ∷ xs) ys e = absurd (let l : length (x ∷ (xs ++ ys)) ≡ 0 = ap length e in omega arith)
 
 -- and its class has a free region
-pub some_open : (t : Table) → IsTable t → (class : ℕ) (key : Key) → IsLowestOpen t class key → free_of class (slabs_in t) ≡ [] → ⊥
+pub some_open : (t : Table) → IsSlabTable t → (class : ℕ) (key : Key) → IsLowestOpen t class key → free_of class (slabs_in t) ≡ [] → ⊥
 unfolding slabs_in
 some_open t i class key o none = by t.firsts.keys o.there none
   where
@@ -103,7 +103,7 @@ some_open t i class key o none = by t.firsts.keys o.there none
     ]
 
 -- so what is found tells whether a region is free
-pub free_told : (t : Table) → IsTable t → (class : ℕ) (r : Option Key) (told : Bool) (free : List ℕ) → free_of class (slabs_in t) ≡ free → told ≡ is_some r → IfNone r (free_of class (slabs_in t) ≡ []) → IfSome r (λ key. IsLowestOpen t class key)
+pub free_told : (t : Table) → IsSlabTable t → (class : ℕ) (r : Option Key) (told : Bool) (free : List ℕ) → free_of class (slabs_in t) ≡ free → told ≡ is_some r → IfNone r (free_of class (slabs_in t) ≡ []) → IfSome r (λ key. IsLowestOpen t class key)
     → (told ≡ true → free ≡ [] → ⊥) × ((free ≡ [] → ⊥) → told ≡ true)
 free_told t i class None told free e is none some = ((λ yes nothing. let no : false ≡ true = sym is ∙ yes in cc), (λ more. absurd (more (sym e ∙ none))))
 free_told t i class (Some key) told free e is none some = ((λ yes nothing. some_open t i class key some (e ∙ nothing)), (λ more. is))
@@ -153,14 +153,14 @@ more_left bits i l f = let none : bit (get_or bits i false) ≡ 0 = ap bit f in 
 
 -- ---- a table of which one slot is written
 
-module _ (t : Table) (i : IsTable t) (key : Key) (there : Contains t.firsts.keys key) (new : Bits) (class : new.class ≡ (bits_at t.slots.items key.minor).class) where
+module _ (t : Table) (i : IsSlabTable t) (key : Key) (there : Contains t.firsts.keys key) (new : Bits) (class : new.class ≡ (bits_at t.slots.items key.minor).class) where
   abbrev after : List Bits
   after = set t.slots.items key.minor new
 
   pub in_items : key.minor < length t.slots.items
   in_items = let l = i.in_slots key there in let same = t.slots.ok.0 in omega arith
 
-  pub table_changed : IsSlabIn new key.major → (u : Table) → u.firsts ≡ t.firsts → u.slots.items ≡ after → vec_len u.slots ≡ vec_len t.slots → u.free ≡ t.free → u.counts ≡ t.counts → u.chart ≡ t.chart → IsMoved t.bins.keys u.bins.keys (bin_of t.slots.items key) (bin_key new.class (eqb (left_of new) 0) key) → u.bins.spare ≡ t.bins.spare → vec_len u.holders.codes ≡ vec_len t.holders.codes → IsTable u
+  pub table_changed : IsSlabIn new key.major → (u : Table) → u.firsts ≡ t.firsts → u.slots.items ≡ after → vec_len u.slots ≡ vec_len t.slots → u.free ≡ t.free → u.counts ≡ t.counts → u.chart ≡ t.chart → IsMoved t.bins.keys u.bins.keys (bin_of t.slots.items key) (bin_key new.class (eqb (left_of new) 0) key) → u.bins.spare ≡ t.bins.spare → vec_len u.holders.codes ≡ vec_len t.holders.codes → IsSlabTable u
   unfolding slabs_in
   table_changed is u firsts items len free counts chart moved spare codes =
       let keys = ap (λ (s : KeySet). s.keys) firsts in
@@ -187,7 +187,7 @@ module _ (t : Table) (i : IsTable t) (key : Key) (there : Contains t.firsts.keys
       }
 
   -- its slabs, where each is changed so
-  pub slabs_changed : (f : Slab → Slab) → slab_of new key.major ≡ f (slab_at t.slots.items key) → ((k : Key) → Contains t.firsts.keys k → k ≢ key → slab_at t.slots.items k ≡ f (slab_at t.slots.items k))
+  pub slabs_changed : (f : BinSlab → BinSlab) → slab_of new key.major ≡ f (slab_at t.slots.items key) → ((k : Key) → Contains t.firsts.keys k → k ≢ key → slab_at t.slots.items k ≡ f (slab_at t.slots.items k))
       → (u : Table) → u.firsts ≡ t.firsts → u.slots.items ≡ after → slabs_in u ≡ map f (slabs_in t)
   unfolding slabs_in
   slabs_changed f here others u firsts items =
@@ -222,7 +222,7 @@ taken_first old new class a key (k ∷ ks) s m before stay c d first = elim (con
       grind (arith, nat_tests, before k (head k ks) below, same, deep)
 ]
 
-module _ (t : Table) (i : IsTable t) (class : ℕ) (key : Key) (o : IsLowestOpen t class key) (n : ℕ) (found : position (λ b. b) (bits_at t.slots.items key.minor).free ≡ Some n) (low : n < regions_at (bits_at t.slots.items key.minor).class) where
+module _ (t : Table) (i : IsSlabTable t) (class : ℕ) (key : Key) (o : IsLowestOpen t class key) (n : ℕ) (found : position (λ b. b) (bits_at t.slots.items key.minor).free ≡ Some n) (low : n < regions_at (bits_at t.slots.items key.minor).class) where
   abbrev bits : Bits
   bits = bits_at t.slots.items key.minor
 
@@ -245,12 +245,12 @@ module _ (t : Table) (i : IsTable t) (class : ℕ) (key : Key) (o : IsLowestOpen
       bit_written bits key.major n false is low (let less = fewer_left bits.free n within is_free in let some = is.some_out in omega arith)
 
   -- each slab is without the address
-  taken_here : slab_of (with_bit bits n false) key.major ≡ without (addr ∷ []) (slab_at t.slots.items key)
+  taken_here : slab_of (with_bit bits n false) key.major ≡ with_regions_out (addr ∷ []) (slab_at t.slots.items key)
   taken_here = taken_slab bits.class key.major (addr ∷ []) bits.free (set bits.free n false) (λ j l.
       grind (arith, nat_tests, get_or-set_at, get_or-set_other, cases_eq j n, within, same_place bits.class key.major n j (i.kept.slab key o.there).small))
 
-  pub taken_slabs : (u : Table) → u.firsts ≡ t.firsts → u.slots.items ≡ set t.slots.items key.minor (with_bit bits n false) → slabs_in u ≡ map (without (addr ∷ [])) (slabs_in t)
-  taken_slabs = slabs_changed t i key o.there (with_bit bits n false) refl (without (addr ∷ [])) taken_here (λ k m ne.
+  pub taken_slabs : (u : Table) → u.firsts ≡ t.firsts → u.slots.items ≡ set t.slots.items key.minor (with_bit bits n false) → slabs_in u ≡ map (with_regions_out (addr ∷ [])) (slabs_in t)
+  taken_slabs = slabs_changed t i key o.there (with_bit bits n false) refl (with_regions_out (addr ∷ [])) taken_here (λ k m ne.
       let b = bits_at t.slots.items k.minor in
       taken_slab b.class k.major (addr ∷ []) b.free b.free (λ j l.
       let differ : eqb addr (place b.class k.major j) ≡ false = false_from_ne_true _ (λ e. others_lack k m ne j l (sym (eqb-true _ _ e))) in
@@ -272,7 +272,7 @@ module _ (t : Table) (i : IsTable t) (class : ℕ) (key : Key) (o : IsLowestOpen
 
 -- ---- a region is put back
 
-module _ (t : Table) (i : IsTable t) (class addr : ℕ) (key : Key) (n : ℕ) (o : IsOutAt t class addr key n) where
+module _ (t : Table) (i : IsSlabTable t) (class addr : ℕ) (key : Key) (n : ℕ) (o : IsOutAt t class addr key n) where
   abbrev old : Bits
   old = bits_at t.slots.items key.minor
 
@@ -311,51 +311,51 @@ module _ (t : Table) (i : IsTable t) (class addr : ℕ) (key : Key) (n : ℕ) (o
   put_slabs = slabs_changed t i key o.there (with_bit old n true) refl (with_free addr) put_here put_others
 
 -- a slab of a table has a region that is out
-slab_used : (t : Table) → IsTable t → (k : Key) → Contains t.firsts.keys k → is_unused (slab_at t.slots.items k) ≡ false
+slab_used : (t : Table) → IsSlabTable t → (k : Key) → Contains t.firsts.keys k → is_all_free (slab_at t.slots.items k) ≡ false
 slab_used t i k m =
     let b = bits_at t.slots.items k.minor in
     let many = length-map (ones (regions_at b.class) b.free) (place b.class k.major) ∙ length_free t i k m in
     let some = (i.kept.slab k m).some_out in
     grind (arith, nat_tests)
 
-pub none_unused : (t : Table) → IsTable t → list_any is_unused (slabs_in t) ≡ false
+pub none_unused : (t : Table) → IsSlabTable t → list_any is_all_free (slabs_in t) ≡ false
 unfolding slabs_in
-none_unused t i = any_map (slab_at t.slots.items) is_unused t.firsts.keys ∙ any_none (λ k. is_unused (slab_at t.slots.items k)) t.firsts.keys (slab_used t i)
+none_unused t i = any_map (slab_at t.slots.items) is_all_free t.firsts.keys ∙ any_none (λ k. is_all_free (slab_at t.slots.items k)) t.firsts.keys (slab_used t i)
 
-pub all_used : (t : Table) → IsTable t → filter (λ s. not (is_unused s)) (slabs_in t) ≡ slabs_in t
+pub all_used : (t : Table) → IsSlabTable t → filter (λ s. not (is_all_free s)) (slabs_in t) ≡ slabs_in t
 unfolding slabs_in
-all_used t i = filter_all_of (λ s. not (is_unused s)) (map (slab_at t.slots.items) t.firsts.keys) (λ s m.
+all_used t i = filter_all_of (λ s. not (is_all_free s)) (map (slab_at t.slots.items) t.firsts.keys) (λ s m.
     let p = map_from (slab_at t.slots.items) t.firsts.keys s m in
-    ap (λ (s : Slab). not (is_unused s)) (sym p.2) ∙ ap not (slab_used t i p.0 p.1))
+    ap (λ (s : BinSlab). not (is_all_free s)) (sym p.2) ∙ ap not (slab_used t i p.0 p.1))
 
-module _ (t : Table) (i : IsTable t) (class addr : ℕ) (key : Key) (n : ℕ) (o : IsOutAt t class addr key n) (last : left_of (bits_at t.slots.items key.minor) + 1 ≡ regions_at class) where
+module _ (t : Table) (i : IsSlabTable t) (class addr : ℕ) (key : Key) (n : ℕ) (o : IsOutAt t class addr key n) (last : left_of (bits_at t.slots.items key.minor) + 1 ≡ regions_at class) where
   -- the slab would be unused
-  emptied : is_unused (with_free addr (slab_at t.slots.items key)) ≡ true
+  emptied : is_all_free (with_free addr (slab_at t.slots.items key)) ≡ true
   emptied =
       let b = bits_at t.slots.items key.minor in
       let bits = set b.free n true in
       let count = length-map (ones (regions_at b.class) bits) (place b.class key.major) ∙ length_ones bits (regions_at b.class) (put_behind t i class addr key n o) ∙ left_put t i class addr key n o ∙ last ∙ ap regions_at (sym o.out.of_class) in
-      ap is_unused (sym (put_here t i class addr key n o)) ∙ grind (arith, nat_tests)
+      ap is_all_free (sym (put_here t i class addr key n o)) ∙ grind (arith, nat_tests)
 
-  pub one_unused : list_any is_unused (map (with_free addr) (slabs_in t)) ≡ true
+  pub one_unused : list_any is_all_free (map (with_free addr) (slabs_in t)) ≡ true
   unfolding slabs_in
-  one_unused = any_has is_unused (map (with_free addr) (map (slab_at t.slots.items) t.firsts.keys)) (with_free addr (slab_at t.slots.items key))
+  one_unused = any_has is_all_free (map (with_free addr) (map (slab_at t.slots.items) t.firsts.keys)) (with_free addr (slab_at t.slots.items key))
       (map_has (with_free addr) (map (slab_at t.slots.items) t.firsts.keys) (slab_at t.slots.items key) (map_has (slab_at t.slots.items) t.firsts.keys key o.there)) emptied
 
-  used_is_other : (k : Key) → Contains t.firsts.keys k → not (is_unused (with_free addr (slab_at t.slots.items k))) ≡ is_other key k
+  used_is_other : (k : Key) → Contains t.firsts.keys k → not (is_all_free (with_free addr (slab_at t.slots.items k))) ≡ is_other key k
   used_is_other k m = elim (key_cases k key) [
     | inl e ↦
         let same : key_cmp key key ≡ Equal = tied_itself key_total key in
         let other : is_other key key ≡ false = ap (λ r. not (is_eq r)) same in
-        ap (λ (z : Key). not (is_unused (with_free addr (slab_at t.slots.items z)))) e ∙ ap not emptied ∙ sym (ap (is_other key) e ∙ other)
-    | inr ne ↦ ap (λ (s : Slab). not (is_unused s)) (sym (put_others t i class addr key n o k m ne)) ∙ ap not (slab_used t i k m) ∙ sym (other_from key k ne)
+        ap (λ (z : Key). not (is_all_free (with_free addr (slab_at t.slots.items z)))) e ∙ ap not emptied ∙ sym (ap (is_other key) e ∙ other)
+    | inr ne ↦ ap (λ (s : BinSlab). not (is_all_free s)) (sym (put_others t i class addr key n o k m ne)) ∙ ap not (slab_used t i k m) ∙ sym (other_from key k ne)
   ]
 
-  pub others_used : slabs_without t key ≡ filter (λ s. not (is_unused s)) (map (with_free addr) (slabs_in t))
+  pub others_used : slabs_without t key ≡ filter (λ s. not (is_all_free s)) (map (with_free addr) (slabs_in t))
   unfolding slabs_in
   others_used =
       let f = with_free addr in
-      let p = λ (s : Slab). not (is_unused s) in
+      let p = λ (s : BinSlab). not (is_all_free s) in
       let slab = slab_at t.slots.items in
       let first = filter_map_is f p (map slab t.firsts.keys) ∙ ap (map f) (filter_map_is slab (λ s. p (f s)) t.firsts.keys) in
       let kept = filter_same (λ k. p (f (slab k))) (is_other key) t.firsts.keys used_is_other in

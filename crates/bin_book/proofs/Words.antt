@@ -38,11 +38,11 @@ pub use Rattle.space_model.specs.Region.{landing, region_of, regions_from, start
 pub use Rattle.space_model.specs.declared.parts.Region.{Region}
 pub use mathlib.Core.Logic.{dite}
 pub use native.Mathlib.Decide.{ℕ_discrete}
-pub use Rattle.bin_book.specs.Bins.{addr_of, meets_slab, place, slab_with_out, with_slab, Bins, free_of, is_unused, with_free, without, Slab, is_among, is_out, places}
+pub use Rattle.bin_book.specs.Bins.{addr_of, meets_slab, place, slab_with_out, with_slab, Bins, free_of, is_all_free, with_free, with_regions_out, BinSlab, is_among, is_out, slab_places}
 pub use Rattle.bin_book.specs.Charts.{HasPage, Grows, first_at}
 pub use Rattle.bin_book.specs.Holders.{holder_at}
-pub use Rattle.bin_book.specs.Tables.{AreCounts, AreFree, IsBinned, IsCharted, IsKept, IsSlabIn, IsTable, bin_key, bin_of, bits_at, left_of, ones, region_at, regions_in, slab_at, slab_of, slabs_without, IsOutAt, no_bits, regions_without, HasOut, IsLastBelow, IsMoved, out_of, zeros, IsLowestOpen}
-unfoldable pub use Rattle.bin_book.specs.Tables.{regions_of, slabs_in}
+pub use Rattle.bin_book.specs.Tables.{AreCounts, AreFreeSlots, IsBinned, IsCharted, AreSlabKeys, IsSlabIn, IsSlabTable, bin_key, bin_of, bits_at, left_of, ones, slab_region, regions_in, slab_at, slab_of, slabs_without, IsOutAt, no_bits, regions_without, HasOut, IsLastKeyBelow, IsMoved, out_of, zeros, IsLowestOpen}
+unfoldable pub use Rattle.bin_book.specs.Tables.{out_of_slabs, slabs_in}
 pub use Rattle.bin_book.specs.declared.chart.Chart.{Chart}
 pub use Rattle.bin_book.specs.declared.holders.Holders.{Holders}
 pub use Rattle.bin_book.specs.declared.table.Table.{Table}

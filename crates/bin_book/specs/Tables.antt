@@ -9,7 +9,7 @@ use Rattle.ordered_set.specs.declared.key.Key.{Key}
 use Rattle.ordered_set.specs.Keys.{IsAscending, without_key}
 use Rattle.bin_book.specs.declared.chart.Chart.{Chart}
 use Rattle.bin_book.specs.declared.table.Table.{Table}
-use Rattle.bin_book.specs.Bins.{Slab, place}
+use Rattle.bin_book.specs.Bins.{BinSlab, place}
 use Rattle.bin_book.specs.Charts.{HasPage, first_at}
 use Rattle.bin_book.specs.Holders.{holder_at}
 
@@ -30,7 +30,7 @@ abbrev pub left_of : Bits → ℕ
 left_of bits = count_by (λ free. free) bits.free
 
 -- the slab from a page on that has these bits
-abbrev pub slab_of : Bits → ℕ → Slab
+abbrev pub slab_of : Bits → ℕ → BinSlab
 slab_of bits first = record {
   class = bits.class;
   first = first;
@@ -38,11 +38,11 @@ slab_of bits first = record {
 }
 
 -- the slab of a first page with the number of its slot
-abbrev pub slab_at : List Bits → Key → Slab
+abbrev pub slab_at : List Bits → Key → BinSlab
 slab_at slots key = slab_of (bits_at slots key.minor) key.major
 
 -- the slabs of a table, in order of first page
-unfoldable pub slabs_in : Table → List Slab
+unfoldable pub slabs_in : Table → List BinSlab
 slabs_in t = map (slab_at t.slots.items) t.firsts.keys
 
 -- the places below a number that are out
@@ -50,8 +50,8 @@ abbrev pub zeros : ℕ → List Bool → List ℕ
 zeros n bits = filter (λ i. not (slice_index_or bits i false)) (range_with_len 0 n)
 
 -- the region at a place of the slab with this key
-abbrev pub region_at : List Bits → List ℕ → Key → ℕ → Region
-region_at slots codes key i = record {
+abbrev pub slab_region : List Bits → List ℕ → Key → ℕ → Region
+slab_region slots codes key i = record {
   addr = place (bits_at slots key.minor).class key.major i;
   class = (bits_at slots key.minor).class;
   holder = holder_at codes (512 * key.minor + i);
@@ -59,15 +59,15 @@ region_at slots codes key i = record {
 
 -- the regions of the slab that are out
 abbrev pub out_of : List Bits → List ℕ → Key → List Region
-out_of slots codes key = map (region_at slots codes key) (zeros (regions_at (bits_at slots key.minor).class) (bits_at slots key.minor).free)
+out_of slots codes key = map (slab_region slots codes key) (zeros (regions_at (bits_at slots key.minor).class) (bits_at slots key.minor).free)
 
 -- the regions that are out of the slabs with these keys
-unfoldable pub regions_of : List Bits → List ℕ → List Key → List Region
-regions_of slots codes keys = flat_map (out_of slots codes) keys
+unfoldable pub out_of_slabs : List Bits → List ℕ → List Key → List Region
+out_of_slabs slots codes keys = flat_map (out_of slots codes) keys
 
 -- the regions that are out of the slabs of a table, by address
 abbrev pub regions_in : Table → List Region
-regions_in t = regions_of t.slots.items t.holders.codes.items t.firsts.keys
+regions_in t = out_of_slabs t.slots.items t.holders.codes.items t.firsts.keys
 
 -- where a slab stands among those of its class: first those that have free regions, by first page
 abbrev pub bin_key : ℕ → Bool → Key → Key
@@ -85,7 +85,7 @@ pub record IsSlabIn (bits : Bits) (first : ℕ) : Type 0 where
   pub inside : first + pages_at bits.class ≤ 2 ^ 32
 
 -- the keys are those of slabs, no page is in two of them, and no slot has two
-pub record IsKept (slots : List Bits) (keys : List Key) : Type 0 where
+pub record AreSlabKeys (slots : List Bits) (keys : List Key) : Type 0 where
   pub slab : (k : Key) → Contains keys k → IsSlabIn (bits_at slots k.minor) k.major
   pub apart : (k l : Key) → Contains keys k → Contains keys l → k.major ≤ l.major → (k ≡ l) ⊎ (k.major + pages_at (bits_at slots k.minor).class ≤ l.major)
   pub numbers : (k l : Key) → Contains keys k → Contains keys l → k.minor ≡ l.minor → k ≡ l
@@ -96,13 +96,13 @@ pub record IsBinned (slots : List Bits) (keys bins : List Key) : Type 0 where
   pub from : (b : Key) → Contains bins b → (k : Key) × Contains keys k × (bin_of slots k ≡ b)
 
 -- the free numbers are those of slots without a slab, each once
-pub record AreFree (free : List ℕ) (keys : List Key) (slots : ℕ) : Type 0 where
+pub record AreFreeSlots (free : List ℕ) (keys : List Key) (slots : ℕ) : Type 0 where
   pub in_slots : (n : ℕ) → Contains free n → n < slots
   pub unused : (n : ℕ) (k : Key) → Contains free n → Contains keys k → k.minor ≢ n
   pub once : (n : ℕ) → count_by (λ m. m == n) free ≤ 1
 
 -- the slab with this key has the number and the page
-pub record IsHolder (slots : List Bits) (keys : List Key) (number page : ℕ) (key : Key) : Type 0 where
+pub record IsSlabAt (slots : List Bits) (keys : List Key) (number page : ℕ) (key : Key) : Type 0 where
   pub there : Contains keys key
   pub at : key.minor ≡ number
   pub has : HasPage key.major (pages_at (bits_at slots key.minor).class) page
@@ -110,10 +110,10 @@ pub record IsHolder (slots : List Bits) (keys : List Key) (number page : ℕ) (k
 -- the first page of each slab stands at its number, and a page has a number only where the slab with that number has the page
 pub record IsCharted (slots : List Bits) (keys : List Key) (chart : Chart) : Type 0 where
   pub firsts : (k : Key) → Contains keys k → first_at chart.firsts.items k.minor ≡ k.major
-  pub holders : (page number : ℕ) → map_of.get chart.pages.numbers page ≡ Some number → (k : Key) × IsHolder slots keys number page k
+  pub holders : (page number : ℕ) → map_of.get chart.pages.numbers page ≡ Some number → (k : Key) × IsSlabAt slots keys number page k
 
 -- so many slabs of each class are counted
-abbrev pub AreCounts : List ℕ → List Slab → Type 0
+abbrev pub AreCounts : List ℕ → List BinSlab → Type 0
 AreCounts counts slabs = (class : ℕ) → class < 36 → slice_index_or counts class 0 ≡ count_by (λ s. s.class == class) slabs
 
 -- a set of keys with one in place of another
@@ -123,19 +123,19 @@ pub record IsMoved (old new : List Key) (was now : Key) : Type 0 where
   pub from : (k : Key) → Contains new k → (k ≡ now) ⊎ (Contains old k × (k ≢ was))
 
 -- the key of the last slab that begins below a page
-pub record IsLastBelow (keys : List Key) (page : ℕ) (key : Key) : Type 0 where
+pub record IsLastKeyBelow (keys : List Key) (page : ℕ) (key : Key) : Type 0 where
   pub there : Contains keys key
   pub below : key.major < page
   pub last : (k : Key) → Contains keys k → k.major < page → k.major ≤ key.major
 
 -- slots, sets, chart and counts keep the slabs, each slot has a code for each region, and there is room for as many as there are free slots
-pub record IsTable (t : Table) : Type 0 where
+pub record IsSlabTable (t : Table) : Type 0 where
   pub ascending : IsAscending t.firsts.keys
-  pub kept : IsKept t.slots.items t.firsts.keys
+  pub kept : AreSlabKeys t.slots.items t.firsts.keys
   pub binned : IsBinned t.slots.items t.firsts.keys t.bins.keys
   pub charted : IsCharted t.slots.items t.firsts.keys t.chart
   pub in_slots : (k : Key) → Contains t.firsts.keys k → k.minor < vec_len t.slots
-  pub free : AreFree t.free.items t.firsts.keys (vec_len t.slots)
+  pub free : AreFreeSlots t.free.items t.firsts.keys (vec_len t.slots)
   pub classes : length t.counts ≡ 36
   pub counts : AreCounts t.counts (slabs_in t)
   pub places : length t.firsts.keys + vec_len t.free ≡ vec_len t.slots
@@ -166,9 +166,9 @@ pub record IsLowestOpen (t : Table) (class : ℕ) (key : Key) : Type 0 where
   pub lowest : (k : Key) → Contains t.firsts.keys k → (bits_at t.slots.items k.minor).class ≡ class → 0 < left_of (bits_at t.slots.items k.minor) → key.major ≤ k.major
 
 -- the slabs of a table without the one with this key
-abbrev pub slabs_without : Table → Key → List Slab
+abbrev pub slabs_without : Table → Key → List BinSlab
 slabs_without t key = map (slab_at t.slots.items) (without_key t.firsts.keys key)
 
 -- the regions of these
 abbrev pub regions_without : Table → Key → List Region
-regions_without t key = regions_of t.slots.items t.holders.codes.items (without_key t.firsts.keys key)
+regions_without t key = out_of_slabs t.slots.items t.holders.codes.items (without_key t.firsts.keys key)

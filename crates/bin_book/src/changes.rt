@@ -5,9 +5,9 @@ ghost use Rattle.std.specs.List.{list_any};
 ghost use Rattle.page_map.specs.declared.table.TheConstants.{PAGES};
 ghost use Rattle.size_classes.specs.Classes.{IsSmall, pages_at, regions_at};
 ghost use Rattle.space_model.specs.Region.{held_anew, inserted, landing, region_of, regions_from, starts_at};
-ghost use Rattle.bin_book.specs.Bins.{free_of, meets_slab, place, slab_with_out, with_free, with_slab, without};
+ghost use Rattle.bin_book.specs.Bins.{free_of, meets_slab, place, slab_with_out, with_free, with_slab, with_regions_out};
 ghost use Rattle.bin_book.specs.Charts.{HasPage};
-ghost use Rattle.bin_book.specs.Tables.{IsMoved, IsOutAt, IsTable, bits_at, left_of, regions_in, regions_without, slabs_in, slabs_without};
+ghost use Rattle.bin_book.specs.Tables.{IsMoved, IsOutAt, IsSlabTable, bits_at, left_of, regions_in, regions_without, slabs_in, slabs_without};
 
 use crate::table::{Table, bin_key};
 use ordered_set::{Key, OrderedSet};
@@ -17,7 +17,7 @@ use slab_bits::SlabBits;
 impl Table {
     /// Adds a slab whose lowest `count` regions are out, and held by the client.
     pub fn add(&mut self, client: u32, class: u8, first: u64, count: u32)
-        requires table { IsTable self.old }
+        requires table { IsSlabTable self.old }
         requires room { 0 < vec_len self.old.free }
         requires client { client < 32 }
         requires class { IsSmall class }
@@ -25,7 +25,7 @@ impl Table {
         requires most { count ≤ regions_at class }
         requires inside { first + pages_at class ≤ 2 ^ 32 }
         requires apart { list_any (meets_slab class first) (slabs_in self.old) ≡ false }
-        ensures table { IsTable self.new }
+        ensures table { IsSlabTable self.new }
         ensures slabs { slabs_in self.new ≡ with_slab (slabs_in self.old) (slab_with_out class first count) }
         ensures regions { regions_in self.new ≡ landing (regions_from client class (4096 * first) count) (regions_in self.old) }
         ensures free { vec_len self.new.free + 1 ≡ vec_len self.old.free }
@@ -49,17 +49,17 @@ impl Table {
 
     /// Takes the lowest free region of a class out. The client holds it.
     pub fn take_one(&mut self, client: u32, class: u8) -> Option<u64>
-        requires table { IsTable self.old }
+        requires table { IsSlabTable self.old }
         requires client { client < 32 }
         requires class { IsSmall class }
-        ensures table { IsTable self.new }
+        ensures table { IsSlabTable self.new }
         ensures none { IfNone result (free_of class (slabs_in self.old) ≡ []) }
         ensures unchanged { IfNone result (slabs_in self.new ≡ slabs_in self.old) }
         ensures held { IfNone result (regions_in self.new ≡ regions_in self.old) }
         ensures lowest { IfSome result (λ addr. free_of class (slabs_in self.old)
             ≡ addr ∷ free_of class (slabs_in self.new)) }
         ensures slabs { IfSome result (λ addr. slabs_in self.new
-            ≡ map (without (addr ∷ [])) (slabs_in self.old)) }
+            ≡ map (with_regions_out (addr ∷ [])) (slabs_in self.old)) }
         ensures regions { IfSome result (λ addr. regions_in self.new
             ≡ inserted (region_of client class addr) (regions_in self.old)) }
         ensures free { vec_len self.new.free ≡ vec_len self.old.free }
@@ -76,11 +76,11 @@ impl Table {
 
     /// Puts a region of a slab back, of which another one is out besides.
     pub fn put(&mut self, class: u8, slab: Key, region: u32)
-        requires table { IsTable self.old }
+        requires table { IsSlabTable self.old }
         requires class { IsSmall class }
         requires out { IsOutAt self.old class (place class slab.major region) slab region }
         requires others { left_of (bits_at self.old.slots.items slab.minor) + 1 < regions_at class }
-        ensures table { IsTable self.new }
+        ensures table { IsSlabTable self.new }
         ensures slabs { slabs_in self.new ≡ map (with_free (place class slab.major region)) (slabs_in self.old) }
         ensures regions { regions_in self.new ≡ filter (λ r. not (starts_at (place class slab.major region) r)) (regions_in self.old) }
         ensures free { vec_len self.new.free ≡ vec_len self.old.free }
@@ -94,10 +94,10 @@ impl Table {
 
     /// Gives a region of a slab that is out another holder.
     pub fn hand_over(&mut self, slab: Key, region: u32, holder: Option<u32>)
-        requires table { IsTable self.old }
+        requires table { IsSlabTable self.old }
         requires out { IsOutAt self.old (bits_at self.old.slots.items slab.minor).class (place (bits_at self.old.slots.items slab.minor).class slab.major region) slab region }
         requires client { IfSome holder (λ client. client < 32) }
-        ensures table { IsTable self.new }
+        ensures table { IsSlabTable self.new }
         ensures slabs { slabs_in self.new ≡ slabs_in self.old }
         ensures regions { regions_in self.new ≡ held_anew (starts_at (place (bits_at self.old.slots.items slab.minor).class slab.major region)) holder (regions_in self.old) }
         ensures free { vec_len self.new.free ≡ vec_len self.old.free }
@@ -107,10 +107,10 @@ impl Table {
 
     /// Takes a slab of the class off.
     pub fn take_off(&mut self, class: u8, slab: Key)
-        requires table { IsTable self.old }
+        requires table { IsSlabTable self.old }
         requires there { Contains self.old.firsts.keys slab }
         requires class { (bits_at self.old.slots.items slab.minor).class ≡ class }
-        ensures table { IsTable self.new }
+        ensures table { IsSlabTable self.new }
         ensures slabs { slabs_in self.new ≡ slabs_without self.old slab }
         ensures regions { regions_in self.new ≡ regions_without self.old slab }
         ensures free { vec_len self.new.free ≡ vec_len self.old.free + 1 }
@@ -126,8 +126,8 @@ impl Table {
 
     /// Takes all slabs off.
     pub fn clear(&mut self)
-        requires table { IsTable self.old }
-        ensures table { IsTable self.new }
+        requires table { IsSlabTable self.old }
+        ensures table { IsSlabTable self.new }
         ensures slabs { slabs_in self.new ≡ [] }
         ensures regions { regions_in self.new ≡ [] }
         ensures free { vec_len self.new.free ≡ vec_len self.old.free + length (slabs_in self.old) }

@@ -6,7 +6,7 @@ ghost use Rattle.std.specs.Prelude.{◌≡◌, ◌==◌, ◌+◌, ◌*◌, ◌<�
 ghost use Rattle.std.specs.List.{list_any};
 ghost use Rattle.size_classes.specs.Classes.{IsSmall, pages_at, regions_at};
 ghost use Rattle.space_model.specs.Region.{held_anew, landing, region_of, regions_from, starts_at};
-ghost use Rattle.bin_book.specs.Bins.{free_of, is_out, is_unused, meets_slab, slab_with_out, with_free, with_slab, without};
+ghost use Rattle.bin_book.specs.Bins.{free_of, is_out, is_all_free, meets_slab, slab_with_out, with_free, with_slab, with_regions_out};
 
 use crate::table::{CLASSES, Table};
 use size_classes::{Addrs, class_pages, slab_regions};
@@ -39,11 +39,11 @@ impl Model for BinBook {
 
     ghost Value = { Bins };
 
-    ghost use Rattle.bin_book.specs.Shown.{shown, IsBook};
+    ghost use Rattle.bin_book.specs.Shown.{shown, IsBinBook};
 
     ghost view = { shown };
 
-    ghost invariant = { IsBook };
+    ghost invariant = { IsBinBook };
 }
 
 impl BinBook {
@@ -161,7 +161,7 @@ impl BinBook {
         ensures addrs { out.new.items ≡ out.old.items ++ take n (free_of class self.old.slabs) }
         ensures room { out.new.room + length (take n (free_of class self.old.slabs)) ≡ out.old.room }
         ensures slabs { self.new.slabs
-            ≡ map (without (take n (free_of class self.old.slabs))) self.old.slabs }
+            ≡ map (with_regions_out (take n (free_of class self.old.slabs))) self.old.slabs }
         ensures regions { self.new.regions
             ≡ landing (map (region_of self.old.client class) (take n (free_of class self.old.slabs))) self.old.regions }
         ensures spare { self.new.spare ≡ self.old.spare }
@@ -181,9 +181,9 @@ impl BinBook {
     pub fn put_back(&mut self, class: u8, addr: u64) -> bool
         requires class { IsSmall class }
         requires out { list_any (is_out class addr) self.old.slabs ≡ true }
-        ensures emptied { result ≡ list_any is_unused (map (with_free addr) self.old.slabs) }
+        ensures emptied { result ≡ list_any is_all_free (map (with_free addr) self.old.slabs) }
         ensures slabs { self.new.slabs
-            ≡ filter (λ s. not (is_unused s)) (map (with_free addr) self.old.slabs) }
+            ≡ filter (λ s. not (is_all_free s)) (map (with_free addr) self.old.slabs) }
         ensures regions { self.new.regions ≡ filter (λ r. not (starts_at addr r)) self.old.regions }
         ensures spare { self.new.spare ≡ self.old.spare + cond result 1 0 }
         ensures client { self.new.client ≡ self.old.client }

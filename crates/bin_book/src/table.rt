@@ -4,7 +4,7 @@ ghost use Rattle.std.specs.List.{list_any, range_with_len};
 ghost use Rattle.size_classes.specs.Classes.{IsSmall, pages_at};
 ghost use Rattle.space_model.specs.Region.{starts_at};
 ghost use Rattle.bin_book.specs.Bins.{free_of, is_out};
-ghost use Rattle.bin_book.specs.Tables.{HasOut, IsLastBelow, IsLowestOpen, IsOutAt, IsTable, bin_key, bits_at, left_of, regions_in, slabs_in};
+ghost use Rattle.bin_book.specs.Tables.{HasOut, IsLastKeyBelow, IsLowestOpen, IsOutAt, IsSlabTable, bin_key, bits_at, left_of, regions_in, slabs_in};
 
 use crate::chart::Chart;
 use crate::holders::Holders;
@@ -59,7 +59,7 @@ pub fn first_key(bin: Key) -> Key
 
 impl Table {
     pub fn new(alloc: Global) -> Table
-        ensures table { IsTable result }
+        ensures table { IsSlabTable result }
         ensures slabs { slabs_in result ≡ [] }
         ensures regions { regions_in result ≡ [] }
         ensures free { vec_len result.free ≡ 0 }
@@ -77,8 +77,8 @@ impl Table {
 
     /// Makes room for so many further slabs. The slabs stay.
     pub fn reserve(&mut self, more: u64) -> Result<(), NoMemory>
-        requires { IsTable self.old }
-        ensures table { IsTable self.new }
+        requires { IsSlabTable self.old }
+        ensures table { IsSlabTable self.new }
         ensures slabs { slabs_in self.new ≡ slabs_in self.old }
         ensures regions { regions_in self.new ≡ regions_in self.old }
         ensures ok { OnOk result (vec_len self.new.free ≡ max (vec_len self.old.free) more) }
@@ -97,12 +97,12 @@ impl Table {
 
     // Makes room for so many further slabs in the sets, the codes and the slots, where the chart has it.
     fn widen(&mut self, more: u64, all: usize) -> Result<(), NoMemory>
-        requires table { IsTable self.old }
+        requires table { IsSlabTable self.old }
         requires all { all ≡ length self.old.firsts.keys + more }
         requires small { all < 2 ^ 32 }
         requires more { vec_len self.old.free ≤ more }
         requires chart { all ≤ vec_len self.old.chart.firsts }
-        ensures table { IsTable self.new }
+        ensures table { IsSlabTable self.new }
         ensures slabs { slabs_in self.new ≡ slabs_in self.old }
         ensures regions { regions_in self.new ≡ regions_in self.old }
         ensures ok { OnOk result (vec_len self.new.free ≡ more) }
@@ -123,7 +123,7 @@ impl Table {
 
     /// The key of the lowest slab of a class that has a free region.
     pub fn open_slab(&self, class: u8) -> Option<Key>
-        requires table { IsTable self.now }
+        requires table { IsSlabTable self.now }
         requires class { IsSmall class }
         ensures none { IfNone result (free_of class (slabs_in self.now) ≡ []) }
         ensures some { IfSome result (λ key. IsLowestOpen self.now class key) }
@@ -142,7 +142,7 @@ impl Table {
 
     /// Whether some slab has a page from the first one up to the end.
     pub fn meets(&self, first: u64, end: u64) -> bool
-        requires table { IsTable self.now }
+        requires table { IsSlabTable self.now }
         requires some { first < end }
         ensures { result ≡ list_any (λ s. nat_lt s.first end && nat_lt first (s.first + pages_at s.class)) (slabs_in self.now) }
     {
@@ -161,7 +161,7 @@ impl Table {
 
     /// The slab in which a region of the class is out at an address, and its place there.
     pub fn holder(&self, class: u8, addr: u64) -> Option<(Key, u32)>
-        requires table { IsTable self.now }
+        requires table { IsSlabTable self.now }
         requires class { IsSmall class }
         ensures some { IfSome result (λ found. IsOutAt self.now class addr found.0 found.1) }
         ensures none { is_some result ≡ list_any (is_out class addr) (slabs_in self.now) }
@@ -173,7 +173,7 @@ impl Table {
 
     /// The slab in which a region is out at an address, and its place there.
     pub fn find(&self, addr: u64) -> Option<(Key, u32)>
-        requires table { IsTable self.now }
+        requires table { IsSlabTable self.now }
         ensures some { IfSome result (λ found. IsOutAt self.now (bits_at self.now.slots.items found.0.minor).class addr found.0 found.1) }
         ensures none { is_some result ≡ list_any (starts_at addr) (regions_in self.now) }
     {
@@ -185,7 +185,7 @@ impl Table {
 
     /// The region that is out at an address.
     pub fn region_at(&self, addr: u64) -> Option<Region>
-        requires table { IsTable self.now }
+        requires table { IsSlabTable self.now }
         ensures at { result ≡ find (starts_at addr) (regions_in self.now) }
         ensures out { IfSome result (λ r. list_any (is_out r.class addr) (slabs_in self.now) ≡ true) }
     {
@@ -199,9 +199,9 @@ impl Table {
 
     // The place of the region of the class that is out at an address, in the last slab that begins at its page or below.
     fn out_at(&self, slab: Key, class: u8, addr: u64) -> Option<u32>
-        requires table { IsTable self.now }
+        requires table { IsSlabTable self.now }
         requires class { IsSmall class }
-        requires last { IsLastBelow self.now.firsts.keys (addr / 4096 + 1) slab }
+        requires last { IsLastKeyBelow self.now.firsts.keys (addr / 4096 + 1) slab }
         ensures some { IfSome result (λ region. IsOutAt self.now class addr slab region) }
         ensures none { is_some result ≡ list_any (is_out class addr) (slabs_in self.now) }
     {
@@ -216,9 +216,9 @@ impl Table {
 
     // The last slab that begins at a page or below. It is the one that has the page, if one has.
     fn last_at(&self, page: u64) -> Option<Key>
-        requires table { IsTable self.now }
+        requires table { IsSlabTable self.now }
         requires page { page + 1 < 2 ^ 64 }
-        ensures some { IfSome result (λ key. IsLastBelow self.now.firsts.keys (page + 1) key) }
+        ensures some { IfSome result (λ key. IsLastKeyBelow self.now.firsts.keys (page + 1) key) }
         ensures none { IfNone result ((key : Key) → Contains self.now.firsts.keys key → page < key.major) }
     {
         if let Some(slab) = self.chart.find(page) {
@@ -232,7 +232,7 @@ impl Table {
 
     // Whether the slab is of the class, and its region with a number is out.
     fn has_out(&self, slab: Key, class: u8, region: u64) -> bool
-        requires table { IsTable self.now }
+        requires table { IsSlabTable self.now }
         requires there { Contains self.now.firsts.keys slab }
         requires class { IsSmall class }
         ensures { IsTrue result ↔ HasOut (bits_at self.now.slots.items slab.minor) class region }
@@ -243,7 +243,7 @@ impl Table {
 
     /// How many regions of a slab are free.
     pub fn left(&self, slab: Key) -> u32
-        requires table { IsTable self.now }
+        requires table { IsSlabTable self.now }
         requires there { Contains self.now.firsts.keys slab }
         ensures { result ≡ left_of (bits_at self.now.slots.items slab.minor) }
     {

@@ -1,5 +1,5 @@
 -- Where a request begins there is room for its asks and turns. And what a call asks for fits into a number.
-use Rattle.call_table.proofs.Words.{◌≡◌, ◌≤◌, ◌<◌, ℕ, ◌^◌, true, false, cond, not, min, Option, None, Some, Result, Err, OnOk, OnErr, List, [], arith, nat_lt, subst, sym, cond_both, nat_tests, class_for_exists, pages_bounds, Request, Malloc, Memalign, Free, Publish, Flush, Cache, Item, Answered, TooLarge, aligned_for, class_for, most_regions, BatchFacts, batch_of, going, held_at, hit, Next, Go, More, Ends, Nowhere, Stage, Held, DeskFacts, Moment, batch_goes, begin, begin_free, begin_get, begin_publish, begin_stage, is_alignment, page_align, run, settle, share, small_hit, stage, step_next, wish_for, flushes, IsFew, IsSizedPoint, IsSizedNext, Goes, IsPlace, IsCall, is_malloc, most_asks, AsksAreFew, IsShort, MallocsAreShort}
+use Rattle.call_table.proofs.Words.{◌≡◌, ◌≤◌, ◌<◌, ℕ, ◌^◌, true, false, cond, not, min, Option, None, Some, Result, Err, OnOk, OnErr, List, [], arith, nat_lt, subst, sym, cond_both, nat_tests, class_for_exists, pages_bounds, Request, Malloc, Memalign, Free, Publish, Flush, Cache, Item, Answered, TooLarge, aligned_for, class_for, most_regions, BatchFacts, batch_of, going, held_at, hit, Next, Go, More, Ends, Nowhere, Stage, Held, DeskFacts, Moment, batch_goes, begin, begin_free, begin_get, begin_publish, begin_stage, is_alignment, page_align, run, settle, share, small_hit, stage, step_next, wish_for, flushes, IsFew, IsSizedPoint, IsSizedNext, Goes, IsPointOrEnd, IsCall, is_malloc, most_asks, AsksAreFew, IsShort, MallocsAreShort}
 use Rattle.std.proofs.Common.{Ok}
 use Rattle.call_table.proofs.Aligned.{aligned_below}
 use Rattle.call_table.proofs.Bounds.{AsksLeft, IsShortStill, chosen_stage, credit, run_left, run_short, settle_keeps, turns_at}
@@ -42,7 +42,7 @@ begin_begun (Cache true) desk = tt
 begin_begun (Cache false) desk = batch_begun desk.arena (batch_of (going true desk))
 begin_begun request desk = grind (arith, nat_tests)
 
-begun_call : (asks turns : ℕ) (next : Next) → Begun asks turns next → IsPlace next × IsSizedNext next
+begun_call : (asks turns : ℕ) (next : Next) → Begun asks turns next → IsPointOrEnd next × IsSizedNext next
 begun_call asks turns next begun = grind arith
 
 pub begin-is_call : (request : Request) (desk : DeskFacts) → IsCall (begin_stage request desk)
@@ -83,7 +83,7 @@ led_or_ended P (Ok done) led arena answer at is ends so end = subst (λ (s : Sta
 led_or_ended P (Err e) led arena answer at is ends so end = subst (λ (s : Stage). P s.next) (sym ends) end
 
 -- a step that goes leads to a point or to the end
-pub settle_place : (request : Request) (desk : DeskFacts) (arena : ℕ) (next : Next) → Goes (settle request desk arena next).next → IsPlace (settle request desk arena next).next
+pub settle_place : (request : Request) (desk : DeskFacts) (arena : ℕ) (next : Next) → Goes (settle request desk arena next).next → IsPointOrEnd (settle request desk arena next).next
 settle_place request desk arena More goes = let batch = batch_of (going (flushes request) desk) in (begun_call 0 9 (batch_goes arena batch).next (batch_begun arena batch)).0
 settle_place request desk arena Nowhere goes = absurd goes
 settle_place request desk arena next goes = tt

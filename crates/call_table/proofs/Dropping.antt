@@ -1,5 +1,5 @@
 -- What the turns of a call leave that purges extents: what it knows where it goes on.
-use Rattle.call_table.proofs.Words.{inr, IsTrue, is_some, ◌≡◌, ℕ, ◌+◌, ◌-◌, ◌*◌, ◌<◌, ◌≤◌, ◌==◌, ◌&&◌, ◌||◌, Bool, true, false, not, cond, List, [], ◌∷◌, ◌++◌, Option, None, Some, refl, sym, ◌∙◌, ap, subst, arith, All, filter, find, length, option_or, nat_tests, All-filter, All-head, filter-append, length-append, find-append, Offered, Dirty, Flight, IsPlaced, meets, exchanged, begins_at, is_flight, is_flight_at, is_listed, is_backed, rest_of, listed, taken_out, stays, is_lazy, next_flight, after_lazy, lazy_at, offer_at, offer_of, without_offer, is_offer, is_regranted, after_offer, after_decommit, decommit_at, after_purge_take, purge_at, count_listed, is_purgeable, find_passes, find_has, belongs, both_true, itself, Visit, Then, Visiting, Taking, Offering, Easing, Returning, Decommitting, Forcing, Dalloc, Decommit, PurgeLazy, Answer, Placed, Done, Refuses, Noted, Kept, Abandoned, Rest, ToDirty, ToMuzzy, ToRetained, Space, Part, Span, Sound, mine, same_span, AnswersTo, decommitted, eased, forced, put_purged, returned, takes_left, turned, Idle, Flies, Droppable, HasOffered, IsThen, IsVisit, HasLeft, in_flight, Keeps, stages_then, stages_later, left, left_then, left_visit, stages_visit, left_turn, left_ask, flights_of}
+use Rattle.call_table.proofs.Words.{inr, IsTrue, is_some, ◌≡◌, ℕ, ◌+◌, ◌-◌, ◌*◌, ◌<◌, ◌≤◌, ◌==◌, ◌&&◌, ◌||◌, Bool, true, false, not, cond, List, [], ◌∷◌, ◌++◌, Option, None, Some, refl, sym, ◌∙◌, ap, subst, arith, All, filter, find, length, option_or, nat_tests, All-filter, All-head, filter-append, length-append, find-append, Offered, Dirty, Flight, IsPlaced, meets, exchanged, begins_at, is_flight, is_flight_at, is_listed, is_backed, rest_of, listed, taken_out, stays, is_lazy, next_flight, after_lazy, lazy_at, offer_at, offer_of, without_offer, is_offer, is_regranted, after_offer, after_decommit, decommit_at, after_purge_take, purge_at, count_listed, is_purgeable, find_passes, find_has, belongs, both_true, itself, Visit, Then, Visiting, Taking, Offering, Easing, Returning, Decommitting, Forcing, Dalloc, Decommit, PurgeLazy, Answer, Placed, Done, Refuses, Noted, Kept, Abandoned, Rest, ToDirty, ToMuzzy, ToRetained, Space, Part, Span, Sound, mine, same_span, AnswersTo, decommitted, eased, forced, put_purged, returned, takes_left, turn_replied, Idle, Flies, Droppable, HasOffered, IsThen, IsVisit, HasLeft, in_flight, Keeps, stages_then, stages_later, left, left_then, left_visit, stages_visit, left_turn, left_ask, flights_of}
 use Rattle.call_table.proofs.Lists.{find-none, filter-fewer, filter-swap, find-gone, any-none, filter-removed, passes_alone}
 use Rattle.call_table.proofs.Own.{flights_exchanged}
 use Rattle.call_table.proofs.Putting.{Room, fewer_room, found_at, begins_as, gone_flights, next_goes, drop_goes, visited_goes, listed_dirty}
@@ -58,7 +58,7 @@ lazy_onto c s span later (Placed first b zeroed) sound flies is kind = absurd (k
 -- ---- the offer and the dalloc
 
 pub offer_onto : (c : ℕ) (s : Space) (span : Span) (later : Then) → Sound s → (flies : Flies (mine c s) span Droppable) → IsThen later →
-    Onto c (turned (Offering span later)) (stages_then later) (left_turn (flights_of c s) 0 (Offering span later)) (offer_at s c (Some flies.part))
+    Onto c (turn_replied (Offering span later)) (stages_then later) (left_turn (flights_of c s) 0 (Offering span later)) (offer_at s c (Some flies.part))
 offer_onto c s span later sound flies is =
     let p : Part = flies.part in
     let at = found_at c s span p sound flies.found in
@@ -163,7 +163,7 @@ purgeable_backed : (r : Rest) → is_purgeable r ≡ true → is_backed r ≡ tr
 purgeable_backed r h = grind arith
 
 took_goes : (c : ℕ) (s : Space) (visit : Visit) (left : Option ℕ) (o : Option Part) → find (λ p. is_listed visit.rest p.state) s.parts ≡ o → Idle (mine c s) → IsVisit visit → HasLeft left →
-    Onto c (turned (Taking visit left)) (stages_visit visit left) (left_visit left) (purge_at s c visit.rest o)
+    Onto c (turn_replied (Taking visit left)) (stages_visit visit left) (left_visit left) (purge_at s c visit.rest o)
 took_goes c s visit left None e idle is some = visited_goes c s (stages_visit visit left) (left_visit left) visit.later idle (visit_stage visit left)
 took_goes c s visit left (Some p) e idle is some =
     let taken : Part = taken_out c p in
@@ -180,5 +180,5 @@ took_goes c s visit left (Some p) e idle is some =
     (fewer_room (stages_visit visit left) (left_visit left) (Visiting visit (takes_left left n)) (30 * (flights_of c t - 1) + 16) 16 (omega (arith, count)) (visit_room visit left n some))
 
 pub take_onto : (c : ℕ) (s : Space) (visit : Visit) (left : Option ℕ) → Idle (mine c s) → IsVisit visit → HasLeft left →
-    Onto c (turned (Taking visit left)) (stages_visit visit left) (left_visit left) (after_purge_take s c visit.rest visit.keep)
+    Onto c (turn_replied (Taking visit left)) (stages_visit visit left) (left_visit left) (after_purge_take s c visit.rest visit.keep)
 take_onto c s visit left idle is some = grind (arith, nat_tests, took_goes, visited_goes, visit_stage)

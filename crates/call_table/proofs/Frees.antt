@@ -1,5 +1,5 @@
 -- A free makes few asks for what its own returns emptied.
-use Rattle.call_table.proofs.Words.{◌≡◌, ℕ, ◌+◌, ◌-◌, ◌*◌, ◌≤◌, Bool, true, cond, List, [], ◌∷◌, Option, None, Some, sym, subst, arith, ap, add-zero, length, count_by, nat_tests, sum_by-cons, lost, won, Request, Item, Replied, Told, Starved, Batches, TurnPoint, Giving, Finding, Offering, Owning, AskPoint, Merging, Easing, Returning, Decommitting, Forcing, Point, Turns, Asks, Tells, Next, Go, Over, More, Reply, Space, Sound, mine, AskFacts, DeskFacts, BatchFacts, done_of, is_marked, op_of, starved, step, told, turned, want, Moment, after, batch_goes, begin, begin_stage, settle, step_next, desk_fed, Knows, KnowsTurn, Keeps, Moves, left, stages, unheard, with_found, flying, is_free, is_told, is_purge, Stride, Strides, Follows, Walks, emptied_by, emptied, asks, purges, FreesAreFew}
+use Rattle.call_table.proofs.Words.{◌≡◌, ℕ, ◌+◌, ◌-◌, ◌*◌, ◌≤◌, Bool, true, cond, List, [], ◌∷◌, Option, None, Some, sym, subst, arith, ap, add-zero, length, count_by, nat_tests, sum_by-cons, lost, won, Request, Item, Replied, Told, Starved, Batches, TurnPoint, Giving, Finding, Offering, Owning, AskPoint, Merging, Easing, Returning, Decommitting, Forcing, Point, Turns, Asks, Tells, Next, Go, Over, More, Reply, Space, Sound, mine, AskFacts, DeskFacts, BatchFacts, done_at, is_marked, op_at, starved, step, told, turn_replied, want, Moment, after, batch_goes, begin, begin_stage, settle, step_next, desk_fed, Knows, KnowsTurn, Keeps, Moves, left, stages, unheard, with_found, flying, is_free, is_told, is_purge, Stride, Strides, Follows, Walks, emptied_by, emptied_by_all, asks, purges, FreesAreFew}
 use Rattle.call_table.proofs.Rooms.{HasNext, flown, found_not, keeps_next, turn_flies}
 use Rattle.call_table.proofs.Standing.{wants-stand}
 use Rattle.call_table.proofs.Steps.{never_starves, steps-keep}
@@ -47,12 +47,12 @@ is_clear c s (Giving addrs) gives = ap length gives.idle.flights
 is_clear c s point knows = tt
 
 turned_paid : (f g made most : ℕ) (point : TurnPoint) (c : ℕ) (s : Space) (reply : Reply) →
-    g + lost (op_of point) reply ≡ f + won c s (op_of point) reply → HasNext g (turned point reply) → HasNext f (Go (Turns point)) → Clear f point → TurnPaid f made most point →
-    Paid g made (most + (2 * emptied_by c (Go (Turns point)) s + 6 * one (is_purge (Replied reply)))) (turned point reply)
+    g + lost (op_at point) reply ≡ f + won c s (op_at point) reply → HasNext g (turn_replied point reply) → HasNext f (Go (Turns point)) → Clear f point → TurnPaid f made most point →
+    Paid g made (most + (2 * emptied_by c (Go (Turns point)) s + 6 * one (is_purge (Replied reply)))) (turn_replied point reply)
 turned_paid f g made most point c s reply e has some clear paid = grind (arith, nat_tests)
 
 told_paid : (f g made most : ℕ) (point : AskPoint) (asked : AskFacts) (found : Option ℕ) (c : ℕ) (s : Space) (reply : Reply) →
-    g + lost (with_found found (done_of point asked)) reply ≡ f + won c s (with_found found (done_of point asked)) reply →
+    g + lost (with_found found (done_at point asked)) reply ≡ f + won c s (with_found found (done_at point asked)) reply →
     HasNext g (told point asked reply) → AskPaid f made most point → Paid g made most (told point asked reply)
 told_paid f g made most point asked found c s reply e has paid = grind (arith, nat_tests)
 
@@ -74,17 +74,17 @@ point_paid : (c made most : ℕ) (s t : Space) (point : Point) (item : Item) →
     Paid (flying (mine c s)) made most (Go point) → Paid (flying (mine c t)) (made + one (is_told item)) (most + (2 * emptied_by c (Go point) s + 6 * one (is_purge item))) (step point item)
 point_paid c made most s t (Turns point) (Replied reply) sound knows (found, after, replied) keeps paid =
     let stands = wants-stand c s (Turns point) sound knows found in
-    let flew = flown c s t (with_found found (op_of point)) reply sound stands after replied in
+    let flew = flown c s t (with_found found (op_at point)) reply sound stands after replied in
     let e = subst (λ op. flying (mine c t) + lost op reply ≡ flying (mine c s) + won c s op reply) (found_not found point) flew in
-    subst (λ n. Paid (flying (mine c t)) n (most + (2 * emptied_by c (Go (Turns point)) s + 6 * one (is_purge (Replied reply)))) (turned point reply)) (sym (add-zero made))
-    (turned_paid (flying (mine c s)) (flying (mine c t)) made most point c s reply e (keeps_next c t _ _ (turned point reply) keeps) (turn_flies (mine c s) point knows) (is_clear c s point knows) paid)
+    subst (λ n. Paid (flying (mine c t)) n (most + (2 * emptied_by c (Go (Turns point)) s + 6 * one (is_purge (Replied reply)))) (turn_replied point reply)) (sym (add-zero made))
+    (turned_paid (flying (mine c s)) (flying (mine c t)) made most point c s reply e (keeps_next c t _ _ (turn_replied point reply) keeps) (turn_flies (mine c s) point knows) (is_clear c s point knows) paid)
 point_paid c made most s t (Turns point) Starved sound knows (may, same) keeps paid =
-    starved_paid (flying (mine c t)) (made + 0) (most + (2 * emptied_by c (Go (Turns point)) s + 6 * 0)) (is_marked (op_of point)) (omega (arith, paid_most (flying (mine c s)) made most (Go (Turns point)) paid))
+    starved_paid (flying (mine c t)) (made + 0) (most + (2 * emptied_by c (Go (Turns point)) s + 6 * 0)) (is_marked (op_at point)) (omega (arith, paid_most (flying (mine c s)) made most (Go (Turns point)) paid))
 point_paid c made most s t (Asks point None) (Told asked) sound knows (is, kind, same) keeps paid =
     subst (λ u. AskPaid (flying (mine c u)) (made + 1 + 0) (most + 0) point) (sym same) (same_paid (flying (mine c s)) made most point paid)
 point_paid c made most s t (Asks point (Some asked)) (Replied reply) sound (knows, heard) (found, after, replied) keeps paid =
     let stands = wants-stand c s (Asks point (Some asked)) sound (knows, heard) found in
-    let e = flown c s t (with_found found (done_of point asked)) reply sound stands after replied in
+    let e = flown c s t (with_found found (done_at point asked)) reply sound stands after replied in
     more_paid (flying (mine c t)) (made + 0) most (2 * emptied_by c (Go (Asks point (Some asked))) s + 6 * one (is_purge (Replied reply))) (told point asked reply) (told_paid (flying (mine c s)) (flying (mine c t)) (made + 0) most point asked found c s reply e (keeps_next c t _ _ (told point asked reply) keeps) paid)
 point_paid c made most s t (Asks point (Some asked)) Starved sound (knows, heard) (may, same) keeps paid = absurd (let no = never_starves point asked in cc)
 point_paid c made most s t (Tells span b) item sound knows moves keeps paid = absurd paid
@@ -115,7 +115,7 @@ from_paid c made most t request desk arena More (x ∷ xs) follows paid = batch_
 from_paid c made most t request desk arena next (x ∷ xs) follows paid = paid
 
 walk_paid : (c made most : ℕ) (xs : List Stride) (at : Moment) → Walks c at xs → PaidFrom c made most at.stage.next xs →
-    made + count_by asks xs ≤ most + (2 * emptied c at xs + 6 * count_by purges xs)
+    made + count_by asks xs ≤ most + (2 * emptied_by_all c at xs + 6 * count_by purges xs)
 walk_paid c made most [] at walks paid = omega (arith, paid)
 walk_paid c made most (x ∷ xs) at (strides, follows, walks) paid =
     let stepped = stride_paid c made most at.stage.next x strides paid in

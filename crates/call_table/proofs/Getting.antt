@@ -1,5 +1,5 @@
 -- What the turns of a call leave that gets an extent: what it knows where it goes on.
-use Rattle.call_table.proofs.Words.{min, ◌≡◌, ◌≢◌, ℕ, ◌+◌, ◌-◌, ◌<◌, ◌≤◌, Bool, true, false, not, cond, List, [], ◌∷◌, ◌++◌, Option, None, Some, refl, sym, ◌∙◌, ap, subst, arith, filter, find, count_ones, is_power_of_two, nat_tests, cond_both, leb-true, eqb-true, ones_le_self, filter-append, pages_bounds, run_start, holds_run, exchanged, begins_at, is_flight, is_flight_at, put_down, taken_out, listed, rest_of, fit, fit_of, is_best, is_candidate, Stepped, whole_at, after_cut, cut_at, kept_piece, other_piece, after_look, look_at, after_grow, grow_unless, why_not, new_part, after_commit, commit_at, find_passes, put_down-nobody, both_true, itself, Wish, Looking, Landing, Next, Alloc, Commit, Split, Answer, Placed, Done, Refuses, Reply, Noted, Cut, Whole, Bad, Grown, Rest, Space, Part, Span, Why, mine, same_span, end_of, land_at, Answers, commit, grant, grow, trim, skip_to, turned, IsWish, Idle, Alone, Gets, is_served, in_flight, Keeps}
+use Rattle.call_table.proofs.Words.{min, ◌≡◌, ◌≢◌, ℕ, ◌+◌, ◌-◌, ◌<◌, ◌≤◌, Bool, true, false, not, cond, List, [], ◌∷◌, ◌++◌, Option, None, Some, refl, sym, ◌∙◌, ap, subst, arith, filter, find, count_ones, is_power_of_two, nat_tests, cond_both, leb-true, eqb-true, ones_le_self, filter-append, pages_bounds, run_start, holds_run, exchanged, begins_at, is_flight, is_flight_at, put_down, taken_out, listed, rest_of, fit, fit_of, is_best, is_candidate, Stepped, whole_at, after_cut, cut_at, kept_piece, other_piece, after_look, look_at, after_grow, grow_unless, why_not, new_part, after_commit, commit_at, find_passes, put_down-nobody, both_true, itself, Wish, Looking, Landing, Next, Alloc, Commit, Split, Answer, Placed, Done, Refuses, Reply, Noted, Cut, Whole, Bad, Grown, Rest, Space, Part, Span, Why, mine, same_span, end_of, land_at, Answers, commit, grant, grow, trim, skip_to, turn_replied, IsWish, Idle, Alone, Gets, is_served, in_flight, Keeps}
 use Rattle.space_model.specs.Stepped.{is_live}
 use Rattle.call_table.specs.Words.{Refuse as Refused}
 use Rattle.call_table.proofs.Lists.{passes_alone}
@@ -195,7 +195,7 @@ pub align_some : (align : ℕ) → is_power_of_two align ≡ true → 1 ≤ alig
 align_some align h = let one : count_ones align ≡ 1 = eqb-true _ _ h in omega (arith, one, ones_le_self align)
 
 found_goes : (c : ℕ) (s : Space) (wish : Wish) (o : Option Part) → fit wish.pages wish.align s.parts ≡ o → Gets (mine c s) wish → Idle (mine c s) →
-    Onto c (turned (Looking wish)) 0 12 (look_at s c wish.align o)
+    Onto c (turn_replied (Looking wish)) 0 12 (look_at s c wish.align o)
 found_goes c s wish None e gets idle = grow_goes c s 12 wish (min s.grow s.grow_limit) gets idle (omega arith)
 found_goes c s wish (Some p) e gets idle =
     let taken : Part = taken_out c p in
@@ -212,16 +212,16 @@ found_goes c s wish (Some p) e gets idle =
     skip_goes c t 12 wish p.span p.committed (run_start wish.align p.span - p.span.first) (gets_kept c s t wish gets refl) alone (omega (arith, above, within)) (omega arith)
 
 -- the reply to the look
-pub look_onto : (c : ℕ) (s : Space) (wish : Wish) → Gets (mine c s) wish → Idle (mine c s) → Onto c (turned (Looking wish)) 0 12 (after_look s c wish.pages wish.align)
+pub look_onto : (c : ℕ) (s : Space) (wish : Wish) → Gets (mine c s) wish → Idle (mine c s) → Onto c (turn_replied (Looking wish)) 0 12 (after_look s c wish.pages wish.align)
 look_onto c s wish gets idle =
-    cond_both (is_live s.life) _ _ (Onto c (turned (Looking wish)) 0 12) (λ _. found_goes c s wish (fit wish.pages wish.align s.parts) refl gets idle) (λ _. idle)
+    cond_both (is_live s.life) _ _ (Onto c (turn_replied (Looking wish)) 0 12) (λ _. found_goes c s wish (fit wish.pages wish.align s.parts) refl gets idle) (λ _. idle)
 
 -- ---- the landing
 
 pub land_onto : (c : ℕ) (s : Space) (wish : Wish) (span : Span) → Alone (mine c s) span true →
-    Onto c (turned (Landing wish span)) 0 1 (land_at s c wish.class wish.count (find (is_flight_at c span) s.parts))
+    Onto c (turn_replied (Landing wish span)) 0 1 (land_at s c wish.class wish.count (find (is_flight_at c span) s.parts))
 land_onto c s wish span alone =
     let p : Part = alone.part in
     let t : Space = (land_at s c wish.class wish.count (Some p)).after in
     let idle : Idle (mine c t) = record { flights = replaced_alone c s p _ alone.flights; offers = alone.offers } in
-    subst (λ o. Onto c (turned (Landing wish span)) 0 1 (land_at s c wish.class wish.count o)) (sym (alone_found c s span true alone)) idle
+    subst (λ o. Onto c (turn_replied (Landing wish span)) 0 1 (land_at s c wish.class wish.count o)) (sym (alone_found c s span true alone)) idle

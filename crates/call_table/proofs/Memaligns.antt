@@ -1,5 +1,5 @@
 -- Where the region of a memalign stands: each step of it keeps what the first page of its extent is a multiple of.
-use Rattle.call_table.proofs.Words.{◌∣◌, ◌≡◌, ℕ, ◌+◌, ◌*◌, ◌%◌, ◌<◌, ◌≤◌, ◌^◌, max, min, Bool, true, false, cond, not, List, [], ◌∷◌, Option, None, Some, refl, sym, subst, arith, nat_lt, find, All, rules, slice_get, cond_both, not-false, ltb-true, nat_tests, All-head, dvd_of_mod-eq-zero, dvd_trans, mod-eq-zero_of_dvd, get_or_from_slice_get, slice_get_within, is_flight_at, region_of, after_fill, Stepped, after_cut, after_grow, after_look, is_live, step_of, Spot, lowest_spots, found_span, before_last, Memalign, Item, Replied, Told, Starved, Ok, Wish, TurnPoint, Filling, Looking, Landing, AskPoint, Skipping, Trimming, Growing, Paring, Needing, Granting, Committing, Point, Turns, Asks, Tells, Next, Go, Over, More, Ends, Stage, Alloc, Split, Answer, Reply, Noted, Took, Grow, Cut, Grown, Landed, Regions, Space, Part, Span, Sound, AskFacts, Held, DeskFacts, align_at, aligned_for, fill_at, land_at, lowest_free, most_regions, max_series, cached_in, is_cacheable, alloc_of, ask_of, chunks_for, commit, done_of, op_of, told, trim, turned, whole_chunks, begin, begin_get, begin_memalign, get, is_alignment, page_align, share, small_hit, step_next, wish_for, with_found, AllCame, Came, IsCacheAligned, MemalignsAreAligned}
+use Rattle.call_table.proofs.Words.{◌∣◌, ◌≡◌, ℕ, ◌+◌, ◌*◌, ◌%◌, ◌<◌, ◌≤◌, ◌^◌, max, min, Bool, true, false, cond, not, List, [], ◌∷◌, Option, None, Some, refl, sym, subst, arith, nat_lt, find, All, rules, slice_get, cond_both, not-false, ltb-true, nat_tests, All-head, dvd_of_mod-eq-zero, dvd_trans, mod-eq-zero_of_dvd, get_or_from_slice_get, slice_get_within, is_flight_at, region_of, after_fill, Stepped, after_cut, after_grow, after_look, is_live, step_of, Spot, lowest_spots, found_span, before_last, Memalign, Item, Replied, Told, Starved, Ok, Wish, TurnPoint, Filling, Looking, Landing, AskPoint, Skipping, Trimming, Growing, Paring, Needing, Granting, Committing, Point, Turns, Asks, Tells, Next, Go, Over, More, Ends, Stage, Alloc, Split, Answer, Reply, Noted, Took, Grow, Cut, Grown, Landed, Regions, Space, Part, Span, Sound, AskFacts, Held, DeskFacts, align_at, aligned_for, fill_at, land_at, lowest_free, most_regions, max_series, cached_in, is_cacheable, alloc_of, ask_at, chunks_for, commit, done_at, op_at, told, trim, turn_replied, whole_chunks, begin, begin_get, begin_memalign, get, is_alignment, page_align, share, small_hit, step_next, wish_for, with_found, AllCame, Came, IsCacheAligned, MemalignsAreAligned}
 use Rattle.call_table.specs.Words.{Region}
 use Rattle.call_table.proofs.Bounds.{chosen_stage, run_keeps}
 use Rattle.call_table.proofs.Multiples.{page_divides, paged_of, run_divides, small_divides}
@@ -86,7 +86,7 @@ module _ (align size : ℕ) where
   abbrev pub PointAligned : Point → Type 0
   PointAligned (Turns point) = TurnAligned point
   PointAligned (Asks point None) = AskAligned point
-  PointAligned (Asks point (Some asked)) = AskAligned point × (asked.ask ≡ ask_of point)
+  PointAligned (Asks point (Some asked)) = AskAligned point × (asked.ask ≡ ask_at point)
   PointAligned (Tells span b) = ⊥
 
   abbrev pub NextAligned : Next → Type 0
@@ -105,13 +105,13 @@ module _ (align size : ℕ) where
   trim_aligned wish span b starts = grind arith
 
   -- what is skipped is cut off, and otherwise nothing is
-  skip_aligned : (wish : Wish) (span : Span) (b : Bool) (skip : ℕ) → Starts wish (span.first + skip) → NextAligned (turned (Looking wish) (Took span b skip))
+  skip_aligned : (wish : Wish) (span : Span) (b : Bool) (skip : ℕ) → Starts wish (span.first + skip) → NextAligned (turn_replied (Looking wish) (Took span b skip))
   skip_aligned wish span b skip starts =
       cond_both (nat_lt 0 skip) _ _ NextAligned (λ _. starts)
       (λ h. let same : span.first + skip ≡ span.first = grind (arith, nat_tests) in trim_aligned wish span b (starts.0, subst (λ n. wish.align ∣ n) same starts.1))
 
   turned_aligned : (s : Space) (c : ℕ) (found : Option ℕ) (point : TurnPoint) (reply : Reply) → Sound s → TurnAligned point →
-      reply ≡ (step_of s c (with_found found (op_of point))).reply → NextAligned (turned point reply)
+      reply ≡ (step_of s c (with_found found (op_at point))).reply → NextAligned (turn_replied point reply)
   turned_aligned s c found (Filling wish count) (Regions []) sound knows e = tt
   turned_aligned s c found (Filling wish count) (Regions (addr ∷ others)) sound (aims, small) e =
       (aims.class, mod-eq-zero_of_dvd align (dvd_trans align (aims.small small) (filled_aligned s c wish.class count addr others sound small e)))
@@ -136,8 +136,8 @@ module _ (align size : ℕ) where
       let at = grown_aligned s c found pages (max 512 wish.align) asked.answer span b (subst (λ a. Grown span b ≡ (after_grow s c found a asked.answer).reply) is e) in
       (aims, dvd_trans wish.align aims.chunk at)
 
-  told_aligned : (s : Space) (c : ℕ) (found : Option ℕ) (point : AskPoint) (asked : AskFacts) (reply : Reply) → AskAligned point → asked.ask ≡ ask_of point →
-      reply ≡ (step_of s c (with_found found (done_of point asked))).reply → NextAligned (told point asked reply)
+  told_aligned : (s : Space) (c : ℕ) (found : Option ℕ) (point : AskPoint) (asked : AskFacts) (reply : Reply) → AskAligned point → asked.ask ≡ ask_at point →
+      reply ≡ (step_of s c (with_found found (done_at point asked))).reply → NextAligned (told point asked reply)
   told_aligned s c found (Skipping wish span b skip) asked (Cut high) starts is e = trim_aligned wish high b (cut_starts s c false wish span skip asked high is starts e)
   told_aligned s c found (Trimming wish span b) asked (Cut low) starts is e = commit_aligned wish low b (cut_starts s c true wish span wish.pages asked low is starts e)
   told_aligned s c found (Growing wish chunks) asked (Grown span b) aims is e = grown_starts s c found wish (chunks * 512) asked span b is aims e

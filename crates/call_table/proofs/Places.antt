@@ -1,5 +1,5 @@
 -- A region that its client comes to hold has room: where none is wanted, none is wanted either where the call goes.
-use Rattle.call_table.proofs.Words.{◌≡◌, ℕ, ◌≤◌, ◌||◌, Bool, true, false, Option, is_some, Result, Err, OnOk, OnErr, arith, refl, sym, subst, ap, ◌∙◌, nat_tests, Request, Flush, Cache, Item, NoMemory, TurnPoint, Point, Next, Go, Over, More, Ends, Stage, Reply, Held, DeskFacts, BatchFacts, batch_of, going, gets_at, gets_turn, may_hold, wants_place, HasRoom, desk_fed, desk_turned, batch_goes, begin_desk, begin_stage, settle, stage, step_next, step}
+use Rattle.call_table.proofs.Words.{◌≡◌, ℕ, ◌≤◌, ◌||◌, Bool, true, false, Option, is_some, Result, Err, OnOk, OnErr, arith, refl, sym, subst, ap, ◌∙◌, nat_tests, Request, Flush, Cache, Item, NoMemory, TurnPoint, Point, Next, Go, Over, More, Ends, Stage, Reply, Held, DeskFacts, BatchFacts, batch_of, going, gets_at, gets_turn, may_hold, wants_place, HasRoomToHold, desk_fed, desk_turned, batch_goes, begin_desk, begin_stage, settle, stage, step_next, step}
 use Rattle.std.proofs.Common.{Ok}
 use Rattle.call_table.specs.Words.{Region, Ok as Answers}
 use Rattle.call_table.proofs.Bounds.{settle_keeps}
@@ -61,7 +61,7 @@ begin_room request desk now at had has is same room within =
 
 -- and where it goes on once it was fed
 pub fed_room : {A E : Type 0} (request : Request) (desk now : DeskFacts) (arena : ℕ) (next : Next) (item : Item) (had has : ℕ) (fed : Result A E) (at : Stage) → now ≡ desk_fed desk arena next item →
-    had ≤ has → HasRoom desk.hand had next → OnOk fed (at ≡ settle request now arena (step_next next item)) → OnErr fed (at ≡ stage arena (Ends NoMemory)) → OnErr fed (step_next next item ≡ More) →
+    had ≤ has → HasRoomToHold desk.hand had next → OnOk fed (at ≡ settle request now arena (step_next next item)) → OnErr fed (at ≡ stage arena (Ends NoMemory)) → OnErr fed (step_next next item ≡ More) →
     wants_place now.hand at.next ≡ true → 1 ≤ has
 fed_room request desk now arena (Go point) item had has fed at same within room ok err more wants =
     elim (wants_place desk.hand (Go point)) as (λ v. wants_place desk.hand (Go point) ≡ v → wants_place now.hand at.next ≡ true → 1 ≤ has) [

@@ -1,5 +1,5 @@
 -- A call takes no more extents out of a list than stood in it at its first turn there.
-use Rattle.call_table.proofs.Words.{◌≡◌, refl, ℕ, ◌+◌, ◌-◌, ◌≤◌, ◌<◌, Bool, true, false, cond, List, [], ◌∷◌, Option, None, Some, sym, subst, arith, ap, nat_lt, find, count_by, cond_both, nat_tests, is_listed, listed, pages_listed, after_purge_take, count_listed, purge_at, Stepped, find-le-sum_by, Request, Item, Replied, Told, Starved, Then, Batches, Visiting, TurnPoint, Taking, Finding, Offering, AskPoint, Merging, Easing, Returning, Decommitting, Forcing, Point, Turns, Asks, Tells, Next, Go, Over, More, Reply, Taken, Rest, Part, Space, mine, AskFacts, DeskFacts, BatchFacts, batch_of, going, WantTurn, is_marked, op_of, starved, step, told, turned, want, Moment, after, batch_goes, begin, begin_stage, settle, step_next, desk_fed, flushes, Knows, KnowsTurn, HasLeft, Moves, Stride, Strides, Walks, taken_by, taken_of, found_by, found_of, PurgesAreFew}
+use Rattle.call_table.proofs.Words.{◌≡◌, refl, ℕ, ◌+◌, ◌-◌, ◌≤◌, ◌<◌, Bool, true, false, cond, List, [], ◌∷◌, Option, None, Some, sym, subst, arith, ap, nat_lt, find, count_by, cond_both, nat_tests, is_listed, listed, pages_listed, after_purge_take, count_listed, purge_at, Stepped, find-le-sum_by, Request, Item, Replied, Told, Starved, Then, Batches, Visiting, TurnPoint, Taking, Finding, Offering, AskPoint, Merging, Easing, Returning, Decommitting, Forcing, Point, Turns, Asks, Tells, Next, Go, Over, More, Reply, Taken, Rest, Part, Space, mine, AskFacts, DeskFacts, BatchFacts, batch_of, going, WantTurn, is_marked, op_at, starved, step, told, turn_replied, want, Moment, after, batch_goes, begin, begin_stage, settle, step_next, desk_fed, flushes, Knows, KnowsTurn, HasLeft, Moves, Stride, Strides, Walks, taken_by, taken_of, found_by, found_of, PurgesAreFew}
 use Rattle.space_model.specs.Stepped.{is_live}
 use Rattle.space_model.proofs.Lists.{find_passes}
 
@@ -55,12 +55,12 @@ abbrev pub IsCounted : Space → TurnPoint → Reply → Type 0
 IsCounted s (Taking visit left) reply = HasLeft left × Counted s visit.rest reply
 IsCounted s point reply = Unit {0}
 
-is_counted : (c : ℕ) (s t : Space) (point : TurnPoint) (reply : Reply) → KnowsTurn (mine c s) point → Moves c s (WantTurn (op_of point) None) (Replied reply) t → IsCounted s point reply
+is_counted : (c : ℕ) (s t : Space) (point : TurnPoint) (reply : Reply) → KnowsTurn (mine c s) point → Moves c s (WantTurn (op_at point) None) (Replied reply) t → IsCounted s point reply
 is_counted c s t (Taking visit left) reply (idle, is, some) (found, after, replied) = (some, subst (Counted s visit.rest) (sym replied) (taken_counted s c visit.rest visit.keep))
 is_counted c s t point reply knows moves = tt
 
 turned_takes : (rest : Rest) (s : Space) (point : TurnPoint) (reply : Reply) → IsCounted s point reply →
-    taken_by rest (Go (Turns point)) (Replied reply) + takes rest (turned point reply) ≤ found_by rest (Go (Turns point)) s + turn_takes rest point
+    taken_by rest (Go (Turns point)) (Replied reply) + takes rest (turn_replied point reply) ≤ found_by rest (Go (Turns point)) s + turn_takes rest point
 turned_takes rest s point reply counted = grind (arith, nat_tests)
 
 told_takes : (rest : Rest) (point : AskPoint) (asked : AskFacts) (reply : Reply) → takes rest (told point asked reply) ≤ ask_takes rest point
@@ -73,7 +73,7 @@ starved_takes rest s point v = grind arith
 point_takes : (c : ℕ) (rest : Rest) (s t : Space) (point : Point) (item : Item) → Knows (mine c s) point → Moves c s (want point) item t →
     taken_by rest (Go point) item + takes rest (step point item) ≤ found_by rest (Go point) s + takes rest (Go point)
 point_takes c rest s t (Turns point) (Replied reply) knows moves = turned_takes rest s point reply (is_counted c s t point reply knows moves)
-point_takes c rest s t (Turns point) Starved knows moves = starved_takes rest s point (is_marked (op_of point))
+point_takes c rest s t (Turns point) Starved knows moves = starved_takes rest s point (is_marked (op_at point))
 point_takes c rest s t (Turns point) (Told asked) knows moves = absurd moves
 point_takes c rest s t (Asks point None) (Told asked) knows moves = omega arith
 point_takes c rest s t (Asks point (Some asked)) (Replied reply) knows moves = omega (arith, told_takes rest point asked reply)

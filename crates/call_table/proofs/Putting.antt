@@ -1,5 +1,5 @@
 -- What the turns of a call leave that puts extents down: what it knows where it goes on.
-use Rattle.call_table.proofs.Words.{append-nil, inl, inr, ◌⊎◌, ◌≡◌, ◌≢◌, ℕ, ◌+◌, ◌-◌, ◌*◌, ◌<◌, ◌≤◌, ◌==◌, ◌&&◌, ◌||◌, Bool, true, false, not, cond, List, [], ◌∷◌, ◌++◌, Option, None, Some, refl, sym, ◌∙◌, ap, subst, arith, filter, find, length, lt-ltb, beq, option_map, option_or, nat_tests, cond_both, eqb-true, ltb-true, or_right, length-append, find-append, Dirty, exchanged, begins_at, is_flight, is_flight_at, is_listed, rest_of, listed, put_down, taken_out, Stepped, joined, begins_either, is_lazy, is_purged, next_flight, is_like, is_right_of, is_left_of, neighbour, put_at_rest, put_beside, may_merge, join_at, after_merge, after_back, find_passes, find_has, filter-begins_at, span_is, if_found, belongs, beq_itself, some_pages, put_down-nobody, listed-nobody, both_true, itself, Later, Then, Batches, Giving, Finding, Point, Turns, Merge, Answer, Placed, Done, Refuses, Purge, Rest, ToDirty, Space, Part, Span, Sound, mine, same_span, end_of, AnswersTo, look_on, merged, onward, put_next, turned, visited, Idle, Flies, Pair, Settled, Droppable, IsThen, in_flight, Keeps, IsNearer, stages, stages_then, stages_later, left, left_then, left_turn, flights_of, looks_left, purges_left}
+use Rattle.call_table.proofs.Words.{append-nil, inl, inr, ◌⊎◌, ◌≡◌, ◌≢◌, ℕ, ◌+◌, ◌-◌, ◌*◌, ◌<◌, ◌≤◌, ◌==◌, ◌&&◌, ◌||◌, Bool, true, false, not, cond, List, [], ◌∷◌, ◌++◌, Option, None, Some, refl, sym, ◌∙◌, ap, subst, arith, filter, find, length, lt-ltb, beq, option_map, option_or, nat_tests, cond_both, eqb-true, ltb-true, or_right, length-append, find-append, Dirty, exchanged, begins_at, is_flight, is_flight_at, is_listed, rest_of, listed, put_down, taken_out, Stepped, joined, begins_either, is_lazy, is_purged, next_flight, is_like, is_right_of, is_left_of, neighbour, put_at_rest, put_beside, may_merge, join_at, after_merge, after_back, find_passes, find_has, filter-begins_at, span_is, if_found, belongs, beq_itself, some_pages, put_down-nobody, listed-nobody, both_true, itself, Later, Then, Batches, Giving, Finding, Point, Turns, Merge, Answer, Placed, Done, Refuses, Purge, Rest, ToDirty, Space, Part, Span, Sound, mine, same_span, end_of, AnswersTo, look_on, merged, onward, put_next, turn_replied, visited, Idle, Flies, HasPair, Settled, Droppable, IsThen, in_flight, Keeps, IsNearer, stages, stages_then, stages_later, left, left_then, left_turn, flights_of, looks_left, purges_left}
 use Rattle.std.proofs.Common.{ltb as nat_lt}
 use Rattle.call_table.specs.Table.{drop}
 use Rattle.call_table.proofs.Lists.{filter-swap, find-kept, find-none, filter-none, filter-fewer, filter-either, first_heads, none_passes, find-gone}
@@ -131,7 +131,7 @@ looks_early tries h = grind (arith, nat_tests)
 -- the neighbour is in flight too
 beside_onto : (c : ℕ) (s : Space) (own : Span) (tries : ℕ) (fresh : Bool) (later : Then) (p other : Part) → Sound s → tries < 3 → (mine c s).offers ≡ [] →
     IsThen later → in_flight own (mine c s).flights ≡ Some p → Settled fresh p → At c s own p → Near tries p other s.parts →
-    Onto c (turned (Finding own tries fresh later)) (stages_then later) (left_turn (flights_of c s) 0 (Finding own tries fresh later)) (put_beside s c p (Some other))
+    Onto c (turn_replied (Finding own tries fresh later)) (stages_then later) (left_turn (flights_of c s) 0 (Finding own tries fresh later)) (put_beside s c p (Some other))
 beside_onto c s own tries fresh later p other sound look offers is found settled at near =
     let u : Stepped = put_beside s c p (Some other) in
     let t : Space = u.after in
@@ -188,7 +188,7 @@ down_flies_not c p = ap (λ (v : Bool). cond v (put_down p ∷ []) []) (put_down
 -- the extent is put down
 rest_onto : (c : ℕ) (s : Space) (own : Span) (tries : ℕ) (fresh : Bool) (later : Then) (p : Part) → (mine c s).offers ≡ [] → IsThen later →
     in_flight own (mine c s).flights ≡ Some p →
-    Onto c (turned (Finding own tries fresh later)) (stages_then later) (left_turn (flights_of c s) 0 (Finding own tries fresh later)) (put_at_rest s c p)
+    Onto c (turn_replied (Finding own tries fresh later)) (stages_then later) (left_turn (flights_of c s) 0 (Finding own tries fresh later)) (put_at_rest s c p)
 rest_onto c s own tries fresh later p offers is found =
     let t : Space = (put_at_rest s c p).after in
     let gone : Part → Bool = begins_at p.span.first in
@@ -211,7 +211,7 @@ listed_dirty r h = grind arith
 -- an extent that belongs to the dirty ones, of which none may stay, is dropped
 purge_goes : (c : ℕ) (s : Space) (own : Span) (tries : ℕ) (fresh : Bool) (later : Then) (lazy : Bool) (p : Part) → (mine c s).offers ≡ [] → IsThen later →
     in_flight own (mine c s).flights ≡ Some p → Settled fresh p → is_listed (rest_of p.state) Dirty ≡ true →
-    Keeps c s (stages_then later) (left_turn (flights_of c s) 0 (Finding own tries fresh later)) (turned (Finding own tries fresh later) (Purge lazy))
+    Keeps c s (stages_then later) (left_turn (flights_of c s) 0 (Finding own tries fresh later)) (turn_replied (Finding own tries fresh later) (Purge lazy))
 purge_goes c s own tries true later lazy p offers is found settled purged =
     let dirty = listed_dirty (rest_of p.state) purged in
     drop_goes c s (stages_then later) _ own lazy later p offers is found (λ _. dirty) (rw dirty refl) (inr (refl, omega (arith, looks_some tries)))
@@ -219,18 +219,18 @@ purge_goes c s own tries false later lazy p offers is found settled purged = abs
 
 put_found : (c : ℕ) (s : Space) (own : Span) (tries : ℕ) (fresh : Bool) (later : Then) (flies : Flies (mine c s) own (Settled fresh)) (o : Option Part) → Sound s → tries < 3 →
     IsThen later → neighbour tries flies.part s.parts ≡ o →
-    Onto c (turned (Finding own tries fresh later)) (stages_then later) (left_turn (flights_of c s) 0 (Finding own tries fresh later)) (put_beside s c flies.part o)
+    Onto c (turn_replied (Finding own tries fresh later)) (stages_then later) (left_turn (flights_of c s) 0 (Finding own tries fresh later)) (put_beside s c flies.part o)
 put_found c s own tries fresh later flies (Some other) sound look is e =
     beside_onto c s own tries fresh later flies.part other sound look flies.offers is flies.found flies.is (found_at c s own flies.part sound flies.found)
     (neighbour_near tries flies.part other s.parts e)
 put_found c s own tries fresh later flies None sound look is e =
-    cond_both (is_purged s flies.part) _ _ (Onto c (turned (Finding own tries fresh later)) (stages_then later) (left_turn (flights_of c s) 0 (Finding own tries fresh later)))
+    cond_both (is_purged s flies.part) _ _ (Onto c (turn_replied (Finding own tries fresh later)) (stages_then later) (left_turn (flights_of c s) 0 (Finding own tries fresh later)))
     (λ h. purge_goes c s own tries fresh later (is_lazy s) flies.part flies.offers is flies.found flies.is (both_true (is_listed (rest_of flies.part.state) Dirty) _ h).0)
     (λ h. rest_onto c s own tries fresh later flies.part flies.offers is flies.found)
 
 -- the reply to a look for a neighbour
 pub put_onto : (c : ℕ) (s : Space) (own : Span) (tries : ℕ) (fresh : Bool) (later : Then) → Sound s → tries < 3 → (flies : Flies (mine c s) own (Settled fresh)) → IsThen later →
-    Onto c (turned (Finding own tries fresh later)) (stages_then later) (left_turn (flights_of c s) 0 (Finding own tries fresh later)) (put_beside s c flies.part (neighbour tries flies.part s.parts))
+    Onto c (turn_replied (Finding own tries fresh later)) (stages_then later) (left_turn (flights_of c s) 0 (Finding own tries fresh later)) (put_beside s c flies.part (neighbour tries flies.part s.parts))
 put_onto c s own tries fresh later sound look flies is = put_found c s own tries fresh later flies (neighbour tries flies.part s.parts) sound look is refl
 
 -- ---- the merge
@@ -288,7 +288,7 @@ apart_goes c s own other own_low fresh later p q offers is settled own_found oth
     (record { part = p; found = ap (λ span. in_flight span (mine c t).flights) at.spans ∙ found; is = settled; offers = offers }) is (omega (arith, fewer, count))
 
 -- the answer to a merge
-pub merge_onto : (c : ℕ) (s : Space) (low high : Span) (own_low fresh : Bool) (later : Then) (answer : Answer) → Sound s → Pair (mine c s) low high fresh → IsThen later →
+pub merge_onto : (c : ℕ) (s : Space) (low high : Span) (own_low fresh : Bool) (later : Then) (answer : Answer) → Sound s → HasPair (mine c s) low high fresh → IsThen later →
     AnswersTo (Merge low high) answer →
     Onto c (merged own_low fresh later) (stages_then later) (30 * (flights_of c s - 2) + cond own_low 5 2 + purges_left fresh + left_then later) (after_merge s c own_low (Merge low high) answer)
 merge_onto c s low high own_low fresh later answer sound pair is kind =
@@ -308,5 +308,5 @@ merge_onto c s low high own_low fresh later answer sound pair is kind =
     by_answer own_low (Placed first b zeroed) at to below kind = absurd (kind first b zeroed refl)
 
 -- the reply to regions that went back
-pub back_onto : (c : ℕ) (s : Space) (addrs : List ℕ) → (mine c s).offers ≡ [] → Onto c (turned (Giving addrs)) 1 0 (after_back s c addrs)
+pub back_onto : (c : ℕ) (s : Space) (addrs : List ℕ) → (mine c s).offers ≡ [] → Onto c (turn_replied (Giving addrs)) 1 0 (after_back s c addrs)
 back_onto c s addrs offers = next_goes c (after_back s c addrs).after 1 0 Batches offers tt (inl (omega arith))

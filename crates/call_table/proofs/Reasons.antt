@@ -1,5 +1,5 @@
 -- The reasons of each point to which a call comes, and of its answer.
-use Rattle.call_table.proofs.Words.{rules, ◌≡◌, ℕ, ◌*◌, ◌^◌, ◌⊎◌, inl, inr, Bool, true, false, not, min, max, List, [], ◌∷◌, ◌++◌, Option, None, Some, refl, sym, ◌∙◌, ap, subst, arith, nat_lt, append_assoc, Contains, cond_both, ltb-true, not-true, not-false, nat_tests, step_of, after_cut, after_commit, after_grow, Request, Malloc, Memalign, Free, FreeForeign, Publish, Take, Item, Replied, Told, Starved, Given, Refused, BadAnswer, NotHeld, aligned_for, class_for, most_regions, BatchFacts, held_at, hit, Wish, Later, DirtyToo, Then, Batches, Visiting, Change, Visits, TurnPoint, Filling, Looking, Landing, Finding, Taking, Offering, Changing, Owning, AskPoint, Skipping, Trimming, Growing, Paring, Needing, Granting, Committing, Merging, Easing, Returning, Decommitting, Forcing, Point, Turns, Asks, Tells, Next, Go, Over, Gone, Ends, Stage, Refuses, Reply, NoArena, Nothing, Took, Cut, Whole, Refuse, Bad, Grown, Landed, Regions, Owned, Space, Span, Why, AskFacts, Held, DeskFacts, answered_span, alloc_of, ask_of, done_of, op_of, is_marked, starved, whole_chunks, step, turned, told, commit, trim, put_next, took_over, batch_goes, begin, begin_free, begin_get, begin_malloc, begin_memalign, begin_publish, begin_stage, get, is_alignment, page_align, settle, share, small_hit, step_next, wish_for, with_found, extent, extent_of, NothingFits, WasGranted, IsNeeded, IsWishOf, RegionCause, GivenCause, CauseOf, Came, AllCame, AnswersHaveCauses}
+use Rattle.call_table.proofs.Words.{rules, ◌≡◌, ℕ, ◌*◌, ◌^◌, ◌⊎◌, inl, inr, Bool, true, false, not, min, max, List, [], ◌∷◌, ◌++◌, Option, None, Some, refl, sym, ◌∙◌, ap, subst, arith, nat_lt, append_assoc, Contains, cond_both, ltb-true, not-true, not-false, nat_tests, step_of, after_cut, after_commit, after_grow, Request, Malloc, Memalign, Free, FreeForeign, Publish, Take, Item, Replied, Told, Starved, Given, Refused, BadAnswer, NotHeld, aligned_for, class_for, most_regions, BatchFacts, held_at, hit, Wish, Later, DirtyToo, Then, Batches, Visiting, Change, Visits, TurnPoint, Filling, Looking, Landing, Finding, Taking, Offering, Changing, Owning, AskPoint, Skipping, Trimming, Growing, Paring, Needing, Granting, Committing, Merging, Easing, Returning, Decommitting, Forcing, Point, Turns, Asks, Tells, Next, Go, Over, Gone, Ends, Stage, Refuses, Reply, NoArena, Nothing, Took, Cut, Whole, Refuse, Bad, Grown, Landed, Regions, Owned, Space, Span, Why, AskFacts, Held, DeskFacts, answered_span, alloc_of, ask_at, done_at, op_at, is_marked, starved, whole_chunks, step, turn_replied, told, commit, trim, put_next, took_over, batch_goes, begin, begin_free, begin_get, begin_malloc, begin_memalign, begin_publish, begin_stage, get, is_alignment, page_align, settle, share, small_hit, step_next, wish_for, with_found, extent, extent_of, NothingFits, WasGranted, IsNeeded, IsWishOf, RegionCause, GivenCause, CauseOf, Came, AllCame, AnswersHaveCauses}
 use Rattle.call_table.specs.Words.{Answers}
 use Rattle.call_table.proofs.Aligned.{failing_is_not, passing_is}
 use Rattle.call_table.proofs.Bounds.{Settles, run_keeps, settle_keeps}
@@ -62,7 +62,7 @@ module _ (desk : DeskFacts) where
     pub earlier : List Item
     pub told : items ≡ earlier ++ Told asked ∷ []
     pub why : AskWhy request earlier point
-    pub is : asked.ask ≡ ask_of point
+    pub is : asked.ask ≡ ask_at point
 
   abbrev pub PointWhy : Request → List Item → Point → Type 0
   PointWhy request items (Turns point) = TurnWhy request items point
@@ -111,7 +111,7 @@ module _ (desk : DeskFacts) where
   unowned_why request items addr frees is has = grind arith
 
   turned_why : (request : Request) (items : List Item) (point : TurnPoint) (reply : Reply) → TurnWhy request items point →
-      NextWhy request (items ++ Replied reply ∷ []) (turned point reply)
+      NextWhy request (items ++ Replied reply ∷ []) (turn_replied point reply)
   turned_why request items (Filling wish count) (Regions []) why = tt
   turned_why request items (Filling wish count) (Regions (addr ∷ addrs)) why = landed_why request _ wish addr why (inr (addrs, last_in items (Replied (Regions (addr ∷ addrs)))))
   turned_why request items (Looking wish) (Took span b skip) why =
@@ -129,7 +129,7 @@ module _ (desk : DeskFacts) where
 
   -- the reply came of the turn
   abbrev pub Turned : ℕ → AskPoint → AskFacts → Reply → Type 0
-  Turned c point asked reply = (s : Space) × (found : Option ℕ) × (reply ≡ (step_of s c (with_found found (done_of point asked))).reply)
+  Turned c point asked reply = (s : Space) × (found : Option ℕ) × (reply ≡ (step_of s c (with_found found (done_at point asked))).reply)
 
   -- a piece of the extent is left after a cut
   cut_had : (request : Request) (items earlier : List Item) (asked : AskFacts) (wish : Wish) (span kept : Span) (b : Bool) → items ≡ earlier ++ Told asked ∷ [] → Had request earlier wish span b →
@@ -143,7 +143,7 @@ module _ (desk : DeskFacts) where
 
   -- a refused ask that was needed is why the call is refused
   refused_why : (request : Request) (items : List Item) (point : AskPoint) (asked : AskFacts) (wish : Wish) (reply : Reply) → IsWishOf request wish → (why : HeardWhy request items point asked) →
-      asked.answer ≡ Refuses → IsNeeded wish why.earlier (ask_of point) → CauseOf desk request (items ++ Replied reply ∷ []) (Refused asked)
+      asked.answer ≡ Refuses → IsNeeded wish why.earlier (ask_at point) → CauseOf desk request (items ++ Replied reply ∷ []) (Refused asked)
   refused_why request items point asked wish reply wished why refused needed = record {
     wish = wish;
     wished = wished;
@@ -160,7 +160,7 @@ module _ (desk : DeskFacts) where
 
   -- a range that can't be taken is why the call has a bad answer
   bad_why : (request : Request) (items : List Item) (point : AskPoint) (asked : AskFacts) (wish : Wish) (pages : ℕ) (why : Why) → IsWishOf request wish → HeardWhy request items point asked →
-      ask_of point ≡ alloc_of wish pages → (s : Space) (c : ℕ) (found : Option ℕ) → Bad why ≡ (after_grow s c found asked.ask asked.answer).reply →
+      ask_at point ≡ alloc_of wish pages → (s : Space) (c : ℕ) (found : Option ℕ) → Bad why ≡ (after_grow s c found asked.ask asked.answer).reply →
       CauseOf desk request (items ++ Replied (Bad why) ∷ []) (BadAnswer (answered_span pages asked.answer) why)
   bad_why request items point asked wish pages why wished heard is s c found replied =
       let ask : asked.ask ≡ alloc_of wish pages = heard.is ∙ is in
@@ -229,7 +229,7 @@ module _ (desk : DeskFacts) where
   pub step_why : (request : Request) (items : List Item) (c : ℕ) (point : Point) (item : Item) → PointWhy request items point → Came c (Go point) item →
       NextWhy request (items ++ item ∷ []) (step point item)
   step_why request items c (Turns point) (Replied reply) why came = turned_why request items point reply why
-  step_why request items c (Turns point) Starved why came = starved_why request items (is_marked (op_of point))
+  step_why request items c (Turns point) Starved why came = starved_why request items (is_marked (op_at point))
   step_why request items c (Asks point None) (Told asked) why (s, t, sound, (is, kind, same)) = record { earlier = items; told = refl; why = why; is = is }
   step_why request items c (Asks point (Some asked)) (Replied reply) why (s, t, sound, (found, left, replied)) = told_why request items c point asked reply why (s, found, replied)
   step_why request items c (Tells span b) Starved why came = tt

@@ -1,5 +1,5 @@
 -- What stands after each refused ask.
-use Rattle.call_table.proofs.Words.{◌≡◌, ℕ, ◌+◌, Bool, true, false, cond, Option, Some, inl, inr, ◌∙◌, ap, subst, arith, find, lost, won, is_flight_at, Stepped, whole_at, apart_at, next_flight, step_of, is_regranted, Replied, Refused, AskPoint, Skipping, Trimming, Growing, Paring, Needing, Granting, Committing, Merging, Easing, Returning, Decommitting, Forcing, Asks, Next, Ends, Refuses, Reply, Whole, Joined, Kept, Abandoned, Part, Space, Span, Sound, mine, AskFacts, ask_of, done_of, need_chunks, told, Alone, Flies, Idle, KnowsAsk, Keeps, flights_of, left_ask, stages_ask, with_found, AfterRefusal, Holds, Rests, RefusalsStand}
+use Rattle.call_table.proofs.Words.{◌≡◌, ℕ, ◌+◌, Bool, true, false, cond, Option, Some, inl, inr, ◌∙◌, ap, subst, arith, find, lost, won, is_flight_at, Stepped, whole_at, apart_at, next_flight, step_of, is_regranted, Replied, Refused, AskPoint, Skipping, Trimming, Growing, Paring, Needing, Granting, Committing, Merging, Easing, Returning, Decommitting, Forcing, Asks, Next, Ends, Refuses, Reply, Whole, Joined, Kept, Abandoned, Part, Space, Span, Sound, mine, AskFacts, ask_at, done_at, need_chunks, told, Alone, Flies, Idle, KnowsAsk, Keeps, flights_of, left_ask, stages_ask, with_found, AfterRefusal, HoldsExtent, Rests, RefusalsStand}
 use Rattle.call_table.proofs.Getting.{alone_found}
 use Rattle.call_table.proofs.Putting.{found_at}
 use Rattle.call_table.proofs.Rooms.{flown}
@@ -18,20 +18,20 @@ rests : (c : ℕ) (t : Space) (stage bound : ℕ) (next there : Next) → next �
 rests c t stage bound next there is keeps idle = (is, idle (subst (Keeps c t stage bound) is keeps))
 
 holds : (c : ℕ) (t : Space) (stage bound count : ℕ) (span : Span) (P : Part → Type 0) (next there : Next) → next ≡ there → flights_of c t ≡ count → Keeps c t stage bound next →
-    (Keeps c t stage bound there → Flies (mine c t) span P) → Holds c t count span next there
+    (Keeps c t stage bound there → Flies (mine c t) span P) → HoldsExtent c t count span next there
 holds c t stage bound count span P next there is counted keeps flies =
     let f = flies (subst (Keeps c t stage bound) is keeps) in (is, counted, record { part = f.part; found = f.found; is = tt; offers = f.offers })
 
 module _ (c : ℕ) (s t : Space) (asked : AskFacts) (reply : Reply) (found : Option ℕ) (sound : Sound s) where
   -- the ask of a point was refused
   abbrev refused_at : AskPoint → AskFacts
-  refused_at point = record asked { ask = ask_of point; answer = Refuses }
+  refused_at point = record asked { ask = ask_at point; answer = Refuses }
 
   -- so many extents are in flight after the reply to the turn that took the refusal in
   abbrev Flew : AskPoint → Reply → Type 0
-  Flew point r = flights_of c t + lost (with_found found (done_of point asked)) r ≡ flights_of c s + won c s (with_found found (done_of point asked)) r
+  Flew point r = flights_of c t + lost (with_found found (done_at point asked)) r ≡ flights_of c s + won c s (with_found found (done_at point asked)) r
 
-  stands_at : (point : AskPoint) → KnowsAsk (mine c s) point → reply ≡ (step_of s c (with_found found (done_of point (refused_at point)))).reply → Flew point reply →
+  stands_at : (point : AskPoint) → KnowsAsk (mine c s) point → reply ≡ (step_of s c (with_found found (done_at point (refused_at point)))).reply → Flew point reply →
       Keeps c t (stages_ask point) (left_ask (flights_of c s) point + 0) (told point asked reply) → AfterRefusal c s t point asked (told point asked reply)
   stands_at (Skipping wish span b skip) (gets, alone, some, holds) r flew keeps = rests c t _ _ _ (need_chunks wish) (ap (told (Skipping wish span b skip) asked) (r ∙ whole_told c s span b alone)) keeps (λ k. k.0.0.1)
   stands_at (Trimming wish span b) (gets, alone, more) r flew keeps = rests c t _ _ _ (need_chunks wish) (ap (told (Trimming wish span b) asked) (r ∙ whole_told c s span b alone)) keeps (λ k. k.0.0.1)
@@ -66,6 +66,6 @@ pub refusals-stand : RefusalsStand
 refusals-stand c s t point asked reply sound (knows, (is, kind)) refused (found, after, replied) =
     let stands = wants-stand c s (Asks point (Some asked)) sound (knows, (is, kind)) found in
     let keeps = steps-keep c s t (Asks point (Some asked)) (Replied reply) sound (knows, (is, kind)) (found, after, replied) in
-    let r = subst (λ a. reply ≡ (step_of s c (with_found found (done_of point (record asked { ask = ask_of point; answer = a })))).reply) refused
-    (subst (λ a. reply ≡ (step_of s c (with_found found (done_of point (record asked { ask = a })))).reply) is replied) in
-    stands_at c s t asked reply found sound point knows r (flown c s t (with_found found (done_of point asked)) reply sound stands after replied) keeps
+    let r = subst (λ a. reply ≡ (step_of s c (with_found found (done_at point (record asked { ask = ask_at point; answer = a })))).reply) refused
+    (subst (λ a. reply ≡ (step_of s c (with_found found (done_at point (record asked { ask = a })))).reply) is replied) in
+    stands_at c s t asked reply found sound point knows r (flown c s t (with_found found (done_at point asked)) reply sound stands after replied) keeps

@@ -1,5 +1,5 @@
 -- Whoever has the room that is needed at a point has it wherever the call goes.
-use Rattle.call_table.proofs.Words.{◌≡◌, ℕ, ◌+◌, ◌-◌, ◌*◌, ◌<◌, ◌≤◌, Bool, true, false, cond, max, Option, None, Some, refl, sym, ap, subst, arith, length, sum_by, nat_tests, length-filter, is_flight, flight, lost, won, op_stands, step_of, op_keeps, Replied, Told, Starved, Op, Reply, Space, Sound, Mine, mine, AskFacts, same_span, TurnPoint, Finding, AskPoint, Turns, Asks, Tells, Next, Go, is_marked, op_of, done_of, starved, turned, told, Idle, KnowsTurn, Keeps, left, stages, with_found, empties, flying, needed_ask, needed_next, needed_turn, room_then, RoomsSuffice}
+use Rattle.call_table.proofs.Words.{◌≡◌, ℕ, ◌+◌, ◌-◌, ◌*◌, ◌<◌, ◌≤◌, Bool, true, false, cond, max, Option, None, Some, refl, sym, ap, subst, arith, length, sum_by, nat_tests, length-filter, is_flight, flight, lost, won, op_stands, step_of, op_keeps, Replied, Told, Starved, Op, Reply, Space, Sound, Mine, mine, AskFacts, same_span, TurnPoint, Finding, AskPoint, Turns, Asks, Tells, Next, Go, is_marked, op_at, done_at, starved, turn_replied, told, Idle, KnowsTurn, Keeps, left, stages, with_found, empties, flying, needed_ask, needed_next, needed_turn, room_then, RoomsSuffice}
 use Rattle.call_table.proofs.Lists.{filter-fewer}
 use Rattle.call_table.proofs.Standing.{wants-stand}
 use Rattle.call_table.proofs.Steps.{never_starves, starved_keeps, steps-keep}
@@ -7,7 +7,7 @@ use Rattle.call_table.proofs.Steps.{never_starves, starved_keeps, steps-keep}
 -- ---- a turn that takes memory
 
 -- behind a turn that takes memory come at most 16 turns without by each extent in flight, and 16 where there is none
-marked_most : (g : ℕ) (point : TurnPoint) (reply : Reply) → is_marked (op_of point) ≡ true → needed_next g (turned point reply) ≤ 16 * max 1 g
+marked_most : (g : ℕ) (point : TurnPoint) (reply : Reply) → is_marked (op_at point) ≡ true → needed_next g (turn_replied point reply) ≤ 16 * max 1 g
 marked_most g point reply may = first_of (grind (arith, nat_tests), cc)
 
 -- ---- a turn that takes none
@@ -17,13 +17,13 @@ abbrev pub HasNext : ℕ → Next → Type 0
 HasNext g (Go (Turns (Finding own tries fresh later))) = 0 < g
 HasNext g next = Unit {0}
 
-turned_spends : (f g : ℕ) (point : TurnPoint) (found : Option ℕ) (c : ℕ) (s : Space) (reply : Reply) → is_marked (op_of point) ≡ false →
-    g + lost (with_found found (op_of point)) reply ≡ f + won c s (with_found found (op_of point)) reply →
-    HasNext g (turned point reply) → HasNext f (Go (Turns point)) → needed_next g (turned point reply) + 1 ≤ needed_turn f point
+turned_spends : (f g : ℕ) (point : TurnPoint) (found : Option ℕ) (c : ℕ) (s : Space) (reply : Reply) → is_marked (op_at point) ≡ false →
+    g + lost (with_found found (op_at point)) reply ≡ f + won c s (with_found found (op_at point)) reply →
+    HasNext g (turn_replied point reply) → HasNext f (Go (Turns point)) → needed_next g (turn_replied point reply) + 1 ≤ needed_turn f point
 turned_spends f g point found c s reply may e has some = first_of (grind (arith, nat_tests), cc)
 
 told_spends : (f g : ℕ) (point : AskPoint) (asked : AskFacts) (found : Option ℕ) (c : ℕ) (s : Space) (reply : Reply) →
-    g + lost (with_found found (done_of point asked)) reply ≡ f + won c s (with_found found (done_of point asked)) reply →
+    g + lost (with_found found (done_at point asked)) reply ≡ f + won c s (with_found found (done_at point asked)) reply →
     HasNext g (told point asked reply) → needed_next g (told point asked reply) + 1 ≤ needed_ask f point
 told_spends f g point asked found c s reply e has = grind (arith, nat_tests)
 
@@ -48,11 +48,11 @@ flights_then c s op sound stands =
     omega (arith, now, then, (op_keeps c s op sound stands).flew)
 
 -- a turn that takes memory wins one extent at most, or as many as it empties
-won_few : (c : ℕ) (s : Space) (point : TurnPoint) (reply : Reply) → is_marked (op_of point) ≡ true → won c s (op_of point) reply ≤ max 1 (empties c (op_of point) s)
+won_few : (c : ℕ) (s : Space) (point : TurnPoint) (reply : Reply) → is_marked (op_at point) ≡ true → won c s (op_at point) reply ≤ max 1 (empties c (op_at point) s)
 won_few c s point reply may = first_of (omega arith, grind arith)
 
 -- an operation of a turn that takes in no answer carries no chunk that was found
-pub found_not : (found : Option ℕ) (point : TurnPoint) → with_found found (op_of point) ≡ op_of point
+pub found_not : (found : Option ℕ) (point : TurnPoint) → with_found found (op_at point) ≡ op_at point
 found_not found point = grind arith
 
 -- ---- the law
@@ -65,14 +65,14 @@ flown c s t op reply sound stands after replied =
     (subst (λ r. flying (mine c (step_of s c op).after) + lost op r ≡ flying (mine c s) + won c s op r) (sym replied) (flights_then c s op sound stands))
 
 turn_suffices : (c : ℕ) (s t : Space) (point : TurnPoint) (found : Option ℕ) (reply : Reply) (room : ℕ) → KnowsTurn (mine c s) point →
-    flying (mine c t) + lost (with_found found (op_of point)) reply ≡ flying (mine c s) + won c s (with_found found (op_of point)) reply →
-    HasNext (flying (mine c t)) (turned point reply) → needed_turn (flying (mine c s)) point ≤ room →
-    (may : Bool) → is_marked (op_of point) ≡ may →
-    (may ≡ false → 0 < room) × (needed_next (flying (mine c t)) (turned point reply) ≤ cond may (max (max room 16) (16 * empties c (op_of point) s)) (room - 1))
+    flying (mine c t) + lost (with_found found (op_at point)) reply ≡ flying (mine c s) + won c s (with_found found (op_at point)) reply →
+    HasNext (flying (mine c t)) (turn_replied point reply) → needed_turn (flying (mine c s)) point ≤ room →
+    (may : Bool) → is_marked (op_at point) ≡ may →
+    (may ≡ false → 0 < room) × (needed_next (flying (mine c t)) (turn_replied point reply) ≤ cond may (max (max room 16) (16 * empties c (op_at point) s)) (room - 1))
 turn_suffices c s t point found reply room knows e has enough true may =
     let idle : Idle (mine c s) = subst (λ v. Keeps c s 0 0 (starved v)) may (starved_keeps c s point 0 0 knows may) in
     let none : flying (mine c s) ≡ 0 = ap length idle.flights in
-    let flew : flying (mine c t) + lost (op_of point) reply ≡ flying (mine c s) + won c s (op_of point) reply =
+    let flew : flying (mine c t) + lost (op_at point) reply ≡ flying (mine c s) + won c s (op_at point) reply =
     subst (λ op. flying (mine c t) + lost op reply ≡ flying (mine c s) + won c s op reply) (found_not found point) e in
     ((λ no. absurd (cc)), omega (arith, none, flew, won_few c s point reply may, marked_most (flying (mine c t)) point reply may))
 turn_suffices c s t point found reply room knows e has enough false may =
@@ -83,20 +83,20 @@ pub rooms-suffice : RoomsSuffice
 rooms-suffice c s t (Turns point) (Replied reply) room sound knows (found, after, replied) enough =
     let stands = wants-stand c s (Turns point) sound knows found in
     let keeps = steps-keep c s t (Turns point) (Replied reply) sound knows (found, after, replied) in
-    turn_suffices c s t point found reply room knows (flown c s t (with_found found (op_of point)) reply sound stands after replied)
-    (keeps_next c t (stages (Turns point)) (left c s (Turns point)) (turned point reply) keeps) enough (is_marked (op_of point)) refl
+    turn_suffices c s t point found reply room knows (flown c s t (with_found found (op_at point)) reply sound stands after replied)
+    (keeps_next c t (stages (Turns point)) (left c s (Turns point)) (turn_replied point reply) keeps) enough (is_marked (op_at point)) refl
 rooms-suffice c s t (Turns point) Starved room sound knows (may, same) enough =
-    ((λ no. absurd (cc)), subst (λ v. needed_next (flying (mine c t)) (starved v) ≤ room_then c s room (op_of point)) (sym may) (omega arith))
+    ((λ no. absurd (cc)), subst (λ v. needed_next (flying (mine c t)) (starved v) ≤ room_then c s room (op_at point)) (sym may) (omega arith))
 rooms-suffice c s t (Asks point None) (Told asked) room sound knows (is, kind, same) enough =
     subst (λ u. needed_ask (flying (mine c u)) point ≤ room) (sym same) enough
 rooms-suffice c s t (Asks point (Some asked)) (Replied reply) room sound knows (found, after, replied) enough =
     let stands = wants-stand c s (Asks point (Some asked)) sound knows found in
     let keeps = steps-keep c s t (Asks point (Some asked)) (Replied reply) sound knows (found, after, replied) in
-    let e = flown c s t (with_found found (done_of point asked)) reply sound stands after replied in
+    let e = flown c s t (with_found found (done_at point asked)) reply sound stands after replied in
     let spends = told_spends (flying (mine c s)) (flying (mine c t)) point asked found c s reply e
     (keeps_next c t (stages (Asks point (Some asked))) (left c s (Asks point (Some asked))) (told point asked reply) keeps) in (
       (λ no. omega (arith, spends, enough)),
-      subst (λ v. needed_next (flying (mine c t)) (told point asked reply) ≤ cond v (max (max room 16) (16 * empties c (done_of point asked) s)) (room - 1)) (sym (never_starves point asked)) (omega (arith, spends, enough)),
+      subst (λ v. needed_next (flying (mine c t)) (told point asked reply) ≤ cond v (max (max room 16) (16 * empties c (done_at point asked) s)) (room - 1)) (sym (never_starves point asked)) (omega (arith, spends, enough)),
     )
 rooms-suffice c s t (Asks point (Some asked)) Starved room sound knows (may, same) enough = absurd (let no = never_starves point asked in cc)
 rooms-suffice c s t (Tells span b) (Told asked) room sound knows moves enough = omega arith

@@ -1,11 +1,11 @@
 -- Regions that are shared out, one after another.
-use Rattle.call_table.proofs.Words.{◌≡◌, ℕ, ◌+◌, ◌-◌, ◌<◌, ◌≤◌, map, min, ap, arith, suc, zero, range_with_len, address_behind, region_at, sharing}
+use Rattle.call_table.proofs.Words.{◌≡◌, ℕ, ◌+◌, ◌-◌, ◌<◌, ◌≤◌, map, min, ap, arith, suc, zero, range_with_len, address_behind, held_region, sharing}
 use Rattle.thread_cache.specs.Desks.{DeskFacts, caching}
 
 -- one more of those that landed
 pub landed_more : (arena class first place count : ℕ) (desk : DeskFacts) → place < count →
     sharing arena class (map (address_behind first class) (range_with_len place (count - place))) desk
-    ≡ caching (region_at arena class (address_behind first class place)) (sharing arena class (map (address_behind first class) (range_with_len (place + 1) (count - (place + 1)))) desk)
+    ≡ caching (held_region arena class (address_behind first class place)) (sharing arena class (map (address_behind first class) (range_with_len (place + 1) (count - (place + 1)))) desk)
 landed_more arena class first place count desk below =
     let one : count - place ≡ suc (count - (place + 1)) = omega (arith, below) in
     ap (λ n. sharing arena class (map (address_behind first class) (range_with_len place n)) desk) one

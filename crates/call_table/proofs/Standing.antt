@@ -1,5 +1,5 @@
 -- Every turn that a call wants may stand.
-use Rattle.call_table.proofs.Words.{filter, ◌≡◌, ◌≢◌, ℕ, ◌*◌, ◌<◌, ◌≤◌, ◌==◌, ◌&&◌, Bool, true, false, List, [], ◌∷◌, Option, None, Some, refl, sym, ◌∙◌, ap, subst, arith, length, lt-ltb, le-leb, eq-eqb, list_any, list_all, beq, and_assoc, length-filter, Offered, CutDone, GrowDone, Region, is_flight, is_held_by, reset_stands, is_offer, op_stands, is_live, is_yes_or_no, is_range_or_no, holds_at, heard_in, Wish, TurnPoint, Filling, Looking, Landing, Giving, Finding, Taking, Offering, Advancing, Changing, Making, Resetting, Destroying, Dooming, Publishing, Owning, AskPoint, Skipping, Trimming, Growing, Paring, Needing, Granting, Committing, Merging, Easing, Returning, Decommitting, Forcing, Turns, Asks, Tells, Split, Answer, Placed, Done, Space, Part, Span, Sound, mine, AskFacts, pages_at, same_span, AnswersTo, done_of, op_of, alloc_of, whole_chunks, Idle, Alone, HasOffered, Gets, KnowsAsk, KnowsTurn, Heard, is_held, is_served, in_flight, with_found, WantsStand}
+use Rattle.call_table.proofs.Words.{filter, ◌≡◌, ◌≢◌, ℕ, ◌*◌, ◌<◌, ◌≤◌, ◌==◌, ◌&&◌, Bool, true, false, List, [], ◌∷◌, Option, None, Some, refl, sym, ◌∙◌, ap, subst, arith, length, lt-ltb, le-leb, eq-eqb, list_any, list_all, beq, and_assoc, length-filter, Offered, CutDone, GrowDone, Region, is_flight, is_held_by, reset_stands, is_offer, op_stands, is_live, is_yes_or_no, is_range_or_no, holds_at, heard_in, Wish, TurnPoint, Filling, Looking, Landing, Giving, Finding, Taking, Offering, Advancing, Changing, Making, Resetting, Destroying, Dooming, Publishing, Owning, AskPoint, Skipping, Trimming, Growing, Paring, Needing, Granting, Committing, Merging, Easing, Returning, Decommitting, Forcing, Turns, Asks, Tells, Split, Answer, Placed, Done, Space, Part, Span, Sound, mine, AskFacts, pages_at, same_span, AnswersTo, done_at, op_at, alloc_of, whole_chunks, Idle, Alone, HasOffered, Gets, KnowsAsk, KnowsTurn, Heard, is_held, is_served, in_flight, with_found, WantsStand}
 use Rattle.std.specs.List.{count_by}
 use Rattle.call_table.proofs.Lists.{any-both, none-any}
 use Rattle.call_table.proofs.Own.{flight_found, region_found, served, live_where}
@@ -41,7 +41,7 @@ reset_stands_at c s cached idle fewer =
     let most : cached ≤ count_by (is_held_by c) s.regions = omega (arith, fewer, length-filter (is_held_by c) s.regions) in
     rw (none_in_flight c s idle, none_offered c s idle, le-leb _ _ most) refl
 
-turn_stands : (c : ℕ) (s : Space) (point : TurnPoint) (found : Option ℕ) → Sound s → KnowsTurn (mine c s) point → op_stands s c (with_found found (op_of point)) ≡ true
+turn_stands : (c : ℕ) (s : Space) (point : TurnPoint) (found : Option ℕ) → Sound s → KnowsTurn (mine c s) point → op_stands s c (with_found found (op_at point)) ≡ true
 turn_stands c s (Filling wish count) found sound (gets, idle, small, some) = rw (lt-ltb _ _ small, lt-ltb _ _ some) refl
 turn_stands c s (Looking wish) found sound (gets, idle) = rw (lt-ltb _ _ (wish_some wish gets.is), gets.is.align) refl
 turn_stands c s (Landing wish span) found sound (gets, alone, pages) =
@@ -92,7 +92,7 @@ offer_stands_at c s span has =
     offer_found c span s.offers ∙ ap (list_any (λ (o : Offered). same_span o.span span && beq o.committed true)) has.offers ∙ one
 
 ask_stands : (c : ℕ) (s : Space) (point : AskPoint) (asked : AskFacts) (found : Option ℕ) → Sound s → KnowsAsk (mine c s) point → Heard point (Some asked) →
-    op_stands s c (with_found found (done_of point asked)) ≡ true
+    op_stands s c (with_found found (done_at point asked)) ≡ true
 ask_stands c s (Skipping wish span b skip) asked found sound (gets, alone, some, holds) (is, kind) =
     cut_stands_at c s false asked span skip b found sound alone some (omega (arith, wish_some wish gets.is)) is kind
 ask_stands c s (Trimming wish span b) asked found sound (gets, alone, more) (is, kind) =

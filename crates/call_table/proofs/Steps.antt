@@ -1,5 +1,5 @@
 -- Whatever comes of what a call wants leads on.
-use Rattle.call_table.proofs.Words.{rules, add-zero, append-nil, inl, inr, fold, take, drop, filter, ◌++◌, ◌≡◌, ℕ, ◌+◌, ◌-◌, ◌*◌, Bool, true, false, not, cond, List, [], ◌∷◌, Option, None, Some, refl, sym, ◌∙◌, ap, subst, arith, max, length, find, position_or_len, filter-append, nat_tests, take-append-drop, Region, is_active, is_listed, is_flight, begins_at, moved_to, placed, turned_parts, turned_in_order, Stepped, stays, replaced, if_live, is_lazy, is_dirty_time_over, after_advance, advance_all, after_set, setting_stands, take_over_at, is_published_at, held_count, flight_count, if_free, after_reset, after_destroy, ended, doom_at, step_of, after_cut, put_down-nobody, itself, Replied, Told, Starved, Busy, Split, Answer, Reply, NoArena, Noted, Purge, Doomed, InUse, Rest, ToDirty, ToRetained, Setting, Space, Part, Span, Sound, mine, AskFacts, fill_at, lowest_free, AnswersTo, Wish, Change, TurnPoint, Filling, Looking, Landing, Giving, Finding, Taking, Offering, Advancing, Changing, Making, Resetting, Destroying, Dooming, Publishing, Owning, AskPoint, Skipping, Trimming, Growing, Paring, Needing, Granting, Committing, Merging, Easing, Returning, Decommitting, Forcing, Turns, Asks, Tells, Next, Go, Gone, Ends, ask_of, turned, starved, is_marked, told, done_of, op_of, whole_chunks, limited, changed, make_next, skipped, trimmed, grown, needed, granted, committed, Idle, Alone, Gets, KnowsAsk, KnowsTurn, Heard, IsChange, is_of_arena, with_found, Keeps, stages_turn, stages_ask, stages_change, left, left_ask, flights_of, StepsKeep}
+use Rattle.call_table.proofs.Words.{rules, add-zero, append-nil, inl, inr, fold, take, drop, filter, ◌++◌, ◌≡◌, ℕ, ◌+◌, ◌-◌, ◌*◌, Bool, true, false, not, cond, List, [], ◌∷◌, Option, None, Some, refl, sym, ◌∙◌, ap, subst, arith, max, length, find, position_or_len, filter-append, nat_tests, take-append-drop, Region, is_active, is_listed, is_flight, begins_at, moved_to, placed, turned_parts, turned_in_order, Stepped, stays, replaced, if_live, is_lazy, is_dirty_time_over, after_advance, advance_all, after_set, setting_stands, take_over_at, is_published_at, held_count, flight_count, if_free, after_reset, after_destroy, ended, doom_at, step_of, after_cut, put_down-nobody, itself, Replied, Told, Starved, Busy, Split, Answer, Reply, NoArena, Noted, Purge, Doomed, InUse, Rest, ToDirty, ToRetained, Setting, Space, Part, Span, Sound, mine, AskFacts, fill_at, lowest_free, AnswersTo, Wish, Change, TurnPoint, Filling, Looking, Landing, Giving, Finding, Taking, Offering, Advancing, Changing, Making, Resetting, Destroying, Dooming, Publishing, Owning, AskPoint, Skipping, Trimming, Growing, Paring, Needing, Granting, Committing, Merging, Easing, Returning, Decommitting, Forcing, Turns, Asks, Tells, Next, Go, Gone, Ends, ask_at, turn_replied, starved, is_marked, told, done_at, op_at, whole_chunks, limited, setting_changed, make_next, skipped, trimmed, grown, needed, grant_split, committed, Idle, Alone, Gets, KnowsAsk, KnowsTurn, Heard, IsChange, is_of_arena, with_found, Keeps, stages_turn, stages_ask, stages_change, left, left_ask, flights_of, StepsKeep}
 use Rattle.std.proofs.Common.{ltb as nat_lt}
 use Rattle.space_model.specs.Ending.{emptied}
 use Rattle.call_table.proofs.Lists.{filter-fewer}
@@ -26,7 +26,7 @@ moved_flies_not c r (p ∷ ps) done none =
 moved_idle : (c : ℕ) (s : Space) (r : Rest) (test : Part → Bool) → Idle (mine c s) → filter (λ q. is_flight c q.state) (turned_parts test (moved_to r) s.parts) ≡ []
 moved_idle c s r test idle = replaced_idle c s test (turned_in_order (moved_to r) (filter test s.parts)) idle.flights ∙ moved_flies_not c r (filter test s.parts) [] refl
 
-fill_keeps : (c : ℕ) (s : Space) (wish : Wish) (count : ℕ) (addrs : List ℕ) → Gets (mine c s) wish → Idle (mine c s) → Onto c (turned (Filling wish count)) 1 0 (fill_at s c wish.class addrs)
+fill_keeps : (c : ℕ) (s : Space) (wish : Wish) (count : ℕ) (addrs : List ℕ) → Gets (mine c s) wish → Idle (mine c s) → Onto c (turn_replied (Filling wish count)) 1 0 (fill_at s c wish.class addrs)
 fill_keeps c s wish count addrs gets idle = grind arith
 
 limited_goes : (c : ℕ) (t : Space) (bound : ℕ) (dirty muzzy : Option ℕ) → Idle (mine c t) → Keeps c t 4 bound (limited dirty muzzy)
@@ -36,26 +36,26 @@ limited_goes c t bound dirty muzzy idle = grind arith
 live_keeps : (c : ℕ) (s : Space) (f : Reply → Next) (stage bound : ℕ) (u : Stepped) → f NoArena ≡ Gone → Idle (mine c s) → Onto c f stage bound u → Onto c f stage bound (if_live s u)
 live_keeps c s f stage bound u gone idle onto = grind arith
 
-advance_keeps : (c : ℕ) (s : Space) (now : ℕ) → Idle (mine c s) → Onto c (turned (Advancing now)) 4 0 (after_advance s now)
+advance_keeps : (c : ℕ) (s : Space) (now : ℕ) → Idle (mine c s) → Onto c (turn_replied (Advancing now)) 4 0 (after_advance s now)
 advance_keeps c s now idle =
-    live_keeps c s (turned (Advancing now)) 4 0 (advance_all s now) refl idle (limited_goes c (advance_all s now).after 0 _ _ (record { flights = idle.flights; offers = idle.offers }))
+    live_keeps c s (turn_replied (Advancing now)) 4 0 (advance_all s now) refl idle (limited_goes c (advance_all s now).after 0 _ _ (record { flights = idle.flights; offers = idle.offers }))
 
-changed_goes : (c : ℕ) (t : Space) (change : Change) → Idle (mine c t) → IsChange change → Keeps c t (stages_change change) 0 (changed change)
+changed_goes : (c : ℕ) (t : Space) (change : Change) → Idle (mine c t) → IsChange change → Keeps c t (stages_change change) 0 (setting_changed change)
 changed_goes c t change idle is = grind arith
 
 noted_keeps : (c : ℕ) (s t : Space) (setting : Setting) (change : Change) → Idle (mine c s) → IsChange change → Idle (mine c t) →
-    Onto c (turned (Changing setting change)) (stages_change change) 0 (if_live s (stays t Noted))
-noted_keeps c s t setting change idle is still = live_keeps c s (turned (Changing setting change)) (stages_change change) 0 (stays t Noted) refl idle (changed_goes c t change still is)
+    Onto c (turn_replied (Changing setting change)) (stages_change change) 0 (if_live s (stays t Noted))
+noted_keeps c s t setting change idle is still = live_keeps c s (turn_replied (Changing setting change)) (stages_change change) 0 (stays t Noted) refl idle (changed_goes c t change still is)
 
 set_keeps : (c : ℕ) (s : Space) (setting : Setting) (change : Change) → Idle (mine c s) → IsChange change → is_of_arena setting ≡ true →
-    Onto c (turned (Changing setting change)) (stages_change change) 0 (after_set s c setting)
+    Onto c (turn_replied (Changing setting change)) (stages_change change) 0 (after_set s c setting)
 set_keeps c s setting change idle is of = grind (arith, noted_keeps)
 
 next_made : (c : ℕ) (s : Space) (index : ℕ) (setting : Setting) → Idle (mine c s) → setting_stands setting ≡ true → is_of_arena setting ≡ false → Keeps c s (31 - index) 0 (make_next index setting)
 next_made c s index setting idle stands of = grind (arith, nat_tests)
 
 make_keeps : (c : ℕ) (s : Space) (index : ℕ) (setting : Setting) → Idle (mine c s) → setting_stands setting ≡ true → is_of_arena setting ≡ false →
-    Onto c (turned (Making index setting)) (31 - index) 0 (after_set s c setting)
+    Onto c (turn_replied (Making index setting)) (31 - index) 0 (after_set s c setting)
 make_keeps c s index setting idle stands of = grind (arith, next_made)
 
 -- a step that only an arena makes which is in nobody's use
@@ -63,20 +63,20 @@ free_keeps : (c : ℕ) (s : Space) (f : Reply → Next) (stage bound held flight
     Onto c f stage bound u → Onto c f stage bound (if_free s held flights threads u)
 free_keeps c s f stage bound held flights threads u busy idle onto = grind arith
 
-reset_keeps : (c : ℕ) (s : Space) (cached : ℕ) → Idle (mine c s) → Onto c (turned (Resetting cached)) 2 0 (after_reset s c cached)
+reset_keeps : (c : ℕ) (s : Space) (cached : ℕ) → Idle (mine c s) → Onto c (turn_replied (Resetting cached)) 2 0 (after_reset s c cached)
 reset_keeps c s cached idle =
     let t : Space = (emptied s).after in
     let still : Idle (mine c t) = record { flights = moved_idle c s ToDirty (λ p. is_active p.state) idle; offers = idle.offers } in
-    live_keeps c s (turned (Resetting cached)) 2 0 _ refl idle (free_keeps c s (turned (Resetting cached)) 2 0 (held_count s c cached) (flight_count s c) 0 (emptied s) refl idle
-    (elim (is_dirty_time_over s) as (λ v. Keeps c t 2 0 (turned (Resetting cached) (cond v (Purge (is_lazy s)) Noted))) [ true ↦ ((still, refl, tt), inl (omega arith)) | false ↦ still ]))
+    live_keeps c s (turn_replied (Resetting cached)) 2 0 _ refl idle (free_keeps c s (turn_replied (Resetting cached)) 2 0 (held_count s c cached) (flight_count s c) 0 (emptied s) refl idle
+    (elim (is_dirty_time_over s) as (λ v. Keeps c t 2 0 (turn_replied (Resetting cached) (cond v (Purge (is_lazy s)) Noted))) [ true ↦ ((still, refl, tt), inl (omega arith)) | false ↦ still ]))
 
-destroy_keeps : (c : ℕ) (s : Space) (cached : ℕ) → Idle (mine c s) → Onto c (turned (Destroying cached)) 1 0 (after_destroy s c cached)
+destroy_keeps : (c : ℕ) (s : Space) (cached : ℕ) → Idle (mine c s) → Onto c (turn_replied (Destroying cached)) 1 0 (after_destroy s c cached)
 destroy_keeps c s cached idle =
     let still : Idle (mine c (ended s c).after) = record { flights = moved_idle c s ToRetained (λ p. not (is_listed ToRetained p.state)) idle; offers = idle.offers } in
-    live_keeps c s (turned (Destroying cached)) 1 0 _ refl idle (free_keeps c s (turned (Destroying cached)) 1 0 (held_count s c cached) (flight_count s c) (length s.bound) (ended s c) refl idle
+    live_keeps c s (turn_replied (Destroying cached)) 1 0 _ refl idle (free_keeps c s (turn_replied (Destroying cached)) 1 0 (held_count s c cached) (flight_count s c) (length s.bound) (ended s c) refl idle
     ((still, itself c), inl (omega arith)))
 
-doom_keeps : (c : ℕ) (s : Space) (parts : List Part) → s.parts ≡ parts → Idle (mine c s) → (mine c s).dying ≡ true → Onto c (turned Dooming) 0 (2 * length s.parts + 1) (doom_at s parts)
+doom_keeps : (c : ℕ) (s : Space) (parts : List Part) → s.parts ≡ parts → Idle (mine c s) → (mine c s).dying ≡ true → Onto c (turn_replied Dooming) 0 (2 * length s.parts + 1) (doom_at s parts)
 doom_keeps c s [] e idle dying = record { flights = idle.flights; offers = idle.offers }
 doom_keeps c s (p ∷ ps) e idle dying =
     let t : Space = (replaced s p [] (Doomed p.span p.committed)).after in
@@ -86,7 +86,7 @@ doom_keeps c s (p ∷ ps) e idle dying =
     let count : length t.parts ≡ length (filter (λ q. not (begins_at p.span.first q)) s.parts) = ap length (append-nil (filter (λ q. not (begins_at p.span.first q)) s.parts)) in
     ((still, dying), inr (refl, omega (arith, fewer, count)))
 
-own_keeps : (c : ℕ) (s : Space) (addr : ℕ) (frees past : Bool) (o : Option Region) → Idle (mine c s) → Onto c (turned (Owning addr frees past)) 0 0 (take_over_at s c addr o)
+own_keeps : (c : ℕ) (s : Space) (addr : ℕ) (frees past : Bool) (o : Option Region) → Idle (mine c s) → Onto c (turn_replied (Owning addr frees past)) 0 0 (take_over_at s c addr o)
 own_keeps c s addr frees past o idle = grind arith
 
 -- the answer to a split behind the run, or of a grant of more chunks than are needed
@@ -100,9 +100,9 @@ trim_keeps c s wish span b answer gets alone kind =
 -- ---- what a step keeps
 
 turn_keeps : (c : ℕ) (s : Space) (point : TurnPoint) (found : Option ℕ) → Sound s → KnowsTurn (mine c s) point →
-    Onto c (turned point) (stages_turn point) (left c s (Turns point)) (step_of s c (with_found found (op_of point)))
+    Onto c (turn_replied point) (stages_turn point) (left c s (Turns point)) (step_of s c (with_found found (op_at point)))
 turn_keeps c s (Filling wish count) found sound (gets, idle, small, some) =
-    live_keeps c s (turned (Filling wish count)) 1 0 _ refl idle (fill_keeps c s wish count (lowest_free wish.class count s) gets idle)
+    live_keeps c s (turn_replied (Filling wish count)) 1 0 _ refl idle (fill_keeps c s wish count (lowest_free wish.class count s) gets idle)
 turn_keeps c s (Looking wish) found sound (gets, idle) = look_onto c s wish gets idle
 turn_keeps c s (Landing wish span) found sound (gets, alone, pages) = land_onto c s wish span alone
 turn_keeps c s (Giving addrs) found sound gives = back_onto c s addrs gives.idle.offers
@@ -117,14 +117,14 @@ turn_keeps c s (Resetting cached) found sound (idle, fewer) = reset_keeps c s ca
 turn_keeps c s (Destroying cached) found sound (idle, fewer) = destroy_keeps c s cached idle
 turn_keeps c s Dooming found sound (idle, dying) = doom_keeps c s s.parts refl idle dying
 turn_keeps c s (Publishing addr) found sound (idle, held) = record { flights = idle.flights; offers = idle.offers }
-turn_keeps c s (Owning addr frees past) found sound idle = live_keeps c s (turned (Owning addr frees past)) 0 0 _ refl idle (own_keeps c s addr frees past (find (is_published_at addr) s.regions) idle)
+turn_keeps c s (Owning addr frees past) found sound idle = live_keeps c s (turn_replied (Owning addr frees past)) 0 0 _ refl idle (own_keeps c s addr frees past (find (is_published_at addr) s.regions) idle)
 
 -- what is so of an ask that is the point's own is so of the ask that was heard
 abbrev asked_at : AskPoint → AskFacts → AskFacts
-asked_at point asked = record asked { ask = ask_of point }
+asked_at point asked = record asked { ask = ask_at point }
 
-ask_keeps : (c : ℕ) (s : Space) (point : AskPoint) (asked : AskFacts) (found : Option ℕ) → Sound s → KnowsAsk (mine c s) point → AnswersTo (ask_of point) asked.answer →
-    Onto c (told point (asked_at point asked)) (stages_ask point) (left_ask (flights_of c s) point) (step_of s c (with_found found (done_of point (asked_at point asked))))
+ask_keeps : (c : ℕ) (s : Space) (point : AskPoint) (asked : AskFacts) (found : Option ℕ) → Sound s → KnowsAsk (mine c s) point → AnswersTo (ask_at point) asked.answer →
+    Onto c (told point (asked_at point asked)) (stages_ask point) (left_ask (flights_of c s) point) (step_of s c (with_found found (done_at point (asked_at point asked))))
 ask_keeps c s (Skipping wish span b skip) asked found sound (gets, alone, some, holds) kind =
     cut_onto c s (skipped wish b) 10 false span skip b asked.answer alone kind
     (λ t e kept. trim_goes c t 10 wish (kept_span false skip span) b (gets_kept c s t wish gets e) kept (omega arith) (omega arith))
@@ -142,7 +142,7 @@ ask_keeps c s (Needing wish) asked found sound (gets, idle) kind =
     (λ t e none why. none)
     (λ t e span b pages alone. grant_goes c t 6 wish span b (gets_kept c s t wish gets e) alone (omega (arith, pages)) (omega arith))
 ask_keeps c s (Granting wish span b) asked found sound (gets, alone, more) kind =
-    cut_onto c s (granted wish b (asked_at (Granting wish span b) asked)) 4 true span wish.pages b asked.answer alone kind
+    cut_onto c s (grant_split wish b (asked_at (Granting wish span b) asked)) 4 true span wish.pages b asked.answer alone kind
     (λ t e kept. commit_goes c t 4 wish (kept_span true wish.pages span) b (gets_kept c s t wish gets e) kept refl (omega arith))
     (λ t e idle. idle)
 ask_keeps c s (Committing wish span) asked found sound (gets, alone, pages) kind =
@@ -156,17 +156,17 @@ ask_keeps c s (Decommitting span later) asked found sound (flies, then_is) kind 
 ask_keeps c s (Forcing span later) asked found sound (flies, then_is) kind = forced_onto c s span later flies then_is
 
 heard_keeps : (c : ℕ) (s : Space) (point : AskPoint) (asked : AskFacts) (found : Option ℕ) → Sound s → KnowsAsk (mine c s) point → Heard point (Some asked) →
-    Onto c (told point asked) (stages_ask point) (left_ask (flights_of c s) point) (step_of s c (with_found found (done_of point asked)))
+    Onto c (told point asked) (stages_ask point) (left_ask (flights_of c s) point) (step_of s c (with_found found (done_at point asked)))
 heard_keeps c s point asked found sound knows (is, kind) =
-    subst (λ a. Onto c (told point (record asked { ask = a })) (stages_ask point) (left_ask (flights_of c s) point) (step_of s c (with_found found (done_of point (record asked { ask = a }))))) (sym is)
+    subst (λ a. Onto c (told point (record asked { ask = a })) (stages_ask point) (left_ask (flights_of c s) point) (step_of s c (with_found found (done_at point (record asked { ask = a }))))) (sym is)
     (ask_keeps c s point asked found sound knows kind)
 
 -- a turn that found no memory changed nothing, and the client had nothing in flight
-pub starved_keeps : (c : ℕ) (s : Space) (point : TurnPoint) (stage bound : ℕ) → KnowsTurn (mine c s) point → is_marked (op_of point) ≡ true →
-    Keeps c s stage bound (starved (is_marked (op_of point)))
+pub starved_keeps : (c : ℕ) (s : Space) (point : TurnPoint) (stage bound : ℕ) → KnowsTurn (mine c s) point → is_marked (op_at point) ≡ true →
+    Keeps c s stage bound (starved (is_marked (op_at point)))
 starved_keeps c s point stage bound knows may = first_of (search rules, grind arith, cc)
 
-pub never_starves : (point : AskPoint) (asked : AskFacts) → is_marked (done_of point asked) ≡ false
+pub never_starves : (point : AskPoint) (asked : AskFacts) → is_marked (done_at point asked) ≡ false
 never_starves point asked = grind arith
 
 -- what is known where a step leads is known there, in its own space and by its own reply
@@ -176,14 +176,14 @@ moved c f stage bound u t reply after replied onto =
 
 pub steps-keep : StepsKeep
 steps-keep c s t (Turns point) (Replied reply) sound knows (found, after, replied) =
-    moved c (turned point) (stages_turn point) (left c s (Turns point)) _ t reply after replied (turn_keeps c s point found sound knows)
+    moved c (turn_replied point) (stages_turn point) (left c s (Turns point)) _ t reply after replied (turn_keeps c s point found sound knows)
 steps-keep c s t (Turns point) Starved sound knows (may, same) =
-    subst (λ v. Keeps c v (stages_turn point) (left c s (Turns point)) (starved (is_marked (op_of point)))) (sym same) (starved_keeps c s point _ _ knows may)
+    subst (λ v. Keeps c v (stages_turn point) (left c s (Turns point)) (starved (is_marked (op_at point)))) (sym same) (starved_keeps c s point _ _ knows may)
 steps-keep c s t (Asks point None) (Told asked) sound (knows, heard) (is, kind, same) =
     subst (λ v. Keeps c v (stages_ask point) (left_ask (flights_of c s) point + 1) (Go (Asks point (Some asked)))) (sym same) ((knows, (is, kind)), inr (refl, omega arith))
 steps-keep c s t (Asks point (Some asked)) (Replied reply) sound (knows, heard) (found, after, replied) =
     moved c (told point asked) (stages_ask point) (left c s (Asks point (Some asked))) _ t reply after replied
-    (subst (λ n. Onto c (told point asked) (stages_ask point) n (step_of s c (with_found found (done_of point asked)))) (sym (add-zero (left_ask (flights_of c s) point))) (heard_keeps c s point asked found sound knows heard))
+    (subst (λ n. Onto c (told point asked) (stages_ask point) n (step_of s c (with_found found (done_at point asked)))) (sym (add-zero (left_ask (flights_of c s) point))) (heard_keeps c s point asked found sound knows heard))
 steps-keep c s t (Asks point (Some asked)) Starved sound (knows, heard) (may, same) = absurd (let no = never_starves point asked in cc)
 steps-keep c s t (Tells span b) (Told asked) sound knows (is, kind, same) =
     subst (λ v. Keeps c v 0 (2 * length s.parts + 2) (Go (Turns Dooming))) (sym same) (knows, inr (refl, omega arith))

@@ -96,9 +96,9 @@ emptied_by c (Go (Turns (Giving addrs))) s = empties c (Back addrs) s
 emptied_by c next s = 0
 
 -- how many extents the returns of a call emptied
-abbrev pub emptied : ℕ → Moment → List Stride → ℕ
-emptied c at [] = 0
-emptied c at (x ∷ strides) = emptied_by c at.stage.next x.before + emptied c (after at x.item) strides
+abbrev pub emptied_by_all : ℕ → Moment → List Stride → ℕ
+emptied_by_all c at [] = 0
+emptied_by_all c at (x ∷ strides) = emptied_by c at.stage.next x.before + emptied_by_all c (after at x.item) strides
 
 -- whether an extent that was put down is to be purged, since none may stay dirty
 abbrev pub is_purge : Item → Bool
@@ -116,7 +116,7 @@ purges x = is_purge x.item
 -- a free has made at most 2 asks for each extent that its own returns emptied, and 6 more for each that is purged
 abbrev pub FreesAreFew : Type 0
 FreesAreFew = (c : ℕ) (request : Request) (desk : DeskFacts) (strides : List Stride) → is_free request ≡ true → Walks c (begin request desk) strides
-    → count_by asks strides ≤ 2 * emptied c (begin request desk) strides + 6 * count_by purges strides
+    → count_by asks strides ≤ 2 * emptied_by_all c (begin request desk) strides + 6 * count_by purges strides
 
 -- ---- a purge
 

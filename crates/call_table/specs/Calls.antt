@@ -3,7 +3,7 @@ use Rattle.std.specs.Prelude.{◌≡◌, ◌≤◌, ℕ, Bool, true, false, ◌|
 use Rattle.call_table.specs.Words.{Request, Malloc, Memalign, Free, FreeForeign, Publish, Take, Region, Finished, Ok, Later, Answers, DirtyToo, Then, Batches, Visiting, Visits, TurnPoint, Filling, Looking, Landing, Finding, Taking, Offering, Changing, Owning, AskPoint, Merging, Easing, Returning, Decommitting, Forcing, Point, Turns, Asks, Tells, Next, Go, Ends, Stage, Held, DeskFacts}
 use Rattle.call_table.specs.Desks.{flushes}
 use Rattle.call_table.specs.Points.{IsSizedNext}
-use Rattle.call_table.specs.Needs.{IsPlace}
+use Rattle.call_table.specs.Needs.{IsPointOrEnd}
 use Rattle.call_table.specs.Runs.{Moment}
 
 -- a call: its client, what that wants, and where it stands
@@ -18,7 +18,7 @@ moment_of call desk = record { request = call.request; desk = desk; stage = call
 
 -- it waits at a point or has ended, and what it asks for fits into a number
 abbrev pub IsCall : Stage → Type 0
-IsCall at = IsPlace at.next × IsSizedNext at.next
+IsCall at = IsPointOrEnd at.next × IsSizedNext at.next
 
 -- ---- room for a region that the client comes to hold
 
@@ -66,9 +66,9 @@ wants_place hand (Ends answer) = is_some hand
 wants_place hand next = false
 
 -- while the call is open, there is room for a region that its client may come to hold
-abbrev pub HasRoom : Option Held → ℕ → Next → Type 0
-HasRoom hand room (Go point) = wants_place hand (Go point) ≡ true → 1 ≤ room
-HasRoom hand room next = Unit {0}
+abbrev pub HasRoomToHold : Option Held → ℕ → Next → Type 0
+HasRoomToHold hand room (Go point) = wants_place hand (Go point) ≡ true → 1 ≤ room
+HasRoomToHold hand room next = Unit {0}
 
 -- whether a client may come to hold a region by a request: one that it gets, or gave away, where memory is wanting
 abbrev pub may_hold : Request → Bool

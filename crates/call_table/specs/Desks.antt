@@ -6,13 +6,13 @@ use Rattle.thread_cache.specs.Desks.{discarding, empty_handed, gave, held_again,
 use Rattle.call_table.specs.Words.{Request, Flush, Cache, Item, Replied, Region, Finished, Answered, Ok, Leaves, TurnPoint, Filling, Landing, Giving, Changing, Resetting, Destroying, Publishing, Owning, Turns, Next, Go, Ends, Reply, Noted, Landed, NextFlight, Purge, Regions, Owned, Held, DeskFacts, caching, freeing}
 
 -- a region of an arena
-abbrev pub region_at : ℕ → ℕ → ℕ → Held
-region_at arena class addr = record { addr = addr; class = class; arena = arena }
+abbrev pub held_region : ℕ → ℕ → ℕ → Held
+held_region arena class addr = record { addr = addr; class = class; arena = arena }
 
 -- the regions at these addresses are cached, the first one last
 abbrev pub sharing : ℕ → ℕ → List ℕ → DeskFacts → DeskFacts
 sharing arena class [] desk = desk
-sharing arena class (addr ∷ addrs) desk = caching (region_at arena class addr) (sharing arena class addrs desk)
+sharing arena class (addr ∷ addrs) desk = caching (held_region arena class addr) (sharing arena class addrs desk)
 
 -- the address of a region of a class at a place behind the first one, which is a number of 64 bits
 abbrev pub address_behind : ℕ → ℕ → ℕ → ℕ
@@ -33,7 +33,7 @@ desk_turned desk arena (Resetting cached) Noted = discarding arena desk
 desk_turned desk arena (Resetting cached) (Purge lazy) = discarding arena desk
 desk_turned desk arena (Destroying cached) Noted = discarding arena desk
 desk_turned desk arena (Publishing addr) Noted = empty_handed desk
-desk_turned desk arena (Owning addr true past) (Owned class) = freeing (region_at arena class addr) desk
+desk_turned desk arena (Owning addr true past) (Owned class) = freeing (held_region arena class addr) desk
 desk_turned desk arena point reply = desk
 
 -- what the client has after an item
@@ -49,7 +49,7 @@ switched request desk = desk
 -- what the client has once its call has ended: a region that it got is held; what is still in hand is cached where all is done,
 -- and else held again
 abbrev pub desk_ended : Request → ℕ → Answered → DeskFacts → DeskFacts
-desk_ended request arena (Ok (Region addr class)) desk = holding (region_at arena class addr) desk
+desk_ended request arena (Ok (Region addr class)) desk = holding (held_region arena class addr) desk
 desk_ended request arena (Ok Finished) desk = switched request (kept desk)
 desk_ended request arena answer desk = held_again desk
 

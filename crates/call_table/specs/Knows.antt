@@ -12,7 +12,7 @@ use Rattle.space_model.specs.Settings.{setting_stands}
 use Rattle.space_model.specs.Step.{may_merge, rises_from}
 use Rattle.call_table.specs.Words.{ToDirty, ToRetained, Setting, MakeLive, Part, Span, Mine, AskFacts, pages_at, same_span, end_of, most_regions, AnswersTo}
 use Rattle.call_table.specs.Words.{Wish, Visit, Then, Batches, Visiting, Change, Visits, TurnPoint, Filling, Looking, Landing, Giving, Finding, Taking, Offering, Advancing, Changing, Making, Resetting, Destroying, Dooming, Publishing, Owning, AskPoint, Skipping, Trimming, Growing, Paring, Needing, Granting, Committing, Merging, Easing, Returning, Decommitting, Forcing, Point, Turns, Asks, Tells}
-use Rattle.call_table.specs.Table.{ask_of, chunks_for}
+use Rattle.call_table.specs.Table.{ask_at, chunks_for}
 
 -- what a call can wish for: regions of a class in an extent of its pages, at an alignment that is a power of two
 pub record IsWish (wish : Wish) : Type 0 where
@@ -66,7 +66,7 @@ abbrev pub Droppable : Part → Type 0
 Droppable part = is_backed (rest_of part.state) ≡ true
 
 -- The client has two extents in flight that may be merged: side by side, for the same list, and committed alike.
-pub record Pair (m : Mine) (low high : Span) (fresh : Bool) : Type 0 where
+pub record HasPair (m : Mine) (low high : Span) (fresh : Bool) : Type 0 where
   pub low_part : Part
   pub high_part : Part
   pub low_found : in_flight low m.flights ≡ Some low_part
@@ -92,7 +92,7 @@ pub record Gets (m : Mine) (wish : Wish) : Type 0 where
   pub served : is_served m ≡ true
 
 -- The client holds a region at each of the addresses, which rise.
-pub record Gives (m : Mine) (addrs : List ℕ) : Type 0 where
+pub record GivesBack (m : Mine) (addrs : List ℕ) : Type 0 where
   pub some : 0 < length addrs
   pub rise : rises_from 0 addrs ≡ true
   pub held : list_all (is_held m) addrs ≡ true
@@ -128,7 +128,7 @@ abbrev pub KnowsTurn : Mine → TurnPoint → Type 0
 KnowsTurn m (Filling wish count) = Gets m wish × Idle m × (wish.class < 36) × (0 < count)
 KnowsTurn m (Looking wish) = Gets m wish × Idle m
 KnowsTurn m (Landing wish span) = Gets m wish × Alone m span true × (span.pages ≡ wish.pages)
-KnowsTurn m (Giving addrs) = Gives m addrs
+KnowsTurn m (Giving addrs) = GivesBack m addrs
 KnowsTurn m (Finding own tries fresh later) = (tries < 3) × Flies m own (Settled fresh) × IsThen later
 KnowsTurn m (Taking visit left) = Idle m × IsVisit visit × HasLeft left
 KnowsTurn m (Offering span later) = Flies m span Droppable × IsThen later
@@ -151,7 +151,7 @@ KnowsAsk m (Paring wish span is_committed) = Gets m wish × Alone m span is_comm
 KnowsAsk m (Needing wish) = Gets m wish × Idle m
 KnowsAsk m (Granting wish span is_committed) = Gets m wish × Alone m span is_committed × (wish.pages < span.pages)
 KnowsAsk m (Committing wish span) = Gets m wish × Alone m span false × (span.pages ≡ wish.pages)
-KnowsAsk m (Merging low high own_low fresh later) = Pair m low high fresh × IsThen later
+KnowsAsk m (Merging low high own_low fresh later) = HasPair m low high fresh × IsThen later
 KnowsAsk m (Easing span later) = Flies m span (λ p. rest_of p.state ≡ ToDirty) × IsThen later
 KnowsAsk m (Returning span later) = HasOffered m span × IsThen later
 KnowsAsk m (Decommitting span later) = Flies m span (λ p. (p.committed ≡ true) × (rest_of p.state ≡ ToRetained)) × IsThen later
@@ -160,7 +160,7 @@ KnowsAsk m (Forcing span later) = Flies m span (λ p. rest_of p.state ≡ ToReta
 -- an answer that is there is one to the ask of the point, of its kind
 abbrev pub Heard : AskPoint → Option AskFacts → Type 0
 Heard point None = Unit {0}
-Heard point (Some asked) = (asked.ask ≡ ask_of point) × AnswersTo (ask_of point) asked.answer
+Heard point (Some asked) = (asked.ask ≡ ask_at point) × AnswersTo (ask_at point) asked.answer
 
 -- what a call knows at a point
 abbrev pub Knows : Mine → Point → Type 0

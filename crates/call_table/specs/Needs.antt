@@ -27,10 +27,10 @@ LeavesDesk (Cache on) = ⊥
 LeavesDesk request = Unit {0}
 
 -- a call waits at a point, or has ended
-abbrev pub IsPlace : Next → Type 0
-IsPlace (Go point) = Unit {0}
-IsPlace (Ends answer) = Unit {0}
-IsPlace next = ⊥
+abbrev pub IsPointOrEnd : Next → Type 0
+IsPointOrEnd (Go point) = Unit {0}
+IsPointOrEnd (Ends answer) = Unit {0}
+IsPointOrEnd next = ⊥
 
 -- the item was one that could come
 abbrev pub Goes : Next → Type 0

@@ -11,8 +11,8 @@ abbrev pub Rests : ℕ → Space → Next → Next → Type 0
 Rests c t next there = (next ≡ there) × Idle (mine c t)
 
 -- the call goes on there, so many extents are in flight, this one among them, and nothing is offered
-abbrev pub Holds : ℕ → Space → ℕ → Span → Next → Next → Type 0
-Holds c t count span next there = (next ≡ there) × (flights_of c t ≡ count) × Flies (mine c t) span (λ part. Unit {0})
+abbrev pub HoldsExtent : ℕ → Space → ℕ → Span → Next → Next → Type 0
+HoldsExtent c t count span next there = (next ≡ there) × (flights_of c t ≡ count) × Flies (mine c t) span (λ part. Unit {0})
 
 -- The table of refusals, from a space to the one behind the turn that took the refusal in. Of a malloc: a split leaves
 -- the extent whole and nobody's, and just as many chunks as are needed are asked for; where these were granted, and for
@@ -27,14 +27,14 @@ AfterRefusal c s t (Paring wish span is_committed) asked next = Rests c t next (
 AfterRefusal c s t (Needing wish) asked next = Rests c t next (Ends (Refused asked))
 AfterRefusal c s t (Granting wish span is_committed) asked next = Rests c t next (Ends (Refused asked))
 AfterRefusal c s t (Committing wish span) asked next = Rests c t next (Ends (Refused asked))
-AfterRefusal c s t (Merging low high true fresh later) asked next = Holds c t (flights_of c s - 1) low next (look_on low true fresh later)
-AfterRefusal c s t (Merging low high false fresh later) asked next = Holds c t (flights_of c s - 1) high next (look_on high false fresh later)
-AfterRefusal c s t (Easing span later) asked next = Holds c t (flights_of c s) span next (Go (Turns (Offering span later)))
+AfterRefusal c s t (Merging low high true fresh later) asked next = HoldsExtent c t (flights_of c s - 1) low next (look_on low true fresh later)
+AfterRefusal c s t (Merging low high false fresh later) asked next = HoldsExtent c t (flights_of c s - 1) high next (look_on high false fresh later)
+AfterRefusal c s t (Easing span later) asked next = HoldsExtent c t (flights_of c s) span next (Go (Turns (Offering span later)))
 AfterRefusal c s t (Returning span later) asked next =
-    Holds c t (flights_of c s + 1) span next (Go (Asks (Decommitting span later) None))
+    HoldsExtent c t (flights_of c s + 1) span next (Go (Asks (Decommitting span later) None))
     ⊎ ((next ≡ put_next later (next_flight c s.parts)) × (flights_of c t ≡ flights_of c s))
-AfterRefusal c s t (Decommitting span later) asked next = Holds c t (flights_of c s) span next (Go (Asks (Forcing span later) None))
-AfterRefusal c s t (Forcing span later) asked next = Holds c t (flights_of c s) span next (put_purged span later)
+AfterRefusal c s t (Decommitting span later) asked next = HoldsExtent c t (flights_of c s) span next (Go (Asks (Forcing span later) None))
+AfterRefusal c s t (Forcing span later) asked next = HoldsExtent c t (flights_of c s) span next (put_purged span later)
 
 -- what stands once a refusal of an ask was taken in is what the table of refusals says
 abbrev pub RefusalsStand : Type 0

@@ -89,10 +89,10 @@ begin_cache true desk = stage desk.arena (Ends (Ok Finished))
 begin_cache false desk = begin_flush desk
 
 -- the setting of a decay time
-abbrev pub time_of : Rest → ℤ → ℕ → Setting
-time_of ToDirty ms now = DirtyMs ms now
-time_of ToMuzzy ms now = MuzzyMs ms now
-time_of ToRetained ms now = MuzzyMs ms now
+abbrev pub decay_setting : Rest → ℤ → ℕ → Setting
+decay_setting ToDirty ms now = DirtyMs ms now
+decay_setting ToMuzzy ms now = MuzzyMs ms now
+decay_setting ToRetained ms now = MuzzyMs ms now
 
 -- the extents of the list, all of them
 abbrev pub whole_visit : Rest → Visit
@@ -126,7 +126,7 @@ begin_stage Flush desk = begin_flush desk
 begin_stage (Cache on) desk = begin_cache on desk
 begin_stage (PurgeAll index) desk = first_turn index (Taking purge_visit None)
 begin_stage (Decay index now) desk = first_turn index (Advancing now)
-begin_stage (Time index rest ms now) desk = first_turn index (Changing (time_of rest ms now) (after_time rest ms))
+begin_stage (Time index rest ms now) desk = first_turn index (Changing (decay_setting rest ms now) (after_time rest ms))
 begin_stage (Reset index) desk = first_turn_but_0 index (Resetting (cached_of index desk))
 begin_stage (Destroy index) desk = first_turn_but_0 index (Destroying (cached_of index desk))
 begin_stage (Create box_no dirty_ms muzzy_ms now) desk = first_turn 1 (Making 1 (MakeLive box_no dirty_ms muzzy_ms now))

@@ -27,58 +27,58 @@ abbrev pub alloc_of : Wish → ℕ → Ask
 alloc_of wish pages = Alloc None pages (max 512 wish.align) false
 
 -- the operation of a turn that takes in no answer
-abbrev pub op_of : TurnPoint → Op
-op_of (Filling wish count) = Fill wish.class count
-op_of (Looking wish) = Look wish.pages wish.align
-op_of (Landing wish span) = Land span wish.class wish.count
-op_of (Giving addrs) = Back addrs
-op_of (Finding own tries fresh later) = PutLook own tries
-op_of (Taking visit left) = PurgeTake visit.rest visit.keep
-op_of (Offering span later) = Offer span
-op_of (Advancing now) = Advance now
-op_of (Changing setting change) = Set setting
-op_of (Making index setting) = Set setting
-op_of (Resetting cached) = Reset cached
-op_of (Destroying cached) = Destroy cached
-op_of Dooming = DestroyTake
-op_of (Publishing addr) = Publish addr
-op_of (Owning addr frees past) = TakeOver addr
+abbrev pub op_at : TurnPoint → Op
+op_at (Filling wish count) = Fill wish.class count
+op_at (Looking wish) = Look wish.pages wish.align
+op_at (Landing wish span) = Land span wish.class wish.count
+op_at (Giving addrs) = Back addrs
+op_at (Finding own tries fresh later) = PutLook own tries
+op_at (Taking visit left) = PurgeTake visit.rest visit.keep
+op_at (Offering span later) = Offer span
+op_at (Advancing now) = Advance now
+op_at (Changing setting change) = Set setting
+op_at (Making index setting) = Set setting
+op_at (Resetting cached) = Reset cached
+op_at (Destroying cached) = Destroy cached
+op_at Dooming = DestroyTake
+op_at (Publishing addr) = Publish addr
+op_at (Owning addr frees past) = TakeOver addr
 
 -- the ask at a point
-abbrev pub ask_of : AskPoint → Ask
-ask_of (Skipping wish span is_committed skip) = Split span skip
-ask_of (Trimming wish span is_committed) = Split span wish.pages
-ask_of (Growing wish chunks) = alloc_of wish (chunks * 512)
-ask_of (Paring wish span is_committed) = Split span wish.pages
-ask_of (Needing wish) = alloc_of wish (whole_chunks wish.pages)
-ask_of (Granting wish span is_committed) = Split span wish.pages
-ask_of (Committing wish span) = Commit span
-ask_of (Merging low high own_low fresh later) = Merge low high
-ask_of (Easing span later) = PurgeLazy span
-ask_of (Returning span later) = Dalloc span true
-ask_of (Decommitting span later) = Decommit span
-ask_of (Forcing span later) = PurgeForced span
+abbrev pub ask_at : AskPoint → Ask
+ask_at (Skipping wish span is_committed skip) = Split span skip
+ask_at (Trimming wish span is_committed) = Split span wish.pages
+ask_at (Growing wish chunks) = alloc_of wish (chunks * 512)
+ask_at (Paring wish span is_committed) = Split span wish.pages
+ask_at (Needing wish) = alloc_of wish (whole_chunks wish.pages)
+ask_at (Granting wish span is_committed) = Split span wish.pages
+ask_at (Committing wish span) = Commit span
+ask_at (Merging low high own_low fresh later) = Merge low high
+ask_at (Easing span later) = PurgeLazy span
+ask_at (Returning span later) = Dalloc span true
+ask_at (Decommitting span later) = Decommit span
+ask_at (Forcing span later) = PurgeForced span
 
 -- the operation of the turn that takes its answer in
-abbrev pub done_of : AskPoint → AskFacts → Op
-done_of (Skipping wish span is_committed skip) asked = CutDone (heard_in asked) false
-done_of (Trimming wish span is_committed) asked = CutDone (heard_in asked) true
-done_of (Growing wish chunks) asked = GrowDone (heard_in asked) None
-done_of (Paring wish span is_committed) asked = CutDone (heard_in asked) true
-done_of (Needing wish) asked = GrowDone (heard_in asked) None
-done_of (Granting wish span is_committed) asked = CutDone (heard_in asked) true
-done_of (Committing wish span) asked = CommitDone (heard_in asked)
-done_of (Merging low high own_low fresh later) asked = MergeDone (heard_in asked) own_low
-done_of (Easing span later) asked = LazyDone (heard_in asked)
-done_of (Returning span later) asked = OfferDone (heard_in asked) None
-done_of (Decommitting span later) asked = DecommitDone (heard_in asked)
-done_of (Forcing span later) asked = ForcedDone (heard_in asked)
+abbrev pub done_at : AskPoint → AskFacts → Op
+done_at (Skipping wish span is_committed skip) asked = CutDone (heard_in asked) false
+done_at (Trimming wish span is_committed) asked = CutDone (heard_in asked) true
+done_at (Growing wish chunks) asked = GrowDone (heard_in asked) None
+done_at (Paring wish span is_committed) asked = CutDone (heard_in asked) true
+done_at (Needing wish) asked = GrowDone (heard_in asked) None
+done_at (Granting wish span is_committed) asked = CutDone (heard_in asked) true
+done_at (Committing wish span) asked = CommitDone (heard_in asked)
+done_at (Merging low high own_low fresh later) asked = MergeDone (heard_in asked) own_low
+done_at (Easing span later) asked = LazyDone (heard_in asked)
+done_at (Returning span later) asked = OfferDone (heard_in asked) None
+done_at (Decommitting span later) asked = DecommitDone (heard_in asked)
+done_at (Forcing span later) asked = ForcedDone (heard_in asked)
 
 -- what a call wants at a point
 abbrev pub want : Point → Want
-want (Turns point) = WantTurn (op_of point) None
-want (Asks point None) = WantAsk (ask_of point)
-want (Asks point (Some asked)) = WantTurn (done_of point asked) (Some asked)
+want (Turns point) = WantTurn (op_at point) None
+want (Asks point None) = WantAsk (ask_at point)
+want (Asks point (Some asked)) = WantTurn (done_at point asked) (Some asked)
 want (Tells span is_committed) = WantAsk (DestroyExtent span is_committed)
 
 -- ---- an extent for a wish
@@ -180,10 +180,10 @@ limited (Some dirty) (Some muzzy) = visit_all (record { rest = ToMuzzy; keep = m
 -- ---- settings
 
 -- what follows once a setting is changed
-abbrev pub changed : Change → Next
-changed Stops = Ends (Ok Finished)
-changed (Visits visit) = visit_all visit
-changed (Leaves arena) = Over arena (Turns (Changing Unbind Stops))
+abbrev pub setting_changed : Change → Next
+setting_changed Stops = Ends (Ok Finished)
+setting_changed (Visits visit) = visit_all visit
+setting_changed (Leaves arena) = Over arena (Turns (Changing Unbind Stops))
 
 -- where the index has an arena already, the next one is tried
 abbrev pub make_next : ℕ → Setting → Next
@@ -197,42 +197,42 @@ took_over addr class false = Ends (Ok (Region addr class))
 -- ---- where an item leads
 
 -- where the reply to a turn leads that took in no answer
-abbrev pub turned : TurnPoint → Reply → Next
-turned (Filling wish count) (Regions (addr ∷ addrs)) = Ends (Ok (Region addr wish.class))
-turned (Filling wish count) Nothing = Go (Turns (Looking wish))
-turned (Filling wish count) NoArena = Gone
-turned (Looking wish) (Took span is_committed skip) = skip_to wish span is_committed skip
-turned (Looking wish) (Grow series) = grow wish series
-turned (Looking wish) NoArena = Gone
-turned (Landing wish span) (Landed first count) = Ends (Ok (Region first wish.class))
-turned (Giving addrs) (NextFlight next) = put_next Batches next
-turned (Finding own tries fresh later) (Beside other) = beside own tries fresh other later
-turned (Finding own tries fresh later) (NextFlight next) = put_next later next
-turned (Finding own tries true later) (Purge lazy) = drop own lazy later
-turned (Taking visit left) (Taken span lazy listed) = drop span lazy (Visiting visit (takes_left left listed))
-turned (Taking visit left) Nothing = visited visit.later
-turned (Taking visit left) NoArena = Gone
-turned (Offering span later) Noted = Go (Asks (Returning span later) None)
-turned (Advancing now) (LimitsAre dirty muzzy) = limited dirty muzzy
-turned (Advancing now) NoArena = Gone
-turned (Changing setting change) Noted = changed change
-turned (Changing setting change) NoArena = Gone
-turned (Making index setting) Noted = Ends (Ok (Arena index))
-turned (Making index setting) Nothing = make_next index setting
-turned (Resetting cached) (InUse held flights threads) = Ends (Busy held flights threads)
-turned (Resetting cached) Noted = Ends (Ok Finished)
-turned (Resetting cached) (Purge lazy) = visit_all (dirty_visit 0 Finished)
-turned (Resetting cached) NoArena = Gone
-turned (Destroying cached) (InUse held flights threads) = Ends (Busy held flights threads)
-turned (Destroying cached) Noted = Go (Turns Dooming)
-turned (Destroying cached) NoArena = Gone
-turned Dooming (Doomed span is_committed) = Go (Tells span is_committed)
-turned Dooming Nothing = Ends (Ok Finished)
-turned (Publishing addr) Noted = Ends (Ok Finished)
-turned (Owning addr frees past) (Owned class) = took_over addr class frees
-turned (Owning addr frees past) Nothing = Ends (NotHeld addr)
-turned (Owning addr frees past) NoArena = Gone
-turned point reply = Nowhere
+abbrev pub turn_replied : TurnPoint → Reply → Next
+turn_replied (Filling wish count) (Regions (addr ∷ addrs)) = Ends (Ok (Region addr wish.class))
+turn_replied (Filling wish count) Nothing = Go (Turns (Looking wish))
+turn_replied (Filling wish count) NoArena = Gone
+turn_replied (Looking wish) (Took span is_committed skip) = skip_to wish span is_committed skip
+turn_replied (Looking wish) (Grow series) = grow wish series
+turn_replied (Looking wish) NoArena = Gone
+turn_replied (Landing wish span) (Landed first count) = Ends (Ok (Region first wish.class))
+turn_replied (Giving addrs) (NextFlight next) = put_next Batches next
+turn_replied (Finding own tries fresh later) (Beside other) = beside own tries fresh other later
+turn_replied (Finding own tries fresh later) (NextFlight next) = put_next later next
+turn_replied (Finding own tries true later) (Purge lazy) = drop own lazy later
+turn_replied (Taking visit left) (Taken span lazy listed) = drop span lazy (Visiting visit (takes_left left listed))
+turn_replied (Taking visit left) Nothing = visited visit.later
+turn_replied (Taking visit left) NoArena = Gone
+turn_replied (Offering span later) Noted = Go (Asks (Returning span later) None)
+turn_replied (Advancing now) (LimitsAre dirty muzzy) = limited dirty muzzy
+turn_replied (Advancing now) NoArena = Gone
+turn_replied (Changing setting change) Noted = setting_changed change
+turn_replied (Changing setting change) NoArena = Gone
+turn_replied (Making index setting) Noted = Ends (Ok (Arena index))
+turn_replied (Making index setting) Nothing = make_next index setting
+turn_replied (Resetting cached) (InUse held flights threads) = Ends (Busy held flights threads)
+turn_replied (Resetting cached) Noted = Ends (Ok Finished)
+turn_replied (Resetting cached) (Purge lazy) = visit_all (dirty_visit 0 Finished)
+turn_replied (Resetting cached) NoArena = Gone
+turn_replied (Destroying cached) (InUse held flights threads) = Ends (Busy held flights threads)
+turn_replied (Destroying cached) Noted = Go (Turns Dooming)
+turn_replied (Destroying cached) NoArena = Gone
+turn_replied Dooming (Doomed span is_committed) = Go (Tells span is_committed)
+turn_replied Dooming Nothing = Ends (Ok Finished)
+turn_replied (Publishing addr) Noted = Ends (Ok Finished)
+turn_replied (Owning addr frees past) (Owned class) = took_over addr class frees
+turn_replied (Owning addr frees past) Nothing = Ends (NotHeld addr)
+turn_replied (Owning addr frees past) NoArena = Gone
+turn_replied point reply = Nowhere
 
 -- after the split of what stands before the run
 abbrev pub skipped : Wish → Bool → Reply → Next
@@ -261,10 +261,10 @@ needed wish asked (Grown span is_committed) = grant wish span is_committed
 needed wish asked reply = Nowhere
 
 -- after the split of what that granted
-abbrev pub granted : Wish → Bool → AskFacts → Reply → Next
-granted wish is_committed asked (Cut low) = commit wish low is_committed
-granted wish is_committed asked Whole = Ends (Refused asked)
-granted wish is_committed asked reply = Nowhere
+abbrev pub grant_split : Wish → Bool → AskFacts → Reply → Next
+grant_split wish is_committed asked (Cut low) = commit wish low is_committed
+grant_split wish is_committed asked Whole = Ends (Refused asked)
+grant_split wish is_committed asked reply = Nowhere
 
 -- after a commit
 abbrev pub committed : Wish → Span → AskFacts → Reply → Next
@@ -308,7 +308,7 @@ told (Trimming wish span is_committed) asked reply = trimmed wish is_committed r
 told (Growing wish chunks) asked reply = grown wish chunks asked.answer reply
 told (Paring wish span is_committed) asked reply = trimmed wish is_committed reply
 told (Needing wish) asked reply = needed wish asked reply
-told (Granting wish span is_committed) asked reply = granted wish is_committed asked reply
+told (Granting wish span is_committed) asked reply = grant_split wish is_committed asked reply
 told (Committing wish span) asked reply = committed wish span asked reply
 told (Merging low high own_low fresh later) asked reply = merged own_low fresh later reply
 told (Easing span later) asked reply = eased span later reply
@@ -338,8 +338,8 @@ starved false = Nowhere
 
 -- where an item leads from a point
 abbrev pub step : Point → Item → Next
-step (Turns point) (Replied reply) = turned point reply
-step (Turns point) Starved = starved (is_marked (op_of point))
+step (Turns point) (Replied reply) = turn_replied point reply
+step (Turns point) Starved = starved (is_marked (op_at point))
 step (Asks point None) (Told asked) = Go (Asks point (Some asked))
 step (Asks point (Some asked)) (Replied reply) = told point asked reply
 step (Tells span is_committed) (Told asked) = Go (Turns Dooming)

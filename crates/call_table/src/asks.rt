@@ -1,7 +1,7 @@
 //! The asks of a call, and where the reply to the turn leads that takes an answer in.
 
 ghost use Rattle.std.specs.Prelude.{◌≡◌, ◌≤◌, ◌*◌, ◌^◌, max, None};
-ghost use Rattle.call_table.specs.Table.{alloc_of, answered_span, ask_of, committed, done_of, granted, grown, needed, skipped, told, trimmed, whole_chunks};
+ghost use Rattle.call_table.specs.Table.{alloc_of, answered_span, ask_at, committed, done_at, grant_split, grown, needed, skipped, told, trimmed, whole_chunks};
 ghost use Rattle.call_table.specs.Points.{IsSized};
 ghost use Rattle.call_table.specs.Stages.{led};
 
@@ -104,7 +104,7 @@ impl Wish {
 
     /// After the split of what that granted.
     fn granted(self, committed: bool, asked: &Asked, reply: &Reply) -> Lead
-        ensures { led result None ≡ granted self committed asked.now reply.now }
+        ensures { led result None ≡ grant_split self committed asked.now reply.now }
     {
         match *reply {
             Reply::Cut(low) => self.commit(low, committed),
@@ -129,7 +129,7 @@ impl AskPoint {
     /// The ask.
     pub(crate) fn ask(&self) -> Ask
         requires { IsSized self.now }
-        ensures { result ≡ ask_of self.now }
+        ensures { result ≡ ask_at self.now }
     {
         match *self {
             AskPoint::Skipping { span, skip, .. } => Ask::Split { span, left: skip },
@@ -155,7 +155,7 @@ impl AskPoint {
 
     /// The operation that takes its answer in.
     pub(crate) fn done(&self, asked: &Asked) -> Op
-        ensures { result ≡ done_of self.now asked.now }
+        ensures { result ≡ done_at self.now asked.now }
     {
         let heard = asked.heard();
         match *self {

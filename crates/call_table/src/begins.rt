@@ -8,7 +8,7 @@ ghost use Rattle.call_table.specs.Calls.{may_hold};
 ghost use Rattle.call_table.specs.Desks.{flushes};
 ghost use Rattle.call_table.specs.Needs.{LeavesDesk};
 ghost use Rattle.call_table.specs.Points.{IsSizedNext};
-ghost use Rattle.call_table.specs.Runs.{after_time, batch_goes, begin_bind, begin_cache, begin_desk, begin_flush, begin_free, begin_get, begin_malloc, begin_memalign, begin_publish, begin_set, begin_stage, first_turn, first_turn_but_0, get, purge_visit, share, stage, time_of, whole_visit, wish_for};
+ghost use Rattle.call_table.specs.Runs.{after_time, batch_goes, begin_bind, begin_cache, begin_desk, begin_flush, begin_free, begin_get, begin_malloc, begin_memalign, begin_publish, begin_set, begin_stage, first_turn, first_turn_but_0, get, purge_visit, share, stage, decay_setting, whole_visit, wish_for};
 ghost use Rattle.call_table.specs.Stages.{Ends, led};
 
 use crate::{Answered, Change, Given, Later, Lead, Request, Stage, TurnPoint, Visit, Wish};
@@ -229,7 +229,7 @@ impl Stage {
 
 /// The setting of a decay time.
 fn time_of(rest: Rest, ms: i64, now: u64) -> Setting
-    ensures { result ≡ time_of rest ms now }
+    ensures { result ≡ decay_setting rest ms now }
 {
     match rest {
         Rest::Dirty => Setting::DirtyMs { ms, now },

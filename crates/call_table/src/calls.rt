@@ -1,13 +1,13 @@
 //! The automaton of a call.
 
 ghost use Rattle.std.specs.Prelude.{◌≡◌, List, ◌∷◌, None, IfOk, IsOk, OnOk, OnErr, ◌≤◌, ◌||◌, true, false, is_some, length};
-ghost use Rattle.call_table.specs.Calls.{HasRoom, may_hold, moment_of, takes_memory};
+ghost use Rattle.call_table.specs.Calls.{HasRoomToHold, may_hold, moment_of, takes_memory};
 ghost use Rattle.call_table.specs.Desks.{flushes};
 ghost use Rattle.call_table.specs.Points.{IsSizedNext, IsSizedPoint};
-ghost use Rattle.call_table.specs.Needs.{Goes, HasFewAddresses, IsFewAddresses, IsPlace, NeedIs, NeedsWant};
+ghost use Rattle.call_table.specs.Needs.{Goes, HasFewAddresses, IsFewAddresses, IsPointOrEnd, NeedIs, NeedsWant};
 ghost use Rattle.call_table.specs.Reads.{aimed, ended_by, taken_next};
 ghost use Rattle.call_table.specs.Runs.{after, begin, run, settle, stage, starved_after, step_next};
-ghost use Rattle.call_table.specs.Table.{op_of, step, want};
+ghost use Rattle.call_table.specs.Table.{op_at, step, want};
 ghost use Rattle.call_table.specs.Stages.{Ends, Go, More, hears, hears_next, led, point_at};
 ghost use Rattle.thread_cache.specs.Desks.{DeskFacts};
 
@@ -54,7 +54,7 @@ fn copied(addrs: &Addresses, alloc: Global) -> Result<Addresses, NoMemory>
 impl TurnPoint {
     /// The operation of the turn. `NoMemory` where there is none to name the regions that go back.
     fn op(&self, alloc: Global) -> Result<Op, NoMemory>
-        ensures op { IfOk result (λ op. op ≡ op_of self.now) }
+        ensures op { IfOk result (λ op. op ≡ op_at self.now) }
         ensures few { HasFewAddresses self.now → IsOk result }
     {
         Ok(match self {
@@ -341,7 +341,7 @@ impl Call {
     ) -> Result<Call, NoMemory>
         ensures client { IfOk result (λ call. call.client ≡ client) }
         ensures moment { IfOk result (λ call. moment_of call desk.new.facts ≡ begin request desk.old.facts) }
-        ensures room { IfOk result (λ call. HasRoom desk.new.facts.hand desk.new.room call.stage.next) }
+        ensures room { IfOk result (λ call. HasRoomToHold desk.new.facts.hand desk.new.room call.stage.next) }
         ensures spare { takes_memory request desk.old.facts ≡ false → IsOk result }
         ensures err { OnErr result (desk.new.facts ≡ desk.old.facts) }
     {
@@ -379,7 +379,7 @@ impl Call {
     /// Its answer, where it has ended.
     pub fn answer(&self) -> Option<Answered>
         ensures answer { result ≡ ended_by self.now.stage.next }
-        ensures place { IsPlace self.now.stage.next }
+        ensures place { IsPointOrEnd self.now.stage.next }
     {
         match &self.stage.lead {
             Lead::Ends(answer) => Some(*answer),
@@ -428,13 +428,13 @@ impl Call {
     /// call has ended with that answer.
     pub fn next(&mut self, desk: &mut Desk, item: Item, alloc: Global) -> Result<(), NoMemory>
         requires goes { Goes (after (moment_of self.old desk.old.facts) item).stage.next }
-        requires room { HasRoom desk.old.facts.hand desk.old.room self.old.stage.next }
+        requires room { HasRoomToHold desk.old.facts.hand desk.old.room self.old.stage.next }
         ensures client { self.new.client ≡ self.old.client }
         ensures moment { OnOk result (moment_of self.new desk.new.facts ≡ after (moment_of self.old desk.old.facts) item) }
         ensures reads { OnOk result ((items : List Item) → run (moment_of self.old desk.old.facts) (item ∷ items) ≡ run (moment_of self.new desk.new.facts) items) }
         ensures err { OnErr result (moment_of self.new desk.new.facts ≡ starved_after (moment_of self.old desk.old.facts) item) }
         ensures more { OnErr result (step_next self.old.stage.next item ≡ More) }
-        ensures room { HasRoom desk.new.facts.hand desk.new.room self.new.stage.next }
+        ensures room { HasRoomToHold desk.new.facts.hand desk.new.room self.new.stage.next }
     {
         self.stage.tell(desk, &item);
         let fed = self.stage.feed(self.request, desk, &item, alloc);

@@ -1,8 +1,8 @@
 //! How a call changes what its client has.
 
 ghost use Rattle.std.specs.Prelude.{◌≡◌, ◌<◌, ◌≤◌, true, length, take, drop};
-ghost use Rattle.call_table.specs.Calls.{HasRoom, wants_place};
-ghost use Rattle.call_table.specs.Desks.{address_behind, desk_closed, desk_ended, desk_fed, desk_turned, landed_behind, region_at, sharing, switched};
+ghost use Rattle.call_table.specs.Calls.{HasRoomToHold, wants_place};
+ghost use Rattle.call_table.specs.Desks.{address_behind, desk_closed, desk_ended, desk_fed, desk_turned, landed_behind, sharing, switched};
 ghost use Rattle.call_table.specs.Points.{IsSizedNext, IsSizedTurn};
 ghost use Rattle.call_table.specs.Stages.{Ends};
 
@@ -121,7 +121,7 @@ impl Stage {
     pub(crate) fn close(&self, request: Request, desk: &mut Desk)
         requires { wants_place desk.old.facts.hand self.now.next ≡ true → 1 ≤ desk.old.room }
         ensures facts { desk.new.facts ≡ desk_closed request self.now.arena self.now.next desk.old.facts }
-        ensures room { HasRoom desk.new.facts.hand desk.new.room self.now.next }
+        ensures room { HasRoomToHold desk.new.facts.hand desk.new.room self.now.next }
     {
         if let Lead::Ends(answer) = &self.lead {
             request.end(desk, self.arena, *answer);

@@ -1,7 +1,7 @@
 //! How a call goes on that gets an extent.
 
 ghost use Rattle.std.specs.Prelude.{◌≡◌, None};
-ghost use Rattle.call_table.specs.Table.{ask_of, chunks_for, commit, grant, grow, need_chunks, skip_to, trim, turned};
+ghost use Rattle.call_table.specs.Table.{ask_at, chunks_for, commit, grant, grow, need_chunks, skip_to, trim, turn_replied};
 ghost use Rattle.call_table.specs.Points.{IsSized};
 ghost use Rattle.call_table.specs.Stages.{Asks, Ends, Go, led};
 
@@ -19,7 +19,7 @@ impl AskPoint {
     /// What is needed: the ask.
     pub(crate) fn need(&self, arena: u32) -> Need
         requires { IsSized self.now }
-        ensures { result ≡ Need.Ask arena (ask_of self.now) }
+        ensures { result ≡ Need.Ask arena (ask_at self.now) }
     {
         let ask = self.ask();
         Need::Ask { arena, ask }
@@ -115,7 +115,7 @@ impl Wish {
 
     /// After the reply to the look for an unused extent.
     pub(crate) fn looked(self, reply: &Reply) -> Lead
-        ensures { led result None ≡ turned (TurnPoint.Looking self) reply.now }
+        ensures { led result None ≡ turn_replied (TurnPoint.Looking self) reply.now }
     {
         match *reply {
             Reply::Took {
@@ -141,7 +141,7 @@ impl Wish {
 
     /// After the landing.
     pub(crate) fn landed(self, span: Span, reply: &Reply) -> Lead
-        ensures { led result None ≡ turned (TurnPoint.Landing self span) reply.now }
+        ensures { led result None ≡ turn_replied (TurnPoint.Landing self span) reply.now }
     {
         match *reply {
             Reply::Landed { first, .. } => self.region(first),
@@ -151,7 +151,7 @@ impl Wish {
 
     /// After free regions of a small class were looked for.
     pub(crate) fn filled(self, count: u32, reply: &Reply) -> Lead
-        ensures { led result None ≡ turned (TurnPoint.Filling self count) reply.now }
+        ensures { led result None ≡ turn_replied (TurnPoint.Filling self count) reply.now }
     {
         match *reply {
             Reply::Regions(ref addrs) => match addrs.as_slice().first() {

@@ -2,7 +2,7 @@
 
 ghost use Rattle.std.specs.Prelude.{◌≡◌, None};
 ghost use Rattle.space_model.specs.Span.{end_of};
-ghost use Rattle.call_table.specs.Table.{beside, decommitted, dirty_visit, drop, eased, forced, look_on, merged, onward, put_next, put_purged, returned, turned, visit_all, visited};
+ghost use Rattle.call_table.specs.Table.{beside, decommitted, dirty_visit, drop, eased, forced, look_on, merged, onward, put_next, put_purged, returned, turn_replied, visit_all, visited};
 ghost use Rattle.call_table.specs.Stages.{Asks, Go, Turns, led};
 
 use crate::{Answered, AskPoint, Given, Later, Lead, Place, Then, TurnPoint, Visit};
@@ -57,7 +57,7 @@ impl Visit {
 
     /// After an extent was taken, if one was.
     pub(crate) fn took(&self, left: Option<u64>, reply: &Reply) -> Lead
-        ensures { led result None ≡ turned (TurnPoint.Taking self.now left) reply.now }
+        ensures { led result None ≡ turn_replied (TurnPoint.Taking self.now left) reply.now }
     {
         match *reply {
             Reply::Taken { span, lazy, listed } => {
@@ -160,7 +160,7 @@ impl Then {
 
     /// After the look for a neighbour.
     pub(crate) fn found(&self, own: Span, tries: u8, fresh: bool, reply: &Reply) -> Lead
-        ensures { led result None ≡ turned (TurnPoint.Finding own tries fresh self.now) reply.now }
+        ensures { led result None ≡ turn_replied (TurnPoint.Finding own tries fresh self.now) reply.now }
     {
         match *reply {
             Reply::Beside(other) => self.beside(own, tries, fresh, other),
@@ -172,7 +172,7 @@ impl Then {
 
     /// After the offer of an extent.
     pub(crate) fn offered(&self, span: Span, reply: &Reply) -> Lead
-        ensures { led result None ≡ turned (TurnPoint.Offering span self.now) reply.now }
+        ensures { led result None ≡ turn_replied (TurnPoint.Offering span self.now) reply.now }
     {
         match *reply {
             Reply::Noted => AskPoint::Returning(span, *self).first(),

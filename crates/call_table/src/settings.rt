@@ -1,7 +1,7 @@
 //! How a call goes on that asks for one thing of an arena as a whole.
 
 ghost use Rattle.std.specs.Prelude.{◌≡◌, ◌<◌, Bool, None};
-ghost use Rattle.call_table.specs.Table.{changed, limited, make_next, turned};
+ghost use Rattle.call_table.specs.Table.{setting_changed, limited, make_next, turn_replied};
 ghost use Rattle.call_table.specs.Stages.{Go, Turns, led};
 
 use crate::{Answered, Change, Given, Later, Lead, Place, TurnPoint, Visit};
@@ -35,7 +35,7 @@ pub(crate) fn muzzy_visit(keep: u64, later: Later) -> Lead
 impl Change {
     /// What follows once a setting is changed.
     fn changed(self) -> Lead
-        ensures { led result None ≡ changed self }
+        ensures { led result None ≡ setting_changed self }
     {
         match self {
             Change::Stops => Lead::Ends(Answered::Ok(Given::Done)),
@@ -49,7 +49,7 @@ impl Change {
 
     /// After the setting.
     pub(crate) fn was_set(self, setting: Setting, reply: &Reply) -> Lead
-        ensures { led result None ≡ turned (TurnPoint.Changing setting self) reply.now }
+        ensures { led result None ≡ turn_replied (TurnPoint.Changing setting self) reply.now }
     {
         match *reply {
             Reply::Noted => self.changed(),
@@ -75,7 +75,7 @@ fn make_next(index: u32, setting: Setting) -> Lead
 
 /// After an arena was to come to be.
 pub(crate) fn made(index: u32, setting: Setting, reply: &Reply) -> Lead
-    ensures { led result None ≡ turned (TurnPoint.Making index setting) reply.now }
+    ensures { led result None ≡ turn_replied (TurnPoint.Making index setting) reply.now }
 {
     match *reply {
         Reply::Noted => Lead::Ends(Answered::Ok(Given::Arena(index))),
@@ -86,7 +86,7 @@ pub(crate) fn made(index: u32, setting: Setting, reply: &Reply) -> Lead
 
 /// After the decays were told a moment.
 pub(crate) fn advanced(now: u64, reply: &Reply) -> Lead
-    ensures { led result None ≡ turned (TurnPoint.Advancing now) reply.now }
+    ensures { led result None ≡ turn_replied (TurnPoint.Advancing now) reply.now }
 {
     match *reply {
         Reply::Limits { dirty, muzzy } => limited(dirty, muzzy),
@@ -97,7 +97,7 @@ pub(crate) fn advanced(now: u64, reply: &Reply) -> Lead
 
 /// After all regions were to be discarded.
 pub(crate) fn was_reset(cached: u64, reply: &Reply) -> Lead
-    ensures { led result None ≡ turned (TurnPoint.Resetting cached) reply.now }
+    ensures { led result None ≡ turn_replied (TurnPoint.Resetting cached) reply.now }
 {
     match *reply {
         Reply::Busy {
@@ -118,7 +118,7 @@ pub(crate) fn was_reset(cached: u64, reply: &Reply) -> Lead
 
 /// After the arena was to end.
 pub(crate) fn ended(cached: u64, reply: &Reply) -> Lead
-    ensures { led result None ≡ turned (TurnPoint.Destroying cached) reply.now }
+    ensures { led result None ≡ turn_replied (TurnPoint.Destroying cached) reply.now }
 {
     match *reply {
         Reply::Busy {
@@ -138,7 +138,7 @@ pub(crate) fn ended(cached: u64, reply: &Reply) -> Lead
 
 /// After an extent of an arena that has ended was to go.
 pub(crate) fn doomed(reply: &Reply) -> Lead
-    ensures { led result None ≡ turned TurnPoint.Dooming reply.now }
+    ensures { led result None ≡ turn_replied TurnPoint.Dooming reply.now }
 {
     match *reply {
         Reply::Doomed { span, committed } => Lead::To(Place::Tells(span, committed)),
@@ -149,7 +149,7 @@ pub(crate) fn doomed(reply: &Reply) -> Lead
 
 /// After a region was published.
 pub(crate) fn published(addr: u64, reply: &Reply) -> Lead
-    ensures { led result None ≡ turned (TurnPoint.Publishing addr) reply.now }
+    ensures { led result None ≡ turn_replied (TurnPoint.Publishing addr) reply.now }
 {
     match *reply {
         Reply::Noted => Lead::Ends(Answered::Ok(Given::Done)),
@@ -159,7 +159,7 @@ pub(crate) fn published(addr: u64, reply: &Reply) -> Lead
 
 /// After a region was to be taken over.
 pub(crate) fn owned(addr: u64, frees: bool, reply: &Reply) -> Lead
-    ensures { (published : Bool) → led result None ≡ turned (TurnPoint.Owning addr frees published) reply.now }
+    ensures { (published : Bool) → led result None ≡ turn_replied (TurnPoint.Owning addr frees published) reply.now }
 {
     match *reply {
         Reply::Owned { .. } if frees => Lead::More,

@@ -1,7 +1,7 @@
 //! Where the reply to a turn leads that takes in no answer of a hook.
 
 ghost use Rattle.std.specs.Prelude.{◌≡◌, None};
-ghost use Rattle.call_table.specs.Table.{is_marked, op_of, starved, turned};
+ghost use Rattle.call_table.specs.Table.{is_marked, op_at, starved, turn_replied};
 ghost use Rattle.call_table.specs.Stages.{led};
 
 use crate::settings::{advanced, doomed, ended, made, owned, published, was_reset};
@@ -10,7 +10,7 @@ use space_model::{Addresses, Reply};
 
 /// After regions went back.
 fn gave(addrs: &Addresses, reply: &Reply) -> Lead
-    ensures { led result None ≡ turned (TurnPoint.Giving addrs.now) reply.now }
+    ensures { led result None ≡ turn_replied (TurnPoint.Giving addrs.now) reply.now }
 {
     match *reply {
         Reply::Next(next) => Then::Batches.put_next(next),
@@ -21,7 +21,7 @@ fn gave(addrs: &Addresses, reply: &Reply) -> Lead
 impl TurnPoint {
     /// Where the reply to the turn leads.
     pub(crate) fn turned(&self, reply: &Reply) -> Lead
-        ensures { led result None ≡ turned self.now reply.now }
+        ensures { led result None ≡ turn_replied self.now reply.now }
     {
         match self {
             TurnPoint::Filling(wish, count) => wish.filled(*count, reply),
@@ -49,7 +49,7 @@ impl TurnPoint {
 
     /// Where the turn leads that found no memory: only the first one of what belongs together may find none.
     pub(crate) fn starved(&self) -> Lead
-        ensures { led result None ≡ starved (is_marked (op_of self.now)) }
+        ensures { led result None ≡ starved (is_marked (op_at self.now)) }
     {
         match self {
             TurnPoint::Landing(..) | TurnPoint::Finding { .. } | TurnPoint::Offering(..) => {

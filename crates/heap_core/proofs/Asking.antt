@@ -1,5 +1,5 @@
 -- How many asks may come where a call goes next: no more than its client has room in its arena, and one.
-use Rattle.heap_core.proofs.Words.{◌≡◌, ◌≤◌, ℕ, ◌+◌, ◌^◌, ◌==◌, Bool, true, false, cond, not, List, Option, None, Some, refl, arith, nat_lt, cond_both, nat_tests, opens, Request, Malloc, Memalign, Free, Flush, Cache, Reset, Destroy, Create, Item, Replied, TurnPoint, Filling, Skipping, Point, Turns, Asks, Tells, Next, Go, Over, More, Nothing, Held, DeskFacts, BatchFacts, batch_of, freeing, going, going_with, held_at, hit, aligned_for, class_for, desk_fed, flushes, Moment, after, batch_goes, begin, begin_desk, begin_free, begin_get, begin_publish, begin_stage, closed, first_turn, is_alignment, moved, page_align, small_hit, stage, step_next, op_of, chosen_stage, room_in, asks_at, owing, Record, seat_of}
+use Rattle.heap_core.proofs.Words.{◌≡◌, ◌≤◌, ℕ, ◌+◌, ◌^◌, ◌==◌, Bool, true, false, cond, not, List, Option, None, Some, refl, arith, nat_lt, cond_both, nat_tests, opens, Request, Malloc, Memalign, Free, Flush, Cache, Reset, Destroy, Create, Item, Replied, TurnPoint, Filling, Skipping, Point, Turns, Asks, Tells, Next, Go, Over, More, Nothing, Held, DeskFacts, BatchFacts, batch_of, freeing, going, going_with, held_at, hit, aligned_for, class_for, desk_fed, flushes, Moment, after, batch_goes, begin, begin_desk, begin_free, begin_get, begin_publish, begin_stage, closed, first_turn, is_alignment, moved, page_align, small_hit, stage, step_next, op_at, chosen_stage, room_in, asks_at, owing, Record, seat_of}
 use Rattle.heap_core.specs.Words.{Publish, Bind}
 
 -- ---- at a point
@@ -10,7 +10,7 @@ room_or_none false room = omega arith
 
 -- at no point more asks may come than there is room, and one
 pub few_asks : (room : ℕ) (point : Point) → asks_at room point ≤ room + 1
-few_asks room (Turns point) = room_or_none (opens (op_of point)) room
+few_asks room (Turns point) = room_or_none (opens (op_at point)) room
 few_asks room (Asks point None) = omega arith
 few_asks room (Asks point (Some asked)) = omega arith
 few_asks room (Tells span b) = omega arith
@@ -52,7 +52,7 @@ abbrev pub StartsOpen : Next → Type 0
 StartsOpen (Go point) = (room : ℕ) → asks_at room point ≡ 0
 StartsOpen next = Unit {0}
 
-first_starts : (arena : ℕ) (point : TurnPoint) → opens (op_of point) ≡ true → StartsOpen (first_turn arena point).next
+first_starts : (arena : ℕ) (point : TurnPoint) → opens (op_at point) ≡ true → StartsOpen (first_turn arena point).next
 first_starts arena point is = cond_both (nat_lt arena 32) _ _ StartsOpen (λ _ room. rw is refl) (λ _. tt)
 
 got_starts : (class align : ℕ) (found : Option Held) (desk : DeskFacts) → StartsOpen (begin_get class align found desk).next

@@ -1,11 +1,11 @@
 -- A request begins, and so does a heap.
-use Rattle.heap_core.proofs.Words.{◌≡◌, ◌≤◌, ◌<◌, ℕ, ◌+◌, List, Option, None, Some, Result, Ok, Err, OnOk, OnErr, length, replicate, slice_set, [], ◌∷◌, ◌++◌, length-append, refl, sym, ap, subst, ◌∙◌, arith, get_or-replicate, length-replicate, replicate-append-replicate, set-get_or, Held, held_at, Request, Malloc, Free, IsInRange, begin, IsArenas, opening_records, owed_to, IsHeap, owing, Record, Seat, asked_for, first_seat, free_of, held_by, holder_of, seat_at, seat_of, IsSeated, SeatSound}
+use Rattle.heap_core.proofs.Words.{◌≡◌, ◌≤◌, ◌<◌, ℕ, ◌+◌, List, Option, None, Some, Result, Ok, Err, OnOk, OnErr, length, replicate, slice_set, [], ◌∷◌, ◌++◌, length-append, refl, sym, ap, subst, ◌∙◌, arith, get_or-replicate, length-replicate, replicate-append-replicate, set-get_or, Held, held_at, Request, Malloc, Free, IsInRange, begin, IsArenas, opening_records, owed_to, IsHeap, owing, Record, Seat, asked_for, first_seat, free_request, held_by, holder_of, seat_at, seat_of, IsSeated, SeatSound}
 use Rattle.heap_core.proofs.Asking.{owed_begun}
 use Rattle.heap_core.proofs.Changes.{heap_seated}
 use Rattle.heap_core.proofs.Sitting.{opening-sits, starts-sit}
 
 -- a free of a region of another client is in range too
-free_in_range : (addr : ℕ) (own other : Option Held) → IsInRange (free_of addr own other)
+free_in_range : (addr : ℕ) (own other : Option Held) → IsInRange (free_request addr own other)
 free_in_range addr None (Some region) = tt
 free_in_range addr None None = tt
 free_in_range addr (Some own) other = tt

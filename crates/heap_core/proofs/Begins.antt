@@ -1,5 +1,5 @@
 -- A client that rests may begin any request.
-use Rattle.heap_core.proofs.Words.{◌≡◌, ℕ, ◌+◌, ◌/◌, ◌<◌, ◌≤◌, ◌^◌, ◌==◌, ◌&&◌, inl, true, false, not, cond, List, [], ◌∷◌, Option, None, Some, length, refl, sym, ◌∙◌, ap, subst, arith, nat_lt, lt-ltb, min, ℤ, ltb-true, nat_tests, sum_by-cons, has_slot, not_holding, Request, Malloc, Memalign, Free, FreeForeign, Take, Flush, Cache, PurgeAll, Decay, Time, Reset, Destroy, Create, HookBox, GrowLimit, Finished, TooLarge, BadAlign, NotHeld, NoArena, Automatic, Stops, Leaves, TurnPoint, Filling, Looking, Taking, Advancing, Changing, Making, Resetting, Destroying, Publishing, Owning, Turns, Next, Go, Ends, Stage, Rest, SetBox, SetBound, SetLimit, MakeLive, Held, DeskFacts, batch_of, cached_of, caching, freeing, going, going_with, held_at, hit, hitting, is_cacheable, aligned_for, class_for, slots_at, most_regions, cached_in, region_at, KnowsNext, needed_at, after_time, batch_goes, begin, begin_bind, begin_free, begin_get, begin_malloc, begin_memalign, begin_publish, begin_stage, closed, desk_freed, desk_got, desk_published, first_turn, first_turn_but_0, is_alignment, page_align, purge_visit, share, small_hit, stage, time_of, wish_for, begins-know, both_true, IsArenas, IsIdle, mine_in, Record, Comes, HasSlots, StartsSit, Suits, SuitsChange, SuitsTurn}
+use Rattle.heap_core.proofs.Words.{◌≡◌, ℕ, ◌+◌, ◌/◌, ◌<◌, ◌≤◌, ◌^◌, ◌==◌, ◌&&◌, inl, true, false, not, cond, List, [], ◌∷◌, Option, None, Some, length, refl, sym, ◌∙◌, ap, subst, arith, nat_lt, lt-ltb, min, ℤ, ltb-true, nat_tests, sum_by-cons, has_slot, not_holding, Request, Malloc, Memalign, Free, FreeForeign, Take, Flush, Cache, PurgeAll, Decay, Time, Reset, Destroy, Create, HookBox, GrowLimit, Finished, TooLarge, BadAlign, NotHeld, NoArena, Automatic, Stops, Leaves, TurnPoint, Filling, Looking, Taking, Advancing, Changing, Making, Resetting, Destroying, Publishing, Owning, Turns, Next, Go, Ends, Stage, Rest, SetBox, SetBound, SetLimit, MakeLive, Held, DeskFacts, batch_of, cached_of, caching, freeing, going, going_with, held_at, hit, hitting, is_cacheable, aligned_for, class_for, slots_at, most_regions, cached_in, held_region, KnowsNext, needed_at, after_time, batch_goes, begin, begin_bind, begin_free, begin_get, begin_malloc, begin_memalign, begin_publish, begin_stage, closed, desk_freed, desk_got, desk_published, first_turn, first_turn_but_0, is_alignment, page_align, purge_visit, share, small_hit, stage, decay_setting, wish_for, begins-know, both_true, IsArenas, IsIdle, mine_in, Record, Comes, HasSlots, StartsSit, Suits, SuitsChange, SuitsTurn}
 use Rattle.heap_core.specs.Words.{Publish, Bind, Region, Ok}
 use Rattle.heap_core.proofs.Hands.{had_counts}
 use Rattle.heap_core.proofs.Having.{cache_hand, drop_over, drop_shaped, free_gains, hit_is, miss_is, of_hand}
@@ -76,10 +76,10 @@ module _ (records : List Record) (c : ℕ) (is : IsArenas records) (idle : IsIdl
         KnowsAt (begin_get class align found desk) → Comes records c (closed request (desk_got class found desk) (begin_get class align found desk))
     got_comes request class align (Some r) was missed knows =
         let is_hit = hit_is class desk r owns.shaped (was r refl) in
-        let own : region_at r.arena class r.addr ≡ r = ap (λ k. region_at r.arena k r.addr) (sym is_hit.1) in
-        begins_at request (hitting class desk) (region_at r.arena class r.addr ∷ []) r.arena (Ends (Ok (Region r.addr class))) (record {
-          hands = λ i a k. let one : one_in i a k (region_at r.arena class r.addr) ≡ one_in i a k r = ap (one_in i a k) own in
-              omega (arith, one, owns.hands i a k, is_hit.2 (one_in i a k), sum_by-cons (one_in i a k) (region_at r.arena class r.addr) []);
+        let own : held_region r.arena class r.addr ≡ r = ap (λ k. held_region r.arena k r.addr) (sym is_hit.1) in
+        begins_at request (hitting class desk) (held_region r.arena class r.addr ∷ []) r.arena (Ends (Ok (Region r.addr class))) (record {
+          hands = λ i a k. let one : one_in i a k (held_region r.arena class r.addr) ≡ one_in i a k r = ap (one_in i a k) own in
+              omega (arith, one, owns.hands i a k, is_hit.2 (one_in i a k), sum_by-cons (one_in i a k) (held_region r.arena class r.addr) []);
           shaped = is_hit.3;
           low = owns.low;
           bound = owns.bound;
@@ -166,7 +166,7 @@ module _ (records : List Record) (c : ℕ) (is : IsArenas records) (idle : IsIdl
 
     -- ---- settings
 
-    time_suits : (index : ℕ) (rest : Rest) (ms : ℤ) (now : ℕ) → SuitsChange desk index (time_of rest ms now) (after_time rest ms)
+    time_suits : (index : ℕ) (rest : Rest) (ms : ℤ) (now : ℕ) → SuitsChange desk index (decay_setting rest ms now) (after_time rest ms)
     time_suits index rest ms now = grind arith
 
     bind_comes : (index : ℕ) → KnowsAt (begin_bind desk.arena index) → Comes records c (closed (Bind index) desk (begin_bind desk.arena index))
@@ -191,7 +191,7 @@ module _ (records : List Record) (c : ℕ) (is : IsArenas records) (idle : IsIdl
     begins (Cache false) knows = comes_more records c desk.arena (Cache false) desk is owns idle
     begins (PurgeAll index) knows = first_comes (PurgeAll index) index (Taking purge_visit None) knows (empty, tt) refl
     begins (Decay index now) knows = first_comes (Decay index now) index (Advancing now) knows empty refl
-    begins (Time index rest ms now) knows = first_comes (Time index rest ms now) index (Changing (time_of rest ms now) (after_time rest ms)) knows (empty, time_suits index rest ms now) refl
+    begins (Time index rest ms now) knows = first_comes (Time index rest ms now) index (Changing (decay_setting rest ms now) (after_time rest ms)) knows (empty, time_suits index rest ms now) refl
     begins (Reset index) knows = first_comes_but_0 (Reset index) index (Resetting (cached_of index desk)) knows (empty, refl) refl
     begins (Destroy index) knows = first_comes_but_0 (Destroy index) index (Destroying (cached_of index desk)) knows (empty, refl) refl
     begins (Create box_no dirty_ms muzzy_ms now) knows = first_comes (Create box_no dirty_ms muzzy_ms now) 1 (Making 1 (MakeLive box_no dirty_ms muzzy_ms now)) knows empty refl

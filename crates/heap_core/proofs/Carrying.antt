@@ -1,5 +1,5 @@
 -- What a turn of a client does to the regions that it holds, and to those that it has.
-use Rattle.heap_core.proofs.Words.{◌≡◌, ◌≢◌, ℕ, ◌+◌, ◌-◌, ◌*◌, ◌<◌, ◌≤◌, ◌==◌, ◌&&◌, ◌||◌, Bool, true, false, cond, List, [], ◌∷◌, Option, None, Some, length, map, refl, sym, ◌∙◌, ap, subst, arith, suc, zero, filter, find, min, nat_lt, count_by, list_any, range_with_len, eqb-true, ltb-true, length-map, length-take, All-cons, All-nil, All-weaker, filter_passes, length-range_with_len, sum_by-cons, regions_at, size_at, Region, emptied, ended, flight_count, held_count, if_free, is_published_at, take_over_at, is_flight_at, address_of, is_held_by_other, landing, region_of, regions_from, IsPlaced, is_live, stays, step_of, Stepped, is_dirty_time_over, is_lazy, find_has, both_true, discarding, empty_handed, gave, is_in, Request, Wish, Change, Stops, Visits, Leaves, TurnPoint, Filling, Landing, Giving, Changing, Making, Resetting, Destroying, Publishing, Owning, Reply, Noted, Purge, Busy, Setting, Space, Part, Span, Sound, mine, Held, DeskFacts, cached_of, freeing, going, most_regions, fill_at, land_at, lowest_free, address_behind, desk_turned, flushes, landed_behind, region_at, sharing, KnowsTurn, op_of, HasSlots, IsTheHand, SuitsTurn}
+use Rattle.heap_core.proofs.Words.{◌≡◌, ◌≢◌, ℕ, ◌+◌, ◌-◌, ◌*◌, ◌<◌, ◌≤◌, ◌==◌, ◌&&◌, ◌||◌, Bool, true, false, cond, List, [], ◌∷◌, Option, None, Some, length, map, refl, sym, ◌∙◌, ap, subst, arith, suc, zero, filter, find, min, nat_lt, count_by, list_any, range_with_len, eqb-true, ltb-true, length-map, length-take, All-cons, All-nil, All-weaker, filter_passes, length-range_with_len, sum_by-cons, regions_at, size_at, Region, emptied, ended, flight_count, held_count, if_free, is_published_at, take_over_at, is_flight_at, address_of, is_held_by_other, landing, region_of, regions_from, IsPlaced, is_live, stays, step_of, Stepped, is_dirty_time_over, is_lazy, find_has, both_true, discarding, empty_handed, gave, is_in, Request, Wish, Change, Stops, Visits, Leaves, TurnPoint, Filling, Landing, Giving, Changing, Making, Resetting, Destroying, Publishing, Owning, Reply, Noted, Purge, Busy, Setting, Space, Part, Span, Sound, mine, Held, DeskFacts, cached_of, freeing, going, most_regions, fill_at, land_at, lowest_free, address_behind, desk_turned, flushes, landed_behind, held_region, sharing, KnowsTurn, op_at, HasSlots, IsTheHand, SuitsTurn}
 use Rattle.call_table.specs.Words.{NoArena}
 use Rattle.heap_core.proofs.Hands.{Count, Hands, Single, hands_come, hands_discard, hands_part}
 use Rattle.heap_core.proofs.Having.{Shaped, discard_shaped, free_gains, of_hand, over, share_all}
@@ -62,11 +62,11 @@ module _ (n m : Count) (c arena : ℕ) (s : Space) (desk : DeskFacts) (request :
 
   -- regions of a class at some addresses come: the first one is handed out, and the others are cached
   come : (class first : ℕ) (rest : List ℕ) (count : ℕ) (t : Space) → t.regions ≡ landing (map (region_of c class) (first ∷ rest)) s.regions → length rest + 1 ≤ count → HasSlots desk class count →
-      ((a k : ℕ) → m arena a k ≡ count_at c a k t.regions) → Carried m (region_at arena class first ∷ []) (sharing arena class rest desk)
+      ((a k : ℕ) → m arena a k ≡ count_at c a k t.regions) → Carried m (held_region arena class first ∷ []) (sharing arena class rest desk)
   come class first rest count t landed few slots now =
       let shares = share_all arena class rest desk shaped (λ some. let room = slots (omega (arith, some, few)) in (room.0, omega (arith, room.1, few))) in record {
-        hands = hands_come n m arena (map (region_at arena class) (first ∷ rest)) (region_at arena class first ∷ []) desk (sharing arena class rest desk) hands
-            (λ f. omega (arith, shares.more f, sum_by-cons f (region_at arena class first) [], sum_by-cons f (region_at arena class first) (map (region_at arena class) rest)))
+        hands = hands_come n m arena (map (held_region arena class) (first ∷ rest)) (held_region arena class first ∷ []) desk (sharing arena class rest desk) hands
+            (λ f. omega (arith, shares.more f, sum_by-cons f (held_region arena class first) [], sum_by-cons f (held_region arena class first) (map (held_region arena class) rest)))
             (λ a k. let at : count_at c a k t.regions ≡ count_at c a k (landing (map (region_of c class) (first ∷ rest)) s.regions) = ap (count_at c a k) landed in
             omega (arith, now a k, at, counted a k, landed_counts c arena a k class (first ∷ rest) s.regions))
             (λ i a k differ. (others i a k differ, none_elsewhere i arena a k class (first ∷ rest) differ));
@@ -77,7 +77,7 @@ module _ (n m : Count) (c arena : ℕ) (s : Space) (desk : DeskFacts) (request :
   fill wish count slots [] few now = stay s refl now
   fill wish count slots (addr ∷ addrs) few now = come wish.class addr addrs count (fill_at s c wish.class (addr ∷ addrs)).after refl (omega (arith, few)) slots now
 
-  filling : (wish : Wish) (count : ℕ) → HasSlots desk wish.class count → Carries (Filling wish count) (step_of s c (op_of (Filling wish count)))
+  filling : (wish : Wish) (count : ℕ) → HasSlots desk wish.class count → Carries (Filling wish count) (step_of s c (op_at (Filling wish count)))
   filling wish count slots =
       elim (is_live s.life) as (λ v. Carries (Filling wish count) (cond v (fill_at s c wish.class (lowest_free wish.class count s)) (stays s NoArena))) [
         | true ↦ fill wish count slots (lowest_free wish.class count s) (most count _ (length-take count _))
@@ -96,7 +96,7 @@ module _ (n m : Count) (c arena : ℕ) (s : Space) (desk : DeskFacts) (request :
       let first : ℕ = address_of p.span.first in
       let all : regions_from c wish.class first wish.count ≡ map (region_of c wish.class) (first ∷ addrs_from wish.class first 1 (wish.count - 1)) = begins wish.count first some ∙ ap (λ xs. map (region_of c wish.class) (first ∷ xs)) refl in
       let same : landed_behind first wish.class wish.count ≡ addrs_from wish.class first 1 (wish.count - 1) = behind p.span.first low in
-      subst (λ rest. Carried m (region_at arena wish.class first ∷ []) (sharing arena wish.class rest desk)) (sym same)
+      subst (λ rest. Carried m (held_region arena wish.class first ∷ []) (sharing arena wish.class rest desk)) (sym same)
       (come wish.class first (addrs_from wish.class first 1 (wish.count - 1)) wish.count (land_at s c wish.class wish.count (Some p)).after (ap (λ come. landing come s.regions) all)
       (let long = length-map (range_with_len 1 (wish.count - 1)) (λ i. first + i * size_at wish.class) in omega (arith, some, long, length-range_with_len 1 (wish.count - 1))) slots now)
     where
@@ -119,7 +119,7 @@ module _ (n m : Count) (c arena : ℕ) (s : Space) (desk : DeskFacts) (request :
 
   -- ---- regions that go
 
-  giving : (addrs : List ℕ) → SuitsTurn desk request arena (Giving addrs) → Carries (Giving addrs) (step_of s c (op_of (Giving addrs)))
+  giving : (addrs : List ℕ) → SuitsTurn desk request arena (Giving addrs) → Carries (Giving addrs) (step_of s c (op_at (Giving addrs)))
   giving addrs suits now =
       let gone : List Held = filter (is_in arena) (going (flushes request) desk) in
       let parts = gave_parts desk (flushes request) arena addrs shaped suits in
@@ -134,7 +134,7 @@ module _ (n m : Count) (c arena : ℕ) (s : Space) (desk : DeskFacts) (request :
           ∙ ap (λ v. cond v 0 (count_at c a k s.regions)) (ap (list_any (λ x. x == a)) (batch_addrs (going (flushes request) desk) arena addrs suits) ∙ addrs_any arena a (going (flushes request) desk))
           ∙ ap (cond (any_at a (filter (is_in arena) (going (flushes request) desk))) 0) (sym (counted a k))
 
-  publishing : (addr : ℕ) → SuitsTurn desk request arena (Publishing addr) → Carries (Publishing addr) (step_of s c (op_of (Publishing addr)))
+  publishing : (addr : ℕ) → SuitsTurn desk request arena (Publishing addr) → Carries (Publishing addr) (step_of s c (op_at (Publishing addr)))
   publishing addr suits now = by desk.hand refl suits
     where
       by : (hand : Option Held) → desk.hand ≡ hand → IsTheHand arena addr hand → Carried m [] (empty_handed desk)
@@ -163,7 +163,7 @@ module _ (n m : Count) (c arena : ℕ) (s : Space) (desk : DeskFacts) (request :
   none_cached cached others flights threads is free =
       let none : others + cached ≡ 0 = eqb-true (others + cached) 0 (both_true (others + cached == 0) _ (both_true (others + cached == 0 && flights == 0) _ free).0).0 in omega (arith, none, is)
 
-  resetting : (cached : ℕ) → SuitsTurn desk request arena (Resetting cached) → Carries (Resetting cached) (step_of s c (op_of (Resetting cached)))
+  resetting : (cached : ℕ) → SuitsTurn desk request arena (Resetting cached) → Carries (Resetting cached) (step_of s c (op_at (Resetting cached)))
   resetting cached suits =
       elim (is_live s.life) as (λ v. Carries (Resetting cached) (cond v (if_free s (held_count s c cached) (flight_count s c) 0 (emptied s)) (stays s NoArena))) [
         | true ↦ elim (held_count s c cached == 0 && flight_count s c == 0 && zero == 0) as (λ v. (held_count s c cached == 0 && flight_count s c == 0 && zero == 0) ≡ v →
@@ -178,7 +178,7 @@ module _ (n m : Count) (c arena : ℕ) (s : Space) (desk : DeskFacts) (request :
       reset true is = is
       reset false is = is
 
-  destroying : (cached : ℕ) → SuitsTurn desk request arena (Destroying cached) → Carries (Destroying cached) (step_of s c (op_of (Destroying cached)))
+  destroying : (cached : ℕ) → SuitsTurn desk request arena (Destroying cached) → Carries (Destroying cached) (step_of s c (op_at (Destroying cached)))
   destroying cached suits =
       elim (is_live s.life) as (λ v. Carries (Destroying cached) (cond v (if_free s (held_count s c cached) (flight_count s c) (length s.bound) (ended s c)) (stays s NoArena))) [
         | true ↦ elim (held_count s c cached == 0 && flight_count s c == 0 && length s.bound == 0) as (λ v. (held_count s c cached == 0 && flight_count s c == 0 && length s.bound == 0) ≡ v →
@@ -195,7 +195,7 @@ module _ (n m : Count) (c arena : ℕ) (s : Space) (desk : DeskFacts) (request :
   taking addr true past None e empty now = stay s refl now
   taking addr false past None e empty now = stay s refl now
   taking addr true past (Some r) e empty now =
-      let own : Held = region_at arena r.class addr in
+      let own : Held = held_region arena r.class addr in
       let gains = free_gains own desk shaped empty in record {
         hands = hands_come n m arena (own ∷ []) [] desk (freeing own desk) hands (λ f. omega (arith, gains.more f, sum_by-cons f own []))
             (λ a k. omega (arith, now a k, counted a k, taken_counts c arena addr a k s r sound e, sum_by-cons (one_in arena a k) own []))
@@ -203,14 +203,14 @@ module _ (n m : Count) (c arena : ℕ) (s : Space) (desk : DeskFacts) (request :
         shaped = gains.shaped;
       }
   taking addr false past (Some r) e empty now =
-      let own : Held = region_at arena r.class addr in record {
+      let own : Held = held_region arena r.class addr in record {
         hands = hands_come n m arena (own ∷ []) (own ∷ []) desk desk hands (λ f. omega arith)
             (λ a k. omega (arith, now a k, counted a k, taken_counts c arena addr a k s r sound e, sum_by-cons (one_in arena a k) own []))
             (λ i a k differ. (others i a k differ, none_elsewhere i arena a k r.class (addr ∷ []) differ));
         shaped = shaped;
       }
 
-  owning : (addr : ℕ) (frees past : Bool) → desk.hand ≡ None → Carries (Owning addr frees past) (step_of s c (op_of (Owning addr frees past)))
+  owning : (addr : ℕ) (frees past : Bool) → desk.hand ≡ None → Carries (Owning addr frees past) (step_of s c (op_at (Owning addr frees past)))
   owning addr frees past empty =
       elim (is_live s.life) as (λ v. Carries (Owning addr frees past) (cond v (take_over_at s c addr (find (is_published_at addr) s.regions)) (stays s NoArena))) [
         | true ↦ taking addr frees past (find (is_published_at addr) s.regions) refl empty
@@ -224,16 +224,16 @@ module _ (n m : Count) (c arena : ℕ) (s : Space) (desk : DeskFacts) (request :
   -- ---- any turn
 
   abbrev left : TurnPoint → Space
-  left point = (step_of s c (op_of point)).after
+  left point = (step_of s c (op_at point)).after
 
-  pub carries : (point : TurnPoint) → KnowsTurn (mine c s) point → SuitsTurn desk request arena point → Carries point (step_of s c (op_of point))
+  pub carries : (point : TurnPoint) → KnowsTurn (mine c s) point → SuitsTurn desk request arena point → Carries point (step_of s c (op_at point))
   carries (Filling wish count) knows suits now = filling wish count suits.0.slots now
   carries (Landing wish span) knows suits now = landing_in wish span (find (is_flight_at c span) s.parts) refl knows.0.is.some knows.0.is.fewer suits.slots now
   carries (Giving addrs) knows suits now = giving addrs suits now
-  carries (Changing setting chosen) knows suits now = change setting chosen (step_of s c (op_of (Changing setting chosen))).reply (left (Changing setting chosen)) (set_regions s c setting) now
+  carries (Changing setting chosen) knows suits now = change setting chosen (step_of s c (op_at (Changing setting chosen))).reply (left (Changing setting chosen)) (set_regions s c setting) now
   carries (Making index setting) knows suits now = stay (left (Making index setting)) (set_regions s c setting) now
   carries (Resetting cached) knows suits now = resetting cached suits now
   carries (Destroying cached) knows suits now = destroying cached suits now
   carries (Publishing addr) knows suits now = publishing addr suits now
   carries (Owning addr frees past) knows suits now = owning addr frees past suits now
-  carries point knows suits now = stay (left point) (op_steady s c (op_of point) tt).regions now
+  carries point knows suits now = stay (left point) (op_steady s c (op_at point) tt).regions now

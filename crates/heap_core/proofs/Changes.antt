@@ -1,5 +1,5 @@
 -- What a change of one client leaves of a heap.
-use Rattle.heap_core.proofs.Words.{◌≡◌, ◌≢◌, ◌≤◌, ◌<◌, ℕ, ◌-◌, ◌==◌, Bool, true, false, List, Option, None, Some, length, slice_set, get_or, refl, sym, ap, subst, ◌∙◌, arith, nat_tests, get_or_default, get_or-set_other, get_or-set_same, length-set, opens, room_after, room_of, Op, AskFacts, CallFacts, IsArenas, no_record, record_after, record_at, room_in, spaces_of, settled, CanTurn, after_turn, owed_to, IsHeap, asks_next, owing, Record, Seat, first_seat, seat_at, SeatSound}
+use Rattle.heap_core.proofs.Words.{◌≡◌, ◌≢◌, ◌≤◌, ◌<◌, ℕ, ◌-◌, ◌==◌, Bool, true, false, List, Option, None, Some, length, slice_set, get_or, refl, sym, ap, subst, ◌∙◌, arith, nat_tests, get_or_default, get_or-set_other, get_or-set_same, length-set, opens, room_after, room_of, Op, AskFacts, CallFacts, IsArenas, no_record, record_after, record_at, room_in, spaces_of, with_chunk_found, CanTurn, after_turn, owed_to, IsHeap, asks_next, owing, Record, Seat, first_seat, seat_at, SeatSound}
 use Rattle.heap_core.proofs.Clients.{at_or_else, elsewhere_is, opens_settled, there_is}
 use Rattle.heap_core.proofs.Sitting.{others-sit}
 
@@ -9,7 +9,7 @@ use Rattle.heap_core.proofs.Sitting.{others-sit}
 pub room_elsewhere : (records : List Record) (arena c i other : ℕ) (op : Op) (asked : Option AskFacts) → IsArenas records → arena < 32 → (arena ≡ i → other ≢ c) →
     room_in (after_turn records arena c op asked) i other ≡ room_in records i other
 room_elsewhere records arena c i other op asked is there differ =
-    let new : Record = record_after (record_at records arena) c (settled (spaces_of records) arena op) asked in
+    let new : Record = record_after (record_at records arena) c (with_chunk_found (spaces_of records) arena op) asked in
     at_or_else (λ k. room_in (after_turn records arena c op asked) k other ≡ room_in records k other) i arena
     (λ same. ap (λ (r : Record). room_of other r.rooms) (there_is records arena new is there) ∙ get_or-set_other (record_at records arena).rooms c other _ 0 (differ (sym same)))
     (λ far. ap (λ (r : Record). room_of other r.rooms) (elsewhere_is records arena i new far))
@@ -19,7 +19,7 @@ pub room_used : (records : List Record) (arena c : ℕ) (op : Op) (asked : Optio
     room_in (after_turn records arena c op asked) arena c ≡ room_in records arena c - 1
 room_used records arena c op asked is there few uses =
     let r = record_at records arena in
-    let settles = settled (spaces_of records) arena op in
+    let settles = with_chunk_found (spaces_of records) arena op in
     let new : Record = record_after r c settles asked in
     let still : opens settles ≡ false = opens_settled (spaces_of records) arena op ∙ uses in
     let set : room_of c new.rooms ≡ room_after r.space (room_in records arena c) c settles = get_or-set_same r.rooms c (room_after r.space (room_in records arena c) c settles) 0 (omega (arith, few, is.clients arena there)) in

@@ -1,5 +1,5 @@
 -- What a turn leaves of the calls of all clients.
-use Rattle.heap_core.proofs.Words.{◌≡◌, ◌≢◌, ℕ, ◌<◌, ◌≤◌, ◌==◌, ◌&&◌, Bool, true, false, List, Option, None, Some, slice_set, refl, sym, ◌∙◌, ap, subst, arith, IsTrue, IfSome, IsSomeAnd, lt-ltb, nat_lt, eqb-true, nat_tests, get_or-set_other, get_or-set_same, Look, Back, GrowDone, OfferDone, Heard, op_stands, stands, step_of, both_true, op_keeps, heard_in, IsKept, heard_of, entry_of, opens, room_after, room_of, Replied, TurnPoint, Filling, AskPoint, Skipping, Point, Turns, Asks, Tells, Next, Go, Over, More, Gone, Ends, Nowhere, Op, Reply, Space, Sound, mine, AskFacts, AnswersTo, WantTurn, ask_of, done_of, is_marked, op_of, step, want, Idle, Knows, Keeps, Moves, Stands, left, stages, with_found, Suffices, flying, needed_at, needed_next, room_then, rooms-suffice, wants-stand, steps-keep, IsArenas, no_record, record_after, record_at, room_in, spaces_of, met_by_alloc, met_by_dalloc, others_of, settled, AsksLeadOn, CanTurn, IsIdle, OthersStay, TurnsLeadOn, Waits, WaitsNext, after_turn, mine_in, Record}
+use Rattle.heap_core.proofs.Words.{◌≡◌, ◌≢◌, ℕ, ◌<◌, ◌≤◌, ◌==◌, ◌&&◌, Bool, true, false, List, Option, None, Some, slice_set, refl, sym, ◌∙◌, ap, subst, arith, IsTrue, IfSome, IsSomeAnd, lt-ltb, nat_lt, eqb-true, nat_tests, get_or-set_other, get_or-set_same, Look, Back, GrowDone, OfferDone, Heard, op_stands, stands, step_of, both_true, op_keeps, heard_in, IsKept, heard_of, entry_of, opens, room_after, room_of, Replied, TurnPoint, Filling, AskPoint, Skipping, Point, Turns, Asks, Tells, Next, Go, Over, More, Gone, Ends, Nowhere, Op, Reply, Space, Sound, mine, AskFacts, AnswersTo, WantTurn, ask_at, done_at, is_marked, op_at, step, want, Idle, Knows, Keeps, Moves, Stands, left, stages, with_found, Suffices, flying, needed_at, needed_next, room_then, rooms-suffice, wants-stand, steps-keep, IsArenas, no_record, record_after, record_at, room_in, spaces_of, met_by_alloc, met_by_dalloc, others_of, with_chunk_found, AsksLeadOn, CanTurn, IsIdle, OthersStay, TurnsLeadOn, Waits, WaitsNext, after_turn, mine_in, Record}
 use Rattle.heap_core.proofs.Turned.{replayed_sound}
 
 -- ---- the arena of a turn, and the others
@@ -32,10 +32,10 @@ sound_at records i is there = replayed_sound i (record_at records i).kept (recor
 
 -- a turn leaves what another client owns as it was, in every arena
 pub others_own : (records : List Record) (arena c other : ℕ) (op : Op) (asked : Option AskFacts) → IsArenas records → arena < 32 → other ≢ c →
-    IsTrue (stands (record_at records arena).space (entry_of c (settled (spaces_of records) arena op))) → (i : ℕ) → mine_in (after_turn records arena c op asked) other i ≡ mine_in records other i
+    IsTrue (stands (record_at records arena).space (entry_of c (with_chunk_found (spaces_of records) arena op))) → (i : ℕ) → mine_in (after_turn records arena c op asked) other i ≡ mine_in records other i
 others_own records arena c other op asked is there differ may =
     let s : Space = (record_at records arena).space in
-    let done : Op = settled (spaces_of records) arena op in
+    let done : Op = with_chunk_found (spaces_of records) arena op in
     by_arena records arena (record_after (record_at records arena) c done asked) (λ i x. mine other x.space ≡ mine_in records other i) is there
     ((op_keeps c s done (sound_at records arena is there) (both_true (nat_lt c 32) _ may).1).others other differ) (λ i ne. refl)
 
@@ -55,7 +55,7 @@ others-stay records arena c other op asked is there differ may = (
     r = record_at records arena
 
     new : Record
-    new = record_after r c (settled (spaces_of records) arena op) asked
+    new = record_after r c (with_chunk_found (spaces_of records) arena op) asked
 
     mines : (i : ℕ) → mine_in (after_turn records arena c op asked) other i ≡ mine_in records other i
     mines = others_own records arena c other op asked is there differ may
@@ -71,17 +71,17 @@ found_for spaces arena (GrowDone heard found) = met_by_alloc spaces heard.ask he
 found_for spaces arena (OfferDone heard found) = met_by_dalloc (others_of arena spaces) heard.ask heard.answer
 found_for spaces arena op = None
 
-pub settled_is : (spaces : List Space) (arena : ℕ) (op : Op) → settled spaces arena op ≡ with_found (found_for spaces arena op) op
+pub settled_is : (spaces : List Space) (arena : ℕ) (op : Op) → with_chunk_found spaces arena op ≡ with_found (found_for spaces arena op) op
 settled_is spaces arena (GrowDone heard found) = refl
 settled_is spaces arena (OfferDone heard found) = refl
 settled_is spaces arena op = refl
 
 -- the ask that an operation of a point carries is at hand
-carries_none : (point : TurnPoint) → heard_of (op_of point) ≡ None
+carries_none : (point : TurnPoint) → heard_of (op_at point) ≡ None
 carries_none (Filling wish count) = refl
 carries_none point = refl
 
-carries_one : (point : AskPoint) (asked : AskFacts) → heard_of (done_of point asked) ≡ Some (heard_in asked)
+carries_one : (point : AskPoint) (asked : AskFacts) → heard_of (done_at point asked) ≡ Some (heard_in asked)
 carries_one (Skipping wish span b skip) asked = refl
 carries_one point asked = refl
 
@@ -90,10 +90,10 @@ kept_of c op asked o e is = subst (λ o. IfSome o (λ heard. IsSomeAnd asked (λ
 
 kept_at : (c : ℕ) (point : Point) (op : Op) (asked : Option AskFacts) → want point ≡ WantTurn op asked → IsKept (entry_of c op) asked
 kept_at c (Turns point) op asked e =
-    let same : op_of point ≡ op = cc in
+    let same : op_at point ≡ op = cc in
     kept_of c op asked None (ap heard_of (sym same) ∙ carries_none point) tt
 kept_at c (Asks point (Some told)) op asked e =
-    let same : done_of point told ≡ op = cc in
+    let same : done_at point told ≡ op = cc in
     let with : Some told ≡ asked = cc in
     kept_of c op asked (Some (heard_in told)) (ap heard_of (sym same) ∙ carries_one point told) (subst (λ a. IsSomeAnd a (λ made. heard_in made ≡ heard_in told)) with refl)
 kept_at c (Asks point None) op asked e = absurd (cc)
@@ -105,12 +105,12 @@ opens_less (Look pages align) e = absurd (cc)
 opens_less op e = first_of (cc, grind arith)
 
 -- an arena leaves its client at least the room that the table reckons with
-room_enough : (s : Space) (c room : ℕ) (spaces : List Space) (arena : ℕ) (op : Op) → room_then c s room op ≤ room_after s room c (settled spaces arena op)
+room_enough : (s : Space) (c room : ℕ) (spaces : List Space) (arena : ℕ) (op : Op) → room_then c s room op ≤ room_after s room c (with_chunk_found spaces arena op)
 room_enough s c room spaces arena (Back addrs) = omega arith
 room_enough s c room spaces arena op = omega arith
 
 -- an operation opens a unit with the chunk that was found or without
-pub opens_settled : (spaces : List Space) (arena : ℕ) (op : Op) → opens (settled spaces arena op) ≡ opens op
+pub opens_settled : (spaces : List Space) (arena : ℕ) (op : Op) → opens (with_chunk_found spaces arena op) ≡ opens op
 opens_settled spaces arena (GrowDone heard found) = refl
 opens_settled spaces arena (OfferDone heard found) = refl
 opens_settled spaces arena op = refl
@@ -123,10 +123,10 @@ module _ (records : List Record) (c arena : ℕ) (point : Point) (op : Op) (aske
   spaces = spaces_of records
 
   abbrev t : Space
-  t = (step_of s c (settled spaces arena op)).after
+  t = (step_of s c (with_chunk_found spaces arena op)).after
 
   abbrev reply : Reply
-  reply = (step_of s c (settled spaces arena op)).reply
+  reply = (step_of s c (with_chunk_found spaces arena op)).reply
 
   abbrev found : Option ℕ
   found = found_for spaces arena op
@@ -134,7 +134,7 @@ module _ (records : List Record) (c arena : ℕ) (point : Point) (op : Op) (aske
   sound : Sound s
   sound = sound_at records arena is waits.there
 
-  may : op_stands s c (settled spaces arena op) ≡ true
+  may : op_stands s c (with_chunk_found spaces arena op) ≡ true
   may =
       let all : Stands c s (WantTurn op asked) = subst (Stands c s) wants (wants-stand c s point sound waits.knows) in
       ap (op_stands s c) (settled_is spaces arena op) ∙ all found
@@ -150,7 +150,7 @@ module _ (records : List Record) (c arena : ℕ) (point : Point) (op : Op) (aske
 
   can : CanTurn records c arena op asked
   can = record {
-    stands = subst (λ b. IsTrue (b && op_stands s c (settled spaces arena op))) (sym (lt-ltb c 32 few)) may;
+    stands = subst (λ b. IsTrue (b && op_stands s c (with_chunk_found spaces arena op))) (sym (lt-ltb c 32 few)) may;
     room = λ e. enough.0 (opens_less op e);
     kept = kept_at c point op asked wants;
   }
@@ -159,11 +159,11 @@ module _ (records : List Record) (c arena : ℕ) (point : Point) (op : Op) (aske
   after = after_turn records arena c op asked
 
   abbrev new : Record
-  new = record_after (record_at records arena) c (settled spaces arena op) asked
+  new = record_after (record_at records arena) c (with_chunk_found spaces arena op) asked
 
   room_left : needed_next (flying (mine c t)) (step point (Replied reply)) ≤ room_of c new.rooms
   room_left =
-      let set : room_of c new.rooms ≡ room_after s (room_in records arena c) c (settled spaces arena op) = get_or-set_same (record_at records arena).rooms c (room_after s (room_in records arena c) c (settled spaces arena op)) 0 (omega (arith, few, is.clients arena waits.there)) in
+      let set : room_of c new.rooms ≡ room_after s (room_in records arena c) c (with_chunk_found spaces arena op) = get_or-set_same (record_at records arena).rooms c (room_after s (room_in records arena c) c (with_chunk_found spaces arena op)) 0 (omega (arith, few, is.clients arena waits.there)) in
       omega (arith, set, enough.1, room_enough s c (room_in records arena c) spaces arena op)
 
   idle_then : Idle (mine c t) → IsIdle after c
@@ -192,7 +192,7 @@ turns-lead_on records c arena point op asked is few waits wants = (
 
 pub asks-lead_on : AsksLeadOn
 asks-lead_on records c arena (Asks point None) asked is waits wants kind =
-    let same : ask_of point ≡ asked.ask = cc in record {
+    let same : ask_at point ≡ asked.ask = cc in record {
       there = waits.there;
       knows = (waits.knows.0, (sym same, subst (λ a. AnswersTo a asked.answer) (sym same) kind));
       elsewhere = waits.elsewhere;

@@ -1,14 +1,14 @@
 -- What is kept of a call that was fed.
-use Rattle.heap_core.proofs.Words.{inl, inr, ◌≡◌, ℕ, Option, Some, Result, Ok, Err, OnOk, OnErr, IfSome, sym, subst, ◌∙◌, ap, Held, DeskFacts, Item, Answered, Next, Go, More, CallFacts, HasRoom, moment_of, ended_by, Moment, after, starved_after, step_next, FedTo, Seat, answer_of, open_call, seat_of}
+use Rattle.heap_core.proofs.Words.{inl, inr, ◌≡◌, ℕ, Option, Some, Result, Ok, Err, OnOk, OnErr, IfSome, sym, subst, ◌∙◌, ap, Held, DeskFacts, Item, Answered, Next, Go, More, CallFacts, HasRoomToHold, moment_of, ended_by, Moment, after, starved_after, step_next, FedTo, Seat, answer_of, open_call, seat_of}
 
 -- a call that is kept has room for the region that it may get
-room_at : (c room : ℕ) (hand : Option Held) (at : Moment) (next : Next) → HasRoom hand room at.stage.next → IfSome (open_call c at next) (λ call. HasRoom hand room call.stage.next)
+room_at : (c room : ℕ) (hand : Option Held) (at : Moment) (next : Next) → HasRoomToHold hand room at.stage.next → IfSome (open_call c at next) (λ call. HasRoomToHold hand room call.stage.next)
 room_at c room hand at (Go point) has = has
 room_at c room hand at next has = tt
 
-pub room_kept : (c room : ℕ) (hand : Option Held) (at : Moment) (next : Next) (kept : Option CallFacts) → kept ≡ open_call c at next → HasRoom hand room at.stage.next →
-    IfSome kept (λ call. HasRoom hand room call.stage.next)
-room_kept c room hand at next kept is has = subst (λ k. IfSome k (λ call. HasRoom hand room call.stage.next)) (sym is) (room_at c room hand at next has)
+pub room_kept : (c room : ℕ) (hand : Option Held) (at : Moment) (next : Next) (kept : Option CallFacts) → kept ≡ open_call c at next → HasRoomToHold hand room at.stage.next →
+    IfSome kept (λ call. HasRoomToHold hand room call.stage.next)
+room_kept c room hand at next kept is has = subst (λ k. IfSome k (λ call. HasRoomToHold hand room call.stage.next)) (sym is) (room_at c room hand at next has)
 
 -- What the call and its client's desk are after an item is what the client is then.
 pub fed_to : {A E : Type 0} (seat : Seat) (desk desk' : DeskFacts) (call call' : CallFacts) (item : Item) (named : Result A E) (place : Option CallFacts) (ended : Option Answered) →

@@ -1,5 +1,5 @@
 -- What changes of what a client has do to its regions.
-use Rattle.heap_core.proofs.Words.{◌≡◌, ℕ, ◌+◌, ◌-◌, ◌<◌, ◌≤◌, ◌==◌, ◌&&◌, ◌≢◌, Bool, true, false, cond, List, [], ◌∷◌, ◌++◌, All, Option, None, Some, length, map, get_or, take, drop, slice_set, refl, sym, ◌∙◌, ap, subst, arith, suc, nat_lt, lt-ltb, flat_map, sum_by, ltb-true, nat_tests, get_or_from_slice_get, slice_get-get_or, slice_get_within, drop_more, length-drop, nil_from_length, get_or-set_other, get_or-set_same, length-set, All-append, All-cons, All-filter, All-nil, All-take, sum_by-cons, sum_by-take-drop, sum_by_push, both_true, is_elsewhere, put_in, before_last, discarding, has_slot, held_again, held_again_with, holding, kept, kept_with, not_holding, Held, DeskFacts, caching, freeing, held_at, hit, hitting, is_cacheable, slots_at, cached_in, region_at, sharing}
+use Rattle.heap_core.proofs.Words.{◌≡◌, ℕ, ◌+◌, ◌-◌, ◌<◌, ◌≤◌, ◌==◌, ◌&&◌, ◌≢◌, Bool, true, false, cond, List, [], ◌∷◌, ◌++◌, All, Option, None, Some, length, map, get_or, take, drop, slice_set, refl, sym, ◌∙◌, ap, subst, arith, suc, nat_lt, lt-ltb, flat_map, sum_by, ltb-true, nat_tests, get_or_from_slice_get, slice_get-get_or, slice_get_within, drop_more, length-drop, nil_from_length, get_or-set_other, get_or-set_same, length-set, All-append, All-cons, All-filter, All-nil, All-take, sum_by-cons, sum_by-take-drop, sum_by_push, both_true, is_elsewhere, put_in, before_last, discarding, has_slot, held_again, held_again_with, holding, kept, kept_with, not_holding, Held, DeskFacts, caching, freeing, held_at, hit, hitting, is_cacheable, slots_at, cached_in, held_region, sharing}
 use Rattle.std.proofs.Common.{slice_get}
 use Rattle.std.proofs.lemmas.List.{length-append}
 use Rattle.heap_core.proofs.Entries.{IsKeyed, keyed_insert, keyed_remove, of_entry, sum_insert, sum_remove, sum_set}
@@ -106,17 +106,17 @@ slot_left : (n most : ℕ) → n < most → nat_lt n most ≡ true
 slot_left n most below = lt-ltb n most below
 
 pub share_all : (arena class : ℕ) (addrs : List ℕ) (desk : DeskFacts) → Shaped desk → (0 < length addrs → (class < 41) × (length (cached_in desk.cached class) + length addrs ≤ slots_at class)) →
-    Shares desk (sharing arena class addrs desk) class (map (region_at arena class) addrs)
+    Shares desk (sharing arena class addrs desk) class (map (held_region arena class) addrs)
 share_all arena class [] desk is slots = record { more = λ f. omega arith; shaped = is; hand = refl; arena = refl; long = omega arith }
 share_all arena class (addr ∷ addrs) desk is slots =
     let room = slots (omega arith) in
     let rest = share_all arena class addrs desk is (λ some. (room.0, omega (arith, room.1))) in
     let shared : DeskFacts = sharing arena class addrs desk in
-    let n : length (map (region_at arena class) addrs) ≡ length addrs = map_length addrs in
+    let n : length (map (held_region arena class) addrs) ≡ length addrs = map_length addrs in
     let slot : has_slot class shared ≡ true = slot_left _ _ (omega (arith, rest.long, n, room.1)) in
-    let r : Held = region_at arena class addr in
+    let r : Held = held_region arena class addr in
     let same = cached_as r shared room.0 slot in record {
-      more = λ f. omega (arith, cache_over f r shared room.0 slot rest.shaped, rest.more f, sum_by-cons f r (map (region_at arena class) addrs));
+      more = λ f. omega (arith, cache_over f r shared room.0 slot rest.shaped, rest.more f, sum_by-cons f r (map (held_region arena class) addrs));
       shaped = cache_shaped r shared room.0 slot rest.shaped;
       hand = cache_hand r shared ∙ rest.hand;
       arena = cache_arena r shared ∙ rest.arena;
@@ -125,7 +125,7 @@ share_all arena class (addr ∷ addrs) desk is slots =
           ∙ omega (arith, length-append (cached_in shared.cached class) (r ∷ []), rest.long);
     }
   where
-    map_length : (xs : List ℕ) → length (map (region_at arena class) xs) ≡ length xs
+    map_length : (xs : List ℕ) → length (map (held_region arena class) xs) ≡ length xs
     map_length [] = refl
     map_length (x ∷ xs) = ap suc (map_length xs)
 

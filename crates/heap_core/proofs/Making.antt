@@ -1,5 +1,5 @@
 -- What a turn, an ask or the want of memory leaves of a heap, and what a step then tells.
-use Rattle.heap_core.proofs.Words.{inl, inr, ◌≡◌, ◌≢◌, ◌⊎◌, ◌≤◌, ◌<◌, ℕ, ◌+◌, Bool, true, false, List, Option, None, Some, Result, Ok, Err, IfSome, IsOk, IsSomeAnd, slice_set, refl, sym, ap, subst, ◌∙◌, arith, ◌++◌, ◌∷◌, [], AskStep, Shelf, opens, Ask, Op, Reply, AskFacts, Replied, Told, Starved, Answered, NoMemory, Point, More, Turn, moment_of, Goes, Moment, after, starved_after, WantTurn, WantAsk, is_marked, step, want, IsArenas, record_at, reply_in, room_in, spaces_of, settled, CanTurn, after_turn, FedTo, HeapFacts, IsStarved, IsStep, IsSure, answered_by, holder_for, starved_on, told_to, turned_for, turned_on, unnamed_on, DidTurn, DidAsk, owed_to, IsHeap, asks_at, asks_next, owing, Record, Seat, answer_of, seat_at, seat_of, Comes, SeatSound, MadeTurn, item_of}
+use Rattle.heap_core.proofs.Words.{inl, inr, ◌≡◌, ◌≢◌, ◌⊎◌, ◌≤◌, ◌<◌, ℕ, ◌+◌, Bool, true, false, List, Option, None, Some, Result, Ok, Err, IfSome, IsOk, IsSomeAnd, slice_set, refl, sym, ap, subst, ◌∙◌, arith, ◌++◌, ◌∷◌, [], AskStep, Shelf, opens, Ask, Op, Reply, AskFacts, Replied, Told, Starved, Answered, NoMemory, Point, More, Turn, moment_of, Goes, Moment, after, starved_after, WantTurn, WantAsk, is_marked, step, want, IsArenas, record_at, reply_in, room_in, spaces_of, with_chunk_found, CanTurn, after_turn, FedTo, HeapFacts, IsStarved, IsStep, IsSure, answered_by, holder_for, starved_on, told_to, turned_for, turned_on, unnamed_on, DidTurn, DidAsk, owed_to, IsHeap, asks_at, asks_next, owing, Record, Seat, answer_of, seat_at, seat_of, Comes, SeatSound, MadeTurn, item_of}
 use Rattle.heap_core.proofs.Asking.{owed_after}
 use Rattle.heap_core.proofs.Changes.{heap_seated, heap_turned, room_used}
 use Rattle.heap_core.proofs.Sitting.{asks-sit, starves-sit, turns-sit}
@@ -15,7 +15,7 @@ module _ (records : List Record) (c : ℕ) (seat : Seat) (op : Op) (asked : Opti
   there = w.call.stage.arena
 
   abbrev reply : Reply
-  reply = reply_in records there c (settled (spaces_of records) there op)
+  reply = reply_in records there c (with_chunk_found (spaces_of records) there op)
 
   abbrev then : List Record
   then = after_turn records there c op asked
@@ -74,7 +74,7 @@ turn_goes records records' owed owed' seat turn made arenas few w is = subst (λ
   where
     by : {E : Type 0} (made : Result Reply E) → MadeTurn records owed turn made records' owed' → Goes (after (moment_of w.call seat.desk) (item_of made)).stage.next
     by (Ok told) is =
-        let same : told ≡ reply records turn.client seat turn.op turn.asked turn.arena arenas few w = is.reply ∙ ap (λ a. reply_in records a turn.client (settled (spaces_of records) a turn.op)) w.arena_is in
+        let same : told ≡ reply records turn.client seat turn.op turn.asked turn.arena arenas few w = is.reply ∙ ap (λ a. reply_in records a turn.client (with_chunk_found (spaces_of records) a turn.op)) w.arena_is in
         subst (λ r. Goes (after (moment_of w.call seat.desk) (Replied r)).stage.next) (sym same) (led records turn.client seat turn.op turn.asked turn.arena arenas few w).1.0
     by (Err error) is = (ends_starved records turn.client seat turn.op turn.asked turn.arena arenas few w (marked_err records records' owed owed' seat turn error w is)).0
 
@@ -84,8 +84,8 @@ turned_there : {E : Type 0} (records records' : List Record) (owed owed' : List 
 turned_there records records' owed owed' seat turn told w is = is.after ∙ ap (λ a. after_turn records a turn.client turn.op turn.asked) w.arena_is
 
 told_there : {E : Type 0} (records records' : List Record) (owed owed' : List ℕ) (seat : Seat) (turn : Turn) (told : Reply) (w : Wanted records turn.client seat (WantTurn turn.op turn.asked) turn.arena) →
-    MadeTurn {E = E} records owed turn (Ok told) records' owed' → told ≡ reply_in records w.call.stage.arena turn.client (settled (spaces_of records) w.call.stage.arena turn.op)
-told_there records records' owed owed' seat turn told w is = is.reply ∙ ap (λ a. reply_in records a turn.client (settled (spaces_of records) a turn.op)) w.arena_is
+    MadeTurn {E = E} records owed turn (Ok told) records' owed' → told ≡ reply_in records w.call.stage.arena turn.client (with_chunk_found (spaces_of records) w.call.stage.arena turn.op)
+told_there records records' owed owed' seat turn told w is = is.reply ∙ ap (λ a. reply_in records a turn.client (with_chunk_found (spaces_of records) a turn.op)) w.arena_is
 
 -- and the heap is as it has to be after it
 pub turn_heap : {E : Type 0} (records records' : List Record) (seats : List Seat) (owed owed' : List ℕ) (turn : Turn) (made : Result Reply E) (seat : Seat) (ended : Option Answered) → IsHeap records seats owed → IsArenas records →
@@ -166,7 +166,7 @@ turn_step h records' owed owed' turn (Ok told) seat ended shelf arenas few w fre
     at' : Moment
     at' = moment_of w.call old.desk
 
-    answer : told ≡ reply_in h.records w.call.stage.arena c (settled (spaces_of h.records) w.call.stage.arena turn.op)
+    answer : told ≡ reply_in h.records w.call.stage.arena c (with_chunk_found (spaces_of h.records) w.call.stage.arena turn.op)
     answer = told_there h.records records' owed owed' old turn told w is
 
     moved : records' ≡ after_turn h.records w.call.stage.arena c turn.op turn.asked
@@ -177,14 +177,14 @@ turn_step h records' owed owed' turn (Ok told) seat ended shelf arenas few w fre
         ((new ≡ turned_for h c w.call turn.op turn.asked (holder_for h w.call)) × (ended ≡ answered_by h c w.call turn.op (holder_for h w.call)))
         ⊎ (IsStarved h c w.call turn.op turn.asked new × (ended ≡ Some NoMemory))
     by (inl (same, e)) =
-        let seated : seat ≡ seat_of c (after at' (Replied (reply_in h.records w.call.stage.arena c (settled (spaces_of h.records) w.call.stage.arena turn.op)))) = same ∙ ap (λ r. seat_of c (after at' (Replied r))) answer in
+        let seated : seat ≡ seat_of c (after at' (Replied (reply_in h.records w.call.stage.arena c (with_chunk_found (spaces_of h.records) w.call.stage.arena turn.op)))) = same ∙ ap (λ r. seat_of c (after at' (Replied r))) answer in
         let is_new : new ≡ turned_on h c w.call turn.op turn.asked = (λ i. record { records = moved i; seats = slice_set h.seats c (seated i); heard = h.heard }) in
         inl (
           is_new ∙ ap (turned_for h c w.call turn.op turn.asked) (sym free),
           (e ∙ ap (λ r. answer_of (after at' (Replied r))) answer) ∙ ap (answered_by h c w.call turn.op) (sym free),
         )
     by (inr (same, e, more)) =
-        let seated : seat ≡ seat_of c (starved_after at' (Replied (reply_in h.records w.call.stage.arena c (settled (spaces_of h.records) w.call.stage.arena turn.op)))) = same ∙ ap (λ r. seat_of c (starved_after at' (Replied r))) answer in
+        let seated : seat ≡ seat_of c (starved_after at' (Replied (reply_in h.records w.call.stage.arena c (with_chunk_found (spaces_of h.records) w.call.stage.arena turn.op)))) = same ∙ ap (λ r. seat_of c (starved_after at' (Replied r))) answer in
         let is_new : new ≡ unnamed_on h c w.call turn.op turn.asked = (λ i. record { records = moved i; seats = slice_set h.seats c (seated i); heard = h.heard }) in
         inr (inr (free, is_new), e)
 

@@ -1,5 +1,5 @@
 -- No chunk comes to have two owners.
-use Rattle.heap_core.proofs.Words.{◌≡◌, ◌≢◌, ◌⊎◌, inl, inr, ℕ, ◌+◌, ◌*◌, ◌/◌, ◌%◌, ◌<◌, ◌≤◌, ◌==◌, ◌&&◌, ◌||◌, Bool, true, false, not, cond, List, [], ◌∷◌, Option, None, Some, find, max, length, get_or, refl, sym, ◌∙◌, ap, subst, arith, All, suc, zero, ◌-◌, slice_set, option_map, All-head, All-tail, sum_by-cons, list_any, range_with_len, ltb-true, nat_tests, get_or-set_other, get_or-set_same, GrowDone, Offer, OfferDone, DestroyTake, absent_space, holders, IsPlaced, chunk_span, chunks_of, has_page, meets, OffSpace, Unaligned, Meets, after_offer, keep_offer, without_offer, after_grow, grow_unless, is_in_space, is_owned, op_stands, step_of, granted_by, is_in_dalloc, ones, both_true, op_keeps, Ask, Alloc, Dalloc, Answer, Placed, Refuses, Op, Reply, Grown, Kept, Doomed, Space, Part, Span, Sound, end_of, Apart, met_by_alloc, met_by_dalloc, met_in, others_of, owns, settled, space_at}
+use Rattle.heap_core.proofs.Words.{◌≡◌, ◌≢◌, ◌⊎◌, inl, inr, ℕ, ◌+◌, ◌*◌, ◌/◌, ◌%◌, ◌<◌, ◌≤◌, ◌==◌, ◌&&◌, ◌||◌, Bool, true, false, not, cond, List, [], ◌∷◌, Option, None, Some, find, max, length, get_or, refl, sym, ◌∙◌, ap, subst, arith, All, suc, zero, ◌-◌, slice_set, option_map, All-head, All-tail, sum_by-cons, list_any, range_with_len, ltb-true, nat_tests, get_or-set_other, get_or-set_same, GrowDone, Offer, OfferDone, DestroyTake, absent_space, holders, IsPlaced, chunk_span, chunks_of, has_page, meets, OffSpace, Unaligned, Meets, after_offer, keep_offer, without_offer, after_grow, grow_unless, is_in_space, is_owned, op_stands, step_of, granted_by, is_in_dalloc, ones, both_true, op_keeps, Ask, Alloc, Dalloc, Answer, Placed, Refuses, Op, Reply, Grown, Kept, Doomed, Space, Part, Span, Sound, end_of, Apart, met_by_alloc, met_by_dalloc, met_in, others_of, owns_chunk, with_chunk_found, space_at}
 use Rattle.std.proofs.Common.{ltb as nat_lt}
 
 -- ---- tests over lists
@@ -117,21 +117,21 @@ nothing_found f parts low n (Some k) e none =
 
 -- what an alloc grants is met by no arena
 alloc_meets : (spaces : List Space) (s : Space) (c : ℕ) (ask : Ask) (answer : Answer) (span : Span) (b : Bool) (page chunk : ℕ) →
-    (after_grow s c (met_by_alloc spaces ask answer) ask answer).reply ≡ Grown span b → has_page page span ≡ true → has_page page (chunk_span chunk) ≡ true → list_any (owns chunk) spaces ≡ false
+    (after_grow s c (met_by_alloc spaces ask answer) ask answer).reply ≡ Grown span b → has_page page span ≡ true → has_page page (chunk_span chunk) ≡ true → list_any (owns_chunk chunk) spaces ≡ false
 alloc_meets spaces s c (Alloc at pages align commit) (Placed first committed zeroed) span b page chunk told in_span in_chunk =
     elim (is_in_space range) as (λ v. (grow_unless s c range committed (cond (not v) (Some OffSpace) (cond (not (first % align == 0)) (Some Unaligned)
-    (option_map (λ k. Meets (chunk_span k)) (find (is_owned (cond (v && first % align == 0) (met_in spaces range) None) s.parts) (chunks_of range)))))).reply ≡ Grown span b → list_any (owns chunk) spaces ≡ false) [
+    (option_map (λ k. Meets (chunk_span k)) (find (is_owned (cond (v && first % align == 0) (met_in spaces range) None) s.parts) (chunks_of range)))))).reply ≡ Grown span b → list_any (owns_chunk chunk) spaces ≡ false) [
       | false ↦ λ h. absurd (cc)
       | true ↦ elim (first % align == 0) as (λ w. (grow_unless s c range committed (cond (not w) (Some Unaligned)
-          (option_map (λ k. Meets (chunk_span k)) (find (is_owned (cond w (met_in spaces range) None) s.parts) (chunks_of range))))).reply ≡ Grown span b → list_any (owns chunk) spaces ≡ false) [
+          (option_map (λ k. Meets (chunk_span k)) (find (is_owned (cond w (met_in spaces range) None) s.parts) (chunks_of range))))).reply ≡ Grown span b → list_any (owns_chunk chunk) spaces ≡ false) [
             | false ↦ λ h. absurd (cc)
             | true ↦ elim (find (is_owned (met_in spaces range) s.parts) (chunks_of range)) as (λ o. find (is_owned (met_in spaces range) s.parts) (chunks_of range) ≡ o →
-                (grow_unless s c range committed (option_map (λ k. Meets (chunk_span k)) o)).reply ≡ Grown span b → list_any (owns chunk) spaces ≡ false) [
+                (grow_unless s c range committed (option_map (λ k. Meets (chunk_span k)) o)).reply ≡ Grown span b → list_any (owns_chunk chunk) spaces ≡ false) [
                   | Some k ↦ λ e h. absurd (cc)
                   | None ↦ λ e h.
                       let same : range ≡ span = cc in
                       let here : has_page page range ≡ true = subst (λ x. has_page page x ≡ true) (sym same) in_span in
-                      none_met (λ k. list_any (owns k) spaces) range page chunk (nothing_found (λ k. list_any (owns k) spaces) s.parts _ _ (met_in spaces range) refl e) here in_chunk
+                      none_met (λ k. list_any (owns_chunk k) spaces) range page chunk (nothing_found (λ k. list_any (owns_chunk k) spaces) s.parts _ _ (met_in spaces range) refl e) here in_chunk
                 ] refl
           ]
     ] told
@@ -142,33 +142,33 @@ alloc_meets spaces s c ask answer span b page chunk told in_span in_chunk = absu
 
 -- what a hook refused to take back is met by no other arena
 dalloc_meets : (others : List Space) (s : Space) (c : ℕ) (ask : Ask) (answer : Answer) (page chunk : ℕ) →
-    (after_offer s c (met_by_dalloc others ask answer) ask answer).reply ≡ Kept → is_in_dalloc page ask ≡ true → has_page page (chunk_span chunk) ≡ true → list_any (owns chunk) others ≡ false
+    (after_offer s c (met_by_dalloc others ask answer) ask answer).reply ≡ Kept → is_in_dalloc page ask ≡ true → has_page page (chunk_span chunk) ≡ true → list_any (owns_chunk chunk) others ≡ false
 dalloc_meets others s c (Dalloc span committed) Refuses page chunk told in_span in_chunk =
-    elim (met_in others span) as (λ o. met_in others span ≡ o → (keep_offer (record s { offers = without_offer c span committed s.offers }) c o span committed).reply ≡ Kept → list_any (owns chunk) others ≡ false) [
+    elim (met_in others span) as (λ o. met_in others span ≡ o → (keep_offer (record s { offers = without_offer c span committed s.offers }) c o span committed).reply ≡ Kept → list_any (owns_chunk chunk) others ≡ false) [
       | Some k ↦ λ e h. absurd (cc)
-      | None ↦ λ e h. none_met (λ k. list_any (owns k) others) span page chunk e in_span in_chunk
+      | None ↦ λ e h. none_met (λ k. list_any (owns_chunk k) others) span page chunk e in_span in_chunk
     ] refl told
 dalloc_meets others s c ask answer page chunk told in_span in_chunk = absurd (cc)
 
 -- where a page comes to an arena, no other arena owns its chunk
-comes_alone : (spaces : List Space) (arena c : ℕ) (op : Op) (reply : Reply) (page chunk j : ℕ) → (step_of (space_at spaces arena) c (settled spaces arena op)).reply ≡ reply →
-    Comes page (settled spaces arena op) reply → has_page page (chunk_span chunk) ≡ true → j ≢ arena → owns chunk (space_at spaces j) ≡ false
+comes_alone : (spaces : List Space) (arena c : ℕ) (op : Op) (reply : Reply) (page chunk j : ℕ) → (step_of (space_at spaces arena) c (with_chunk_found spaces arena op)).reply ≡ reply →
+    Comes page (with_chunk_found spaces arena op) reply → has_page page (chunk_span chunk) ≡ true → j ≢ arena → owns_chunk chunk (space_at spaces j) ≡ false
 comes_alone spaces arena c (GrowDone heard found) (Grown span b) page chunk j told comes in_chunk other =
-    none_at (owns chunk) spaces j absent_space (alloc_meets spaces (space_at spaces arena) c heard.ask heard.answer span b page chunk told comes in_chunk) refl
+    none_at (owns_chunk chunk) spaces j absent_space (alloc_meets spaces (space_at spaces arena) c heard.ask heard.answer span b page chunk told comes in_chunk) refl
 comes_alone spaces arena c (OfferDone heard found) Kept page chunk j told comes in_chunk other =
     let none = dalloc_meets (others_of arena spaces) (space_at spaces arena) c heard.ask heard.answer page chunk told comes in_chunk in
-    ap (owns chunk) (sym (get_or-set_other spaces arena j absent_space absent_space other)) ∙ none_at (owns chunk) (others_of arena spaces) j absent_space none refl
+    ap (owns_chunk chunk) (sym (get_or-set_other spaces arena j absent_space absent_space other)) ∙ none_at (owns_chunk chunk) (others_of arena spaces) j absent_space none refl
 comes_alone spaces arena c op reply page chunk j told comes in_chunk other = absurd comes
 
 -- ---- the law
 
 -- after a turn of an arena still no chunk has two owners
 pub apart_turn : (spaces : List Space) (arena c : ℕ) (op : Op) → arena < length spaces → Apart spaces → Sound (space_at spaces arena) →
-    op_stands (space_at spaces arena) c (settled spaces arena op) ≡ true → Apart (slice_set spaces arena (step_of (space_at spaces arena) c (settled spaces arena op)).after)
+    op_stands (space_at spaces arena) c (with_chunk_found spaces arena op) ≡ true → Apart (slice_set spaces arena (step_of (space_at spaces arena) c (with_chunk_found spaces arena op)).after)
 apart_turn spaces arena c op within apart sound stands chunk i j first second = by (arena == i) (arena == j) refl refl
   where
     t : Space
-    t = (step_of (space_at spaces arena) c (settled spaces arena op)).after
+    t = (step_of (space_at spaces arena) c (with_chunk_found spaces arena op)).after
 
     here : (k : ℕ) → (arena == k) ≡ true → space_at (slice_set spaces arena t) k ≡ t
     here k e = let same : arena ≡ k = grind (arith, nat_tests) in subst (λ x. space_at (slice_set spaces arena t) x ≡ t) same (get_or-set_same spaces arena t absent_space within)
@@ -180,14 +180,14 @@ apart_turn spaces arena c op within apart sound stands chunk i j first second = 
     there k e = get_or-set_other spaces arena k t absent_space (differ k e)
 
     keeps : Sound t
-    keeps = (op_keeps c (space_at spaces arena) (settled spaces arena op) sound stands).sound
+    keeps = (op_keeps c (space_at spaces arena) (with_chunk_found spaces arena op) sound stands).sound
 
-    alone : (k : ℕ) → (arena == k) ≡ false → owns chunk t ≡ true → owns chunk (space_at spaces k) ≡ true → arena ≡ k
+    alone : (k : ℕ) → (arena == k) ≡ false → owns_chunk chunk t ≡ true → owns_chunk chunk (space_at spaces k) ≡ true → arena ≡ k
     alone k e mine theirs =
         let page = owned_page chunk t.parts keeps.placed mine in
-        was page.0 (page_comes c (space_at spaces arena) (settled spaces arena op) page.0 sound stands page.2) page.1
+        was page.0 (page_comes c (space_at spaces arena) (with_chunk_found spaces arena op) page.0 sound stands page.2) page.1
       where
-        was : (page : ℕ) → (0 < holders page (space_at spaces arena).parts) ⊎ Comes page (settled spaces arena op) (step_of (space_at spaces arena) c (settled spaces arena op)).reply → has_page page (chunk_span chunk) ≡ true → arena ≡ k
+        was : (page : ℕ) → (0 < holders page (space_at spaces arena).parts) ⊎ Comes page (with_chunk_found spaces arena op) (step_of (space_at spaces arena) c (with_chunk_found spaces arena op)).reply → has_page page (chunk_span chunk) ≡ true → arena ≡ k
         was page (inl before) in_chunk = apart chunk arena k (page_owned chunk page (space_at spaces arena).parts in_chunk before) theirs
         was page (inr comes) in_chunk = absurd (let not_theirs = comes_alone spaces arena c op _ page chunk k refl comes in_chunk (differ k e) in cc)
 
@@ -195,8 +195,8 @@ apart_turn spaces arena c op within apart sound stands chunk i j first second = 
     by true true e f = grind (arith, nat_tests)
     by true false e f =
         let same : arena ≡ i = grind (arith, nat_tests) in
-        sym same ∙ alone j f (ap (owns chunk) (sym (here i e)) ∙ first) (ap (owns chunk) (sym (there j f)) ∙ second)
+        sym same ∙ alone j f (ap (owns_chunk chunk) (sym (here i e)) ∙ first) (ap (owns_chunk chunk) (sym (there j f)) ∙ second)
     by false true e f =
         let same : arena ≡ j = grind (arith, nat_tests) in
-        sym (sym same ∙ alone i e (ap (owns chunk) (sym (here j f)) ∙ second) (ap (owns chunk) (sym (there i e)) ∙ first))
-    by false false e f = apart chunk i j (ap (owns chunk) (sym (there i e)) ∙ first) (ap (owns chunk) (sym (there j f)) ∙ second)
+        sym (sym same ∙ alone i e (ap (owns_chunk chunk) (sym (here j f)) ∙ second) (ap (owns_chunk chunk) (sym (there i e)) ∙ first))
+    by false false e f = apart chunk i j (ap (owns_chunk chunk) (sym (there i e)) ∙ first) (ap (owns_chunk chunk) (sym (there j f)) ∙ second)

@@ -1,5 +1,5 @@
 -- A client may publish a region that it holds at any moment.
-use Rattle.heap_core.proofs.Words.{rules, ◌≡◌, ◌≢◌, inl, inr, ℕ, ◌*◌, ◌<◌, ◌≤◌, ◌==◌, ◌&&◌, ◌||◌, Bool, true, false, cond, IsTrue, List, [], ◌∷◌, Option, None, Some, length, max, refl, sym, ◌∙◌, ap, subst, arith, lt-ltb, count_by, list_any, get_or-set_same, All-cons, All-nil, sum_by-cons, Publish, holds_at, is_live, emptied_by, room_after, room_of, not_holding, Request, Flush, Wish, Then, Batches, Visiting, Change, Stops, Leaves, TurnPoint, Filling, Looking, Landing, Giving, Finding, Changing, Resetting, Destroying, Dooming, Publishing, AskPoint, Skipping, Merging, Point, Turns, Asks, Tells, Next, Go, Op, Setting, Unbind, Bind, Space, Part, Span, Mine, mine, Held, DeskFacts, BatchFacts, batch_of, going_with, held_at, CallFacts, flushes, Alone, Flies, Settled, in_flight, Gets, Gives, HasOffered, Idle, Knows, KnowsAsk, KnowsTurn, Pair, is_held, KnowsNext, Ready, flying, needed_at, batch_goes, stage, batches-know, live_where, region_found, IsArenas, record_after, record_at, room_in, CanTurn, IsIdle, after_turn, mine_in, Record, AimsSit, Has, HoldersPublish, IsSeated, IsTheHand, Sits, SitsAt, Suits, SuitsAsk, SuitsChange, SuitsGet, SuitsThen, SuitsTurn, is_region}
+use Rattle.heap_core.proofs.Words.{rules, ◌≡◌, ◌≢◌, inl, inr, ℕ, ◌*◌, ◌<◌, ◌≤◌, ◌==◌, ◌&&◌, ◌||◌, Bool, true, false, cond, IsTrue, List, [], ◌∷◌, Option, None, Some, length, max, refl, sym, ◌∙◌, ap, subst, arith, lt-ltb, count_by, list_any, get_or-set_same, All-cons, All-nil, sum_by-cons, Publish, holds_at, is_live, emptied_by_op, room_after, room_of, not_holding, Request, Flush, Wish, Then, Batches, Visiting, Change, Stops, Leaves, TurnPoint, Filling, Looking, Landing, Giving, Finding, Changing, Resetting, Destroying, Dooming, Publishing, AskPoint, Skipping, Merging, Point, Turns, Asks, Tells, Next, Go, Op, Setting, Unbind, Bind, Space, Part, Span, Mine, mine, Held, DeskFacts, BatchFacts, batch_of, going_with, held_at, CallFacts, flushes, Alone, Flies, Settled, in_flight, Gets, GivesBack, HasOffered, Idle, Knows, KnowsAsk, KnowsTurn, HasPair, is_held, KnowsNext, Ready, flying, needed_at, batch_goes, stage, batches-know, live_where, region_found, IsArenas, record_after, record_at, room_in, CanTurn, IsIdle, after_turn, mine_in, Record, AimsSit, HasRegions, HoldersPublish, IsSeated, IsTheHand, Sits, SitsAt, Suits, SuitsAsk, SuitsChange, SuitsGet, SuitsThen, SuitsTurn, is_region}
 use Rattle.call_table.proofs.Own.{Nothing}
 use Rattle.heap_core.proofs.Clients.{at_or_else, by_arena, sound_at}
 use Rattle.heap_core.proofs.Hands.{had_counts, hands_part, held_is}
@@ -83,7 +83,7 @@ module _ (records : List Record) (c arena : ℕ) (desk : DeskFacts) (request : R
   flies_again : (span : Span) (P : Part → Type 0) → Flies m span P → Flies m' span P
   flies_again span P flies = record { part = flies.part; found = ap (in_flight span) alike.flights ∙ flies.found; is = flies.is; offers = alike.offers ∙ flies.offers }
 
-  pair_again : (low high : Span) (fresh : Bool) → Pair m low high fresh → Pair m' low high fresh
+  pair_again : (low high : Span) (fresh : Bool) → HasPair m low high fresh → HasPair m' low high fresh
   pair_again low high fresh pair = record {
     low_part = pair.low_part;
     high_part = pair.high_part;
@@ -99,7 +99,7 @@ module _ (records : List Record) (c arena : ℕ) (desk : DeskFacts) (request : R
   offered_again : (span : Span) → HasOffered m span → HasOffered m' span
   offered_again span offered = record { offer = offered.offer; offers = alike.offers ∙ offered.offers; spans = offered.spans; committed = offered.committed }
 
-  gives_again : (addrs : List ℕ) → SuitsTurn desk request arena (Giving addrs) → Gives m addrs → Gives m' addrs
+  gives_again : (addrs : List ℕ) → SuitsTurn desk request arena (Giving addrs) → GivesBack m addrs → GivesBack m' addrs
   gives_again addrs suits gives =
       let batch : BatchFacts = record { arena = arena; addrs = addrs } in
       let at : Next = Go (Turns (Giving addrs)) in
@@ -207,9 +207,9 @@ module _ (records : List Record) (c : ℕ) (region : Held) (desk : DeskFacts) (i
 
       here : room_in records region.arena c ≤ room_of c new.rooms
       here =
-          let set : room_of c new.rooms ≡ max (max (room_in records region.arena c) 16) (16 * emptied_by c op s) =
+          let set : room_of c new.rooms ≡ max (max (room_in records region.arena c) 16) (16 * emptied_by_op c op s) =
           get_or-set_same (record_at records region.arena).rooms c (room_after s (room_in records region.arena c) c op) 0 (omega (arith, few, is.clients region.arena low)) in
-          omega (arith, set, grows (room_in records region.arena c) (emptied_by c op s))
+          omega (arith, set, grows (room_in records region.arena c) (emptied_by_op c op s))
 
   sits_less : (request : Request) (arena : ℕ) (point : Point) → Sits records c desk request arena point → Sits rest c less request arena point
   sits_less request arena point sits =
@@ -239,11 +239,11 @@ module _ (records : List Record) (c : ℕ) (region : Held) (desk : DeskFacts) (i
   seated_less (Some call) sits = (sits.0, sits_at_less call call.stage.next sits.1)
 
 -- what a client has is so at any moment
-seat_has : (records : List Record) (c : ℕ) (desk : DeskFacts) (call : Option CallFacts) → IsSeated records c desk call → Has records c desk
+seat_has : (records : List Record) (c : ℕ) (desk : DeskFacts) (call : Option CallFacts) → IsSeated records c desk call → HasRegions records c desk
 seat_has records c desk None rests = rests.has
 seat_has records c desk (Some call) sits = by call.stage.next sits.1
   where
-    by : (next : Next) → SitsAt records c desk call next → Has records c desk
+    by : (next : Next) → SitsAt records c desk call next → HasRegions records c desk
     by (Go point) sits = sits.has
     by next sits = absurd sits
 

@@ -1,5 +1,5 @@
 -- How the regions that a client holds in an arena come, go and change hands.
-use Rattle.heap_core.proofs.Words.{◌≡◌, ◌≢◌, ℕ, ◌+◌, ◌==◌, ◌&&◌, Bool, true, not, cond, List, [], ◌∷◌, None, map, refl, sym, ◌∙◌, ap, arith, nat_lt, filter, count_by, list_any, position_or_len, sum_by, nat_tests, sum_by-cons, sum_by-insert, Region, is_held_at, held_anew, inserted, is_held_by, landing, region_of, is_given_back, staying, eqb_itself, ones, Held, region_at, is_region, is_region_in}
+use Rattle.heap_core.proofs.Words.{◌≡◌, ◌≢◌, ℕ, ◌+◌, ◌==◌, ◌&&◌, Bool, true, not, cond, List, [], ◌∷◌, None, map, refl, sym, ◌∙◌, ap, arith, nat_lt, filter, count_by, list_any, position_or_len, sum_by, nat_tests, sum_by-cons, sum_by-insert, Region, is_held_at, held_anew, inserted, is_held_by, landing, region_of, is_given_back, staying, eqb_itself, ones, Held, held_region, is_region, is_region_in}
 
 -- 1 where a region of the arena is at the address and of the class
 abbrev pub one_in : ℕ → ℕ → ℕ → Held → ℕ
@@ -31,20 +31,20 @@ landing_sum f (r ∷ come) rs = omega (
 )
 
 -- the regions of a class at these addresses are as many as the client comes to have
-come_sum : (c arena a k class : ℕ) (addrs : List ℕ) → sum_by (one_at c a k) (map (region_of c class) addrs) ≡ sum_by (one_in arena a k) (map (region_at arena class) addrs)
+come_sum : (c arena a k class : ℕ) (addrs : List ℕ) → sum_by (one_at c a k) (map (region_of c class) addrs) ≡ sum_by (one_in arena a k) (map (held_region arena class) addrs)
 come_sum c arena a k class [] = refl
 come_sum c arena a k class (x ∷ xs) =
-    let one : one_at c a k (region_of c class x) ≡ one_in arena a k (region_at arena class x) = rw (eqb_itself c, eqb_itself arena) refl in
+    let one : one_at c a k (region_of c class x) ≡ one_in arena a k (held_region arena class x) = rw (eqb_itself c, eqb_itself arena) refl in
     omega (
       arith,
       one,
       come_sum c arena a k class xs,
       sum_by-cons (one_at c a k) (region_of c class x) (map (region_of c class) xs),
-      sum_by-cons (one_in arena a k) (region_at arena class x) (map (region_at arena class) xs),
+      sum_by-cons (one_in arena a k) (held_region arena class x) (map (held_region arena class) xs),
     )
 
 pub landed_counts : (c arena a k class : ℕ) (addrs : List ℕ) (rs : List Region) →
-    count_at c a k (landing (map (region_of c class) addrs) rs) ≡ count_at c a k rs + sum_by (one_in arena a k) (map (region_at arena class) addrs)
+    count_at c a k (landing (map (region_of c class) addrs) rs) ≡ count_at c a k rs + sum_by (one_in arena a k) (map (held_region arena class) addrs)
 landed_counts c arena a k class addrs rs = omega (
   arith,
   count_sum c a k (landing (map (region_of c class) addrs) rs),
@@ -54,11 +54,11 @@ landed_counts c arena a k class addrs rs = omega (
 )
 
 -- none of them is one of another arena
-pub none_elsewhere : (i arena a k class : ℕ) (addrs : List ℕ) → i ≢ arena → sum_by (one_in i a k) (map (region_at arena class) addrs) ≡ 0
+pub none_elsewhere : (i arena a k class : ℕ) (addrs : List ℕ) → i ≢ arena → sum_by (one_in i a k) (map (held_region arena class) addrs) ≡ 0
 none_elsewhere i arena a k class [] differ = refl
 none_elsewhere i arena a k class (x ∷ xs) differ =
-    let none : one_in i a k (region_at arena class x) ≡ 0 = elsewhere in
-    omega (arith, none, none_elsewhere i arena a k class xs differ, sum_by-cons (one_in i a k) (region_at arena class x) (map (region_at arena class) xs))
+    let none : one_in i a k (held_region arena class x) ≡ 0 = elsewhere in
+    omega (arith, none, none_elsewhere i arena a k class xs differ, sum_by-cons (one_in i a k) (held_region arena class x) (map (held_region arena class) xs))
   where
     elsewhere : ones (arena == i && x == a && class == k) ≡ 0
     elsewhere = grind (arith, nat_tests)

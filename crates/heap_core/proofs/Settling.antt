@@ -1,5 +1,5 @@
 -- Where a call came, its client is as it has to be.
-use Rattle.heap_core.proofs.Words.{◌≡◌, ℕ, ◌+◌, ◌-◌, ◌/◌, ◌<◌, ◌≤◌, ◌==◌, ◌&&◌, ◌||◌, ◌++◌, Bool, true, false, cond, List, [], ◌∷◌, Option, None, Some, length, map, take, refl, sym, ◌∙◌, ap, subst, arith, min, nat_lt, count_by, flat_map, list_all, list_any, sum_by, eqb-true, ltb-true, nat_tests, length-take, sum_by-append, sum_by-cons, SpaceRegion, has_page, counted_any, map_terms, ones, held_again, holding, kept, older_count, Request, Cache, Finished, Arena, Limits, Answered, NoArena, Giving, Point, Turns, Next, Go, Over, More, Gone, Ends, Nowhere, Stage, Mine, mine, Held, DeskFacts, BatchFacts, batch_of, going, going_with, is_cacheable, slots_at, cached_in, desk_ended, flushes, region_at, switched, Gives, Idle, Knows, is_held, is_served, KnowsNext, Ready, flying, needed_at, batch_goes, closed, moved, settle, batches-know, both_true, IsArenas, no_record, record_at, room_in, IsIdle, Waits, WaitsNext, mine_in, Record, Comes, Has, Rests, in_hand, is_region, is_region_in, regions_of}
+use Rattle.heap_core.proofs.Words.{◌≡◌, ℕ, ◌+◌, ◌-◌, ◌/◌, ◌<◌, ◌≤◌, ◌==◌, ◌&&◌, ◌||◌, ◌++◌, Bool, true, false, cond, List, [], ◌∷◌, Option, None, Some, length, map, take, refl, sym, ◌∙◌, ap, subst, arith, min, nat_lt, count_by, flat_map, list_all, list_any, sum_by, eqb-true, ltb-true, nat_tests, length-take, sum_by-append, sum_by-cons, SpaceRegion, has_page, counted_any, map_terms, ones, held_again, holding, kept, older_count, Request, Cache, Finished, Arena, Limits, Answered, NoArena, Giving, Point, Turns, Next, Go, Over, More, Gone, Ends, Nowhere, Stage, Mine, mine, Held, DeskFacts, BatchFacts, batch_of, going, going_with, is_cacheable, slots_at, cached_in, desk_ended, flushes, held_region, switched, GivesBack, Idle, Knows, is_held, is_served, KnowsNext, Ready, flying, needed_at, batch_goes, closed, moved, settle, batches-know, both_true, IsArenas, no_record, record_at, room_in, IsIdle, Waits, WaitsNext, mine_in, Record, Comes, HasRegions, IsAtRest, in_hand, is_region, is_region_in, regions_of_desk}
 use Rattle.heap_core.specs.Words.{Region, Ok}
 use Rattle.heap_core.proofs.Clients.{sound_at}
 use Rattle.heap_core.proofs.Hands.{Count, Hands, Single, had_counts, hand_alone, hands_held, no_more}
@@ -62,12 +62,12 @@ single_in records c is = record {
 -- ---- what a client has
 
 -- a count over its regions, part by part
-pub regions_over : (test : Held → Bool) (desk : DeskFacts) → count_by test (regions_of desk) ≡ over (λ r. ones (test r)) desk
+pub regions_over : (test : Held → Bool) (desk : DeskFacts) → count_by test (regions_of_desk desk) ≡ over (λ r. ones (test r)) desk
 regions_over test desk =
     let f : Held → ℕ = λ r. ones (test r) in
     let cached : List Held = flat_map (λ list. list) desk.cached in
     let held : List Held = map (λ (e : ℕ × Held). e.1) desk.held in
-    let all : count_by test (regions_of desk) ≡ sum_by f (held ++ cached) + sum_by f (in_hand desk.hand) = sum_by-append f (held ++ cached) (in_hand desk.hand) in
+    let all : count_by test (regions_of_desk desk) ≡ sum_by f (held ++ cached) + sum_by f (in_hand desk.hand) = sum_by-append f (held ++ cached) (in_hand desk.hand) in
     let last : sum_by f (in_hand desk.hand) ≡ of_hand f desk.hand = hand_over desk.hand in
     omega (arith, all, last, sum_by-append f held cached, map_terms f (λ (e : ℕ × Held). e.1) desk.held)
   where
@@ -82,7 +82,7 @@ pub record Owns (records : List Record) (c : ℕ) (extra : List Held) (desk : De
   pub low : desk.arena < 32
   pub bound : (mine_in records c desk.arena).bound ≡ true
 
-pub owns_has : (records : List Record) (c : ℕ) (desk : DeskFacts) → Owns records c [] desk → Has records c desk
+pub owns_has : (records : List Record) (c : ℕ) (desk : DeskFacts) → Owns records c [] desk → HasRegions records c desk
 owns_has records c desk owns = record {
   hands = λ i a k. omega (arith, owns.hands i a k, regions_over (is_region_in i a k) desk);
   keyed = owns.shaped.keyed;
@@ -92,7 +92,7 @@ owns_has records c desk owns = record {
   bound = owns.bound;
 }
 
-pub has_owns : (records : List Record) (c : ℕ) (desk : DeskFacts) → Has records c desk → Owns records c [] desk
+pub has_owns : (records : List Record) (c : ℕ) (desk : DeskFacts) → HasRegions records c desk → Owns records c [] desk
 has_owns records c desk has = record {
   hands = λ i a k. omega (arith, has.hands i a k, regions_over (is_region_in i a k) desk);
   shaped = record { keyed = has.keyed; lists = has.lists; classed = has.classed };
@@ -115,11 +115,11 @@ settles_owns records c desk after owns same = record {
 pub again_settles : (records : List Record) (c : ℕ) (desk : DeskFacts) → IsArenas records → Owns records c [] desk → Settles desk (held_again desk)
 again_settles records c desk is owns = hold_settles desk owns.shaped (λ r e. hand_alone (count_in records c) desk r (single_in records c is) owns.hands owns.shaped e)
 
-pub at_rest : (records : List Record) (c : ℕ) (desk after : DeskFacts) → Owns records c [] desk → IsIdle records c → Settles desk after → Rests records c after
+pub at_rest : (records : List Record) (c : ℕ) (desk after : DeskFacts) → Owns records c [] desk → IsIdle records c → Settles desk after → IsAtRest records c after
 at_rest records c desk after owns idle same = record { has = owns_has records c after (settles_owns records c desk after owns same); idle = idle; empty = same.hand }
 
 -- a cache that was to be on or off is so
-switch_rests : (records : List Record) (c : ℕ) (request : Request) (desk : DeskFacts) → Rests records c desk → Rests records c (switched request desk)
+switch_rests : (records : List Record) (c : ℕ) (request : Request) (desk : DeskFacts) → IsAtRest records c desk → IsAtRest records c (switched request desk)
 switch_rests records c (Cache on) desk rests = record {
   has = record {
     hands = rests.has.hands;
@@ -135,9 +135,9 @@ switch_rests records c (Cache on) desk rests = record {
 switch_rests records c request desk rests = rests
 
 pub ends_rest : (records : List Record) (c arena : ℕ) (request : Request) (desk : DeskFacts) (extra : List Held) (answer : Answered) → IsArenas records → Owns records c extra desk → IsIdle records c →
-    SuitsAnswer extra desk arena answer → Rests records c (desk_ended request arena answer desk)
+    SuitsAnswer extra desk arena answer → IsAtRest records c (desk_ended request arena answer desk)
 ends_rest records c arena request desk extra (Ok (Region addr class)) is owns idle suits =
-    let r : Held = region_at arena class addr in
+    let r : Held = held_region arena class addr in
     let held = hands_held (count_in records c) r desk (single_in records c is) (subst (λ extra. Hands (count_in records c) extra desk) suits.0 owns.hands) owns.shaped in record {
       has = owns_has records c (holding r desk) (record { hands = held.1; shaped = hold_shaped r desk owns.shaped; low = owns.low; bound = owns.bound });
       idle = idle;
@@ -180,7 +180,7 @@ is_ready records c desk at owns idle = record {
     bound_serves m e = ap (λ v. v || list_any (λ _. true) m.regions) e
 
 -- regions that go back are those of an arena that there is
-gives_low : (records : List Record) (c i : ℕ) (addrs : List ℕ) → IsArenas records → Gives (mine_in records c i) addrs → i < 32
+gives_low : (records : List Record) (c i : ℕ) (addrs : List ℕ) → IsArenas records → GivesBack (mine_in records c i) addrs → i < 32
 gives_low records c i addrs is gives = by (nat_lt i 32) refl
   where
     none_held : (addrs : List ℕ) → 0 < length addrs → list_all (λ (a : ℕ). false) addrs ≡ true → ⊥

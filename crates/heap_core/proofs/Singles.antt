@@ -1,5 +1,5 @@
 -- At each address a client holds at most one region, and what it comes to hold is at none of them.
-use Rattle.heap_core.proofs.Words.{◌≡◌, ◌≢◌, ℕ, ◌+◌, ◌-◌, ◌*◌, ◌/◌, ◌^◌, ◌<◌, ◌≤◌, ◌==◌, ◌&&◌, Bool, true, false, cond, List, [], ◌∷◌, All, Option, None, Some, refl, sym, ◌∙◌, ap, arith, suc, zero, filter, find, min, count_by, sum_by, is_none, eqb-true, nat_tests, All-weaker, sum_by-cons, regions_at, size_at, pages_bounds, size_bounds, slab_filled, Region, is_published_at, holders, covers, held_anew, homes, is_held_by, is_published, sharers, eqb_itself, all_sum_le, find_passes, nothing_sum, ones, only_one, sum_add, both_true, covered, homes-le-holders, Space, Part, Sound, pages_at, region_at, is_region}
+use Rattle.heap_core.proofs.Words.{◌≡◌, ◌≢◌, ℕ, ◌+◌, ◌-◌, ◌*◌, ◌/◌, ◌^◌, ◌<◌, ◌≤◌, ◌==◌, ◌&&◌, Bool, true, false, cond, List, [], ◌∷◌, All, Option, None, Some, refl, sym, ◌∙◌, ap, arith, suc, zero, filter, find, min, count_by, sum_by, is_none, eqb-true, nat_tests, All-weaker, sum_by-cons, regions_at, size_at, pages_bounds, size_bounds, slab_filled, Region, is_published_at, holders, covers, held_anew, homes, is_held_by, is_published, sharers, eqb_itself, all_sum_le, find_passes, nothing_sum, ones, only_one, sum_add, both_true, covered, homes-le-holders, Space, Part, Sound, pages_at, held_region, is_region}
 use Rattle.heap_core.proofs.Regions.{count_at, count_sum, one_at, one_in}
 
 -- ---- one at each address
@@ -101,12 +101,12 @@ anew_counts c addr a k (r ∷ rs) =
     ] refl
 
 pub taken_counts : (c arena addr a k : ℕ) (s : Space) (r : Region) → Sound s → find (is_published_at addr) s.regions ≡ Some r →
-    count_at c a k (held_anew (is_published_at addr) (Some c) s.regions) ≡ count_at c a k s.regions + one_in arena a k (region_at arena r.class addr)
+    count_at c a k (held_anew (is_published_at addr) (Some c) s.regions) ≡ count_at c a k s.regions + one_in arena a k (held_region arena r.class addr)
 taken_counts c arena addr a k s r sound found =
     let passes = find_passes (is_published_at addr) s.regions r found in
     let at : r.addr ≡ addr = eqb-true r.addr addr (both_true (is_published r) _ passes).1 in
     let sole = only_one (is_published_at addr) (is_published_at addr) s.regions r (one_published addr s sound) found passes in
-    let one : ones (is_region a k r) ≡ one_in arena a k (region_at arena r.class addr) = ap (λ n. ones (n == a && r.class == k)) at ∙ ap (λ v. ones (v && addr == a && r.class == k)) (sym (eqb_itself arena)) in
+    let one : ones (is_region a k r) ≡ one_in arena a k (held_region arena r.class addr) = ap (λ n. ones (n == a && r.class == k)) at ∙ ap (λ v. ones (v && addr == a && r.class == k)) (sym (eqb_itself arena)) in
     omega (
       arith,
       one,

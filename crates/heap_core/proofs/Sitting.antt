@@ -1,5 +1,5 @@
 -- The laws of the clients of a heap, and that the clients of a new one rest.
-use Rattle.heap_core.proofs.Words.{◌≡◌, ℕ, ◌+◌, ◌<◌, ◌≤◌, ◌==◌, ◌||◌, Bool, true, false, cond, List, [], All, refl, sym, ap, subst, arith, suc, zero, nat_lt, get_or, replicate, count_by, range_with_len, ltb-true, nat_tests, All-nil, absent_space, first_space, Mine, mine, Held, no_record, opening_records, mine_in, Record, opening, OpeningSits, is_region}
+use Rattle.heap_core.proofs.Words.{◌≡◌, ℕ, ◌+◌, ◌<◌, ◌≤◌, ◌==◌, ◌||◌, Bool, true, false, cond, List, [], All, refl, sym, ap, subst, arith, suc, zero, nat_lt, get_or, replicate, count_by, range_with_len, ltb-true, nat_tests, All-nil, absent_space, first_space, Mine, mine, Held, no_record, opening_records, mine_in, Record, opening_space, OpeningSits, is_region}
 use Rattle.space_model.specs.Clients.{is_in}
 use Rattle.heap_core.proofs.Entries.{IsKeyed}
 use Rattle.heap_core.proofs.Turned.{opening_at, past}
@@ -17,7 +17,7 @@ pub record IsEmpty (m : Mine) : Type 0 where
 opening_empty : (c i : ℕ) → IsEmpty (mine_in opening_records c i)
 opening_empty c i = by (nat_lt i 32) refl
   where
-    at : (j : ℕ) → IsEmpty (mine c (opening j))
+    at : (j : ℕ) → IsEmpty (mine c (opening_space j))
     at j = elim (j == 0) as (λ v. IsEmpty (mine c (cond v first_space absent_space))) [ true ↦ record { flights = refl; offers = refl; regions = refl } | false ↦ record { flights = refl; offers = refl; regions = refl } ]
 
     by : (v : Bool) → nat_lt i 32 ≡ v → IsEmpty (mine_in opening_records c i)

@@ -1,18 +1,18 @@
 -- What a client has suits each point to which its call comes.
-use Rattle.heap_core.proofs.Words.{rules, ◌≡◌, ℕ, ◌<◌, ◌≤◌, true, false, List, [], ◌∷◌, None, refl, sym, ◌∙◌, subst, arith, nat_lt, cond_both, ltb-true, nat_tests, discarding, Request, Given, Answered, Change, Stops, Visits, Leaves, TurnPoint, Filling, Looking, Landing, Changing, Making, Resetting, Owning, AskPoint, Skipping, Next, Go, Over, Ends, Reply, Nothing, Noted, Took, Grow, Refuse, Landed, Regions, Owned, Setting, Bind, AskFacts, Held, DeskFacts, desk_turned, landed_behind, region_at, sharing, needed_at, make_next, told, turned, HasSlots, IsPlain, Suits, SuitsChange, SuitsAsk, SuitsTurn}
+use Rattle.heap_core.proofs.Words.{rules, ◌≡◌, ℕ, ◌<◌, ◌≤◌, true, false, List, [], ◌∷◌, None, refl, sym, ◌∙◌, subst, arith, nat_lt, cond_both, ltb-true, nat_tests, discarding, Request, Given, Answered, Change, Stops, Visits, Leaves, TurnPoint, Filling, Looking, Landing, Changing, Making, Resetting, Owning, AskPoint, Skipping, Next, Go, Over, Ends, Reply, Nothing, Noted, Took, Grow, Refuse, Landed, Regions, Owned, Setting, Bind, AskFacts, Held, DeskFacts, desk_turned, landed_behind, held_region, sharing, needed_at, make_next, told, turn_replied, HasSlots, IsPlain, Suits, SuitsChange, SuitsAsk, SuitsTurn}
 use Rattle.heap_core.specs.Words.{Region, Ok}
 use Rattle.heap_core.proofs.Having.{CanKeep, cache_hand}
 
 -- a region that came by a turn and is handed out
 abbrev pub came : ℕ → TurnPoint → Reply → List Held
-came arena (Filling wish count) (Regions (addr ∷ others)) = region_at arena wish.class addr ∷ []
-came arena (Landing wish span) (Landed first count) = region_at arena wish.class first ∷ []
-came arena (Owning addr false past) (Owned class) = region_at arena class addr ∷ []
+came arena (Filling wish count) (Regions (addr ∷ others)) = held_region arena wish.class addr ∷ []
+came arena (Landing wish span) (Landed first count) = held_region arena wish.class first ∷ []
+came arena (Owning addr false past) (Owned class) = held_region arena class addr ∷ []
 came arena point reply = []
 
 -- an answer gives just the region that came, and what is in hand at the end can be cached
 abbrev pub SuitsAnswer : List Held → DeskFacts → ℕ → Answered → Type 0
-SuitsAnswer extra desk arena (Ok (Region addr class)) = (extra ≡ region_at arena class addr ∷ []) × (desk.hand ≡ None)
+SuitsAnswer extra desk arena (Ok (Region addr class)) = (extra ≡ held_region arena class addr ∷ []) × (desk.hand ≡ None)
 SuitsAnswer extra desk arena (Ok given) = (extra ≡ []) × CanKeep desk desk.hand
 SuitsAnswer extra desk arena answer = extra ≡ []
 
@@ -50,13 +50,13 @@ module _ (desk : DeskFacts) (request : Request) (arena : ℕ) where
 -- regions that are cached leave the hand as it is
 share_hand : (arena class : ℕ) (addrs : List ℕ) (desk : DeskFacts) → (sharing arena class addrs desk).hand ≡ desk.hand
 share_hand arena class [] desk = refl
-share_hand arena class (addr ∷ addrs) desk = cache_hand (region_at arena class addr) (sharing arena class addrs desk) ∙ share_hand arena class addrs desk
+share_hand arena class (addr ∷ addrs) desk = cache_hand (held_region arena class addr) (sharing arena class addrs desk) ∙ share_hand arena class addrs desk
 
 fewer_slots : (desk : DeskFacts) (class few many : ℕ) → few ≤ many → HasSlots desk class many → HasSlots desk class few
 fewer_slots desk class few many le slots more = let room = slots (omega (arith, le, more)) in (room.0, omega (arith, le, room.1))
 
 change_suits : (desk : DeskFacts) (request : Request) (arena : ℕ) (setting : Setting) (change : Change) → desk.arena < 32 → desk.hand ≡ None → SuitsChange desk arena setting change →
-    Suited [] (desk_turned desk arena (Changing setting change) Noted) request arena (turned (Changing setting change) Noted)
+    Suited [] (desk_turned desk arena (Changing setting change) Noted) request arena (turn_replied (Changing setting change) Noted)
 change_suits desk request arena setting Stops low empty suits = (refl, can_keep desk empty)
 change_suits desk request arena setting (Visits visit) low empty suits = (refl, (empty, suits.1))
 change_suits desk request arena Bind (Leaves old) low empty suits =
@@ -64,7 +64,7 @@ change_suits desk request arena Bind (Leaves old) low empty suits =
 change_suits desk request arena setting (Leaves old) low empty suits = absurd suits
 
 pub turned_suits : (desk : DeskFacts) (request : Request) (arena : ℕ) (point : TurnPoint) (reply : Reply) → desk.arena < 32 → SuitsTurn desk request arena point →
-    Suited (came arena point reply) (desk_turned desk arena point reply) request arena (turned point reply)
+    Suited (came arena point reply) (desk_turned desk arena point reply) request arena (turn_replied point reply)
 turned_suits desk request arena (Filling wish count) (Regions (addr ∷ others)) low suits = (refl, share_hand arena wish.class others desk ∙ suits.0.empty)
 turned_suits desk request arena (Filling wish count) (Regions []) low suits = refl
 turned_suits desk request arena (Filling wish count) Nothing low suits =

@@ -1,7 +1,7 @@
 -- A region that its holder publishes for another client's call.
-use Rattle.heap_core.proofs.Words.{inl, ◌≡◌, ◌≢◌, ◌≤◌, ◌<◌, ℕ, ◌+◌, true, false, List, Option, None, Some, Ok, Err, IsSomeAnd, is_some, length, get_or, slice_set, refl, sym, ap, subst, ◌∙◌, arith, option_map, get_or_default, get_or-set_other, get_or-set_same, position-Some, Publish, TakeOver, Shelf, not_holding, Reply, AskFacts, Held, held_at, Owning, Turns, Next, Go, Turn, CallFacts, aimed, published_next, taken_next, IsArenas, room_in, CanTurn, after_turn, aimed_seat, HeapFacts, IsMade, IsStep, IsSure, SureAt, WantedAt, answered_by, holder_at, holder_for, parted, published_for, region_for, seated, turned_for, DidTurn, owed_to, IsHeap, asks_next, owing, Record, Seat, first_seat, holder_of, seat_at, IsSeated, SeatSound, Sits, SitsAt, HolderIs, IsPublished, MadeTurn, StarvesAt, StarvesNext, TakesAt}
-use Rattle.heap_core.specs.Arenas.{turned}
-use Rattle.heap_core.specs.Heaps.{region_at}
+use Rattle.heap_core.proofs.Words.{inl, ◌≡◌, ◌≢◌, ◌≤◌, ◌<◌, ℕ, ◌+◌, true, false, List, Option, None, Some, Ok, Err, IsSomeAnd, is_some, length, get_or, slice_set, refl, sym, ap, subst, ◌∙◌, arith, option_map, get_or_default, get_or-set_other, get_or-set_same, position-Some, Publish, TakeOver, Shelf, not_holding, Reply, AskFacts, Held, held_at, Owning, Turns, Next, Go, Turn, CallFacts, aimed, published_next, taken_next, IsArenas, room_in, CanTurn, after_turn, aimed_seat, HeapFacts, IsStepFor, IsStep, IsSure, SureAt, WantedAt, answered_by, holding_client, holder_for, parted, published_for, region_for, seated, turned_for, DidTurn, owed_to, IsHeap, asks_next, owing, Record, Seat, first_seat, holder_of, seat_at, IsSeated, SeatSound, Sits, SitsAt, HolderIs, IsPublished, MadeTurn, StarvesAt, StarvesNext, TakesAt}
+use Rattle.heap_core.specs.Arenas.{records_turned}
+use Rattle.heap_core.specs.Heaps.{region_in_seat}
 use Rattle.heap_core.specs.declared.heaps.Stepped.{Stepped}
 use Rattle.heap_core.proofs.Asking.{few_asks}
 use Rattle.heap_core.proofs.Clients.{at_or_else}
@@ -133,7 +133,7 @@ pub found : (h : HeapFacts) (c holder : ℕ) (region : Held) → IsArenas h.reco
 found h c holder region arenas sound some =
     let k = some_call (seat_at h.seats c).call (λ call. HolderIs h call (Some (holder, region))) some in
     let a = taken k.0 (taken_next k.0.stage.next) refl k.2.1 in
-    let held : held_at a.0 (seat_at h.seats holder).desk ≡ Some region = subst (λ taken. region_at h.seats taken holder ≡ Some region) a.1 k.2.2 in
+    let held : held_at a.0 (seat_at h.seats holder).desk ≡ Some region = subst (λ taken. region_in_seat h.seats taken holder ≡ Some region) a.1 k.2.2 in
     let led = holders-publish h.records holder a.0 (seat_at h.seats holder) region arenas k.2.0 (sound holder k.2.0) held in
     record {
       call = k.0;
@@ -149,7 +149,7 @@ found h c holder region arenas sound some =
   where
     taken : (call : CallFacts) (o : Option ℕ) → taken_next call.stage.next ≡ o → holder_for h call ≡ Some holder → (addr : ℕ) × (taken_next call.stage.next ≡ Some addr)
     taken call (Some addr) e is = (addr, e)
-    taken call None e is = let none : holder_for h call ≡ None = ap (holder_at h.seats) e in absurd (cc)
+    taken call None e is = let none : holder_for h call ≡ None = ap (holding_client h.seats) e in absurd (cc)
 
 -- the turn that its call wants may find no memory
 pub found_starves : (h : HeapFacts) (c holder : ℕ) (region : Held) → Found h c holder region → StarvesAt (seat_at h.seats c).call
@@ -170,7 +170,7 @@ found_takes h h1 c holder region number f is =
 pub taken_step : (h h1 : HeapFacts) (c holder : ℕ) (region : Held) (shelf : Shelf) → length h.seats ≡ 32 → Found h c holder region → IsPublished h holder region h1 →
     IsStep h shelf c (seat_at h.seats c).call (record { did = DidTurn; ended = None }) (seated h1 c (aimed_seat (seat_at h1.seats c) region.arena)) shelf
 taken_step h h1 c holder region shelf number f is =
-    subst (λ call. IsStep h shelf c call stepped (new h1) shelf) (sym f.is) (subst (λ next. WantedAt next (λ want. IsMade h shelf c f.call want stepped (new h1) shelf)) (sym f.goes)
+    subst (λ call. IsStep h shelf c call stepped (new h1) shelf) (sym f.is) (subst (λ next. WantedAt next (λ want. IsStepFor h shelf c f.call want stepped (new h1) shelf)) (sym f.goes)
     (refl, refl, inl (same, ap (answered_by h c f.call (TakeOver f.addr)) (sym f.holder_is))))
   where
     stepped : Stepped
@@ -180,7 +180,7 @@ taken_step h h1 c holder region shelf number f is =
     new n = seated n c (aimed_seat (seat_at n.seats c) region.arena)
 
     then : HeapFacts
-    then = record (parted h holder region) { records = turned h.records region.arena holder (Publish region.addr) None }
+    then = record (parted h holder region) { records = records_turned h.records region.arena holder (Publish region.addr) None }
 
     call_is : (seat_at (parted h holder region).seats c).call ≡ Some f.call
     call_is = parted_call h holder c region number f.few ∙ f.is

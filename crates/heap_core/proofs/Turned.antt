@@ -1,30 +1,30 @@
 -- What a turn in one of the arenas leaves of all of them.
-use Rattle.heap_core.proofs.Words.{inr, ◌≡◌, ℕ, ◌+◌, ◌/◌, ◌<◌, ◌≤◌, ◌^◌, ◌==◌, Bool, true, false, cond, suc, zero, List, [], ◌∷◌, Option, Result, Ok, Err, OnOk, OnErr, IfSome, IsSomeAnd, length, nat_lt, map, slice_set, get_or, refl, sym, ◌∙◌, ap, subst, arith, IsTrue, list_any, range_with_len, ltb-true, nat_tests, same_number_lists, get_or-map-range_with_len, get_or-range_with_len, Journal, IsByIndex, get_or_default, get_or-set_other, get_or-set_same, length-map, length-set, map-set, set-get_or, get_or-map, GrowDone, OfferDone, any_counts, chunk_span, has_page, meets, op_stands, stands, step_of, all_stand, replay, absent_space, first_space, first_replays_are_good, absent_replays_are_good, both_true, heard_in, IsKept, KeptFacts, heard_of, all_rooms, room_of, entry_of, Op, Reply, Space, Sound, AskFacts, AreRecorded, room_in, IsArenas, journal_of, no_record, opening_record, opening_records, record_after, record_at, spaces_of, Apart, owns, settled, space_at, IsReplayed, most_room, Record, entries_of, opening}
+use Rattle.heap_core.proofs.Words.{inr, ◌≡◌, ℕ, ◌+◌, ◌/◌, ◌<◌, ◌≤◌, ◌^◌, ◌==◌, Bool, true, false, cond, suc, zero, List, [], ◌∷◌, Option, Result, Ok, Err, OnOk, OnErr, IfSome, IsSomeAnd, length, nat_lt, map, slice_set, get_or, refl, sym, ◌∙◌, ap, subst, arith, IsTrue, list_any, range_with_len, ltb-true, nat_tests, same_number_lists, get_or-map-range_with_len, get_or-range_with_len, Journal, IsByIndex, get_or_default, get_or-set_other, get_or-set_same, length-map, length-set, map-set, set-get_or, get_or-map, GrowDone, OfferDone, any_counts, chunk_span, has_page, meets, op_stands, stands, step_of, all_stand, replay, absent_space, first_space, first_replays_are_good, absent_replays_are_good, both_true, heard_in, IsKept, KeptFacts, heard_of, all_rooms, room_of, entry_of, Op, Reply, Space, Sound, AskFacts, AreRecorded, room_in, IsArenas, journal_of, no_record, opening_record, opening_records, record_after, record_at, spaces_of, Apart, owns_chunk, with_chunk_found, space_at, IsReplayed, most_room, Record, entries_of, opening_space}
 use Rattle.heap_core.proofs.Owning.{apart_turn, page_owned}
 
 -- what a journal leaves is sound
 pub replayed_sound : (i : ℕ) (kept : List KeptFacts) (s : Space) → IsReplayed i kept s → Sound s
 replayed_sound i kept s is = subst Sound (sym is.space) (by (i == 0) refl)
   where
-    by : (v : Bool) → (i == 0) ≡ v → Sound (replay (opening i) (entries_of kept))
+    by : (v : Bool) → (i == 0) ≡ v → Sound (replay (opening_space i) (entries_of kept))
     by true e =
-        let first : opening i ≡ first_space = rw e refl in
+        let first : opening_space i ≡ first_space = rw e refl in
         subst (λ (o : Space). Sound (replay o (entries_of kept))) (sym first) (first_replays_are_good (entries_of kept) (subst (λ (o : Space). all_stand o (entries_of kept) ≡ true) first is.stand)).sound
     by false e =
-        let none : opening i ≡ absent_space = rw e refl in
+        let none : opening_space i ≡ absent_space = rw e refl in
         subst (λ (o : Space). Sound (replay o (entries_of kept))) (sym none) (absent_replays_are_good (entries_of kept) (subst (λ (o : Space). all_stand o (entries_of kept) ≡ true) none is.stand)).sound
 
 -- the space of an arena is among the spaces at its index
 pub space_of_record : (records : List Record) (i : ℕ) → space_at (spaces_of records) i ≡ (record_at records i).space
 space_of_record records i = get_or-map (λ (r : Record). r.space) records i no_record
 
--- an operation that was settled carries the same answer
-heard_settled : (spaces : List Space) (arena : ℕ) (op : Op) → heard_of (settled spaces arena op) ≡ heard_of op
+-- an operation with the chunk that was found carries the same answer
+heard_settled : (spaces : List Space) (arena : ℕ) (op : Op) → heard_of (with_chunk_found spaces arena op) ≡ heard_of op
 heard_settled spaces arena (GrowDone heard found) = refl
 heard_settled spaces arena (OfferDone heard found) = refl
 heard_settled spaces arena op = refl
 
-pub kept_settled : (spaces : List Space) (arena client : ℕ) (op settled_op : Op) (asked : Option AskFacts) → settled_op ≡ settled spaces arena op → IsKept (entry_of client op) asked → IsKept (entry_of client settled_op) asked
+pub kept_settled : (spaces : List Space) (arena client : ℕ) (op settled_op : Op) (asked : Option AskFacts) → settled_op ≡ with_chunk_found spaces arena op → IsKept (entry_of client op) asked → IsKept (entry_of client settled_op) asked
 kept_settled spaces arena client op settled_op asked is kept =
     subst (λ o. IfSome o (λ heard. IsSomeAnd asked (λ made. heard_in made ≡ heard))) (sym (ap heard_of is ∙ heard_settled spaces arena op)) kept
 
@@ -50,7 +50,7 @@ arenas_set records arena new is there index clients replayed apart = record {
 
 -- after a turn of a client, or where memory was wanting for it, still no chunk has two owners
 pub arenas_turned : {E : Type 0} (records : List Record) (arena client : ℕ) (op settled_op : Op) (asked : Option AskFacts) (r : Result Reply E) (new : Record) → IsArenas records → arena < 32 →
-    settled_op ≡ settled (spaces_of records) arena op → IsTrue (stands (record_at records arena).space (entry_of client (settled (spaces_of records) arena op))) →
+    settled_op ≡ with_chunk_found (spaces_of records) arena op → IsTrue (stands (record_at records arena).space (entry_of client (with_chunk_found (spaces_of records) arena op))) →
     OnOk r (new ≡ record_after (record_at records arena) client settled_op asked) → OnErr r (new ≡ record_at records arena) →
     new.index ≡ (record_at records arena).index → IsReplayed new.index new.kept new.space → IsArenas (slice_set records arena new)
 arenas_turned records arena client op settled_op asked (Err e) new is there settles may after same index replayed =
@@ -61,28 +61,28 @@ arenas_turned records arena client op settled_op asked (Ok reply) new is there s
     let all : length spaces ≡ length records = length-map records (λ (r : Record). r.space) in
     let within : arena < length spaces = omega (arith, there, all, is.number) in
     let sound : Sound (space_at spaces arena) = subst Sound (sym here) (replayed_sound arena (record_at records arena).kept (record_at records arena).space (is.replayed arena there)) in
-    let may_here : op_stands (space_at spaces arena) client (settled spaces arena op) ≡ true =
-    subst (λ s. op_stands s client (settled spaces arena op) ≡ true) (sym here) (both_true (nat_lt client 32) _ may).1 in
-    let space : new.space ≡ (step_of (space_at spaces arena) client (settled spaces arena op)).after =
+    let may_here : op_stands (space_at spaces arena) client (with_chunk_found spaces arena op) ≡ true =
+    subst (λ s. op_stands s client (with_chunk_found spaces arena op) ≡ true) (sym here) (both_true (nat_lt client 32) _ may).1 in
+    let space : new.space ≡ (step_of (space_at spaces arena) client (with_chunk_found spaces arena op)).after =
     ap (λ (x : Record). x.space) after ∙ (λ i. (step_of (sym here i) client (settles i)).after) in
     let clients : length new.rooms ≡ 32 = ap (λ (x : Record). length x.rooms) after ∙ length-set (record_at records arena).rooms client _ ∙ is.clients arena there in
     arenas_set records arena new is there index clients replayed (subst (λ t. Apart (slice_set spaces arena t)) (sym space) (apart_turn spaces arena client op within is.apart sound may_here))
 
 pub arenas_turned_from : {E : Type 0} (records : List Record) (arena client : ℕ) (op settled_op : Op) (asked : Option AskFacts) (r : Result Reply E) (old new : Record) → old ≡ record_at records arena → IsArenas records → arena < 32 →
-    settled_op ≡ settled (spaces_of records) arena op → IsTrue (stands (record_at records arena).space (entry_of client (settled (spaces_of records) arena op))) →
+    settled_op ≡ with_chunk_found (spaces_of records) arena op → IsTrue (stands (record_at records arena).space (entry_of client (with_chunk_found (spaces_of records) arena op))) →
     OnOk r (new ≡ record_after old client settled_op asked) → OnErr r (new ≡ old) → new.index ≡ old.index → IsReplayed new.index new.kept new.space → IsArenas (slice_set records arena new)
 arenas_turned_from records arena client op settled_op asked r old new at is there settles may after same index replayed =
     arenas_turned records arena client op settled_op asked r new is there settles may (subst (λ o. OnOk r (new ≡ record_after o client settled_op asked)) at after)
     (subst (λ o. OnErr r (new ≡ o)) at same) (index ∙ ap (λ (o : Record). o.index) at) replayed
 
 -- the room of a client after a turn, where it is bounded by those that there were
-given_settled : (spaces : List Space) (arena : ℕ) (op : Op) → most_room (settled spaces arena op) ≡ most_room op
+given_settled : (spaces : List Space) (arena : ℕ) (op : Op) → most_room (with_chunk_found spaces arena op) ≡ most_room op
 given_settled spaces arena (GrowDone heard found) = refl
 given_settled spaces arena (OfferDone heard found) = refl
 given_settled spaces arena op = refl
 
 pub room_turned : {E : Type 0} (records now : List Record) (arena client : ℕ) (op settled_op : Op) (r : Result Reply E) (old new : Record) → records ≡ now → old ≡ record_at records arena → IsArenas records → arena < 32 →
-    settled_op ≡ settled (spaces_of records) arena op → OnOk r (room_of client new.rooms ≤ all_rooms old.rooms + most_room settled_op) →
+    settled_op ≡ with_chunk_found (spaces_of records) arena op → OnOk r (room_of client new.rooms ≤ all_rooms old.rooms + most_room settled_op) →
     OnOk r (room_in (slice_set records arena new) arena client ≤ all_rooms (record_at now arena).rooms + most_room op)
 room_turned records now arena client op settled_op (Err e) old new view at is there settles few = tt
 room_turned records now arena client op settled_op (Ok reply) old new view at is there settles few =
@@ -94,7 +94,7 @@ room_turned records now arena client op settled_op (Ok reply) old new view at is
 -- ---- the beginning
 
 -- no arena has an extent when a heap begins
-opening_empty : (i : ℕ) → (opening i).parts ≡ []
+opening_empty : (i : ℕ) → (opening_space i).parts ≡ []
 opening_empty i = elim (i == 0) as (λ v. (cond v first_space absent_space).parts ≡ []) [ true ↦ refl | false ↦ refl ]
 
 pub opening_at : (i : ℕ) → i < 32 → record_at opening_records i ≡ opening_record i
@@ -106,13 +106,13 @@ past (x ∷ xs) zero d far = absurd (omega (arith, far))
 past (x ∷ xs) (suc i) d far = past xs i d (omega (arith, far))
 
 -- an arena of a new heap has no extent
-none_owned : (chunk i : ℕ) → owns chunk (space_at (spaces_of opening_records) i) ≡ false
+none_owned : (chunk i : ℕ) → owns_chunk chunk (space_at (spaces_of opening_records) i) ≡ false
 none_owned chunk i = by (nat_lt i 32) refl
   where
-    at : (s : Space) → s.parts ≡ [] → owns chunk s ≡ false
+    at : (s : Space) → s.parts ≡ [] → owns_chunk chunk s ≡ false
     at s e = ap (list_any (λ p. meets p.span (chunk_span chunk))) e
 
-    by : (v : Bool) → nat_lt i 32 ≡ v → owns chunk (space_at (spaces_of opening_records) i) ≡ false
+    by : (v : Bool) → nat_lt i 32 ≡ v → owns_chunk chunk (space_at (spaces_of opening_records) i) ≡ false
     by true e = at (space_at (spaces_of opening_records) i) (ap (λ (s : Space). s.parts) (space_of_record opening_records i ∙ ap (λ (r : Record). r.space) (opening_at i (ltb-true i 32 e))) ∙ opening_empty i)
     by false e = let beyond : 32 ≤ i = grind (arith, nat_tests) in at (space_at (spaces_of opening_records) i) (ap (λ (s : Space). s.parts) (past (spaces_of opening_records) i absent_space beyond))
 
@@ -161,9 +161,9 @@ pub one_owner : (records : List Record) → IsArenas records → (page i j : ℕ
     list_any (λ p. has_page page p.span) (record_at records j).space.parts ≡ true → i ≡ j
 one_owner records is page i j first second = is.apart (page / 512) i j (owned i first) (owned j second)
   where
-    owned : (k : ℕ) → list_any (λ p. has_page page p.span) (record_at records k).space.parts ≡ true → owns (page / 512) (space_at (spaces_of records) k) ≡ true
+    owned : (k : ℕ) → list_any (λ p. has_page page p.span) (record_at records k).space.parts ≡ true → owns_chunk (page / 512) (space_at (spaces_of records) k) ≡ true
     owned k has =
-        ap (owns (page / 512)) (space_of_record records k)
+        ap (owns_chunk (page / 512)) (space_of_record records k)
         ∙ page_owned (page / 512) page (record_at records k).space.parts (page_in_chunk page) (any_counts (λ p. has_page page p.span) (record_at records k).space.parts has)
 
 -- ---- the entries of the journals can be counted

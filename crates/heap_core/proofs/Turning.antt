@@ -1,5 +1,5 @@
 -- What a turn does to a journal and to the places behind it.
-use Rattle.heap_core.proofs.Words.{◌≡◌, ℕ, ◌+◌, ◌-◌, ◌*◌, ◌<◌, ◌≤◌, ◌&&◌, Bool, true, false, List, [], ◌∷◌, ◌++◌, length, max, cond, refl, sym, ◌∙◌, ap, subst, arith, nat_lt, IsTrue, ltb-true, length-set, get_or-le-sum_by, Entry, op_stands, space_after, stands, all_stand, replay, KeptFacts, all_rooms, emptied_by, entry_of, given_by, opens, room_after, room_of, rooms_after, both_true, rooms_with, Op, Space, IsRecorded, IsReplayed, Record, entries_of, most_room, opening, shown, Inside}
+use Rattle.heap_core.proofs.Words.{◌≡◌, ℕ, ◌+◌, ◌-◌, ◌*◌, ◌<◌, ◌≤◌, ◌&&◌, Bool, true, false, List, [], ◌∷◌, ◌++◌, length, max, cond, refl, sym, ◌∙◌, ap, subst, arith, nat_lt, IsTrue, ltb-true, length-set, get_or-le-sum_by, Entry, op_stands, space_after, stands, all_stand, replay, KeptFacts, all_rooms, emptied_by_op, entry_of, given_by, opens, room_after, room_of, rooms_after, both_true, rooms_with, Op, Space, IsRecorded, IsReplayed, Record, entries_of, most_room, opening_space, shown, Inside}
 
 -- a journal with one more entry that may stand leaves what that entry leaves
 one_more : (s : Space) (es : List Entry) (e : Entry) → all_stand s es ≡ true → stands (replay s es) e ≡ true →
@@ -19,7 +19,7 @@ entries_more (x ∷ xs) k = ap (λ es. x.entry ∷ es) (entries_more xs k)
 pub replayed_more : (index : ℕ) (kept : List KeptFacts) (k : KeptFacts) (s : Space) → IsReplayed index kept s → stands s k.entry ≡ true → IsReplayed index (kept ++ k ∷ []) (space_after s k.entry)
 replayed_more index kept k s is may =
     let at = is.space in
-    let more = one_more (opening index) (entries_of kept) k.entry is.stand (rw at at may) in record {
+    let more = one_more (opening_space index) (entries_of kept) k.entry is.stand (rw at at may) in record {
       stand = rw (entries_more kept k) more.0;
       space = rw (entries_more kept k) (ap (λ t. space_after t k.entry) at ∙ sym more.1);
     }
@@ -29,11 +29,11 @@ pub one_room : (rooms : List ℕ) (client : ℕ) → client < length rooms → r
 one_room rooms client within = get_or-le-sum_by (λ n. n) rooms client 0 within
 
 -- the rooms after an operation that takes no memory are one less, and after one that does no more than so many
-pub rooms_then : (s : Space) (rooms : List ℕ) (client : ℕ) (op : Op) → client < length rooms → emptied_by client op s ≤ given_by op →
+pub rooms_then : (s : Space) (rooms : List ℕ) (client : ℕ) (op : Op) → client < length rooms → emptied_by_op client op s ≤ given_by op →
     (opens op ≡ false → 0 < room_of client rooms) → (o : Bool) → opens op ≡ o →
     all_rooms (rooms_after (record { space = s; rooms = rooms }) client op) + cond o 0 1 ≤ all_rooms rooms + cond o (most_room op) 0
 rooms_then s rooms client op within few some true e =
-    let room : room_after s (room_of client rooms) client op ≡ max (max (room_of client rooms) 16) (16 * emptied_by client op s) = rw e refl in
+    let room : room_after s (room_of client rooms) client op ≡ max (max (room_of client rooms) 16) (16 * emptied_by_op client op s) = rw e refl in
     omega (arith, rooms_with rooms client (room_after s (room_of client rooms) client op) within, room, few)
 rooms_then s rooms client op within few some false e =
     let room : room_after s (room_of client rooms) client op ≡ room_of client rooms - 1 = rw e refl in
@@ -58,7 +58,7 @@ has_place r now client op spare view is may some more made false e =
 pub turn_recorded : (r new : Inside) (now : Record) (client : ℕ) (op : Op) (k : KeptFacts) (spare : ℕ) → shown r ≡ now → IsRecorded r → IsTrue (stands now.space (entry_of client op)) →
     (opens op ≡ false → 0 < room_of client now.rooms) → r.journal.spare ≤ spare → (opens op ≡ true → all_rooms r.arena.rooms + most_room op < spare) →
     k.entry ≡ entry_of client op → new.index ≡ r.index → new.arena.space ≡ space_after r.arena.space (entry_of client op) → new.arena.rooms ≡ rooms_after r.arena client op →
-    emptied_by client op r.arena.space ≤ given_by op → new.journal.kept ≡ r.journal.kept ++ k ∷ [] → spare ≤ new.journal.spare + 1 → IsRecorded new
+    emptied_by_op client op r.arena.space ≤ given_by op → new.journal.kept ≡ r.journal.kept ++ k ∷ [] → spare ≤ new.journal.spare + 1 → IsRecorded new
 turn_recorded r new now client op k spare view is may some more made entry index after rooms few items one =
     let may_here : stands r.arena.space k.entry ≡ true = subst (λ (x : Record). stands x.space k.entry ≡ true) (sym view) (subst (λ e. stands now.space e ≡ true) (sym entry) may) in
     let within : client < length r.arena.rooms = omega (arith, client_is now.space client op may, is.clients) in
@@ -76,7 +76,7 @@ turn_recorded r new now client op k spare view is may some more made entry index
 
 -- The client's room after it is at most all the rooms before with what the operation makes.
 pub room_bound : (r : Inside) (now : Record) (client : ℕ) (op : Op) (rooms : List ℕ) → shown r ≡ now → IsRecorded r → IsTrue (stands now.space (entry_of client op)) →
-    (opens op ≡ false → 0 < room_of client now.rooms) → rooms ≡ rooms_after r.arena client op → emptied_by client op r.arena.space ≤ given_by op →
+    (opens op ≡ false → 0 < room_of client now.rooms) → rooms ≡ rooms_after r.arena client op → emptied_by_op client op r.arena.space ≤ given_by op →
     room_of client rooms ≤ all_rooms now.rooms + most_room op
 room_bound r now client op rooms view is may some after few = by (opens op) refl
   where

@@ -1,5 +1,5 @@
 -- The turn that a call wants leads on, with all that its client has.
-use Rattle.heap_core.proofs.Words.{rules, ◌≡◌, ◌≢◌, ◌⊎◌, inl, inr, ℕ, ◌<◌, true, false, cond, IsTrue, List, [], ◌∷◌, Option, None, Some, Ok, Result, slice_set, refl, sym, ◌∙◌, ap, subst, arith, count_by, Set, with_setting, is_live, stands, stays, step_of, Stepped, entry_of, gave, Request, Item, Replied, Told, Starved, NoMemory, Change, Stops, Visits, Leaves, TurnPoint, Filling, Landing, Giving, Changing, Making, Resetting, Destroying, Publishing, Owning, AskPoint, Skipping, Point, Turns, Asks, Tells, Next, Go, More, Ends, Op, Reply, Noted, Landed, NextFlight, Regions, Owned, Setting, Unbind, Bind, MakeLive, Space, Mine, mine, AskFacts, Held, DeskFacts, freeing, CallFacts, desk_fed, desk_turned, landed_behind, region_at, sharing, Idle, KnowsTurn, is_of_arena, after, closed, moved, stage, step_next, WantTurn, WantAsk, done_of, is_marked, op_of, starved, step, want, IsArenas, record_after, record_at, reply_in, spaces_of, settled, CanTurn, IsIdle, Waits, WaitsNext, after_turn, mine_in, IsReplayed, Record, seat_of, AsksSit, Comes, Has, IsSeated, OthersSit, SeatSound, Sits, SitsAt, StarvesSit, Suits, SuitsChange, SuitsTurn, TurnsSit, is_region, never_starves}
+use Rattle.heap_core.proofs.Words.{rules, ◌≡◌, ◌≢◌, ◌⊎◌, inl, inr, ℕ, ◌<◌, true, false, cond, IsTrue, List, [], ◌∷◌, Option, None, Some, Ok, Result, slice_set, refl, sym, ◌∙◌, ap, subst, arith, count_by, Set, with_setting, is_live, stands, stays, step_of, Stepped, entry_of, gave, Request, Item, Replied, Told, Starved, NoMemory, Change, Stops, Visits, Leaves, TurnPoint, Filling, Landing, Giving, Changing, Making, Resetting, Destroying, Publishing, Owning, AskPoint, Skipping, Point, Turns, Asks, Tells, Next, Go, More, Ends, Op, Reply, Noted, Landed, NextFlight, Regions, Owned, Setting, Unbind, Bind, MakeLive, Space, Mine, mine, AskFacts, Held, DeskFacts, freeing, CallFacts, desk_fed, desk_turned, landed_behind, held_region, sharing, Idle, KnowsTurn, is_of_arena, after, closed, moved, stage, step_next, WantTurn, WantAsk, done_at, is_marked, op_at, starved, step, want, IsArenas, record_after, record_at, reply_in, spaces_of, with_chunk_found, CanTurn, IsIdle, Waits, WaitsNext, after_turn, mine_in, IsReplayed, Record, seat_of, AsksSit, Comes, HasRegions, IsSeated, OthersSit, SeatSound, Sits, SitsAt, StarvesSit, Suits, SuitsChange, SuitsTurn, TurnsSit, is_region, never_starves}
 use Rattle.space_model.specs.Clients.{is_in}
 use Rattle.call_table.specs.Words.{NoArena}
 use Rattle.heap_core.proofs.Carrying.{carries}
@@ -16,10 +16,10 @@ use Rattle.heap_core.proofs.Turning.{replayed_more}
 
 -- they are as they have to be
 pub turned_is : (records : List Record) (arena c : ℕ) (op : Op) (asked : Option AskFacts) → IsArenas records → arena < 32 →
-    IsTrue (stands (record_at records arena).space (entry_of c (settled (spaces_of records) arena op))) → IsArenas (after_turn records arena c op asked)
+    IsTrue (stands (record_at records arena).space (entry_of c (with_chunk_found (spaces_of records) arena op))) → IsArenas (after_turn records arena c op asked)
 turned_is records arena c op asked is there may =
     let r : Record = record_at records arena in
-    let done : Op = settled (spaces_of records) arena op in
+    let done : Op = with_chunk_found (spaces_of records) arena op in
     let new : Record = record_after r c done asked in
     let told : Result Reply ℕ = Ok (step_of r.space c done).reply in
     arenas_turned records arena c op done asked told new is there refl may refl tt refl
@@ -29,7 +29,7 @@ turned_is records arena c op asked is there may =
 
 share_arena : (arena class : ℕ) (addrs : List ℕ) (desk : DeskFacts) → (sharing arena class addrs desk).arena ≡ desk.arena
 share_arena arena class [] desk = refl
-share_arena arena class (addr ∷ addrs) desk = cache_arena (region_at arena class addr) (sharing arena class addrs desk) ∙ share_arena arena class addrs desk
+share_arena arena class (addr ∷ addrs) desk = cache_arena (held_region arena class addr) (sharing arena class addrs desk) ∙ share_arena arena class addrs desk
 
 gave_arena : (arena : ℕ) (desk : DeskFacts) → (gave arena desk).arena ≡ desk.arena
 gave_arena arena desk = grind arith
@@ -43,7 +43,7 @@ turned_arena desk arena (Filling wish count) (Regions (addr ∷ others)) else = 
 turned_arena desk arena (Landing wish span) (Landed first count) else = share_arena arena wish.class (landed_behind first wish.class count) desk
 turned_arena desk arena (Giving addrs) (NextFlight next) else = gave_arena arena desk
 turned_arena desk arena (Changing setting change) reply else = absurd (else setting change refl)
-turned_arena desk arena (Owning addr true past) (Owned class) else = free_arena (region_at arena class addr) desk
+turned_arena desk arena (Owning addr true past) (Owned class) else = free_arena (held_region arena class addr) desk
 turned_arena desk arena point reply else = grind arith
 
 -- The client is bound to the arena from which it allocates then: to the one that it had, or to that of the turn.
@@ -54,8 +54,8 @@ module _ (s : Space) (c arena : ℕ) (desk : DeskFacts) (request : Request) (was
   abbrev pub Binds : TurnPoint → Stepped → Type 0
   Binds point step = BindsTo desk (desk_turned desk arena point step.reply) arena c step.after
 
-  same_bound : (point : TurnPoint) → ((setting : Setting) (change : Change) → point ≡ Changing setting change → ⊥) → (step_of s c (op_of point)).after.bound ≡ s.bound → Binds point (step_of s c (op_of point))
-  same_bound point else same = inl (turned_arena desk arena point (step_of s c (op_of point)).reply else, λ home. ap (is_in c) same ∙ was home)
+  same_bound : (point : TurnPoint) → ((setting : Setting) (change : Change) → point ≡ Changing setting change → ⊥) → (step_of s c (op_at point)).after.bound ≡ s.bound → Binds point (step_of s c (op_at point))
+  same_bound point else same = inl (turned_arena desk arena point (step_of s c (op_at point)).reply else, λ home. ap (is_in c) same ∙ was home)
 
   change_binds : (setting : Setting) (change : Change) → SuitsChange desk arena setting change → Binds (Changing setting change) (step_of s c (Set setting))
   change_binds Bind (Leaves old) suits =
@@ -74,27 +74,27 @@ module _ (s : Space) (c arena : ℕ) (desk : DeskFacts) (request : Request) (was
   make_bound (MakeLive box_no dirty_ms muzzy_ms now) e = (set_steady s c (MakeLive box_no dirty_ms muzzy_ms now) tt).bound
   make_bound setting e = absurd (cc)
 
-  pub binds : (point : TurnPoint) → KnowsTurn (mine c s) point → SuitsTurn desk request arena point → Binds point (step_of s c (op_of point))
+  pub binds : (point : TurnPoint) → KnowsTurn (mine c s) point → SuitsTurn desk request arena point → Binds point (step_of s c (op_at point))
   binds (Changing setting change) knows suits = change_binds setting change suits.1
   binds (Making index setting) knows suits = same_bound (Making index setting) (λ x y e. cc) (make_bound setting knows.2)
-  binds (Filling wish count) knows suits = same_bound (Filling wish count) (λ x y e. cc) (moves_bound s c (op_of (Filling wish count)) tt)
-  binds (Landing wish span) knows suits = same_bound (Landing wish span) (λ x y e. cc) (moves_bound s c (op_of (Landing wish span)) tt)
-  binds (Giving addrs) knows suits = same_bound (Giving addrs) (λ x y e. cc) (moves_bound s c (op_of (Giving addrs)) tt)
-  binds (Resetting cached) knows suits = same_bound (Resetting cached) (λ x y e. cc) (moves_bound s c (op_of (Resetting cached)) tt)
-  binds (Destroying cached) knows suits = same_bound (Destroying cached) (λ x y e. cc) (moves_bound s c (op_of (Destroying cached)) tt)
-  binds (Publishing addr) knows suits = same_bound (Publishing addr) (λ x y e. cc) (moves_bound s c (op_of (Publishing addr)) tt)
-  binds (Owning addr frees past) knows suits = same_bound (Owning addr frees past) (λ x y e. cc) (moves_bound s c (op_of (Owning addr frees past)) tt)
-  binds point knows suits = same_bound point (λ x y e. cc) (op_steady s c (op_of point) tt).bound
+  binds (Filling wish count) knows suits = same_bound (Filling wish count) (λ x y e. cc) (moves_bound s c (op_at (Filling wish count)) tt)
+  binds (Landing wish span) knows suits = same_bound (Landing wish span) (λ x y e. cc) (moves_bound s c (op_at (Landing wish span)) tt)
+  binds (Giving addrs) knows suits = same_bound (Giving addrs) (λ x y e. cc) (moves_bound s c (op_at (Giving addrs)) tt)
+  binds (Resetting cached) knows suits = same_bound (Resetting cached) (λ x y e. cc) (moves_bound s c (op_at (Resetting cached)) tt)
+  binds (Destroying cached) knows suits = same_bound (Destroying cached) (λ x y e. cc) (moves_bound s c (op_at (Destroying cached)) tt)
+  binds (Publishing addr) knows suits = same_bound (Publishing addr) (λ x y e. cc) (moves_bound s c (op_at (Publishing addr)) tt)
+  binds (Owning addr frees past) knows suits = same_bound (Owning addr frees past) (λ x y e. cc) (moves_bound s c (op_at (Owning addr frees past)) tt)
+  binds point knows suits = same_bound point (λ x y e. cc) (op_steady s c (op_at point) tt).bound
 
 -- ---- what a client has after its turn
 
 -- the operation of a point enters a journal as it is
-settled_of : (spaces : List Space) (arena : ℕ) (point : TurnPoint) → settled spaces arena (op_of point) ≡ op_of point
+settled_of : (spaces : List Space) (arena : ℕ) (point : TurnPoint) → with_chunk_found spaces arena (op_at point) ≡ op_at point
 settled_of spaces arena (Filling wish count) = refl
 settled_of spaces arena point = refl
 
 -- an answer that is taken in moves no region
-steady_done : (spaces : List Space) (arena : ℕ) (point : AskPoint) (asked : AskFacts) → IsSteady (settled spaces arena (done_of point asked))
+steady_done : (spaces : List Space) (arena : ℕ) (point : AskPoint) (asked : AskFacts) → IsSteady (with_chunk_found spaces arena (done_at point asked))
 steady_done spaces arena (Skipping wish span b skip) asked = tt
 steady_done spaces arena point asked = tt
 
@@ -134,9 +134,9 @@ module _ (records : List Record) (c arena : ℕ) (desk : DeskFacts) (request : R
   )
 
   pub turn_owns : (point : TurnPoint) → KnowsTurn (mine c s) point → SuitsTurn desk request arena point →
-      Owns (all_after (op_of point)) c (came arena point (step_of s c (op_of point)).reply) (desk_turned desk arena point (step_of s c (op_of point)).reply)
+      Owns (all_after (op_at point)) c (came arena point (step_of s c (op_at point)).reply) (desk_turned desk arena point (step_of s c (op_at point)).reply)
   turn_owns point knows suits =
-      let op : Op = op_of point in
+      let op : Op = op_at point in
       let carried = carries (count_in records c) (count_in (all_after op) c) c arena s desk request (sound_at records arena is there) (single_in records c is) owns.hands owns.shaped
       (λ a k. refl) (λ i a k differ. count_else op i a k differ) point knows suits (λ a k. count_here op a k) in
       let bound = still_bound op (desk_turned desk arena point (step_of s c op).reply) (binds s c arena desk request was_bound point knows suits) in record {
@@ -163,7 +163,7 @@ module _ (records : List Record) (c : ℕ) (desk : DeskFacts) (call : CallFacts)
   arena = call.stage.arena
 
   abbrev done : Op
-  done = settled (spaces_of records) arena op
+  done = with_chunk_found (spaces_of records) arena op
 
   abbrev reply : Reply
   reply = (step_of (record_at records arena).space c done).reply
@@ -188,16 +188,16 @@ module _ (records : List Record) (c : ℕ) (desk : DeskFacts) (call : CallFacts)
   turn_at : (point : Point) → Sits records c desk call.request arena point → want point ≡ WantTurn op asked → CanTurn records c arena op asked →
       WaitsNext rest c arena (step point (Replied reply)) → Turned point
   turn_at (Turns point) sits wants can waits =
-      let same : op_of point ≡ op = cc in
-      let is_op : done ≡ op_of point = ap (settled (spaces_of records) arena) (sym same) ∙ settled_of (spaces_of records) arena point in
+      let same : op_at point ≡ op = cc in
+      let is_op : done ≡ op_at point = ap (with_chunk_found (spaces_of records) arena) (sym same) ∙ settled_of (spaces_of records) arena point in
       let owns = turn_owns records c arena desk call.request asked is sits.waits.there (has_owns records c desk sits.has) point sits.waits.knows sits.suits in
       turned_from (Turns point) (came arena point reply)
       (subst (λ (o : Op). Owns (slice_set records arena (record_after (record_at records arena) c o asked)) c (came arena point (step_of (record_at records arena).space c o).reply)
       (desk_turned desk arena point (step_of (record_at records arena).space c o).reply)) (sym is_op) owns)
       can sits.waits.there waits (turned_suits desk call.request arena point reply sits.has.arena sits.suits)
   turn_at (Asks point (Some told_so)) sits wants can waits =
-      let same : done_of point told_so ≡ op = cc in
-      let steady = op_steady (record_at records arena).space c done (subst (λ (o : Op). IsSteady (settled (spaces_of records) arena o)) same (steady_done (spaces_of records) arena point told_so)) in
+      let same : done_at point told_so ≡ op = cc in
+      let steady = op_steady (record_at records arena).space c done (subst (λ (o : Op). IsSteady (with_chunk_found (spaces_of records) arena o)) same (steady_done (spaces_of records) arena point told_so)) in
       turned_from (Asks point (Some told_so)) [] (steady_owns records c arena desk call.request asked is sits.waits.there (has_owns records c desk sits.has) done steady.regions steady.bound)
       can sits.waits.there waits (told_suits desk call.request arena point told_so reply sits.suits)
   turn_at (Asks point None) sits wants can waits = absurd (cc)
@@ -207,7 +207,7 @@ pub turns-sit : TurnsSit
 turns-sit records c desk call point op asked is few at sits wants =
     let leads = turns-lead_on records c call.stage.arena point op asked is few sits.waits wants in
     let turned = turn_at records c desk call op asked is point sits wants leads.0 leads.1 in
-    let item : Item = Replied (reply_in records call.stage.arena c (settled (spaces_of records) call.stage.arena op)) in (
+    let item : Item = Replied (reply_in records call.stage.arena c (with_chunk_found (spaces_of records) call.stage.arena op)) in (
       leads.0,
       subst (λ next. Comes (after_turn records call.stage.arena c op asked) c (moved call.request (desk_fed desk call.stage.arena next item) call.stage.arena (step_next next item))) (sym at) turned.comes,
       λ more. subst (λ next. SeatSound (after_turn records call.stage.arena c op asked) c (seat_of c (closed call.request (desk_fed desk call.stage.arena next item) (stage call.stage.arena (Ends NoMemory))))) (sym at) (turned.starves more),
@@ -232,20 +232,20 @@ asks-sit records c desk call point asked is few at sits wants kind =
     (comes_on records c call.stage.arena call.request desk [] (step point (Told asked)) is (has_owns records c desk sits.has) leads (ask_suits desk call.request call.stage.arena point asked wants sits.suits)))
 
 -- a turn that takes memory is wanted with nothing in flight
-marked_idle : (records : List Record) (c arena : ℕ) (point : TurnPoint) → KnowsTurn (mine_in records c arena) point → is_marked (op_of point) ≡ true → Idle (mine_in records c arena)
+marked_idle : (records : List Record) (c arena : ℕ) (point : TurnPoint) → KnowsTurn (mine_in records c arena) point → is_marked (op_at point) ≡ true → Idle (mine_in records c arena)
 marked_idle records c arena (Landing wish span) knows marked = absurd (cc)
 marked_idle records c arena point knows marked = first_of (search rules, cc)
 
 starve_at : (records : List Record) (c : ℕ) (desk : DeskFacts) (call : CallFacts) (point : Point) (op : Op) (asked : Option AskFacts) → IsArenas records → Sits records c desk call.request call.stage.arena point →
     want point ≡ WantTurn op asked → is_marked op ≡ true → Comes records c (moved call.request (desk_fed desk call.stage.arena (Go point) Starved) call.stage.arena (step point Starved))
 starve_at records c desk call (Turns point) op asked is sits wants marked =
-    let same : op_of point ≡ op = cc in
-    let takes : is_marked (op_of point) ≡ true = ap is_marked same ∙ marked in
+    let same : op_at point ≡ op = cc in
+    let takes : is_marked (op_at point) ≡ true = ap is_marked same ∙ marked in
     let idle = marked_idle records c call.stage.arena point sits.waits.knows takes in
     subst (λ v. Comes records c (moved call.request desk call.stage.arena (starved v))) (sym takes)
     (tt, ends_rest records c call.stage.arena call.request desk [] NoMemory is (has_owns records c desk sits.has) (λ i. at_or_else (λ n. Idle (mine_in records c n)) i call.stage.arena (λ home. idle) (sits.waits.elsewhere i)) refl)
 starve_at records c desk call (Asks point (Some told_so)) op asked is sits wants marked =
-    let same : done_of point told_so ≡ op = cc in
+    let same : done_at point told_so ≡ op = cc in
     let unmarked = never_starves point told_so in absurd (cc)
 starve_at records c desk call point op asked is sits wants marked = absurd (cc)
 
@@ -265,7 +265,7 @@ others-sit records arena c other op asked seat is there differ may sound = by se
     stays : ((at : ℕ) (point : Point) → Waits records other at point → Waits (after_turn records arena c op asked) other at point) × (IsIdle records other → IsIdle (after_turn records arena c op asked) other)
     stays = others-stay records arena c other op asked is there differ may
 
-    has_still : (desk : DeskFacts) → Has records other desk → Has (after_turn records arena c op asked) other desk
+    has_still : (desk : DeskFacts) → HasRegions records other desk → HasRegions (after_turn records arena c op asked) other desk
     has_still desk has = record {
       hands = λ i a k. ap (λ (m : Mine). count_by (is_region a k) m.regions) (mines i) ∙ has.hands i a k;
       keyed = has.keyed;

@@ -1,5 +1,5 @@
 -- What a client's open call wants, and where a step for it leads.
-use Rattle.heap_core.proofs.Words.{inl, inr, ◌≡◌, ◌⊎◌, ◌≤◌, ◌<◌, ℕ, ◌+◌, true, false, List, Option, None, Some, Result, Ok, IfSome, IsSomeAnd, refl, sym, ap, subst, ◌∙◌, arith, Shelf, opens, Item, Told, Starved, Answered, NoMemory, TurnPoint, Dooming, Owning, AskPoint, Needing, Point, Turns, Asks, Tells, Next, Go, More, Ends, Ask, Op, AskFacts, DeskFacts, Need, NeedsTurn, NeedsAsk, Turn, CallFacts, moment_of, desk_fed, NeedIs, NeedsWant, taken_next, Moment, after, moved, starved_after, step_next, Want, WantTurn, WantAsk, done_of, is_marked, op_of, starved, step, want, room_in, FedTo, NeedOf, never_starves, HeapFacts, IsMade, IsStep, IsSure, SureAt, SureFor, WantedAt, asks_at, asks_next, owing, Record, Seat, answer_of, seat_at, seat_of, IsSeated, SeatSound, Sits, SitsAt, IsMarked, Needs, StarvesAt, StarvesNext}
+use Rattle.heap_core.proofs.Words.{inl, inr, ◌≡◌, ◌⊎◌, ◌≤◌, ◌<◌, ℕ, ◌+◌, true, false, List, Option, None, Some, Result, Ok, IfSome, IsSomeAnd, refl, sym, ap, subst, ◌∙◌, arith, Shelf, opens, Item, Told, Starved, Answered, NoMemory, TurnPoint, Dooming, Owning, AskPoint, Needing, Point, Turns, Asks, Tells, Next, Go, More, Ends, Ask, Op, AskFacts, DeskFacts, Need, NeedsTurn, NeedsAsk, Turn, CallFacts, moment_of, desk_fed, NeedIs, NeedsWant, taken_next, Moment, after, moved, starved_after, step_next, Want, WantTurn, WantAsk, done_at, is_marked, op_at, starved, step, want, room_in, FedTo, NeedOf, never_starves, HeapFacts, IsStepFor, IsStep, IsSure, SureAt, SureFor, WantedAt, asks_at, asks_next, owing, Record, Seat, answer_of, seat_at, seat_of, IsSeated, SeatSound, Sits, SitsAt, IsMarked, Needs, StarvesAt, StarvesNext}
 use Rattle.heap_core.specs.declared.heaps.Stepped.{Stepped}
 
 -- ---- the point of an open call
@@ -95,11 +95,11 @@ starving_seen h now c view sound starves = starving h.records c (seat_at h.seats
 -- ---- what a step is
 
 pub step_made : (h : HeapFacts) (records : List Record) (shelf shelf' : Shelf) (c : ℕ) (wants : Want) (arena : ℕ) (stepped : Stepped) (new : HeapFacts) (w : Wanted records c (seat_at h.seats c) wants arena) →
-    IsMade h shelf c w.call wants stepped new shelf' → IsStep h shelf c (seat_at h.seats c).call stepped new shelf'
+    IsStepFor h shelf c w.call wants stepped new shelf' → IsStep h shelf c (seat_at h.seats c).call stepped new shelf'
 step_made h records shelf shelf' c wants arena stepped new w made =
     subst (λ call. IsStep h shelf c call stepped new shelf') (sym w.is)
-    (subst (λ next. WantedAt next (λ want. IsMade h shelf c w.call want stepped new shelf')) (sym w.goes)
-    (subst (λ want. IsMade h shelf c w.call want stepped new shelf') (sym w.want_is) made))
+    (subst (λ next. WantedAt next (λ want. IsStepFor h shelf c w.call want stepped new shelf')) (sym w.goes)
+    (subst (λ want. IsStepFor h shelf c w.call want stepped new shelf') (sym w.want_is) made))
 
 -- what an item leaves of the client's call
 pub fed_at : (records : List Record) (c : ℕ) (seat : Seat) (wants : Want) (arena : ℕ) (item : Item) (ended : Option Answered) (new : Seat) (w : Wanted records c seat wants arena) →
@@ -121,35 +121,35 @@ fed_at records c seat wants arena item ended new w fed =
 -- ---- a turn that finds no memory
 
 -- an operation of a call is the first of a unit just where it may find no memory
-opens_marked_turn : (point : TurnPoint) → opens (op_of point) ≡ is_marked (op_of point)
+opens_marked_turn : (point : TurnPoint) → opens (op_at point) ≡ is_marked (op_at point)
 opens_marked_turn Dooming = refl
 opens_marked_turn point = refl
 
-opens_not_ask : (point : AskPoint) (asked : AskFacts) → opens (done_of point asked) ≡ false
+opens_not_ask : (point : AskPoint) (asked : AskFacts) → opens (done_at point asked) ≡ false
 opens_not_ask (Needing wish) asked = refl
 opens_not_ask point asked = refl
 
 pub opens_marked : (point : Point) (op : Op) (asked : Option AskFacts) → want point ≡ WantTurn op asked → opens op ≡ true → is_marked op ≡ true
 opens_marked (Turns point) op asked wants is =
-    let same : op_of point ≡ op = cc in
+    let same : op_at point ≡ op = cc in
     subst (λ o. is_marked o ≡ true) same (sym (opens_marked_turn point) ∙ subst (λ o. opens o ≡ true) (sym same) is)
-opens_marked (Asks point (Some told)) op asked wants is = let same : done_of point told ≡ op = cc in let none = opens_not_ask point told in absurd (cc)
+opens_marked (Asks point (Some told)) op asked wants is = let same : done_at point told ≡ op = cc in let none = opens_not_ask point told in absurd (cc)
 opens_marked point op asked wants is = absurd (cc)
 
 -- a turn without memory comes only where places are promised for all the room
 pub room_asked : (room : ℕ) (point : Point) (op : Op) (asked : Option AskFacts) → want point ≡ WantTurn op asked → opens op ≡ false → room ≤ asks_at room point
 room_asked room (Turns point) op asked wants uses =
-    let same : op_of point ≡ op = cc in
-    let is : opens (op_of point) ≡ false = ap opens same ∙ uses in
+    let same : op_at point ≡ op = cc in
+    let is : opens (op_at point) ≡ false = ap opens same ∙ uses in
     rw is (omega arith)
 room_asked room (Asks point (Some told)) op asked wants uses = omega arith
 room_asked room point op asked wants uses = absurd (cc)
 
 starves_to : (point : Point) (op : Op) (asked : Option AskFacts) → want point ≡ WantTurn op asked → is_marked op ≡ true → step point Starved ≡ Ends NoMemory
 starves_to (Turns point) op asked wants marked =
-    let same : op_of point ≡ op = cc in
+    let same : op_at point ≡ op = cc in
     ap (λ (o : Op). starved (is_marked o)) same ∙ ap starved marked
-starves_to (Asks point (Some told)) op asked wants marked = let same : done_of point told ≡ op = cc in let none = never_starves point told in absurd (cc)
+starves_to (Asks point (Some told)) op asked wants marked = let same : done_at point told ≡ op = cc in let none = never_starves point told in absurd (cc)
 starves_to point op asked wants marked = absurd (cc)
 
 -- the call has ended
@@ -262,7 +262,7 @@ starving_sure h new c s = sure_made h new c (WantTurn s.op s.asked) s.arena s.wa
 -- an operation of a call that takes no memory is not the first of a unit
 pub unmarked_opens : (point : Point) (op : Op) (asked : Option AskFacts) → want point ≡ WantTurn op asked → is_marked op ≡ false → opens op ≡ false
 unmarked_opens (Turns point) op asked wants is =
-    let same : op_of point ≡ op = cc in
+    let same : op_at point ≡ op = cc in
     subst (λ o. opens o ≡ false) same (opens_marked_turn point ∙ subst (λ o. is_marked o ≡ false) (sym same) is)
-unmarked_opens (Asks point (Some told)) op asked wants is = let same : done_of point told ≡ op = cc in subst (λ o. opens o ≡ false) same (opens_not_ask point told)
+unmarked_opens (Asks point (Some told)) op asked wants is = let same : done_at point told ≡ op = cc in subst (λ o. opens o ≡ false) same (opens_not_ask point told)
 unmarked_opens point op asked wants is = absurd (cc)

@@ -6,11 +6,11 @@ use Rattle.hook_api.specs.declared.kept.Journal.{Journal}
 use Rattle.arena_core.specs.Arenas.{entry_of, room_of, rooms_after}
 use Rattle.call_table.specs.Words.{Op, Reply, Space, AskFacts}
 use Rattle.heap_core.specs.Chunks.{Apart}
-use Rattle.heap_core.specs.Records.{IsReplayed, Record, opening}
+use Rattle.heap_core.specs.Records.{IsReplayed, Record, opening_space}
 
 -- what stands for an arena that isn't there
 abbrev pub no_record : Record
-no_record = record { index = 32; space = opening 32; rooms = []; kept = [] }
+no_record = record { index = 32; space = opening_space 32; rooms = []; kept = [] }
 
 -- the arena with an index
 abbrev pub record_at : List Record → ℕ → Record
@@ -34,8 +34,8 @@ record_after r client op asked = record {
 }
 
 -- the arenas after a turn of a client in one of them
-abbrev pub turned : List Record → ℕ → ℕ → Op → Option AskFacts → List Record
-turned records arena client op asked = slice_set records arena (record_after (record_at records arena) client op asked)
+abbrev pub records_turned : List Record → ℕ → ℕ → Op → Option AskFacts → List Record
+records_turned records arena client op asked = slice_set records arena (record_after (record_at records arena) client op asked)
 
 -- the reply to that turn
 abbrev pub reply_in : List Record → ℕ → ℕ → Op → Reply
@@ -57,7 +57,7 @@ pub record AreRecorded (records : List Record) : Type 0 where
 
 -- the arena with an index when a heap begins: its journal is empty
 abbrev pub opening_record : ℕ → Record
-opening_record i = record { index = i; space = opening i; rooms = replicate 32 0; kept = [] }
+opening_record i = record { index = i; space = opening_space i; rooms = replicate 32 0; kept = [] }
 
 -- the arenas of a new heap
 abbrev pub opening_records : List Record

@@ -12,12 +12,12 @@ abbrev pub space_at : List Space → ℕ → Space
 space_at spaces i = slice_index_or spaces i absent_space
 
 -- whether an extent of the space meets the chunk
-abbrev pub owns : ℕ → Space → Bool
-owns chunk s = list_any (λ p. meets p.span (chunk_span chunk)) s.parts
+abbrev pub owns_chunk : ℕ → Space → Bool
+owns_chunk chunk s = list_any (λ p. meets p.span (chunk_span chunk)) s.parts
 
 -- no chunk is met by extents of two arenas
 abbrev pub Apart : List Space → Type 0
-Apart spaces = (chunk i j : ℕ) → owns chunk (space_at spaces i) ≡ true → owns chunk (space_at spaces j) ≡ true → i ≡ j
+Apart spaces = (chunk i j : ℕ) → owns_chunk chunk (space_at spaces i) ≡ true → owns_chunk chunk (space_at spaces j) ≡ true → i ≡ j
 
 -- the spaces of all arenas but one
 abbrev pub others_of : ℕ → List Space → List Space
@@ -25,7 +25,7 @@ others_of arena spaces = slice_set spaces arena absent_space
 
 -- the least chunk of a span that an extent of some arena meets
 abbrev pub met_in : List Space → Span → Option ℕ
-met_in spaces span = find (λ chunk. list_any (owns chunk) spaces) (chunks_of span)
+met_in spaces span = find (λ chunk. list_any (owns_chunk chunk) spaces) (chunks_of span)
 
 -- the chunk that speaks against the answer to an alloc: none where that was refused, off the space or unaligned
 abbrev pub met_by_alloc : List Space → Ask → Answer → Option ℕ
@@ -41,7 +41,7 @@ met_by_dalloc spaces ask answer = None
 
 -- the operation of an arena as it enters its journal: an alloc is told the least chunk that has an owner, and a dalloc that
 -- was refused the least one that has another one
-abbrev pub settled : List Space → ℕ → Op → Op
-settled spaces arena (GrowDone heard found) = GrowDone heard (met_by_alloc spaces heard.ask heard.answer)
-settled spaces arena (OfferDone heard found) = OfferDone heard (met_by_dalloc (others_of arena spaces) heard.ask heard.answer)
-settled spaces arena op = op
+abbrev pub with_chunk_found : List Space → ℕ → Op → Op
+with_chunk_found spaces arena (GrowDone heard found) = GrowDone heard (met_by_alloc spaces heard.ask heard.answer)
+with_chunk_found spaces arena (OfferDone heard found) = OfferDone heard (met_by_dalloc (others_of arena spaces) heard.ask heard.answer)
+with_chunk_found spaces arena op = op

@@ -8,8 +8,8 @@ use Rattle.heap_core.specs.Words.{Replied, Told, Point, Next, Go, Over, More, Go
 use Rattle.call_table.specs.Table.{WantTurn, WantAsk, step, want}
 use Rattle.call_table.specs.Knows.{Idle, Knows}
 use Rattle.call_table.specs.Rooms.{flying, needed_at}
-use Rattle.heap_core.specs.Arenas.{IsArenas, record_at, reply_in, room_in, spaces_of, turned}
-use Rattle.heap_core.specs.Chunks.{settled}
+use Rattle.heap_core.specs.Arenas.{IsArenas, record_at, reply_in, room_in, spaces_of, records_turned}
+use Rattle.heap_core.specs.Chunks.{with_chunk_found}
 use Rattle.heap_core.specs.Records.{Record}
 
 -- what a client owns in an arena
@@ -41,18 +41,18 @@ WaitsNext records c arena Nowhere = ⊥
 -- What a turn of a waiting call asks of its arena is so: it may stand with the chunk that is found, there is room for it, and
 -- the ask that it carries is at hand.
 pub record CanTurn (records : List Record) (c arena : ℕ) (op : Op) (asked : Option AskFacts) : Type 0 where
-  pub stands : IsTrue (stands (record_at records arena).space (entry_of c (settled (spaces_of records) arena op)))
+  pub stands : IsTrue (stands (record_at records arena).space (entry_of c (with_chunk_found (spaces_of records) arena op)))
   pub room : opens op ≡ false → 0 < room_in records arena c
   pub kept : IsKept (entry_of c op) asked
 
 -- the arenas after the turn that a call wants
 abbrev pub after_turn : List Record → ℕ → ℕ → Op → Option AskFacts → List Record
-after_turn records arena c op asked = turned records arena c (settled (spaces_of records) arena op) asked
+after_turn records arena c op asked = records_turned records arena c (with_chunk_found (spaces_of records) arena op) asked
 
 -- whatever turn another client takes in whatever arena, a call waits as it did, and an idle client is idle
 abbrev pub OthersStay : Type 0
 OthersStay = (records : List Record) (arena c other : ℕ) (op : Op) (asked : Option AskFacts) → IsArenas records → arena < 32 → other ≢ c
-    → IsTrue (stands (record_at records arena).space (entry_of c (settled (spaces_of records) arena op)))
+    → IsTrue (stands (record_at records arena).space (entry_of c (with_chunk_found (spaces_of records) arena op)))
     → ((at : ℕ) (point : Point) → Waits records other at point → Waits (after_turn records arena c op asked) other at point)
     × (IsIdle records other → IsIdle (after_turn records arena c op asked) other)
 
@@ -61,7 +61,7 @@ abbrev pub TurnsLeadOn : Type 0
 TurnsLeadOn = (records : List Record) (c arena : ℕ) (point : Point) (op : Op) (asked : Option AskFacts) → IsArenas records → c < 32
     → Waits records c arena point → want point ≡ WantTurn op asked
     → CanTurn records c arena op asked
-    × WaitsNext (after_turn records arena c op asked) c arena (step point (Replied (reply_in records arena c (settled (spaces_of records) arena op))))
+    × WaitsNext (after_turn records arena c op asked) c arena (step point (Replied (reply_in records arena c (with_chunk_found (spaces_of records) arena op))))
 
 -- whatever answer of its kind an ask has that a waiting call wants, the call waits on, and nothing else changes
 abbrev pub AsksLeadOn : Type 0

@@ -10,8 +10,8 @@ use Rattle.call_table.specs.Reads.{aimed, taken_next}
 use Rattle.call_table.specs.Runs.{Moment, after, starved_after}
 use Rattle.call_table.specs.Table.{Want, WantTurn, WantAsk, is_marked, want}
 use Rattle.heap_core.specs.declared.heaps.Did.TheVariants.{Idle, Turn, Ask}
-use Rattle.heap_core.specs.Arenas.{opening_records, record_at, reply_in, spaces_of, turned}
-use Rattle.heap_core.specs.Chunks.{settled}
+use Rattle.heap_core.specs.Arenas.{opening_records, record_at, reply_in, spaces_of, records_turned}
+use Rattle.heap_core.specs.Chunks.{with_chunk_found}
 use Rattle.heap_core.specs.Records.{Record}
 use Rattle.heap_core.specs.declared.heaps.Stepped.{Stepped}
 use Rattle.heap_core.specs.Seats.{Seat, answer_of, begun, first_seat, holder_of, seat_at, seat_of}
@@ -42,7 +42,7 @@ moment_after h c call item = after (moment_of call (seat_at h.seats c).desk) ite
 
 -- the operation of the turn that a call makes, with the chunk that is found
 abbrev pub op_for : HeapFacts → CallFacts → Op → Op
-op_for h call op = settled (spaces_of h.records) call.stage.arena op
+op_for h call op = with_chunk_found (spaces_of h.records) call.stage.arena op
 
 -- the reply to that turn
 abbrev pub replied : HeapFacts → ℕ → CallFacts → Op → Item
@@ -50,7 +50,7 @@ replied h c call op = Replied (reply_in h.records call.stage.arena c (op_for h c
 
 -- the arenas after that turn
 abbrev pub records_after : HeapFacts → ℕ → CallFacts → Op → Option AskFacts → List Record
-records_after h c call op asked = turned h.records call.stage.arena c (op_for h call op) asked
+records_after h c call op asked = records_turned h.records call.stage.arena c (op_for h call op) asked
 
 -- the heap after that turn
 abbrev pub turned_on : HeapFacts → ℕ → CallFacts → Op → Option AskFacts → HeapFacts
@@ -63,21 +63,21 @@ told_to h c call asked =
     record (seated h c (seat_of c (moment_after h c call (Told asked)))) { heard = h.heard ++ asked ∷ [] }
 
 -- who holds a region at the address, if there is one
-abbrev pub holder_at : List Seat → Option ℕ → Option ℕ
-holder_at seats None = None
-holder_at seats (Some addr) = holder_of addr seats
+abbrev pub holding_client : List Seat → Option ℕ → Option ℕ
+holding_client seats None = None
+holding_client seats (Some addr) = holder_of addr seats
 
 -- the client that holds the region which a call takes over next to free it, if one does: it publishes that first, and for once
 abbrev pub holder_for : HeapFacts → CallFacts → Option ℕ
-holder_for h call = holder_at h.seats (taken_next call.stage.next)
+holder_for h call = holding_client h.seats (taken_next call.stage.next)
 
 -- that region
-abbrev pub region_at : List Seat → Option ℕ → ℕ → Option Held
-region_at seats None holder = None
-region_at seats (Some addr) holder = held_at addr (seat_at seats holder).desk
+abbrev pub region_in_seat : List Seat → Option ℕ → ℕ → Option Held
+region_in_seat seats None holder = None
+region_in_seat seats (Some addr) holder = held_at addr (seat_at seats holder).desk
 
 abbrev pub region_for : HeapFacts → CallFacts → ℕ → Option Held
-region_for h call holder = region_at h.seats (taken_next call.stage.next) holder
+region_for h call holder = region_in_seat h.seats (taken_next call.stage.next) holder
 
 -- the holder of the region has it no more
 abbrev pub parted : HeapFacts → ℕ → Held → HeapFacts
@@ -88,7 +88,7 @@ abbrev pub published_for : HeapFacts → ℕ → CallFacts → ℕ → Option He
 published_for h c call holder None = h
 published_for h c call holder (Some region) =
     record (seated (parted h holder region) c (record (seat_at (parted h holder region).seats c) { call = Some (aimed call region.arena) })) {
-      records = turned h.records region.arena holder (Publish region.addr) None;
+      records = records_turned h.records region.arena holder (Publish region.addr) None;
     }
 
 -- the heap after a turn for a call: the one by which a holder publishes, if there is one, and else the one that the call wants
@@ -120,11 +120,11 @@ IsStarved h c call op asked new = (new ≡ starved_on h c call) ⊎ ((holder_for
 
 -- what a step told, and the heap and the shelf after it, where the call wants this: a turn was made, or memory was wanting,
 -- or the arena's box answered the ask
-abbrev pub IsMade : HeapFacts → Shelf → ℕ → CallFacts → Want → Stepped → HeapFacts → Shelf → Type 0
-IsMade h shelf c call (WantTurn op asked) stepped new shelf' = (stepped.did ≡ Turn) × (shelf' ≡ shelf)
+abbrev pub IsStepFor : HeapFacts → Shelf → ℕ → CallFacts → Want → Stepped → HeapFacts → Shelf → Type 0
+IsStepFor h shelf c call (WantTurn op asked) stepped new shelf' = (stepped.did ≡ Turn) × (shelf' ≡ shelf)
     × (((new ≡ turned_for h c call op asked (holder_for h call)) × (stepped.ended ≡ answered_by h c call op (holder_for h call)))
     ⊎ (IsStarved h c call op asked new × (stepped.ended ≡ Some NoMemory)))
-IsMade h shelf c call (WantAsk ask) stepped new shelf' = (asked : AskFacts) × (stepped.did ≡ Ask asked) × (asked.ask ≡ ask)
+IsStepFor h shelf c call (WantAsk ask) stepped new shelf' = (asked : AskFacts) × (stepped.did ≡ Ask asked) × (asked.ask ≡ ask)
     × (asked.box_no ≡ (record_at h.records call.stage.arena).space.box_no) × AskStep shelf asked shelf'
     × (new ≡ told_to h c call asked) × (stepped.ended ≡ answer_of (moment_after h c call (Told asked)))
 
@@ -136,7 +136,7 @@ WantedAt next P = ⊥
 -- what a step of a client told, and the heap and the shelf after it: nothing happened where the client has no open call
 abbrev pub IsStep : HeapFacts → Shelf → ℕ → Option CallFacts → Stepped → HeapFacts → Shelf → Type 0
 IsStep h shelf c None stepped new shelf' = (stepped.did ≡ Idle) × (stepped.ended ≡ None) × (new ≡ h) × (shelf' ≡ shelf)
-IsStep h shelf c (Some call) stepped new shelf' = WantedAt call.stage.next (λ want. IsMade h shelf c call want stepped new shelf')
+IsStep h shelf c (Some call) stepped new shelf' = WantedAt call.stage.next (λ want. IsStepFor h shelf c call want stepped new shelf')
 
 -- ---- a turn that takes no memory
 

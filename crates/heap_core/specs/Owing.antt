@@ -3,7 +3,7 @@ use Rattle.std.specs.Prelude.{◌≡◌, ◌<◌, ◌≤◌, ℕ, ◌+◌, List,
 use Rattle.arena_core.specs.Arenas.{opens}
 use Rattle.heap_core.specs.Words.{Point, Turns, Asks, Tells, Next, Go}
 use Rattle.call_table.specs.Calls.{CallFacts}
-use Rattle.call_table.specs.Table.{op_of}
+use Rattle.call_table.specs.Table.{op_at}
 use Rattle.heap_core.specs.Arenas.{room_in}
 use Rattle.heap_core.specs.Logs.{owed_to}
 use Rattle.heap_core.specs.Records.{Record}
@@ -13,7 +13,7 @@ use Rattle.heap_core.specs.Sitting.{SeatSound}
 -- the asks that may come from a point on, where the client has so much room: one before each turn without memory, and one more,
 -- but none where a turn comes first that takes memory
 abbrev pub asks_at : ℕ → Point → ℕ
-asks_at room (Turns point) = if opens (op_of point) then 0 else room + 1
+asks_at room (Turns point) = if opens (op_at point) then 0 else room + 1
 asks_at room (Asks point None) = room + 1
 asks_at room (Asks point (Some asked)) = room
 asks_at room (Tells span is_committed) = 1

@@ -17,8 +17,8 @@ pub record Record : Type 0 where
   pub kept : List KeptFacts
 
 -- what the arena with an index begins as: arena 0 is there, and no other
-abbrev pub opening : ℕ → Space
-opening index = if index == 0 then first_space else absent_space
+abbrev pub opening_space : ℕ → Space
+opening_space index = if index == 0 then first_space else absent_space
 
 -- the entries of a journal
 abbrev pub entries_of : List KeptFacts → List Entry
@@ -30,8 +30,8 @@ shown r = record { index = r.index; space = r.arena.space; rooms = r.arena.rooms
 
 -- a space is what a journal leaves of an opening, and each entry of that may stand where it comes
 pub record IsReplayed (index : ℕ) (kept : List KeptFacts) (s : Space) : Type 0 where
-  pub stand : all_stand (opening index) (entries_of kept) ≡ true
-  pub space : s ≡ replay (opening index) (entries_of kept)
+  pub stand : all_stand (opening_space index) (entries_of kept) ≡ true
+  pub space : s ≡ replay (opening_space index) (entries_of kept)
 
 -- how many operations without memory may follow an operation at most that takes memory, by all that it may empty
 abbrev pub most_room : Op → ℕ

@@ -47,13 +47,13 @@ held_by addr seats None = None
 held_by addr seats (Some holder) = held_at addr (seat_at seats holder).desk
 
 -- a free of a region that the client holds, or else of one that another client holds
-abbrev pub free_of : ℕ → Option Held → Option Held → Request
-free_of addr None (Some region) = FreeForeign addr region.arena
-free_of addr own others = Free addr
+abbrev pub free_request : ℕ → Option Held → Option Held → Request
+free_request addr None (Some region) = FreeForeign addr region.arena
+free_request addr own others = Free addr
 
 -- what a client asks for: a free of a region that another client holds takes it over first
 abbrev pub asked_for : List Seat → ℕ → Request → Request
-asked_for seats c (Free addr) = free_of addr (held_at addr (seat_at seats c).desk) (held_by addr seats (holder_of addr seats))
+asked_for seats c (Free addr) = free_request addr (held_at addr (seat_at seats c).desk) (held_by addr seats (holder_of addr seats))
 asked_for seats c request = request
 
 -- the moment at which the request of a client begins

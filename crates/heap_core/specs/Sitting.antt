@@ -17,7 +17,7 @@ use Rattle.call_table.specs.Needs.{Goes}
 use Rattle.call_table.specs.Runs.{Moment, after, begin, starved_after}
 use Rattle.call_table.specs.Table.{WantTurn, WantAsk, is_marked, step, want}
 use Rattle.heap_core.specs.Arenas.{IsArenas, opening_records, record_at, reply_in, spaces_of}
-use Rattle.heap_core.specs.Chunks.{settled}
+use Rattle.heap_core.specs.Chunks.{with_chunk_found}
 use Rattle.heap_core.specs.Clients.{CanTurn, IsIdle, Waits, after_turn, mine_in}
 use Rattle.heap_core.specs.Records.{Record}
 use Rattle.heap_core.specs.Seats.{Seat, first_seat, seat_of}
@@ -28,8 +28,8 @@ in_hand None = []
 in_hand (Some region) = region ∷ []
 
 -- the regions that a client has: those that it holds, those that it has cached, and the one in hand
-abbrev pub regions_of : DeskFacts → List Held
-regions_of desk = map (λ (e : ℕ × Held). e.1) desk.held ++ flat_map (λ list. list) desk.cached ++ in_hand desk.hand
+abbrev pub regions_of_desk : DeskFacts → List Held
+regions_of_desk desk = map (λ (e : ℕ × Held). e.1) desk.held ++ flat_map (λ list. list) desk.cached ++ in_hand desk.hand
 
 -- whether a region is at the address and of the class
 abbrev pub is_region : ℕ → ℕ → SpaceRegion → Bool
@@ -42,11 +42,11 @@ is_region_in arena addr class r = r.arena == arena && r.addr == addr && r.class 
 -- the regions that a client holds in the arenas are, each once, those that it has
 abbrev pub IsInHands : List Record → ℕ → DeskFacts → Type 0
 IsInHands records c desk = (arena addr class : ℕ)
-    → count_by (is_region addr class) (mine_in records c arena).regions ≡ count_by (is_region_in arena addr class) (regions_of desk)
+    → count_by (is_region addr class) (mine_in records c arena).regions ≡ count_by (is_region_in arena addr class) (regions_of_desk desk)
 
 -- What a client has is so among the arenas: its regions are those that it holds there, each that is held stands by its address
 -- and each that is cached in the list of its class, and the client is bound to the arena from which it allocates.
-pub record Has (records : List Record) (c : ℕ) (desk : DeskFacts) : Type 0 where
+pub record HasRegions (records : List Record) (c : ℕ) (desk : DeskFacts) : Type 0 where
   pub hands : IsInHands records c desk
   pub keyed : All (λ (e : ℕ × Held). e.0 ≡ e.1.addr) desk.held
   pub lists : length desk.cached ≡ 41
@@ -55,8 +55,8 @@ pub record Has (records : List Record) (c : ℕ) (desk : DeskFacts) : Type 0 whe
   pub bound : (mine_in records c desk.arena).bound ≡ true
 
 -- A client without an open call has nothing in flight, and nothing in hand.
-pub record Rests (records : List Record) (c : ℕ) (desk : DeskFacts) : Type 0 where
-  pub has : Has records c desk
+pub record IsAtRest (records : List Record) (c : ℕ) (desk : DeskFacts) : Type 0 where
+  pub has : HasRegions records c desk
   pub idle : IsIdle records c
   pub empty : desk.hand ≡ None
 
@@ -142,7 +142,7 @@ Suits desk request arena (Tells span is_committed) = desk.hand ≡ None
 
 -- A client's call waits at a point of an arena, and what the client has suits it.
 pub record Sits (records : List Record) (c : ℕ) (desk : DeskFacts) (request : Request) (arena : ℕ) (point : Point) : Type 0 where
-  pub has : Has records c desk
+  pub has : HasRegions records c desk
   pub waits : Waits records c arena point
   pub suits : Suits desk request arena point
 
@@ -155,7 +155,7 @@ SitsAt records c desk call next = ⊥
 
 -- a client rests, or sits at the point of its open call
 abbrev pub IsSeated : List Record → ℕ → DeskFacts → Option CallFacts → Type 0
-IsSeated records c desk None = Rests records c desk
+IsSeated records c desk None = IsAtRest records c desk
 IsSeated records c desk (Some call) = (call.client ≡ c) × SitsAt records c desk call call.stage.next
 
 -- a client of a heap is as it has to be
@@ -171,13 +171,13 @@ Comes records c at = Goes at.stage.next × SeatSound records c (seat_of c at)
 -- a client that rests may begin any request in range
 abbrev pub StartsSit : Type 0
 StartsSit = (records : List Record) (c : ℕ) (desk : DeskFacts) (request : Request) → IsArenas records → c < 32
-    → Rests records c desk → IsInRange request → Comes records c (begin request desk)
+    → IsAtRest records c desk → IsInRange request → Comes records c (begin request desk)
 
 -- the turn that a call wants can be made, and leads on, also where more goes back next and no memory is left to name it
 abbrev pub TurnsSit : Type 0
 TurnsSit = (records : List Record) (c : ℕ) (desk : DeskFacts) (call : CallFacts) (point : Point) (op : Op) (asked : Option AskFacts)
     → IsArenas records → c < 32 → call.stage.next ≡ Go point → Sits records c desk call.request call.stage.arena point → want point ≡ WantTurn op asked
-    → let reply : Item = Replied (reply_in records call.stage.arena c (settled (spaces_of records) call.stage.arena op)) in
+    → let reply : Item = Replied (reply_in records call.stage.arena c (with_chunk_found (spaces_of records) call.stage.arena op)) in
     let records' : List Record = after_turn records call.stage.arena c op asked in
     CanTurn records c call.stage.arena op asked × Comes records' c (after (moment_of call desk) reply)
     × (step point reply ≡ More → SeatSound records' c (seat_of c (starved_after (moment_of call desk) reply)))
@@ -197,7 +197,7 @@ StarvesSit = (records : List Record) (c : ℕ) (desk : DeskFacts) (call : CallFa
 -- whatever turn another client takes, a client is as it has to be
 abbrev pub OthersSit : Type 0
 OthersSit = (records : List Record) (arena c other : ℕ) (op : Op) (asked : Option AskFacts) (seat : Seat) → IsArenas records → arena < 32 → other ≢ c
-    → IsTrue (stands (record_at records arena).space (entry_of c (settled (spaces_of records) arena op)))
+    → IsTrue (stands (record_at records arena).space (entry_of c (with_chunk_found (spaces_of records) arena op)))
     → SeatSound records other seat → SeatSound (after_turn records arena c op asked) other seat
 
 -- a client may publish a region that it holds at any moment, also while it has an open call, and is as it has to be without it

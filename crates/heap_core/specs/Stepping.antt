@@ -10,8 +10,8 @@ use Rattle.call_table.specs.Reads.{taken_next}
 use Rattle.call_table.specs.Table.{Want, WantTurn, WantAsk, is_marked, want}
 use Rattle.call_table.specs.declared.needs.Turn.{Turn}
 use Rattle.arena_core.specs.Arenas.{opens}
-use Rattle.heap_core.specs.Arenas.{reply_in, room_in, spaces_of, turned}
-use Rattle.heap_core.specs.Chunks.{settled}
+use Rattle.heap_core.specs.Arenas.{reply_in, room_in, spaces_of, records_turned}
+use Rattle.heap_core.specs.Chunks.{with_chunk_found}
 use Rattle.heap_core.specs.Clients.{after_turn}
 use Rattle.heap_core.specs.Logs.{owed_to}
 use Rattle.heap_core.specs.Records.{Record}
@@ -50,13 +50,13 @@ HolderIs h call (Some found) = (found.0 < 32) × (holder_for h call ≡ Some fou
 
 -- the heap after a client published a region
 abbrev pub IsPublished : HeapFacts → ℕ → Held → HeapFacts → Type 0
-IsPublished h holder region new = new ≡ record (parted h holder region) { records = turned h.records region.arena holder (Publish region.addr) None }
+IsPublished h holder region new = new ≡ record (parted h holder region) { records = records_turned h.records region.arena holder (Publish region.addr) None }
 
 -- A turn was made with the places that it takes for the asks that may follow it, or memory was wanting for it, which happens only
 -- where it takes some.
 pub record MadeTurn {E : Type 0} (records : List Record) (owed : List ℕ) (turn : Turn) (made : Result Reply E) (records' : List Record) (owed' : List ℕ) : Type 0 where
   pub after : OnOk made (records' ≡ after_turn records turn.arena turn.client turn.op turn.asked)
-  pub reply : IfOk made (λ told. told ≡ reply_in records turn.arena turn.client (settled (spaces_of records) turn.arena turn.op))
+  pub reply : IfOk made (λ told. told ≡ reply_in records turn.arena turn.client (with_chunk_found (spaces_of records) turn.arena turn.op))
   pub err : OnErr made (records' ≡ records)
   pub sure : opens turn.op ≡ false → IsOk made
   pub others : (other : ℕ) → other ≢ turn.client → owed_to owed' other ≡ owed_to owed other

@@ -7,9 +7,9 @@ ghost use Rattle.space_model.specs.Step.{stands};
 ghost use Rattle.space_model.specs.Own.{mine};
 ghost use Rattle.hook_api.specs.Kept.{IsKept};
 ghost use Rattle.arena_core.specs.Arenas.{all_rooms, entry_of, opens};
-ghost use Rattle.heap_core.specs.Arenas.{IsArenas, journal_of, opening_records, record_at, reply_in, room_in, spaces_of, turned};
+ghost use Rattle.heap_core.specs.Arenas.{IsArenas, journal_of, opening_records, record_at, reply_in, room_in, spaces_of, records_turned};
 ghost use Rattle.heap_core.specs.Records.{IsReplayed, most_room};
-ghost use Rattle.heap_core.specs.Chunks.{Apart, met_by_alloc, met_by_dalloc, met_in, others_of, owns, settled};
+ghost use Rattle.heap_core.specs.Chunks.{Apart, met_by_alloc, met_by_dalloc, met_in, others_of, owns_chunk, with_chunk_found};
 
 use crate::records::Recorded;
 use arena_core::Arena;
@@ -44,7 +44,7 @@ impl Model for Arenas {
 
 /// Whether some of the arenas owns a chunk.
 fn any_owns(records: &[Recorded], chunk: u64) -> bool
-    ensures { result ≡ list_any (λ r. owns chunk r.space) records.now }
+    ensures { result ≡ list_any (λ r. owns_chunk chunk r.space) records.now }
 {
     records
         .iter()
@@ -53,7 +53,7 @@ fn any_owns(records: &[Recorded], chunk: u64) -> bool
 
 /// Whether some arena owns a chunk.
 fn is_owned(records: &[Recorded], chunk: u64) -> bool
-    ensures { result ≡ list_any (owns chunk) (spaces_of records.now) }
+    ensures { result ≡ list_any (owns_chunk chunk) (spaces_of records.now) }
 {
     any_owns(records, chunk)
 }
@@ -61,7 +61,7 @@ fn is_owned(records: &[Recorded], chunk: u64) -> bool
 /// Whether some arena but one owns a chunk.
 fn is_owned_elsewhere(records: &[Recorded], arena: u32, chunk: u64) -> bool
     requires { arena < length records.now }
-    ensures { result ≡ list_any (owns chunk) (others_of arena (spaces_of records.now)) }
+    ensures { result ≡ list_any (owns_chunk chunk) (others_of arena (spaces_of records.now)) }
 {
     let arena = arena as usize;
     any_owns(&records[..arena], chunk) || any_owns(&records[arena + 1..], chunk)
@@ -126,7 +126,7 @@ fn met_by_dalloc(records: &[Recorded], arena: u32, heard: Heard) -> Option<u64>
 /// Puts the chunk that speaks against the answer which an operation of an arena carries into it, as it enters the journal.
 fn settle(records: &[Recorded], arena: u32, op: &mut Op)
     requires { arena < length records.now }
-    ensures { op.new ≡ settled (spaces_of records.now) arena op.old }
+    ensures { op.new ≡ with_chunk_found (spaces_of records.now) arena op.old }
 {
     match op {
         Op::GrowDone { heard, found } => *found = met_by_alloc(records, *heard),
@@ -158,16 +158,16 @@ impl Arenas {
         asked: &Option<Asked>,
     ) -> Result<Reply, NoMemory>
         requires arena { arena < 32 }
-        requires stands { IsTrue (stands (record_at self.old arena).space (entry_of client (settled (spaces_of self.old) arena op.old))) }
+        requires stands { IsTrue (stands (record_at self.old arena).space (entry_of client (with_chunk_found (spaces_of self.old) arena op.old))) }
         requires room { opens op.old ≡ false → 0 < room_in self.old arena client }
         requires kept { IsKept (entry_of client op.old) asked.now }
-        ensures after { OnOk result (self.new ≡ turned self.old arena client (settled (spaces_of self.old) arena op.old) asked.now) }
-        ensures reply { IfOk result (λ told. told ≡ reply_in self.old arena client (settled (spaces_of self.old) arena op.old)) }
+        ensures after { OnOk result (self.new ≡ records_turned self.old arena client (with_chunk_found (spaces_of self.old) arena op.old) asked.now) }
+        ensures reply { IfOk result (λ told. told ≡ reply_in self.old arena client (with_chunk_found (spaces_of self.old) arena op.old)) }
         ensures room { OnOk result (room_in self.new arena client ≤ all_rooms (record_at self.old arena).rooms + most_room op.old) }
         ensures err { OnErr result (self.new ≡ self.old) }
         ensures sure { opens op.old ≡ false → IsOk result }
         ensures others { (other : ℕ) → other ≢ client → (i : ℕ) → mine other (record_at self.new i).space ≡ mine other (record_at self.old i).space }
-        ensures op { op.new ≡ settled (spaces_of self.old) arena op.old }
+        ensures op { op.new ≡ with_chunk_found (spaces_of self.old) arena op.old }
     {
         settle(&self.records, arena, op);
         self.records[arena as usize].turn(client, op, asked)

@@ -7,7 +7,7 @@ ghost use Rattle.call_table.specs.Laws.{IsInRange};
 ghost use Rattle.thread_cache.specs.Desks.{held_at};
 ghost use Rattle.heap_core.specs.Arenas.{IsArenas, journal_of, record_at};
 ghost use Rattle.heap_core.specs.Heaps.{opening_heap, started};
-ghost use Rattle.heap_core.specs.Seats.{answer_of, asked_for, begun, free_of, held_by, holder_of, seat_at};
+ghost use Rattle.heap_core.specs.Seats.{answer_of, asked_for, begun, free_request, held_by, holder_of, seat_at};
 ghost use Rattle.heap_core.specs.Sitting.{SeatSound};
 
 use crate::Arenas;
@@ -88,7 +88,7 @@ fn held_by(clients: &[Client], addr: u64) -> Option<Held>
 
 /// A free of a region that the client holds, or else of one that another client holds.
 fn free_of(addr: u64, other: Option<Held>) -> Request
-    ensures { result ≡ free_of addr None other }
+    ensures { result ≡ free_request addr None other }
 {
     match other {
         Some(region) => Request::FreeForeign {

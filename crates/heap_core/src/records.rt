@@ -7,7 +7,7 @@ ghost use Rattle.space_model.specs.Step.{reply_to, space_after, stands};
 ghost use Rattle.hook_api.specs.Kept.{IsKept};
 ghost use Rattle.arena_core.specs.Arenas.{all_rooms, entry_of, given_by, opens, room_of, rooms_after};
 ghost use Rattle.heap_core.specs.Arenas.{record_after};
-ghost use Rattle.heap_core.specs.Records.{IsReplayed, most_room, opening};
+ghost use Rattle.heap_core.specs.Records.{IsReplayed, most_room, opening_space};
 
 use arena_core::Arena;
 use hook_api::{Asked, Journal, Slot, Writing};
@@ -75,7 +75,7 @@ fn make_places(journal: &mut Writing, arena: &Arena, op: &Op) -> Result<(), NoMe
 impl Recorded {
     /// The arena with an index, with an empty journal: arena 0 is there, and no other.
     pub fn new(alloc: Global, index: u32) -> Result<Recorded, NoMemory>
-        ensures { IfOk result (λ r. r ≡ record { index = index; space = opening index; rooms = replicate 32 0; kept = [] }) }
+        ensures { IfOk result (λ r. r ≡ record { index = index; space = opening_space index; rooms = replicate 32 0; kept = [] }) }
     {
         let space = if index == 0 {
             Space::first(alloc)

@@ -1,10 +1,10 @@
 -- After a step an arena owns just the chunks that its extents meet.
-use Rattle.heap_shared.proofs.Words.{◌≡◌, ◌⊎◌, inl, inr, ℕ, ◌+◌, ◌*◌, ◌-◌, ◌/◌, ◌%◌, ◌<◌, ◌≤◌, ◌==◌, ◌&&◌, ◌||◌, Bool, true, false, not, cond, List, Option, None, Some, find, max, refl, sym, ◌∙◌, ap, subst, arith, nat_lt, All, suc, zero, option_map, list_any, range_with_len, ltb-true, nat_tests, Any-from_list_any, list_any-from_Any, Share, owns, Ask, Alloc, Dalloc, Answer, Refuses, Placed, Op, GrowDone, Offer, OfferDone, DestroyTake, Reply, Doomed, Grown, Kept, OffSpace, Unaligned, Meets, Part, Span, Space, holders, IsPlaced, chunk_span, chunks_of, end_of, has_page, meets, Sound, after_offer, keep_offer, without_offer, after_grow, grow_unless, is_in_space, is_owned, op_stands, step_of, granted_by, is_in_dalloc, any_counts, counted_any, ones, op_keeps, opens, Claimed, IsBefore, Released, found_in, granted_span, is_in, is_met, refused_span, touched, wanted}
+use Rattle.heap_shared.proofs.Words.{◌≡◌, ◌⊎◌, inl, inr, ℕ, ◌+◌, ◌*◌, ◌-◌, ◌/◌, ◌%◌, ◌<◌, ◌≤◌, ◌==◌, ◌&&◌, ◌||◌, Bool, true, false, not, cond, List, Option, None, Some, find, max, refl, sym, ◌∙◌, ap, subst, arith, nat_lt, All, suc, zero, option_map, list_any, range_with_len, ltb-true, nat_tests, Any-from_list_any, list_any-from_Any, Share, owns, Ask, Alloc, Dalloc, Answer, Refuses, Placed, Op, GrowDone, Offer, OfferDone, DestroyTake, Reply, Doomed, Grown, Kept, OffSpace, Unaligned, Meets, Part, Span, Space, holders, IsPlaced, chunk_span, chunks_of, end_of, has_page, meets, Sound, after_offer, keep_offer, without_offer, after_grow, grow_unless, is_in_space, is_owned, op_stands, step_of, granted_by, is_in_dalloc, any_counts, counted_any, ones, op_keeps, opens, Claimed, IsBefore, Released, found_in, granted_span, is_met_by, is_met, refused_span, touched, wanted}
 
 -- ---- chunks and their pages
 
 -- a page in the space of a span is in a chunk of the space that the span meets
-page_in : (page chunk : ℕ) (s : Span) → 512 ≤ page → page < 536870912 → has_page page s ≡ true → has_page page (chunk_span chunk) ≡ true → is_in chunk (Some s) ≡ true
+page_in : (page chunk : ℕ) (s : Span) → 512 ≤ page → page < 536870912 → has_page page s ≡ true → has_page page (chunk_span chunk) ≡ true → is_met_by chunk (Some s) ≡ true
 page_in page chunk s low high in_span in_chunk = grind (arith, nat_tests)
 
 -- two spans that aren't empty and meet share a page
@@ -60,10 +60,10 @@ none_found f low (suc n) k none least most =
 
 -- the page is in the span that is claimed, of which no chunk was found in another arena
 abbrev Clear : ℕ → Option Span → Option ℕ → Type 0
-Clear page span found = (s : Span) × (span ≡ Some s) × (has_page page s ≡ true) × ((k : ℕ) → found ≡ Some k → is_in k (Some s) ≡ true → ⊥)
+Clear page span found = (s : Span) × (span ≡ Some s) × (has_page page s ≡ true) × ((k : ℕ) → found ≡ Some k → is_met_by k (Some s) ≡ true → ⊥)
 
 -- a chunk of a span that was found speaks against it
-owner_found : (parts : List Part) (s : Span) (k : ℕ) → find (is_owned (Some k) parts) (chunks_of s) ≡ None → is_in k (Some s) ≡ true → 512 ≤ s.first → ⊥
+owner_found : (parts : List Part) (s : Span) (k : ℕ) → find (is_owned (Some k) parts) (chunks_of s) ≡ None → is_met_by k (Some s) ≡ true → 512 ≤ s.first → ⊥
 owner_found parts s k none within low =
     let at : (s.first / 512 ≤ k) × (k < s.first / 512 + ((end_of s + 511) / 512 - s.first / 512)) = (grind (arith, nat_tests), grind (arith, nat_tests)) in
     let unowned = none_found (is_owned (Some k) parts) (s.first / 512) _ k none at.0 at.1 in
@@ -114,12 +114,12 @@ came_clear c s op page reply told came = absurd (cc)
 
 -- ---- what a step leaves
 
-outside : (page chunk : ℕ) (s : Span) → 512 ≤ page → page < 536870912 → has_page page (chunk_span chunk) ≡ true → is_in chunk (Some s) ≡ false → not (has_page page s) ≡ true
+outside : (page chunk : ℕ) (s : Span) → 512 ≤ page → page < 536870912 → has_page page (chunk_span chunk) ≡ true → is_met_by chunk (Some s) ≡ false → not (has_page page s) ≡ true
 outside page chunk s low high in_chunk away =
     elim (has_page page s) as (λ v. has_page page s ≡ v → not v ≡ true) [ true ↦ λ here. let near = page_in page chunk s low high here in_chunk in absurd (cc) | false ↦ λ gone. refl ] refl
 
 -- a page that isn't in the span that was touched stays granted
-stays_granted : (page chunk : ℕ) (op : Op) (reply : Reply) → 512 ≤ page → page < 536870912 → has_page page (chunk_span chunk) ≡ true → is_in chunk (touched op reply) ≡ false → granted_by page true op reply ≡ true
+stays_granted : (page chunk : ℕ) (op : Op) (reply : Reply) → 512 ≤ page → page < 536870912 → has_page page (chunk_span chunk) ≡ true → is_met_by chunk (touched op reply) ≡ false → granted_by page true op reply ≡ true
 stays_granted page chunk (GrowDone heard found) (Grown span committed) low high in_chunk away = refl
 stays_granted page chunk (OfferDone heard found) Kept low high in_chunk away = refl
 stays_granted page chunk (Offer span) reply low high in_chunk away = outside page chunk span low high in_chunk away
@@ -131,7 +131,7 @@ granted_some true h = refl
 granted_some false h = absurd (omega (arith, h))
 
 -- what is claimed is touched
-wanted_touched : (chunk : ℕ) (op : Op) (reply : Reply) → is_in chunk (touched op reply) ≡ false → is_in chunk (wanted op) ≡ false
+wanted_touched : (chunk : ℕ) (op : Op) (reply : Reply) → is_met_by chunk (touched op reply) ≡ false → is_met_by chunk (wanted op) ≡ false
 wanted_touched chunk (GrowDone heard found) reply away = away
 wanted_touched chunk (OfferDone heard found) reply away = away
 wanted_touched chunk op reply away = refl
@@ -151,14 +151,14 @@ module _ (c : ℕ) (s : Space) (op : Op) (sound : Sound s) (stands : op_stands s
 
   -- the chunk was claimed, and none was found
   abbrev pub IsGained : Type 0
-  IsGained = (is_in chunk (wanted op) ≡ true) × ((k : ℕ) → found_in op ≡ Some k → is_in k (wanted op) ≡ true → ⊥)
+  IsGained = (is_met_by chunk (wanted op) ≡ true) × ((k : ℕ) → found_in op ≡ Some k → is_met_by k (wanted op) ≡ true → ⊥)
 
   -- how often a page is in an extent after the step, where it was in one before or in none
   pages : (page : ℕ) (before : Bool) → nat_lt 0 (holders page s.parts) ≡ before → holders page t.parts ≡ ones (granted_by page before op reply)
   pages page before is = (op_keeps c s op sound stands).pages page before (let few = sound.owners page in grind (arith, nat_tests))
 
   -- a chunk that the step didn't touch is still met
-  still_met : is_in chunk (touched op reply) ≡ false → is_met chunk s ≡ true → is_met chunk t ≡ true
+  still_met : is_met_by chunk (touched op reply) ≡ false → is_met chunk s ≡ true → is_met chunk t ≡ true
   still_met away met =
       let p = met_page chunk s.parts sound.placed met in
       let some : nat_lt 0 (holders p.page s.parts) ≡ true = (let held = p.held in grind (arith, nat_tests)) in
@@ -172,13 +172,13 @@ module _ (c : ℕ) (s : Space) (op : Op) (sound : Sound s) (stands : op_stands s
         | true ↦ λ was. inl (page_met chunk p.page s.parts p.in_chunk (ltb-true _ _ was))
         | false ↦ λ new.
             let clear = came_clear c s op p.page reply refl (granted_some _ (omega (arith, p.held, pages p.page false new))) in
-            inr (ap (is_in chunk) clear.1 ∙ page_in p.page chunk clear.0 p.low p.high clear.2 p.in_chunk, λ k is within. clear.3 k is (sym (ap (is_in k) clear.1) ∙ within))
+            inr (ap (is_met_by chunk) clear.1 ∙ page_in p.page chunk clear.0 p.low p.high clear.2 p.in_chunk, λ k is within. clear.3 k is (sym (ap (is_met_by k) clear.1) ∙ within))
       ] refl
 
   -- after the claims, the step and the releases an arena owns just the chunks that its extents meet
   pub owns_after : (old mid new : Share) → ((k : ℕ) → owns k old ≡ is_met k s) → Claimed (wanted op) (found_in op) old mid → Released (touched op reply) t mid new → owns chunk new ≡ is_met chunk t
   owns_after old mid new owned claimed released =
-      released chunk ∙ elim (is_in chunk (touched op reply)) as (λ v. is_in chunk (touched op reply) ≡ v → (owns chunk mid && (is_met chunk t || not v)) ≡ is_met chunk t) [
+      released chunk ∙ elim (is_met_by chunk (touched op reply)) as (λ v. is_met_by chunk (touched op reply) ≡ v → (owns chunk mid && (is_met chunk t || not v)) ≡ is_met chunk t) [
         | false ↦ λ away. outside_same away
         | true ↦ λ near. elim (is_met chunk t) as (λ m. is_met chunk t ≡ m → (owns chunk mid && (m || false)) ≡ m) [
           | false ↦ λ none. none_left (owns chunk mid)
@@ -198,7 +198,7 @@ module _ (c : ℕ) (s : Space) (op : Op) (sound : Sound s) (stands : op_stands s
       was_claimed (inl was) = claimed.kept chunk (owned chunk ∙ was)
       was_claimed (inr new) = claimed.all chunk new.0 (elim (found_in op) as (λ o. found_in op ≡ o → IsBefore chunk o) [ None ↦ λ e. tt | Some k ↦ λ e. absurd (new.1 k e (claimed.within k e)) ] refl)
 
-      same : is_in chunk (touched op reply) ≡ false → is_met chunk s ≡ is_met chunk t
+      same : is_met_by chunk (touched op reply) ≡ false → is_met chunk s ≡ is_met chunk t
       same away =
           let by : (is_met chunk t ≡ true) → is_met chunk s ≡ true = λ met. before (wanted_touched chunk op reply away) (met_after met) in
           elim (is_met chunk s) as (λ v. is_met chunk s ≡ v → v ≡ is_met chunk t) [
@@ -206,11 +206,11 @@ module _ (c : ℕ) (s : Space) (op : Op) (sound : Sound s) (stands : op_stands s
             | false ↦ λ none. elim (is_met chunk t) as (λ v. is_met chunk t ≡ v → false ≡ v) [ true ↦ λ met. sym none ∙ by met | false ↦ λ gone. refl ] refl
           ] refl
         where
-          before : is_in chunk (wanted op) ≡ false → (is_met chunk s ≡ true) ⊎ IsGained → is_met chunk s ≡ true
+          before : is_met_by chunk (wanted op) ≡ false → (is_met chunk s ≡ true) ⊎ IsGained → is_met chunk s ≡ true
           before off (inl was) = was
           before off (inr new) = absurd (cc)
 
-      outside_same : is_in chunk (touched op reply) ≡ false → (owns chunk mid && (is_met chunk t || true)) ≡ is_met chunk t
+      outside_same : is_met_by chunk (touched op reply) ≡ false → (owns chunk mid && (is_met chunk t || true)) ≡ is_met chunk t
       outside_same away =
           let here : owns chunk mid ≡ is_met chunk t = claimed.others chunk (wanted_touched chunk op reply away) ∙ owned chunk ∙ same away in
           rw here (both (is_met chunk t))

@@ -1,5 +1,5 @@
 -- The rooms of the clients, and what an entry does to what a client owns.
-use Rattle.heap_shared.proofs.Words.{◌≡◌, ◌≢◌, ℕ, ◌<◌, ◌++◌, false, IsTrue, List, [], ◌∷◌, Option, length, sym, refl, ap, ◌∙◌, subst, get_or-set_other, get_or-set_same, length-set, Snapshot, Entry, Op, Reply, mine, Sound, GrowDone, OfferDone, Space, space_after, reply_to, stands, Standing, entry_of, opens, room_after, room_of, rooms_after, Turn, replay, ChunkTable, with_found, Facts, Logs, MayStand, after_entry, facts_of, owned_by}
+use Rattle.heap_shared.proofs.Words.{◌≡◌, ◌≢◌, ℕ, ◌<◌, ◌++◌, false, IsTrue, List, [], ◌∷◌, Option, length, sym, refl, ap, ◌∙◌, subst, get_or-set_other, get_or-set_same, length-set, Snapshot, Entry, Op, Reply, mine, Sound, GrowDone, OfferDone, Space, space_after, reply_to, stands, Standing, entry_of, opens, room_after, room_of, rooms_after, Turn, replay_turns, ChunkTable, with_found, Facts, Logs, MayStand, after_entry, facts_of, owned_by}
 
 -- whether an operation may stand, and whether it is the first of a unit, has nothing to do with what is found
 found_stands : (s : Space) (client : ℕ) (op : Op) (chunk : Option ℕ) → stands s (entry_of client (with_found op chunk)) ≡ stands s (entry_of client op)
@@ -48,6 +48,6 @@ own_room s client e few made is =
     subst (λ (n : Entry). room_of client (rooms_after (record { space = s.space; rooms = s.rooms }) n.client n.op) ≡ room_after s.space (room_of client s.rooms) client made) (sym is) (get_or-set_same s.rooms client _ 0 few)
 
 -- as many clients have room as ever
-pub rooms_stay : (s : Facts) (log : List (Turn (Snapshot Entry))) → length (replay after_entry s log).rooms ≡ length s.rooms
+pub rooms_stay : (s : Facts) (log : List (Turn (Snapshot Entry))) → length (replay_turns after_entry s log).rooms ≡ length s.rooms
 rooms_stay s [] = refl
 rooms_stay s (t ∷ ts) = rooms_stay (after_entry s t.entry).0 ts ∙ length-set s.rooms t.entry.value.client _

@@ -1,5 +1,5 @@
 -- What a turn of the lock tells of the arena.
-use Rattle.heap_shared.proofs.Words.{◌≡◌, Result, Ok, Err, IfOk, ◌<◌, sym, ap, ◌∙◌, subst, Snapshot, Entry, Op, Reply, mine, space_after, reply_to, entry_of, room_after, Ghosts, TurnLock, Pass, replay, first, number, seen, LockTurned, with_found, Facts, Logs, Owned, after_entry, owned_by, Turned, space_at}
+use Rattle.heap_shared.proofs.Words.{◌≡◌, Result, Ok, Err, IfOk, ◌<◌, sym, ap, ◌∙◌, subst, Snapshot, Entry, Op, Reply, mine, space_after, reply_to, entry_of, room_after, Ghosts, TurnLock, Pass, replay_turns, first, number, seen, LockTurned, with_found, Facts, Logs, Owned, after_entry, owned_by, Turned, space_of_history}
 use Rattle.heap_shared.proofs.Rooms.{own_room, rooms_stay}
 
 -- what follows of each answer follows of the one that came
@@ -14,11 +14,11 @@ module _ {M : Type 0} {g : Ghosts M Facts Op (Snapshot Entry) Reply Owned} (lock
     before = t.before;
     chunk = t.logged.0.0;
     found = ap (λ (w : Owned). w.has) t.met;
-    reply = t.reply ∙ ap (reply_to (space_at lock t.before)) t.logged.0.1;
-    left = subst (λ n. mine n (space_at lock (seen new)) ≡ mine (number old) (space_after (space_at lock t.before) (entry_of (number old) (with_found op t.logged.0.0)))) same
-        (ap (λ (w : Owned). w.has) t.left ∙ ap (λ (e : Entry). mine (number old) (space_after (space_at lock t.before) e)) t.logged.0.1);
-    room = λ few. ap (λ (w : Owned). w.room) t.left ∙ own_room (replay after_entry (first lock) t.before) (number old) t.entry (subst (λ n. number old < n) (sym (rooms_stay (first lock) t.before)) few) (with_found op t.logged.0.0) t.logged.0.1
-        ∙ ap (λ (w : Owned). room_after (space_at lock t.before) w.room (number old) (with_found op t.logged.0.0)) t.met;
+    reply = t.reply ∙ ap (reply_to (space_of_history lock t.before)) t.logged.0.1;
+    left = subst (λ n. mine n (space_of_history lock (seen new)) ≡ mine (number old) (space_after (space_of_history lock t.before) (entry_of (number old) (with_found op t.logged.0.0)))) same
+        (ap (λ (w : Owned). w.has) t.left ∙ ap (λ (e : Entry). mine (number old) (space_after (space_of_history lock t.before) e)) t.logged.0.1);
+    room = λ few. ap (λ (w : Owned). w.room) t.left ∙ own_room (replay_turns after_entry (first lock) t.before) (number old) t.entry (subst (λ n. number old < n) (sym (rooms_stay (first lock) t.before)) few) (with_found op t.logged.0.0) t.logged.0.1
+        ∙ ap (λ (w : Owned). room_after (space_of_history lock t.before) w.room (number old) (with_found op t.logged.0.0)) t.met;
   }
 
   -- whatever came of it

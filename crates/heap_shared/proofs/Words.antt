@@ -41,7 +41,7 @@ pub use Rattle.space_model.specs.declared.parts.Span.{Span}
 pub use Rattle.space_model.specs.declared.spaces.Life.{Life}
 pub use Rattle.space_model.specs.declared.spaces.Life.TheVariants.{Absent, Dying, Live}
 pub use Rattle.space_model.specs.declared.spaces.Space.{Space}
-pub use Rattle.turn_lock.specs.History.{replay}
+pub use Rattle.turn_lock.specs.History.{replay_turns}
 pub use Rattle.turn_lock.specs.Locks.{first, number, seen, Turned as LockTurned, spare, IsPassOf}
 pub use Rattle.turn_lock.specs.declared.lock.Pass.{Pass}
 pub use Rattle.turn_lock.specs.declared.lock.TurnLock.{TurnLock}
@@ -49,7 +49,7 @@ pub use Rattle.turn_lock.specs.declared.machine.Machine.{Ghosts}
 pub use Rattle.turn_lock.specs.declared.view.Turn.{Turn}
 pub use mathlib.Core.Logic.{dite}
 pub use native.Mathlib.Decide.{ℕ_discrete}
-pub use Rattle.heap_shared.specs.Claims.{Claimed, IsBefore, Released, found_in, granted_span, is_in, is_met, refused_span, touched, wanted, with_found}
+pub use Rattle.heap_shared.specs.Claims.{Claimed, IsBefore, Released, found_in, granted_span, is_met_by, is_met, refused_span, touched, wanted, with_found}
 pub use Rattle.heap_shared.specs.Shared.{Facts, Logs, MayStand, after_entry, facts_of, owned_by, Owned}
-pub use Rattle.heap_shared.specs.Turns.{Turned, space_at}
+pub use Rattle.heap_shared.specs.Turns.{Turned, space_of_history}
 pub use Rattle.heap_shared.specs.declared.claims.Claims.{Claims}

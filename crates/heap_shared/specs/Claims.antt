@@ -63,9 +63,9 @@ found_in (OfferDone heard found) = found
 found_in op = None
 
 -- whether a span, if there is one, meets a chunk of the space
-abbrev pub is_in : ℕ → Option Span → Bool
-is_in chunk None = false
-is_in chunk (Some s) = nat_le (low_chunk s) chunk && nat_lt chunk (high_chunk s)
+abbrev pub is_met_by : ℕ → Option Span → Bool
+is_met_by chunk None = false
+is_met_by chunk (Some s) = nat_le (low_chunk s) chunk && nat_lt chunk (high_chunk s)
 
 -- whether an extent of the space meets the chunk
 abbrev pub is_met : ℕ → Space → Bool
@@ -88,11 +88,11 @@ Fails (Some k) old new = (owner : ℕ) × (new ≡ old ++ record { chunk = k; ow
 -- what is claimed of a span: all its chunks before the first one that another arena has, and nothing else
 pub record Claimed (span : Option Span) (found : Option ℕ) (old new : Share) : Type 0 where
   pub kept : (chunk : ℕ) → owns chunk old ≡ true → owns chunk new ≡ true
-  pub all : (chunk : ℕ) → is_in chunk span ≡ true → IsBefore chunk found → owns chunk new ≡ true
-  pub others : (chunk : ℕ) → is_in chunk span ≡ false → owns chunk new ≡ owns chunk old
-  pub within : (k : ℕ) → found ≡ Some k → is_in k span ≡ true
+  pub all : (chunk : ℕ) → is_met_by chunk span ≡ true → IsBefore chunk found → owns chunk new ≡ true
+  pub others : (chunk : ℕ) → is_met_by chunk span ≡ false → owns chunk new ≡ owns chunk old
+  pub within : (k : ℕ) → found ≡ Some k → is_met_by k span ≡ true
   pub fails : Fails found old.taken new.taken
 
 -- what is released of a span: its chunks that no extent of the space meets
 abbrev pub Released : Option Span → Space → Share → Share → Type 0
-Released span s old new = (chunk : ℕ) → owns chunk new ≡ (owns chunk old && (is_met chunk s || not (is_in chunk span)))
+Released span s old new = (chunk : ℕ) → owns chunk new ≡ (owns chunk old && (is_met chunk s || not (is_met_by chunk span)))

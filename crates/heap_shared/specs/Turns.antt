@@ -12,15 +12,15 @@ use Rattle.turn_lock.specs.declared.machine.Machine.{Ghosts}
 use Rattle.turn_lock.specs.declared.lock.TurnLock.{TurnLock}
 use Rattle.turn_lock.specs.declared.lock.Pass.{Pass}
 use Rattle.turn_lock.specs.declared.view.Turn.{Turn}
-use Rattle.turn_lock.specs.History.{replay}
+use Rattle.turn_lock.specs.History.{replay_turns}
 use Rattle.turn_lock.specs.Locks.{first, number, own_known, seen}
 use Rattle.heap_shared.specs.Claims.{with_found}
 use Rattle.heap_shared.specs.Shared.{Facts, MayStand, Owned, after_entry, owned_by}
 
 module _ {M : Type 0} where
   -- the space after a history
-  abbrev pub space_at : TurnLock M Facts Op (Snapshot Entry) Reply Owned → List (Turn (Snapshot Entry)) → Space
-  space_at lock log = (replay after_entry (first lock) log).space
+  abbrev pub space_of_history : TurnLock M Facts Op (Snapshot Entry) Reply Owned → List (Turn (Snapshot Entry)) → Space
+  space_of_history lock log = (replay_turns after_entry (first lock) log).space
 
   module _ {g : Ghosts M Facts Op (Snapshot Entry) Reply Owned} where
     -- an operation may stand by what the pass knows of its client
@@ -33,9 +33,9 @@ module _ {M : Type 0} where
     -- the entry made is the operation given, with the chunk that was found in another arena, if one was
     pub chunk : Option ℕ
     -- the client owns what it owned after its last turn, whatever others did since
-    pub found : mine (number old) (space_at lock before) ≡ mine (number old) (space_at lock (seen old))
+    pub found : mine (number old) (space_of_history lock before) ≡ mine (number old) (space_of_history lock (seen old))
     -- the reply is that of the step of one arena, and the pass knows what the client owns then
-    pub reply : r ≡ reply_to (space_at lock before) (entry_of (number old) (with_found op chunk))
-    pub left : mine (number old) (space_at lock (seen new)) ≡ mine (number old) (space_after (space_at lock before) (entry_of (number old) (with_found op chunk)))
+    pub reply : r ≡ reply_to (space_of_history lock before) (entry_of (number old) (with_found op chunk))
+    pub left : mine (number old) (space_of_history lock (seen new)) ≡ mine (number old) (space_after (space_of_history lock before) (entry_of (number old) (with_found op chunk)))
     -- and it knows how many operations that take no memory the client may make then
-    pub room : number old < length (first lock).rooms → (own_known after_entry owned_by lock new).room ≡ room_after (space_at lock before) (own_known after_entry owned_by lock old).room (number old) (with_found op chunk)
+    pub room : number old < length (first lock).rooms → (own_known after_entry owned_by lock new).room ≡ room_after (space_of_history lock before) (own_known after_entry owned_by lock old).room (number old) (with_found op chunk)

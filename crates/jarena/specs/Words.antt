@@ -16,12 +16,12 @@ abbrev pub IsInNoList : List (List ℕ) → Type 0
 IsInNoList words = words ≢ replay_words
 
 -- what is told of a sink: the bytes that it holds, where it tells them, and its count of faults
-pub record Told : Type 0 where
+pub record SinkFacts : Type 0 where
   pub held : Option (List ℕ)
   pub faults : ℕ
 
 -- status 2 and the whole usage line; or status 5, where the sink's count of faults rose, and a beginning of that line
-abbrev pub TellsUsage : ℕ → Told → Told → Type 0
+abbrev pub TellsUsage : ℕ → SinkFacts → SinkFacts → Type 0
 TellsUsage status old new =
     ((status ≡ 2) × Appends old.held new.held usage_line) ⊎
     ((status ≡ 5) × Rose old.faults new.faults × AppendsPrefix old.held new.held usage_line)

@@ -17,7 +17,7 @@ pub use Rattle.std.proofs.lemmas.List.Sums.{length-filter, count_by-le-length}
 pub use Rattle.std.proofs.lemmas.Map.Keys.{Less-from_sorted}
 pub use Rattle.std.proofs.lemmas.Option.{slice_get_within, get_or_from_slice_get, slice_get_past, slice_get_read, slice_get-get_or}
 pub use mir.Val.{bool_byte}
-pub use Rattle.ordered_set.specs.Blocks.{IsPacked, PartsAt, joined, first_keys, keys_from, AreHalf, halved, merged, no_key, keys_before, IsPlace, index_keys, IsIndex, pool_of}
+pub use Rattle.ordered_set.specs.Blocks.{IsPacked, PartsAt, all_keys, first_keys, keys_from, AreHalf, halved, merged_with_next, no_key, keys_before, IsPlace, index_keys, IsIndex, pool_of}
 pub use Rattle.ordered_set.specs.Keys.{IsAscending, is_above, is_below, is_from, last_of, with_key, without_key, is_other, ComputesTest}
 unfoldable pub use Rattle.ordered_set.specs.Keys.{key_cmp}
 pub use Rattle.ordered_set.specs.declared.index.Place.{Place}

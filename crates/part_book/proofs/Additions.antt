@@ -1,5 +1,5 @@
 -- An extent comes, or goes.
-use Rattle.part_book.proofs.Words.{◌≡◌, ◌≢◌, ℕ, ◌+◌, ◌-◌, ◌/◌, ◌^◌, ◌<◌, ◌≤◌, Bool, true, false, cond, eqb, ltb, ◌||◌, List, [], ◌∷◌, ◌++◌, map, filter, find, length, count_by, Option, Some, None, is_some, option_map, set_at, vec_len, vec_capacity, inl, inr, refl, sym, ap, ◌∙◌, subst, arith, All, length-append, Contains, option_to_list, nat_cmp, sum_by, not, IsSome, option_or, unsigned_tied, nat_cmp_total, cases_Bool, eq-eqb, false_from_ne_true, eqb-true, not-true, not_from_false, nat_tests, get_or-set_other, get_or-set_same, length-map, map-append, All-contains, All-filter, All-map, All-push, All-weaker, filter-append, find-append, count_by-le-length, length-filter, sum_by-append, sum_by-cons, sum_by_push, Part, Rest, ToDirty, ToMuzzy, ToRetained, State, Active, Dirty, Muzzy, Retained, Flight, IsPlaced, end_of, meets, has_page, is_listed, begins_at, is_in_flight, AgeList, Table, HasMore, leaves_for, CanList, Gets, CanUnlist, Loses, IsApart, IsKeyed, Row, first_key, is_edge, keys_with, listed_in, numbers_of, part_at, rank_of, ranked_key, row_at, size_key, with_edges, keys_without, without_edges, CanLower, HasListRoom, IsIndexed, IsListOf, IsSlotted, IsTable, Keeps, parts_of, rows_of, IsRowAt, all_from, bit, count_some, find_none, map_has, map_same, count_less_one, count_kept, count_map, filter_all_of, filter_map_is, filter_none_of, filter_swap, find_kept, found, kept_length, only, sum_by-filter_both, filter_from, filter_has, Pages}
+use Rattle.part_book.proofs.Words.{◌≡◌, ◌≢◌, ℕ, ◌+◌, ◌-◌, ◌/◌, ◌^◌, ◌<◌, ◌≤◌, Bool, true, false, cond, eqb, ltb, ◌||◌, List, [], ◌∷◌, ◌++◌, map, filter, find, length, count_by, Option, Some, None, is_some, option_map, set_at, vec_len, vec_capacity, inl, inr, refl, sym, ap, ◌∙◌, subst, arith, All, length-append, Contains, option_to_list, nat_cmp, sum_by, not, IsSome, option_or, unsigned_tied, nat_cmp_total, cases_Bool, eq-eqb, false_from_ne_true, eqb-true, not-true, not_from_false, nat_tests, get_or-set_other, get_or-set_same, length-map, map-append, All-contains, All-filter, All-map, All-push, All-weaker, filter-append, find-append, count_by-le-length, length-filter, sum_by-append, sum_by-cons, sum_by_push, Part, Rest, ToDirty, ToMuzzy, ToRetained, State, Active, Dirty, Muzzy, Retained, Flight, IsPlaced, end_of, meets, has_page, is_listed, begins_at, is_in_flight, AgeList, Table, HasMore, leaves_for, CanList, GainsRow, CanUnlist, LosesRow, IsApart, IsKeyed, Row, first_key, is_edge, keys_with, listed_in, numbers_of, part_at, rank_of, ranked_key, row_at, size_key, with_edges, keys_without, without_edges, CanLower, HasListRoom, IsIndexed, IsListOf, IsSlotted, IsRowTable, KeepsExtents, parts_of, rows_of, IsRowAt, all_from, bit, count_some, find_none, map_has, map_same, count_less_one, count_kept, count_map, filter_all_of, filter_map_is, filter_none_of, filter_swap, find_kept, found, kept_length, only, sum_by-filter_both, filter_from, filter_has, Pages}
 use Rattle.part_book.proofs.Indexes.{IsLeafed, in_slot, in_slots, keeps, parts_in, edge_none, edge_part, edge_row, slot_of, small_numbers}
 use Rattle.part_book.proofs.Keyed.{first_own, key_absent, keyed_more, size_own, keyed_less}
 use Rattle.part_book.proofs.Parts.{edge_has, begins_by_edge}
@@ -17,7 +17,7 @@ pub record IsFresh (t : Table) (rows : List Row) (row : Row) : Type 0 where
   pub few : length rows ≤ vec_len t.slots
 
 -- the number that was popped off the free ones is fresh
-pub fresh : (t : Table) (part : Part) (front : List ℕ) (o : Option ℕ) (number : ℕ) → IsTable t (rows_of t) → t.free.items ≡ front ++ option_to_list o → o ≡ Some number →
+pub fresh : (t : Table) (part : Part) (front : List ℕ) (o : Option ℕ) (number : ℕ) → IsRowTable t (rows_of t) → t.free.items ≡ front ++ option_to_list o → o ≡ Some number →
     IsPlaced part.span → All (λ p. meets p.span part.span ≡ false) (parts_of t) → IsFresh t (rows_of t) (record { number = number; part = part })
 fresh t part front o number i free is placed apart =
     let all = i.slots.free number in
@@ -87,9 +87,9 @@ unused_most rows =
 pub record IsAdded (t u : Table) (row : Row) : Type 0 where
   pub order : u.order.numbers ≡ t.order.numbers ++ row.number ∷ []
   pub places : u.order.places ≡ t.order.places
-  pub dirty : Gets ToDirty t.dirty u.dirty row
-  pub muzzy : Gets ToMuzzy t.muzzy u.muzzy row
-  pub retained : Gets ToRetained t.retained u.retained row
+  pub dirty : GainsRow ToDirty t.dirty u.dirty row
+  pub muzzy : GainsRow ToMuzzy t.muzzy u.muzzy row
+  pub retained : GainsRow ToRetained t.retained u.retained row
   pub flights : u.flights.items ≡ t.flights.items ++ cond (is_in_flight row.part.state) (row.number ∷ []) []
   pub sizes : u.sizes.keys ≡ keys_with t.sizes.keys (size_key row)
   pub numbers : (page : ℕ) → map_of.get u.edges.numbers page ≡ map_of.get (with_edges t.edges.numbers row.part.span row.number) page
@@ -152,7 +152,7 @@ module _ (t : Table) (rows : List Row) (row : Row) (i : IsIndexed t rows) (f : I
   -- ---- the table afterwards
 
   -- a list of a rest gets its number and its pages if it is listed there
-  listed_more : (rest : Rest) (old new : AgeList) → IsListOf rest old (vec_len t.slots) rows → Gets rest old new row → IsListOf rest new (vec_len t.slots) (rows ++ row ∷ [])
+  listed_more : (rest : Rest) (old new : AgeList) → IsListOf rest old (vec_len t.slots) rows → GainsRow rest old new row → IsListOf rest new (vec_len t.slots) (rows ++ row ∷ [])
   listed_more rest old new l g =
       let test : Row → Bool = λ r. is_listed rest r.part.state in
       let pages : Row → ℕ = λ r. r.part.span.pages in
@@ -238,25 +238,25 @@ free_more t u rows row i free slots_len free_len room =
     }
 
 -- so the table keeps its extents and that one
-pub table_added : (t u : Table) (row : Row) → IsTable t (rows_of t) → IsFresh t (rows_of t) row → IsAdded t u row → u.firsts.keys ≡ keys_with t.firsts.keys (first_key row) →
-    t.free.items ≡ u.free.items ++ row.number ∷ [] → vec_len u.free + 1 ≡ vec_len t.free → vec_capacity t.free ≤ vec_capacity u.free → Keeps u (parts_of t ++ row.part ∷ [])
+pub table_added : (t u : Table) (row : Row) → IsRowTable t (rows_of t) → IsFresh t (rows_of t) row → IsAdded t u row → u.firsts.keys ≡ keys_with t.firsts.keys (first_key row) →
+    t.free.items ≡ u.free.items ++ row.number ∷ [] → vec_len u.free + 1 ≡ vec_len t.free → vec_capacity t.free ≤ vec_capacity u.free → KeepsExtents u (parts_of t ++ row.part ∷ [])
 table_added t u row i f a firsts free free_len room =
     let rows = rows_of t in
     let key = subst (IsKeyed first_key (rows ++ row ∷ [])) (sym firsts) (keyed_more first_key rows row t.firsts.keys i.indexes.firsts) in
-    subst (Keeps u) (map-append (λ r. r.part) rows (row ∷ [])) (keeps u (rows ++ row ∷ []) (rows_added t rows row i.indexes f u refl a)
+    subst (KeepsExtents u) (map-append (λ r. r.part) rows (row ∷ [])) (keeps u (rows ++ row ∷ []) (rows_added t rows row i.indexes f u refl a)
     (record { indexes = added t rows row i.indexes f u a key; slots = free_more t u rows row i.slots free a.slots_len free_len room }))
 
 -- ---- the extent that begins at a page
 
 -- the map has a number for the page
-pub some_number : (t : Table) (first : ℕ) (o : Option ℕ) → IsTable t (rows_of t) → IsSome (find (begins_at first) (parts_of t)) → o ≡ map_of.get t.edges.numbers first → IsSome o
+pub some_number : (t : Table) (first : ℕ) (o : Option ℕ) → IsRowTable t (rows_of t) → IsSome (find (begins_at first) (parts_of t)) → o ≡ map_of.get t.edges.numbers first → IsSome o
 some_number t first None i some e = absurd (
     let none = begins_by_edge (parts_of t) first i.indexes.apart None (edge_none t (rows_of t) first i (sym e)) in
     let no = subst IsSome none some in cc)
 some_number t first (Some number) i some e = refl
 
 -- the slot of that number has the extent
-pub row_read : (t : Table) (first number : ℕ) → IsTable t (rows_of t) → IsSome (find (begins_at first) (parts_of t)) →
+pub row_read : (t : Table) (first number : ℕ) → IsRowTable t (rows_of t) → IsSome (find (begins_at first) (parts_of t)) →
     map_of.get t.edges.numbers first ≡ Some number → IsRowAt t first (record { number = number; part = part_at t.slots.items number })
 row_read t first number i some e =
     let r = edge_row t (rows_of t) first number i e in
@@ -273,7 +273,7 @@ pub row_first : (t : Table) (first : ℕ) (row : Row) → IsRowAt t first row �
 row_first t first row at = eqb-true row.part.span.first first (found (begins_at first) (parts_of t) row.part at.found).1
 
 -- and the others don't meet it
-pub row_apart : (t : Table) (first : ℕ) (row : Row) → IsTable t (rows_of t) → IsRowAt t first row → All (λ p. meets p.span row.part.span ≡ false) (filter (λ p. not (begins_at first p)) (parts_of t))
+pub row_apart : (t : Table) (first : ℕ) (row : Row) → IsRowTable t (rows_of t) → IsRowAt t first row → All (λ p. meets p.span row.part.span ≡ false) (filter (λ p. not (begins_at first p)) (parts_of t))
 row_apart t first row i at =
     subst (All (λ p. meets p.span row.part.span ≡ false)) (others_begin t (rows_of t) row first i at.there (found (begins_at first) (parts_of t) row.part at.found).1)
     (others_apart t (rows_of t) row i at.there)
@@ -284,9 +284,9 @@ row_apart t first row i at =
 pub record IsRemoved (t u : Table) (row : Row) : Type 0 where
   pub order : u.order.numbers ≡ filter (λ n. not (eqb n row.number)) t.order.numbers
   pub places : u.order.places ≡ t.order.places
-  pub dirty : Loses ToDirty t.dirty u.dirty row
-  pub muzzy : Loses ToMuzzy t.muzzy u.muzzy row
-  pub retained : Loses ToRetained t.retained u.retained row
+  pub dirty : LosesRow ToDirty t.dirty u.dirty row
+  pub muzzy : LosesRow ToMuzzy t.muzzy u.muzzy row
+  pub retained : LosesRow ToRetained t.retained u.retained row
   pub flights : u.flights.items ≡ cond (is_in_flight row.part.state) (filter (λ n. not (eqb n row.number)) t.flights.items) t.flights.items
   pub firsts : u.firsts.keys ≡ keys_without t.firsts.keys (first_key row)
   pub sizes : u.sizes.keys ≡ keys_without t.sizes.keys (size_key row)
@@ -308,7 +308,7 @@ numbers_less m p page placed =
     twice (eqb page (end_of p.span - 1)) (eqb page p.span.first) None (map_of.get m page)
     ∙ ap (λ b. cond b None (map_of.get m page)) (sym (edge_test p page placed)))
 
-module _ (t : Table) (rows : List Row) (row : Row) (i : IsTable t rows) (m : Contains rows row) where
+module _ (t : Table) (rows : List Row) (row : Row) (i : IsRowTable t rows) (m : Contains rows row) where
   -- no other row has its number
   pub one : (r : Row) → Contains rows r → r.number ≡ row.number → r ≡ row
   one r n e = one_number t rows row r i m n e
@@ -365,7 +365,7 @@ module _ (t : Table) (rows : List Row) (row : Row) (i : IsTable t rows) (m : Con
       }
 
   -- the list of a rest lacks its number and its pages
-  listed_less : (rest : Rest) (old new : AgeList) → IsListOf rest old (vec_len t.slots) rows → Loses rest old new row → IsListOf rest new (vec_len t.slots) (others row.number rows)
+  listed_less : (rest : Rest) (old new : AgeList) → IsListOf rest old (vec_len t.slots) rows → LosesRow rest old new row → IsListOf rest new (vec_len t.slots) (others row.number rows)
   listed_less rest old new l lost =
       let test : Row → Bool = λ r. is_listed rest r.part.state in
       record {
@@ -425,7 +425,7 @@ module _ (t : Table) (rows : List Row) (row : Row) (i : IsTable t rows) (m : Con
       }
 
 -- the number of an extent that was taken is free
-free_less : (t u : Table) (rows : List Row) (row : Row) → IsTable t rows → Contains rows row → u.slots ≡ t.slots → u.free.items ≡ t.free.items ++ row.number ∷ [] → vec_len u.free ≡ vec_len t.free + 1 → vec_capacity t.free ≤ vec_capacity u.free → IsSlotted u (others row.number rows)
+free_less : (t u : Table) (rows : List Row) (row : Row) → IsRowTable t rows → Contains rows row → u.slots ≡ t.slots → u.free.items ≡ t.free.items ++ row.number ∷ [] → vec_len u.free ≡ vec_len t.free + 1 → vec_capacity t.free ≤ vec_capacity u.free → IsSlotted u (others row.number rows)
 free_less t u rows row i m slots free free_len room =
     let len = ap (λ v. vec_len v) slots in
     record {
@@ -443,19 +443,19 @@ free_less t u rows row i m slots free free_len room =
 -- ---- in the words of a table
 
 -- so the table keeps those that begin elsewhere
-pub table_removed : (t u : Table) (row : Row) (first : ℕ) → IsTable t (rows_of t) → IsRowAt t first row → IsRemoved t u row → u.free.items ≡ t.free.items ++ row.number ∷ [] → vec_len u.free ≡ vec_len t.free + 1 → vec_capacity t.free ≤ vec_capacity u.free → Keeps u (filter (λ p. not (begins_at first p)) (parts_of t))
+pub table_removed : (t u : Table) (row : Row) (first : ℕ) → IsRowTable t (rows_of t) → IsRowAt t first row → IsRemoved t u row → u.free.items ≡ t.free.items ++ row.number ∷ [] → vec_len u.free ≡ vec_len t.free + 1 → vec_capacity t.free ≤ vec_capacity u.free → KeepsExtents u (filter (λ p. not (begins_at first p)) (parts_of t))
 table_removed t u row first i at a free free_len room =
     let begins = (found (begins_at first) (parts_of t) row.part at.found).1 in
-    subst (Keeps u) (others_begin t (rows_of t) row first i at.there begins) (keeps u (others row.number (rows_of t)) (rows_removed t u row.number a.slots a.order)
+    subst (KeepsExtents u) (others_begin t (rows_of t) row first i at.there begins) (keeps u (others row.number (rows_of t)) (rows_removed t u row.number a.slots a.order)
     (record { indexes = removed t (rows_of t) row i at.there u a; slots = free_less t u (rows_of t) row i at.there a.slots free free_len room }))
 
 -- and none of them meets the one that was taken
-pub apart_removed : (t u : Table) (row : Row) → IsTable t (rows_of t) → Contains (rows_of t) row →
+pub apart_removed : (t u : Table) (row : Row) → IsRowTable t (rows_of t) → Contains (rows_of t) row →
     u.slots ≡ t.slots → u.order.numbers ≡ filter (λ n. not (eqb n row.number)) t.order.numbers → All (λ p. meets p.span row.part.span ≡ false) (parts_of u)
 apart_removed t u row i m slots order = rw (rows_removed t u row.number slots order) (others_apart t (rows_of t) row i m)
 
 -- there is one less
-pub order_fewer : (t : Table) (row : Row) → IsTable t (rows_of t) → Contains (rows_of t) row → {numbers : List ℕ} → numbers ≡ filter (λ n. not (eqb n row.number)) t.order.numbers → length numbers + 1 ≡ length t.order.numbers
+pub order_fewer : (t : Table) (row : Row) → IsRowTable t (rows_of t) → Contains (rows_of t) row → {numbers : List ℕ} → numbers ≡ filter (λ n. not (eqb n row.number)) t.order.numbers → length numbers + 1 ≡ length t.order.numbers
 order_fewer t row i m e =
     let all = ap length i.indexes.order ∙ length-map (rows_of t) (λ r. r.number) in
     let new = ap length (e ∙ ap (filter (λ n. not (eqb n row.number))) i.indexes.order ∙ filter_map_is (λ r. r.number) (λ n. not (eqb n row.number)) (rows_of t)) ∙ length-map (others row.number (rows_of t)) (λ r. r.number) in
@@ -463,7 +463,7 @@ order_fewer t row i m e =
     omega arith
 
 -- its first and its last page have leaves
-pub leaves_there : (t : Table) (edges : Pages) (row : Row) → IsTable t (rows_of t) → Contains (rows_of t) row → edges.chunks ≡ t.edges.chunks → leaves_for edges row.part.span ≡ 0
+pub leaves_there : (t : Table) (edges : Pages) (row : Row) → IsRowTable t (rows_of t) → Contains (rows_of t) row → edges.chunks ≡ t.edges.chunks → leaves_for edges row.part.span ≡ 0
 leaves_there t edges row i m chunks =
     let has = All-contains (IsLeafed t.edges.chunks) (rows_of t) row i.indexes.leaves m in
     rw (chunks, has.0, has.1) refl

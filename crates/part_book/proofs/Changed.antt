@@ -1,5 +1,5 @@
 -- What an exchange makes of the extents, and of their slots.
-use Rattle.part_book.proofs.Words.{◌≡◌, ℕ, ◌+◌, ◌-◌, true, false, not, eqb, ltb, [], ◌∷◌, ◌++◌, filter, length-append, Some, option_map, vec_len, vec_capacity, inl, inr, refl, sym, ap, ◌∙◌, subst, arith, All, Contains, count_by, ◌/◌, ◌<◌, ◌||◌, List, find, Option, None, append_assoc, IfSome, IsSome, cases_Bool, eq-eqb, eqb-true, not_from_false, nat_tests, map-append, All-contains, All-filter, All-push, All-weaker, sum_by_push, Pages, Part, Span, IsPlaced, end_of, has_page, meets, begins_at, exchanged, Table, IsKeyed, Own, Row, first_key, is_edge, keys_without, with_edges, without_edges, IsApart, CanLower, HasListRoom, IsIndexed, IsLifted, IsTable, Keeps, parts_of, rows_of, bit, find_is, all_from, filter_neither, filter_swap, find_kept, found, State, low_piece, high_piece, AreBeside, joined, leaves_for}
+use Rattle.part_book.proofs.Words.{◌≡◌, ℕ, ◌+◌, ◌-◌, true, false, not, eqb, ltb, [], ◌∷◌, ◌++◌, filter, length-append, Some, option_map, vec_len, vec_capacity, inl, inr, refl, sym, ap, ◌∙◌, subst, arith, All, Contains, count_by, ◌/◌, ◌<◌, ◌||◌, List, find, Option, None, append_assoc, IfSome, IsSome, cases_Bool, eq-eqb, eqb-true, not_from_false, nat_tests, map-append, All-contains, All-filter, All-push, All-weaker, sum_by_push, Pages, Part, Span, IsPlaced, end_of, has_page, meets, begins_at, exchanged, Table, IsKeyed, Own, Row, first_key, is_edge, keys_without, with_edges, without_edges, IsApart, CanLower, HasListRoom, IsIndexed, IsLifted, IsRowTable, KeepsExtents, parts_of, rows_of, bit, find_is, all_from, filter_neither, filter_swap, find_kept, found, State, low_piece, high_piece, AreBeside, joined, leaves_for}
 use Rattle.part_book.proofs.Additions.{IsAdded, IsFresh, added, can_lower, numbers_more, rows_added, count_fewer, fewer, numbers_less, one, removed, rows_removed}
 use Rattle.part_book.proofs.Indexes.{IsLeafed, in_slots, keeps, parts_in}
 use Rattle.part_book.proofs.Keyed.{keyed_same}
@@ -24,7 +24,7 @@ own_again pages p number page placed own =
 pub same_span : (s t : Span) → s.first ≡ t.first → s.pages ≡ t.pages → s ≡ t
 same_span s t e f = λ i. record { first = e i; pages = f i }
 
-module _ (t : Table) (row : Row) (i : IsTable t (rows_of t)) (m : Contains (rows_of t) row) where
+module _ (t : Table) (row : Row) (i : IsRowTable t (rows_of t)) (m : Contains (rows_of t) row) where
   -- the first and the last page of an extent have its number
   own_page : (page : ℕ) → is_edge page row.part ≡ true → map_of.get t.edges.numbers page ≡ Some row.number
   own_page page e =
@@ -95,7 +95,7 @@ module _ (t : Table) (row : Row) (i : IsTable t (rows_of t)) (m : Contains (rows
         record { placed = can.placed; place = can.place; new_number = can.new_number; dirty = can.dirty; muzzy = can.muzzy; retained = can.retained; sizes = can.sizes; absent = can.absent; flights = can.flights }
 
     -- the table keeps the extents, and the other one in place of the one
-    pub table_exchanged : (u : Table) → other.part.span.first ≡ row.part.span.first → IsAdded between u other → u.firsts ≡ t.firsts → u.free ≡ t.free → Keeps u (exchanged (begins_at row.part.span.first) (parts_of t) (other.part ∷ []))
+    pub table_exchanged : (u : Table) → other.part.span.first ≡ row.part.span.first → IsAdded between u other → u.firsts ≡ t.firsts → u.free ≡ t.free → KeepsExtents u (exchanged (begins_at row.part.span.first) (parts_of t) (other.part ∷ []))
     table_exchanged u first a firsts free =
         let rows = rows_of t in
         let now = others row.number rows ++ other ∷ [] in
@@ -105,7 +105,7 @@ module _ (t : Table) (row : Row) (i : IsTable t (rows_of t)) (m : Contains (rows
         let free_len = ap (λ v. vec_len v) free in
         let free_room = ap (λ v. vec_capacity v) free in
         let were = rows_removed t between row.number l.slots l.order in
-        subst (Keeps u) (map-append (λ r. r.part) (others row.number rows) (other ∷ []) ∙ ap (λ ps. ps ++ other.part ∷ []) begins)
+        subst (KeepsExtents u) (map-append (λ r. r.part) (others row.number rows) (other ∷ []) ∙ ap (λ ps. ps ++ other.part ∷ []) begins)
         (keeps u now (rows_added between (others row.number rows) other left again u were a) (record {
           indexes = added between (others row.number rows) other left again u a (subst (λ k. IsKeyed first_key now k.keys) (sym firsts) keyed);
           slots = record {

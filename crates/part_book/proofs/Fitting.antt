@@ -1,5 +1,5 @@
 -- The walk through the unused extents by size finds the one that fits best.
-use Rattle.part_book.proofs.Words.{◌≡◌, ℕ, ◌+◌, ◌*◌, ◌-◌, ◌/◌, ◌%◌, ◌^◌, ◌<◌, ◌≤◌, Bool, true, false, ◌&&◌, eqb, List, [], ◌∷◌, length, count_by, cond, filter, find, slice_get, Some, None, Ordering, Less, Equal, Greater, is_gt, inl, inr, refl, sym, ap, ◌∙◌, subst, arith, sum_by, Contains, list_any, ordering_reverse, and_left, and_parts, cases_Bool, cases_lt, eq-eqb, false_from_ne_true, ne_eqb, not-true, nat_tests, list_any-from_Any, list_any_none, get_or-le-sum_by, sum_by-cons, mul-le, Key, IsAscending, is_above, is_from, key_cmp, key_tie, key_total, contains_later, filter_has, from_start, less_from_parts, less_major, start, start_from, Part, Rest, ToDirty, ToMuzzy, ToRetained, Span, State, Dirty, Muzzy, Retained, IsPlaced, holds_run, is_listed, fit_of, is_best, is_better, is_candidate, IsApart, IsKeyed, Row, key_span, listed_in, numbers_of, pages_in, rank, rank_of, ranked_key, size_key, all_from, find_is, find_none, head, map_from, map_has, mapped_some, none_found}
+use Rattle.part_book.proofs.Words.{◌≡◌, ℕ, ◌+◌, ◌*◌, ◌-◌, ◌/◌, ◌%◌, ◌^◌, ◌<◌, ◌≤◌, Bool, true, false, ◌&&◌, eqb, List, [], ◌∷◌, length, count_by, cond, filter, find, slice_get, Some, None, Ordering, Less, Equal, Greater, is_gt, inl, inr, refl, sym, ap, ◌∙◌, subst, arith, sum_by, Contains, list_any, ordering_reverse, and_left, and_parts, cases_Bool, cases_lt, eq-eqb, false_from_ne_true, ne_eqb, not-true, nat_tests, list_any-from_Any, list_any_none, get_or-le-sum_by, sum_by-cons, mul-le, Key, IsAscending, is_above, is_from, key_cmp, key_tie, key_total, contains_later, filter_has, from_start, less_from_parts, less_major, start, start_from, Part, Rest, ToDirty, ToMuzzy, ToRetained, Span, State, Dirty, Muzzy, Retained, IsPlaced, holds_run, is_listed, fit_of, is_best, is_better, is_candidate, IsApart, IsKeyed, Row, key_span, listed_in, numbers_of, pages_of_rows, rank, rank_of, ranked_key, size_key, all_from, find_is, find_none, head, map_from, map_has, mapped_some, none_found}
 use Rattle.part_book.proofs.Walks.{find_some}
 use Rattle.part_book.proofs.Indexes.{parts_in}
 use Rattle.part_book.proofs.Parts.{one_owner, placed}
@@ -126,7 +126,7 @@ module _ (rest : Rest) (rows : List Row) (keys : List Key) (pages align : ℕ) (
       let yes = s.4 in cc)))
 
   -- nor where the rest has too few pages
-  pub too_few : pages_in rest rows < pages → fit_of rest pages align (parts_in rows) ≡ None
+  pub too_few : pages_of_rows rest rows < pages → fit_of rest pages align (parts_in rows) ≡ None
   too_few l = find_none (is_best rest pages align (parts_in rows)) (parts_in rows) (λ p m. and_left (is_candidate rest pages align p) _ (false_from_ne_true (is_candidate rest pages align p) (λ t.
       let q = map_from (λ row. row.part) rows p m in
       let both = and_parts (is_listed rest p.state) (holds_run pages align p.span) t in
@@ -201,7 +201,7 @@ pub none_listed : (rest : Rest) (rows : List Row) → slice_get (numbers_of (lis
 none_listed rest [] e = refl
 none_listed rest (r ∷ rows) e = grind (arith, none_listed rest rows, e)
 
-pub pages_listed : (rest : Rest) (rows : List Row) → pages_in rest rows ≡ sum_by (λ p. p.span.pages) (filter (λ p. is_listed rest p.state) (parts_in rows))
+pub pages_listed : (rest : Rest) (rows : List Row) → pages_of_rows rest rows ≡ sum_by (λ p. p.span.pages) (filter (λ p. is_listed rest p.state) (parts_in rows))
 pages_listed rest [] = refl
 pages_listed rest (r ∷ rows) = grind (
   arith,

@@ -1,5 +1,5 @@
 -- What the indexes of a table say of its extents.
-use Rattle.part_book.proofs.Words.{◌≡◌, ℕ, ◌-◌, ◌/◌, ◌^◌, ◌<◌, ◌≤◌, Bool, true, false, cond, not, eqb, List, [], ◌∷◌, length, map, filter, find, get_or, slice_get, Option, Some, None, option_map, count_by, vec_len, inl, inr, refl, sym, ap, ◌∙◌, subst, arith, All, Contains, nat_cmp, cases_Bool, cases_lt, true_from_ne_false, IsPlaced, end_of, nat_tests, All-contains, All-head, All-nil, All-tail, Contains-get_or, get_or_default_zero, find_at, position_or_len_is, sum_by-cons, IsStrictlySortedBy-filter, get_or_from_slice_get, slice_get-get_or, slice_get_within, Key, IsAscending, is_below, is_from, key_cmp, last_of, every_member, filter_from, filter_has, from_start, last_greatest, major_less, start, start_from, Part, State, Active, Dirty, Muzzy, Retained, Flight, is_flight, is_in_flight, Rest, ToDirty, ToMuzzy, ToRetained, AgeList, Table, IsFirstFrom, IsKeyed, IsLastBelow, Row, first_key, flights_in, is_edge, part_at, row_at, size_key, IsIndexed, IsListOf, IsSlotted, IsTable, Keeps, rows_of, all_from, count_some, find_map, find_none, found, map_from, map_has, mapped_none, mapped_some, none_found}
+use Rattle.part_book.proofs.Words.{◌≡◌, ℕ, ◌-◌, ◌/◌, ◌^◌, ◌<◌, ◌≤◌, Bool, true, false, cond, not, eqb, List, [], ◌∷◌, length, map, filter, find, get_or, slice_get, Option, Some, None, option_map, count_by, vec_len, inl, inr, refl, sym, ap, ◌∙◌, subst, arith, All, Contains, nat_cmp, cases_Bool, cases_lt, true_from_ne_false, IsPlaced, end_of, nat_tests, All-contains, All-head, All-nil, All-tail, Contains-get_or, get_or_default_zero, find_at, position_or_len_is, sum_by-cons, IsStrictlySortedBy-filter, get_or_from_slice_get, slice_get-get_or, slice_get_within, Key, IsAscending, is_below, is_from, key_cmp, last_of, every_member, filter_from, filter_has, from_start, last_greatest, major_less, start, start_from, Part, State, Active, Dirty, Muzzy, Retained, Flight, is_flight, is_in_flight, Rest, ToDirty, ToMuzzy, ToRetained, AgeList, Table, IsFirstFrom, IsKeyed, IsLastBelow, Row, first_key, flights_in, is_edge, part_at, row_at, size_key, IsIndexed, IsListOf, IsSlotted, IsRowTable, KeepsExtents, rows_of, all_from, count_some, find_map, find_none, found, map_from, map_has, mapped_none, mapped_some, none_found}
 use Rattle.part_book.proofs.Walks.{find_some}
 use Rattle.std.specs.FinMap as map_of
 use Rattle.std.specs.FinSet as set
@@ -9,8 +9,8 @@ abbrev pub parts_in : List Row → List Part
 parts_in rows = map (λ row. row.part) rows
 
 -- a table whose rows are known
-pub keeps : (t : Table) (rows : List Row) → rows_of t ≡ rows → IsTable t rows → Keeps t (parts_in rows)
-keeps t rows e i = record { table = subst (IsTable t) (sym e) i; parts = ap parts_in e }
+pub keeps : (t : Table) (rows : List Row) → rows_of t ≡ rows → IsRowTable t rows → KeepsExtents t (parts_in rows)
+keeps t rows e i = record { table = subst (IsRowTable t) (sym e) i; parts = ap parts_in e }
 
 -- the first and the last page of an extent lie in chunks that have leaves
 abbrev pub IsLeafed : set.FinSet nat_cmp → Row → Type 0
@@ -32,23 +32,23 @@ pub in_slot : (t : Table) (rows : List Row) (r : Row) → IsIndexed t rows → C
 in_slot t rows r i m = All-contains (λ row. part_at t.slots.items row.number ≡ row.part) rows r i.slots m
 
 -- where a number is that of a row, its slot has the extent
-pub slot_of : (t : Table) (rows : List Row) (r : Row) {number : ℕ} → IsTable t rows → Contains rows r → r.number ≡ number → (number < vec_len t.slots) × (part_at t.slots.items number ≡ r.part)
+pub slot_of : (t : Table) (rows : List Row) (r : Row) {number : ℕ} → IsRowTable t rows → Contains rows r → r.number ≡ number → (number < vec_len t.slots) × (part_at t.slots.items number ≡ r.part)
 slot_of t rows r i m e = (subst (λ n. n < vec_len t.slots) e (in_slots t rows r i.slots m), ap (part_at t.slots.items) (sym e) ∙ in_slot t rows r i.indexes m)
 
 -- the row of a number that the map gives for a page
-pub edge_row : (t : Table) (rows : List Row) (page number : ℕ) → IsTable t rows → map_of.get t.edges.numbers page ≡ Some number → (r : Row) × (find (λ row. is_edge page row.part) rows ≡ Some r) × Contains rows r × (r.number ≡ number)
+pub edge_row : (t : Table) (rows : List Row) (page number : ℕ) → IsRowTable t rows → map_of.get t.edges.numbers page ≡ Some number → (r : Row) × (find (λ row. is_edge page row.part) rows ≡ Some r) × Contains rows r × (r.number ≡ number)
 edge_row t rows page number i e =
     let p = mapped_some (λ row. row.number) (find (λ row. is_edge page row.part) rows) number (sym (i.indexes.edges page) ∙ e) in
     (p.0, p.1, (found (λ row. is_edge page row.part) rows p.0 p.1).0, p.2)
 
 -- the slot of that number has the extent whose first or last page it is
-pub edge_part : (t : Table) (rows : List Row) (page number : ℕ) → IsTable t rows → map_of.get t.edges.numbers page ≡ Some number → find (is_edge page) (parts_in rows) ≡ Some (part_at t.slots.items number)
+pub edge_part : (t : Table) (rows : List Row) (page number : ℕ) → IsRowTable t rows → map_of.get t.edges.numbers page ≡ Some number → find (is_edge page) (parts_in rows) ≡ Some (part_at t.slots.items number)
 edge_part t rows page number i e =
     let p = edge_row t rows page number i e in
     find_map (λ row. row.part) (is_edge page) rows ∙ ap (option_map (λ row. row.part)) p.1 ∙ ap (λ q. Some q) (sym (slot_of t rows p.0 i p.2 p.3).1)
 
 -- a page without a number is no first or last page
-pub edge_none : (t : Table) (rows : List Row) (page : ℕ) → IsTable t rows → map_of.get t.edges.numbers page ≡ None → find (is_edge page) (parts_in rows) ≡ None
+pub edge_none : (t : Table) (rows : List Row) (page : ℕ) → IsRowTable t rows → map_of.get t.edges.numbers page ≡ None → find (is_edge page) (parts_in rows) ≡ None
 edge_none t rows page i e =
     let none = mapped_none (λ row. row.number) (find (λ row. is_edge page row.part) rows) (sym (i.indexes.edges page) ∙ e) in
     find_map (λ row. row.part) (is_edge page) rows ∙ ap (option_map (λ row. row.part)) none
@@ -160,7 +160,7 @@ find_flight slots client (r ∷ rows) all =
     grind (arith, flown, slot, rest, grounded client r.part.state)
 
 -- so the flights of the table tell the first one
-pub flight_of : (t : Table) (client : ℕ) → IsTable t (rows_of t) → find (λ p. is_flight client p.state) (parts_in (rows_of t)) ≡ option_map (part_at t.slots.items) (find (is_flown t.slots.items client) t.flights.items)
+pub flight_of : (t : Table) (client : ℕ) → IsRowTable t (rows_of t) → find (λ p. is_flight client p.state) (parts_in (rows_of t)) ≡ option_map (part_at t.slots.items) (find (is_flown t.slots.items client) t.flights.items)
 flight_of t client i = find_flight t.slots.items client (rows_of t) i.indexes.slots ∙ ap (λ ns. option_map (part_at t.slots.items) (find (is_flown t.slots.items client) ns)) (sym i.indexes.flights)
 
 -- a loop over numbers finds the first one that passes
@@ -172,7 +172,7 @@ pub no_number : (p : ℕ → Bool) (ns : List ℕ) → ((k : ℕ) → k < length
 no_number p ns none = find_none p ns (λ n (k, l, e). ap p (sym e ∙ get_or_default_zero ns k n l) ∙ none k l)
 
 -- the flights are numbers of slots
-pub flights_in_slots : (t : Table) (rows : List Row) → IsTable t rows → (k : ℕ) → k < length t.flights.items → get_or t.flights.items k 0 < vec_len t.slots
+pub flights_in_slots : (t : Table) (rows : List Row) → IsRowTable t rows → (k : ℕ) → k < length t.flights.items → get_or t.flights.items k 0 < vec_len t.slots
 flights_in_slots t rows i k l =
     let m : Contains t.flights.items (get_or t.flights.items k 0) = Contains-get_or t.flights.items k 0 l in
     let n = map_from (λ row. row.number) (filter (λ row. is_in_flight row.part.state) rows) (get_or t.flights.items k 0) (subst (λ ns. Contains ns (get_or t.flights.items k 0)) i.indexes.flights m) in
@@ -198,7 +198,7 @@ no_keys key_of keys e = record {
 
 -- a table whose indexes have nothing
 pub empty_table : (t : Table) → t.order.numbers ≡ [] → (dirty : t.dirty ≡ record { ages = record { numbers = []; places = 0 }; pages = 0 }) → (muzzy : t.muzzy ≡ record { ages = record { numbers = []; places = 0 }; pages = 0 }) → (retained : t.retained ≡ record { ages = record { numbers = []; places = 0 }; pages = 0 }) →
-    t.flights.items ≡ [] → t.firsts.keys ≡ [] → t.sizes.keys ≡ [] → t.edges.numbers ≡ map_of.empty → vec_len t.slots ≡ 0 → t.free.items ≡ [] → vec_len t.free ≡ 0 → Keeps t []
+    t.flights.items ≡ [] → t.firsts.keys ≡ [] → t.sizes.keys ≡ [] → t.edges.numbers ≡ map_of.empty → vec_len t.slots ≡ 0 → t.free.items ≡ [] → vec_len t.free ≡ 0 → KeepsExtents t []
 empty_table t order dirty muzzy retained flights firsts sizes numbers slots free free_len = keeps t [] (empty_rows t order) (record {
   indexes = record {
     apart = record { placed = All-nil (λ p. IsPlaced p.span); owners = λ page. omega arith };

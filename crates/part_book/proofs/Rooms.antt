@@ -1,14 +1,14 @@
 -- A table that was given room keeps its extents.
-use Rattle.part_book.proofs.Words.{◌≡◌, ℕ, ◌+◌, ◌<◌, ◌≤◌, eqb, ltb, map, count_by, vec_len, vec_capacity, sym, ap, ◌∙◌, subst, arith, refl, All, Contains, Part, Table, Grows, IsKeyed, Row, first_key, part_at, row_at, size_key, HasRoom, IsTable, Keeps, parts_of, rows_of, all_from, bit, map_has, map_same}
+use Rattle.part_book.proofs.Words.{◌≡◌, ℕ, ◌+◌, ◌<◌, ◌≤◌, eqb, ltb, map, count_by, vec_len, vec_capacity, sym, ap, ◌∙◌, subst, arith, refl, All, Contains, Part, Table, AgesGrow, IsKeyed, Row, first_key, part_at, row_at, size_key, HasRoomFor, IsRowTable, KeepsExtents, parts_of, rows_of, all_from, bit, map_has, map_same}
 use Rattle.part_book.proofs.Indexes.{IsLeafed, in_slot, in_slots, keeps}
 use Rattle.std.specs.FinMap as map_of
 
 -- each index of the second table has the same
 pub record IsSame (t u : Table) : Type 0 where
-  pub order : Grows t.order u.order
-  pub dirty : Grows t.dirty.ages u.dirty.ages
-  pub muzzy : Grows t.muzzy.ages u.muzzy.ages
-  pub retained : Grows t.retained.ages u.retained.ages
+  pub order : AgesGrow t.order u.order
+  pub dirty : AgesGrow t.dirty.ages u.dirty.ages
+  pub muzzy : AgesGrow t.muzzy.ages u.muzzy.ages
+  pub retained : AgesGrow t.retained.ages u.retained.ages
   pub dirty_pages : u.dirty.pages ≡ t.dirty.pages
   pub muzzy_pages : u.muzzy.pages ≡ t.muzzy.pages
   pub retained_pages : u.retained.pages ≡ t.retained.pages
@@ -31,7 +31,7 @@ pub record IsLonger (t u : Table) : Type 0 where
   pub retained : vec_len u.slots ≤ u.retained.ages.places
 
 -- the extents are the same
-same_rows : (t u : Table) → IsTable t (rows_of t) → IsSame t u → IsLonger t u → rows_of u ≡ rows_of t
+same_rows : (t u : Table) → IsRowTable t (rows_of t) → IsSame t u → IsLonger t u → rows_of u ≡ rows_of t
 unfolding rows_of
 same_rows t u i a b =
     let put : ℕ → Part → Row = λ n p. record { number = n; part = p } in
@@ -40,7 +40,7 @@ same_rows t u i a b =
     ∙ map_same (row_at u.slots.items) (row_at t.slots.items) t.order.numbers (λ n m. ap (put n) (b.kept n (within n m)))
 
 -- so the table keeps them
-pub same_table : (t u : Table) → IsTable t (rows_of t) → IsSame t u → IsLonger t u → Keeps u (parts_of t)
+pub same_table : (t u : Table) → IsRowTable t (rows_of t) → IsSame t u → IsLonger t u → KeepsExtents u (parts_of t)
 same_table t u i a b =
     let x = i.indexes in
     let rows = rows_of t in
@@ -64,7 +64,7 @@ same_table t u i a b =
     })
 
 -- as long as the slots, the free numbers and the flights stay
-pub grown : (t u : Table) → IsTable t (rows_of t) → u.slots ≡ t.slots → u.free ≡ t.free → u.flights ≡ t.flights → IsSame t u → Keeps u (parts_of t)
+pub grown : (t u : Table) → IsRowTable t (rows_of t) → u.slots ≡ t.slots → u.free ≡ t.free → u.flights ≡ t.flights → IsSame t u → KeepsExtents u (parts_of t)
 grown t u i slots free flights a =
     let x = i.indexes in
     let len = ap (λ v. vec_len v) slots in
@@ -86,7 +86,7 @@ grown t u i slots free flights a =
     })
 
 -- room for some is room for fewer
-pub room_less : (t : Table) (m n : ℕ) → HasRoom t m → n ≤ m → HasRoom t n
+pub room_less : (t : Table) (m n : ℕ) → HasRoomFor t m → n ≤ m → HasRoomFor t n
 room_less t m n room le = record {
   firsts = omega (arith, room.firsts);
   free = omega (arith, room.free);

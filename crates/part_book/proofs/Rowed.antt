@@ -1,5 +1,5 @@
 -- The extents of a table and their numbers: which are the same, and which share no page.
-use Rattle.part_book.proofs.Words.{◌≡◌, ℕ, ◌*◌, ◌≤◌, Bool, true, false, not, eqb, List, [], ◌∷◌, ◌++◌, filter, length, count_by, inl, inr, refl, sym, ap, ◌∙◌, subst, arith, All, Contains, cases_Bool, cases_lt, eq-eqb, eqb-true, false_from_ne_true, not-true, nat_tests, All-contains, All-filter, All-push, count_by-le-length, length-filter, sum_by-le, sum_by_push, filter_from, Part, IsPlaced, has_page, meets, pages_end, Rest, begins_at, is_listed, Table, IsApart, Row, pages_in, IsSlotted, IsTable, all_from, bit, count_kept, count_map, count_none, filter_map_is, filter_same, map_from, map_has, only_one}
+use Rattle.part_book.proofs.Words.{◌≡◌, ℕ, ◌*◌, ◌≤◌, Bool, true, false, not, eqb, List, [], ◌∷◌, ◌++◌, filter, length, count_by, inl, inr, refl, sym, ap, ◌∙◌, subst, arith, All, Contains, cases_Bool, cases_lt, eq-eqb, eqb-true, false_from_ne_true, not-true, nat_tests, All-contains, All-filter, All-push, count_by-le-length, length-filter, sum_by-le, sum_by_push, filter_from, Part, IsPlaced, has_page, meets, pages_end, Rest, begins_at, is_listed, Table, IsApart, Row, pages_of_rows, IsSlotted, IsRowTable, all_from, bit, count_kept, count_map, count_none, filter_map_is, filter_same, map_from, map_has, only_one}
 use Rattle.part_book.proofs.Indexes.{parts_in}
 use Rattle.part_book.proofs.Parts.{begins_has, placed}
 
@@ -7,7 +7,7 @@ pub row_placed : (rows : List Row) (r : Row) → IsApart (parts_in rows) → Con
 row_placed rows r apart m = placed (parts_in rows) r.part apart (map_has (λ row. row.part) rows r m)
 
 -- the extents of a rest have no more pages than so many extents can have
-pub pages_most : (rest : Rest) (rows : List Row) → IsApart (parts_in rows) → pages_in rest rows ≤ length rows * pages_end
+pub pages_most : (rest : Rest) (rows : List Row) → IsApart (parts_in rows) → pages_of_rows rest rows ≤ length rows * pages_end
 pages_most rest rows apart =
     let test : Row → Bool = λ r. is_listed rest r.part.state in
     let inside : All (λ r. r.part.span.pages ≤ pages_end) (filter test rows) = All-filter test (λ r. r.part.span.pages ≤ pages_end) rows (all_from (λ r. r.part.span.pages ≤ pages_end) rows (λ r m. let placed = row_placed rows r apart m in omega arith)) in
@@ -26,7 +26,7 @@ numbers_most t rows number i =
     let all = i.free number in
     grind (arith, nat_tests)
 
-pub one_number : (t : Table) (rows : List Row) (x y : Row) → IsTable t rows → Contains rows x → Contains rows y → y.number ≡ x.number → y ≡ x
+pub one_number : (t : Table) (rows : List Row) (x y : Row) → IsRowTable t rows → Contains rows x → Contains rows y → y.number ≡ x.number → y ≡ x
 one_number t rows x y i m n e = only_one (λ row. eqb row.number x.number) rows x y (numbers_most t rows x.number i.slots) m n (eq-eqb x.number x.number refl) (eq-eqb y.number x.number e)
 
 -- all extents but the one with a number
@@ -77,7 +77,7 @@ apart_less number rows apart = record {
 }
 
 -- the extents but one are those that begin elsewhere
-pub others_begin : (t : Table) (rows : List Row) (r : Row) (first : ℕ) → IsTable t rows → Contains rows r → begins_at first r.part ≡ true → parts_in (others r.number rows) ≡ filter (λ p. not (begins_at first p)) (parts_in rows)
+pub others_begin : (t : Table) (rows : List Row) (r : Row) (first : ℕ) → IsRowTable t rows → Contains rows r → begins_at first r.part ≡ true → parts_in (others r.number rows) ≡ filter (λ p. not (begins_at first p)) (parts_in rows)
 others_begin t rows r first i m b =
     ap parts_in (filter_same (λ row. not (eqb row.number r.number)) (λ row. not (begins_at first row.part)) rows (λ x n. ap not (same x n)))
     ∙ sym (filter_map_is (λ row. row.part) (λ p. not (begins_at first p)) rows)
@@ -93,7 +93,7 @@ others_begin t rows r first i m b =
     )
 
 -- the extents but one don't meet it
-pub others_apart : (t : Table) (rows : List Row) (r : Row) → IsTable t rows → Contains rows r → All (λ p. meets p.span r.part.span ≡ false) (parts_in (others r.number rows))
+pub others_apart : (t : Table) (rows : List Row) (r : Row) → IsRowTable t rows → Contains rows r → All (λ p. meets p.span r.part.span ≡ false) (parts_in (others r.number rows))
 others_apart t rows r i m = all_from (λ p. meets p.span r.part.span ≡ false) (parts_in (others r.number rows)) (λ p n.
     let x = map_from (λ row. row.part) (others r.number rows) p n in
     let o = other_row r.number rows x.0 x.1 in

@@ -40,12 +40,13 @@ pub use Rattle.space_model.specs.declared.parts.Span.{Span}
 pub use Rattle.space_model.specs.declared.parts.State.{State}
 pub use Rattle.space_model.specs.declared.parts.State.TheVariants.{Active, Dirty, Muzzy, Retained, Flight}
 pub use borrow.Author.Count.{below_more}
-pub use Rattle.part_book.specs.Books.{AreBeside, joined, IsFirstFrom, ends_at}
+pub use Rattle.space_model.specs.Stepped.{joined}
+pub use Rattle.part_book.specs.Books.{AreBeside, IsFirstFrom, ends_at}
 pub use Rattle.part_book.specs.Leaves.{HasMore, leaves_for, HasLeaves}
 unfoldable pub use Rattle.part_book.specs.Leaves.{missing}
-pub use Rattle.part_book.specs.Lists.{CanList, Gets, CanUnlist, Loses, Grows}
-pub use Rattle.part_book.specs.Rows.{IsApart, IsKeyed, Row, first_key, is_edge, keys_with, listed_in, numbers_of, part_at, rank_of, ranked_key, row_at, size_key, with_edges, keys_without, without_edges, Own, key_span, pages_in, rank, IsLastBelow, flights_in, no_part}
-pub use Rattle.part_book.specs.Tables.{CanLower, HasListRoom, IsIndexed, IsListOf, IsSlotted, IsTable, Keeps, parts_of, IsRowAt, IsLifted, HasRoom}
+pub use Rattle.part_book.specs.Lists.{CanList, GainsRow, CanUnlist, LosesRow, AgesGrow}
+pub use Rattle.part_book.specs.Rows.{IsApart, IsKeyed, Row, first_key, is_edge, keys_with, listed_in, numbers_of, part_at, rank_of, ranked_key, row_at, size_key, with_edges, keys_without, without_edges, Own, key_span, pages_of_rows, rank, IsLastBelow, flights_in, no_part}
+pub use Rattle.part_book.specs.Tables.{CanLower, HasListRoom, IsIndexed, IsListOf, IsSlotted, IsRowTable, KeepsExtents, parts_of, IsRowAt, IsLifted, HasRoomFor}
 unfoldable pub use Rattle.part_book.specs.Tables.{rows_of}
 pub use Rattle.part_book.specs.declared.table.AgeList.{AgeList}
 pub use Rattle.part_book.specs.declared.table.Table.{Table}

@@ -1,5 +1,5 @@
 -- What callers see of a book of extents.
-use Rattle.std.specs.Prelude.{◌≡◌, ℕ, ◌+◌, ◌≤◌, Bool, true, false, ◌==◌, List, filter, sum_by, All, Contains}
+use Rattle.std.specs.Prelude.{◌≡◌, ℕ, ◌≤◌, Bool, true, false, ◌==◌, List, filter, sum_by, All, Contains}
 use Rattle.space_model.specs.declared.parts.Part.{Part}
 use Rattle.space_model.specs.declared.parts.Rest.{Rest}
 use Rattle.space_model.specs.declared.parts.Span.{Span}
@@ -33,7 +33,3 @@ pub record IsFirstFrom (page : ℕ) (parts : List Part) (p : Part) : Type 0 wher
 -- the second extent begins where the first one ends
 abbrev pub AreBeside : Part → Part → Type 0
 AreBeside p q = end_of p.span ≡ q.span.first
-
--- the pages of two extents as one, of the use and the commit state of the first
-abbrev pub joined : Part → Part → Part
-joined p q = record p { span = record { first = p.span.first; pages = p.span.pages + q.span.pages } }

@@ -18,20 +18,20 @@ pub record CanUnlist (rest : Rest) (list : AgeList) (row : Row) : Type 0 where
   pub pages : IsTrue (is_listed rest row.part.state) → row.part.span.pages ≤ list.pages
   pub once : count_by (λ n. n == row.number) list.ages.numbers ≤ 1
 
--- the list gets the extent if its state is that of the list
-pub record Gets (rest : Rest) (old new : AgeList) (row : Row) : Type 0 where
+-- the list gains the extent if its state is that of the list
+pub record GainsRow (rest : Rest) (old new : AgeList) (row : Row) : Type 0 where
   pub numbers : new.ages.numbers ≡ old.ages.numbers ++ cond (is_listed rest row.part.state) (row.number ∷ []) []
   pub pages : new.pages ≡ old.pages + cond (is_listed rest row.part.state) row.part.span.pages 0
   pub places : new.ages.places ≡ old.ages.places
 
 -- the list loses the extent if its state is that of the list
-pub record Loses (rest : Rest) (old new : AgeList) (row : Row) : Type 0 where
+pub record LosesRow (rest : Rest) (old new : AgeList) (row : Row) : Type 0 where
   pub numbers : new.ages.numbers ≡ cond (is_listed rest row.part.state) (filter (λ n. not (n == row.number)) old.ages.numbers) old.ages.numbers
   pub pages : new.pages + cond (is_listed rest row.part.state) row.part.span.pages 0 ≡ old.pages
   pub places : new.ages.places ≡ old.ages.places
   pub len : length old.ages.numbers ≤ length new.ages.numbers + cond (is_listed rest row.part.state) 1 0
 
 -- the ring has the same numbers and no fewer places
-pub record Grows (old new : Ages) : Type 0 where
+pub record AgesGrow (old new : Ages) : Type 0 where
   pub numbers : new.numbers ≡ old.numbers
   pub places : old.places ≤ new.places

@@ -43,8 +43,8 @@ abbrev pub listed_in : Rest → List Row → List Row
 listed_in rest rows = filter (λ row. is_listed rest row.part.state) rows
 
 -- their pages together
-abbrev pub pages_in : Rest → List Row → ℕ
-pages_in rest rows = sum_by (λ row. row.part.span.pages) (listed_in rest rows)
+abbrev pub pages_of_rows : Rest → List Row → ℕ
+pages_of_rows rest rows = sum_by (λ row. row.part.span.pages) (listed_in rest rows)
 
 -- the numbers of some extents
 abbrev pub numbers_of : List Row → List ℕ

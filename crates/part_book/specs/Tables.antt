@@ -10,8 +10,8 @@ use Rattle.space_model.specs.Part.{begins_at}
 use Rattle.space_model.specs.Sound.{is_in_flight}
 use Rattle.part_book.specs.declared.table.AgeList.{AgeList}
 use Rattle.part_book.specs.declared.table.Table.{Table}
-use Rattle.part_book.specs.Lists.{CanList, Gets, Loses}
-use Rattle.part_book.specs.Rows.{Row, IsApart, IsKeyed, first_key, flights_in, is_edge, keys_with, keys_without, listed_in, numbers_of, pages_in, part_at, row_at, size_key}
+use Rattle.part_book.specs.Lists.{CanList, GainsRow, LosesRow}
+use Rattle.part_book.specs.Rows.{Row, IsApart, IsKeyed, first_key, flights_in, is_edge, keys_with, keys_without, listed_in, numbers_of, pages_of_rows, part_at, row_at, size_key}
 
 -- the extents with their numbers, in their order
 unfoldable pub rows_of : Table → List Row
@@ -24,7 +24,7 @@ parts_of t = map (λ row. row.part) (rows_of t)
 -- the list has the extents of the rest, and places for all numbers
 pub record IsListOf (rest : Rest) (list : AgeList) (slots : ℕ) (rows : List Row) : Type 0 where
   pub numbers : list.ages.numbers ≡ numbers_of (listed_in rest rows)
-  pub pages : list.pages ≡ pages_in rest rows
+  pub pages : list.pages ≡ pages_of_rows rest rows
   pub places : slots ≤ list.ages.places
 
 -- each index has what it shall have of the extents
@@ -50,7 +50,7 @@ pub record IsSlotted (t : Table) (rows : List Row) : Type 0 where
   pub room : vec_len t.slots ≤ vec_capacity t.free
 
 -- the indexes and the slots keep the extents
-pub record IsTable (t : Table) (rows : List Row) : Type 0 where
+pub record IsRowTable (t : Table) (rows : List Row) : Type 0 where
   pub indexes : IsIndexed t rows
   pub slots : IsSlotted t rows
 
@@ -60,14 +60,14 @@ pub record HasListRoom (t : Table) (more : ℕ) : Type 0 where
   pub flights : length t.order.numbers + more ≤ vec_capacity t.flights
 
 -- so many more extents have a place in each index, whatever their states
-pub record HasRoom (t : Table) (more : ℕ) : Type 0 where
+pub record HasRoomFor (t : Table) (more : ℕ) : Type 0 where
   pub firsts : more ≤ t.firsts.spare
   pub free : more ≤ vec_len t.free
   pub lists : HasListRoom t more
 
 -- the table is in order, and its extents are these
-pub record Keeps (t : Table) (extents : List Part) : Type 0 where
-  pub table : IsTable t (rows_of t)
+pub record KeepsExtents (t : Table) (extents : List Part) : Type 0 where
+  pub table : IsRowTable t (rows_of t)
   pub parts : parts_of t ≡ extents
 
 -- the extent with its number is the one that begins at the page
@@ -81,9 +81,9 @@ pub record IsRowAt (t : Table) (first : ℕ) (row : Row) : Type 0 where
 pub record IsLifted (t u : Table) (row : Row) : Type 0 where
   pub order : u.order.numbers ≡ filter (λ n. not (n == row.number)) t.order.numbers
   pub places : u.order.places ≡ t.order.places
-  pub dirty : Loses ToDirty t.dirty u.dirty row
-  pub muzzy : Loses ToMuzzy t.muzzy u.muzzy row
-  pub retained : Loses ToRetained t.retained u.retained row
+  pub dirty : LosesRow ToDirty t.dirty u.dirty row
+  pub muzzy : LosesRow ToMuzzy t.muzzy u.muzzy row
+  pub retained : LosesRow ToRetained t.retained u.retained row
   pub sizes : u.sizes.keys ≡ keys_without t.sizes.keys (size_key row)
   pub flights : u.flights.items ≡ cond (is_in_flight row.part.state) (filter (λ n. not (n == row.number)) t.flights.items) t.flights.items
   pub firsts : u.firsts ≡ t.firsts
@@ -107,9 +107,9 @@ pub record CanLower (t : Table) (row : Row) : Type 0 where
 pub record IsLowered (t u : Table) (row : Row) : Type 0 where
   pub order : u.order.numbers ≡ t.order.numbers ++ row.number ∷ []
   pub places : u.order.places ≡ t.order.places
-  pub dirty : Gets ToDirty t.dirty u.dirty row
-  pub muzzy : Gets ToMuzzy t.muzzy u.muzzy row
-  pub retained : Gets ToRetained t.retained u.retained row
+  pub dirty : GainsRow ToDirty t.dirty u.dirty row
+  pub muzzy : GainsRow ToMuzzy t.muzzy u.muzzy row
+  pub retained : GainsRow ToRetained t.retained u.retained row
   pub sizes : u.sizes.keys ≡ keys_with t.sizes.keys (size_key row)
   pub flights : u.flights.items ≡ t.flights.items ++ cond (is_in_flight row.part.state) (row.number ∷ []) []
   pub firsts : u.firsts ≡ t.firsts

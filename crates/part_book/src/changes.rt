@@ -6,9 +6,9 @@ ghost use Rattle.space_model.specs.Span.{IsPlaced, end_of, meets};
 ghost use Rattle.space_model.specs.Part.{begins_at, exchanged, is_listed};
 ghost use Rattle.space_model.specs.Sound.{is_in_flight};
 ghost use Rattle.part_book.specs.Leaves.{HasLeaves, HasMore, leaves_for};
-ghost use Rattle.part_book.specs.Lists.{CanList, CanUnlist, Gets, Loses};
+ghost use Rattle.part_book.specs.Lists.{CanList, CanUnlist, GainsRow, LosesRow};
 ghost use Rattle.part_book.specs.Rows.{Own, keys_with, keys_without, with_edges, without_edges};
-ghost use Rattle.part_book.specs.Tables.{CanLower, HasListRoom, HasRoom, IsLifted, IsLowered, IsRowAt, IsTable, Keeps, parts_of, rows_of};
+ghost use Rattle.part_book.specs.Tables.{CanLower, HasListRoom, HasRoomFor, IsLifted, IsLowered, IsRowAt, IsRowTable, KeepsExtents, parts_of, rows_of};
 
 use crate::rows::{end_of, first_key, size_key};
 use crate::table::{AgeList, Table};
@@ -19,7 +19,7 @@ use space_model::{Part, Rest, Span, State};
 impl Table {
     /// The number of the extent that begins at a page, and the extent.
     pub fn extent_at(&self, first: u64) -> (u32, Part)
-        requires table { IsTable self.now (rows_of self.now) }
+        requires table { IsRowTable self.now (rows_of self.now) }
         requires begins { IsSome (find (begins_at first) (parts_of self.now)) }
         ensures at { IsRowAt self.now first (record { number = result.0; part = result.1 }) }
         ensures first { result.1.span.first ≡ first }
@@ -33,13 +33,13 @@ impl Table {
 
     /// Takes the extent that begins at a page off, and gives it back.
     pub fn take_off(&mut self, first: u64) -> Part
-        requires table { IsTable self.old (rows_of self.old) }
+        requires table { IsRowTable self.old (rows_of self.old) }
         requires begins { IsSome (find (begins_at first) (parts_of self.old)) }
-        ensures kept { Keeps self.new (filter (λ p. not (begins_at first p)) (parts_of self.old)) }
+        ensures kept { KeepsExtents self.new (filter (λ p. not (begins_at first p)) (parts_of self.old)) }
         ensures part { find (begins_at first) (parts_of self.old) ≡ Some result }
         ensures placed { IsPlaced result.span }
         ensures apart { All (λ p. meets p.span result.span ≡ false) (parts_of self.new) }
-        ensures room { (n : ℕ) → HasRoom self.old n → HasRoom self.new (n + 1) }
+        ensures room { (n : ℕ) → HasRoomFor self.old n → HasRoomFor self.new (n + 1) }
         ensures chunks { self.new.edges.chunks ≡ self.old.edges.chunks }
         ensures spare { self.new.edges.spare ≡ self.old.edges.spare }
         ensures leaves { leaves_for self.new.edges result.span ≡ 0 }
@@ -54,13 +54,13 @@ impl Table {
 
     /// Puts a new extent on, behind all others.
     pub fn put_on(&mut self, part: Part)
-        requires table { IsTable self.old (rows_of self.old) }
+        requires table { IsRowTable self.old (rows_of self.old) }
         requires placed { IsPlaced part.span }
         requires apart { All (λ p. meets p.span part.span ≡ false) (parts_of self.old) }
-        requires room { HasRoom self.old 1 }
+        requires room { HasRoomFor self.old 1 }
         requires leaves { HasLeaves self.old.edges (leaves_for self.old.edges part.span) }
-        ensures kept { Keeps self.new (parts_of self.old ++ part ∷ []) }
-        ensures room { (n : ℕ) → HasRoom self.old (n + 1) → HasRoom self.new n }
+        ensures kept { KeepsExtents self.new (parts_of self.old ++ part ∷ []) }
+        ensures room { (n : ℕ) → HasRoomFor self.old (n + 1) → HasRoomFor self.new n }
         ensures leaves { (n : ℕ) → HasLeaves self.old.edges (n + leaves_for self.old.edges part.span)
             → HasLeaves self.new.edges n }
         ensures chunks { (chunk : ℕ) → set.contains self.old.edges.chunks chunk ≡ true
@@ -75,15 +75,15 @@ impl Table {
 
     /// Makes another one of an extent, behind all others, which begins at the same page.
     pub fn exchange(&mut self, number: u32, part: Part, other: Part)
-        requires table { IsTable self.old (rows_of self.old) }
+        requires table { IsRowTable self.old (rows_of self.old) }
         requires there { Contains (rows_of self.old) (record { number = number; part = part }) }
         requires first { other.span.first ≡ part.span.first }
         requires placed { IsPlaced other.span }
         requires room { HasListRoom self.old 0 }
         requires apart { All (λ p. meets p.span other.span ≡ false) (filter (λ p. not (begins_at part.span.first p)) (parts_of self.old)) }
         requires leaves { HasLeaves self.old.edges (leaves_for self.old.edges other.span) }
-        ensures kept { Keeps self.new (exchanged (begins_at part.span.first) (parts_of self.old) (other ∷ [])) }
-        ensures room { (n : ℕ) → HasRoom self.old n → HasRoom self.new n }
+        ensures kept { KeepsExtents self.new (exchanged (begins_at part.span.first) (parts_of self.old) (other ∷ [])) }
+        ensures room { (n : ℕ) → HasRoomFor self.old n → HasRoomFor self.new n }
         ensures leaves { (n : ℕ) → HasLeaves self.old.edges (n + leaves_for self.old.edges other.span)
             → HasLeaves self.new.edges n }
         ensures chunks { (chunk : ℕ) → set.contains self.old.edges.chunks chunk ≡ true
@@ -97,7 +97,7 @@ impl Table {
 
     // Takes an extent off the order and off what its state puts it on.
     fn lift(&mut self, number: u32, part: &Part)
-        requires table { IsTable self.old (rows_of self.old) }
+        requires table { IsRowTable self.old (rows_of self.old) }
         requires there { Contains (rows_of self.old) (record { number = number; part = part.now }) }
         ensures lists { IsLifted self.old self.new (record { number = number; part = part.now }) }
         ensures room { (n : ℕ) → HasListRoom self.old n → HasListRoom self.new (n + 1) }
@@ -212,9 +212,9 @@ fn list(
     requires muzzy { CanList muzzy.old (record { number = number; part = part.now }) }
     requires retained { CanList retained.old (record { number = number; part = part.now }) }
     requires flights { vec_len flights.old < vec_capacity flights.old }
-    ensures dirty { Gets Rest.Dirty dirty.old dirty.new (record { number = number; part = part.now }) }
-    ensures muzzy { Gets Rest.Muzzy muzzy.old muzzy.new (record { number = number; part = part.now }) }
-    ensures retained { Gets Rest.Retained retained.old retained.new (record { number = number; part = part.now }) }
+    ensures dirty { GainsRow Rest.Dirty dirty.old dirty.new (record { number = number; part = part.now }) }
+    ensures muzzy { GainsRow Rest.Muzzy muzzy.old muzzy.new (record { number = number; part = part.now }) }
+    ensures retained { GainsRow Rest.Retained retained.old retained.new (record { number = number; part = part.now }) }
     ensures flights { flights.new.items ≡ flights.old.items ++ cond (is_in_flight part.now.state) (number ∷ []) [] }
     ensures room { vec_capacity flights.old ≤ vec_capacity flights.new }
 {
@@ -239,9 +239,9 @@ fn unlist(
     requires dirty { CanUnlist Rest.Dirty dirty.old (record { number = number; part = part.now }) }
     requires muzzy { CanUnlist Rest.Muzzy muzzy.old (record { number = number; part = part.now }) }
     requires retained { CanUnlist Rest.Retained retained.old (record { number = number; part = part.now }) }
-    ensures dirty { Loses Rest.Dirty dirty.old dirty.new (record { number = number; part = part.now }) }
-    ensures muzzy { Loses Rest.Muzzy muzzy.old muzzy.new (record { number = number; part = part.now }) }
-    ensures retained { Loses Rest.Retained retained.old retained.new (record { number = number; part = part.now }) }
+    ensures dirty { LosesRow Rest.Dirty dirty.old dirty.new (record { number = number; part = part.now }) }
+    ensures muzzy { LosesRow Rest.Muzzy muzzy.old muzzy.new (record { number = number; part = part.now }) }
+    ensures retained { LosesRow Rest.Retained retained.old retained.new (record { number = number; part = part.now }) }
     ensures flights { flights.new.items ≡ cond (is_in_flight part.now.state)
         (filter (λ flight. not (flight == number)) flights.old.items) flights.old.items }
     ensures room { vec_capacity flights.new ≡ vec_capacity flights.old }

@@ -6,7 +6,7 @@ ghost use Rattle.space_model.specs.Part.{begins_at, is_flight, is_in_flight, is_
 ghost use Rattle.space_model.specs.Fit.{fit_of};
 ghost use Rattle.part_book.specs.Books.{IsFirstFrom, ends_at, pages_of};
 ghost use Rattle.part_book.specs.Rows.{IsLastBelow, is_edge, part_at};
-ghost use Rattle.part_book.specs.Tables.{IsListOf, IsTable, parts_of, rows_of};
+ghost use Rattle.part_book.specs.Tables.{IsListOf, IsRowTable, parts_of, rows_of};
 
 use crate::rows::{RADIX, end_of, holds_run, rank};
 use crate::table::{AgeList, Table};
@@ -24,7 +24,7 @@ impl Table {
 
     // The extent whose first or last page this is.
     fn at_edge(&self, page: u64) -> Option<Part>
-        requires table { IsTable self.now (rows_of self.now) }
+        requires table { IsRowTable self.now (rows_of self.now) }
         ensures { result ≡ find (is_edge page) (parts_of self.now) }
     {
         let number = self.edges.get(page)?;
@@ -33,7 +33,7 @@ impl Table {
 
     /// The extent that begins at a page.
     pub fn look(&self, first: u64) -> Option<Part>
-        requires table { IsTable self.now (rows_of self.now) }
+        requires table { IsRowTable self.now (rows_of self.now) }
         ensures { result ≡ find (begins_at first) (parts_of self.now) }
     {
         let part = self.at_edge(first)?;
@@ -46,7 +46,7 @@ impl Table {
 
     /// The extent that ends before a page.
     pub fn ending_at(&self, page: u64) -> Option<Part>
-        requires table { IsTable self.now (rows_of self.now) }
+        requires table { IsRowTable self.now (rows_of self.now) }
         ensures { result ≡ find (ends_at page) (parts_of self.now) }
     {
         let part = self.at_edge(page.checked_sub(1)?)?;
@@ -59,7 +59,7 @@ impl Table {
 
     // The last extent that begins below a page.
     fn last_below(&self, page: u64) -> Option<Part>
-        requires table { IsTable self.now (rows_of self.now) }
+        requires table { IsRowTable self.now (rows_of self.now) }
         ensures none { IsNone result → All (λ p. page ≤ p.span.first) (parts_of self.now) }
         ensures last { IfSome result (IsLastBelow page (parts_of self.now)) }
     {
@@ -72,7 +72,7 @@ impl Table {
 
     /// The first extent that begins at a page or behind it.
     pub fn first_from(&self, page: u64) -> Option<Part>
-        requires table { IsTable self.now (rows_of self.now) }
+        requires table { IsRowTable self.now (rows_of self.now) }
         ensures none { IsNone result → All (λ p. p.span.first < page) (parts_of self.now) }
         ensures first { IfSome result (IsFirstFrom page (parts_of self.now)) }
     {
@@ -85,7 +85,7 @@ impl Table {
 
     /// The extent that has a page.
     pub fn holding(&self, page: u64) -> Option<Part>
-        requires table { IsTable self.now (rows_of self.now) }
+        requires table { IsRowTable self.now (rows_of self.now) }
         ensures { result ≡ find (λ p. has_page page p.span) (parts_of self.now) }
     {
         let part = self.last_below(page.saturating_add(1))?;
@@ -98,7 +98,7 @@ impl Table {
 
     /// Whether some extent shares a page with a span.
     pub fn meets(&self, span: Span) -> bool
-        requires table { IsTable self.now (rows_of self.now) }
+        requires table { IsRowTable self.now (rows_of self.now) }
         ensures { result ≡ list_any (λ p. meets p.span span) (parts_of self.now) }
     {
         match self.last_below(span.first.saturating_add(span.pages)) {
@@ -109,7 +109,7 @@ impl Table {
 
     // The list of a rest.
     fn list_of(&self, rest: Rest) -> &AgeList
-        requires table { IsTable self.now (rows_of self.now) }
+        requires table { IsRowTable self.now (rows_of self.now) }
         ensures { IsListOf rest result.now (vec_len self.now.slots) (rows_of self.now) }
     {
         match rest {
@@ -121,7 +121,7 @@ impl Table {
 
     /// The smallest extent of a rest that holds such a run, the lowest among equally small ones.
     pub fn fit_of(&self, rest: Rest, pages: u64, align: u64) -> Option<Part>
-        requires table { IsTable self.now (rows_of self.now) }
+        requires table { IsRowTable self.now (rows_of self.now) }
         requires some { 0 < pages }
         requires aligned { 0 < align }
         ensures { result ≡ fit_of rest pages align (parts_of self.now) }
@@ -146,7 +146,7 @@ impl Table {
 
     /// The extent that is longest among those of a rest.
     pub fn oldest(&self, rest: Rest) -> Option<Part>
-        requires table { IsTable self.now (rows_of self.now) }
+        requires table { IsRowTable self.now (rows_of self.now) }
         ensures { result ≡ find (λ p. is_listed rest p.state) (parts_of self.now) }
     {
         let number = self.list_of(rest).ages.first()?;
@@ -155,7 +155,7 @@ impl Table {
 
     /// The extent that is longest among all.
     pub fn first(&self) -> Option<Part>
-        requires table { IsTable self.now (rows_of self.now) }
+        requires table { IsRowTable self.now (rows_of self.now) }
         ensures { result ≡ slice_get (parts_of self.now) 0 }
     {
         let number = self.order.first()?;
@@ -164,7 +164,7 @@ impl Table {
 
     /// How many extents there are of a rest.
     pub fn count(&self, rest: Rest) -> u64
-        requires table { IsTable self.now (rows_of self.now) }
+        requires table { IsRowTable self.now (rows_of self.now) }
         ensures { result ≡ count_by (λ p. is_listed rest p.state) (parts_of self.now) }
     {
         self.list_of(rest).ages.len()
@@ -172,7 +172,7 @@ impl Table {
 
     /// How many pages the extents of a rest have together.
     pub fn pages(&self, rest: Rest) -> u64
-        requires table { IsTable self.now (rows_of self.now) }
+        requires table { IsRowTable self.now (rows_of self.now) }
         ensures { result ≡ pages_of rest (parts_of self.now) }
     {
         self.list_of(rest).pages
@@ -180,7 +180,7 @@ impl Table {
 
     /// How many extents are in flight.
     pub fn count_flights(&self) -> u64
-        requires table { IsTable self.now (rows_of self.now) }
+        requires table { IsRowTable self.now (rows_of self.now) }
         ensures { result ≡ count_by (λ p. is_in_flight p.state) (parts_of self.now) }
     {
         self.flights.len() as u64
@@ -188,7 +188,7 @@ impl Table {
 
     /// The span of the first extent that the client has in flight.
     pub fn next_flight(&self, client: u32) -> Option<Span>
-        requires table { IsTable self.now (rows_of self.now) }
+        requires table { IsRowTable self.now (rows_of self.now) }
         ensures { result ≡ option_map (λ p. p.span) (find (λ p. is_flight client p.state) (parts_of self.now)) }
     {
         for number in &self.flights {

@@ -8,7 +8,8 @@ ghost use Rattle.space_model.specs.Span.{IsPlaced, has_page, meets};
 ghost use Rattle.space_model.specs.Part.{begins_at, exchanged, is_flight, is_in_flight, is_listed};
 ghost use Rattle.space_model.specs.Step.{low_piece, high_piece};
 ghost use Rattle.space_model.specs.Fit.{fit};
-ghost use Rattle.part_book.specs.Books.{AreBeside, IsFirstFrom, is_beside, joined, pages_of};
+ghost use Rattle.space_model.specs.Stepped.{joined};
+ghost use Rattle.part_book.specs.Books.{AreBeside, IsFirstFrom, is_beside, pages_of};
 
 use crate::table::Table;
 use space_model::{Part, Rest, Span, State};
@@ -40,11 +41,11 @@ impl Model for PartBook {
 
     ghost Value = { Book };
 
-    ghost use Rattle.part_book.specs.Shown.{shown, IsBook};
+    ghost use Rattle.part_book.specs.Shown.{shown, IsPartBook};
 
     ghost view = { shown };
 
-    ghost invariant = { IsBook };
+    ghost invariant = { IsPartBook };
 }
 
 impl PartBook {

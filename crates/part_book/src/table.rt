@@ -1,9 +1,9 @@
 //! The indexes over the extents of an arena, and the room in them.
 ghost use Rattle.std.specs.Prelude.{◌≡◌, ℕ, ◌==◌, ◌+◌, ◌-◌, ◌*◌, ◌<◌, ◌≤◌, ◌^◌, [], cond, count_by, nat_lt, max, OnOk, IfOk, vec_capacity, vec_len, length};
 ghost use Rattle.part_book.specs.Leaves.{HasLeaves};
-ghost use Rattle.part_book.specs.Lists.{Grows};
+ghost use Rattle.part_book.specs.Lists.{AgesGrow};
 ghost use Rattle.part_book.specs.Rows.{part_at};
-ghost use Rattle.part_book.specs.Tables.{HasRoom, IsTable, Keeps, parts_of, rows_of};
+ghost use Rattle.part_book.specs.Tables.{HasRoomFor, IsRowTable, KeepsExtents, parts_of, rows_of};
 
 use age_ring::AgeRing;
 use ordered_set::OrderedSet;
@@ -46,8 +46,8 @@ pub struct Table {
 
 impl Table {
     pub fn new(alloc: Global) -> Result<Table, NoMemory>
-        ensures kept { IfOk result (λ t. Keeps t []) }
-        ensures room { IfOk result (λ t. HasRoom t 0) }
+        ensures kept { IfOk result (λ t. KeepsExtents t []) }
+        ensures room { IfOk result (λ t. HasRoomFor t 0) }
         ensures leaves { IfOk result (λ t. HasLeaves t.edges 0) }
     {
         Ok(Table {
@@ -66,11 +66,11 @@ impl Table {
 
     /// Makes room for so many further extents in each index. The extents stay.
     pub fn reserve(&mut self, more: u64) -> Result<(), NoMemory>
-        requires { IsTable self.old (rows_of self.old) }
-        ensures kept { Keeps self.new (parts_of self.old) }
-        ensures room { (n : ℕ) → HasRoom self.old n → HasRoom self.new n }
+        requires { IsRowTable self.old (rows_of self.old) }
+        ensures kept { KeepsExtents self.new (parts_of self.old) }
+        ensures room { (n : ℕ) → HasRoomFor self.old n → HasRoomFor self.new n }
         ensures leaves { (n : ℕ) → HasLeaves self.old.edges n → HasLeaves self.new.edges n }
-        ensures ok { OnOk result (HasRoom self.new more) }
+        ensures ok { OnOk result (HasRoomFor self.new more) }
         ensures ok_leaves { OnOk result (HasLeaves self.new.edges (2 * more)) }
     {
         let all = self.order.len().checked_add(more).ok_or(NoMemory)?;
@@ -114,10 +114,10 @@ fn reserve_rings(
     all: u64,
 ) -> Result<(), NoMemory>
     requires { all ≤ NUMBERS }
-    ensures order { Grows order.old order.new }
-    ensures dirty { Grows dirty.old dirty.new }
-    ensures muzzy { Grows muzzy.old muzzy.new }
-    ensures retained { Grows retained.old retained.new }
+    ensures order { AgesGrow order.old order.new }
+    ensures dirty { AgesGrow dirty.old dirty.new }
+    ensures muzzy { AgesGrow muzzy.old muzzy.new }
+    ensures retained { AgesGrow retained.old retained.new }
     ensures ok_order { OnOk result (all ≤ order.new.places) }
     ensures ok_dirty { OnOk result (all ≤ dirty.new.places) }
     ensures ok_muzzy { OnOk result (all ≤ muzzy.new.places) }

@@ -1,5 +1,5 @@
 -- What the calls of a book need to know of its regions.
-use Rattle.region_book.proofs.Words.{◌≡◌, ℕ, ◌+◌, ◌-◌, ◌*◌, ◌<◌, ◌≤◌, ◌^◌, Bool, true, false, not, List, [], ◌∷◌, ◌++◌, length-append, map, filter, find, length, Option, None, Some, refl, sym, ◌∙◌, ap, subst, arith, nat_lt, nat_le, ◌&&◌, inl, inr, Every, list_any, range_with_len, option_or, nat_tests, length-range_with_len, size_at, every_map, Region, inserted, landing, region_of, regions_from, starts_at, region_bytes, holds_at, is_given_back, staying, AreApart, IsRising, changed, code_of, absent_changed, absent_filter, change_both, changed_is, drop_both, every_changed, every_landing, found_there, land_left, land_right, Landed, merged, new_apart, taken_out, every_member, found, Bins, Slab, is_unused, with_free, IsHolder, addr_of, Totals, Inside, IsBook, CanCome, IsOf, is_last, slabs_returned, AreMore, AreTotals, CanGrow, CanShrink}
+use Rattle.region_book.proofs.Words.{◌≡◌, ℕ, ◌+◌, ◌-◌, ◌*◌, ◌<◌, ◌≤◌, ◌^◌, Bool, true, false, not, List, [], ◌∷◌, ◌++◌, length-append, map, filter, find, length, Option, None, Some, refl, sym, ◌∙◌, ap, subst, arith, nat_lt, nat_le, ◌&&◌, inl, inr, Every, list_any, range_with_len, option_or, nat_tests, length-range_with_len, size_at, every_map, Region, inserted, landing, region_of, regions_from, starts_at, region_bytes, holds_at, is_given_back, staying, AreApart, IsRising, changed, code_of, absent_changed, absent_filter, change_both, changed_is, drop_both, every_changed, every_landing, found_there, land_left, land_right, Landed, merged, new_apart, taken_out, every_member, found, Bins, BinSlab, is_all_free, with_free, IsHolder, addr_of, Totals, Inside, IsRegionBook, CanCome, IsOf, is_last, slabs_returned, AreMore, AreTotals, CanGrow, CanShrink}
 use Rattle.region_book.proofs.Tallies.{HaveCome, can_grow, can_shrink, one_comes, some_come, totals_less, totals_more}
 use Rattle.region_book.proofs.Changes.{can_come, found_so, gives, one_from}
 
@@ -50,7 +50,7 @@ pub record Swapped (addr : ℕ) (change : Region → Region) (rs xs ys : List Re
   pub apart : AreApart addr_of xs ys
   pub regions : landing xs ys ≡ changed (starts_at addr) change rs
 
-module _ (b : Inside) (is : IsBook b) where
+module _ (b : Inside) (is : IsRegionBook b) where
   abbrev xs : List Region
   xs = b.larges.regions
 
@@ -241,7 +241,7 @@ module _ (b : Inside) (is : IsBook b) where
           absurd (grind (arith, nat_tests))
 
 -- a book with the same regions and totals
-pub book_again : {b n : Inside} → IsBook b → n.larges.regions ≡ b.larges.regions → n.bins.regions ≡ b.bins.regions → n.totals ≡ b.totals → IsBook n
+pub book_again : {b n : Inside} → IsRegionBook b → n.larges.regions ≡ b.larges.regions → n.bins.regions ≡ b.bins.regions → n.totals ≡ b.totals → IsRegionBook n
 book_again {b} {n} is left right totals = record {
   apart = subst (λ ls. AreApart addr_of ls n.bins.regions) (sym left) (subst (AreApart addr_of b.larges.regions) (sym right) is.apart);
   larges = subst (Every (IsOf 36 121)) (sym left) is.larges;
@@ -255,8 +255,8 @@ taken_many {before} {after} {was} more is then = let b = ap length is in let a =
 
 -- ---- slabs
 
-pub last_large : (class addr : ℕ) (slabs : List Slab) → 36 ≤ class → (is_last class addr slabs ≡ true) × (slabs_returned class addr slabs ≡ slabs)
+pub last_large : (class addr : ℕ) (slabs : List BinSlab) → 36 ≤ class → (is_last class addr slabs ≡ true) × (slabs_returned class addr slabs ≡ slabs)
 last_large class addr slabs large = let no : nat_lt class 36 ≡ false = grind (arith, nat_tests) in (rw no refl, rw no refl)
 
-pub last_small : (class addr : ℕ) (slabs : List Slab) → class < 36 → (is_last class addr slabs ≡ list_any is_unused (map (with_free addr) slabs)) × (slabs_returned class addr slabs ≡ filter (λ x. not (is_unused x)) (map (with_free addr) slabs))
+pub last_small : (class addr : ℕ) (slabs : List BinSlab) → class < 36 → (is_last class addr slabs ≡ list_any is_all_free (map (with_free addr) slabs)) × (slabs_returned class addr slabs ≡ filter (λ x. not (is_all_free x)) (map (with_free addr) slabs))
 last_small class addr slabs small = let yes : nat_lt class 36 ≡ true = grind (arith, nat_tests) in (rw yes refl, rw yes refl)

@@ -6,7 +6,7 @@ pub use Rattle.std.proofs.lemmas.Bool.Decides.{nat_tests}
 pub use Rattle.std.proofs.lemmas.List.{ext_get_or, get_or-set_same, get_or-set_other}
 pub use Rattle.std.proofs.lemmas.List.FromFn.{length-range_with_len, length-map-range_with_len, get_or-map-range_with_len}
 pub use Rattle.std.proofs.lemmas.List.Sums.{sum_by-cons, sum_by-insert, sum_by-le-sum_by}
-pub use Rattle.bin_book.specs.Bins.{Bins, Slab, is_unused, with_free, free_of}
+pub use Rattle.bin_book.specs.Bins.{Bins, BinSlab, is_all_free, with_free, free_of}
 pub use Rattle.large_book.proofs.Listing.{held_by}
 pub use Rattle.large_book.specs.Larges.{IsHolder, addr_of}
 pub use Rattle.list_facts.proofs.ByKey.{absent_changed, absent_filter, change_both, changed_is, drop_both, every_changed, every_landing, found_there, land_left, land_right, Landed, merged, new_apart, taken_out, distinct_new, found_alone, member_found, every_inserted}
@@ -23,7 +23,7 @@ pub use Rattle.space_model.specs.Step.{holds_at, is_given_back, staying}
 pub use Rattle.space_model.specs.declared.parts.Region.{Region}
 pub use mathlib.Core.Logic.{dite}
 pub use native.Mathlib.Decide.{ℕ_discrete}
-pub use Rattle.region_book.specs.Books.{IsBook, regions_in}
+pub use Rattle.region_book.specs.Books.{IsRegionBook, all_regions}
 pub use Rattle.region_book.specs.RegionLists.{CanCome, IsOf, if_published, Regions}
 pub use Rattle.region_book.specs.Slabs.{is_last, slabs_returned}
 pub use Rattle.region_book.specs.Totals.{AreMore, AreTotals, CanGrow, CanShrink, IsMoreAt, small_size_at}

@@ -6,12 +6,12 @@ use Rattle.space_model.specs.declared.parts.Region.{Region}
 use Rattle.space_model.specs.Region.{is_published, landing, starts_at}
 use Rattle.large_book.specs.Larges.{IsHolder}
 use Rattle.space_model.specs.Counts.{region_bytes}
-use Rattle.bin_book.specs.Bins.{Slab, meets_slab}
+use Rattle.bin_book.specs.Bins.{BinSlab, meets_slab}
 
 -- what callers see: the regions by address, the slabs of the small ones, and how many more extents may come to serve regions
 pub record Regions : Type 0 where
   pub regions : List Region
-  pub slabs : List Slab
+  pub slabs : List BinSlab
   pub places : ℕ
 
 -- regions can come where no two begin at one address afterwards, and the bytes of all are a number
@@ -20,7 +20,7 @@ pub record CanCome (come regions : List Region) : Type 0 where
   pub fits : region_bytes (landing come regions) < 2 ^ 64
 
 -- a new slab has a region out and no more than its places, lies in the space, and meets no slab of the book
-pub record CanBeSlab (class first count : ℕ) (slabs : List Slab) : Type 0 where
+pub record CanBeSlab (class first count : ℕ) (slabs : List BinSlab) : Type 0 where
   pub some : 0 < count
   pub most : count ≤ regions_at class
   pub inside : first + pages_at class ≤ 2 ^ 32

@@ -12,7 +12,7 @@ ghost use Rattle.space_model.specs.Region.{held_anew, inserted, is_held_by_other
 ghost use Rattle.space_model.specs.Holding.{is_published_at};
 ghost use Rattle.space_model.specs.Counts.{region_bytes, region_bytes_where, regions_by_class};
 ghost use Rattle.space_model.specs.Step.{holds_at, is_given_back, staying};
-ghost use Rattle.bin_book.specs.Bins.{free_of, slab_with_out, with_slab, without};
+ghost use Rattle.bin_book.specs.Bins.{free_of, slab_with_out, with_slab, with_regions_out};
 ghost use Rattle.large_book.specs.Larges.{IsHolder};
 ghost use Rattle.region_book.specs.RegionLists.{CanBeSlab, CanCome, if_published};
 ghost use Rattle.region_book.specs.Slabs.{is_last, slabs_landed, slabs_returned};
@@ -44,11 +44,11 @@ impl Model for RegionBook {
 
     ghost Value = { Regions };
 
-    ghost use Rattle.region_book.specs.Books.{shown, IsBook};
+    ghost use Rattle.region_book.specs.Books.{shown, IsRegionBook};
 
     ghost view = { shown };
 
-    ghost invariant = { IsBook };
+    ghost invariant = { IsRegionBook };
 }
 
 impl RegionBook {
@@ -155,7 +155,7 @@ impl RegionBook {
         requires can_come { CanCome (map (region_of client class) (take count (free_of class self.old.slabs))) self.old.regions }
         ensures addrs { out.new.items ≡ out.old.items ++ take count (free_of class self.old.slabs) }
         ensures regions { self.new.regions ≡ landing (map (region_of client class) (take count (free_of class self.old.slabs))) self.old.regions }
-        ensures slabs { self.new.slabs ≡ map (without (take count (free_of class self.old.slabs))) self.old.slabs }
+        ensures slabs { self.new.slabs ≡ map (with_regions_out (take count (free_of class self.old.slabs))) self.old.slabs }
         ensures places { self.new.places ≡ self.old.places }
     {
         let before = out.as_slice().len();

@@ -1,5 +1,5 @@
 -- The region that a memalign is given is aligned: each step of the call keeps what is so of its place.
-use Rattle.replay_run.proofs.Words.{◌≡◌, ℕ, ◌%◌, ◌<◌, ◌==◌, Bool, true, false, All, inl, inr, List, [], ◌∷◌, ◌++◌, Option, None, Some, IfSome, length, get_or, refl, sym, ◌∙◌, ap, subst, arith, nat_lt, Contains, count_by, eqb-true, ltb-true, nat_tests, get_or_default, All-filter, All-head, All-tail, sum_by-cons, ones, align_at, SpaceRegion, Space, is_held_by, Sound, both_true, Held, cached_in, DeskFacts, cached_is_flat, Answered, Region, Item, Request, Memalign, Owning, Point, Turns, Next, Go, Over, More, Gone, Ends, Nowhere, IsCacheAligned, CallFacts, AllCame, desk_fed, Moment, after, begin, begin_memalign, begin_stage, run, settle, step_next, step, memaligns-are_aligned, IsArenas, opening_records, record_at, HeapFacts, Record, Seat, asked_for, first_desk, first_seat, seat_at, Has, IsSeated, SitsAt, is_region, sound_at, had_counts, Owns, count_in, counts_low, has_owns, opening-sits, opening_is, past, IsAligned, IsAlignedFor, MemalignsAreAligned, Tale, answer_in, tale_fed, tale_in, Event, IsSound, World}
+use Rattle.replay_run.proofs.Words.{◌≡◌, ℕ, ◌%◌, ◌<◌, ◌==◌, Bool, true, false, All, inl, inr, List, [], ◌∷◌, ◌++◌, Option, None, Some, IfSome, length, get_or, refl, sym, ◌∙◌, ap, subst, arith, nat_lt, Contains, count_by, eqb-true, ltb-true, nat_tests, get_or_default, All-filter, All-head, All-tail, sum_by-cons, ones, align_at, SpaceRegion, Space, is_held_by, Sound, both_true, Held, cached_in, DeskFacts, cached_is_flat, Answered, Region, Item, Request, Memalign, Owning, Point, Turns, Next, Go, Over, More, Gone, Ends, Nowhere, IsCacheAligned, CallFacts, AllCame, desk_fed, Moment, after, begin, begin_memalign, begin_stage, run, settle, step_next, step, memaligns-are_aligned, IsArenas, opening_records, record_at, HeapFacts, Record, Seat, asked_for, first_desk, first_seat, seat_at, HasRegions, IsSeated, SitsAt, is_region, sound_at, had_counts, Owns, count_in, counts_low, has_owns, opening-sits, opening_is, past, IsAligned, IsAlignedFor, MemalignsAreAligned, Tale, answer_in, tale_fed, tale_in, WorldEvent, IsSound, World}
 use Rattle.call_table.specs.declared.needs.Answered.TheVariants.{Ok}
 use Rattle.call_table.specs.Causes.{Came}
 use Rattle.replay_run.proofs.Getting.{Gets, begin_gets, step_gets}
@@ -25,16 +25,16 @@ counted_aligned a k (r ∷ rs) all some =
     region_is a k r e = let both = both_true (r.addr == a) (r.class == k) e in (eqb-true r.addr a both.0, eqb-true r.class k both.1)
 
 -- a client that is as it has to be has what it has among the arenas
-sound_has : (records : List Record) (c : ℕ) (desk : DeskFacts) (call : Option CallFacts) → IsSeated records c desk call → Has records c desk
+sound_has : (records : List Record) (c : ℕ) (desk : DeskFacts) (call : Option CallFacts) → IsSeated records c desk call → HasRegions records c desk
 sound_has records c desk None rests = rests.has
 sound_has records c desk (Some call) seated = by call.stage.next seated.1
   where
-    by : (next : Next) → SitsAt records c desk call next → Has records c desk
+    by : (next : Next) → SitsAt records c desk call next → HasRegions records c desk
     by (Go point) sits = sits.has
     by next sits = absurd sits
 
 -- each region that it has cached is aligned
-has_aligned : (records : List Record) (c : ℕ) (desk : DeskFacts) → IsArenas records → Has records c desk → IsCacheAligned desk
+has_aligned : (records : List Record) (c : ℕ) (desk : DeskFacts) → IsArenas records → HasRegions records c desk → IsCacheAligned desk
 has_aligned records c desk is has class small i d within =
     let owns : Owns records c [] desk = has_owns records c desk has in
     let list : List Held = cached_in desk.cached class in
@@ -127,13 +127,13 @@ answer_aligned : (c : ℕ) (request : Request) (tale : Tale) (answer : Answered)
 answer_aligned c (Memalign align size) tale (Ok (Region addr class)) (cached, gets, (all, is)) = memaligns-are_aligned c align size tale.began tale.items addr class cached all is
 answer_aligned c request tale answer so = tt
 
-given_aligned : (w : World) (event : Event) (answer : Option Answered) (tale : Option Tale) → IfSome answer (EndsWith Aligns w event tale) →
+given_aligned : (w : World) (event : WorldEvent) (answer : Option Answered) (tale : Option Tale) → IfSome answer (EndsWith Aligns w event tale) →
     IfSome answer (λ given. IfSome tale (λ told. IsAlignedFor told.request given))
 given_aligned w event None tale ends = tt
 given_aligned w event (Some answer) None ends = tt
 given_aligned w event (Some answer) (Some tale) ends = answer_aligned ends.0 tale.request tale answer ends.1
 
-event_aligned : (w : World) (tales : List (Option Tale)) (event : Event) → IsEnded Aligns w tales event → IsAligned w tales event
+event_aligned : (w : World) (tales : List (Option Tale)) (event : WorldEvent) → IsEnded Aligns w tales event → IsAligned w tales event
 event_aligned w tales event ends = given_aligned w event (answer_in w event) (tale_in w tales event) ends
 
 pub plays-are_aligned : MemalignsAreAligned

@@ -1,5 +1,5 @@
 -- The asks of a play are those that its heap has heard.
-use Rattle.replay_run.proofs.Words.{◌≡◌, ℕ, Bool, true, false, List, [], ◌∷◌, ◌++◌, Option, None, Some, refl, sym, ◌∙◌, ap, append-nil, append_assoc, Op, Held, AskFacts, Answered, Request, CallFacts, HeapFacts, holder_for, published_for, region_for, started, turned_for, answer_of, begun, Line, Step, End, Verb, Event, Read, Began, Turned, Told, Starved, Unnamed, after_event, ask_in, asks_in, world_after, Came, Now, Outset, Awaits, World, awaits_or_idle, begins, begun_as, is_open, line_read, opening, request_of}
+use Rattle.replay_run.proofs.Words.{◌≡◌, ℕ, Bool, true, false, List, [], ◌∷◌, ◌++◌, Option, None, Some, refl, sym, ◌∙◌, ap, append-nil, append_assoc, Op, Held, AskFacts, Answered, Request, CallFacts, HeapFacts, holder_for, published_for, region_for, started, turned_for, answer_of, begun, Line, Step, End, Verb, WorldEvent, Read, Began, Turned, Told, Starved, Unnamed, after_event, ask_in, asks_among, world_after, Reached, Now, Outset, Awaits, World, awaits_or_idle, begins, begun_as, has_open_call, line_read, opening_world, request_of}
 
 -- no line asks anything
 idle_hears : (w : World) (c : ℕ) (open_call : Bool) (awaits : Awaits) → (awaits_or_idle w c open_call awaits).heap.heard ≡ w.heap.heard
@@ -7,8 +7,8 @@ idle_hears w c true awaits = refl
 idle_hears w c false awaits = refl
 
 line_hears : (w : World) (line : Line) → (line_read w line).heap.heard ≡ w.heap.heard
-line_hears w (Step c) = idle_hears w c (is_open w.heap c) _
-line_hears w (End c) = idle_hears w c (is_open w.heap c) _
+line_hears w (Step c) = idle_hears w c (has_open_call w.heap c) _
+line_hears w (End c) = idle_hears w c (has_open_call w.heap c) _
 line_hears w line = refl
 
 -- no call asks anything where it begins
@@ -30,7 +30,7 @@ turned_hears h c call op asked None = refl
 turned_hears h c call op asked (Some holder) = published_hears h c call holder (region_for h call holder)
 
 -- the ask of an event is heard after it
-event_hears : (w : World) (event : Event) → (after_event w event).heap.heard ≡ w.heap.heard ++ ask_in event
+event_hears : (w : World) (event : WorldEvent) → (after_event w event).heap.heard ≡ w.heap.heard ++ ask_in event
 event_hears w (Read line) = line_hears w line ∙ sym (append-nil w.heap.heard)
 event_hears w (Began c verb whole) = begins_hears w c verb whole (request_of w.heap.records w.names w.moment verb) ∙ sym (append-nil w.heap.heard)
 event_hears w (Turned c call op asked) = turned_hears w.heap c call op asked (holder_for w.heap call) ∙ sym (append-nil w.heap.heard)
@@ -39,11 +39,11 @@ event_hears w (Starved c call) = sym (append-nil w.heap.heard)
 event_hears w (Unnamed c call op asked) = sym (append-nil w.heap.heard)
 
 -- the asks of a play are heard after it
-play_hears : (w : World) (events : List Event) → (world_after w events).heap.heard ≡ w.heap.heard ++ asks_in events
+play_hears : (w : World) (events : List WorldEvent) → (world_after w events).heap.heard ≡ w.heap.heard ++ asks_among events
 play_hears w [] = sym (append-nil w.heap.heard)
 play_hears w (event ∷ events) =
-    play_hears (after_event w event) events ∙ ap (λ (xs : List AskFacts). xs ++ asks_in events) (event_hears w event) ∙ append_assoc w.heap.heard (ask_in event) (asks_in events)
+    play_hears (after_event w event) events ∙ ap (λ (xs : List AskFacts). xs ++ asks_among events) (event_hears w event) ∙ append_assoc w.heap.heard (ask_in event) (asks_among events)
 
 -- those of a play from the opening world are all that was heard
-pub came_asks : {from : Outset} {count : ℕ} {awaits : Awaits} {ahead : List Line} {text : List ℕ} {now : Now} → (came : Came from count awaits ahead text now) → asks_in came.events ≡ now.heap.heard
-came_asks {from} {count} {awaits} {ahead} {text} {now} came = sym (play_hears opening came.events) ∙ ap (λ (w : World). w.heap.heard) came.here
+pub came_asks : {from : Outset} {count : ℕ} {awaits : Awaits} {ahead : List Line} {text : List ℕ} {now : Now} → (came : Reached from count awaits ahead text now) → asks_among came.events ≡ now.heap.heard
+came_asks {from} {count} {awaits} {ahead} {text} {now} came = sym (play_hears opening_world came.events) ∙ ap (λ (w : World). w.heap.heard) came.here

@@ -1,11 +1,11 @@
 -- The beginning of a call is an event.
-use Rattle.replay_run.proofs.Words.{◌≡◌, ◌≢◌, ℕ, Bool, true, false, List, [], ◌++◌, Option, None, Some, is_some, Result, Ok, Err, IfErr, OnOk, OnErr, refl, ap, Appends-trans, slice_set, Appends, AppendsPrefix, Answered, NotHeld, Request, HeapFacts, started, answer_of, begun, seat_at, Verb, Stop, answer_line, Began, IsSound, Came, EndsHere, Goes, Here, Now, Outset, is_one_step, world_at, HasStopCause, status_for, Awaits, Memory, Nothing, OneStep, TheEnd, TheEndBefore, TheStart, awaits_after, awaits_begun, awaits_call, begins, is_open, names_ended, request_of, target_of}
+use Rattle.replay_run.proofs.Words.{◌≡◌, ◌≢◌, ℕ, Bool, true, false, List, [], ◌++◌, Option, None, Some, is_some, Result, Ok, Err, IfErr, OnOk, OnErr, refl, ap, Appends-trans, slice_set, Appends, AppendsPrefix, Answered, NotHeld, Request, HeapFacts, started, answer_of, begun, seat_at, Verb, Stop, answer_line, Began, IsSound, Reached, EndsHere, GoesOn, Here, Now, Outset, is_one_step, world_at, HasStopCause, status_for, Awaits, Memory, Nothing, OneStep, TheEnd, TheEndBefore, TheStart, awaits_after, awaits_begun, awaits_call, begins, has_open_call, names_ended, request_of, target_of}
 use Rattle.replay_run.proofs.Came.{Leads, came_next, came_sound}
 use Rattle.replay_run.proofs.Endings.{all_of, behind, sink_fault}
 use Rattle.replay_run.proofs.Stops.{stops_after}
 
 -- a client without an open call has none
-pub none_open : (h : HeapFacts) (c : ℕ) → is_open h c ≡ false → (seat_at h.seats c).call ≡ None
+pub none_open : (h : HeapFacts) (c : ℕ) → has_open_call h c ≡ false → (seat_at h.seats c).call ≡ None
 none_open h c is =
     elim (seat_at h.seats c).call as (λ call. is_some call ≡ false → call ≡ None) [ None ↦ λ _. refl | Some call ↦ λ open_call. absurd (cc (open_call)) ] is
 
@@ -44,7 +44,7 @@ now_answered now verb answer heap held = record now { heap = heap; names = names
 -- a call that asks for nothing: no region is there
 refused_came : {from : Outset} {count : ℕ} {now : Now} (c : ℕ) (verb : Verb) (whole : Bool) (so : Here from count (TheStart c verb whole) [] now) (held : Option (List ℕ)) →
     request_of now.heap.records now.names now.moment verb ≡ None →
-    Came from count Nothing [] (so.text ++ answer_line c verb (NotHeld (target_of now.names verb))) (now_answered now verb (NotHeld (target_of now.names verb)) now.heap held)
+    Reached from count Nothing [] (so.text ++ answer_line c verb (NotHeld (target_of now.names verb))) (now_answered now verb (NotHeld (target_of now.names verb)) now.heap held)
 refused_came {from} {count} {now} c verb whole so held none =
     let answer : Answered = NotHeld (target_of now.names verb) in
     let leads : Leads (Began c verb whole) (TheStart c verb whole) [] so.text now Nothing [] (so.text ++ answer_line c verb answer) (now_answered now verb answer now.heap held) = record {
@@ -76,7 +76,7 @@ refused_stops {from} {count} {now} c verb whole so held stop none other printed 
 -- a call that has its answer where it begins
 answered_came : {from : Outset} {count : ℕ} {now : Now} (c : ℕ) (verb : Verb) (whole : Bool) (so : Here from count (TheStart c verb whole) [] now) (request : Request) (answer : Answered) (heap : HeapFacts) (held : Option (List ℕ)) →
     request_of now.heap.records now.names now.moment verb ≡ Some request → heap ≡ started now.heap c request → Some answer ≡ answer_of (begun now.heap.seats c request) → IsSound heap →
-    Came from count Nothing [] (so.text ++ answer_line c verb answer) (now_answered now verb answer heap held)
+    Reached from count Nothing [] (so.text ++ answer_line c verb answer) (now_answered now verb answer heap held)
 answered_came {from} {count} {now} c verb whole so request answer heap held some begins_so ends sound =
     let leads : Leads (Began c verb whole) (TheStart c verb whole) [] so.text now Nothing [] (so.text ++ answer_line c verb answer) (now_answered now verb answer heap held) = record {
       next = refl;
@@ -129,9 +129,9 @@ unbegun_stops {from} {count} {now} {awaits} so stop other = stops_after so.came 
 -- ---- by what printing the answer gave
 
 pub refused_result : {from : Outset} {count : ℕ} {now : Now} (c : ℕ) (verb : Verb) (whole : Bool) (so : Here from count (TheStart c verb whole) [] now) (answer : Answered) (names : List (List ℕ × ℕ)) (held : Option (List ℕ)) (k k' : ℕ)
-    (r : Result (Unit {0}) Stop) → request_of now.heap.records now.names now.moment verb ≡ None → answer ≡ NotHeld (target_of now.names verb) → is_open now.heap c ≡ false →
+    (r : Result (Unit {0}) Stop) → request_of now.heap.records now.names now.moment verb ≡ None → answer ≡ NotHeld (target_of now.names verb) → has_open_call now.heap c ≡ false →
     OnOk r (names ≡ names_ended now.names verb answer) → OnOk r (Appends now.held held (answer_line c verb answer)) → OnErr r (AppendsPrefix now.held held (answer_line c verb answer)) →
-    IfErr r (λ stop. HasStopCause stop 0 0 k k') → Goes from count (awaits_after (awaits_begun c whole) (is_open now.heap c)) r (record now { names = names; held = held })
+    IfErr r (λ stop. HasStopCause stop 0 0 k k') → GoesOn from count (awaits_after (awaits_begun c whole) (has_open_call now.heap c)) r (record now { names = names; held = held })
 refused_result {from} {count} {now} c verb whole so answer names held k k' (Ok done) none is rests named ok err cause =
     rw (rests, awaits_ended c whole, named, is) (refused_goes c verb whole so held none (rw is at ok))
 refused_result {from} {count} {now} c verb whole so answer names held k k' (Err stop) none is rests named ok err cause =
@@ -139,9 +139,9 @@ refused_result {from} {count} {now} c verb whole so answer names held k k' (Err 
 
 pub answered_result : {from : Outset} {count : ℕ} {now : Now} (c : ℕ) (verb : Verb) (whole : Bool) (so : Here from count (TheStart c verb whole) [] now) (request : Request) (answer : Answered) (heap : HeapFacts)
     (names : List (List ℕ × ℕ)) (held : Option (List ℕ)) (k k' : ℕ) (r : Result (Unit {0}) Stop) → request_of now.heap.records now.names now.moment verb ≡ Some request → heap ≡ started now.heap c request →
-    Some answer ≡ answer_of (begun now.heap.seats c request) → IsSound heap → is_open heap c ≡ false →
+    Some answer ≡ answer_of (begun now.heap.seats c request) → IsSound heap → has_open_call heap c ≡ false →
     OnOk r (names ≡ names_ended now.names verb answer) → OnOk r (Appends now.held held (answer_line c verb answer)) → OnErr r (AppendsPrefix now.held held (answer_line c verb answer)) →
-    IfErr r (λ stop. HasStopCause stop 0 0 k k') → Goes from count (awaits_after (awaits_begun c whole) (is_open heap c)) r (record now { heap = heap; names = names; held = held })
+    IfErr r (λ stop. HasStopCause stop 0 0 k k') → GoesOn from count (awaits_after (awaits_begun c whole) (has_open_call heap c)) r (record now { heap = heap; names = names; held = held })
 answered_result {from} {count} {now} c verb whole so request answer heap names held k k' (Ok done) some begins_so ends sound rests named ok err cause =
     rw (rests, awaits_ended c whole, named) (answered_goes c verb whole so request answer heap held some begins_so ends sound ok)
 answered_result {from} {count} {now} c verb whole so request answer heap names held k k' (Err stop) some begins_so ends sound rests named ok err cause =

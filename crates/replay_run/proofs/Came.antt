@@ -1,11 +1,11 @@
 -- A play that goes on by an event, and where it ends.
-use Rattle.replay_run.proofs.Words.{arith, length, length-append, ◌+◌, ◌≡◌, ◌≤◌, ◌<◌, ℕ, Bool, List, [], ◌∷◌, ◌++◌, Option, Ok, sym, ◌∙◌, ap, subst, append-nil, append_assoc, flat_map-append, Appends-trans, Consumes-trans, Appends, Chain, ShelfEvent, Line, line_of, HasNoNewline, byte_limit, line_limit, ReadsTo, TakesMore, Event, HasSoundHeap, IsNext, IsSound, after_event, line_in, lines_in, shelf_event, shelf_events, world_after, Came, Here, Now, Outset, world_at, Awaits, World, opening}
+use Rattle.replay_run.proofs.Words.{arith, length, length-append, ◌+◌, ◌≡◌, ◌≤◌, ◌<◌, ℕ, Bool, List, [], ◌∷◌, ◌++◌, Option, Ok, sym, ◌∙◌, ap, subst, append-nil, append_assoc, flat_map-append, Appends-trans, Consumes-trans, Appends, Chain, ShelfEvent, Line, line_of, HasNoNewline, byte_limit, line_limit, ReadsTo, TakesMore, WorldEvent, HasSoundHeap, IsNext, IsSound, after_event, line_in, lines_in, shelf_event, shelf_events, world_after, Reached, Here, Now, Outset, world_at, Awaits, World, opening_world}
 use Rattle.replay_run.proofs.LinesRead.{reads_further, reads_one_more}
 use Rattle.replay_run.proofs.Plays.{chain_append, last_world, play_push, world_push, worlds_push}
 
 -- What an event does to a moment: it can come next, and leads to another moment, at which this is waited for and this text is
 -- printed, and it reads the first of the lines that were ahead, or none.
-pub record Leads (event : Event) (awaits : Awaits) (ahead : List Line) (text : List ℕ) (now : Now) (awaits' : Awaits) (ahead' : List Line) (text' : List ℕ) (now' : Now) : Type 0 where
+pub record Leads (event : WorldEvent) (awaits : Awaits) (ahead : List Line) (text : List ℕ) (now : Now) (awaits' : Awaits) (ahead' : List Line) (text' : List ℕ) (now' : Now) : Type 0 where
   pub next : IsNext (world_at now text awaits) event
   pub after : after_event (world_at now text awaits) event ≡ world_at now' text' awaits'
   pub sound : IsSound now'.heap
@@ -15,19 +15,19 @@ pub record Leads (event : Event) (awaits : Awaits) (ahead : List Line) (text : L
   pub left : now'.left ≡ now.left
 
 -- a play goes on by one event
-pub came_next : {from : Outset} {count : ℕ} {awaits : Awaits} {ahead : List Line} {text : List ℕ} {now : Now} {event : Event} {awaits' : Awaits} {ahead' : List Line} {text' : List ℕ} {now' : Now} →
-    Came from count awaits ahead text now → Leads event awaits ahead text now awaits' ahead' text' now' → Came from count awaits' ahead' text' now'
+pub came_next : {from : Outset} {count : ℕ} {awaits : Awaits} {ahead : List Line} {text : List ℕ} {now : Now} {event : WorldEvent} {awaits' : Awaits} {ahead' : List Line} {text' : List ℕ} {now' : Now} →
+    Reached from count awaits ahead text now → Leads event awaits ahead text now awaits' ahead' text' now' → Reached from count awaits' ahead' text' now'
 came_next {from} {count} {awaits} {ahead} {text} {now} {event} {awaits'} {ahead'} {text'} {now'} came leads =
-    let events : List Event = came.events ++ event ∷ [] in
-    let world : after_event (world_after opening came.events) event ≡ world_at now' text' awaits' = ap (λ (w : World). after_event w event) came.here ∙ leads.after in
+    let events : List WorldEvent = came.events ++ event ∷ [] in
+    let world : after_event (world_after opening_world came.events) event ≡ world_at now' text' awaits' = ap (λ (w : World). after_event w event) came.here ∙ leads.after in
     let lines : lines_in came.events ++ ahead ≡ lines_in events ++ ahead' =
     ap (λ (ls : List Line). lines_in came.events ++ ls) leads.lines ∙ sym (append_assoc (lines_in came.events) (line_in event) ahead')
     ∙ ap (λ (ls : List Line). (lines_in came.events ++ ls) ++ ahead') (sym (append-nil (line_in event)))
     ∙ ap (λ (ls : List Line). ls ++ ahead') (sym (flat_map-append line_in came.events (event ∷ []))) in record {
       events = events;
-      play = play_push opening came.events event came.play (subst (λ (w : World). IsNext w event) (sym came.here) leads.next);
-      here = world_push opening came.events event ∙ world;
-      sound = worlds_push HasSoundHeap opening came.events event came.sound (subst HasSoundHeap (sym world) leads.sound);
+      play = play_push opening_world came.events event came.play (subst (λ (w : World). IsNext w event) (sym came.here) leads.next);
+      here = world_push opening_world came.events event ∙ world;
+      sound = worlds_push HasSoundHeap opening_world came.events event came.sound (subst HasSoundHeap (sym world) leads.sound);
       chain = subst (λ (es : List ShelfEvent). Chain from.shelf es now'.shelf)
           (ap (λ (es : List ShelfEvent). shelf_events came.events ++ es) (sym (append-nil (shelf_event event))) ∙ sym (flat_map-append shelf_event came.events (event ∷ [])))
           (chain_append from.shelf now.shelf now'.shelf (shelf_events came.events) (shelf_event event) came.chain leads.chain);
@@ -39,13 +39,13 @@ came_next {from} {count} {awaits} {ahead} {text} {now} {event} {awaits'} {ahead'
     }
 
 -- the heap of a play is sound
-pub came_sound : {from : Outset} {count : ℕ} {awaits : Awaits} {ahead : List Line} {text : List ℕ} {now : Now} → Came from count awaits ahead text now → IsSound now.heap
+pub came_sound : {from : Outset} {count : ℕ} {awaits : Awaits} {ahead : List Line} {text : List ℕ} {now : Now} → Reached from count awaits ahead text now → IsSound now.heap
 came_sound {from} {count} {awaits} {ahead} {text} {now} came =
-    subst HasSoundHeap came.here (last_world HasSoundHeap opening came.events came.sound)
+    subst HasSoundHeap came.here (last_world HasSoundHeap opening_world came.events came.sound)
 
 -- more bytes were taken
-pub came_read : {from : Outset} {count : ℕ} {awaits : Awaits} {ahead : List Line} {text : List ℕ} {now : Now} → Came from count awaits ahead text now → (pending : List ℕ) (left : Option (List ℕ)) (met : Bool) →
-    TakesMore now.pending pending now.left left → Came from count awaits ahead text (record now { pending = pending; left = left; met = met })
+pub came_read : {from : Outset} {count : ℕ} {awaits : Awaits} {ahead : List Line} {text : List ℕ} {now : Now} → Reached from count awaits ahead text now → (pending : List ℕ) (left : Option (List ℕ)) (met : Bool) →
+    TakesMore now.pending pending now.left left → Reached from count awaits ahead text (record now { pending = pending; left = left; met = met })
 came_read {from} {count} {awaits} {ahead} {text} {now} came pending left met more = record {
   events = came.events;
   play = came.play;

@@ -1,5 +1,5 @@
 -- Replays at their beginning and at their end.
-use Rattle.replay_run.proofs.Words.{arith, length, map, true, IfErr, IfOk, replicate, ◌≡◌, ◌≤◌, ◌⊎◌, inl, inr, ℕ, Bool, List, [], ◌++◌, eqb, false, Option, None, Result, Ok, Err, refl, sym, ◌∙◌, subst, IsErrAnd, Appends-nil, Consumes-nil, All-nil, Consumes, Keeps, Rose, AskFacts, Shelf, Journal, journal_of, opening_heap, Stop, NoMemory, ReadFault, WriteFault, Cause, status_of, TakesSome, IsSound, lines_in, world_after, Ending, IsEnding, Open, Prints, ReplayOf, ending_text, Here, Now, Outset, HasStopCause, status_for, status_in, Nothing, World, opening}
+use Rattle.replay_run.proofs.Words.{arith, length, map, true, IfErr, IfOk, replicate, ◌≡◌, ◌≤◌, ◌⊎◌, inl, inr, ℕ, Bool, List, [], ◌++◌, eqb, false, Option, None, Result, Ok, Err, refl, sym, ◌∙◌, subst, IsErrAnd, Appends-nil, Consumes-nil, All-nil, Consumes, Keeps, Rose, AskFacts, Shelf, Journal, journal_of, opening_heap, Stop, NoMemory, ReadFault, WriteFault, Cause, status_of, TakesSome, IsSound, lines_in, world_after, Ending, IsEnding, Open, Prints, ReplayOf, ending_text, Here, Now, Outset, HasStopCause, status_for, status_in, Nothing, World, opening_world}
 use Rattle.replay_run.proofs.Endings.{kept_after, kept_begun, sink_fault}
 use Rattle.replay_run.proofs.Stops.{status_cause}
 
@@ -155,4 +155,4 @@ pub replay_ended : {status : ℕ} {journals : List Journal} {heard : List AskFac
     ReplayOf status journals heard shelf_before shelf_after met left_before left before after → status ≡ 0 → met ≡ true
 replay_ended {status} {journals} {heard} {shelf_before} {shelf_after} {met} {left_before} {left} {before} {after} replay zero =
     let whole = replay.prints.whole zero in
-    (subst (IsEnding (world_after opening replay.events) (length (lines_in replay.events)) replay.rest left met) whole.0 replay.ends).3
+    (subst (IsEnding (world_after opening_world replay.events) (length (lines_in replay.events)) replay.rest left met) whole.0 replay.ends).3

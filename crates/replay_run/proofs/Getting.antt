@@ -1,5 +1,5 @@
 -- A call that gets a region goes nowhere else until it ends.
-use Rattle.replay_run.proofs.Words.{ℕ, ◌^◌, Bool, true, false, cond, not, min, [], ◌∷◌, Option, None, Some, nat_lt, aligned_for, Reply, Noted, Took, Grow, Refuse, Grown, Landed, Regions, Span, max_series, AskFacts, Held, DeskFacts, Item, Replied, Wish, TurnPoint, Filling, Looking, Landing, AskPoint, Skipping, Trimming, Growing, Paring, Needing, Granting, Committing, Point, Turns, Asks, Tells, Next, Go, Over, More, begin_get, begin_memalign, is_alignment, page_align, small_hit, chunks_for, commit, is_marked, op_of, starved, step, told, trim, turned, chosen_stage}
+use Rattle.replay_run.proofs.Words.{ℕ, ◌^◌, Bool, true, false, cond, not, min, [], ◌∷◌, Option, None, Some, nat_lt, aligned_for, Reply, Noted, Took, Grow, Refuse, Grown, Landed, Regions, Span, max_series, AskFacts, Held, DeskFacts, Item, Replied, Wish, TurnPoint, Filling, Looking, Landing, AskPoint, Skipping, Trimming, Growing, Paring, Needing, Granting, Committing, Point, Turns, Asks, Tells, Next, Go, Over, More, begin_get, begin_memalign, is_alignment, page_align, small_hit, chunks_for, commit, is_marked, op_at, starved, step, told, trim, turn_replied, chosen_stage}
 use Rattle.space_model.specs.declared.Reply.TheVariants.{Nothing, Cut}
 use Rattle.call_table.specs.declared.needs.Item.TheVariants.{Told, Starved}
 
@@ -43,7 +43,7 @@ commit_gets wish span false = tt
 trim_gets : (wish : Wish) (span : Span) (b : Bool) → Gets (trim wish span b)
 trim_gets wish span b = chosen (nat_lt wish.pages span.pages) _ _ tt (commit_gets wish span b)
 
-turned_gets : (point : TurnPoint) (reply : Reply) → TurnGets point → Gets (turned point reply)
+turned_gets : (point : TurnPoint) (reply : Reply) → TurnGets point → Gets (turn_replied point reply)
 turned_gets (Filling wish count) Nothing gets = tt
 turned_gets (Filling wish count) (Regions []) gets = tt
 turned_gets (Filling wish count) (Regions (addr ∷ addrs)) gets = tt
@@ -79,7 +79,7 @@ starved_gets false = tt
 
 pub step_gets : (point : Point) (item : Item) → PointGets point → Gets (step point item)
 step_gets (Turns point) (Replied reply) gets = turned_gets point reply gets
-step_gets (Turns point) Starved gets = starved_gets (is_marked (op_of point))
+step_gets (Turns point) Starved gets = starved_gets (is_marked (op_at point))
 step_gets (Turns point) (Told asked) gets = tt
 step_gets (Asks point None) (Told asked) gets = gets
 step_gets (Asks point None) (Replied reply) gets = tt

@@ -1,16 +1,16 @@
 -- Each step that doesn't end for want of memory adds an entry to a journal, or an ask.
-use Rattle.replay_run.proofs.Words.{arith, length, length-append, All, ◌+◌, ◌^◌, ◌≤◌, ◌≡◌, ◌≢◌, ◌<◌, inl, inr, ℕ, true, List, [], ◌∷◌, Option, None, Some, is_some, refl, ap, sum_by, get_or_default, position-Some, sum_by-le, sum_by-set, Op, Publish, AskFacts, Shelf, Held, held_at, Next, Go, Point, CallFacts, taken_next, Want, WantAsk, WantTurn, want, Stepped, no_record, record_after, record_at, Record, HeapFacts, IsMade, IsStep, WantedAt, holder_at, holder_for, op_for, region_at, turned_for, Seat, first_seat, seat_at, HoldersPublish, IsSeated, SitsAt, IsSound, entries, step_limit, steps_of, is_open}
+use Rattle.replay_run.proofs.Words.{arith, length, length-append, All, ◌+◌, ◌^◌, ◌≤◌, ◌≡◌, ◌≢◌, ◌<◌, inl, inr, ℕ, true, List, [], ◌∷◌, Option, None, Some, is_some, refl, ap, sum_by, get_or_default, position-Some, sum_by-le, sum_by-set, Op, Publish, AskFacts, Shelf, Held, held_at, Next, Go, Point, CallFacts, taken_next, Want, WantAsk, WantTurn, want, Stepped, no_record, record_after, record_at, Record, HeapFacts, IsStepFor, IsStep, WantedAt, holding_client, holder_for, op_for, region_in_seat, turned_for, Seat, first_seat, seat_at, HoldersPublish, IsSeated, SitsAt, IsSound, entry_count, step_limit, steps_of, has_open_call}
 use Rattle.call_table.specs.declared.needs.Answered.TheVariants.{NoMemory}
-use Rattle.heap_core.specs.Arenas.{turned}
+use Rattle.heap_core.specs.Arenas.{records_turned}
 
 -- a turn in an arena adds an entry to its journal
 turn_longer : (records : List Record) (arena c : ℕ) (op : Op) (asked : Option AskFacts) → arena < length records →
-    sum_by entries (turned records arena c op asked) ≡ sum_by entries records + 1
+    sum_by entry_count (records_turned records arena c op asked) ≡ sum_by entry_count records + 1
 turn_longer records arena c op asked there =
     let r : Record = record_at records arena in
     let after : Record = record_after r c op asked in
-    let one : entries after ≡ entries r + 1 = length-append r.kept (_ ∷ []) in
-    omega (arith, one, sum_by-set entries records arena after no_record there)
+    let one : entry_count after ≡ entry_count r + 1 = length-append r.kept (_ ∷ []) in
+    omega (arith, one, sum_by-set entry_count records arena after no_record there)
 
 -- the arena of an open call is there
 call_there : (h : HeapFacts) (c : ℕ) (call : CallFacts) (point : Point) → IsSound h → c < 32 → (seat_at h.seats c).call ≡ Some call → call.stage.next ≡ Go point →
@@ -21,14 +21,14 @@ call_there h c call point sound below open_call at =
     omega (arith, sits.waits.there, sound.arenas.number)
 
 -- the region that a holder publishes is there, and so is its arena
-pub holder_region : HoldersPublish → (h : HeapFacts) (call : CallFacts) (holder : ℕ) (addr : Option ℕ) → IsSound h → length h.seats ≡ 32 → holder_at h.seats addr ≡ Some holder →
-    (region : Held) × (region_at h.seats addr holder ≡ Some region) × (region.arena < length h.records)
+pub holder_region : HoldersPublish → (h : HeapFacts) (call : CallFacts) (holder : ℕ) (addr : Option ℕ) → IsSound h → length h.seats ≡ 32 → holding_client h.seats addr ≡ Some holder →
+    (region : Held) × (region_in_seat h.seats addr holder ≡ Some region) × (region.arena < length h.records)
 holder_region law h call holder None sound number is = absurd (cc (is))
 holder_region law h call holder (Some addr) sound number is =
     let found = position-Some (λ (seat : Seat). is_some (held_at addr seat.desk)) h.seats holder first_seat is in
     let there : holder < 32 = omega (arith, found.0, number) in
     elim (held_at addr (seat_at h.seats holder).desk) as (λ r. held_at addr (seat_at h.seats holder).desk ≡ r →
-    (region : Held) × (region_at h.seats (Some addr) holder ≡ Some region) × (region.arena < length h.records)) [
+    (region : Held) × (region_in_seat h.seats (Some addr) holder ≡ Some region) × (region.arena < length h.records)) [
       | None ↦ λ none. absurd (cc (found.1, ap is_some none))
       | Some region ↦ λ has. (region, has, omega (arith, (law h.records holder addr (seat_at h.seats holder) region sound.arenas there (sound.seats holder there) has).1, sound.arenas.number))
     ] refl
@@ -42,7 +42,7 @@ turned_longer law h c call op asked (Some holder) sound number there is =
     rw found.1 (omega (arith, turn_longer h.records found.0.arena holder (Publish found.0.addr) None found.2))
 
 made_longer : HoldersPublish → (h : HeapFacts) (shelf : Shelf) (c : ℕ) (call : CallFacts) (wanted : Want) (told : Stepped) (new : HeapFacts) (shelf' : Shelf) → IsSound h → length h.seats ≡ 32 →
-    call.stage.arena < length h.records → told.ended ≢ Some NoMemory → IsMade h shelf c call wanted told new shelf' → steps_of h < steps_of new
+    call.stage.arena < length h.records → told.ended ≢ Some NoMemory → IsStepFor h shelf c call wanted told new shelf' → steps_of h < steps_of new
 made_longer law h shelf c call (WantTurn op asked) told new shelf' sound number there memory (did, same, inl made) =
     rw made.0 (turned_longer law h c call op asked (holder_for h call) sound number there refl)
 made_longer law h shelf c call (WantTurn op asked) told new shelf' sound number there memory (did, same, inr starved) = absurd (memory starved.1)
@@ -50,7 +50,7 @@ made_longer law h shelf c call (WantAsk ask) told new shelf' sound number there 
     rw made.5 (omega (arith, length-append h.heard (made.0 ∷ [])))
 
 wanted_longer : HoldersPublish → (h : HeapFacts) (shelf : Shelf) (c : ℕ) (call : CallFacts) (next : Next) (told : Stepped) (new : HeapFacts) (shelf' : Shelf) → IsSound h → length h.seats ≡ 32 → c < 32 →
-    (seat_at h.seats c).call ≡ Some call → call.stage.next ≡ next → told.ended ≢ Some NoMemory → WantedAt next (λ wanted. IsMade h shelf c call wanted told new shelf') → steps_of h < steps_of new
+    (seat_at h.seats c).call ≡ Some call → call.stage.next ≡ next → told.ended ≢ Some NoMemory → WantedAt next (λ wanted. IsStepFor h shelf c call wanted told new shelf') → steps_of h < steps_of new
 wanted_longer law h shelf c call (Go point) told new shelf' sound number below open_call at memory made =
     made_longer law h shelf c call (want point) told new shelf' sound number (call_there h c call point sound below open_call at) memory made
 wanted_longer law h shelf c call next told new shelf' sound number below open_call at memory made = absurd made
@@ -63,7 +63,7 @@ call_longer law h shelf c (Some call) told new shelf' sound number below open_ca
 
 -- a step that doesn't end for want of memory
 pub step_longer : HoldersPublish → (h : HeapFacts) (shelf : Shelf) (c : ℕ) (told : Stepped) (new : HeapFacts) (shelf' : Shelf) → IsSound h → length h.seats ≡ 32 → c < 32 →
-    is_open h c ≡ true → told.ended ≢ Some NoMemory → IsStep h shelf c (seat_at h.seats c).call told new shelf' → steps_of h < steps_of new
+    has_open_call h c ≡ true → told.ended ≢ Some NoMemory → IsStep h shelf c (seat_at h.seats c).call told new shelf' → steps_of h < steps_of new
 step_longer law h shelf c told new shelf' sound number below some memory step =
     call_longer law h shelf c (seat_at h.seats c).call told new shelf' sound number below refl some memory step
 
@@ -72,6 +72,6 @@ step_longer law h shelf c told new shelf' sound number below some memory step =
 -- a heap has fewer steps behind it than its lists can have members
 pub steps_few : (h : HeapFacts) → length h.records ≡ 32 → ((i : ℕ) → i < 32 → length (record_at h.records i).kept < 2 ^ 64) → length h.heard < 2 ^ 64 → steps_of h < step_limit
 steps_few h number few asks =
-    let each : All (λ (r : Record). entries r ≤ 2 ^ 64) h.records =
+    let each : All (λ (r : Record). entry_count r ≤ 2 ^ 64) h.records =
     λ i d there. rw (get_or_default h.records i d no_record there) (omega (arith, few i (omega (arith, there, number)))) in
-    omega (arith, sum_by-le entries (2 ^ 64) h.records each, number, asks)
+    omega (arith, sum_by-le entry_count (2 ^ 64) h.records each, number, asks)

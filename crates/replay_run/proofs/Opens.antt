@@ -1,11 +1,11 @@
 -- A call that has no answer is open.
-use Rattle.replay_run.proofs.Words.{arith, length, length-set, ◌≡◌, ◌≢◌, ◌<◌, inl, inr, ℕ, true, Option, None, Some, is_none, is_some, set, refl, sym, ◌∙◌, ap, get_or-set_same, Op, AskFacts, Shelf, Item, Request, Next, Go, Over, More, Gone, Ends, Nowhere, Point, CallFacts, desk_fed, IsPlace, ended_by, taken_next, Moment, step_next, Want, WantAsk, WantTurn, want, begin-is_call, settle_place, Stepped, HeapFacts, IsMade, IsStep, WantedAt, answered_by, holder_for, moment_after, parted, started, turned_for, Seat, answer_of, asked_for, begun, first_seat, open_call, seat_at, seat_of, AsksSit, HoldersPublish, IsSeated, SitsAt, TurnsSit, IsSound, is_open}
+use Rattle.replay_run.proofs.Words.{arith, length, length-set, ◌≡◌, ◌≢◌, ◌<◌, inl, inr, ℕ, true, Option, None, Some, is_none, is_some, set, refl, sym, ◌∙◌, ap, get_or-set_same, Op, AskFacts, Shelf, Item, Request, Next, Go, Over, More, Gone, Ends, Nowhere, Point, CallFacts, desk_fed, IsPointOrEnd, ended_by, taken_next, Moment, step_next, Want, WantAsk, WantTurn, want, begin-is_call, settle_place, Stepped, HeapFacts, IsStepFor, IsStep, WantedAt, answered_by, holder_for, moment_after, parted, started, turned_for, Seat, answer_of, asked_for, begun, first_seat, open_call, seat_at, seat_of, AsksSit, HoldersPublish, IsSeated, SitsAt, TurnsSit, IsSound, has_open_call}
 use Rattle.call_table.specs.declared.needs.Answered.TheVariants.{NoMemory}
 use Rattle.call_table.specs.Needs.{Goes}
 use Rattle.replay_run.proofs.Longer.{holder_region}
 
 -- a call that came to a place is open there, or has its answer
-open_by : (c : ℕ) (at : Moment) (next : Next) → IsPlace next → is_some (open_call c at next) ≡ is_none (ended_by next)
+open_by : (c : ℕ) (at : Moment) (next : Next) → IsPointOrEnd next → is_some (open_call c at next) ≡ is_none (ended_by next)
 open_by c at (Go point) place = refl
 open_by c at (Over index point) place = absurd place
 open_by c at More place = absurd place
@@ -14,13 +14,13 @@ open_by c at (Ends answer) place = refl
 open_by c at Nowhere place = absurd place
 
 -- so is it for its client
-seated_open : (h : HeapFacts) (c : ℕ) (at : Moment) → length h.seats ≡ 32 → c < 32 → IsPlace at.stage.next → is_some (seat_at (set h.seats c (seat_of c at)) c).call ≡ is_none (answer_of at)
+seated_open : (h : HeapFacts) (c : ℕ) (at : Moment) → length h.seats ≡ 32 → c < 32 → IsPointOrEnd at.stage.next → is_some (seat_at (set h.seats c (seat_of c at)) c).call ≡ is_none (answer_of at)
 seated_open h c at number below place =
     let there : c < length h.seats = omega (arith, number, below) in
     ap (λ (seat : Seat). is_some seat.call) (get_or-set_same h.seats c (seat_of c at) first_seat there) ∙ open_by c at at.stage.next place
 
 -- where a request begins
-pub start_open : (h : HeapFacts) (c : ℕ) (request : Request) → length h.seats ≡ 32 → c < 32 → is_open (started h c request) c ≡ is_none (answer_of (begun h.seats c request))
+pub start_open : (h : HeapFacts) (c : ℕ) (request : Request) → length h.seats ≡ 32 → c < 32 → has_open_call (started h c request) c ≡ is_none (answer_of (begun h.seats c request))
 start_open h c request number below =
     seated_open h c (begun h.seats c request) number below (begin-is_call (asked_for h.seats c request) (seat_at h.seats c).desk).0
 
@@ -40,7 +40,7 @@ sits_there h c call point sound below is at =
 -- a turn that was made
 turn_open : TurnsSit → HoldersPublish → (h : HeapFacts) (c : ℕ) (call : CallFacts) (point : Point) (op : Op) (asked : Option AskFacts) (holder : Option ℕ) → IsSound h → length h.seats ≡ 32 → c < 32 →
     (seat_at h.seats c).call ≡ Some call → call.stage.next ≡ Go point → want point ≡ WantTurn op asked → holder_for h call ≡ holder →
-    is_open (turned_for h c call op asked holder) c ≡ is_none (answered_by h c call op holder)
+    has_open_call (turned_for h c call op asked holder) c ≡ is_none (answered_by h c call op holder)
 turn_open turns holders h c call point op asked None sound number below is at wants none =
     let sits = sits_there h c call point sound below is at in
     after_open h c call _ number below (turns h.records c (seat_at h.seats c).desk call point op asked sound.arenas below at sits wants).1.0
@@ -51,7 +51,7 @@ turn_open turns holders h c call point op asked (Some holder) sound number below
 
 -- a step
 made_open : TurnsSit → AsksSit → HoldersPublish → (h : HeapFacts) (shelf : Shelf) (c : ℕ) (call : CallFacts) (point : Point) (wanted : Want) (told : Stepped) (new : HeapFacts) (shelf' : Shelf) → IsSound h → length h.seats ≡ 32 → c < 32 →
-    (seat_at h.seats c).call ≡ Some call → call.stage.next ≡ Go point → want point ≡ wanted → told.ended ≢ Some NoMemory → IsMade h shelf c call wanted told new shelf' → is_open new c ≡ is_none told.ended
+    (seat_at h.seats c).call ≡ Some call → call.stage.next ≡ Go point → want point ≡ wanted → told.ended ≢ Some NoMemory → IsStepFor h shelf c call wanted told new shelf' → has_open_call new c ≡ is_none told.ended
 made_open turns asks holders h shelf c call point (WantTurn op asked) told new shelf' sound number below is at wants memory (did, same, inl made) =
     rw (made.0, made.1) (turn_open turns holders h c call point op asked (holder_for h call) sound number below is at wants refl)
 made_open turns asks holders h shelf c call point (WantTurn op asked) told new shelf' sound number below is at wants memory (did, same, inr starved) = absurd (memory starved.1)
@@ -61,19 +61,19 @@ made_open turns asks holders h shelf c call point (WantAsk ask) told new shelf' 
     (asks h.records c (seat_at h.seats c).desk call point made.0 sound.arenas below at sits (wants ∙ ap WantAsk (sym made.2)) made.4.box.answers).0)
 
 placed_open : TurnsSit → AsksSit → HoldersPublish → (h : HeapFacts) (shelf : Shelf) (c : ℕ) (call : CallFacts) (next : Next) (told : Stepped) (new : HeapFacts) (shelf' : Shelf) → IsSound h → length h.seats ≡ 32 → c < 32 →
-    (seat_at h.seats c).call ≡ Some call → call.stage.next ≡ next → told.ended ≢ Some NoMemory → WantedAt next (λ wanted. IsMade h shelf c call wanted told new shelf') → is_open new c ≡ is_none told.ended
+    (seat_at h.seats c).call ≡ Some call → call.stage.next ≡ next → told.ended ≢ Some NoMemory → WantedAt next (λ wanted. IsStepFor h shelf c call wanted told new shelf') → has_open_call new c ≡ is_none told.ended
 placed_open turns asks holders h shelf c call (Go point) told new shelf' sound number below is at memory made =
     made_open turns asks holders h shelf c call point (want point) told new shelf' sound number below is at refl memory made
 placed_open turns asks holders h shelf c call next told new shelf' sound number below is at memory made = absurd made
 
 call_open : TurnsSit → AsksSit → HoldersPublish → (h : HeapFacts) (shelf : Shelf) (c : ℕ) (call : Option CallFacts) (told : Stepped) (new : HeapFacts) (shelf' : Shelf) → IsSound h → length h.seats ≡ 32 → c < 32 →
-    (seat_at h.seats c).call ≡ call → is_some call ≡ true → told.ended ≢ Some NoMemory → IsStep h shelf c call told new shelf' → is_open new c ≡ is_none told.ended
+    (seat_at h.seats c).call ≡ call → is_some call ≡ true → told.ended ≢ Some NoMemory → IsStep h shelf c call told new shelf' → has_open_call new c ≡ is_none told.ended
 call_open turns asks holders h shelf c None told new shelf' sound number below is some memory step = absurd (cc (some))
 call_open turns asks holders h shelf c (Some call) told new shelf' sound number below is some memory step =
     placed_open turns asks holders h shelf c call call.stage.next told new shelf' sound number below is refl memory step
 
 -- where a step leads that didn't end for want of memory
 pub step_open : TurnsSit → AsksSit → HoldersPublish → (h : HeapFacts) (shelf : Shelf) (c : ℕ) (told : Stepped) (new : HeapFacts) (shelf' : Shelf) → IsSound h → length h.seats ≡ 32 → c < 32 →
-    is_open h c ≡ true → told.ended ≢ Some NoMemory → IsStep h shelf c (seat_at h.seats c).call told new shelf' → is_open new c ≡ is_none told.ended
+    has_open_call h c ≡ true → told.ended ≢ Some NoMemory → IsStep h shelf c (seat_at h.seats c).call told new shelf' → has_open_call new c ≡ is_none told.ended
 step_open turns asks holders h shelf c told new shelf' sound number below some memory step =
     call_open turns asks holders h shelf c (seat_at h.seats c).call told new shelf' sound number below refl some memory step

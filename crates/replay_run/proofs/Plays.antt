@@ -1,23 +1,23 @@
 -- Plays that grow by an event.
-use Rattle.replay_run.proofs.Words.{◌≡◌, List, [], ◌∷◌, ◌++◌, subst, fold_push, Chain, ShelfEvent, Shelf, AllWorlds, Event, IsNext, IsPlay, after_event, world_after, World}
+use Rattle.replay_run.proofs.Words.{◌≡◌, List, [], ◌∷◌, ◌++◌, subst, fold_push, Chain, ShelfEvent, Shelf, AllWorlds, WorldEvent, IsNext, IsPlay, after_event, world_after, World}
 
 -- the world after one more event
-pub world_push : (w : World) (events : List Event) (event : Event) → world_after w (events ++ event ∷ []) ≡ after_event (world_after w events) event
+pub world_push : (w : World) (events : List WorldEvent) (event : WorldEvent) → world_after w (events ++ event ∷ []) ≡ after_event (world_after w events) event
 world_push w events event = fold_push after_event w events event
 
 -- an event that can come next goes on with the play
-pub play_push : (w : World) (events : List Event) (event : Event) → IsPlay w events → IsNext (world_after w events) event → IsPlay w (events ++ event ∷ [])
+pub play_push : (w : World) (events : List WorldEvent) (event : WorldEvent) → IsPlay w events → IsNext (world_after w events) event → IsPlay w (events ++ event ∷ [])
 play_push w [] event play next = (next, tt)
 play_push w (first ∷ events) event play next = (play.0, play_push (after_event w first) events event play.1 next)
 
 -- what is true of all worlds is so with one more
-pub worlds_push : (P : World → Type 0) (w : World) (events : List Event) (event : Event) → AllWorlds P w events → P (after_event (world_after w events) event) →
+pub worlds_push : (P : World → Type 0) (w : World) (events : List WorldEvent) (event : WorldEvent) → AllWorlds P w events → P (after_event (world_after w events) event) →
     AllWorlds P w (events ++ event ∷ [])
 worlds_push P w [] event all more = (all, more)
 worlds_push P w (first ∷ events) event all more = (all.0, worlds_push P (after_event w first) events event all.1 more)
 
 -- it is true of the last one
-pub last_world : (P : World → Type 0) (w : World) (events : List Event) → AllWorlds P w events → P (world_after w events)
+pub last_world : (P : World → Type 0) (w : World) (events : List WorldEvent) → AllWorlds P w events → P (world_after w events)
 last_world P w [] all = all
 last_world P w (first ∷ events) all = last_world P (after_event w first) events all.1
 

@@ -1,5 +1,5 @@
 -- A line that is read is an event.
-use Rattle.replay_run.proofs.Words.{◌≡◌, ◌≢◌, ℕ, Bool, true, false, List, [], ◌∷◌, ◌++◌, Option, None, Result, Ok, Err, IfErr, OnOk, OnErr, refl, sym, ◌∙◌, ap, subst, append-nil, Appends-nil, Appends-trans, Appends, AppendsPrefix, Chain, PlanStep, Shelf, Kind, Counts, record_at, idle_line, Line, Blank, Call, Start, Step, End, At, CountsOf, Verb, Stop, line_cause, IsSound, Read, plan_in, Came, EndsHere, Goes, Here, Now, Outset, world_at, HasStopCause, status_for, Awaits, Nothing, OneStep, TheEnd, awaits_call, awaits_or_idle, counts_text, is_open, line_read, live_counts}
+use Rattle.replay_run.proofs.Words.{◌≡◌, ◌≢◌, ℕ, Bool, true, false, List, [], ◌∷◌, ◌++◌, Option, None, Result, Ok, Err, IfErr, OnOk, OnErr, refl, sym, ◌∙◌, ap, subst, append-nil, Appends-nil, Appends-trans, Appends, AppendsPrefix, Chain, PlanStep, Shelf, Kind, Counts, record_at, idle_line, Line, Blank, Call, Start, Step, End, At, CountsOf, Verb, Stop, line_cause, IsSound, Read, plan_in, Reached, EndsHere, GoesOn, Here, Now, Outset, world_at, HasStopCause, status_for, Awaits, Nothing, OneStep, TheEnd, awaits_call, awaits_or_idle, counts_text, has_open_call, line_read, live_counts}
 use Rattle.trace_text.specs.declared.lines.Line.TheVariants.{Refuse}
 use Rattle.replay_run.proofs.Came.{Leads, came_next, came_sound}
 use Rattle.replay_run.proofs.Endings.{behind, sink_fault}
@@ -16,7 +16,7 @@ pub record Reads (line : Line) (now : Now) (awaits : Awaits) (more : List ℕ) (
 
 -- a play goes on by a line
 pub line_came : {from : Outset} {count : ℕ} {line : Line} {now : Now} {awaits : Awaits} {more : List ℕ} {now' : Now} (so : Here from count Nothing (line ∷ []) now) →
-    Reads line now awaits more now' → Came from count awaits [] (so.text ++ more) now'
+    Reads line now awaits more now' → Reached from count awaits [] (so.text ++ more) now'
 line_came {from} {count} {line} {now} {awaits} {more} {now'} so reads =
     let leads : Leads (Read line) Nothing (line ∷ []) so.text now awaits [] (so.text ++ more) now' = record {
       next = (refl, reads.free);
@@ -55,13 +55,13 @@ line_stops {from} {count} {line} {now} {awaits} {more} {now'} so stop reads othe
 silent : (now : Now) (text : List ℕ) (awaits : Awaits) → world_at now text awaits ≡ world_at now (text ++ []) awaits
 silent now text awaits = ap (λ (t : List ℕ). world_at now t awaits) (sym (append-nil text))
 
-pub reads_call : (now : Now) (c : ℕ) (verb : Verb) → line_cause now.moment (Call c verb) ≡ None → Reads (Call c verb) now (awaits_call (is_open now.heap c) c verb true) [] now
-reads_call now c verb free = record { free = free; after = λ text. silent now text (awaits_call (is_open now.heap c) c verb true); heap = refl; chain = refl; pending = refl; left = refl }
+pub reads_call : (now : Now) (c : ℕ) (verb : Verb) → line_cause now.moment (Call c verb) ≡ None → Reads (Call c verb) now (awaits_call (has_open_call now.heap c) c verb true) [] now
+reads_call now c verb free = record { free = free; after = λ text. silent now text (awaits_call (has_open_call now.heap c) c verb true); heap = refl; chain = refl; pending = refl; left = refl }
 
-pub reads_start : (now : Now) (c : ℕ) (verb : Verb) → line_cause now.moment (Start c verb) ≡ None → Reads (Start c verb) now (awaits_call (is_open now.heap c) c verb false) [] now
-reads_start now c verb free = record { free = free; after = λ text. silent now text (awaits_call (is_open now.heap c) c verb false); heap = refl; chain = refl; pending = refl; left = refl }
+pub reads_start : (now : Now) (c : ℕ) (verb : Verb) → line_cause now.moment (Start c verb) ≡ None → Reads (Start c verb) now (awaits_call (has_open_call now.heap c) c verb false) [] now
+reads_start now c verb free = record { free = free; after = λ text. silent now text (awaits_call (has_open_call now.heap c) c verb false); heap = refl; chain = refl; pending = refl; left = refl }
 
-pub reads_step : (now : Now) (c : ℕ) → is_open now.heap c ≡ true → Reads (Step c) now (OneStep c) [] now
+pub reads_step : (now : Now) (c : ℕ) → has_open_call now.heap c ≡ true → Reads (Step c) now (OneStep c) [] now
 reads_step now c is = record {
   free = refl;
   after = λ text. ap (λ (b : Bool). awaits_or_idle (world_at now text Nothing) c b (OneStep c)) is ∙ silent now text (OneStep c);
@@ -71,7 +71,7 @@ reads_step now c is = record {
   left = refl;
 }
 
-pub reads_end : (now : Now) (c : ℕ) → is_open now.heap c ≡ true → Reads (End c) now (TheEnd c) [] now
+pub reads_end : (now : Now) (c : ℕ) → has_open_call now.heap c ≡ true → Reads (End c) now (TheEnd c) [] now
 reads_end now c is = record {
   free = refl;
   after = λ text. ap (λ (b : Bool). awaits_or_idle (world_at now text Nothing) c b (TheEnd c)) is ∙ silent now text (TheEnd c);
@@ -81,7 +81,7 @@ reads_end now c is = record {
   left = refl;
 }
 
-pub reads_step_idle : (now : Now) (c : ℕ) (held : Option (List ℕ)) → is_open now.heap c ≡ false → Reads (Step c) now Nothing (idle_line c) (record now { held = held })
+pub reads_step_idle : (now : Now) (c : ℕ) (held : Option (List ℕ)) → has_open_call now.heap c ≡ false → Reads (Step c) now Nothing (idle_line c) (record now { held = held })
 reads_step_idle now c held is = record {
   free = refl;
   after = λ text. ap (λ (b : Bool). awaits_or_idle (world_at now text Nothing) c b (OneStep c)) is;
@@ -91,7 +91,7 @@ reads_step_idle now c held is = record {
   left = refl;
 }
 
-pub reads_end_idle : (now : Now) (c : ℕ) (held : Option (List ℕ)) → is_open now.heap c ≡ false → Reads (End c) now Nothing (idle_line c) (record now { held = held })
+pub reads_end_idle : (now : Now) (c : ℕ) (held : Option (List ℕ)) → has_open_call now.heap c ≡ false → Reads (End c) now Nothing (idle_line c) (record now { held = held })
 reads_end_idle now c held is = record {
   free = refl;
   after = λ text. ap (λ (b : Bool). awaits_or_idle (world_at now text Nothing) c b (TheEnd c)) is;
@@ -117,6 +117,6 @@ reads_blank now = record { free = refl; after = λ text. silent now text Nothing
 -- by what printing gave
 pub line_result : {from : Outset} {count : ℕ} {line : Line} {now : Now} {more : List ℕ} (so : Here from count Nothing (line ∷ []) now) (held : Option (List ℕ)) (k k' : ℕ) (r : Result (Unit {0}) Stop) →
     Reads line now Nothing more (record now { held = held }) → OnOk r (Appends now.held held more) → OnErr r (AppendsPrefix now.held held more) →
-    IfErr r (λ stop. HasStopCause stop 0 0 k k') → Goes from count Nothing r (record now { held = held })
+    IfErr r (λ stop. HasStopCause stop 0 0 k k') → GoesOn from count Nothing r (record now { held = held })
 line_result {from} {count} {line} {now} {more} so held k k' (Ok done) reads ok err cause = line_goes so reads ok
 line_result {from} {count} {line} {now} {more} so held k k' (Err stop) reads ok err cause = line_stops so stop reads (sink_fault stop k k' cause) err

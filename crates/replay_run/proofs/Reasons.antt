@@ -1,5 +1,5 @@
 -- Every answer of a play has its cause: the reasons of a call are kept by each step.
-use Rattle.replay_run.proofs.Words.{ℕ, List, Option, None, Some, IfSome, Answered, Next, asked_for, seat_at, NextWhy, begin_why, settle_why, step_why, AnswerCause, AnswersHaveCauses, IsCaused, Tale, answer_in, tale_in, Event, World}
+use Rattle.replay_run.proofs.Words.{ℕ, List, Option, None, Some, IfSome, Answered, Next, asked_for, seat_at, NextWhy, begin_why, settle_why, step_why, AnswerCause, AnswersHaveCauses, IsCaused, Tale, answer_in, tale_in, WorldEvent, World}
 use Rattle.replay_run.proofs.Tales.{EndsWith, IsEnded, Kept, each_event}
 
 -- the reasons of a place of a call, by its tale
@@ -15,12 +15,12 @@ why_kept = record {
 }
 
 -- those of its end are the cause of its answer
-answer_caused : (w : World) (event : Event) (answer : Option Answered) (tale : Option Tale) → IfSome answer (EndsWith Why w event tale) → IfSome answer (AnswerCause w event tale)
+answer_caused : (w : World) (event : WorldEvent) (answer : Option Answered) (tale : Option Tale) → IfSome answer (EndsWith Why w event tale) → IfSome answer (AnswerCause w event tale)
 answer_caused w event None tale ends = tt
 answer_caused w event (Some answer) None ends = ends
 answer_caused w event (Some answer) (Some tale) ends = ends.1
 
-event_caused : (w : World) (tales : List (Option Tale)) (event : Event) → IsEnded Why w tales event → IsCaused w tales event
+event_caused : (w : World) (tales : List (Option Tale)) (event : WorldEvent) → IsEnded Why w tales event → IsCaused w tales event
 event_caused w tales event ends = answer_caused w event (answer_in w event) (tale_in w tales event) ends
 
 pub answers-have_causes : AnswersHaveCauses

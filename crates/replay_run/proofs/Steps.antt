@@ -1,5 +1,5 @@
 -- A step of a client's open call is an event.
-use Rattle.replay_run.proofs.Words.{◌≡◌, ◌≢◌, inl, inr, ℕ, Bool, true, List, [], ◌++◌, Option, None, Some, is_none, is_some, refl, sym, ◌∙◌, ap, append-nil, Appends-trans, Appends, AppendsPrefix, Chain, Shelf, Next, Go, Point, CallFacts, Want, WantAsk, WantTurn, want, Did, Stepped, ToldItem, HeapFacts, IsMade, IsStep, WantedAt, answered_by, holder_for, moment_after, answer_of, seat_at, ask_line, turn_line, Line, Verb, Event, IsNext, Starved, Told, Turned, Unnamed, after_event, client_awaited, line_in, shelf_event, Stop, IsSound, Came, EndsHere, Here, Now, Outset, did_line, is_one_step, shown_line, world_at, status_for, Awaits, OneStep, World, awaits_after, ended_line, is_open, names_closed, step_text, stepped, verb_at, verbs_closed}
+use Rattle.replay_run.proofs.Words.{◌≡◌, ◌≢◌, inl, inr, ℕ, Bool, true, List, [], ◌++◌, Option, None, Some, is_none, is_some, refl, sym, ◌∙◌, ap, append-nil, Appends-trans, Appends, AppendsPrefix, Chain, Shelf, Next, Go, Point, CallFacts, Want, WantAsk, WantTurn, want, Did, Stepped, ToldItem, HeapFacts, IsStepFor, IsStep, WantedAt, answered_by, holder_for, moment_after, answer_of, seat_at, ask_line, turn_line, Line, Verb, WorldEvent, IsNext, Starved, Told, Turned, Unnamed, after_event, client_awaited, line_in, shelf_event, Stop, IsSound, Reached, EndsHere, Here, Now, Outset, did_line, is_one_step, shown_line, world_at, status_for, Awaits, OneStep, World, awaits_after, ended_line, has_open_call, names_closed, step_text, stepped, verb_at, verbs_closed}
 use Rattle.call_table.specs.declared.needs.Answered.TheVariants.{NoMemory}
 use Rattle.replay_run.proofs.Came.{Leads, came_next}
 use Rattle.replay_run.proofs.Endings.{all_of, behind, longer}
@@ -8,7 +8,7 @@ use Rattle.replay_run.proofs.Stops.{stops_after}
 -- What a step of a client is: an event that can come next, after which the heap is this one, and which does this to the shelf.
 -- Unless memory was wanting, the world after it is the one behind what the step told.
 pub record StepEvent (w : World) (c : ℕ) (shelf : Shelf) (told : Stepped) (heap : HeapFacts) (shelf' : Shelf) : Type 0 where
-  pub event : Event
+  pub event : WorldEvent
   pub next : IsNext w event
   pub lines : line_in event ≡ []
   pub chain : Chain shelf (shelf_event event) shelf'
@@ -20,7 +20,7 @@ pub record StepEvent (w : World) (c : ℕ) (shelf : Shelf) (told : Stepped) (hea
 -- a step by what its call wants
 step_wanted : (w : World) (c : ℕ) (shelf : Shelf) (call : CallFacts) (told : Stepped) (heap : HeapFacts) (shelf' : Shelf) (point : Point) (wanted : Want) →
     client_awaited w.awaits ≡ Some c → (seat_at w.heap.seats c).call ≡ Some call → call.stage.next ≡ Go point → want point ≡ wanted →
-    IsMade w.heap shelf c call wanted told heap shelf' → StepEvent w c shelf told heap shelf'
+    IsStepFor w.heap shelf c call wanted told heap shelf' → StepEvent w c shelf told heap shelf'
 step_wanted w c shelf call told heap shelf' point (WantTurn op asked) awaited open_call at wants (did, same, inl made) = record {
   event = Turned c call op asked;
   next = record { awaited = awaited; open_call = open_call; point = point; at = at; wants = wants };
@@ -65,7 +65,7 @@ step_wanted w c shelf call told heap shelf' point (WantAsk ask) awaited open_cal
 -- a step by where its call stands
 step_placed : (w : World) (c : ℕ) (shelf : Shelf) (call : CallFacts) (told : Stepped) (heap : HeapFacts) (shelf' : Shelf) (next : Next) →
     client_awaited w.awaits ≡ Some c → (seat_at w.heap.seats c).call ≡ Some call → call.stage.next ≡ next →
-    WantedAt next (λ wanted. IsMade w.heap shelf c call wanted told heap shelf') → StepEvent w c shelf told heap shelf'
+    WantedAt next (λ wanted. IsStepFor w.heap shelf c call wanted told heap shelf') → StepEvent w c shelf told heap shelf'
 step_placed w c shelf call told heap shelf' (Go point) awaited open_call at made =
     step_wanted w c shelf call told heap shelf' point (want point) awaited open_call at refl made
 step_placed w c shelf call told heap shelf' next awaited open_call at made = absurd made
@@ -83,7 +83,7 @@ step_event w c shelf told heap shelf' awaited some step = step_of_call w c shelf
 -- ---- a replay that makes a step
 
 -- an open call is there
-open_there : (h : HeapFacts) (c : ℕ) → is_open h c ≡ true → (seat_at h.seats c).call ≢ None
+open_there : (h : HeapFacts) (c : ℕ) → has_open_call h c ≡ true → (seat_at h.seats c).call ≢ None
 open_there h c is none = absurd (cc (is, ap is_some none))
 
 -- the line of a step is shown where one step is waited for
@@ -107,8 +107,8 @@ now_stepped now c told heap shelf held = record now {
 
 -- the replay came behind the step
 step_came : {from : Outset} {count : ℕ} {awaits : Awaits} {now : Now} (so : Here from count awaits [] now) (c : ℕ) (told : Stepped) (heap : HeapFacts) (shelf : Shelf) (held : Option (List ℕ)) →
-    client_awaited awaits ≡ Some c → is_open now.heap c ≡ true → IsStep now.heap now.shelf c (seat_at now.heap.seats c).call told heap shelf → IsSound heap → told.ended ≢ Some NoMemory →
-    Came from count (awaits_after awaits (is_none told.ended)) [] (so.text ++ step_line (is_one_step awaits) c now.verbs told) (now_stepped now c told heap shelf held)
+    client_awaited awaits ≡ Some c → has_open_call now.heap c ≡ true → IsStep now.heap now.shelf c (seat_at now.heap.seats c).call told heap shelf → IsSound heap → told.ended ≢ Some NoMemory →
+    Reached from count (awaits_after awaits (is_none told.ended)) [] (so.text ++ step_line (is_one_step awaits) c now.verbs told) (now_stepped now c told heap shelf held)
 step_came {from} {count} {awaits} {now} so c told heap shelf held awaited is step sound memory =
     let event = step_event (world_at now so.text awaits) c now.shelf told heap shelf awaited (open_there now.heap c is) step in
     let leads : Leads event.event awaits [] so.text now (awaits_after awaits (is_none told.ended)) [] (so.text ++ step_line (is_one_step awaits) c now.verbs told) (now_stepped now c told heap shelf held) = record {
@@ -125,7 +125,7 @@ step_came {from} {count} {awaits} {now} so c told heap shelf held awaited is ste
 
 -- the replay stops behind the step, of which nothing was printed
 pub step_stops : {from : Outset} {count : ℕ} {awaits : Awaits} {now : Now} (so : Here from count awaits [] now) (c : ℕ) (told : Stepped) (heap : HeapFacts) (shelf : Shelf) (stop : Stop) →
-    client_awaited awaits ≡ Some c → is_open now.heap c ≡ true → IsStep now.heap now.shelf c (seat_at now.heap.seats c).call told heap shelf → IsSound heap → status_for stop ≢ 4 →
+    client_awaited awaits ≡ Some c → has_open_call now.heap c ≡ true → IsStep now.heap now.shelf c (seat_at now.heap.seats c).call told heap shelf → IsSound heap → status_for stop ≢ 4 →
     EndsHere from (status_for stop) (record now { heap = heap; shelf = shelf })
 step_stops {from} {count} {awaits} {now} so c told heap shelf stop awaited is step sound other =
     let w : World = world_at now so.text awaits in
@@ -145,14 +145,14 @@ step_stops {from} {count} {awaits} {now} so c told heap shelf stop awaited is st
 
 -- the replay stops behind the step, of which a beginning was printed
 pub step_stops_printed : {from : Outset} {count : ℕ} {awaits : Awaits} {now : Now} (so : Here from count awaits [] now) (c : ℕ) (told : Stepped) (heap : HeapFacts) (shelf : Shelf) (held : Option (List ℕ)) (stop : Stop) →
-    client_awaited awaits ≡ Some c → is_open now.heap c ≡ true → IsStep now.heap now.shelf c (seat_at now.heap.seats c).call told heap shelf → IsSound heap → told.ended ≢ Some NoMemory →
+    client_awaited awaits ≡ Some c → has_open_call now.heap c ≡ true → IsStep now.heap now.shelf c (seat_at now.heap.seats c).call told heap shelf → IsSound heap → told.ended ≢ Some NoMemory →
     status_for stop ≢ 4 → AppendsPrefix now.held held (step_line (is_one_step awaits) c now.verbs told) → EndsHere from (status_for stop) (record now { heap = heap; shelf = shelf; held = held })
 step_stops_printed {from} {count} {awaits} {now} so c told heap shelf held stop awaited is step sound memory other printed =
     stops_after (step_came so c told heap shelf held awaited is step sound memory) stop other (behind from.held now.held held so.text _ so.prints printed)
 
 -- the replay goes on behind the step, of which all was printed
 pub step_goes : {from : Outset} {count : ℕ} {awaits : Awaits} {now : Now} (so : Here from count awaits [] now) (c : ℕ) (told : Stepped) (heap : HeapFacts) (shelf : Shelf) (held : Option (List ℕ)) →
-    client_awaited awaits ≡ Some c → is_open now.heap c ≡ true → IsStep now.heap now.shelf c (seat_at now.heap.seats c).call told heap shelf → IsSound heap → told.ended ≢ Some NoMemory →
+    client_awaited awaits ≡ Some c → has_open_call now.heap c ≡ true → IsStep now.heap now.shelf c (seat_at now.heap.seats c).call told heap shelf → IsSound heap → told.ended ≢ Some NoMemory →
     Appends now.held held (step_line (is_one_step awaits) c now.verbs told) → Here from count (awaits_after awaits (is_none told.ended)) [] (now_stepped now c told heap shelf held)
 step_goes {from} {count} {awaits} {now} so c told heap shelf held awaited is step sound memory printed = record {
   text = so.text ++ step_line (is_one_step awaits) c now.verbs told;

@@ -1,5 +1,5 @@
 -- Replays that end.
-use Rattle.replay_run.proofs.Words.{arith, length, map, ◌≡◌, ◌≢◌, ◌⊎◌, inl, inr, ℕ, Bool, List, [], ◌++◌, Option, Result, Ok, Err, IfOk, IfErr, OnOk, OnErr, refl, sym, ◌∙◌, ap, subst, append-nil, Appends-trans, IsErrAnd, Appends, AppendsPrefix, journal_of, Cause, LimitBytes, LimitLines, LimitThreads, Line, HasNoNewline, Stop, ReadFault, status_of, ReadsTo, TakesSome, lines_in, world_after, Bad, Ending, IsEnding, Open, Prints, Whole, ending_text, Came, EndsHere, Goes, Here, Now, Outset, world_at, HasStopCause, status_for, status_in, Awaits, Nothing, World, opening}
+use Rattle.replay_run.proofs.Words.{arith, length, map, ◌≡◌, ◌≢◌, ◌⊎◌, inl, inr, ℕ, Bool, List, [], ◌++◌, Option, Result, Ok, Err, IfOk, IfErr, OnOk, OnErr, refl, sym, ◌∙◌, ap, subst, append-nil, Appends-trans, IsErrAnd, Appends, AppendsPrefix, journal_of, Cause, LimitBytes, LimitLines, LimitThreads, Line, HasNoNewline, Stop, ReadFault, status_of, ReadsTo, TakesSome, lines_in, world_after, Bad, Ending, IsEnding, Open, Prints, Whole, ending_text, Reached, EndsHere, GoesOn, Here, Now, Outset, world_at, HasStopCause, status_for, status_in, Awaits, Nothing, World, opening_world}
 use Rattle.replay_run.proofs.Asks.{came_asks}
 use Rattle.replay_run.proofs.Came.{here_read}
 use Rattle.replay_run.proofs.Endings.{all_of, behind, longer, read_fault, sink_fault, stop_bounds}
@@ -7,13 +7,13 @@ use Rattle.replay_run.proofs.Endings.{all_of, behind, longer, read_fault, sink_f
 -- ---- where a replay ends
 
 -- A play came to this moment, and the replay ends here, by what is right of its last world.
-pub ends_here : {from : Outset} {count : ℕ} {awaits : Awaits} {text : List ℕ} {now : Now} → Came from count awaits [] text now → (status : ℕ) (ending : Ending) →
+pub ends_here : {from : Outset} {count : ℕ} {awaits : Awaits} {text : List ℕ} {now : Now} → Reached from count awaits [] text now → (status : ℕ) (ending : Ending) →
     IsEnding (world_at now text awaits) count now.pending now.left now.met ending → Prints status (world_at now text awaits) count now.pending ending from.held now.held →
     EndsHere from status now
 ends_here {from} {count} {awaits} {text} {now} came status ending ends prints =
     let none : lines_in came.events ≡ lines_in came.events ++ [] = sym (append-nil (lines_in came.events)) in
     let number : length (lines_in came.events) ≡ count = ap length none ∙ came.number in
-    let last : world_after opening came.events ≡ world_at now text awaits = came.here in record {
+    let last : world_after opening_world came.events ≡ world_at now text awaits = came.here in record {
       events = came.events;
       play = came.play;
       sound = came.sound;
@@ -31,8 +31,8 @@ ends_here {from} {count} {awaits} {text} {now} came status ending ends prints =
     }
 
 -- what the sink holds is no part of how a play came here
-pub came_held : {from : Outset} {count : ℕ} {awaits : Awaits} {ahead : List Line} {text : List ℕ} {now : Now} → Came from count awaits ahead text now → (held : Option (List ℕ)) →
-    Came from count awaits ahead text (record now { held = held })
+pub came_held : {from : Outset} {count : ℕ} {awaits : Awaits} {ahead : List Line} {text : List ℕ} {now : Now} → Reached from count awaits ahead text now → (held : Option (List ℕ)) →
+    Reached from count awaits ahead text (record now { held = held })
 came_held came held = record {
   events = came.events;
   play = came.play;
@@ -49,7 +49,7 @@ came_held came held = record {
 -- ---- stops in the middle
 
 -- the beginning of a text was printed where something other than the source stopped the replay
-pub stops_after : {from : Outset} {count : ℕ} {awaits : Awaits} {text : List ℕ} {now : Now} → Came from count awaits [] text now → (stop : Stop) → status_for stop ≢ 4 →
+pub stops_after : {from : Outset} {count : ℕ} {awaits : Awaits} {text : List ℕ} {now : Now} → Reached from count awaits [] text now → (stop : Stop) → status_for stop ≢ 4 →
     AppendsPrefix from.held now.held text → EndsHere from (status_for stop) now
 stops_after {from} {count} {awaits} {text} {now} came stop other begun =
     let bounds = stop_bounds stop in
@@ -142,6 +142,6 @@ ends_last {from} {count} {now} so (Err stop) status ending k k' held last ends i
 
 -- a stop that was passed on ends the replay
 pub goes_stop : {A : Type 0} (from : Outset) (count : ℕ) (awaits : Awaits) (r : Result A Stop) (stop : Stop) (now : Now) → IsErrAnd r (λ passed. passed ≡ stop) →
-    EndsHere from (status_for stop) now → Goes from count awaits r now
+    EndsHere from (status_for stop) now → GoesOn from count awaits r now
 goes_stop {A} from count awaits (Ok done) stop now is ends = absurd is
 goes_stop {A} from count awaits (Err passed) stop now is ends = rw is ends

@@ -1,5 +1,5 @@
 -- What is kept by each step of a call is so of each open call of a play by its tale, and of each answer.
-use Rattle.replay_run.proofs.Words.{◌≡◌, ◌≢◌, ℕ, ◌<◌, ◌≤◌, ◌==◌, Bool, true, false, List, [], ◌∷◌, Option, None, Some, IfSome, is_none, length, refl, sym, ◌∙◌, ap, subst, arith, nat_lt, option_map, ltb-true, nat_tests, get_or-replicate, get_or-set_other, length-replicate, set-get_or, Op, Space, Sound, step_of, AskFacts, Held, DeskFacts, not_holding, Answered, NotHeld, Item, Replied, ToldItem, Request, Owning, Point, Turns, Next, Go, Over, More, Gone, Ends, Nowhere, CallFacts, moment_of, desk_fed, Moves, aimed, ended_by, published_next, Moment, after, begin_stage, settle, step_next, Want, WantAsk, WantTurn, step, record_at, spaces_of, settled, HeapFacts, answered_by, holder_for, moment_after, parted, published_for, region_for, replied, started, told_to, turned_for, Seat, answer_of, asked_for, begun, first_seat, open_call, seat_at, seat_of, IsSeated, SitsAt, found_for, settled_is, sound_at, past, ask_line, turn_line, Line, Call, Start, Step, End, Verb, Take, CtlPlain, CtlWrite, AllEvents, NowhereCause, Tale, answer_begun, answer_in, no_tales, tale_at, tale_begun, tale_fed, tale_in, tale_turned, tale_until, tales_after, tales_begun, line_cause, verb_cause, address_at, AllWorlds, Event, HasSoundHeap, IsAskOf, IsPlay, IsSound, IsWanted, client_awaited, Read, Began, Turned, Told, Starved, Unnamed, after_event, Awaits, Memory, Nothing, OneStep, TheEnd, TheEndBefore, TheStart, World, arena_with, awaits_after, awaits_call, awaits_or_idle, begins, begun_as, is_open, line_read, opening, request_of, stepped, take_in, target_of}
+use Rattle.replay_run.proofs.Words.{◌≡◌, ◌≢◌, ℕ, ◌<◌, ◌≤◌, ◌==◌, Bool, true, false, List, [], ◌∷◌, Option, None, Some, IfSome, is_none, length, refl, sym, ◌∙◌, ap, subst, arith, nat_lt, option_map, ltb-true, nat_tests, get_or-replicate, get_or-set_other, length-replicate, set-get_or, Op, Space, Sound, step_of, AskFacts, Held, DeskFacts, not_holding, Answered, NotHeld, Item, Replied, ToldItem, Request, Owning, Point, Turns, Next, Go, Over, More, Gone, Ends, Nowhere, CallFacts, moment_of, desk_fed, Moves, aimed, ended_by, published_next, Moment, after, begin_stage, settle, step_next, Want, WantAsk, WantTurn, step, record_at, spaces_of, with_chunk_found, HeapFacts, answered_by, holder_for, moment_after, parted, published_for, region_for, replied, started, told_to, turned_for, Seat, answer_of, asked_for, begun, first_seat, open_call, seat_at, seat_of, IsSeated, SitsAt, found_for, settled_is, sound_at, past, ask_line, turn_line, Line, Call, Start, Step, End, Verb, Take, CtlPlain, CtlWrite, AllEvents, NowhereCause, Tale, answer_begun, answer_in, no_tales, tale_at, tale_begun, tale_fed, tale_in, tale_turned, tale_until, tales_after, tales_begun, line_cause, verb_cause, address_at, AllWorlds, WorldEvent, HasSoundHeap, IsAskOf, IsPlay, IsSound, IsWanted, client_awaited, Read, Began, Turned, Told, Starved, Unnamed, after_event, Awaits, Memory, Nothing, OneStep, TheEnd, TheEndBefore, TheStart, World, arena_with, awaits_after, awaits_call, awaits_or_idle, begins, begun_as, has_open_call, line_read, opening_world, request_of, stepped, take_in, target_of}
 use Rattle.std.proofs.Common.{slice_set}
 use Rattle.std.proofs.lemmas.List.{get_or-set_same}
 use Rattle.std.proofs.Math.ListN.{length-set}
@@ -43,10 +43,10 @@ idle_reads w c true awaits was built = record { heap = refl; built = built }
 idle_reads w c false awaits was built = record { heap = refl; built = was }
 
 line_reads : (w : World) (line : Line) → IsBuilt w.awaits → line_cause w.moment line ≡ None → Reads w (line_read w line)
-line_reads w (Call c verb) was cause = record { heap = refl; built = call_built (is_open w.heap c) c verb true cause }
-line_reads w (Start c verb) was cause = record { heap = refl; built = call_built (is_open w.heap c) c verb false cause }
-line_reads w (Step c) was cause = idle_reads w c (is_open w.heap c) (OneStep c) was tt
-line_reads w (End c) was cause = idle_reads w c (is_open w.heap c) (TheEnd c) was tt
+line_reads w (Call c verb) was cause = record { heap = refl; built = call_built (has_open_call w.heap c) c verb true cause }
+line_reads w (Start c verb) was cause = record { heap = refl; built = call_built (has_open_call w.heap c) c verb false cause }
+line_reads w (Step c) was cause = idle_reads w c (has_open_call w.heap c) (OneStep c) was tt
+line_reads w (End c) was cause = idle_reads w c (has_open_call w.heap c) (TheEnd c) was tt
 line_reads w line was cause = record { heap = refl; built = was }
 
 -- a call that is carried out and asks for nothing was to take a region over
@@ -85,7 +85,7 @@ reply_came w c call op asked sound there wants =
     let arena : ℕ = call.stage.arena in
     let s : Space = (record_at w.heap.records arena).space in
     let found = settled_is (spaces_of w.heap.records) arena op in
-    let done : Op = settled (spaces_of w.heap.records) arena op in
+    let done : Op = with_chunk_found (spaces_of w.heap.records) arena op in
     let sound_space : Sound s = sound_at w.heap.records arena sound.arenas (arena_there w c call (WantTurn op asked) sound there wants) in (
       s,
       (step_of s c done).after,
@@ -123,11 +123,11 @@ module _ (P : ℕ → Tale → Next → Type 0) where
   OfCall c (Some call) (Some tale) = (call.request ≡ tale.request) × P c tale call.stage.next
 
   -- an answer ends a call of which it is so, or nothing was asked for
-  abbrev pub EndsWith : World → Event → Option Tale → Answered → Type 0
+  abbrev pub EndsWith : World → WorldEvent → Option Tale → Answered → Type 0
   EndsWith w event (Some tale) answer = (c : ℕ) × P c tale (Ends answer)
   EndsWith w event None answer = NowhereCause w event answer
 
-  abbrev pub IsEnded : World → List (Option Tale) → Event → Type 0
+  abbrev pub IsEnded : World → List (Option Tale) → WorldEvent → Type 0
   IsEnded w tales event = IfSome (answer_in w event) (EndsWith w event (tale_in w tales event))
 
   -- It is so of all open calls of a world, and the call that is to begin is carried out.
@@ -146,7 +146,7 @@ module _ (P : ℕ → Tale → Next → Type 0) where
   opens_with c at tale (Ends answer) same why = tt
   opens_with c at tale Nowhere same why = tt
 
-  ends_with : (w : World) (event : Event) (c : ℕ) (tale : Tale) (next : Next) → P c tale next → IfSome (ended_by next) (EndsWith w event (Some tale))
+  ends_with : (w : World) (event : WorldEvent) (c : ℕ) (tale : Tale) (next : Next) → P c tale next → IfSome (ended_by next) (EndsWith w event (Some tale))
   ends_with w event c tale (Go point) why = tt
   ends_with w event c tale (Over index point) why = tt
   ends_with w event c tale More why = tt
@@ -155,15 +155,15 @@ module _ (P : ℕ → Tale → Next → Type 0) where
   ends_with w event c tale Nowhere why = tt
 
   -- What a step leaves of a call and its tale: the call is open, or the answer ends it.
-  record Left (w : World) (event : Event) (c : ℕ) (call : Option CallFacts) (answer : Option Answered) (tale : Option Tale) : Type 0 where
+  record Left (w : World) (event : WorldEvent) (c : ℕ) (call : Option CallFacts) (answer : Option Answered) (tale : Option Tale) : Type 0 where
     goes : OfCall c call (tale_until answer tale)
     ends : IfSome answer (EndsWith w event tale)
 
-  left_at : (w : World) (event : Event) (c : ℕ) (at : Moment) (tale : Tale) → at.request ≡ tale.request → P c tale at.stage.next → Left w event c (seat_of c at).call (answer_of at) (Some tale)
+  left_at : (w : World) (event : WorldEvent) (c : ℕ) (at : Moment) (tale : Tale) → at.request ≡ tale.request → P c tale at.stage.next → Left w event c (seat_of c at).call (answer_of at) (Some tale)
   left_at w event c at tale same why = record { goes = opens_with c at tale at.stage.next same why; ends = ends_with w event c tale at.stage.next why }
 
   -- an item that came of what was wanted
-  fed : Kept → (w : World) (event : Event) (c : ℕ) (call : CallFacts) (desk : DeskFacts) (point : Point) (item : Item) (tale : Option Tale) → call.stage.next ≡ Go point → OfCall c (Some call) tale → Came c (Go point) item →
+  fed : Kept → (w : World) (event : WorldEvent) (c : ℕ) (call : CallFacts) (desk : DeskFacts) (point : Point) (item : Item) (tale : Option Tale) → call.stage.next ≡ Go point → OfCall c (Some call) tale → Came c (Go point) item →
       Left w event c (seat_of c (after (moment_of call desk) item)).call (answer_of (after (moment_of call desk) item)) (option_map (tale_fed item) tale)
   fed keeps w event c call desk point item None at so came = absurd so
   fed keeps w event c call desk point item (Some tale) at (same, why) came =
@@ -226,7 +226,7 @@ module _ (P : ℕ → Tale → Next → Type 0) where
       (length-set gone.seats c last ∙ still, calls_kept gone.seats tales c last still number others (aimed_still keeps c call region.arena (tale_at tales c) own))
 
   -- What an event leaves: its answer ends its call, and it is so of all open calls then.
-  record Goes (w : World) (tales : List (Option Tale)) (event : Event) : Type 0 where
+  record Goes (w : World) (tales : List (Option Tale)) (event : WorldEvent) : Type 0 where
     answer : IsEnded w tales event
     opens : AllOpen (after_event w event) (tales_after w event tales)
 
@@ -265,7 +265,7 @@ module _ (P : ℕ → Tale → Next → Type 0) where
       × AllOpen (stepped w c (turned_for w.heap c call op asked holder) (turn_line c) (answered_by w.heap c call op holder))
       (slice_set tales c (tale_until (answered_by w.heap c call op holder) (tale_turned w.heap c call op holder (tale_at tales c))))
   turned keeps w tales c call op asked None sound so wants =
-      let event : Event = Turned c call op asked in
+      let event : WorldEvent = Turned c call op asked in
       let item : Item = replied w.heap c call op in
       let at : Moment = moment_after w.heap c call item in
       let tale : Option Tale = option_map (tale_fed item) (tale_at tales c) in
@@ -284,7 +284,7 @@ module _ (P : ℕ → Tale → Next → Type 0) where
 
   told : Kept → (w : World) (tales : List (Option Tale)) (c : ℕ) (call : CallFacts) (asked : AskFacts) → IsSound w.heap → AllOpen w tales → IsWanted w c call (WantAsk asked.ask) → IsAskOf w call asked → Goes w tales (Told c call asked)
   told keeps w tales c call asked sound so wants asks =
-      let event : Event = Told c call asked in
+      let event : WorldEvent = Told c call asked in
       let item : Item = ToldItem asked in
       let at : Moment = moment_after w.heap c call item in
       let tale : Option Tale = option_map (tale_fed item) (tale_at tales c) in
@@ -298,7 +298,7 @@ module _ (P : ℕ → Tale → Next → Type 0) where
       }
 
   -- nothing comes where memory was wanting
-  over : (w : World) (tales : List (Option Tale)) (events : List Event) → w.awaits ≡ Memory → IsPlay w events → AllEvents IsEnded w tales events
+  over : (w : World) (tales : List (Option Tale)) (events : List WorldEvent) → w.awaits ≡ Memory → IsPlay w events → AllEvents IsEnded w tales events
   over w tales [] ends play = tt
   over w tales (Read line ∷ events) ends play = absurd (let next = play.0.0 in cc)
   over w tales (Began c verb whole ∷ events) ends play = absurd (let next = play.0 in cc)
@@ -307,7 +307,7 @@ module _ (P : ℕ → Tale → Next → Type 0) where
   over w tales (Starved c call ∷ events) ends play = unwaited w c ends play.0.2.awaited
   over w tales (Unnamed c call op asked ∷ events) ends play = unwaited w c ends play.0.0.awaited
 
-  plays : Kept → (w : World) (tales : List (Option Tale)) (events : List Event) → AllOpen w tales → IsPlay w events → AllWorlds HasSoundHeap w events → AllEvents IsEnded w tales events
+  plays : Kept → (w : World) (tales : List (Option Tale)) (events : List WorldEvent) → AllOpen w tales → IsPlay w events → AllWorlds HasSoundHeap w events → AllEvents IsEnded w tales events
   plays keeps w tales [] so play sound = tt
   plays keeps w tales (Read line ∷ events) so (next, more) (here, sound) =
       let reads : Reads w (line_read w line) = line_reads w line so.built next.1 in
@@ -335,7 +335,7 @@ module _ (P : ℕ → Tale → Next → Type 0) where
   plays keeps w tales (Unnamed c call op asked ∷ events) so (next, more) (here, sound) = (tt, over (after_event w (Unnamed c call op asked)) tales events refl more)
 
   -- no call is open in the opening world
-  none_open : AllOpen opening no_tales
+  none_open : AllOpen opening_world no_tales
   none_open = record {
     clients = length-replicate 32 first_seat;
     number = length-replicate 32 (let none : Option Tale = None in none);
@@ -343,17 +343,17 @@ module _ (P : ℕ → Tale → Next → Type 0) where
     calls = λ c. subst (λ (x : Seat). OfCall c x.call (tale_at no_tales c)) (sym (rests c (nat_lt c 32) refl)) tt;
   }
     where
-      rests : (c : ℕ) (v : Bool) → nat_lt c 32 ≡ v → seat_at opening.heap.seats c ≡ first_seat
+      rests : (c : ℕ) (v : Bool) → nat_lt c 32 ≡ v → seat_at opening_world.heap.seats c ≡ first_seat
       rests c true e = get_or-replicate 32 c first_seat first_seat (ltb-true c 32 e)
-      rests c false e = let far : 32 ≤ c = grind (arith, nat_tests) in past opening.heap.seats c first_seat (omega (arith, far, length-replicate 32 first_seat))
+      rests c false e = let far : 32 ≤ c = grind (arith, nat_tests) in past opening_world.heap.seats c first_seat (omega (arith, far, length-replicate 32 first_seat))
 
   -- what each answer shows is so of all events of a play
-  shown : (Q : World → List (Option Tale) → Event → Type 0) → ((w : World) (tales : List (Option Tale)) (event : Event) → IsEnded w tales event → Q w tales event) →
-      (w : World) (tales : List (Option Tale)) (events : List Event) → AllEvents IsEnded w tales events → AllEvents Q w tales events
+  shown : (Q : World → List (Option Tale) → WorldEvent → Type 0) → ((w : World) (tales : List (Option Tale)) (event : WorldEvent) → IsEnded w tales event → Q w tales event) →
+      (w : World) (tales : List (Option Tale)) (events : List WorldEvent) → AllEvents IsEnded w tales events → AllEvents Q w tales events
   shown Q show w tales [] all = tt
   shown Q show w tales (event ∷ events) all = (show w tales event all.0, shown Q show (after_event w event) (tales_after w event tales) events all.1)
 
   -- and so it is in each play from the opening world on
-  pub each_event : (Q : World → List (Option Tale) → Event → Type 0) → ((w : World) (tales : List (Option Tale)) (event : Event) → IsEnded w tales event → Q w tales event) →
-      Kept → (events : List Event) → IsPlay opening events → AllWorlds HasSoundHeap opening events → AllEvents Q opening no_tales events
-  each_event Q show keeps events play sound = shown Q show opening no_tales events (plays keeps opening no_tales events none_open play sound)
+  pub each_event : (Q : World → List (Option Tale) → WorldEvent → Type 0) → ((w : World) (tales : List (Option Tale)) (event : WorldEvent) → IsEnded w tales event → Q w tales event) →
+      Kept → (events : List WorldEvent) → IsPlay opening_world events → AllWorlds HasSoundHeap opening_world events → AllEvents Q opening_world no_tales events
+  each_event Q show keeps events play sound = shown Q show opening_world no_tales events (plays keeps opening_world no_tales events none_open play sound)

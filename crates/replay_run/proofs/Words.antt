@@ -22,11 +22,11 @@ pub use Rattle.call_table.specs.Calls.{CallFacts, moment_of}
 pub use Rattle.call_table.specs.Causes.{AllCame}
 pub use Rattle.call_table.specs.Desks.{desk_fed}
 pub use Rattle.call_table.specs.Laws.{Moves}
-pub use Rattle.call_table.specs.Needs.{IsPlace}
+pub use Rattle.call_table.specs.Needs.{IsPointOrEnd}
 pub use Rattle.call_table.specs.Reads.{taken_next, ended_by, aimed, published_next}
 pub use Rattle.call_table.specs.Runs.{Moment, after, begin, begin_memalign, begin_stage, run, settle, step_next, begin_get, is_alignment, page_align, small_hit}
 pub use Rattle.call_table.specs.Stages.{Point, Turns, Next, Go, Over, More, Gone, Ends, Nowhere, Asks, Tells}
-pub use Rattle.call_table.specs.Table.{step, chunks_for, commit, is_marked, op_of, starved, told, trim, turned, Want, WantAsk, WantTurn, want}
+pub use Rattle.call_table.specs.Table.{step, chunks_for, commit, is_marked, op_at, starved, told, trim, turn_replied, Want, WantAsk, WantTurn, want}
 pub use Rattle.call_table.specs.declared.needs.Answered.{Answered}
 pub use Rattle.call_table.specs.declared.needs.Answered.TheVariants.{NotHeld}
 pub use Rattle.call_table.specs.declared.needs.Given.TheVariants.{Region}
@@ -46,11 +46,11 @@ pub use Rattle.heap_core.proofs.Settling.{Owns, count_in, counts_low, has_owns}
 pub use Rattle.heap_core.proofs.Sitting.{opening-sits, asks-sit, holders-publish, turns-sit}
 pub use Rattle.heap_core.proofs.Turned.{opening_is, past}
 pub use Rattle.heap_core.specs.Arenas.{IsArenas, opening_records, record_at, journal_of, no_record, record_after, spaces_of}
-pub use Rattle.heap_core.specs.Chunks.{settled}
-pub use Rattle.heap_core.specs.Heaps.{HeapFacts, holder_for, published_for, region_for, started, turned_for, opening_heap, IsMade, IsStep, WantedAt, holder_at, op_for, region_at, answered_by, moment_after, parted, replied, told_to}
+pub use Rattle.heap_core.specs.Chunks.{with_chunk_found}
+pub use Rattle.heap_core.specs.Heaps.{HeapFacts, holder_for, published_for, region_for, started, turned_for, opening_heap, IsStepFor, IsStep, WantedAt, holding_client, op_for, region_in_seat, answered_by, moment_after, parted, replied, told_to}
 pub use Rattle.heap_core.specs.Records.{Record}
 pub use Rattle.heap_core.specs.Seats.{Seat, asked_for, first_desk, first_seat, seat_at, answer_of, begun, open_call, seat_of}
-pub use Rattle.heap_core.specs.Sitting.{Has, IsSeated, SitsAt, is_region, HoldersPublish, SeatSound, AsksSit, TurnsSit}
+pub use Rattle.heap_core.specs.Sitting.{HasRegions, IsSeated, SitsAt, is_region, HoldersPublish, SeatSound, AsksSit, TurnsSit}
 pub use Rattle.heap_core.specs.declared.heaps.Did.{Did}
 pub use Rattle.heap_core.specs.declared.heaps.Stepped.{Stepped}
 pub use Rattle.hook_api.specs.Asked.{AskFacts}
@@ -95,12 +95,12 @@ pub use Rattle.replay_run.specs.Causes.{byte_limit, cause_of, fault_cause, first
 pub use Rattle.replay_run.specs.Heads.{answer_line}
 pub use Rattle.replay_run.specs.Input.{ReadsTo, TakesMore, TakesSome, InBounds, IsFirst, MetEnd}
 pub use Rattle.replay_run.specs.Names.{address_at}
-pub use Rattle.replay_run.specs.Plays.{Event, IsSound, Read, Began, Turned, Told, Starved, Unnamed, after_event, ask_in, asks_in, world_after, HasSoundHeap, IsNext, line_in, lines_in, shelf_event, shelf_events, AllWorlds, IsPlay, plan_in, client_awaited, IsAskOf, IsWanted}
+pub use Rattle.replay_run.specs.Plays.{WorldEvent, IsSound, Read, Began, Turned, Told, Starved, Unnamed, after_event, ask_in, asks_among, world_after, HasSoundHeap, IsNext, line_in, lines_in, shelf_event, shelf_events, AllWorlds, IsPlay, plan_in, client_awaited, IsAskOf, IsWanted}
 pub use Rattle.replay_run.specs.Replays.{IsBadLine, Ending, IsEnding, Open, Prints, ReplayOf, ending_text, Bad, Whole}
-pub use Rattle.replay_run.specs.SoFar.{Came, Now, Outset, EndsHere, Goes, Here, is_one_step, world_at, GoesNext, IsUnread, did_line, shown_line, Reading, now_of, reading}
-pub use Rattle.replay_run.specs.Steps.{entries, step_limit, steps_of}
+pub use Rattle.replay_run.specs.SoFar.{Reached, Now, Outset, EndsHere, GoesOn, Here, is_one_step, world_at, GoesNext, IsUnread, did_line, shown_line, Reading, now_of, reading}
+pub use Rattle.replay_run.specs.Steps.{entry_count, step_limit, steps_of}
 pub use Rattle.replay_run.specs.Stops.{HasStopCause, status_for, status_in}
-pub use Rattle.replay_run.specs.World.{World, Awaits, awaits_or_idle, begins, begun_as, is_open, line_read, opening, request_of, Memory, Nothing, OneStep, TheEnd, TheEndBefore, TheStart, awaits_after, awaits_begun, awaits_call, names_ended, target_of, counts_text, live_counts, ended_line, names_closed, step_text, stepped, verb_at, verbs_closed, arena_with, take_in, closing_line}
+pub use Rattle.replay_run.specs.World.{World, Awaits, awaits_or_idle, begins, begun_as, has_open_call, line_read, opening_world, request_of, Memory, Nothing, OneStep, TheEnd, TheEndBefore, TheStart, awaits_after, awaits_begun, awaits_call, names_ended, target_of, counts_text, live_counts, ended_line, names_closed, step_text, stepped, verb_at, verbs_closed, arena_with, take_in, closing_line}
 pub use Rattle.replay_run.specs.declared.input.Found.{Found}
 pub use Rattle.replay_run.specs.declared.input.Found.TheVariants.{Line as FoundLine, TooLong}
 pub use Rattle.replay_run.specs.declared.input.Stop.{Stop}

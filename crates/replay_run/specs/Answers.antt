@@ -18,8 +18,8 @@ use Rattle.heap_core.specs.Seats.{Seat, answer_of, asked_for, begun, seat_at}
 use Rattle.trace_text.specs.declared.lines.Verb.{Verb}
 use Rattle.trace_text.specs.declared.lines.Verb.TheVariants.{Take}
 use Rattle.replay_run.specs.Names.{address_at}
-use Rattle.replay_run.specs.Plays.{AllWorlds, Event, HasSoundHeap, IsPlay, Began, Turned, Told, after_event}
-use Rattle.replay_run.specs.World.{World, arena_with, opening, request_of, target_of}
+use Rattle.replay_run.specs.Plays.{AllWorlds, WorldEvent, HasSoundHeap, IsPlay, Began, Turned, Told, after_event}
+use Rattle.replay_run.specs.World.{World, arena_with, opening_world, request_of, target_of}
 
 -- ---- what open calls were fed
 
@@ -51,7 +51,7 @@ tale_turned h c call op None tale = option_map (tale_fed (replied h c call op)) 
 tale_turned h c call op (Some holder) tale = tale
 
 -- what the call of an event was fed, what the event feeds to it among that; none, where nothing is asked for
-abbrev pub tale_in : World → List (Option Tale) → Event → Option Tale
+abbrev pub tale_in : World → List (Option Tale) → WorldEvent → Option Tale
 tale_in w tales (Began c verb whole) = option_map (tale_begun w.heap.seats c) (request_of w.heap.records w.names w.moment verb)
 tale_in w tales (Turned c call op asked) = tale_turned w.heap c call op (holder_for w.heap call) (tale_at tales c)
 tale_in w tales (Told c call asked) = option_map (tale_fed (ToldItem asked)) (tale_at tales c)
@@ -65,7 +65,7 @@ answer_begun w c verb None = Some (NotHeld (target_of w.names verb))
 answer_begun w c verb (Some request) = answer_of (begun w.heap.seats c request)
 
 -- the answer that an event gives, if it gives one; where memory was wanting, nothing is answered any more
-abbrev pub answer_in : World → Event → Option Answered
+abbrev pub answer_in : World → WorldEvent → Option Answered
 answer_in w (Began c verb whole) = answer_begun w c verb (request_of w.heap.records w.names w.moment verb)
 answer_in w (Turned c call op asked) = answered_by w.heap c call op (holder_for w.heap call)
 answer_in w (Told c call asked) = answer_of (moment_after w.heap c call (ToldItem asked))
@@ -82,7 +82,7 @@ tales_begun w c None tales = tales
 tales_begun w c (Some request) tales = slice_set tales c (tale_until (answer_of (begun w.heap.seats c request)) (Some (tale_begun w.heap.seats c request)))
 
 -- the tales of the open calls after an event
-abbrev pub tales_after : World → Event → List (Option Tale) → List (Option Tale)
+abbrev pub tales_after : World → WorldEvent → List (Option Tale) → List (Option Tale)
 tales_after w (Began c verb whole) tales = tales_begun w c (request_of w.heap.records w.names w.moment verb) tales
 tales_after w (Turned c call op asked) tales =
     slice_set tales c (tale_until (answer_in w (Turned c call op asked)) (tale_in w tales (Turned c call op asked)))
@@ -90,30 +90,30 @@ tales_after w (Told c call asked) tales = slice_set tales c (tale_until (answer_
 tales_after w event tales = tales
 
 -- something is true of each event of a play, with the world and the tales before it
-abbrev pub AllEvents : (World → List (Option Tale) → Event → Type 0) → World → List (Option Tale) → List Event → Type 0
+abbrev pub AllEvents : (World → List (Option Tale) → WorldEvent → Type 0) → World → List (Option Tale) → List WorldEvent → Type 0
 AllEvents P w tales [] = Unit {0}
 AllEvents P w tales (event ∷ events) = P w tales event × AllEvents P (after_event w event) (tales_after w event tales) events
 
 -- ---- causes
 
 -- the call was to take the region at an address over, and no arena has an extent there
-abbrev pub NowhereCause : World → Event → Answered → Type 0
+abbrev pub NowhereCause : World → WorldEvent → Answered → Type 0
 NowhereCause w (Began c (Take target) whole) answer =
     (answer ≡ NotHeld (address_at w.names target)) × (arena_with w.heap.records (address_at w.names target) ≡ None)
 NowhereCause w event answer = ⊥
 
 -- an answer has its cause in what its call was fed, or nothing was asked for, since no arena has what is to be taken over
-abbrev pub AnswerCause : World → Event → Option Tale → Answered → Type 0
+abbrev pub AnswerCause : World → WorldEvent → Option Tale → Answered → Type 0
 AnswerCause w event (Some tale) answer = CauseOf tale.began tale.request tale.items answer
 AnswerCause w event None answer = NowhereCause w event answer
 
 -- the answer that an event gives has its cause
-abbrev pub IsCaused : World → List (Option Tale) → Event → Type 0
+abbrev pub IsCaused : World → List (Option Tale) → WorldEvent → Type 0
 IsCaused w tales event = IfSome (answer_in w event) (AnswerCause w event (tale_in w tales event))
 
 -- each answer of a play with sound heaps has its cause in what that very call was fed
 abbrev pub AnswersHaveCauses : Type 0
-AnswersHaveCauses = (events : List Event) → IsPlay opening events → AllWorlds HasSoundHeap opening events → AllEvents IsCaused opening no_tales events
+AnswersHaveCauses = (events : List WorldEvent) → IsPlay opening_world events → AllWorlds HasSoundHeap opening_world events → AllEvents IsCaused opening_world no_tales events
 
 -- ---- aligned regions
 
@@ -123,9 +123,9 @@ IsAlignedFor (Memalign align size) (Ok (Region addr class)) = (class ≡ aligned
 IsAlignedFor request answer = Unit {0}
 
 -- the region that an event gives to a memalign, if it gives one, is aligned
-abbrev pub IsAligned : World → List (Option Tale) → Event → Type 0
+abbrev pub IsAligned : World → List (Option Tale) → WorldEvent → Type 0
 IsAligned w tales event = IfSome (answer_in w event) (λ answer. IfSome (tale_in w tales event) (λ tale. IsAlignedFor tale.request answer))
 
 -- each region that a memalign is given in a play with sound heaps is aligned
 abbrev pub MemalignsAreAligned : Type 0
-MemalignsAreAligned = (events : List Event) → IsPlay opening events → AllWorlds HasSoundHeap opening events → AllEvents IsAligned opening no_tales events
+MemalignsAreAligned = (events : List WorldEvent) → IsPlay opening_world events → AllWorlds HasSoundHeap opening_world events → AllEvents IsAligned opening_world no_tales events

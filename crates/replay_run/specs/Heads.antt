@@ -11,8 +11,8 @@ use Rattle.trace_text.specs.declared.lines.Verb.{Verb}
 use Rattle.trace_text.specs.declared.lines.Verb.TheVariants.{Malloc, Memalign, Free, Publish, Take, Purge, Decay, Time, Reset, Destroy, Create, Bind, Cache, Flush, CtlPlain, CtlWrite}
 
 -- the bytes of a name, as a reference to them
-abbrev pub bytes_of : List ℕ → Bor (List ℕ)
-bytes_of name = record { ref_ptr = (0, 0); now = name }
+abbrev pub borrowed : List ℕ → Bor (List ℕ)
+borrowed name = record { ref_ptr = (0, 0); now = name }
 
 -- the head of a call that sets how long the extents of a list may stay
 abbrev pub time_head : Rest → Head
@@ -22,8 +22,8 @@ time_head Retained = head.Muzzy
 
 -- the head of the call of a line; one of `ctl` isn't carried out, and has no head of its own
 abbrev pub head_of : Verb → Head
-head_of (Malloc name size) = head.Malloc (bytes_of name)
-head_of (Memalign name align size) = head.Memalign (bytes_of name)
+head_of (Malloc name size) = head.Malloc (borrowed name)
+head_of (Memalign name align size) = head.Memalign (borrowed name)
 head_of (Free target) = head.Free
 head_of (Publish target) = head.Publish
 head_of (Take target) = head.Take

@@ -23,20 +23,20 @@ use Rattle.replay_run.specs.World.{Awaits, Memory, Nothing, OneStep, TheEnd, The
 
 -- What happens to a world: a line is read; the call that is waited for begins; a turn is made for a client's open call, or an
 -- ask of it is answered; or memory was wanting, at a turn, or behind one, where what goes back next was to be named.
-pub data Event : Type 0 where
-  Read : Line → Event
-  Began : (client : ℕ) (verb : Verb) (whole : Bool) → Event
-  Turned : (client : ℕ) (call : CallFacts) (op : Op) (asked : Option AskFacts) → Event
-  Told : (client : ℕ) (call : CallFacts) (asked : AskFacts) → Event
-  Starved : (client : ℕ) (call : CallFacts) → Event
-  Unnamed : (client : ℕ) (call : CallFacts) (op : Op) (asked : Option AskFacts) → Event
+pub data WorldEvent : Type 0 where
+  Read : Line → WorldEvent
+  Began : (client : ℕ) (verb : Verb) (whole : Bool) → WorldEvent
+  Turned : (client : ℕ) (call : CallFacts) (op : Op) (asked : Option AskFacts) → WorldEvent
+  Told : (client : ℕ) (call : CallFacts) (asked : AskFacts) → WorldEvent
+  Starved : (client : ℕ) (call : CallFacts) → WorldEvent
+  Unnamed : (client : ℕ) (call : CallFacts) (op : Op) (asked : Option AskFacts) → WorldEvent
 
 -- no memory was left, and nothing more is to come
 abbrev pub ran_out : World → HeapFacts → World
 ran_out w heap = record w { heap = heap; awaits = Memory }
 
 -- the world after an event
-abbrev pub after_event : World → Event → World
+abbrev pub after_event : World → WorldEvent → World
 after_event w (Read line) = line_read w line
 after_event w (Began c verb whole) = begins w c verb whole (request_of w.heap.records w.names w.moment verb)
 after_event w (Turned c call op asked) =
@@ -67,7 +67,7 @@ pub record IsAskOf (w : World) (call : CallFacts) (asked : AskFacts) : Type 0 wh
   pub answers : AnswersTo asked.ask asked.answer
 
 -- an event is one that can come next
-abbrev pub IsNext : World → Event → Type 0
+abbrev pub IsNext : World → WorldEvent → Type 0
 IsNext w (Read line) = (w.awaits ≡ Nothing) × (line_cause w.moment line ≡ None)
 IsNext w (Began c verb whole) = w.awaits ≡ TheStart c verb whole
 IsNext w (Turned c call op asked) = IsWanted w c call (WantTurn op asked)
@@ -76,16 +76,16 @@ IsNext w (Starved c call) = (op : Op) × (asked : Option AskFacts) × IsWanted w
 IsNext w (Unnamed c call op asked) = IsWanted w c call (WantTurn op asked) × (holder_for w.heap call ≡ None)
 
 -- the events of a play from a world on: each one can come next where it comes
-abbrev pub IsPlay : World → List Event → Type 0
+abbrev pub IsPlay : World → List WorldEvent → Type 0
 IsPlay w [] = Unit {0}
 IsPlay w (event ∷ events) = IsNext w event × IsPlay (after_event w event) events
 
 -- the world after the events
-abbrev pub world_after : World → List Event → World
+abbrev pub world_after : World → List WorldEvent → World
 world_after w events = fold after_event w events
 
 -- something is true of the world before the events, and of that after each one
-abbrev pub AllWorlds : (World → Type 0) → World → List Event → Type 0
+abbrev pub AllWorlds : (World → Type 0) → World → List WorldEvent → Type 0
 AllWorlds P w [] = P w
 AllWorlds P w (event ∷ events) = P w × AllWorlds P (after_event w event) events
 
@@ -100,12 +100,12 @@ abbrev pub HasSoundHeap : World → Type 0
 HasSoundHeap w = IsSound w.heap
 
 -- the line that an event reads
-abbrev pub line_in : Event → List Line
+abbrev pub line_in : WorldEvent → List Line
 line_in (Read line) = line ∷ []
 line_in event = []
 
 -- the ask that an event tells of
-abbrev pub ask_in : Event → List AskFacts
+abbrev pub ask_in : WorldEvent → List AskFacts
 ask_in (Told c call asked) = asked ∷ []
 ask_in event = []
 
@@ -115,17 +115,17 @@ plan_in (Refuse box_no kind nth) = PlanSet box_no kind nth ∷ []
 plan_in line = []
 
 -- what an event does to the shelf of hooks
-abbrev pub shelf_event : Event → List ShelfEvent
+abbrev pub shelf_event : WorldEvent → List ShelfEvent
 shelf_event (Read line) = plan_in line
 shelf_event (Told c call asked) = Made asked ∷ []
 shelf_event event = []
 
 -- the lines, the asks, and what was done to the shelf, in order
-abbrev pub lines_in : List Event → List Line
+abbrev pub lines_in : List WorldEvent → List Line
 lines_in events = flat_map line_in events
 
-abbrev pub asks_in : List Event → List AskFacts
-asks_in events = flat_map ask_in events
+abbrev pub asks_among : List WorldEvent → List AskFacts
+asks_among events = flat_map ask_in events
 
-abbrev pub shelf_events : List Event → List ShelfEvent
+abbrev pub shelf_events : List WorldEvent → List ShelfEvent
 shelf_events events = flat_map shelf_event events

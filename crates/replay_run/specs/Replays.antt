@@ -12,8 +12,8 @@ use Rattle.report_text.specs.Lines.{bad_line}
 use Rattle.trace_text.specs.Lines.{HasNoNewline}
 use Rattle.replay_run.specs.Causes.{cause_of, first_line, has_newline, line_limit, status_of}
 use Rattle.replay_run.specs.Input.{ReadsTo}
-use Rattle.replay_run.specs.Plays.{AllWorlds, Event, HasSoundHeap, IsPlay, asks_in, lines_in, shelf_events, world_after}
-use Rattle.replay_run.specs.World.{Nothing, World, closing, opening}
+use Rattle.replay_run.specs.Plays.{AllWorlds, WorldEvent, HasSoundHeap, IsPlay, asks_among, lines_in, shelf_events, world_after}
+use Rattle.replay_run.specs.World.{Nothing, World, closing, opening_world}
 
 -- nothing is waited for: the lines so far were carried out
 abbrev pub IsComplete : World → Type 0
@@ -60,11 +60,11 @@ pub record Prints (status : ℕ) (w : World) (count : ℕ) (rest : List ℕ) (en
 -- those at the beginning of the bytes that were taken, and what stands behind them and what was printed is as the status says.
 pub record ReplayOf (status : ℕ) (journals : List Journal) (heard : List AskFacts) (shelf_before shelf_after : Shelf)
     (met : Bool) (left_before left before after : Option (List ℕ)) : Type 0 where
-  pub events : List Event
-  pub play : IsPlay opening events
-  pub sound : AllWorlds HasSoundHeap opening events
-  pub in_journals : map journal_of (world_after opening events).heap.records ≡ journals
-  pub hears : asks_in events ≡ heard
+  pub events : List WorldEvent
+  pub play : IsPlay opening_world events
+  pub sound : AllWorlds HasSoundHeap opening_world events
+  pub in_journals : map journal_of (world_after opening_world events).heap.records ≡ journals
+  pub hears : asks_among events ≡ heard
   pub chain : Chain shelf_before (shelf_events events) shelf_after
   pub taken : List ℕ
   pub takes : Consumes left_before left taken
@@ -72,8 +72,8 @@ pub record ReplayOf (status : ℕ) (journals : List Journal) (heard : List AskFa
   pub reads : ReadsTo (lines_in events) taken rest
   pub few : length (lines_in events) ≤ line_limit
   pub ending : Ending
-  pub ends : IsEnding (world_after opening events) (length (lines_in events)) rest left met ending
-  pub prints : Prints status (world_after opening events) (length (lines_in events)) rest ending before after
+  pub ends : IsEnding (world_after opening_world events) (length (lines_in events)) rest left met ending
+  pub prints : Prints status (world_after opening_world events) (length (lines_in events)) rest ending before after
 
 -- the journals and the asks are handed out; without memory for the list of them, or for a heap, none is
 abbrev pub HandsOut : ℕ → List Journal → List AskFacts → List Journal → List AskFacts → Type 0

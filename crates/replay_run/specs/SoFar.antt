@@ -19,10 +19,10 @@ use Rattle.replay_run.specs.declared.replays.Next.TheVariants.{Carried, Bad, Ove
 use Rattle.replay_run.specs.declared.state.State.{State}
 use Rattle.replay_run.specs.Causes.{line_limit}
 use Rattle.replay_run.specs.Input.{ReadsTo}
-use Rattle.replay_run.specs.Plays.{AllWorlds, Event, HasSoundHeap, IsPlay, lines_in, shelf_events, world_after}
+use Rattle.replay_run.specs.Plays.{AllWorlds, WorldEvent, HasSoundHeap, IsPlay, lines_in, shelf_events, world_after}
 use Rattle.replay_run.specs.Replays.{IsBadLine, ReplayOf}
 use Rattle.replay_run.specs.Stops.{status_for}
-use Rattle.replay_run.specs.World.{Awaits, Nothing, OneStep, World, opening}
+use Rattle.replay_run.specs.World.{Awaits, Nothing, OneStep, World, opening_world}
 
 -- What a replay has at a moment: the heap, what the open calls are, the names, the moment in nanoseconds, the shelf, the bytes
 -- that were read and not used yet, those that are left, whether the end was met, and those that the sink holds.
@@ -74,11 +74,11 @@ world_at now text awaits =
 
 -- A play came to this moment, at which this is waited for, and these lines are read next, after which there are so many. Its
 -- text is this one, and its lines are those of the bytes that were taken.
-pub record Came (from : Outset) (count : ℕ) (awaits : Awaits) (ahead : List Line) (text : List ℕ) (now : Now) : Type 0 where
-  pub events : List Event
-  pub play : IsPlay opening events
-  pub here : world_after opening events ≡ world_at now text awaits
-  pub sound : AllWorlds HasSoundHeap opening events
+pub record Reached (from : Outset) (count : ℕ) (awaits : Awaits) (ahead : List Line) (text : List ℕ) (now : Now) : Type 0 where
+  pub events : List WorldEvent
+  pub play : IsPlay opening_world events
+  pub here : world_after opening_world events ≡ world_at now text awaits
+  pub sound : AllWorlds HasSoundHeap opening_world events
   pub chain : Chain from.shelf (shelf_events events) now.shelf
   pub taken : List ℕ
   pub takes : Consumes from.left now.left taken
@@ -89,7 +89,7 @@ pub record Came (from : Outset) (count : ℕ) (awaits : Awaits) (ahead : List Li
 -- A play came to this moment, and its text was printed.
 pub record Here (from : Outset) (count : ℕ) (awaits : Awaits) (ahead : List Line) (now : Now) : Type 0 where
   pub text : List ℕ
-  pub came : Came from count awaits ahead text now
+  pub came : Reached from count awaits ahead text now
   pub prints : Appends from.held now.held text
 
 -- whether one step is waited for
@@ -114,9 +114,9 @@ EndsHere from status now = ReplayOf status (map journal_of now.heap.records) now
     from.left now.left from.held now.held
 
 -- a replay went on to where this is waited for, or it stopped
-abbrev pub Goes : {A : Type 0} → Outset → ℕ → Awaits → Result A Stop → Now → Type 0
-Goes from count awaits (Ok done) now = Here from count awaits [] now
-Goes from count awaits (Err stop) now = EndsHere from (status_for stop) now
+abbrev pub GoesOn : {A : Type 0} → Outset → ℕ → Awaits → Result A Stop → Now → Type 0
+GoesOn from count awaits (Ok done) now = Here from count awaits [] now
+GoesOn from count awaits (Err stop) now = EndsHere from (status_for stop) now
 
 -- the next line was carried out, or it is bad, or there is none; or the replay stopped
 abbrev pub GoesNext : Outset → ℕ → Result Next Stop → Now → Type 0

@@ -47,16 +47,16 @@ pub record World : Type 0 where
   pub awaits : Awaits
 
 -- the world before the first line
-abbrev pub opening : World
-opening = record { heap = opening_heap; verbs = replicate 32 None; names = []; moment = 0; text = []; awaits = Nothing }
+abbrev pub opening_world : World
+opening_world = record { heap = opening_heap; verbs = replicate 32 None; names = []; moment = 0; text = []; awaits = Nothing }
 
 -- what a client's open call is
 abbrev pub verb_at : List (Option Verb) → ℕ → Option Verb
 verb_at verbs c = slice_index_or verbs c None
 
 -- whether a client has an open call
-abbrev pub is_open : HeapFacts → ℕ → Bool
-is_open h c = is_some (seat_at h.seats c).call
+abbrev pub has_open_call : HeapFacts → ℕ → Bool
+has_open_call h c = is_some (seat_at h.seats c).call
 
 -- ---- what a line asks for
 
@@ -203,10 +203,10 @@ awaits_or_idle w c false awaits = record w { text = w.text ++ idle_line c }
 
 -- a line is read
 abbrev pub line_read : World → Line → World
-line_read w (Call c verb) = record w { awaits = awaits_call (is_open w.heap c) c verb true }
-line_read w (Start c verb) = record w { awaits = awaits_call (is_open w.heap c) c verb false }
-line_read w (Step c) = awaits_or_idle w c (is_open w.heap c) (OneStep c)
-line_read w (End c) = awaits_or_idle w c (is_open w.heap c) (TheEnd c)
+line_read w (Call c verb) = record w { awaits = awaits_call (has_open_call w.heap c) c verb true }
+line_read w (Start c verb) = record w { awaits = awaits_call (has_open_call w.heap c) c verb false }
+line_read w (Step c) = awaits_or_idle w c (has_open_call w.heap c) (OneStep c)
+line_read w (End c) = awaits_or_idle w c (has_open_call w.heap c) (TheEnd c)
 line_read w (At moment) = record w { moment = moment }
 line_read w (CountsOf index) = record w { text = w.text ++ counts_text index (live_counts (record_at w.heap.records index).space) }
 line_read w line = w

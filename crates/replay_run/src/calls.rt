@@ -10,10 +10,10 @@ ghost use Rattle.trace_text.specs.Grammar.{IsVerbWithinLimits};
 ghost use Rattle.report_text.specs.Lines.{call_line};
 ghost use Rattle.replay_run.specs.Heads.{answer_line};
 ghost use Rattle.replay_run.specs.Plays.{client_awaited};
-ghost use Rattle.replay_run.specs.SoFar.{Goes, Here, Outset, Reading, is_one_step, now_of, shown_line};
+ghost use Rattle.replay_run.specs.SoFar.{GoesOn, Here, Outset, Reading, is_one_step, now_of, shown_line};
 ghost use Rattle.replay_run.specs.Steps.{steps_of};
 ghost use Rattle.replay_run.specs.Stops.{HasStopCause};
-ghost use Rattle.replay_run.specs.World.{Awaits, Nothing, TheStart, awaits_after, awaits_begun, awaits_call, ended_line, is_open, names_ended};
+ghost use Rattle.replay_run.specs.World.{Awaits, Nothing, TheStart, awaits_after, awaits_begun, awaits_call, ended_line, has_open_call, names_ended};
 
 use crate::input::Stop;
 use crate::names::Names;
@@ -124,10 +124,10 @@ pub fn step_once<K: Sink, H: ExtentHooks>(
     shown: bool,
 ) -> Result<(), Stop>
     requires client { client < 32 }
-    requires open_call { is_open state.old.heap client ≡ true }
+    requires open_call { has_open_call state.old.heap client ≡ true }
     ensures goes { (from : Outset) (count : ℕ) (awaits : Awaits) (at : Reading) → client_awaited awaits ≡ Some client → is_one_step awaits ≡ shown
         → Here from count awaits [] (now_of state.old shelf.old at (K.held sink.old))
-        → Goes from count (awaits_after awaits (is_open state.new.heap client)) result (now_of state.new shelf.new at (K.held sink.new)) }
+        → GoesOn from count (awaits_after awaits (has_open_call state.new.heap client)) result (now_of state.new shelf.new at (K.held sink.new)) }
     ensures longer { OnOk result (steps_of state.old.heap < steps_of state.new.heap) }
     ensures cause { IfErr result (λ stop. HasStopCause stop 0 0 (K.faults sink.old) (K.faults sink.new)) }
     ensures counts { K.faults sink.old ≤ K.faults sink.new }
@@ -175,10 +175,10 @@ fn begin_call<K: Sink>(
 ) -> Result<(), Stop>
     requires client { client < 32 }
     requires limits { IsVerbWithinLimits verb }
-    requires rests { is_open state.old.heap client ≡ false }
+    requires rests { has_open_call state.old.heap client ≡ false }
     ensures goes { (from : Outset) (count : ℕ) (whole : Bool) (shelf : Shelf) (at : Reading)
         → Here from count (TheStart client verb whole) [] (now_of state.old shelf at (K.held sink.old))
-        → Goes from count (awaits_after (awaits_begun client whole) (is_open state.new.heap client)) result (now_of state.new shelf at (K.held sink.new)) }
+        → GoesOn from count (awaits_after (awaits_begun client whole) (has_open_call state.new.heap client)) result (now_of state.new shelf at (K.held sink.new)) }
     ensures cause { IfErr result (λ stop. HasStopCause stop 0 0 (K.faults sink.old) (K.faults sink.new)) }
     ensures counts { K.faults sink.old ≤ K.faults sink.new }
 {
@@ -208,9 +208,9 @@ pub fn run_to_end<K: Sink, H: ExtentHooks>(
 ) -> Result<(), Stop>
     requires { client < 32 }
     ensures goes { (from : Outset) (count : ℕ) (awaits : Awaits) (at : Reading) → client_awaited awaits ≡ Some client → is_one_step awaits ≡ false
-        → Here from count (awaits_after awaits (is_open state.old.heap client)) [] (now_of state.old shelf.old at (K.held sink.old))
-        → Goes from count (awaits_after awaits false) result (now_of state.new shelf.new at (K.held sink.new)) }
-    ensures rests { OnOk result (is_open state.new.heap client ≡ false) }
+        → Here from count (awaits_after awaits (has_open_call state.old.heap client)) [] (now_of state.old shelf.old at (K.held sink.old))
+        → GoesOn from count (awaits_after awaits false) result (now_of state.new shelf.new at (K.held sink.new)) }
+    ensures rests { OnOk result (has_open_call state.new.heap client ≡ false) }
     ensures cause { IfErr result (λ stop. HasStopCause stop 0 0 (K.faults sink.old) (K.faults sink.new)) }
     ensures counts { K.faults sink.old ≤ K.faults sink.new }
 {
@@ -235,8 +235,8 @@ pub fn carry_call<K: Sink, H: ExtentHooks>(
     requires client { client < 32 }
     requires limits { IsVerbWithinLimits verb }
     ensures goes { (from : Outset) (count : ℕ) (at : Reading)
-        → Here from count (awaits_call (is_open state.old.heap client) client verb whole) [] (now_of state.old shelf.old at (K.held sink.old))
-        → Goes from count Nothing result (now_of state.new shelf.new at (K.held sink.new)) }
+        → Here from count (awaits_call (has_open_call state.old.heap client) client verb whole) [] (now_of state.old shelf.old at (K.held sink.old))
+        → GoesOn from count Nothing result (now_of state.new shelf.new at (K.held sink.new)) }
     ensures cause { IfErr result (λ stop. HasStopCause stop 0 0 (K.faults sink.old) (K.faults sink.new)) }
     ensures counts { K.faults sink.old ≤ K.faults sink.new }
 {

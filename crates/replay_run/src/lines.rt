@@ -6,7 +6,7 @@ ghost use Rattle.report_text.specs.Lines.{idle_line};
 ghost use Rattle.trace_text.specs.declared.lines.Line.TheVariants.{End, Step};
 ghost use Rattle.trace_text.specs.Grammar.{IsWithinLimits};
 ghost use Rattle.replay_run.specs.Causes.{line_cause};
-ghost use Rattle.replay_run.specs.SoFar.{Goes, Here, Outset, Reading, now_of};
+ghost use Rattle.replay_run.specs.SoFar.{GoesOn, Here, Outset, Reading, now_of};
 ghost use Rattle.replay_run.specs.Stops.{HasStopCause};
 ghost use Rattle.replay_run.specs.World.{Nothing, counts_text};
 
@@ -71,7 +71,7 @@ fn step_line<K: Sink, H: ExtentHooks>(
     requires { client < 32 }
     ensures goes { (from : Outset) (count : ℕ) (at : Reading)
         → Here from count Nothing (Step client ∷ []) (now_of state.old shelf.old at (K.held sink.old))
-        → Goes from count Nothing result (now_of state.new shelf.new at (K.held sink.new)) }
+        → GoesOn from count Nothing result (now_of state.new shelf.new at (K.held sink.new)) }
     ensures cause { IfErr result (λ stop. HasStopCause stop 0 0 (K.faults sink.old) (K.faults sink.new)) }
     ensures counts { K.faults sink.old ≤ K.faults sink.new }
 {
@@ -93,7 +93,7 @@ fn end_line<K: Sink, H: ExtentHooks>(
     requires { client < 32 }
     ensures goes { (from : Outset) (count : ℕ) (at : Reading)
         → Here from count Nothing (End client ∷ []) (now_of state.old shelf.old at (K.held sink.old))
-        → Goes from count Nothing result (now_of state.new shelf.new at (K.held sink.new)) }
+        → GoesOn from count Nothing result (now_of state.new shelf.new at (K.held sink.new)) }
     ensures cause { IfErr result (λ stop. HasStopCause stop 0 0 (K.faults sink.old) (K.faults sink.new)) }
     ensures counts { K.faults sink.old ≤ K.faults sink.new }
 {
@@ -116,7 +116,7 @@ pub fn carry_line<K: Sink, H: ExtentHooks>(
     requires limits { IsWithinLimits line }
     ensures goes { (from : Outset) (count : ℕ) (at : Reading)
         → Here from count Nothing (line ∷ []) (now_of state.old shelf.old at (K.held sink.old))
-        → Goes from count Nothing result (now_of state.new shelf.new at (K.held sink.new)) }
+        → GoesOn from count Nothing result (now_of state.new shelf.new at (K.held sink.new)) }
     ensures cause { IfErr result (λ stop. HasStopCause stop 0 0 (K.faults sink.old) (K.faults sink.new)) }
     ensures counts { K.faults sink.old ≤ K.faults sink.new }
 {

@@ -1,5 +1,5 @@
 -- What the claims of all passes say of the whole history.
-use Rattle.turn_lock.proofs.Words.{◌≡◌, ℕ, ◌+◌, ◌-◌, ◌<◌, ◌≤◌, ◌≢◌, suc, List, [], ◌∷◌, ◌++◌, length, set, sym, refl, ap, ◌∙◌, subst, lt_of_not-le, arith, append_assoc, append-nil, All, AllPairs, flat_map, sum_by, range_with_len, All-nil, All-cons, All-tail, AllPairs-cons, sum_by-cons, flat_map-append, nat_tests, some, IsPrefix, dite, dec_le, ℕ_discrete, get_elem?, State, at_longer, Ghosts, Pass, Turn, Claim, View, entries_by, replay, total, times, counted, has, IsClaim, Rule, spent, seen_by, numbers_of, number, held, HasMade, IsWhole}
+use Rattle.turn_lock.proofs.Words.{◌≡◌, ℕ, ◌+◌, ◌-◌, ◌<◌, ◌≤◌, ◌≢◌, suc, List, [], ◌∷◌, ◌++◌, length, set, sym, refl, ap, ◌∙◌, subst, lt_of_not-le, arith, append_assoc, append-nil, All, AllPairs, flat_map, sum_by, range_with_len, All-nil, All-cons, All-tail, AllPairs-cons, sum_by-cons, flat_map-append, nat_tests, some, IsPrefix, dite, dec_le, ℕ_discrete, get_elem?, State, at_longer, Ghosts, Pass, Turn, Claim, View, entries_by, replay_turns, total, times, number_count, has, IsClaim, Rule, spent, seen_by, first_numbers, number, held, HasMade, IsWhole}
 use Rattle.turn_lock.proofs.Totals.{total_one, total_set, total_append, total_le, times_range, length_range}
 use Rattle.turn_lock.proofs.Histories.{start_stays}
 use Rattle.turn_lock.proofs.Turned.{only_one}
@@ -52,10 +52,10 @@ module _ {E : Type 0} where
 
 module _ {S O E R : Type 0} (logs : S → ℕ → O → E → Type 0) (after : S → E → S × R) (kept : S → List E) (first : S) (seats : ℕ) where
   -- a view that has all numbers has each
-  has_each : (s : State S (View S E)) (r : Rule logs after kept first seats s) (id : ℕ) (v : View S E) → get_elem? s.views id ≡ some v → counted v ≡ seats → (n : ℕ) → n < seats → 0 < has n v
+  has_each : (s : State S (View S E)) (r : Rule logs after kept first seats s) (id : ℕ) (v : View S E) → get_elem? s.views id ≡ some v → number_count v ≡ seats → (n : ℕ) → n < seats → 0 < has n v
   has_each s r id v at all n below =
-      let none_left : total counted (set s.views id spent) ≡ 0 = (let a = total_set counted s.views id v spent at in let b = r.room in omega arith) in
-      let few = total_le (has n) counted (set s.views id spent) (λ j u e. total_le (λ (c : Claim E). times n c.numbers) (λ (c : Claim E). length c.numbers) u.claims (λ i c e. times_le n c.numbers)) in
+      let none_left : total number_count (set s.views id spent) ≡ 0 = (let a = total_set number_count s.views id v spent at in let b = r.room in omega arith) in
+      let few = total_le (has n) number_count (set s.views id spent) (λ j u e. total_le (λ (c : Claim E). times n c.numbers) (λ (c : Claim E). length c.numbers) u.claims (λ i c e. times_le n c.numbers)) in
       let a = total_set (has n) s.views id v spent at in let b = r.once n in let d : total (has n) s.views ≡ 1 = grind (arith, nat_tests) in omega arith
 
 module _ {M S O E R W : Type 0} {g : Ghosts M S O E R W} where
@@ -77,7 +77,7 @@ module _ {M S O E R W : Type 0} {g : Ghosts M S O E R W} where
 
   -- its claim has as many numbers as it holds
   size_is : (p : Pass M S O E R W g) (c : Claim E) → claims_of p ≡ c ∷ [] → sizes (claims_of p) ≡ held p
-  size_is p c is = let a = ap (λ (l : List (Claim E)). length (numbers_of l)) is in let b = ap (λ (l : List ℕ). length l) p.numbers in let d = length_range p.number (p.end - p.number) in let e = ap sizes is in let some_number : p.number < p.end = p.some in omega arith
+  size_is p c is = let a = ap (λ (l : List (Claim E)). length (first_numbers l)) is in let b = ap (λ (l : List ℕ). length l) p.numbers in let d = length_range p.number (p.end - p.number) in let e = ap sizes is in let some_number : p.number < p.end = p.some in omega arith
 
   -- so do the claims of all passes
   sizes_are : (ps : List (Pass M S O E R W g)) → sizes (claims_in ps) ≡ sum_by held ps
@@ -87,7 +87,7 @@ module _ {M S O E R W : Type 0} {g : Ghosts M S O E R W} where
   -- a pass's number is among the numbers of its claim
   own_number : (p : Pass M S O E R W g) (c : Claim E) → claims_of p ≡ c ∷ [] → 0 < times (number p) c.numbers
   own_number p c is = let some_number = p.some in let there : 0 < times p.number (range_with_len p.number (p.end - p.number)) = (let a = times_range p.number p.number (p.end - p.number) in grind (arith, nat_tests)) in
-      subst (λ (l : List ℕ). 0 < times p.number l) (sym (sym (ap (λ (l : List (Claim E)). numbers_of l) is) ∙ p.numbers)) there
+      subst (λ (l : List ℕ). 0 < times p.number l) (sym (sym (ap (λ (l : List (Claim E)). first_numbers l) is) ∙ p.numbers)) there
 
   -- and among those of its claims
   own_often : (p : Pass M S O E R W g) (c : Claim E) → claims_of p ≡ c ∷ [] → 0 < often (number p) (claims_of p)
@@ -122,7 +122,7 @@ module _ {M S O E R W : Type 0} {g : Ghosts M S O E R W} where
   unused : (log : List (Turn E)) (p : Pass M S O E R W g) (c : Claim E) → claims_of p ≡ c ∷ [] → AllClaims log (claims_of p) → (n : ℕ) → number p ≢ n → 0 < often n (claims_of p) → entries_by n log ≡ []
   unused log p c is all n other some_time =
       let claim = all 0 c (ap (λ (l : List (Claim E)). get_elem? l 0) is) in let some_here : 0 < times n c.numbers = (let a = ap (often n) is in omega arith) in
-      let numbers : c.numbers ≡ range_with_len p.number (p.end - p.number) = sym (ap (λ (l : List (Claim E)). numbers_of l) is) ∙ p.numbers in
+      let numbers : c.numbers ≡ range_with_len p.number (p.end - p.number) = sym (ap (λ (l : List (Claim E)). first_numbers l) is) ∙ p.numbers in
       let there : 0 < times n (range_with_len p.number (p.end - p.number)) = subst (λ (l : List ℕ). 0 < times n l) numbers some_here in
       let within : (p.number ≤ n) × (n < p.end) = (let a = times_range n p.number (p.end - p.number) in grind (arith, nat_tests)) in
       let low = within.0 in let above : p.number < n = (let q : p.number ≢ n = other in omega arith) in
@@ -140,12 +140,12 @@ module _ {M S O E R W : Type 0} {g : Ghosts M S O E R W} where
   module _ (logs : S → ℕ → O → E → Type 0) (after : S → E → S × R) (kept : S → List E) (start : S → S) (starts : (s : S) (n : ℕ) (op : O) (e : E) → logs s n op e → start (after s e).0 ≡ start s) (first : S) (seats : ℕ) where
     -- the history of a lock all of whose passes are joined
     pub whole : (s : State S (View S E)) (r : Rule logs after kept first seats s) (id : ℕ) (v : View S E) (pass : Pass M S O E R W g) (others : List (Pass M S O E R W g)) → get_elem? s.views id ≡ some v
-        → v.claims ≡ claims_in others ++ claims_of pass → held pass + sum_by held others ≡ seats → (counted v ≡ seats) × IsWhole logs after kept start {g = g} first (pass ∷ others) (replay after first r.log)
+        → v.claims ≡ claims_in others ++ claims_of pass → held pass + sum_by held others ≡ seats → (number_count v ≡ seats) × IsWhole logs after kept start {g = g} first (pass ∷ others) (replay_turns after first r.log)
     whole s r id v pass others at claims count =
         let one = one_of pass in
         let all_of : AllClaims r.log (claims_in others ++ claims_of pass) = subst (AllClaims r.log) claims (r.knows id v at).claims in
         let left = claims_left r.log (claims_in others) (claims_of pass) all_of in let right = claims_right r.log (claims_in others) (claims_of pass) all_of in
-        let all : counted v ≡ seats = (let a = ap sizes claims in let b = total_append (λ (c : Claim E). length c.numbers) (claims_in others) (claims_of pass) in let d = sizes_are others in let e = size_is pass one.0 one.1 in omega arith) in (
+        let all : number_count v ≡ seats = (let a = ap sizes claims in let b = total_append (λ (c : Claim E). length c.numbers) (claims_in others) (claims_of pass) in let d = sizes_are others in let e = size_is pass one.0 one.1 in omega arith) in (
           all,
           record {
             log = r.log;

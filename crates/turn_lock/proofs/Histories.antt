@@ -1,5 +1,5 @@
 -- A history that grows.
-use Rattle.turn_lock.proofs.Words.{◌≡◌, ℕ, ◌≢◌, Bool, cond, eqb, List, [], ◌∷◌, ◌++◌, map, sym, refl, ap, ◌∙◌, subst, ne_eqb, eq-eqb, append_assoc, append-nil, filter, append_cancel_left, map-append, filter-append, fold-append, IsPrefix, dite, ℕ_discrete, Turn, turn_of, entries, entries_by, replay, IsLegal}
+use Rattle.turn_lock.proofs.Words.{◌≡◌, ℕ, ◌≢◌, Bool, cond, eqb, List, [], ◌∷◌, ◌++◌, map, sym, refl, ap, ◌∙◌, subst, ne_eqb, eq-eqb, append_assoc, append-nil, filter, append_cancel_left, map-append, filter-append, fold-append, IsPrefix, dite, ℕ_discrete, Turn, turn_of, entries, entries_by, replay_turns, IsLegal}
 
 module _ {E : Type 0} where
   -- the entries of a number in two parts of a history
@@ -35,27 +35,27 @@ module _ {S O E R : Type 0} (logs : S → ℕ → O → E → Type 0) (after : S
   Hist = List (Turn E)
 
   -- the replay of two parts
-  pub replay_append : (s : S) (xs ys : Hist) → replay after s (xs ++ ys) ≡ replay after (replay after s xs) ys
+  pub replay_append : (s : S) (xs ys : Hist) → replay_turns after s (xs ++ ys) ≡ replay_turns after (replay_turns after s xs) ys
   replay_append s xs ys = fold-append (λ (z : S) (t : Turn E). (after z t.entry).0) s xs ys
 
   -- two legal parts are a legal history
-  pub legal_more : (s : S) (xs ys : Hist) → IsLegal logs after s xs → IsLegal logs after (replay after s xs) ys → IsLegal logs after s (xs ++ ys)
+  pub legal_more : (s : S) (xs ys : Hist) → IsLegal logs after s xs → IsLegal logs after (replay_turns after s xs) ys → IsLegal logs after s (xs ++ ys)
   legal_more s [] ys l m = m
   legal_more s (x ∷ xs) ys l m = (l.0, legal_more (after s x.entry).0 xs ys l.1 m)
 
   -- the later part of a legal history is legal
-  pub legal_later : (s : S) (xs ys : Hist) → IsLegal logs after s (xs ++ ys) → IsLegal logs after (replay after s xs) ys
+  pub legal_later : (s : S) (xs ys : Hist) → IsLegal logs after s (xs ++ ys) → IsLegal logs after (replay_turns after s xs) ys
   legal_later s [] ys l = l
   legal_later s (x ∷ xs) ys l = legal_later (after s x.entry).0 xs ys l.1
 
   -- what a state began as stays
-  pub start_stays : (start : S → S) → ((s : S) (n : ℕ) (op : O) (e : E) → logs s n op e → start (after s e).0 ≡ start s) → (s : S) (ts : Hist) → IsLegal logs after s ts → start (replay after s ts) ≡ start s
+  pub start_stays : (start : S → S) → ((s : S) (n : ℕ) (op : O) (e : E) → logs s n op e → start (after s e).0 ≡ start s) → (s : S) (ts : Hist) → IsLegal logs after s ts → start (replay_turns after s ts) ≡ start s
   start_stays start law s [] l = refl
   start_stays start law s (t ∷ ts) l = start_stays start law (after s t.entry).0 ts l.1 ∙ law s t.number l.0.0 t.entry l.0.1
 
   -- what a number owns stays as it was through the turns of others
   pub own_stays : {W : Type 0} (own : S → ℕ → W) → ((s : S) (n : ℕ) (op : O) (e : E) (k : ℕ) → logs s n op e → k ≢ n → own (after s e).0 k ≡ own s k)
-      → (k : ℕ) (s : S) (ts : Hist) → IsLegal logs after s ts → entries_by k ts ≡ [] → own (replay after s ts) k ≡ own s k
+      → (k : ℕ) (s : S) (ts : Hist) → IsLegal logs after s ts → entries_by k ts ≡ [] → own (replay_turns after s ts) k ≡ own s k
   own_stays own law k s [] l none = refl
   own_stays own law k s (t ∷ ts) l none =
       let rest : List E = entries_by k ts in let with_it : Bool → Type 0 = λ b. map (λ (u : Turn E). u.entry) (cond b (t ∷ filter (λ (u : Turn E). eqb u.number k) ts) (filter (λ (u : Turn E). eqb u.number k) ts)) ≡ [] in

@@ -1,5 +1,5 @@
 -- Each step keeps the rule.
-use Rattle.turn_lock.proofs.Words.{◌≡◌, ℕ, ◌+◌, ◌-◌, ◌%◌, ◌^◌, ◌<◌, ◌≤◌, ◌≢◌, ◌⊎◌, zero, suc, true, false, cond, ltb, List, [], ◌∷◌, ◌++◌, map, length, get_or, take, drop, set, Some, sym, refl, ap, ◌∙◌, subst, inl, inr, ⊎_elim, arith, length-append, Option, none, some, some-injective, some-ne-none, dite, ℕ_discrete, get_elem?, set-get_or, mod-add-mod, nat_tests, append_cancel_left, range_with_len, State, Me, step, keeps, takes, gives, stepped, rest, Allows, Splits, Joins, opening, at_set, set_again, set_else, at_snoc, at_longer, one_turn, Turn, Claim, Stage, Idle, Waiting, Serving, View, turn_of, entries, entries_by, replay, IsLegal, total, times, tickets_in, ticket_of, is_serving, is_idle, IsClaim, StandsIn, counted, has, tickets, staged, Knows, Slot, opening_view, Rule, drew, looked, with_turn, added, skipped, first_part, later_part, joined, spent}
+use Rattle.turn_lock.proofs.Words.{◌≡◌, ℕ, ◌+◌, ◌-◌, ◌%◌, ◌^◌, ◌<◌, ◌≤◌, ◌≢◌, ◌⊎◌, zero, suc, true, false, cond, ltb, List, [], ◌∷◌, ◌++◌, map, length, get_or, take, drop, set, Some, sym, refl, ap, ◌∙◌, subst, inl, inr, ⊎_elim, arith, length-append, Option, none, some, some-injective, some-ne-none, dite, ℕ_discrete, get_elem?, set-get_or, mod-add-mod, nat_tests, append_cancel_left, range_with_len, State, Me, step, keeps, takes, gives, stepped, rest, Allows, Splits, Joins, opening, at_set, set_again, set_else, at_snoc, at_longer, one_turn, Turn, Claim, Stage, Idle, Waiting, Serving, View, turn_of, entries, entries_by, replay_turns, IsLegal, total, times, tickets_in, ticket_of, is_serving, is_idle, IsClaim, StandsIn, number_count, has, tickets, staged, IsTrueView, Slot, opening_view, Rule, drew, looked, with_turn, entry_added, nothing_added, first_part, later_part, joined, spent}
 use Rattle.turn_lock.proofs.Totals.{total_set, total_append, total_one, total_two, total_le, times_range, times_parts, length_parts, length_range, total_parts, at_mapped, at_append}
 use Rattle.turn_lock.proofs.Histories.{by_other, entries_append, prefix_all, prefix_more, replay_append, legal_more}
 
@@ -102,27 +102,27 @@ module _ {S O E R : Type 0} (logs : S → ℕ → O → E → Type 0) (after : S
   -- one view is replaced by another with the same numbers, and the line, the history and the slot follow
   moved : (s : St) (r : Kept s) (id : ℕ) (v w : V) → get_elem? s.views id ≡ some v → (log : Hist) (served waiting : ℕ) (ws : List ℕ) (hs : List (Option S))
       → ws ≡ ((served + waiting) % 18446744073709551616) ∷ (served % 18446744073709551616) ∷ [] → tickets w + r.waiting ≡ tickets v + waiting
-      → w.claims ≡ v.claims ⊎ ((counted w ≡ counted v) × ((n : ℕ) → has n w ≡ has n v))
-      → length log ≤ served → IsLegal logs after first log → kept (replay after first log) ≡ entries log → ((n : ℕ) → seats ≤ n → entries_by n log ≡ [])
-      → Knows first log served waiting w → ((j : ℕ) (u : V) → j ≢ id → get_elem? s.views j ≡ some u → Knows first log served waiting u)
+      → w.claims ≡ v.claims ⊎ ((number_count w ≡ number_count v) × ((n : ℕ) → has n w ≡ has n v))
+      → length log ≤ served → IsLegal logs after first log → kept (replay_turns after first log) ≡ entries log → ((n : ℕ) → seats ≤ n → entries_by n log ≡ [])
+      → IsTrueView first log served waiting w → ((j : ℕ) (u : V) → j ≢ id → get_elem? s.views j ≡ some u → IsTrueView first log served waiting u)
       → ((j : ℕ) (u : V) (t : ℕ) → j ≢ id → get_elem? s.views j ≡ some u → ticket_of w.stage ≡ some t → ticket_of u.stage ≡ some t → ⊥)
-      → Slot (replay after first log) hs (set s.views id w) → Kept record { words = ws; homes = hs; views = set s.views id w }
+      → Slot (replay_turns after first log) hs (set s.views id w) → Kept record { words = ws; homes = hs; views = set s.views id w }
   moved s r id v w at log served waiting ws hs words line numbers turns legal tied named mine others alone slot =
-      let same : (counted w ≡ counted v) × ((n : ℕ) → has n w ≡ has n v) = ⊎_elim (λ (e : w.claims ≡ v.claims). (ap (total (λ (c : Claim E). length c.numbers)) e, λ n. ap (total (λ (c : Claim E). times n c.numbers)) e)) (λ z. z) numbers in
+      let same : (number_count w ≡ number_count v) × ((n : ℕ) → has n w ≡ has n v) = ⊎_elim (λ (e : w.claims ≡ v.claims). (ap (total (λ (c : Claim E). length c.numbers)) e, λ n. ap (total (λ (c : Claim E). times n c.numbers)) e)) (λ z. z) numbers in
       record {
         log = log;
         served = served;
         waiting = waiting;
         words = words;
         line = (let a = total_set tickets s.views id v w at in let b = r.line in omega arith);
-        room = (let a = total_set counted s.views id v w at in let b = r.room in let c = same.0 in omega arith);
+        room = (let a = total_set number_count s.views id v w at in let b = r.room in let c = same.0 in omega arith);
         once = λ n. (let a = total_set (has n) s.views id v w at in let c = same.1 n in let d : total (has n) (set s.views id w) ≡ total (has n) s.views = omega arith in d ∙ r.once n);
         small = r.small;
         turns = turns;
         legal = legal;
         keeps = tied;
         named = named;
-        knows = set_cases (λ j (u : V). Knows first log served waiting u) s.views id w mine others;
+        knows = set_cases (λ j (u : V). IsTrueView first log served waiting u) s.views id w mine others;
         apart = λ i j a b t ia jb ta tb. set_cases (λ i (x : V). ticket_of x.stage ≡ some t → i ≡ j) s.views id w
             (λ tx. set_cases (λ j (y : V). ticket_of y.stage ≡ some t → id ≡ j) s.views id w (λ _. refl) (λ j y n e ty. absurd (alone j y t n e tx ty)) j b jb tb)
             (λ i x n e tx. set_cases (λ j (y : V). ticket_of y.stage ≡ some t → i ≡ j) s.views id w (λ ty. absurd (alone i x t n e ty tx)) (λ j y _ f ty. r.apart i j x y t e f tx ty) j b jb tb)
@@ -135,7 +135,7 @@ module _ {S O E R : Type 0} (logs : S → ℕ → O → E → Type 0) (after : S
   low_next n = mod-add-mod n 18446744073709551616 1
 
   -- drawing a ticket keeps the rule
-  pub draws : (slots id : ℕ) (me : Me S V) → is_idle me.0.stage ≡ true → 0 < counted me.0 → Allows Kept slots id me 0 (λ n. (n + 1) % 2 ^ 64) (drew (step slots 0 1 0 none) me)
+  pub draws : (slots id : ℕ) (me : Me S V) → is_idle me.0.stage ≡ true → 0 < number_count me.0 → Allows Kept slots id me 0 (λ n. (n + 1) % 2 ^ 64) (drew (step slots 0 1 0 none) me)
   draws slots id me idle some_number s r long at small =
       let k : ℕ = r.served + r.waiting in let v : V = me.0 in let w : V = staged v (Waiting k) in let still = idle_is v.stage idle in let know = r.knows id v at in
       let free : tickets v ≡ 0 = ap tickets_in still in
@@ -150,13 +150,13 @@ module _ {S O E R : Type 0} (logs : S → ℕ → O → E → Type 0) (after : S
             record { begun = know.begun; claims = know.claims; named = some_number; stands = (omega arith, omega arith) }
             (λ j u _ e. let other = r.knows j u e in record { begun = other.begun; claims = other.claims; named = other.named; stands = stands_longer r.log r.served r.waiting u.stage other.stands })
             (λ j u t _ e tw tu. let is : k ≡ t = some-injective k t tw in let low = stands_in r.log r.served r.waiting u.stage t (r.knows j u e).stands tu in let b = low.1 in omega arith)
-            (slot_stays (replay after first r.log) s.homes s.views id v w at (ap is_serving (sym still)) r.slot),
+            (slot_stays (replay_turns after first r.log) s.homes s.views id v w at (ap is_serving (sym still)) r.slot),
         (k, sym found, refl),
       )
 
   -- no more tickets stand in the line than there are numbers
   few : (s : St) (r : Kept s) → r.waiting ≤ seats
-  few s r = let a = total_le tickets counted s.views (λ j u e. (r.knows j u e).named) in let b = r.line in let c = r.room in omega arith
+  few s r = let a = total_le tickets number_count s.views (λ j u e. (r.knows j u e).named) in let b = r.line in let c = r.room in omega arith
 
   -- a step that changes nothing
   unmoved : (s : St) (r : Kept s) (i id : ℕ) (me : Me S V) → get_elem? s.views id ≡ some me.0 → Kept (stepped s i (get_or s.words i 0) id me.1 me.0 keeps)
@@ -168,7 +168,7 @@ module _ {S O E R : Type 0} (logs : S → ℕ → O → E → Type 0) (after : S
   served_one s r id j v u at ticket there out = r.apart j id u v r.served there at (serving_ticket r.log r.served r.waiting u.stage out (r.knows j u there).stands) ticket
 
   -- a seat whose ticket is served, and which hasn't entered, finds the slot at home
-  at_home : (s : St) (r : Kept s) (id : ℕ) (v : V) → get_elem? s.views id ≡ some v → ticket_of v.stage ≡ some r.served → is_serving v.stage ≡ false → s.homes ≡ some (replay after first r.log) ∷ []
+  at_home : (s : St) (r : Kept s) (id : ℕ) (v : V) → get_elem? s.views id ≡ some v → ticket_of v.stage ≡ some r.served → is_serving v.stage ≡ false → s.homes ≡ some (replay_turns after first r.log) ∷ []
   at_home s r id v at ticket not_yet = ⊎_elim (λ h. h.0)
       (λ (h : (s.homes ≡ none ∷ []) × ((j : ℕ) × (u : V) × (get_elem? s.views j ≡ some u) × (is_serving u.stage ≡ true))). let j : ℕ = h.1.0 in let u : V = h.1.1 in let same_seat = served_one s r id j v u at ticket h.1.2 h.1.3 in
       let one = some-injective v u (sym at ∙ subst (λ i. get_elem? s.views i ≡ some u) same_seat h.1.2) in
@@ -185,14 +185,14 @@ module _ {S O E R : Type 0} (logs : S → ℕ → O → E → Type 0) (after : S
       let v : V = me.0 in let know = r.knows id v at in let n : ℕ = get_or s.words 1 0 in let found : n ≡ r.served % 18446744073709551616 = ap (λ (l : List ℕ). get_or l 1 0) r.words in
       let stands : StandsIn r.log r.served r.waiting (Waiting k) = subst (StandsIn r.log r.served r.waiting) stage know.stands in dite (ℕ_discrete n (k % 18446744073709551616))
       (λ yes. let a = stands.0 in let b = stands.1 in let c = few s r in let d = r.small in let same_ticket : r.served ≡ k = one_turn r.served k 18446744073709551616 a (omega arith) (sym found ∙ yes) in
-      let y : S = replay after first r.log in let w : V = staged v (Serving k r.log) in
+      let y : S = replay_turns after first r.log in let w : V = staged v (Serving k r.log) in
       let home = at_home s r id v at (ap ticket_of stage ∙ ap some (sym same_ticket)) (ap is_serving stage) in
       let out : set s.homes 0 none ≡ none ∷ [] = ap (λ l. set l 0 none) home in (
         w,
         takes 0 y,
         ap (λ l. get_elem? l 0) home,
         moved s r id v w at r.log r.served r.waiting _ (set s.homes 0 none) (set-get_or s.words 1 0 ∙ r.words) (ap (λ (z : Stage E). tickets_in z + r.waiting) (sym stage)) (inl refl) r.turns r.legal r.keeps r.named
-            record { begun = know.begun; claims = know.claims; named = subst (λ (z : Stage E). tickets_in z ≤ counted v) stage know.named; stands = (sym same_ticket, omega arith, refl) }
+            record { begun = know.begun; claims = know.claims; named = subst (λ (z : Stage E). tickets_in z ≤ number_count v) stage know.named; stands = (sym same_ticket, omega arith, refl) }
             (λ j u _ e. r.knows j u e)
             (λ j u t other e tw tu. other (r.apart j id u v t e at tu (ap ticket_of stage ∙ tw)))
             (inr (out, (id, w, set_at s.views id v w at, refl))),
@@ -202,7 +202,7 @@ module _ {S O E R : Type 0} (logs : S → ℕ → O → E → Type 0) (after : S
             log = r.log;
             value = y;
             seat = (λ i. (staged v (Serving (one i) r.log), (0, y) ∷ empty i));
-            replayed = (λ b begun. let begin = sym (know.begun b begun) in (ap (λ (z : S). replay after z r.log) begin, subst (λ (z : S). IsLegal logs after z r.log) begin r.legal));
+            replayed = (λ b begun. let begin = sym (know.begun b begun) in (ap (λ (z : S). replay_turns after z r.log) begin, subst (λ (z : S). IsLegal logs after z r.log) begin r.legal));
             keeps = r.keeps;
             claims = know.claims;
           }),
@@ -216,8 +216,8 @@ module _ {S O E R : Type 0} (logs : S → ℕ → O → E → Type 0) (after : S
 
   -- the seat that is served leaves, and the next ticket is served
   leaves : (s : St) (r : Kept s) (id : ℕ) (v w : V) (k : ℕ) (whole : Hist) (y y' : S) → get_elem? s.views id ≡ some v → v.stage ≡ Serving k whole → w.stage ≡ Idle → w.first ≡ v.first → (log : Hist)
-      → w.claims ≡ v.claims ⊎ ((counted w ≡ counted v) × ((n : ℕ) → has n w ≡ has n v))
-      → length log ≤ r.served + 1 → IsLegal logs after first log → kept (replay after first log) ≡ entries log → ((n : ℕ) → seats ≤ n → entries_by n log ≡ []) → y' ≡ replay after first log
+      → w.claims ≡ v.claims ⊎ ((number_count w ≡ number_count v) × ((n : ℕ) → has n w ≡ has n v))
+      → length log ≤ r.served + 1 → IsLegal logs after first log → kept (replay_turns after first log) ≡ entries log → ((n : ℕ) → seats ≤ n → entries_by n log ≡ []) → y' ≡ replay_turns after first log
       → Claims log w → ((j : ℕ) (u : V) → j ≢ id → get_elem? s.views j ≡ some u → Claims log u) → Kept (stepped s 1 ((get_or s.words 1 0 + 1) % 2 ^ 64) id ((0, y') ∷ []) w gives)
   leaves s r id v w k whole y y' at stage idle same_first log numbers turns legal tied named value mine others =
       let know = r.knows id v at in let stands : StandsIn r.log r.served r.waiting (Serving k whole) = subst (StandsIn r.log r.served r.waiting) stage know.stands in
@@ -228,7 +228,7 @@ module _ {S O E R : Type 0} (logs : S → ℕ → O → E → Type 0) (after : S
       let more : r.served + r.waiting ≡ (r.served + 1) + (r.waiting - 1) = omega arith in
       let words : set s.words 1 ((get_or s.words 1 0 + 1) % 18446744073709551616) ≡ (((r.served + 1) + (r.waiting - 1)) % 18446744073709551616) ∷ ((r.served + 1) % 18446744073709551616) ∷ [] =
       ap (λ (l : List ℕ). set l 1 ((get_or s.words 1 0 + 1) % 18446744073709551616)) r.words ∙ (λ i. ((more i) % 18446744073709551616) ∷ (next i) ∷ []) in
-      let out : set s.homes 0 (some y') ≡ some (replay after first log) ∷ [] =
+      let out : set s.homes 0 (some y') ≡ some (replay_turns after first log) ∷ [] =
       ⊎_elim (λ h. let wrong : true ≡ false = sym (ap is_serving stage) ∙ h.1 id v at in absurd cc) (λ h. ap (λ l. set l 0 (some y')) h.0 ∙ ap (λ (z : S). some z ∷ []) value) r.slot in
       let one : tickets v ≡ 1 = ap tickets_in stage in let none_left : tickets w ≡ 0 = ap tickets_in idle in
       moved s r id v w at log (r.served + 1) (r.waiting - 1) _ _ words (omega arith) numbers turns legal tied named
@@ -244,8 +244,8 @@ module _ {S O E R : Type 0} (logs : S → ℕ → O → E → Type 0) (after : S
       (inl (out, set_cases (λ j (u : V). is_serving u.stage ≡ false) s.views id w (ap is_serving idle) (λ j u other e. not_serving u.stage (λ h. other (served_one s r id j v u at ticket e h)))))
 
   -- the seat that is served leaves with no entry
-  pub skips : (slots id : ℕ) (me : Me S V) (k : ℕ) (whole : Hist) (y : S) → me.0.stage ≡ Serving k whole → me.0.first ≡ Some first → me.1 ≡ (0, y) ∷ [] → y ≡ replay after first whole
-      → Allows Kept slots id me 1 (λ n. (n + 1) % 2 ^ 64) (skipped (step slots 1 1 0 none) me)
+  pub skips : (slots id : ℕ) (me : Me S V) (k : ℕ) (whole : Hist) (y : S) → me.0.stage ≡ Serving k whole → me.0.first ≡ Some first → me.1 ≡ (0, y) ∷ [] → y ≡ replay_turns after first whole
+      → Allows Kept slots id me 1 (λ n. (n + 1) % 2 ^ 64) (nothing_added (step slots 1 1 0 none) me)
   skips slots id me k whole y stage begun holds value s r long at small =
       let v : V = me.0 in let w : V = staged v Idle in let know = r.knows id v at in
       let stands : StandsIn r.log r.served r.waiting (Serving k whole) = subst (StandsIn r.log r.served r.waiting) stage know.stands in let turns = r.turns in (
@@ -253,7 +253,7 @@ module _ {S O E R : Type 0} (logs : S → ℕ → O → E → Type 0) (after : S
         gives,
         tt,
         subst (λ cs. Kept (stepped s 1 ((get_or s.words 1 0 + 1) % 2 ^ 64) id cs w gives)) (sym holds)
-            (leaves s r id v w k whole y y at stage refl refl r.log (inl refl) (omega arith) r.legal r.keeps r.named (value ∙ ap (replay after first) stands.2) know.claims (λ j u _ e. (r.knows j u e).claims)),
+            (leaves s r id v w k whole y y at stage refl refl r.log (inl refl) (omega arith) r.legal r.keeps r.named (value ∙ ap (replay_turns after first) stands.2) know.claims (λ j u _ e. (r.knows j u e).claims)),
         refl,
       )
 
@@ -275,8 +275,8 @@ module _ {S O E R : Type 0} (logs : S → ℕ → O → E → Type 0) (after : S
 
   -- the seat that is served leaves with one more entry
   pub adds : (slots id : ℕ) (me : Me S V) (k : ℕ) (whole : Hist) (c : Claim E) (op : O) (e : E) (y : S) → me.0.stage ≡ Serving k whole → me.0.first ≡ Some first → me.0.claims ≡ c ∷ [] → 0 < length c.numbers
-      → me.1 ≡ (0, y) ∷ [] → y ≡ (after (replay after first whole) e).0 → logs (replay after first whole) (get_or c.numbers 0 0) op e → kept y ≡ entries whole ++ e ∷ []
-      → Allows Kept slots id me 1 (λ n. (n + 1) % 2 ^ 64) (added kept (step slots 1 1 0 none) me)
+      → me.1 ≡ (0, y) ∷ [] → y ≡ (after (replay_turns after first whole) e).0 → logs (replay_turns after first whole) (get_or c.numbers 0 0) op e → kept y ≡ entries whole ++ e ∷ []
+      → Allows Kept slots id me 1 (λ n. (n + 1) % 2 ^ 64) (entry_added kept (step slots 1 1 0 none) me)
   adds slots id me k whole c op e y stage begun claim some_number holds value logged keeps_one s r long at small =
       let v : V = me.0 in let know = r.knows id v at in let m : ℕ = get_or c.numbers 0 0 in
       let stands : StandsIn r.log r.served r.waiting (Serving k whole) = subst (StandsIn r.log r.served r.waiting) stage know.stands in
@@ -285,7 +285,7 @@ module _ {S O E R : Type 0} (logs : S → ℕ → O → E → Type 0) (after : S
       let w : V = record { first = v.first; stage = Idle; claims = c' ∷ [] } in
       let mine : (n : ℕ) → has n w ≡ has n v = λ n. sym (ap (total (λ (c : Claim E). times n c.numbers)) claim) in
       let there : 0 < has m v = (let a = first_there c.numbers some_number in let b = mine m in omega arith) in
-      let now : y ≡ replay after first log = value ∙ sym (replay_append logs after first whole (turn_of m e ∷ [])) in (
+      let now : y ≡ replay_turns after first log = value ∙ sym (replay_append logs after first whole (turn_of m e ∷ [])) in (
         w,
         gives,
         tt,
@@ -324,13 +324,13 @@ module _ {S O E R : Type 0} (logs : S → ℕ → O → E → Type 0) (after : S
   pub splits : (id : ℕ) (v : V) → is_idle v.stage ≡ true → Splits Kept id v (first_part v) (later_part v)
   splits id v idle s r at =
       let left : V = first_part v in let right : V = later_part v in let still = idle_is v.stage idle in let know = r.knows id v at in let free : tickets v ≡ 0 = ap tickets_in still in
-      let part_count : counted left + counted right ≡ counted v = total_parts (λ (c : Claim E). length c.numbers) (λ (c : Claim E). record { numbers = take 1 c.numbers; seen = c.seen }) (λ (c : Claim E). record { numbers = drop 1 c.numbers; seen = c.seen })
+      let part_count : number_count left + number_count right ≡ number_count v = total_parts (λ (c : Claim E). length c.numbers) (λ (c : Claim E). record { numbers = take 1 c.numbers; seen = c.seen }) (λ (c : Claim E). record { numbers = drop 1 c.numbers; seen = c.seen })
       (λ (c : Claim E). length c.numbers) (λ c. length_parts c.numbers) v.claims in
       let part_has : (n : ℕ) → has n left + has n right ≡ has n v = λ n. total_parts (λ (c : Claim E). times n c.numbers) (λ (c : Claim E). record { numbers = take 1 c.numbers; seen = c.seen }) (λ (c : Claim E). record { numbers = drop 1 c.numbers; seen = c.seen })
       (λ (c : Claim E). times n c.numbers) (λ c. times_parts n c.numbers) v.claims in
-      let left_ok : Knows first r.log r.served r.waiting left =
+      let left_ok : IsTrueView first r.log r.served r.waiting left =
       record { begun = know.begun; claims = part_claims r.log (take 1) (λ n xs. let a = times_parts n xs in omega arith) v.claims know.claims; named = omega arith; stands = know.stands } in
-      let right_ok : Knows first r.log r.served r.waiting right =
+      let right_ok : IsTrueView first r.log r.served r.waiting right =
       record { begun = know.begun; claims = part_claims r.log (drop 1) (λ n xs. let a = times_parts n xs in omega arith) v.claims know.claims; named = omega arith; stands = tt } in
       let vs : List V = set s.views id left in
       let each : (P : ℕ → V → Type 0) → P id left → ((j : ℕ) → P j right) → ((j : ℕ) (u : V) → j ≢ id → get_elem? s.views j ≡ some u → P j u) → (j : ℕ) (u : V) → get_elem? (vs ++ right ∷ []) j ≡ some u → P j u =
@@ -341,20 +341,20 @@ module _ {S O E R : Type 0} (logs : S → ℕ → O → E → Type 0) (after : S
         waiting = r.waiting;
         words = r.words;
         line = part_totals tickets s.views id v left right at (omega arith) ∙ r.line;
-        room = part_totals counted s.views id v left right at part_count ∙ r.room;
+        room = part_totals number_count s.views id v left right at part_count ∙ r.room;
         once = λ n. part_totals (has n) s.views id v left right at (part_has n) ∙ r.once n;
         small = r.small;
         turns = r.turns;
         legal = r.legal;
         keeps = r.keeps;
         named = r.named;
-        knows = each (λ j u. Knows first r.log r.served r.waiting u) left_ok (λ j. right_ok) (λ j u _ e. r.knows j u e);
+        knows = each (λ j u. IsTrueView first r.log r.served r.waiting u) left_ok (λ j. right_ok) (λ j u _ e. r.knows j u e);
         apart = λ i j a b t ia jb ta tb. each (λ i x. ticket_of x.stage ≡ some t → i ≡ j) (λ tx. no_ticket v.stage t still tx) (λ i tx. no_ticket Idle t refl tx)
             (λ i x n e tx. each (λ j y. ticket_of y.stage ≡ some t → i ≡ j) (λ ty. no_ticket v.stage t still ty) (λ j ty. no_ticket Idle t refl ty) (λ j y _ f ty. r.apart i j x y t e f tx ty) j b jb tb) i a ia ta;
         slot = ⊎_elim
             (λ h. inl (h.0, λ j u e. ⊎_elim (h.1 j u) (λ p. ap (λ (z : V). is_serving z.stage) (sym p)) (at_snoc vs right u j e)))
             (λ h. inr (h.0, (h.1.0, h.1.1, at_longer vs (right ∷ []) h.1.0 h.1.1 h.1.2, h.1.3)))
-            (slot_stays (replay after first r.log) s.homes s.views id v left at refl r.slot);
+            (slot_stays (replay_turns after first r.log) s.homes s.views id v left at refl r.slot);
       }
 
   -- a join keeps the rule
@@ -374,20 +374,20 @@ module _ {S O E R : Type 0} (logs : S → ℕ → O → E → Type 0) (after : S
         waiting = r.waiting;
         words = r.words;
         line = sums tickets (omega arith) refl ∙ r.line;
-        room = sums counted (total_append (λ (c : Claim E). length c.numbers) w.claims v.claims) refl ∙ r.room;
+        room = sums number_count (total_append (λ (c : Claim E). length c.numbers) w.claims v.claims) refl ∙ r.room;
         once = λ n. sums (has n) (total_append (λ (c : Claim E). times n c.numbers) w.claims v.claims) refl ∙ r.once n;
         small = r.small;
         turns = r.turns;
         legal = r.legal;
         keeps = r.keeps;
         named = r.named;
-        knows = each (λ j u. Knows first r.log r.served r.waiting u)
+        knows = each (λ j u. IsTrueView first r.log r.served r.waiting u)
             record { begun = know_v.begun; claims = at_append (IsClaim r.log) w.claims v.claims know_w.claims know_v.claims; named = omega arith; stands = know_v.stands }
             record { begun = λ b h. absurd cc; claims = λ i c e. absurd (some-ne-none c (sym e)); named = omega arith; stands = tt }
             r.knows;
         apart = λ i j a b t ia jb ta tb. each (λ i x. ticket_of x.stage ≡ some t → i ≡ j) (λ tx. no_ticket v.stage t still_v tx) (λ tx. no_ticket Idle t refl tx)
             (λ i x e tx. each (λ j y. ticket_of y.stage ≡ some t → i ≡ j) (λ ty. no_ticket v.stage t still_v ty) (λ ty. no_ticket Idle t refl ty) (λ j y f ty. r.apart i j x y t e f tx ty) j b jb tb) i a ia ta;
-        slot = slot_stays (replay after first r.log) s.homes vs other w spent there (sym (ap is_serving still_w)) (slot_stays (replay after first r.log) s.homes s.views id v both at refl r.slot);
+        slot = slot_stays (replay_turns after first r.log) s.homes vs other w spent there (sym (ap is_serving still_w)) (slot_stays (replay_turns after first r.log) s.homes s.views id v both at refl r.slot);
       }
 
   -- the rule holds at the start
@@ -406,17 +406,17 @@ module _ {S O E R : Type 0} (logs : S → ℕ → O → E → Type 0) (after : S
         legal = tt;
         keeps = empty;
         named = λ n far. refl;
-        knows = at_only (λ j (u : V). Knows first [] 0 0 u) v record { begun = λ b h. cc; claims = at_only (λ i (c : Claim E). IsClaim [] c) (record { numbers = range_with_len 0 seats; seen = [] }) (prefix_all [], λ n _. refl); named = omega arith; stands = tt };
+        knows = at_only (λ j (u : V). IsTrueView first [] 0 0 u) v record { begun = λ b h. cc; claims = at_only (λ i (c : Claim E). IsClaim [] c) (record { numbers = range_with_len 0 seats; seen = [] }) (prefix_all [], λ n _. refl); named = omega arith; stands = tt };
         apart = λ i j a b t ia jb ta tb. at_only (λ i (x : V). ticket_of x.stage ≡ some t → i ≡ j) v (λ tx. no_ticket Idle t refl tx) i a ia ta;
         slot = inl (refl, at_only (λ j (u : V). is_serving u.stage ≡ false) v refl);
       }
 
   -- where one view has all numbers and no ticket, the value is at home
-  pub closes : (s : St) (r : Kept s) (id : ℕ) (v : V) → get_elem? s.views id ≡ some v → is_idle v.stage ≡ true → counted v ≡ seats → s.homes ≡ some (replay after first r.log) ∷ []
+  pub closes : (s : St) (r : Kept s) (id : ℕ) (v : V) → get_elem? s.views id ≡ some v → is_idle v.stage ≡ true → number_count v ≡ seats → s.homes ≡ some (replay_turns after first r.log) ∷ []
   closes s r id v at idle all = ⊎_elim (λ h. h.0)
       (λ (h : (s.homes ≡ none ∷ []) × ((j : ℕ) × (u : V) × (get_elem? s.views j ≡ some u) × (is_serving u.stage ≡ true))). let j : ℕ = h.1.0 in let u : V = h.1.1 in let whose = serving_is u.stage h.1.3 in let one : tickets u ≡ 1 = ap tickets_in whose.2 in
       dite (ℕ_discrete j id)
       (λ is. let same_view = some-injective v u (sym at ∙ subst (λ i. get_elem? s.views i ≡ some u) is h.1.2) in
       let none_there : tickets u ≡ 0 = ap tickets_in (sym (ap (λ (x : V). x.stage) same_view) ∙ idle_is v.stage idle) in absurd (omega arith))
-      (λ other. let a = total_two counted s.views id j v u (λ e. other (sym e)) at h.1.2 in let b = r.room in let c = (r.knows j u h.1.2).named in absurd (omega arith)))
+      (λ other. let a = total_two number_count s.views id j v u (λ e. other (sym e)) at h.1.2 in let b = r.room in let c = (r.knows j u h.1.2).named in absurd (omega arith)))
       r.slot

@@ -16,8 +16,8 @@ abbrev pub entries_by : {E : Type 0} → ℕ → List (Turn E) → List E
 entries_by n turns = entries (filter (λ t. t.number == n) turns)
 
 -- the state after all turns of a history, where it was s before
-abbrev pub replay : {S E R : Type 0} → (S → E → S × R) → S → List (Turn E) → S
-replay after s turns = fold (λ s t. (after s t.entry).0) s turns
+abbrev pub replay_turns : {S E R : Type 0} → (S → E → S × R) → S → List (Turn E) → S
+replay_turns after s turns = fold (λ s t. (after s t.entry).0) s turns
 
 module _ {S O E R : Type 0} (logs : S → ℕ → O → E → Type 0) (after : S → E → S × R) where
   -- each entry is what the machine logs at its place, of some operation

@@ -7,7 +7,7 @@ use Rattle.turn_lock.specs.declared.lock.TurnLock.{TurnLock}
 use Rattle.turn_lock.specs.declared.lock.Pass.{Pass}
 use Rattle.turn_lock.specs.declared.lock.Passes.{Passes}
 use Rattle.turn_lock.specs.declared.view.Turn.{Turn}
-use Rattle.turn_lock.specs.History.{turn_of, entries, entries_by, replay, IsLegal}
+use Rattle.turn_lock.specs.History.{turn_of, entries, entries_by, replay_turns, IsLegal}
 use Rattle.turn_lock.specs.Views.{seen_by}
 
 module _ {M S O E R W : Type 0} where
@@ -46,7 +46,7 @@ module _ {M S O E R W : Type 0} where
 
     -- what belongs to the pass's number after the history that it has seen
     abbrev pub own_known : (S → E → S × R) → (S → ℕ → W) → TurnLock M S O E R W → Pass M S O E R W g → W
-    own_known after own lock pass = own (replay after (first lock) (seen pass)) (number pass)
+    own_known after own lock pass = own (replay_turns after (first lock) (seen pass)) (number pass)
 
     -- the passes in a list of passes
     abbrev pub passes : Passes M S O E R W g → List (Pass M S O E R W g)
@@ -69,18 +69,18 @@ module _ {M S O E R W : Type 0} where
     pub ends : seen new ≡ before ++ turn_of (number old) entry ∷ []
     pub legal : IsLegal logs after (first lock) (seen new)
     -- the entry and the reply are the machine's at that place
-    pub logged : logs (replay after (first lock) before) (number old) op entry
-    pub reply : r ≡ (after (replay after (first lock) before) entry).1
+    pub logged : logs (replay_turns after (first lock) before) (number old) op entry
+    pub reply : r ≡ (after (replay_turns after (first lock) before) entry).1
     -- the entries of the number are those from before and this one
     pub made : own_entries new ≡ own_entries old ++ entry ∷ []
     -- what belongs to the number is what the pass knew, and the pass knows what the turn left to it
-    pub met : own (replay after (first lock) before) (number old) ≡ own_known after own lock old
-    pub left : own_known after own lock new ≡ own (after (replay after (first lock) before) entry).0 (number old)
+    pub met : own (replay_turns after (first lock) before) (number old) ≡ own_known after own lock old
+    pub left : own_known after own lock new ≡ own (after (replay_turns after (first lock) before) entry).0 (number old)
 
   -- a state is the replay of a whole history, and keeps its entries. The history has the entries that these passes made, and no others
   pub record IsWhole (logs : S → ℕ → O → E → Type 0) (after : S → E → S × R) (kept : S → List E) (start : S → S) {g : Ghosts M S O E R W} (first : S) (all : List (Pass M S O E R W g)) (state : S) : Type 0 where
     pub log : List (Turn E)
-    pub replayed : state ≡ replay after first log
+    pub replayed : state ≡ replay_turns after first log
     pub begun : start state ≡ start first
     pub keeps : kept state ≡ entries log
     pub legal : IsLegal logs after first log

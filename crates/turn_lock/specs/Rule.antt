@@ -11,7 +11,7 @@ use Rattle.turn_lock.specs.declared.view.Claim.{Claim}
 use Rattle.turn_lock.specs.declared.view.Stage.{Stage}
 use Rattle.turn_lock.specs.declared.view.Stage.TheVariants.{Idle, Waiting, Serving}
 use Rattle.turn_lock.specs.declared.view.View.{View}
-use Rattle.turn_lock.specs.History.{entries, entries_by, replay, IsLegal}
+use Rattle.turn_lock.specs.History.{entries, entries_by, replay_turns, IsLegal}
 
 -- what f gives of the elements, added up
 abbrev pub total : {A : Type 0} → (A → ℕ) → List A → ℕ
@@ -63,8 +63,8 @@ module _ {E : Type 0} where
 
 module _ {S E : Type 0} where
   -- how many numbers a view has
-  abbrev pub counted : View S E → ℕ
-  counted v = total (λ c. length c.numbers) v.claims
+  abbrev pub number_count : View S E → ℕ
+  number_count v = total (λ c. length c.numbers) v.claims
 
   -- how often it has the number n
   abbrev pub has : ℕ → View S E → ℕ
@@ -79,10 +79,10 @@ module _ {S E : Type 0} where
   staged v stage = record { first = v.first; stage = stage; claims = v.claims }
 
   -- what the rule says of one view
-  pub record Knows (first : S) (log : List (Turn E)) (served waiting : ℕ) (v : View S E) : Type 0 where
+  pub record IsTrueView (first : S) (log : List (Turn E)) (served waiting : ℕ) (v : View S E) : Type 0 where
     pub begun : (s : S) → v.first ≡ Some s → s ≡ first
     pub claims : (i : ℕ) (c : Claim E) → get_elem? v.claims i ≡ some c → IsClaim log c
-    pub named : tickets v ≤ counted v
+    pub named : tickets v ≤ number_count v
     pub stands : StandsIn log served waiting v.stage
 
   -- no seat is served: none is between the load that found its ticket and the step that serves the next one
@@ -107,16 +107,16 @@ module _ {S O E R : Type 0} (logs : S → ℕ → O → E → Type 0) (after : S
     pub words : s.words ≡ ((served + waiting) % 18446744073709551616) ∷ (served % 18446744073709551616) ∷ []
     pub line : total tickets s.views ≡ waiting
     -- each number below the number of seats belongs to one view
-    pub room : total counted s.views ≡ seats
+    pub room : total number_count s.views ≡ seats
     pub once : (n : ℕ) → total (has n) s.views ≡ (if nat_lt n seats then 1 else 0)
     pub small : seats < 4294967296
     -- the history has at most one turn for each ticket that was served, and is one that the machine may have
     pub turns : length log ≤ served
     pub legal : IsLegal logs after first log
-    pub keeps : kept (replay after first log) ≡ entries log
+    pub keeps : kept (replay_turns after first log) ≡ entries log
     pub named : (n : ℕ) → seats ≤ n → entries_by n log ≡ []
     -- what each view says is true, and no two have one ticket
-    pub knows : (j : ℕ) (v : View S E) → get_elem? s.views j ≡ some v → Knows first log served waiting v
+    pub knows : (j : ℕ) (v : View S E) → get_elem? s.views j ≡ some v → IsTrueView first log served waiting v
     pub apart : (i j : ℕ) (v w : View S E) (t : ℕ) → get_elem? s.views i ≡ some v → get_elem? s.views j ≡ some w → ticket_of v.stage ≡ some t → ticket_of w.stage ≡ some t → i ≡ j
     -- the value, at home or out with the seat that is served, is the replay of the history
-    pub slot : Slot (replay after first log) s.homes s.views
+    pub slot : Slot (replay_turns after first log) s.homes s.views

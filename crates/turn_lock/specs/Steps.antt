@@ -7,7 +7,7 @@ use Rattle.turn_lock.specs.declared.view.Turn.{Turn}
 use Rattle.turn_lock.specs.declared.view.Claim.{Claim}
 use Rattle.turn_lock.specs.declared.view.Stage.TheVariants.{Idle, Waiting, Serving}
 use Rattle.turn_lock.specs.declared.view.View.{View}
-use Rattle.turn_lock.specs.History.{turn_of, entries, replay, IsLegal}
+use Rattle.turn_lock.specs.History.{turn_of, entries, replay_turns, IsLegal}
 use Rattle.turn_lock.specs.Rule.{IsClaim, staged}
 
 -- a seat at the table
@@ -24,14 +24,14 @@ module _ {S E : Type 0} where
   drew st m r n = (k : ℕ) × (k % 18446744073709551616 ≡ r) × (n ≡ (staged m.0 (Waiting k), m.1))
 
   -- the slot went home with one more entry than the whole history had, which is now the history's last turn
-  abbrev pub added : (S → List E) → Step S → Sat S E → ℕ → Sat S E → Type 0
-  added kept st m r n = (k : ℕ) (whole : List (Turn E)) (c : Claim E) (y : S) (e : E)
+  abbrev pub entry_added : (S → List E) → Step S → Sat S E → ℕ → Sat S E → Type 0
+  entry_added kept st m r n = (k : ℕ) (whole : List (Turn E)) (c : Claim E) (y : S) (e : E)
       → m.0.stage ≡ Serving k whole → m.0.claims ≡ c ∷ [] → m.1 ≡ (0, y) ∷ [] → kept y ≡ entries whole ++ e ∷ []
       → n ≡ (record { first = m.0.first; stage = Idle; claims = with_turn c whole e ∷ [] }, [])
 
   -- the slot went home, and the seat knows what it knew before
-  abbrev pub skipped : Step S → Sat S E → ℕ → Sat S E → Type 0
-  skipped st m r n = n ≡ (staged m.0 Idle, rest m.1)
+  abbrev pub nothing_added : Step S → Sat S E → ℕ → Sat S E → Type 0
+  nothing_added st m r n = n ≡ (staged m.0 Idle, rest m.1)
 
   -- the first number alone
   abbrev pub first_part : View S E → View S E
@@ -55,7 +55,7 @@ module _ {S O E R : Type 0} (logs : S → ℕ → O → E → Type 0) (after : S
     pub log : List (Turn E)
     pub value : S
     pub seat : n ≡ (staged v (Serving k log), (0, value) ∷ [])
-    pub replayed : (s : S) → v.first ≡ Some s → (value ≡ replay after s log) × IsLegal logs after s log
+    pub replayed : (s : S) → v.first ≡ Some s → (value ≡ replay_turns after s log) × IsLegal logs after s log
     pub keeps : kept value ≡ entries log
     pub claims : (i : ℕ) (c : Claim E) → get_elem? v.claims i ≡ some c → IsClaim log c
 

@@ -3,7 +3,7 @@ use Rattle.std.specs.Prelude.{ℕ, ◌≡◌, ◌<◌, List, [], ◌∷◌, ◌+
 use mathlib.Core.List.{IsPrefix}
 use Rattle.turn_lock.specs.declared.view.Turn.{Turn}
 use Rattle.turn_lock.specs.declared.view.Claim.{Claim}
-use Rattle.turn_lock.specs.History.{turn_of, entries_by, replay, IsLegal}
+use Rattle.turn_lock.specs.History.{turn_of, entries_by, replay_turns, IsLegal}
 use Rattle.turn_lock.specs.Rule.{times}
 
 module _ {E : Type 0} where
@@ -13,9 +13,9 @@ module _ {E : Type 0} where
   seen_by (c ∷ cs) = c.seen
 
   -- the numbers of the first claim
-  abbrev pub numbers_of : List (Claim E) → List ℕ
-  numbers_of [] = []
-  numbers_of (c ∷ cs) = c.numbers
+  abbrev pub first_numbers : List (Claim E) → List ℕ
+  first_numbers [] = []
+  first_numbers (c ∷ cs) = c.numbers
 
 module _ {S O E R W : Type 0} (logs : S → ℕ → O → E → Type 0) (after : S → E → S × R) (own : S → ℕ → W) where
   -- a turn of the number n replied r: what was seen before, what was seen after it, and what it met
@@ -25,7 +25,7 @@ module _ {S O E R W : Type 0} (logs : S → ℕ → O → E → Type 0) (after :
     pub ends : new ≡ before ++ turn_of n entry ∷ []
     pub begins : IsPrefix old before
     pub legal : IsLegal logs after first new
-    pub logged : logs (replay after first before) n op entry
-    pub reply : r ≡ (after (replay after first before) entry).1
+    pub logged : logs (replay_turns after first before) n op entry
+    pub reply : r ≡ (after (replay_turns after first before) entry).1
     pub made : (m : ℕ) → 0 < times m numbers → entries_by m before ≡ entries_by m old
-    pub met : own (replay after first before) n ≡ own (replay after first old) n
+    pub met : own (replay_turns after first before) n ≡ own (replay_turns after first old) n

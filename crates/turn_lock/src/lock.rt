@@ -3,7 +3,7 @@ ghost use Rattle.std.specs.Prelude.{◌≡◌, ℕ, ◌-◌, ◌<◌, true, leng
 ghost use Rattle.std.specs.List.{range_with_len};
 ghost use Rattle.turn_lock.specs.History.{entries_by};
 ghost use Rattle.turn_lock.specs.Rule.{is_idle};
-ghost use Rattle.turn_lock.specs.Views.{seen_by, numbers_of};
+ghost use Rattle.turn_lock.specs.Views.{seen_by, first_numbers};
 
 use crate::machine::Machine;
 use crate::rule::{Board, Place};
@@ -24,7 +24,7 @@ pub struct Pass<M: Machine> {
     ghost home: { length seat.me.1 ≡ 0 },
     ghost idle: { is_idle seat.me.0.stage ≡ true },
     ghost one: { length seat.me.0.claims ≡ 1 },
-    ghost numbers: { numbers_of seat.me.0.claims ≡ range_with_len number (end - number) },
+    ghost numbers: { first_numbers seat.me.0.claims ≡ range_with_len number (end - number) },
     ghost some: { number < end },
     ghost fresh: { (n : ℕ) → number < n → n < end → length (entries_by n (seen_by seat.me.0.claims)) ≡ 0 },
 }

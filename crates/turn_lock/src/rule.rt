@@ -56,18 +56,18 @@ pub struct Add<M> {
 }
 
 impl<M: Machine> Play<M::State, View<M::State, M::Entry>> for Add<M> {
-    ghost use Rattle.turn_lock.specs.Steps.{added};
+    ghost use Rattle.turn_lock.specs.Steps.{entry_added};
 
-    ghost then = { added M.kept };
+    ghost then = { entry_added M.kept };
 }
 
 /// Serves the next ticket after a step that found no memory.
 pub struct Skip;
 
 impl<S, E> Play<S, View<S, E>> for Skip {
-    ghost use Rattle.turn_lock.specs.Steps.{skipped};
+    ghost use Rattle.turn_lock.specs.Steps.{nothing_added};
 
-    ghost then = { skipped };
+    ghost then = { nothing_added };
 }
 
 /// Splits off the numbers after the first.

@@ -1,9 +1,9 @@
 //! How a pass takes its turn.
 ghost use Rattle.std.specs.Prelude.{◌≡◌, ℕ, ◌<◌, [], true, length, slice_index, Some, IfOk, OnErr, IsOk};
-ghost use Rattle.turn_lock.specs.History.{replay};
-ghost use Rattle.turn_lock.specs.Rule.{counted, is_idle};
+ghost use Rattle.turn_lock.specs.History.{replay_turns};
+ghost use Rattle.turn_lock.specs.Rule.{number_count, is_idle};
 ghost use Rattle.turn_lock.specs.Steps.{Enters};
-ghost use Rattle.turn_lock.specs.Views.{seen_by, numbers_of, Served};
+ghost use Rattle.turn_lock.specs.Views.{seen_by, first_numbers, Served};
 ghost use Rattle.turn_lock.specs.Locks.{first, number, spare, seen, own_known, IsPassOf, Turned};
 
 use crate::lock::{Pass, TurnLock};
@@ -19,7 +19,7 @@ impl<M: Machine> TurnLock<M> {
         requires table { seat.old.table_id ≡ self.now.table.shared.table_id }
         requires idle { is_idle seat.old.me.0.stage ≡ true }
         requires home { seat.old.me.1 ≡ [] }
-        requires named { 0 < counted seat.old.me.0 }
+        requires named { 0 < number_count seat.old.me.0 }
         ensures table { (seat.new.table_id ≡ seat.old.table_id) × (seat.new.id ≡ seat.old.id) }
         ensures entered { (k : ℕ) × Enters M.logs M.after M.kept k seat.old.me.0 seat.new.me }
     {
@@ -43,13 +43,13 @@ impl<M: Machine> TurnLock<M> {
     ) -> Result<M::Reply, NoMemory>
         requires lock { (seat.old.table_id ≡ self.now.table.shared.table_id) × (seat.old.me.0.first ≡ Some (first self.now)) }
         requires idle { (is_idle seat.old.me.0.stage ≡ true) × (seat.old.me.1 ≡ []) }
-        requires claim { (length seat.old.me.0.claims ≡ 1) × (0 < length (numbers_of seat.old.me.0.claims)) × (slice_index (numbers_of seat.old.me.0.claims) 0 ≡ number) }
-        requires may { M.may (M.own (replay M.after (first self.now) (seen_by seat.old.me.0.claims)) number) op }
+        requires claim { (length seat.old.me.0.claims ≡ 1) × (0 < length (first_numbers seat.old.me.0.claims)) × (slice_index (first_numbers seat.old.me.0.claims) 0 ≡ number) }
+        requires may { M.may (M.own (replay_turns M.after (first self.now) (seen_by seat.old.me.0.claims)) number) op }
         ensures lock { (seat.new.table_id ≡ seat.old.table_id) × (seat.new.me.0.first ≡ seat.old.me.0.first) }
         ensures idle { (is_idle seat.new.me.0.stage ≡ true) × (seat.new.me.1 ≡ []) }
-        ensures claim { (length seat.new.me.0.claims ≡ 1) × (numbers_of seat.new.me.0.claims ≡ numbers_of seat.old.me.0.claims) }
-        ensures sure { M.sure (M.own (replay M.after (first self.now) (seen_by seat.old.me.0.claims)) number) op → IsOk result }
-        ensures served { IfOk result (λ r. Served M.logs M.after M.own (first self.now) number (numbers_of seat.old.me.0.claims) op r (seen_by seat.old.me.0.claims) (seen_by seat.new.me.0.claims)) }
+        ensures claim { (length seat.new.me.0.claims ≡ 1) × (first_numbers seat.new.me.0.claims ≡ first_numbers seat.old.me.0.claims) }
+        ensures sure { M.sure (M.own (replay_turns M.after (first self.now) (seen_by seat.old.me.0.claims)) number) op → IsOk result }
+        ensures served { IfOk result (λ r. Served M.logs M.after M.own (first self.now) number (first_numbers seat.old.me.0.claims) op r (seen_by seat.old.me.0.claims) (seen_by seat.new.me.0.claims)) }
         ensures no_memory { OnErr result (seat.new.me.0.claims ≡ seat.old.me.0.claims) }
     {
         self.enter(rt, seat);

@@ -1,4 +1,4 @@
-use Rattle.arena_core.proofs.Words.{OnOk, ◌≤◌, subst, Standing, emptied_by, given_by}
+use Rattle.arena_core.proofs.Words.{OnOk, ◌≤◌, subst, Standing, emptied_by_op, given_by}
 use Rattle.arena_core.proofs.Outcomes.{stepped}
 use Rattle.arena_core.proofs.Arena.step.Goals as goal
 
@@ -16,7 +16,7 @@ returns c =
       room = s.room;
       other_rooms = s.other_rooms;
       rooms = s.rooms;
-      few = subst (λ (a : Standing). OnOk c.step.result (emptied_by c.args.client c.args.op.now a.space ≤ given_by c.args.op.now)) c.self.view_is c.step.ensures.few;
+      few = subst (λ (a : Standing). OnOk c.step.result (emptied_by_op c.args.client c.args.op.now a.space ≤ given_by c.args.op.now)) c.self.view_is c.step.ensures.few;
       err = s.err;
       sure = c.step.ensures.sure;
       sound = s.body.sound;

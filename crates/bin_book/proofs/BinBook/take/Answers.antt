@@ -1,4 +1,4 @@
-use Rattle.bin_book.proofs.Words.{[], ◌∷◌, ◌++◌, append-nil, append_assoc, map, take, sym, ap, ◌∙◌, arith, map-append, inserted, landing, region_of, Bins, free_of, without, regions_in, slabs_in}
+use Rattle.bin_book.proofs.Words.{[], ◌∷◌, ◌++◌, append-nil, append_assoc, map, take, sym, ap, ◌∙◌, arith, map-append, inserted, landing, region_of, Bins, free_of, with_regions_out, regions_in, slabs_in}
 use Rattle.bin_book.proofs.Rounds.{landing_more, more_left, rest_next, take_next, without_more, without_none}
 use Rattle.bin_book.proofs.BinBook.take.Goals as goal
 
@@ -33,7 +33,7 @@ loop-turn-preserved c =
       rest = rest_next all rest next turn c.in-Some.addr i.few i.rest lowest;
       items = c.push.ensures.items ∙ ap (λ xs. xs ++ c.in-Some.addr ∷ []) i.items ∙ append_assoc c.args.out.now.items (take turn all) (c.in-Some.addr ∷ []) ∙ ap (λ xs. c.args.out.now.items ++ xs) (sym one);
       room = omega arith;
-      slabs = c.in-Some.ensures.slabs ∙ ap (map (without (c.in-Some.addr ∷ []))) i.slabs ∙ sym (without_more (take turn all) c.in-Some.addr c.args.self.now.slabs) ∙ ap (λ xs. map (without xs) c.args.self.now.slabs) (sym one);
+      slabs = c.in-Some.ensures.slabs ∙ ap (map (with_regions_out (c.in-Some.addr ∷ []))) i.slabs ∙ sym (without_more (take turn all) c.in-Some.addr c.args.self.now.slabs) ∙ ap (λ xs. map (with_regions_out xs) c.args.self.now.slabs) (sym one);
       regions = c.in-Some.ensures.regions ∙ ap (λ client. inserted (region_of client c.args.class c.in-Some.addr) (regions_in c.loop-turn.self-inside.table)) i.client
           ∙ ap (inserted (region_of c.args.self.now.client c.args.class c.in-Some.addr)) i.regions
           ∙ landing_more (map (region_of c.args.self.now.client c.args.class) (take turn all)) _ c.args.self.now.regions

@@ -1,4 +1,4 @@
-use Rattle.heap_shared.proofs.Words.{◌≡◌, ◌<◌, ◌∙◌, ℕ, IsTrue, true, false, [], None, nat_lt, arith, refl, sym, ap, subst, cond, nat_tests, entry_of, Alloc, Placed, Counts, GrowDone, Counted, NoArena, Life, Absent, Dying, Live, Space, counts_of, Mine, mine, IsQuiet, Sound, is_live, space_after, stands, stays, number, seen, space_at}
+use Rattle.heap_shared.proofs.Words.{◌≡◌, ◌<◌, ◌∙◌, ℕ, IsTrue, true, false, [], None, nat_lt, arith, refl, sym, ap, subst, cond, nat_tests, entry_of, Alloc, Placed, Counts, GrowDone, Counted, NoArena, Life, Absent, Dying, Live, Space, counts_of, Mine, mine, IsQuiet, Sound, is_live, space_after, stands, stays, number, seen, space_of_history}
 use Rattle.space_model.specs.Clients.{is_in}
 use Rattle.heap_shared.proofs.tests.grow.Goals as goal
 
@@ -31,8 +31,8 @@ turn-requires-2-clause-may g c =
     let n = number c.args.pass.now in
     let same = c.turn.ensures.numbers.0 in
     let few : number c.turn.new.pass < 32 = (let a = c.requires.client in omega arith) in
-    let left = ap (λ (m : Mine). m.bound) t.left ∙ counts_bound (space_at c.args.lock.now t.before) n ∙ ap (λ (m : Mine). m.bound) t.found ∙ c.requires.bound in (
+    let left = ap (λ (m : Mine). m.bound) t.left ∙ counts_bound (space_of_history c.args.lock.now t.before) n ∙ ap (λ (m : Mine). m.bound) t.found ∙ c.requires.bound in (
       λ no. (let rooms = c.requires.rooms in let few = c.requires.client in let room = t.room (omega (arith, few, rooms)) in omega (arith, room)),
       λ s sound owns. grow_stands s (number c.turn.new.pass) sound few
-          (ap (λ (m : Mine). m.bound) owns ∙ subst (λ k. is_in k (space_at c.args.lock.now (seen c.turn.new.pass)).bound ≡ true) (sym same) left),
+          (ap (λ (m : Mine). m.bound) owns ∙ subst (λ k. is_in k (space_of_history c.args.lock.now (seen c.turn.new.pass)).bound ≡ true) (sym same) left),
     )

@@ -1,4 +1,4 @@
-use Rattle.part_book.proofs.Words.{◌≡◌, ◌+◌, ◌-◌, ◌*◌, ap, subst, arith, HasRoom}
+use Rattle.part_book.proofs.Words.{◌≡◌, ◌+◌, ◌-◌, ◌*◌, ap, subst, arith, HasRoomFor}
 use Rattle.part_book.proofs.Chunks.{leaves_most}
 use Rattle.part_book.proofs.PartBook.add.Goals as goal
 
@@ -9,6 +9,6 @@ invariant_of-self c =
     let most = leaves_most c.self.inside.table.edges c.args.part.span in
     record {
       table = c.put_on.ensures.kept.table;
-      room = c.put_on.ensures.room (c.self.inside.spare - 1) (subst (HasRoom c.self.inside.table) back c.self.invariant.room);
+      room = c.put_on.ensures.room (c.self.inside.spare - 1) (subst (HasRoomFor c.self.inside.table) back c.self.invariant.room);
       leaves = c.put_on.ensures.leaves (2 * (c.self.inside.spare - 1)) (omega arith);
     }

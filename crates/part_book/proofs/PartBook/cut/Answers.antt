@@ -1,4 +1,4 @@
-use Rattle.part_book.proofs.Words.{◌≡◌, ◌+◌, ◌-◌, ◌*◌, ◌/◌, not, filter, find, sym, ap, ◌∙◌, subst, arith, end_of, begins_at, high_piece, HasRoom, parts_of}
+use Rattle.part_book.proofs.Words.{◌≡◌, ◌+◌, ◌-◌, ◌*◌, ◌/◌, not, filter, find, sym, ap, ◌∙◌, subst, arith, end_of, begins_at, high_piece, HasRoomFor, parts_of}
 use Rattle.part_book.proofs.Changed.{cut_parts, high_apart, low_apart, low_placed, others_from}
 use Rattle.part_book.proofs.Chunks.{leaves_first, leaves_last, leaves_none}
 use Rattle.part_book.proofs.Rooms.{room_less}
@@ -48,7 +48,7 @@ invariant_of-self c =
     let high = leaves_last u.edges c.high_piece.result.span (rw (c.high_piece.ensures, same) last) in
     record {
       table = c.put_on.ensures.kept.table;
-      room = c.put_on.ensures.room (n - 1) (subst (HasRoom u) back (c.exchange.ensures.room n c.self.invariant.room));
+      room = c.put_on.ensures.room (n - 1) (subst (HasRoomFor u) back (c.exchange.ensures.room n c.self.invariant.room));
       leaves = c.put_on.ensures.leaves (2 * (n - 1)) (omega arith);
     }
 

@@ -1,9 +1,9 @@
-use Rattle.part_book.proofs.Words.{◌≡◌, ◌+◌, true, not, eqb, filter, length, ap, arith, Rest, ToDirty, ToMuzzy, ToRetained, is_listed, AgeList, CanUnlist, Loses, Row, kept_length}
+use Rattle.part_book.proofs.Words.{◌≡◌, ◌+◌, true, not, eqb, filter, length, ap, arith, Rest, ToDirty, ToMuzzy, ToRetained, is_listed, AgeList, CanUnlist, LosesRow, Row, kept_length}
 use Rattle.part_book.proofs.changes.unlist.Goals as goal
 
 -- a list loses an extent that it has
 lost : (rest : Rest) (old new : AgeList) (row : Row) → CanUnlist rest old row → is_listed rest row.part.state ≡ true → new.ages.numbers ≡ filter (λ n. not (eqb n row.number)) old.ages.numbers →
-    new.pages + row.part.span.pages ≡ old.pages → new.ages.places ≡ old.ages.places → Loses rest old new row
+    new.pages + row.part.span.pages ≡ old.pages → new.ages.places ≡ old.ages.places → LosesRow rest old new row
 lost rest old new row can listed numbers pages places =
     let kept = kept_length (λ n. eqb n row.number) old.ages.numbers in
     let len = ap length numbers in

@@ -1,4 +1,4 @@
-use Rattle.replay_run.proofs.Words.{◌≡◌, true, false, is_none, sym, ◌∙◌, ap, HeapFacts, NotHeld, NoMemory, is_open}
+use Rattle.replay_run.proofs.Words.{◌≡◌, true, false, is_none, sym, ◌∙◌, ap, HeapFacts, NotHeld, NoMemory, has_open_call}
 use Rattle.replay_run.proofs.Begins.{answered_result, awaits_open, opened_goes, refused_result, unbegun_stops}
 use Rattle.replay_run.proofs.Opens.{start_open}
 use Rattle.replay_run.proofs.Stops.{goes_stop}
@@ -18,7 +18,7 @@ pub returns-in-Some-ended-clause-goes : goal.returns-in-Some-ended-clause-goes
 returns-in-Some-ended-clause-goes g c = λ from count whole shelf at so.
     let told = c.answer_call-in-Some-ended.ensures in
     let begun = c.in_ok-ended.ensures in
-    let rests : is_open c.start.new.self c.args.client ≡ false = ap (λ (h : HeapFacts). is_open h c.args.client) begun.heap
+    let rests : has_open_call c.start.new.self c.args.client ≡ false = ap (λ (h : HeapFacts). has_open_call h c.args.client) begun.heap
     ∙ start_open c.args.state.now.heap c.args.client c.in-Some.request c.stands.ensures.clients c.requires.client ∙ ap is_none (sym begun.answer ∙ c.in-Some-ended.is) in
     answered_result c.args.client c.args.verb whole so c.in-Some.request c.in-Some-ended.answer c.start.new.self c.answer_call-in-Some-ended.new.names (g.K.Sink.held c.answer_call-in-Some-ended.new.sink)
     (g.K.Sink.faults c.args.sink.now) (g.K.Sink.faults c.answer_call-in-Some-ended.new.sink) c.answer_call-in-Some-ended.result (sym c.request_of.ensures.request ∙ c.in-Some.is) begun.heap
@@ -27,7 +27,7 @@ returns-in-Some-ended-clause-goes g c = λ from count whole shelf at so.
 pub returns-in-None-clause-goes : goal.returns-in-None-clause-goes
 returns-in-None-clause-goes g c = λ from count whole shelf at so.
     let begun = c.in_ok-ended.ensures in
-    let goes : is_open c.start.new.self c.args.client ≡ true = ap (λ (h : HeapFacts). is_open h c.args.client) begun.heap
+    let goes : has_open_call c.start.new.self c.args.client ≡ true = ap (λ (h : HeapFacts). has_open_call h c.args.client) begun.heap
     ∙ start_open c.args.state.now.heap c.args.client c.in-Some.request c.stands.ensures.clients c.requires.client ∙ ap is_none (sym begun.answer ∙ c.in-None.is) in
     let opened = opened_goes c.args.client c.args.verb whole so c.in-Some.request c.start.new.self (sym c.request_of.ensures.request ∙ c.in-Some.is) begun.heap
     (sym c.in-None.is ∙ begun.answer) (record { arenas = c.stands-2.ensures.arenas; seats = c.stands-2.ensures.seats }) in

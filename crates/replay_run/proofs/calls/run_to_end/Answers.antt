@@ -1,4 +1,4 @@
-use Rattle.replay_run.proofs.Words.{arith, ◌≡◌, true, false, sym, ◌∙◌, is_open}
+use Rattle.replay_run.proofs.Words.{arith, ◌≡◌, true, false, sym, ◌∙◌, has_open_call}
 use Rattle.replay_run.proofs.Begins.{awaits_going}
 use Rattle.replay_run.proofs.Longer.{steps_few}
 use Rattle.replay_run.proofs.Stops.{goes_stop}
@@ -6,7 +6,7 @@ use Rattle.replay_run.proofs.calls.run_to_end.Goals as goal
 
 pub returns-in_err-step_once-clause-goes : goal.returns-in_err-step_once-clause-goes
 returns-in_err-step_once-clause-goes g c = λ from count awaits at awaited shown so.
-    let open_now : is_open c.steps.state.heap c.args.client ≡ true = sym c.has_call.ensures ∙ c.steps-test.true in
+    let open_now : has_open_call c.steps.state.heap c.args.client ≡ true = sym c.has_call.ensures ∙ c.steps-test.true in
     let here = rw (open_now, awaits_going awaits shown) at (c.steps.invariant.goes from count awaits at awaited shown so) in
     goes_stop from count _ c.from_residual.result c.in_err-step_once.field-0.0 _ c.from_residual.ensures.1 (c.in_err-step_once.ensures.goes from count awaits at awaited shown here)
 
@@ -18,7 +18,7 @@ steps-smaller g c =
 pub steps-preserved : goal.steps-preserved
 steps-preserved g c = record {
   goes = λ from count awaits at awaited shown so.
-      let open_now : is_open c.steps.state.heap c.args.client ≡ true = sym c.has_call.ensures ∙ c.steps-test.true in
+      let open_now : has_open_call c.steps.state.heap c.args.client ≡ true = sym c.has_call.ensures ∙ c.steps-test.true in
       let here = rw (open_now, awaits_going awaits shown) at (c.steps.invariant.goes from count awaits at awaited shown so) in
       c.in_ok-step_once.ensures.goes from count awaits at awaited shown here;
   faults = omega (arith, c.steps.invariant.faults, c.step_once.ensures.counts);
@@ -26,5 +26,5 @@ steps-preserved g c = record {
 
 pub returns-clause-goes : goal.returns-clause-goes
 returns-clause-goes g c = λ from count awaits at awaited shown so.
-    let rests : is_open c.steps.state.heap c.args.client ≡ false = sym c.has_call.ensures ∙ c.steps-test.false in
+    let rests : has_open_call c.steps.state.heap c.args.client ≡ false = sym c.has_call.ensures ∙ c.steps-test.false in
     rw rests at (c.steps.invariant.goes from count awaits at awaited shown so)

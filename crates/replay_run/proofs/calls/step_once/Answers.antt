@@ -1,4 +1,4 @@
-use Rattle.replay_run.proofs.Words.{◌≡◌, is_none, asks-sit, holders-publish, turns-sit, NoMemory, IsSound, is_open}
+use Rattle.replay_run.proofs.Words.{◌≡◌, is_none, asks-sit, holders-publish, turns-sit, NoMemory, IsSound, has_open_call}
 use Rattle.replay_run.proofs.Endings.{all_of, sink_fault}
 use Rattle.replay_run.proofs.Longer.{step_longer}
 use Rattle.replay_run.proofs.Opens.{step_open}
@@ -31,7 +31,7 @@ returns-clause-goes g c = λ from count awaits at awaited shown so.
     let on = step_goes so c.args.client c.step_client-told.result _ _ _ awaited c.requires.open_call c.step_client-told.ensures.step
     (record { arenas = c.stands-2.ensures.arenas; seats = c.stands-2.ensures.seats }) (c.is_starved.ensures c.if-is_starved.false) (rw (shown, ← c.verb.ensures) c.in_ok-print_step.ensures.text) in
     let before : IsSound c.args.state.now.heap = record { arenas = c.stands.ensures.arenas; seats = c.stands.ensures.seats } in
-    let goes : is_open c.step_client-told.new.self c.args.client ≡ is_none c.step_client-told.result.ended =
+    let goes : has_open_call c.step_client-told.new.self c.args.client ≡ is_none c.step_client-told.result.ended =
     step_open turns-sit asks-sit holders-publish c.args.state.now.heap _ c.args.client c.step_client-told.result c.step_client-told.new.self _ before c.stands.ensures.clients c.requires.client c.requires.open_call
     (c.is_starved.ensures c.if-is_starved.false) c.step_client-told.ensures.step in
     rw (c.close.ensures.heap, c.close.ensures.moment, c.in_ok-close.ensures.verbs, c.in_ok-close.ensures.names, goes) on

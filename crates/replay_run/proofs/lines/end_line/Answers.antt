@@ -1,10 +1,10 @@
-use Rattle.replay_run.proofs.Words.{◌≡◌, true, refl, sym, ◌∙◌, TheEnd, is_open}
+use Rattle.replay_run.proofs.Words.{◌≡◌, true, refl, sym, ◌∙◌, TheEnd, has_open_call}
 use Rattle.replay_run.proofs.ReadLines.{line_result, line_silent, reads_end, reads_end_idle}
 use Rattle.replay_run.proofs.lines.end_line.Goals as goal
 
 pub returns-then-has_call-clause-goes : goal.returns-then-has_call-clause-goes
 returns-then-has_call-clause-goes g c = λ from count at so.
-    let open_now : is_open c.args.state.now.heap c.args.client ≡ true = sym c.has_call.ensures ∙ c.if-has_call.true in
+    let open_now : has_open_call c.args.state.now.heap c.args.client ≡ true = sym c.has_call.ensures ∙ c.if-has_call.true in
     let waits = line_silent so (reads_end _ c.args.client open_now) refl in
     c.run_to_end.ensures.goes from count (TheEnd c.args.client) at refl refl (rw open_now waits)
 

@@ -1,4 +1,4 @@
-use Rattle.bin_book.proofs.Words.{IsSome, length, vec_len, ◌≡◌, ◌<◌, ◌≤◌, ◌+◌, ◌^◌, ◌∷◌, ◌++◌, [], eqb, set, Contains, option_to_list, Some, refl, sym, ap, ◌∙◌, subst, arith, pages_at, regions_at, IsAscending, with_key, slab_with_out, with_slab, HasPage, IsSlabIn, bin_key, regions_of, slabs_in}
+use Rattle.bin_book.proofs.Words.{IsSome, length, vec_len, ◌≡◌, ◌<◌, ◌≤◌, ◌+◌, ◌^◌, ◌∷◌, ◌++◌, [], eqb, set, Contains, option_to_list, Some, refl, sym, ap, ◌∙◌, subst, arith, pages_at, regions_at, IsAscending, with_key, slab_with_out, with_slab, HasPage, IsSlabIn, bin_key, out_of_slabs, slabs_in}
 use Rattle.bin_book.proofs.Adding.{chart_place, charted_added, codes_room, few_slabs, in_items, new_bin, new_in, new_key, new_slab, regions_added, slabs_added, table_added}
 use Rattle.bin_book.proofs.Charting.{small_pages}
 use Rattle.bin_book.proofs.table.Table.add.Goals as goal
@@ -72,6 +72,6 @@ returns-clause-regions c =
     let b = c.before.before.before.before.before.before.before.before.before.before.before.before.before.before.before.before in
     let t = c.args.self.now in
     let bits = c.with_out-bits.result in
-    (λ x. regions_of (set t.slots.items (sym c.from.ensures x) bits) c.give.new.self.codes.items (c.insert.ensures.keys x))
+    (λ x. out_of_slabs (set t.slots.items (sym c.from.ensures x) bits) c.give.new.self.codes.items (c.insert.ensures.keys x))
     ∙ regions_added t c.requires.table c.args.class c.args.first c.from.result bits c.with_out-bits.ensures.class (new b) c.pop.new.self.items (free b) c.requires.apart c.args.client c.args.count c.requires.most c.with_out-bits.ensures.free
     (subst IsAscending c.insert.ensures.keys c.insert.ensures.ascending) c.give.new.self.codes.items c.give.ensures.here c.give.ensures.others

@@ -1,4 +1,4 @@
-use Rattle.bin_book.proofs.Words.{◌≡◌, ◌<◌, ◌+◌, ◌*◌, eqb, false, set, position, Some, sym, ap, ◌∙◌, subst, arith, refl, Contains, IsSome, nat_tests, regions_at, size_at, Bits, Key, place, IsMoved, bin_key, bin_of, bits_at, left_of, regions_of}
+use Rattle.bin_book.proofs.Words.{◌≡◌, ◌<◌, ◌+◌, ◌*◌, eqb, false, set, position, Some, sym, ap, ◌∙◌, subst, arith, refl, Contains, IsSome, nat_tests, regions_at, size_at, Bits, Key, place, IsMoved, bin_key, bin_of, bits_at, left_of, out_of_slabs}
 use Rattle.bin_book.proofs.Places.{bin_absent, place_inside}
 use Rattle.bin_book.proofs.Taking.{read_bits, small_numbers, in_items, some_position, table_changed, taken_bits, is_free, taken_in, taken_lowest, taken_slabs, with_bit, within}
 use Rattle.bin_book.proofs.Handing.{region_taken}
@@ -81,7 +81,7 @@ returns c =
       held = tt;
       lowest = rw (addr c) (taken_lowest t c.requires.table c.args.class slab o n b.0 b.1 _ refl slots);
       slabs = rw (addr c) (taken_slabs t c.requires.table c.args.class slab o n b.0 b.1 _ refl slots);
-      regions = rw (addr c) (ap (λ b. regions_of (set t.slots.items slab.minor b) codes t.firsts.keys) b.2
+      regions = rw (addr c) (ap (λ b. out_of_slabs (set t.slots.items slab.minor b) codes t.firsts.keys) b.2
           ∙ region_taken t c.requires.table slab o.there n b.1 c.args.client c.args.class o.of_class (within t c.requires.table c.args.class slab o n b.0 b.1) (is_free t c.requires.table c.args.class slab o n b.0 b.1) is codes c.set.ensures.here c.set.ensures.others);
       free = refl;
     }

@@ -1,4 +1,4 @@
-use Rattle.call_table.proofs.Words.{subst, sym, CallFacts, HasRoom, moment_of, Goes, IsPlace, after, settle, step_next}
+use Rattle.call_table.proofs.Words.{subst, sym, CallFacts, HasRoomToHold, moment_of, Goes, IsPointOrEnd, after, settle, step_next}
 use Rattle.call_table.proofs.Credits.{led_or_ended, settle_place}
 use Rattle.call_table.proofs.Places.{fed_room}
 use Rattle.call_table.proofs.calls.Call.next.Goals as goal
@@ -11,12 +11,12 @@ invariant_of-self c =
     let could = subst (λ (f : CallFacts). Goes (after (moment_of f c.args.desk.now.facts) item).stage.next) (sym c.self.view_is) c.requires.goes in
     let goes = subst (λ d. Goes (settle request d was.arena (step_next was.next item)).next) (sym c.tell.ensures.facts) could in
     let place = settle_place request c.tell.new.desk.facts was.arena (step_next was.next item) goes in
-    (led_or_ended IsPlace c.feed-fed.result _ _ _ c.feed-fed.new.self c.feed-fed.ensures.stage c.feed-fed.ensures.err place tt, c.feed-fed.ensures.sized)
+    (led_or_ended IsPointOrEnd c.feed-fed.result _ _ _ c.feed-fed.new.self c.feed-fed.ensures.stage c.feed-fed.ensures.err place tt, c.feed-fed.ensures.sized)
 
 pub close-requires : goal.close-requires
 close-requires c =
     let was = c.self.inside.stage in
     let had = c.args.desk.now in
-    let room = subst (λ (f : CallFacts). HasRoom had.facts.hand had.room f.stage.next) (sym c.self.view_is) c.requires.room in
+    let room = subst (λ (f : CallFacts). HasRoomToHold had.facts.hand had.room f.stage.next) (sym c.self.view_is) c.requires.room in
     fed_room c.self.inside.request had.facts c.tell.new.desk.facts was.arena was.next c.args.item had.room c.tell.new.desk.room c.feed-fed.result c.feed-fed.new.self c.tell.ensures.facts
     c.tell.ensures.room room c.feed-fed.ensures.stage c.feed-fed.ensures.err c.feed-fed.ensures.more

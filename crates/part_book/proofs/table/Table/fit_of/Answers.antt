@@ -1,4 +1,4 @@
-use Rattle.part_book.proofs.Words.{◌≡◌, ◌<◌, Some, sym, ap, ◌∙◌, subst, arith, true, nat_tests, pages_in, rows_of}
+use Rattle.part_book.proofs.Words.{◌≡◌, ◌<◌, Some, sym, ap, ◌∙◌, subst, arith, true, nat_tests, pages_of_rows, rows_of}
 use Rattle.part_book.proofs.Fitting.{IsWalk, begins, fits, goes_on, none_after, none_at_start, none_fits, none_of_others, serves, serves_both, serves_not, too_few}
 use Rattle.part_book.proofs.Indexes.{slot_of, small_numbers}
 use Rattle.part_book.proofs.Rowed.{pages_most}
@@ -10,7 +10,7 @@ returns-then-list_of-pages c =
     let t = c.args.self.now in
     let i = c.requires.table in
     let pages = c.list_of.ensures.pages in
-    let few : pages_in c.args.rest (rows_of t) < c.args.pages = grind (arith, nat_tests) in
+    let few : pages_of_rows c.args.rest (rows_of t) < c.args.pages = grind (arith, nat_tests) in
     sym (too_few c.args.rest (rows_of t) t.sizes.keys c.args.pages c.args.align i.indexes.apart (small_numbers t (rows_of t) i.slots) i.indexes.sizes c.requires.aligned few)
 
 pub overflow_add-start : goal.overflow_add-start

@@ -1,4 +1,4 @@
-use Rattle.turn_lock.proofs.Words.{length, ap, ◌∙◌, IfOk-weaker, seen_by, numbers_of, Served}
+use Rattle.turn_lock.proofs.Words.{length, ap, ◌∙◌, IfOk-weaker, seen_by, first_numbers, Served}
 use Rattle.turn_lock.proofs.Turned.{fresh_stays, left_with, made_one}
 use Rattle.turn_lock.proofs.lock.TurnLock.turn.Goals as goal
 
@@ -15,7 +15,7 @@ invariant_of-pass g c = record {
 
 pub returns-clause-turned : goal.returns-clause-turned
 returns-clause-turned g c =
-    let first = c.args.self.now.table.shared.key.first.value in let n = c.args.pass.now.number in let numbers = numbers_of c.args.pass.now.seat.me.0.claims in let old = seen_by c.args.pass.now.seat.me.0.claims in let new = seen_by c.serve.new.seat.me.0.claims in
+    let first = c.args.self.now.table.shared.key.first.value in let n = c.args.pass.now.number in let numbers = first_numbers c.args.pass.now.seat.me.0.claims in let old = seen_by c.args.pass.now.seat.me.0.claims in let new = seen_by c.serve.new.seat.me.0.claims in
     IfOk-weaker c.serve.result (λ r. Served g.M.Machine.logs g.M.Machine.after g.M.Machine.own first n numbers c.args.op r old new) _
     (λ r s. record {
       before = s.before;
