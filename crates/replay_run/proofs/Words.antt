@@ -9,7 +9,7 @@ pub use Rattle.std.proofs.Math.Seq.{take-append-add, take-length}
 pub use Rattle.std.proofs.lemmas.Bool.{eqb-true, ltb-true}
 pub use Rattle.std.proofs.lemmas.Bool.Decides.{nat_tests}
 pub use Rattle.std.proofs.lemmas.Grind.{flat_map-append, common_steps}
-pub use Rattle.std.proofs.lemmas.List.{get_or_default, drop_more, take-append-drop, get_or-replicate, length-take-le, get_or-set_other, length-replicate, set-get_or, flat_map_more, get_or_past}
+pub use Rattle.std.proofs.lemmas.List.{get_or_default, get_or_read, drop_more, take-append-drop, get_or-replicate, length-take-le, get_or-set_other, length-replicate, set-get_or, flat_map_more, get_or_past}
 pub use Rattle.std.proofs.lemmas.List.Elements.{All-filter, All-head, All-tail, All-nil, All-take}
 pub use Rattle.std.proofs.lemmas.List.Quantifiers.{position-Some}
 pub use Rattle.std.proofs.lemmas.List.Sums.{sum_by-cons, fails_before_first, sum_by-le, sum_by-set, fold_push}

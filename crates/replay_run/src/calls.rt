@@ -28,9 +28,6 @@ use space_model::Rest;
 use std::alloc::{AllocError as NoMemory, Global};
 use trace_text::Verb;
 
-/// How many bytes a line of a report has room for at first: few have more.
-const LINE_ROOM: usize = 96;
-
 /// How a report names a call. One of `ctl` isn't carried out, and has no name of its own.
 fn head(verb: &Verb) -> Head<'_>
     ensures { (c : ℕ) (answer : Answered) → call_line c result answer ≡ answer_line c verb.now answer }
@@ -83,9 +80,10 @@ fn write_end(
     }
 }
 
-/// Prints what is to be printed of a step: its line, where it is to be shown, and the answer of its call, if that has ended.
+/// Prints what is to be printed of a step: its line, where it is to be shown, and the answer of its call, if that has ended. The
+/// text is written into a buffer, whatever that has.
 fn print_step<K: Sink>(
-    alloc: Global,
+    text: &mut Vec<u8>,
     sink: &mut K,
     shown: bool,
     client: u32,
@@ -100,10 +98,10 @@ fn print_step<K: Sink>(
     if !shown && told.ended.is_none() {
         return Ok(());
     }
-    let mut text = Vec::with_capacity(alloc, LINE_ROOM)?;
-    write_step(&mut text, shown, client, told.did)?;
-    write_end(&mut text, client, verb, told.ended)?;
-    print(sink, &text)
+    text.clear();
+    write_step(text, shown, client, told.did)?;
+    write_end(text, client, verb, told.ended)?;
+    print(sink, text)
 }
 
 /// Whether memory was wanting in a step.
@@ -138,14 +136,16 @@ pub fn step_once<K: Sink, H: ExtentHooks>(
     if is_starved(&told) {
         return Err(Stop::NoMemory);
     }
-    print_step(alloc, sink, shown, client, state.verb(client), &told)?;
+    let verb = &state.verbs[client as usize];
+    print_step(&mut state.text, sink, shown, client, verb, &told)?;
     state.close(client, told.ended)?;
     Ok(())
 }
 
-/// Prints the answer of a call that has ended where it began, and binds its name.
+/// Prints the answer of a call that has ended where it began, and binds its name. The line is written into a buffer, whatever
+/// that has.
 fn answer_call<K: Sink>(
-    alloc: Global,
+    text: &mut Vec<u8>,
     sink: &mut K,
     names: &mut Names,
     client: u32,
@@ -158,9 +158,9 @@ fn answer_call<K: Sink>(
     ensures cause { IfErr result (λ stop. HasStopCause stop 0 0 (K.faults sink.old) (K.faults sink.new)) }
     ensures counts { K.faults sink.old ≤ K.faults sink.new }
 {
-    let mut text = Vec::with_capacity(alloc, LINE_ROOM)?;
-    call_line(&mut text, client, head(&verb), &answer)?;
-    print(sink, &text)?;
+    text.clear();
+    call_line(text, client, head(&verb), &answer)?;
+    print(sink, text)?;
     names.bind_answer(verb, answer)?;
     Ok(())
 }
@@ -184,13 +184,17 @@ fn begin_call<K: Sink>(
 {
     let Some(request) = state.request_of(&verb) else {
         let answer = Answered::NotHeld(state.target_of(&verb));
-        return answer_call(alloc, sink, &mut state.names, client, verb, answer);
+        let (text, names) = (&mut state.text, &mut state.names);
+        return answer_call(text, sink, names, client, verb, answer);
     };
     state.heap.stands();
     let ended = state.heap.start(client, request, alloc)?;
     state.heap.stands();
     match ended {
-        Some(answer) => answer_call(alloc, sink, &mut state.names, client, verb, answer),
+        Some(answer) => {
+            let (text, names) = (&mut state.text, &mut state.names);
+            answer_call(text, sink, names, client, verb, answer)
+        }
         None => {
             state.open(client, verb);
             Ok(())

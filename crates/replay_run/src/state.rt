@@ -13,6 +13,9 @@ use trace_text::{Ptr, Verb};
 /// How many clients a heap has.
 const CLIENTS: u32 = 32;
 
+/// How many bytes a line of a report has room for at first: few have more.
+const LINE_ROOM: usize = 96;
+
 /// What a replay keeps while it runs.
 #[derive(Drop)]
 pub struct State {
@@ -24,6 +27,8 @@ pub struct State {
     pub names: Names,
     /// The moment in nanoseconds.
     pub moment: u64,
+    /// A buffer for the next line that is printed, which keeps its room from line to line.
+    pub text: Vec<u8>,
     ghost full: { length verbs.items ≡ 32 },
 }
 
@@ -48,6 +53,7 @@ impl State {
             verbs: no_verbs(alloc)?,
             names: Names::new(alloc),
             moment: 0,
+            text: Vec::with_capacity(alloc, LINE_ROOM)?,
         })
     }
 
@@ -57,14 +63,6 @@ impl State {
     {
         let State { heap, .. } = self;
         heap
-    }
-
-    /// What a client's open call is.
-    pub fn verb(&self, client: u32) -> &Option<Verb>
-        requires { client < 32 }
-        ensures { result.now ≡ verb_at self.now.verbs.items client }
-    {
-        &self.verbs[client as usize]
     }
 
     /// Keeps what a client's call is, which is open from now on.

@@ -1,10 +1,11 @@
 //! The lines of a report. Each is written behind what the buffer has. Where memory runs out, its beginning may be there.
 
-ghost use Rattle.std.specs.Prelude.{◌≡◌, ◌++◌, OnOk};
-ghost use Rattle.std.specs.Fmt.{decimal};
+ghost use Rattle.std.specs.Prelude.{◌≡◌, ◌<◌, ◌++◌, false, drop, OnOk};
+ghost use Rattle.std.specs.Fmt.{decimal, digit_glyph};
 ghost use Rattle.call_table.specs.declared.needs.Given.{Given};
 ghost use Rattle.report_text.specs.Heads.{head_name};
 ghost use Rattle.report_text.specs.Answers.{ended_text, given_text};
+ghost use Rattle.report_text.specs.Places.{hexadecimal};
 ghost use Rattle.report_text.specs.Lines.{newline, call_line, turn_line, ask_line, idle_line, counts_line, no_arena_line, bad_line, usage_line};
 
 use crate::answers::{AnswerText, SaidText, kind, size};
@@ -16,6 +17,9 @@ use itoa::Buffer;
 use space_model::{Answer, Ask, Counts};
 use std::alloc::AllocError as NoMemory;
 use std::io::{Error, Write};
+
+/// How many hexadecimal digits a number of 64 bits has at most.
+const MOST_DIGITS: usize = 16;
 
 /// The line of a call that has ended: `tC`, its first word, the name that it binds, if it does, and its answer.
 ///
@@ -66,8 +70,47 @@ fn write_ended(out: &mut Vec<u8>, head: Head<'_>, answered: &Answered) -> Result
 fn write_region(out: &mut Vec<u8>, addr: u64, class: u8) -> Result<(), NoMemory>
     ensures { OnOk result (out.new.items ≡ out.old.items ++ given_text (Given.Region addr class)) }
 {
-    write!(out, "@{addr:x} ").map_err(no_memory)?;
+    out.push(b'@')?;
+    write_hexadecimal(out, addr)?;
+    out.push(b' ')?;
     write_decimal(out, size(class))
+}
+
+/// The digits are written by hand, since almost every line of a trace has an address.
+fn write_hexadecimal(out: &mut Vec<u8>, number: u64) -> Result<(), NoMemory>
+    ensures { OnOk result (out.new.items ≡ out.old.items ++ hexadecimal number) }
+{
+    let mut digits = [0; MOST_DIGITS];
+    let first = lay_digits(&mut digits, number);
+    out.extend_from_slice(&digits[first..])
+}
+
+/// Lays a number's hexadecimal digits at the end of an array, and gives where they begin.
+fn lay_digits(digits: &mut [u8; MOST_DIGITS], number: u64) -> usize
+    ensures within { result < 16 }
+    ensures laid { drop result digits.new ≡ hexadecimal number }
+{
+    let mut rest = number;
+    let mut first = MOST_DIGITS - 1;
+    while rest >= 16 {
+        digits[first] = digit(rest % 16);
+        rest /= 16;
+        first -= 1;
+    }
+    digits[first] = digit(rest);
+    first
+}
+
+/// The hexadecimal digit of a number below 16.
+fn digit(value: u64) -> u8
+    requires { value < 16 }
+    ensures { result ≡ digit_glyph false value }
+{
+    if value < 10 {
+        b'0' + value as u8
+    } else {
+        b'a' - 10 + value as u8
+    }
 }
 
 fn write_decimal(out: &mut Vec<u8>, number: u64) -> Result<(), NoMemory>
