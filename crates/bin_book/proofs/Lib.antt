@@ -1,7 +1,6 @@
 pub mod Words
 pub mod Regions
 pub mod Charting
-pub mod Opening
 pub mod Places
 pub mod Handing
 pub mod Adding
