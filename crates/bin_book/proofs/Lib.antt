@@ -1,6 +1,7 @@
 pub mod Words
 pub mod Regions
 pub mod Charting
+pub mod Opening
 pub mod Places
 pub mod Handing
 pub mod Adding

@@ -1,16 +1,10 @@
 -- The lowest slab with a free region, a region that is taken out of it or put back, and a slab that leaves.
-use Rattle.bin_book.proofs.Words.{◌≡◌, ◌≢◌, ℕ, ◌+◌, ◌*◌, ◌^◌, ◌<◌, Bool, true, false, eqb, List, [], ◌∷◌, ◌++◌, length, length-append, map, find, get_or, Option, Some, None, ◌⊎◌, inl, inr, refl, sym, ap, ◌∙◌, subst, arith, Contains, Less, Equal, vec_len, is_some, IfNone, IfSome, ◌≤◌, suc, ltb, length-set, set, count_by, position, vec_capacity, IsSome, not, filter, is_eq, IsStrictlySortedBy, cases_Bool, cases_eq, cases_lt, eq-eqb, eqb-true, false_from_ne_true, get_or-set_at, nat_tests, tied_itself, get_or_read_under, length-map, get_or-set_other, Key, IsAscending, is_from, key_cmp, KeySet, is_other, without_key, key_total, contains_cases, contains_later, other_from, without_from, first_of, less_parts, start, start_from, less_major, every_member, Bits, regions_at, Table, free_of, place, BinSlab, with_free, with_regions_out, is_all_free, IsLowestOpen, IsSlabTable, bin_of, bits_at, left_of, no_bits, ones, slab_at, slabs_in, IsMoved, IsOutAt, IsSlabIn, bin_key, slab_of, slabs_without, found, head, bit, map_both, map_same, any_has, any_map, any_none, filter_all_of, filter_map_is, filter_same, map_from, map_has, position_or_len, list_any, position-Some, pages_bounds, slab_filled, fails_before_first, sum_by-cons, sum_by-set}
+use Rattle.bin_book.proofs.Words.{◌≡◌, ◌≢◌, ℕ, ◌+◌, ◌*◌, ◌^◌, ◌<◌, Bool, true, false, eqb, List, [], ◌∷◌, ◌++◌, length, length-append, map, get_or, Option, Some, None, inl, inr, refl, sym, ap, ◌∙◌, subst, arith, Contains, Less, Equal, vec_len, is_some, IfNone, IfSome, ◌≤◌, suc, ltb, length-set, set, count_by, position, vec_capacity, IsSome, not, filter, is_eq, IsStrictlySortedBy, cases_Bool, cases_eq, cases_lt, eq-eqb, eqb-true, false_from_ne_true, get_or-set_at, nat_tests, tied_itself, get_or_read_under, length-map, get_or-set_other, Key, IsAscending, key_cmp, KeySet, is_other, without_key, key_total, contains_cases, contains_later, other_from, without_from, less_major, every_member, Bits, regions_at, Table, free_of, place, BinSlab, with_free, with_regions_out, is_all_free, IsLeast, IsLowestOpen, IsSlabTable, bin_of, bits_at, left_of, no_bits, ones, slab_at, slabs_in, IsMoved, IsOutAt, IsSlabIn, bin_key, slab_of, slabs_without, head, bit, map_both, map_same, any_has, any_map, any_none, filter_all_of, filter_map_is, filter_same, map_from, map_has, position_or_len, list_any, position-Some, pages_bounds, slab_filled, fails_before_first, sum_by-cons, sum_by-set}
 use Rattle.bin_book.proofs.Places.{length_ones, freed_slab, lowest_one, same_place, taken_slab, binned_changed, charted_changed, by_key, counts_stay, is_new, kept_changed, one_place, others_stay, key_cases}
 
 -- a key below another one is another one
 pub less_ne : (a b : Key) → key_cmp a b ≡ Less → a ≢ b
 less_ne a b l e = let same : key_cmp a b ≡ Equal = subst (λ z. key_cmp a z ≡ Equal) e (tied_itself key_total a) in cc
-
--- the first key from a start on is below each other one from there on
-pub least : (ks : List Key) (first y x : Key) → IsAscending ks → find (is_from first) ks ≡ Some y → Contains ks x → is_from first x ≡ true → (y ≡ x) ⊎ (key_cmp y x ≡ Less)
-unfolding IsStrictlySortedBy
-least [] first y x s e m t = absurd (omega arith)
-least (k ∷ ks) first y x s e m t = grind (arith, least ks first y x, every_member _ ks s.0 x, contains_cases k ks x m, e, t)
 
 -- slots that have no free places have no free regions
 pub no_ones : {X : Type 0} (xs : List X) → length xs ≡ 0 → xs ≡ []
@@ -45,28 +39,16 @@ pub none_open : (t : Table) → IsSlabTable t → (class : ℕ) → ((b : Key) �
 unfolding slabs_in
 none_open t i class none = free_none t.slots.items class t.firsts.keys (λ k m e. full_free t i k m (grind (arith, none (bin_of t.slots.items k) (i.binned.has k m), open_key t class k e)))
 
--- no key is found from the start of the class on, or one of a later class
-pub not_found : (t : Table) → IsSlabTable t → (class : ℕ) → IsAscending t.bins.keys → find (is_from (start (2 * class))) t.bins.keys ≡ None → free_of class (slabs_in t) ≡ []
-not_found t i class s e = none_open t i class (λ b m major. let p = first_of t.bins.keys (2 * class) b s m major in let no : None ≡ Some p.0 = sym e ∙ p.1 in cc)
-
-pub found_later : (t : Table) → IsSlabTable t → (class : ℕ) → IsAscending t.bins.keys → (bin : Key) → find (is_from (start (2 * class))) t.bins.keys ≡ Some bin → bin.major ≢ 2 * class → free_of class (slabs_in t) ≡ []
-found_later t i class s bin e other = none_open t i class (λ b m major.
-    let p = first_of t.bins.keys (2 * class) b s m major in
-    let one : Some bin ≡ Some p.0 = sym e ∙ p.1 in
-    let same : bin ≡ p.0 = cc in
-    other (ap (λ (k : Key). k.major) same ∙ p.3))
-
--- the key that is found is that of the lowest slab
-pub found_open : (t : Table) → IsSlabTable t → (class : ℕ) → IsAscending t.bins.keys → (bin key : Key) → find (is_from (start (2 * class))) t.bins.keys ≡ Some bin → bin.major ≡ 2 * class → key.major * 2 ^ 32 + key.minor ≡ bin.minor → key.minor < 2 ^ 32 → IsLowestOpen t class key
-found_open t i class s bin key e major minor low =
-    let b = found (is_from (start (2 * class))) t.bins.keys bin e in
-    let p = i.binned.from bin b.0 in
+-- the lowest key of the class's first number is that of the lowest slab
+pub found_open : (t : Table) → IsSlabTable t → (class : ℕ) (bin key : Key) → IsLeast t.bins.keys (2 * class) bin → key.major * 2 ^ 32 + key.minor ≡ bin.minor → key.minor < 2 ^ 32 → IsLowestOpen t class key
+found_open t i class bin key b minor low =
+    let p = i.binned.from bin b.there in
     let small = small_numbers t i p.0 p.1 in
     let minors : p.0.major * 2 ^ 32 + p.0.minor ≡ bin.minor = ap (λ (k : Key). k.minor) p.2 in
     let first : p.0.major ≡ key.major = omega arith in
     let second : p.0.minor ≡ key.minor = omega arith in
     let is : p.0 ≡ key = (λ k. record { major = first k; minor = second k }) in
-    let majors : (bin_of t.slots.items p.0).major ≡ 2 * class = ap (λ (k : Key). k.major) p.2 ∙ major in
+    let majors : (bin_of t.slots.items p.0).major ≡ 2 * class = ap (λ (k : Key). k.major) p.2 ∙ b.at in
     subst (IsLowestOpen t class) is (elim (cases_Bool (eqb (left_of (bits_at t.slots.items p.0.minor)) 0)) [
       | inl full ↦ absurd (let odd : 2 * (bits_at t.slots.items p.0.minor).class + 1 ≡ 2 * class = rw full at majors in omega arith)
       | inr some ↦
@@ -76,9 +58,9 @@ found_open t i class s bin key e major minor low =
             of_class = omega arith;
             some_free = grind (arith, nat_tests);
             lowest = λ k m c free.
-                let mine = open_key t class k c free in
+                let above = b.least (bin_of t.slots.items k) (i.binned.has k m) (open_key t class k c free) in
                 let fits = small_numbers t i k m in
-                grind (arith, least t.bins.keys (start (2 * class)) bin (bin_of t.slots.items k) s e (i.binned.has k m) (start_from (bin_of t.slots.items k) (2 * class) (omega arith)), less_parts bin (bin_of t.slots.items k), mine, fits);
+                omega arith;
           }
     ])
 

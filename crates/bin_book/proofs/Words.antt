@@ -2,8 +2,8 @@
 pub use Rattle.std.specs.Cmp.{nat_cmp_total, unsigned_tied}
 pub use Rattle.std.specs.List.{list_any, range_with_len, flat_map, position_or_len}
 unfoldable pub use Rattle.std.specs.List.Sorted.{IsStrictlySortedBy}
-pub use Rattle.std.specs.Option.{option_map, option_or}
-pub use Rattle.std.proofs.Common.{Some, None, ◌≡◌, ◌≢◌, ℕ, ◌+◌, ◌-◌, ◌*◌, ◌^◌, ◌<◌, ◌≤◌, Bool, false, eqb, ltb, List, [], ◌∷◌, ◌++◌, length, length-set, map, filter, find, get_or, set, count_by, ◌⊎◌, inl, inr, refl, sym, ap, ◌∙◌, subst, arith, Contains, vec_len, vec_capacity, zero, slice_get, not, IfSome, append-nil, append_assoc, take, leb, ◌/◌, true, if◌then◌else◌, cond, ◌||◌, nat_cmp, suc, Option, IfNone, ◌%◌, ◌&&◌, is_lt, position, Less, length-append, Equal, is_some, IsSome, is_eq, option_to_list}
+pub use Rattle.std.specs.Option.{MatchOption, option_eq, option_map, option_or}
+pub use Rattle.std.proofs.Common.{Some, None, ◌≡◌, ◌≢◌, ℕ, ◌+◌, ◌-◌, ◌*◌, ◌^◌, ◌<◌, ◌≤◌, Bool, false, eqb, ltb, List, [], ◌∷◌, ◌++◌, length, length-set, map, filter, find, get_or, set, count_by, ◌⊎◌, inl, inr, refl, sym, ap, ◌∙◌, subst, arith, Contains, vec_len, vec_capacity, zero, slice_get, not, IfSome, append-nil, append_assoc, take, leb, ◌/◌, true, if◌then◌else◌, cond, ◌||◌, nat_cmp, suc, Option, IfNone, ◌%◌, ◌&&◌, is_lt, position, Less, length-append, Equal, is_some, IsSome, is_eq, option_to_list, replicate}
 pub use Rattle.std.proofs.Math.Nat.{mul-div_cancel, mul-mod_left, mul-le-mul_right}
 pub use Rattle.std.proofs.lemmas.Bool.{cases_eq, cases_lt, eq-eqb, leb-true, eqb-true, false_from_ne_true, cases_Bool}
 pub use Rattle.std.proofs.lemmas.Bool.Decides.{nat_tests}
@@ -17,11 +17,11 @@ pub use Rattle.std.proofs.lemmas.List.Kept.{IsStrictlySortedBy-filter}
 pub use Rattle.std.proofs.lemmas.List.Quantifiers.{position-Some}
 pub use Rattle.std.proofs.lemmas.List.Sums.{count_by-le-length, sum_by-append, sum_by-cons, length-filter, fails_before_first, sum_by-set}
 pub use Rattle.std.proofs.lemmas.Nat.{div-add-mod'}
-pub use Rattle.std.proofs.lemmas.Option.{get_or_from_slice_get, slice_get_within, slice_get-get_or}
+pub use Rattle.std.proofs.lemmas.Option.{get_or_from_slice_get, slice_get_within, slice_get-get_or, MatchOption-at_some}
 pub use Rattle.list_facts.proofs.ByKey.{not_found, same_members, rising_changed, rising_filter, member_found, behind_members, rising_both, Landed, found_member, lands, rising_distinct}
 pub use Rattle.list_facts.proofs.Members.{count_none, any_false, bit, count_map, count_same, count_some, filter_map_is, filter_same, map_from, map_has, map_same, range_from, range_has, head, any_from, any_has, any_map, any_none, filter_both, filter_all_of, map_both, found, is_some_find}
 pub use Rattle.list_facts.specs.ByKey.{AreNew, IsRising}
-pub use Rattle.ordered_set.proofs.Calls.{length_with, length_without}
+pub use Rattle.ordered_set.proofs.Calls.{length_with, length_without, some_is, some_same}
 pub use Rattle.ordered_set.proofs.KeyOrder.{key_tie, key_total}
 pub use Rattle.ordered_set.proofs.Members.{every_from, filter_from, with_from, with_keeps, with_self, without_from, without_keeps, contains_cases, filter_has, contains_later, other_from}
 pub use Rattle.ordered_set.proofs.Orders.{last_greatest, less_from_parts, less_parts, start, less_major, first_of, start_from}
@@ -40,6 +40,7 @@ pub use mathlib.Core.Logic.{dite}
 pub use native.Mathlib.Decide.{ℕ_discrete}
 pub use Rattle.bin_book.specs.Bins.{addr_of, meets_slab, place, slab_with_out, with_slab, Bins, free_of, is_all_free, with_free, with_regions_out, BinSlab, is_among, is_out, slab_places}
 pub use Rattle.bin_book.specs.Charts.{HasPage, Grows, first_at}
+pub use Rattle.bin_book.specs.ClassSets.{AreLowest, IsLeast, IsLowest}
 pub use Rattle.bin_book.specs.Holders.{holder_at}
 pub use Rattle.bin_book.specs.Tables.{AreCounts, AreFreeSlots, IsBinned, IsCharted, AreSlabKeys, IsSlabIn, IsSlabTable, bin_key, bin_of, bits_at, left_of, ones, slab_region, regions_in, slab_at, slab_of, slabs_without, IsOutAt, no_bits, regions_without, HasOut, IsLastKeyBelow, IsMoved, out_of, zeros, IsLowestOpen}
 unfoldable pub use Rattle.bin_book.specs.Tables.{out_of_slabs, slabs_in}

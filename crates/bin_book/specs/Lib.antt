@@ -1,5 +1,7 @@
 pub mod Bins
 pub mod Charts
+pub mod ClassSets
 pub mod Holders
+pub mod Opened
 pub mod Shown
 pub mod Tables

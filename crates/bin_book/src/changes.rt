@@ -9,8 +9,9 @@ ghost use Rattle.bin_book.specs.Bins.{free_of, meets_slab, place, slab_with_out,
 ghost use Rattle.bin_book.specs.Charts.{HasPage};
 ghost use Rattle.bin_book.specs.Tables.{IsMoved, IsOutAt, IsSlabTable, bits_at, left_of, regions_in, regions_without, slabs_in, slabs_without};
 
+use crate::class_set::ClassSet;
 use crate::table::{Table, bin_key};
-use ordered_set::{Key, OrderedSet};
+use ordered_set::Key;
 use size_classes::{PAGE_BYTES, class_pages, size_of};
 use slab_bits::SlabBits;
 
@@ -140,7 +141,9 @@ impl Table {
 }
 
 // Puts a key in place of another one, if it is another one.
-fn move_key(bins: &mut OrderedSet, was: Key, now: Key)
+fn move_key(bins: &mut ClassSet, was: Key, now: Key)
+    requires was_low { was.major < 72 }
+    requires now_low { now.major < 72 }
     requires there { Contains bins.old.keys was }
     requires absent { now ≢ was → ¬ Contains bins.old.keys now }
     ensures keys { IsMoved bins.old.keys bins.new.keys was now }

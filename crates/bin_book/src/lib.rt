@@ -16,6 +16,7 @@ use std::marker::Model;
 
 mod changes;
 mod chart;
+mod class_set;
 mod holders;
 mod table;
 #[cfg(test)]
@@ -23,11 +24,11 @@ mod tests;
 
 /// The slabs of an arena, in order of first page, with the free regions of each and the holders of the others.
 ///
-/// A slab stands in the book as long as a region of it is out. Where the lowest free regions of a
-/// class are is found by searching an ordered set; no slab is looked at that isn't taken from. Which slab
-/// has an address is read off a map of pages. A page that the map lacks, since its slab came when the
-/// map had no room, is sought in an ordered set. [`BinBook::reserve`] makes places for further slabs, whatever
-/// their classes, and room for their pages.
+/// A slab stands in the book as long as a region of it is out. The lowest slab with free regions is kept for
+/// each class, and the next one is sought in an ordered set only where it fills up or goes; no slab is looked at
+/// that isn't taken from. Which slab has an address is read off a map of pages. A page that the map lacks, since
+/// its slab came when the map had no room, is sought in an ordered set. [`BinBook::reserve`] makes places for
+/// further slabs, whatever their classes, and room for their pages.
 #[derive(Drop)]
 pub struct BinBook {
     table: Table,

@@ -7,6 +7,7 @@ ghost use Rattle.bin_book.specs.Bins.{free_of, is_out};
 ghost use Rattle.bin_book.specs.Tables.{HasOut, IsLastKeyBelow, IsLowestOpen, IsOutAt, IsSlabTable, bin_key, bits_at, left_of, regions_in, slabs_in};
 
 use crate::chart::Chart;
+use crate::class_set::ClassSet;
 use crate::holders::Holders;
 use ordered_set::{Key, OrderedSet};
 use size_classes::{PAGE_BYTES, class_pages, size_of, slab_regions};
@@ -26,7 +27,7 @@ const RADIX: u64 = 1 << 32;
 #[derive(Drop)]
 pub struct Table {
     pub firsts: OrderedSet,
-    pub bins: OrderedSet,
+    pub bins: ClassSet,
     pub chart: Chart,
     pub slots: Vec<SlabBits>,
     pub holders: Holders,
@@ -66,7 +67,7 @@ impl Table {
     {
         Table {
             firsts: OrderedSet::new(alloc),
-            bins: OrderedSet::new(alloc),
+            bins: ClassSet::new(alloc),
             chart: Chart::new(alloc),
             slots: Vec::new(alloc),
             holders: Holders::new(alloc),
@@ -128,16 +129,8 @@ impl Table {
         ensures none { IfNone result (free_of class (slabs_in self.now) ≡ []) }
         ensures some { IfSome result (λ key. IsLowestOpen self.now class key) }
     {
-        let start = Key {
-            major: 2 * u64::from(class),
-            minor: 0,
-        };
-        let bin = self.bins.at_or_after(start)?;
-        if bin.major == start.major {
-            Some(first_key(bin))
-        } else {
-            None
-        }
+        let bin = self.bins.lowest(class)?;
+        Some(first_key(bin))
     }
 
     /// Whether some slab has a page from the first one up to the end.

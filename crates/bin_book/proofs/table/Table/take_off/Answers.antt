@@ -6,8 +6,8 @@ use Rattle.bin_book.proofs.table.Table.take_off.Goals as goal
 bin : (c : goal.After-bin_key) → c.bin_key.result ≡ bin_of c.args.self.now.slots.items c.args.slab
 bin c = c.bin_key.ensures ∙ (λ k. bin_key (sym c.requires.class k) (eqb (c.left-is_full.ensures k) 0) c.args.slab)
 
-pub remove-requires : goal.remove-requires
-remove-requires c = subst (Contains c.args.self.now.bins.keys) (sym (bin c)) (c.requires.table.binned.has c.args.slab c.requires.there)
+pub remove-requires-clause-there : goal.remove-requires-clause-there
+remove-requires-clause-there c = subst (Contains c.args.self.now.bins.keys) (sym (bin c)) (c.requires.table.binned.has c.args.slab c.requires.there)
 
 pub overflow_sub-self : goal.overflow_sub-self
 overflow_sub-self c = subst (λ n. 1 ≤ get_or c.args.self.now.counts n 0) c.requires.class (some_count c.args.self.now c.requires.table c.args.slab c.requires.there)
