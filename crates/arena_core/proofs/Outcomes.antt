@@ -63,3 +63,9 @@ opening_sound s opens = elim opens [
   | inl e ↦ subst (λ x. Sound (opened x)) (sym e) (absent_replays_are_good [] refl).sound
   | inr e ↦ subst (λ x. Sound (opened x)) (sym e) (first_replays_are_good [] refl).sound
 ]
+
+pub opening_is : (s : Space) → (s ≡ absent_space) ⊎ (s ≡ first_space) → opened s ≡ s
+opening_is s opens = elim opens [
+  | inl e ↦ subst (λ x. opened x ≡ x) (sym e) refl
+  | inr e ↦ subst (λ x. opened x ≡ x) (sym e) refl
+]
