@@ -1,18 +1,18 @@
 -- Lemmas on the table of two levels.
-use Rattle.std.proofs.Common.{◌≡◌, inl, inr, ℕ, zero, suc, ◌+◌, ◌-◌, ◌*◌, ◌/◌, ◌%◌, ◌<◌, Bool, true, false, ◌&&◌, cond, leb, ltb, eqb, nat_eq, Option, Some, None, is_some, List, [], ◌∷◌, ◌++◌, length, get_or, set as put_at, count_by, refl, sym, ap, ◌∙◌, arith}
+use Rattle.std.proofs.Common.{◌≡◌, inl, inr, ℕ, zero, suc, ◌+◌, ◌-◌, ◌*◌, ◌/◌, ◌%◌, ◌<◌, ◌≤◌, Bool, true, false, ◌&&◌, cond, leb, ltb, eqb, nat_eq, Option, Some, None, is_some, List, [], ◌∷◌, ◌++◌, length, get_or, replicate, set as put_at, count_by, refl, sym, ap, ◌∙◌, arith}
 use Rattle.std.specs.Option.{option_and_then, option_map}
 use Rattle.std.specs.List.{filter, filter_map, cons_option, range_with_len, list_any}
 use Rattle.std.specs.Ordering.{nat_cmp}
 use Rattle.std.specs.Cmp.{unsigned_tied, nat_cmp_total}
 use Rattle.std.specs.FinMap as map
 use Rattle.std.specs.FinSet as set
-use Rattle.std.proofs.lemmas.Bool.{cases_eq, cases_lt, eq-eqb, ne_eqb}
-use Rattle.std.proofs.lemmas.List.Sums.{sum_by-set}
+use Rattle.std.proofs.lemmas.Bool.{cases_eq, eq-eqb, ne_eqb}
+use Rattle.std.proofs.lemmas.List.Sums.{sum_by-set, sum_by-append}
+use Rattle.std.proofs.lemmas.List.Folds.{sum_by-replicate}
 use Rattle.std.proofs.lemmas.Bool.Decides.{nat_tests}
-use Rattle.std.proofs.lemmas.List.{get_or_past, get_or-set_other, get_or-set_same}
-use Rattle.std.proofs.Math.ListN.{length-set}
+use Rattle.std.proofs.lemmas.List.{length-append, length-replicate, get_or_past, get_or-set_other, get_or-set_same}
 use Rattle.page_map.specs.Pages.{Pages, put, with_leaf}
-use Rattle.page_map.specs.Table.{leaf_of, place_of, number_of, numbers_in, chunks_in, pages_in, IsTable}
+use Rattle.page_map.specs.Table.{leaf_of, number_at, number_of, numbers_in, chunks_in, pages_in, IsTable}
 
 -- places in a row: a root, or a leaf
 abbrev pub Places : Type 0
@@ -36,10 +36,10 @@ list_any-range p a zero q = grind (arith, nat_tests)
 list_any-range p a (suc n) q = grind (arith, nat_tests, list_any-range p (a + 1) n q)
 
 -- the number at each page
-get-numbers_in : (root places : Places) (page : ℕ) → map.get (numbers_in root places) page ≡ number_of root places page
+get-numbers_in : (root : Places) (at : ℕ → Option ℕ) (page : ℕ) → map.get (numbers_in root at) page ≡ number_of root at page
 unfolding numbers_in
-get-numbers_in root places page =
-    map.get-from_entries nat_cmp_total _ page ∙ find-range (number_of root places) 0 (512 * length root) page
+get-numbers_in root at page =
+    map.get-from_entries nat_cmp_total _ page ∙ find-range (number_of root at) 0 (512 * length root) page
     ∙ grind (arith, nat_tests, get_or_past root (page / 512) None)
 
 -- which chunks have a leaf
@@ -55,58 +55,79 @@ get-put : (numbers : map.FinMap nat_cmp ℕ) (page : ℕ) (number : Option ℕ) 
 get-put numbers page None q = grind (arith, map.gets, unsigned_tied q page)
 get-put numbers page (Some n) q = grind (arith, map.gets, unsigned_tied q page)
 
--- a list with a place more that has nothing in it reads the same
-pub blank_more : (xs : Places) (k : ℕ) → get_or (xs ++ None ∷ []) k None ≡ get_or xs k None
-blank_more [] zero = refl
-blank_more [] (suc k) = refl
-blank_more (x ∷ xs) zero = refl
-blank_more (x ∷ xs) (suc k) = blank_more xs k
+-- a list reads the same with more of what stands behind it
+reads_more : {A : Type 0} (xs : List A) (n : ℕ) (x : A) (k : ℕ) → get_or (xs ++ replicate n x) k x ≡ get_or xs k x
+reads_more [] zero x k = refl
+reads_more [] (suc n) x zero = refl
+reads_more [] (suc n) x (suc k) = reads_more [] n x k
+reads_more (x ∷ xs) n y zero = refl
+reads_more (x ∷ xs) n y (suc k) = reads_more xs n y k
+
+-- a place without a mark has nothing in it
+pub unmarked : (present : List Bool) (numbers : List ℕ) (k : ℕ) → get_or present k false ≡ false → number_at present numbers k ≡ None
+unmarked present numbers k e = rw e refl
+
+-- no place behind the others has anything in it
+pub behind : (present : List Bool) (numbers : List ℕ) (k : ℕ) → length present ≤ k → number_at present numbers k ≡ None
+behind present numbers k ge = unmarked present numbers k (get_or_past present k false ge)
+
+-- what stands at each place, with more places that have no mark
+pub marks_more : (present : List Bool) (numbers : List ℕ) (n m k : ℕ) → number_at (present ++ replicate n false) (numbers ++ replicate m 0) k ≡ number_at present numbers k
+marks_more present numbers n m k = rw (reads_more present n false k, reads_more numbers m 0 k) refl
+
+-- as many have a value in a list with more places that have nothing in them
+count_more : (xs : Places) (n : ℕ) → count_by is_some (xs ++ replicate n None) ≡ count_by is_some xs
+count_more xs n = omega (arith, sum_by-append (λ o. cond (is_some o) 1 0) xs (replicate n None), sum_by-replicate (λ (o : Option ℕ). cond (is_some o) 1 0) n None)
+
+-- an option without a value
+none_from : (o : Option ℕ) → is_some o ≡ false → o ≡ None
+none_from None e = refl
+none_from (Some x) e = absurd (cc)
 
 -- a table, and what it holds
-pub record IsTableOf (root places : Places) (spare : ℕ) (pages : Pages) : Type 0 where
+pub record IsTableOf (root : Places) (places : ℕ) (at : ℕ → Option ℕ) (spare : ℕ) (pages : Pages) : Type 0 where
   pub table : IsTable root places
-  pub numbers : (page : ℕ) → map.get pages.numbers page ≡ number_of root places page
+  pub numbers : (page : ℕ) → map.get pages.numbers page ≡ number_of root at page
   pub chunks : (chunk : ℕ) → set.contains pages.chunks chunk ≡ is_some (leaf_of root chunk)
   pub left : pages.spare ≡ spare
 
 -- a table is one of what it shows
-pub of_view : {root places : Places} {spare : ℕ} {pages : Pages} → IsTable root places → pages_in root places spare ≡ pages → IsTableOf root places spare pages
-of_view {root = root} {places = places} table is =
-    rw (← is) (record { table = table; numbers = get-numbers_in root places; chunks = contains-chunks_in root; left = refl })
+pub of_view : {root : Places} {places : ℕ} {spare : ℕ} {pages : Pages} (at : ℕ → Option ℕ) → IsTable root places → pages_in root at spare ≡ pages → IsTableOf root places at spare pages
+of_view {root = root} at table is =
+    rw (← is) (record { table = table; numbers = get-numbers_in root at; chunks = contains-chunks_in root; left = refl })
 
 -- what a table holds, and what each change of it leaves
-module _ {root places : Places} {spare : ℕ} {pages : Pages} (of : IsTableOf root places spare pages) where
+module _ {root : Places} {places : ℕ} {at : ℕ → Option ℕ} {spare : ℕ} {pages : Pages} (of : IsTableOf root places at spare pages) where
   -- what a table shows is what it holds
-  pub view_of : pages_in root places spare ≡ pages
+  pub view_of : pages_in root at spare ≡ pages
   view_of = λ i. record {
-    numbers = map.same_map nat_cmp_total map.nat_cmp-IsAntisymmetric _ _ (λ q. get-numbers_in root places q ∙ sym (of.numbers q)) i;
+    numbers = map.same_map nat_cmp_total map.nat_cmp-IsAntisymmetric _ _ (λ q. get-numbers_in root at q ∙ sym (of.numbers q)) i;
     chunks = set.same_set nat_cmp_total set.nat_cmp-IsAntisymmetric _ _ (λ q. contains-chunks_in root q ∙ sym (of.chunks q)) i;
     spare = sym of.left i;
   }
 
-  -- a chunk that has a leaf keeps it
-  pub kept : (chunk : ℕ) → is_some (leaf_of root chunk) ≡ true → IsTableOf root places spare (with_leaf pages chunk)
-  kept chunk there = record {
-    table = of.table;
-    numbers = of.numbers;
-    chunks = λ q. grind (arith, set.members, nat_tests, unsigned_tied q chunk, of.chunks q, of.chunks chunk);
-    left = grind (arith, of.chunks chunk, of.left);
-  }
+  -- the chunks with one that has a leaf are the same
+  pub kept : (chunk : ℕ) → is_some (leaf_of root chunk) ≡ true → pages.chunks ≡ set.insert pages.chunks chunk
+  kept chunk there = set.same_set nat_cmp_total set.nat_cmp-IsAntisymmetric _ _ (λ q. grind (arith, set.members, nat_tests, unsigned_tied q chunk, of.chunks q, of.chunks chunk))
 
   -- a chunk without a leaf takes the next one
-  pub given : (long wide : Places) (chunk : ℕ) → leaf_of root chunk ≡ None → 0 < spare → chunk < length long → ((k : ℕ) → get_or long k None ≡ get_or root k None) → count_by is_some long ≡ count_by is_some root
-      → ((k : ℕ) → get_or wide k None ≡ get_or places k None) → length wide ≡ length places + 512
-      → IsTableOf (put_at long chunk (Some (length places / 512))) wide (spare - 1) (with_leaf pages chunk)
-  given long wide chunk free some within same count blank len =
+  pub given : (more chunk : ℕ) (wide : ℕ → Option ℕ) → set.contains pages.chunks chunk ≡ false → chunk < length root + more
+      → ((k : ℕ) → wide k ≡ at k) → ((k : ℕ) → places ≤ k → at k ≡ None)
+      → IsTableOf (put_at (root ++ replicate more None) chunk (Some (places / 512))) (places + 512) wide (spare - 1) (with_leaf pages chunk)
+  given more chunk wide without within blank bare =
       let table = of.table in
-      let leaf = length places / 512 in
-      let filled : leaf * 512 ≡ length places = let f = table.filled in omega arith in
+      let free = none_from (leaf_of root chunk) (sym (of.chunks chunk) ∙ without) in
+      let leaf = places / 512 in
+      let filled : leaf * 512 ≡ places = let f = table.filled in omega arith in
+      let long : Places = root ++ replicate more None in
+      let same = reads_more root more None in
+      let inside : chunk < length long = omega (arith, length-append root (replicate more None), length-replicate {A = Option ℕ} more None) in
       let now = put_at long chunk (Some leaf) in
-      let here : leaf_of now chunk ≡ Some leaf = get_or-set_same long chunk (Some leaf) None within in
+      let here : leaf_of now chunk ≡ Some leaf = get_or-set_same long chunk (Some leaf) None inside in
       let other : (c : ℕ) → (c ≡ chunk → ⊥) → leaf_of now c ≡ leaf_of root c = λ c ne. get_or-set_other long chunk c (Some leaf) None ne ∙ same c in
       record {
         table = record {
-          filled = grind (arith, sum_by-set (λ o. cond (is_some o) 1 0) long chunk (Some leaf) None, same chunk, table.filled);
+          filled = grind (arith, sum_by-set (λ o. cond (is_some o) 1 0) long chunk (Some leaf) None, same chunk, table.filled, count_more root more);
           taken = λ c l has. elim (cases_eq c chunk) [
             | inl e ↦ let own : Some leaf ≡ Some l = sym here ∙ ap (leaf_of now) (sym e) ∙ has in let is : leaf ≡ l = cc in omega arith
             | inr ne ↦ let le = table.taken c l (sym (other c ne) ∙ has) in omega arith
@@ -124,24 +145,20 @@ module _ {root places : Places} {spare : ℕ} {pages : Pages} (of : IsTableOf ro
         };
         numbers = λ q. of.numbers q ∙ elim (cases_eq (q / 512) chunk) [
           | inl e ↦
-              let none : number_of root places q ≡ None = ap (option_and_then (λ l. place_of places l (q % 512))) (ap (leaf_of root) e ∙ free) in
-              let some : number_of now wide q ≡ place_of wide leaf (q % 512) = ap (option_and_then (λ l. place_of wide l (q % 512))) (ap (leaf_of now) e ∙ here) in
-              none ∙ sym (some ∙ blank (leaf * 512 + q % 512) ∙ get_or_past places (leaf * 512 + q % 512) None (omega arith))
-          | inr ne ↦ sym (ap (option_and_then (λ l. place_of wide l (q % 512))) (other (q / 512) ne) ∙ reads (leaf_of root (q / 512)) (q % 512))
+              let none : number_of root at q ≡ None = ap (option_and_then (λ l. at (l * 512 + q % 512))) (ap (leaf_of root) e ∙ free) in
+              let some : number_of now wide q ≡ wide (leaf * 512 + q % 512) = ap (option_and_then (λ l. wide (l * 512 + q % 512))) (ap (leaf_of now) e ∙ here) in
+              none ∙ sym (some ∙ blank (leaf * 512 + q % 512) ∙ bare (leaf * 512 + q % 512) (omega arith))
+          | inr ne ↦ sym (ap (option_and_then (λ l. wide (l * 512 + q % 512))) (other (q / 512) ne) ∙ ap (λ f. number_of root f q) (λ i k. blank k i))
         ];
         chunks = λ q. elim (cases_eq q chunk) [
           | inl e ↦ rw (e, here) (grind (arith, set.members, nat_tests, unsigned_tied chunk chunk))
           | inr ne ↦ rw (other q ne) (grind (arith, set.members, nat_tests, unsigned_tied q chunk, of.chunks q))
         ];
-        left = grind (arith, of.chunks chunk, of.left);
+        left = ap (λ n. n - 1) of.left;
       }
-    where
-      reads : (o : Option ℕ) (p : ℕ) → option_and_then (λ l. place_of wide l p) o ≡ option_and_then (λ l. place_of places l p) o
-      reads None p = refl
-      reads (Some l) p = blank (l * 512 + p)
 
   -- a page whose chunk has no leaf may be removed
-  pub removed : (page : ℕ) → leaf_of root (page / 512) ≡ None → IsTableOf root places spare (record pages { numbers = map.remove pages.numbers page })
+  pub removed : (page : ℕ) → leaf_of root (page / 512) ≡ None → IsTableOf root places at spare (record pages { numbers = map.remove pages.numbers page })
   removed page free = record {
     table = of.table;
     numbers = λ q. grind (arith, map.gets, nat_tests, unsigned_tied q page, of.numbers q);
@@ -150,56 +167,35 @@ module _ {root places : Places} {spare : ℕ} {pages : Pages} (of : IsTableOf ro
   }
 
   -- a table whose places have nothing in them has the leaves that it had
-  pub emptied : (bare : Places) → length bare ≡ length places → ((k : ℕ) → k < length bare → get_or bare k None ≡ None) → IsTableOf root bare spare (record pages { numbers = map.empty })
-  emptied bare same none = record {
-    table = record {
-      filled = same ∙ of.table.filled;
-      taken = λ c l h. omega (arith, of.table.taken c l h, same);
-      apart = of.table.apart;
-    };
+  pub emptied : (bare : ℕ → Option ℕ) → ((k : ℕ) → bare k ≡ None) → IsTableOf root places bare spare (record pages { numbers = map.empty })
+  emptied bare blank = record {
+    table = of.table;
     numbers = λ q. map.get-empty nat_cmp q ∙ sym (reads (leaf_of root (q / 512)) (q % 512));
     chunks = of.chunks;
     left = of.left;
   }
     where
-      blank : (k : ℕ) → get_or bare k None ≡ None
-      blank k = elim (cases_lt k (length bare)) [ inl l ↦ none k l | inr ge ↦ get_or_past bare k None ge ]
-
-      reads : (o : Option ℕ) (p : ℕ) → option_and_then (λ l. place_of bare l p) o ≡ None
+      reads : (o : Option ℕ) (p : ℕ) → option_and_then (λ l. bare (l * 512 + p)) o ≡ None
       reads None p = refl
       reads (Some l) p = blank (l * 512 + p)
 
   -- a page whose chunk has a leaf gets a number, or none
-  pub written : (leaf page : ℕ) (number : Option ℕ) → leaf_of root (page / 512) ≡ Some leaf → IsTableOf root (put_at places (leaf * 512 + page % 512) number) spare (record pages { numbers = put pages.numbers page number })
-  written leaf page number has =
-      let table = of.table in
-      let within = table.taken (page / 512) leaf has in
-      let at = leaf * 512 + page % 512 in
-      record {
-        table = record {
-          filled = length-set places at number ∙ table.filled;
-          taken = λ c l h. omega (arith, table.taken c l h, length-set places at number);
-          apart = table.apart;
-        };
-        numbers = λ q. get-put pages.numbers page number q ∙ elim (cases_eq q page) [
-          | inl e ↦ rw (e, eq-eqb page page refl, has) (sym (get_or-set_same places at number None (omega arith)))
-          | inr ne ↦ rw (ne_eqb q page ne) (of.numbers q ∙ sym (kept_at q ne (leaf_of root (q / 512)) refl))
-        ];
-        chunks = of.chunks;
-        left = of.left;
-      }
+  pub written : (leaf page : ℕ) (number : Option ℕ) (now : ℕ → Option ℕ) → leaf_of root (page / 512) ≡ Some leaf
+      → now (leaf * 512 + page % 512) ≡ number → ((k : ℕ) → (k ≡ leaf * 512 + page % 512 → ⊥) → now k ≡ at k)
+      → IsTableOf root places now spare (record pages { numbers = put pages.numbers page number })
+  written leaf page number now has here other = record {
+    table = of.table;
+    numbers = λ q. get-put pages.numbers page number q ∙ elim (cases_eq q page) [
+      | inl e ↦ rw (e, eq-eqb page page refl, has) (sym here)
+      | inr ne ↦ rw (ne_eqb q page ne) (of.numbers q ∙ sym (kept_at q ne (leaf_of root (q / 512)) refl))
+    ];
+    chunks = of.chunks;
+    left = of.left;
+  }
     where
-      kept_at : (q : ℕ) → (q ≡ page → ⊥) → (o : Option ℕ) → leaf_of root (q / 512) ≡ o → option_and_then (λ l. place_of (put_at places (leaf * 512 + page % 512) number) l (q % 512)) o ≡ option_and_then (λ l. place_of places l (q % 512)) o
+      kept_at : (q : ℕ) → (q ≡ page → ⊥) → (o : Option ℕ) → leaf_of root (q / 512) ≡ o → option_and_then (λ l. now (l * 512 + q % 512)) o ≡ option_and_then (λ l. at (l * 512 + q % 512)) o
       kept_at q ne None e = refl
-      kept_at q ne (Some l) e = get_or-set_other places (leaf * 512 + page % 512) (l * 512 + q % 512) number None (λ same.
+      kept_at q ne (Some l) e = other (l * 512 + q % 512) (λ same.
           let is : l ≡ leaf = omega arith in
           let chunk = of.table.apart (q / 512) (page / 512) l e (has ∙ ap (λ n. Some n) (sym is)) in
           ne (omega arith))
-
-  -- a chunk without a leaf has a spare one, where each may get one
-  pub may_give : (chunk : ℕ) → leaf_of root chunk ≡ None → (set.contains pages.chunks chunk ≡ false → 0 < pages.spare) → 0 < spare
-  may_give chunk free room = let some = room (of.chunks chunk ∙ ap is_some free) in omega (arith, of.left)
-
-pub none_from : (o : Option ℕ) → is_some o ≡ false → o ≡ None
-none_from None e = refl
-none_from (Some x) e = absurd (cc)

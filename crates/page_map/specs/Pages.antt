@@ -1,5 +1,5 @@
 -- What callers see of a page map.
-use Rattle.std.specs.Prelude.{ℕ, ◌-◌, if◌then◌else◌, Option, Some, None, refl}
+use Rattle.std.specs.Prelude.{ℕ, ◌-◌, Option, Some, None, refl}
 use Rattle.std.specs.Ordering.{nat_cmp}
 use Rattle.std.specs.Coded.{Coded, code_by, coded×, coded_ℕ}
 use Rattle.std.specs.FinMap as map
@@ -15,11 +15,11 @@ pub record Pages : Type 0 where
 abbrev pub no_pages : Pages
 no_pages = record { numbers = map.empty; chunks = set.empty; spare = 0 }
 
--- the pages where a chunk has a leaf, a spare one if it had none
+-- the pages where a chunk has a spare leaf
 abbrev pub with_leaf : Pages → ℕ → Pages
 with_leaf pages chunk = record pages {
   chunks = set.insert pages.chunks chunk;
-  spare = if set.contains pages.chunks chunk then pages.spare else pages.spare - 1;
+  spare = pages.spare - 1;
 }
 
 -- the numbers with this one, or none, at a page

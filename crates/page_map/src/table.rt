@@ -1,6 +1,6 @@
 //! A root with a place for each chunk of pages up to the highest one that was asked for, and leaves, one behind
-//! another, with a place for each page of a chunk.
-ghost use Rattle.std.specs.Prelude.{true, ◌≡◌, ◌+◌, ◌-◌, ◌*◌, ◌/◌, ◌%◌, ◌<◌, ◌≤◌, ℕ, false, None, if◌then◌else◌, count_by, is_some, slice_index_or, vec_capacity, vec_len, EachIndex, IsOkAnd, IsSome, OnOk, OnErr, max};
+//! another, with a place for each page of a chunk. A place has a number, and a mark whether the number is present.
+ghost use Rattle.std.specs.Prelude.{true, ◌≡◌, ◌+◌, ◌-◌, ◌*◌, ◌/◌, ◌%◌, ◌<◌, ◌≤◌, ℕ, false, None, ◌++◌, replicate, if◌then◌else◌, slice_index_or, vec_capacity, vec_len, EachIndex, IsOkAnd, IsSome, OnOk, OnErr, max};
 ghost use Rattle.std.specs.FinMap as map;
 ghost use Rattle.std.specs.FinSet as set;
 
@@ -25,7 +25,8 @@ const LEAF: usize = CHUNK_PAGES as usize;
 #[derive(Drop)]
 pub struct PageMap {
     root: Vec<Option<u32>>,
-    places: Vec<Option<u32>>,
+    numbers: Vec<u32>,
+    present: Vec<bool>,
     spare: u64,
 }
 
@@ -52,7 +53,8 @@ impl PageMap {
     {
         Ok(PageMap {
             root: Vec::new(alloc),
-            places: Vec::new(alloc),
+            numbers: Vec::new(alloc),
+            present: Vec::new(alloc),
             spare: 0,
         })
     }
@@ -65,10 +67,11 @@ impl PageMap {
         if leaves <= self.spare {
             return Ok(());
         }
-        let places = leaves.checked_mul(CHUNK_PAGES).ok_or(NoMemory)?;
+        let places = leaves.checked_mul(CHUNK_PAGES).ok_or(NoMemory)? as usize;
         self.root
             .reserve_exact(ROOT.saturating_sub(self.root.len()))?;
-        self.places.reserve(places as usize)?;
+        self.numbers.reserve(places)?;
+        self.present.reserve(places)?;
         self.spare = leaves;
         Ok(())
     }
@@ -92,7 +95,9 @@ impl PageMap {
             then self.old.spare
             else self.old.spare - 1) }
     {
-        self.give_leaf(page);
+        if leaf_at(&self.root, page).is_none() {
+            self.give_leaf((page / CHUNK_PAGES) as usize);
+        }
         self.write(page, Some(number));
     }
 
@@ -109,7 +114,7 @@ impl PageMap {
     pub fn clear_all(&mut self)
         ensures { self.new ≡ record self.old { numbers = map.empty } }
     {
-        blank(&mut self.places);
+        blank(&mut self.present);
     }
 
     /// The number of a page. The chunk of a page that has one has a leaf.
@@ -118,27 +123,27 @@ impl PageMap {
         ensures leaf { IsSome result
             → set.contains self.now.chunks (page / CHUNK_PAGES) ≡ true }
     {
-        match leaf_at(&self.root, page) {
-            Some(leaf) => self.places[leaf * LEAF + place_at(page)],
-            None => None,
+        let place = leaf_at(&self.root, page)? * LEAF + place_at(page);
+        if self.present[place] {
+            Some(self.numbers[place])
+        } else {
+            None
         }
     }
 
-    // Gives the chunk of a page a leaf, if it has none.
-    fn give_leaf(&mut self, page: u64)
-        requires page { page < PAGES }
-        requires room { set.contains self.old.chunks (page / CHUNK_PAGES) ≡ false
-            → 0 < self.old.spare }
-        ensures { self.new ≡ with_leaf self.old (page / CHUNK_PAGES) }
+    // Gives a chunk without a leaf a spare one.
+    fn give_leaf(&mut self, chunk: usize)
+        requires chunk { chunk < CHUNKS }
+        requires bare { set.contains self.old.chunks chunk ≡ false }
+        requires spare { 0 < self.old.spare }
+        ensures { self.new ≡ with_leaf self.old chunk }
     {
-        let chunk = (page / CHUNK_PAGES) as usize;
-        if leaf_at(&self.root, page).is_none() {
-            lengthen(&mut self.root, chunk + 1);
-            let filled = self.places.len();
-            self.root[chunk] = Some((filled / LEAF) as u32);
-            lengthen(&mut self.places, filled + LEAF);
-            self.spare -= 1;
-        }
+        lengthen(&mut self.root, chunk + 1, None);
+        let filled = self.present.len();
+        self.root[chunk] = Some((filled / LEAF) as u32);
+        lengthen(&mut self.numbers, filled + LEAF, 0);
+        lengthen(&mut self.present, filled + LEAF, false);
+        self.spare -= 1;
     }
 
     // Puts a number, or none, at a page whose chunk has a leaf.
@@ -147,7 +152,11 @@ impl PageMap {
         ensures { self.new ≡ record self.old { numbers = put self.old.numbers page number } }
     {
         match leaf_at(&self.root, page) {
-            Some(leaf) => self.places[leaf * LEAF + place_at(page)] = number,
+            Some(leaf) => {
+                let place = leaf * LEAF + place_at(page);
+                self.present[place] = number.is_some();
+                self.numbers[place] = number.unwrap_or(0);
+            }
             None => unreachable!(),
         }
     }
@@ -172,26 +181,23 @@ fn place_at(page: u64) -> usize
     (page % CHUNK_PAGES) as usize
 }
 
-// Takes away what stands at each place.
-fn blank(places: &mut [Option<u32>])
-    ensures { EachIndex places.new (λ k. slice_index_or places.new k None ≡ None) }
+// Takes all marks away.
+fn blank(present: &mut [bool])
+    ensures { EachIndex present.new (λ k. slice_index_or present.new k false ≡ false) }
 {
-    for place in places.iter_mut() {
-        *place = None;
+    for mark in present.iter_mut() {
+        *mark = false;
     }
 }
 
-// Makes a list at least so long, with places that have nothing in them.
-fn lengthen(list: &mut Vec<Option<u32>>, len: usize)
+// Makes a list at least so long, by filling it up.
+fn lengthen<T: Copy>(list: &mut Vec<T>, len: usize, filling: T)
     requires { len ≤ vec_capacity list.old }
-    ensures kept { (k : ℕ) → slice_index_or list.new.items k None ≡ slice_index_or list.old.items k None }
-    ensures count { count_by is_some list.new.items ≡ count_by is_some list.old.items }
+    ensures items { list.new.items ≡ list.old.items ++ replicate (len - vec_len list.old) filling }
     ensures len { vec_len list.new ≡ max (vec_len list.old) len }
     ensures capacity { vec_capacity list.old ≤ vec_capacity list.new }
 {
-    for _ in list.len()..len {
-        list.push(None).unwrap();
-    }
+    list.resize(list.len().max(len), filling).unwrap();
 }
 
 #[cfg(test)]
