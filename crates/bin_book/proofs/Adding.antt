@@ -186,7 +186,7 @@ module _ (t : Table) (i : IsSlabTable t) (class first number : ℕ) (bits : Bits
       omega (arith, counted_more t.counts class c (omega arith))
 
   pub table_added : (small : class < 36) → (u : Table) → u.firsts.keys ≡ keys → u.firsts.spare + 1 ≡ t.firsts.spare → IsAscending u.firsts.keys → u.slots.items ≡ slots → vec_len u.slots ≡ vec_len t.slots → u.free.items ≡ rest → vec_len u.free + 1 ≡ vec_len t.free → vec_capacity u.free ≡ vec_capacity t.free
-      → u.counts ≡ set t.counts class (get_or t.counts class 0 + 1) → IsCharted slots keys u.chart → vec_len u.chart.firsts ≡ vec_len t.chart.firsts → u.bins.keys ≡ with_key t.bins.keys (bin_key bits.class (eqb (left_of bits) 0) slab) → u.bins.spare + 1 ≡ t.bins.spare → vec_len u.holders.codes ≡ vec_len t.holders.codes → IsSlabTable u
+      → u.counts ≡ set t.counts class (get_or t.counts class 0 + 1) → IsCharted slots keys u.chart → vec_len u.chart.firsts ≡ vec_len t.chart.firsts → u.bins.keys ≡ with_key t.bins.keys (bin_key bits.class (eqb (left_of bits) 0) slab) → u.bins.spare + 1 ≡ t.bins.spare → length u.holders ≡ length t.holders → IsSlabTable u
   unfolding slabs_in
   table_added small u firsts spare ascending items len free_items free_len cap counts charted chart_len bins bins_spare codes =
       let more = ap length firsts ∙ length_with t.firsts.keys slab i.ascending new_key in
@@ -220,7 +220,7 @@ module _ (t : Table) (i : IsSlabTable t) (class first number : ℕ) (bits : Bits
       ∙ (λ x. (same (is_below slab) ∙ sym lower) x ++ here x ∷ (same (is_above slab) ∙ sym upper) x))
 
   -- the slot has codes
-  pub codes_room : (count : ℕ) → count ≤ regions_at class → 512 * number + count ≤ vec_len t.holders.codes
+  pub codes_room : (count : ℕ) → count ≤ regions_at class → 512 * number + count ≤ length t.holders
   codes_room count most =
       let few = (slab_filled bits.class new.small).2 in
       let same = ap regions_at is in
@@ -229,12 +229,12 @@ module _ (t : Table) (i : IsSlabTable t) (class first number : ℕ) (bits : Bits
 
   -- the regions of the slab land among the others
   pub regions_added : (client count : ℕ) → count ≤ regions_at class → AreFreeFrom count bits → IsAscending keys → (codes : List ℕ) → ((n : ℕ) → n < count → holder_at codes (512 * number + n) ≡ Some client)
-      → ((p : ℕ) → (p < 512 * number) ⊎ (512 * number + count ≤ p) → holder_at codes p ≡ holder_at t.holders.codes.items p) → out_of_slabs slots codes keys ≡ landing (regions_from client class (4096 * first) count) (regions_in t)
+      → ((p : ℕ) → (p < 512 * number) ⊎ (512 * number + count ≤ p) → holder_at codes p ≡ holder_at t.holders p) → out_of_slabs slots codes keys ≡ landing (regions_from client class (4096 * first) count) (regions_in t)
   regions_added client count most run ascending codes here others =
       let small : class < 36 = subst (λ n. n < 36) is new.small in
       let size = (size_bounds class (omega arith)).0 in
       let old = t.slots.items in
-      let was = t.holders.codes.items in
+      let was = t.holders in
       let made = λ (n : ℕ). region_of client class (4096 * first + n * size_at class) in
       let come = regions_from client class (4096 * first) count in
       let coming = from_rises client class (4096 * first) 0 count (omega arith) in
@@ -379,7 +379,7 @@ module _ (t : Table) (i : IsSlabTable t) (slab : Key) (there : Contains t.firsts
   fewer_keys = length_without t.firsts.keys slab i.ascending there
 
   pub table_less : (u : Table) → u.firsts.keys ≡ rest_keys → u.firsts.spare ≡ t.firsts.spare + 1 → IsAscending u.firsts.keys → u.slots ≡ t.slots → u.free.items ≡ t.free.items ++ slab.minor ∷ [] → vec_len u.free ≡ vec_len t.free + 1 → vec_capacity t.free ≤ vec_capacity u.free
-      → u.counts ≡ set t.counts class_of_slab (get_or t.counts class_of_slab 0 - 1) → IsCharted t.slots.items rest_keys u.chart → vec_len u.chart.firsts ≡ vec_len t.chart.firsts → u.bins.keys ≡ without_key t.bins.keys (bin_of t.slots.items slab) → u.bins.spare ≡ t.bins.spare + 1 → vec_len u.holders.codes ≡ vec_len t.holders.codes → IsSlabTable u
+      → u.counts ≡ set t.counts class_of_slab (get_or t.counts class_of_slab 0 - 1) → IsCharted t.slots.items rest_keys u.chart → vec_len u.chart.firsts ≡ vec_len t.chart.firsts → u.bins.keys ≡ without_key t.bins.keys (bin_of t.slots.items slab) → u.bins.spare ≡ t.bins.spare + 1 → length u.holders ≡ length t.holders → IsSlabTable u
   unfolding slabs_in
   table_less u firsts spare ascending slots free_items free_len cap counts charted chart_len bins bins_spare codes =
       let items = ap (λ v. v.items) slots in

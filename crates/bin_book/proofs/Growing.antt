@@ -28,8 +28,8 @@ count_range a (suc n) m = grind (arith, nat_tests, sum_by-cons (λ x. bit (eqb x
 
 -- the regions of a table with more slots and codes
 pub regions_grown : (t : Table) → IsSlabTable t → (slots : List Bits) (codes : List ℕ) (keys : List Key) → keys ≡ t.firsts.keys → ((n : ℕ) → n < vec_len t.slots → bits_at slots n ≡ bits_at t.slots.items n)
-    → ((p : ℕ) → p < vec_len t.holders.codes → holder_at codes p ≡ holder_at t.holders.codes.items p) → out_of_slabs slots codes keys ≡ regions_in t
-regions_grown t i slots codes keys same agree holders = rw same (regions_agree t.slots.items slots t.holders.codes.items codes t.firsts.keys (λ k m. agree k.minor (i.in_slots k m)) (λ k n m low.
+    → ((p : ℕ) → p < length t.holders → holder_at codes p ≡ holder_at t.holders p) → out_of_slabs slots codes keys ≡ regions_in t
+regions_grown t i slots codes keys same agree holders = rw same (regions_agree t.slots.items slots t.holders codes t.firsts.keys (λ k m. agree k.minor (i.in_slots k m)) (λ k n m low.
     let few = (slab_filled (bits_at t.slots.items k.minor).class (i.kept.slab k m).small).2 in
     let mine = i.in_slots k m in
     holders (512 * k.minor + n) (omega arith)))
@@ -78,7 +78,7 @@ module _ (t u : Table) (i : IsSlabTable t) (firsts : u.firsts.keys ≡ t.firsts.
   }
 
   pub table_grown : vec_len t.slots ≤ vec_len u.slots → u.free.items ≡ t.free.items ++ range_with_len (vec_len t.slots) (vec_len u.slots - vec_len t.slots) → vec_len u.free + vec_len t.slots ≡ vec_len t.free + vec_len u.slots
-      → vec_len u.slots < 2 ^ 32 → vec_len u.slots ≤ vec_capacity u.free → vec_len u.slots ≤ vec_len u.chart.firsts → vec_len u.free ≤ u.firsts.spare → vec_len u.free ≤ u.bins.spare → 512 * vec_len u.slots ≤ vec_len u.holders.codes → IsSlabTable u
+      → vec_len u.slots < 2 ^ 32 → vec_len u.slots ≤ vec_capacity u.free → vec_len u.slots ≤ vec_len u.chart.firsts → vec_len u.free ≤ u.firsts.spare → vec_len u.free ≤ u.bins.spare → 512 * vec_len u.slots ≤ length u.holders → IsSlabTable u
   table_grown le free places small room chart_room firsts_room bins_room held =
       let len = ap length firsts in
       record {
@@ -100,7 +100,7 @@ module _ (t u : Table) (i : IsSlabTable t) (firsts : u.firsts.keys ≡ t.firsts.
       }
 
 -- a table whose sets and chart have more room, and that is as it was otherwise
-pub table_roomy : (t u : Table) → IsSlabTable t → u.firsts.keys ≡ t.firsts.keys → t.firsts.spare ≤ u.firsts.spare → u.bins.keys ≡ t.bins.keys → t.bins.spare ≤ u.bins.spare → u.slots ≡ t.slots → u.free ≡ t.free → u.counts ≡ t.counts → vec_len t.holders.codes ≤ vec_len u.holders.codes → Grows t.chart u.chart → IsSlabTable u × (slabs_in u ≡ slabs_in t)
+pub table_roomy : (t u : Table) → IsSlabTable t → u.firsts.keys ≡ t.firsts.keys → t.firsts.spare ≤ u.firsts.spare → u.bins.keys ≡ t.bins.keys → t.bins.spare ≤ u.bins.spare → u.slots ≡ t.slots → u.free ≡ t.free → u.counts ≡ t.counts → length t.holders ≤ length u.holders → Grows t.chart u.chart → IsSlabTable u × (slabs_in u ≡ slabs_in t)
 table_roomy t u i firsts more bins wider slots free counts codes chart =
     let items = ap (λ v. v.items) slots in
     let len = ap (λ v. vec_len v) slots in

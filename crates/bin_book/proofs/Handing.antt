@@ -1,5 +1,5 @@
 -- The regions that are out, as one is taken, put back or handed over.
-use Rattle.bin_book.proofs.Words.{◌≡◌, ◌≢◌, ℕ, ◌+◌, ◌*◌, ◌<◌, ◌≤◌, Bool, true, false, not, cond, List, [], ◌∷◌, length, length-set, filter, map, get_or, set, Option, Some, inl, inr, refl, sym, ap, ◌∙◌, subst, arith, Contains, vec_len, dite, ℕ_discrete, range_with_len, eq-eqb, eqb-true, false_from_ne_true, get_or-set_other, get_or-set_same, length-range_with_len, IsStrictlySortedBy-filter, count_by-le-length, length-filter, regions_at, slab_filled, Region, held_anew, inserted, landing, region_of, starts_at, Bits, Key, IsAscending, is_other, key_cmp, without_key, contains_cases, filter_from, filter_has, without_from, without_keeps, Holders, Table, addr_of, place, holder_at, AreSlabKeys, IsSlabIn, IsSlabTable, bits_at, left_of, slab_region, regions_in, out_of_slabs, regions_without, slabs_in, AreNew, not_found, rising_changed, rising_filter, same_members, head, map_from, map_has}
+use Rattle.bin_book.proofs.Words.{◌≡◌, ◌≢◌, ℕ, ◌+◌, ◌*◌, ◌<◌, ◌≤◌, Bool, true, false, not, cond, List, [], ◌∷◌, length, length-set, filter, map, get_or, set, Option, Some, inl, inr, refl, sym, ap, ◌∙◌, subst, arith, Contains, dite, ℕ_discrete, range_with_len, eq-eqb, eqb-true, false_from_ne_true, get_or-set_other, get_or-set_same, length-range_with_len, IsStrictlySortedBy-filter, count_by-le-length, length-filter, regions_at, slab_filled, Region, held_anew, inserted, landing, region_of, starts_at, Bits, Key, IsAscending, is_other, key_cmp, without_key, contains_cases, filter_from, filter_has, without_from, without_keeps, Table, addr_of, place, holder_at, AreSlabKeys, IsSlabIn, IsSlabTable, bits_at, left_of, slab_region, regions_in, out_of_slabs, regions_without, slabs_in, AreNew, not_found, rising_changed, rising_filter, same_members, head, map_from, map_has}
 use Rattle.bin_book.proofs.Places.{by_key, class_stays, is_new, kept_changed, one_place, length_ones}
 use Rattle.bin_book.proofs.Regions.{landed, landed_from, landed_new, landed_old, out_from, out_has, regions_rise}
 use Rattle.bin_book.proofs.Adding.{kept_less}
@@ -171,16 +171,16 @@ module _ (t : Table) (i : IsSlabTable t) (key : Key) (there : Contains t.firsts.
   bits = bits_at t.slots.items key.minor
 
   -- it has a place among the codes
-  pub code_inside : 512 * key.minor + n < vec_len t.holders.codes
+  pub code_inside : 512 * key.minor + n < length t.holders
   code_inside =
       let few = (slab_filled bits.class (i.kept.slab key there).small).2 in
       let mine = i.in_slots key there in
       omega arith
 
-  pub region_held : get_or bits.free n false ≡ false → (codes : List ℕ) (holder : Option ℕ) → holder_at codes (512 * key.minor + n) ≡ holder → ((p : ℕ) → p ≢ 512 * key.minor + n → holder_at codes p ≡ holder_at t.holders.codes.items p)
+  pub region_held : get_or bits.free n false ≡ false → (codes : List ℕ) (holder : Option ℕ) → holder_at codes (512 * key.minor + n) ≡ holder → ((p : ℕ) → p ≢ 512 * key.minor + n → holder_at codes p ≡ holder_at t.holders p)
       → out_of_slabs t.slots.items codes t.firsts.keys ≡ held_anew (starts_at (place bits.class key.major n)) holder (regions_in t)
-  region_held out codes holder here others = place_held t.slots.items t.slots.items t.holders.codes.items codes t.firsts.keys i.ascending i.kept i.kept key there n low
-      (code_written t.slots.items t.firsts.keys i.kept key there n low t.holders.codes.items codes others) out out holder here
+  region_held out codes holder here others = place_held t.slots.items t.slots.items t.holders codes t.firsts.keys i.ascending i.kept i.kept key there n low
+      (code_written t.slots.items t.firsts.keys i.kept key there n low t.holders codes others) out out holder here
 
   -- the slots with a bit of its slab written
   abbrev written : Bool → List Bits
@@ -189,8 +189,8 @@ module _ (t : Table) (i : IsSlabTable t) (key : Key) (there : Contains t.firsts.
   kept_written : (v : Bool) → IsSlabIn (with_bit bits n v) key.major → AreSlabKeys (written v) t.firsts.keys
   kept_written v is = kept_changed t.slots.items t.firsts.keys i.kept key there (in_items t i key there (with_bit bits n v) refl) (with_bit bits n v) refl is
 
-  agree : (v : Bool) (codes : List ℕ) → ((p : ℕ) → p ≢ 512 * key.minor + n → holder_at codes p ≡ holder_at t.holders.codes.items p) → AgreeBut t.slots.items (written v) t.holders.codes.items codes t.firsts.keys (place bits.class key.major n)
-  agree v codes others = bit_and_code t.slots.items t.firsts.keys i.kept key there n low t.holders.codes.items codes others v (in_items t i key there (with_bit bits n v) refl)
+  agree : (v : Bool) (codes : List ℕ) → ((p : ℕ) → p ≢ 512 * key.minor + n → holder_at codes p ≡ holder_at t.holders p) → AgreeBut t.slots.items (written v) t.holders codes t.firsts.keys (place bits.class key.major n)
+  agree v codes others = bit_and_code t.slots.items t.firsts.keys i.kept key there n low t.holders codes others v (in_items t i key there (with_bit bits n v) refl)
 
   new_bits : (v : Bool) → bits_at (written v) key.minor ≡ with_bit bits n v
   new_bits v = is_new t.slots.items t.firsts.keys i.kept key there (in_items t i key there (with_bit bits n v) refl) (with_bit bits n v) refl
@@ -199,22 +199,22 @@ module _ (t : Table) (i : IsSlabTable t) (key : Key) (there : Contains t.firsts.
   new_bit v inside = ap (λ (b : Bits). get_or b.free n false) (new_bits v) ∙ get_or-set_same bits.free n v false inside
 
   pub region_taken : (client class : ℕ) → bits.class ≡ class → n < length bits.free → get_or bits.free n false ≡ true → IsSlabIn (with_bit bits n false) key.major → (codes : List ℕ) → holder_at codes (512 * key.minor + n) ≡ Some client
-      → ((p : ℕ) → p ≢ 512 * key.minor + n → holder_at codes p ≡ holder_at t.holders.codes.items p) → out_of_slabs (written false) codes t.firsts.keys ≡ inserted (region_of client class (place bits.class key.major n)) (regions_in t)
+      → ((p : ℕ) → p ≢ 512 * key.minor + n → holder_at codes p ≡ holder_at t.holders p) → out_of_slabs (written false) codes t.firsts.keys ≡ inserted (region_of client class (place bits.class key.major n)) (regions_in t)
   region_taken client class of_class inside free is codes here others =
       let class' = ap (λ (b : Bits). b.class) (new_bits false) in
       let region : slab_region (written false) codes key n ≡ region_of client class (place bits.class key.major n) = (λ x. record { addr = place (class' x) key.major n; class = (class' ∙ of_class) x; holder = here x }) in
-      place_taken t.slots.items (written false) t.holders.codes.items codes t.firsts.keys i.ascending i.kept (kept_written false is) key there n low (agree false codes others) free (new_bit false inside)
+      place_taken t.slots.items (written false) t.holders codes t.firsts.keys i.ascending i.kept (kept_written false is) key there n low (agree false codes others) free (new_bit false inside)
       ∙ ap (λ r. inserted r (regions_in t)) region
 
-  pub region_put : n < length bits.free → IsSlabIn (with_bit bits n true) key.major → out_of_slabs (written true) t.holders.codes.items t.firsts.keys ≡ filter (λ r. not (starts_at (place bits.class key.major n) r)) (regions_in t)
-  region_put inside is = place_freed t.slots.items (written true) t.holders.codes.items t.holders.codes.items t.firsts.keys i.ascending i.kept (kept_written true is) key there n low (agree true t.holders.codes.items (λ p ne. refl)) (new_bit true inside)
+  pub region_put : n < length bits.free → IsSlabIn (with_bit bits n true) key.major → out_of_slabs (written true) t.holders t.firsts.keys ≡ filter (λ r. not (starts_at (place bits.class key.major n) r)) (regions_in t)
+  region_put inside is = place_freed t.slots.items (written true) t.holders t.holders t.firsts.keys i.ascending i.kept (kept_written true is) key there n low (agree true t.holders (λ p ne. refl)) (new_bit true inside)
 
   -- the last one goes with its slab
   pub region_gone : get_or bits.free n false ≡ false → left_of bits + 1 ≡ regions_at bits.class → regions_without t key ≡ filter (λ r. not (starts_at (place bits.class key.major n) r)) (regions_in t)
   region_gone out last =
       let p = λ (r : Region). not (starts_at (place bits.class key.major n) r) in
       let slots = t.slots.items in
-      let codes = t.holders.codes.items in
+      let codes = t.holders in
       let keys = without_key t.firsts.keys key in
       let gone : (r : Region) → Contains (regions_in t) r → r.addr ≢ place bits.class key.major n → Contains (out_of_slabs slots codes keys) r = (λ r m ne.
       let q = out_from slots codes t.firsts.keys r m in
@@ -235,7 +235,7 @@ module _ (t : Table) (i : IsSlabTable t) (key : Key) (there : Contains t.firsts.
       gone r d.0 (λ e. let no : false ≡ true = sym (ap not (eq-eqb r.addr _ e)) ∙ d.1 in cc))
 
 -- a table of which only the codes change keeps its slabs
-pub table_held : (t : Table) → IsSlabTable t → (holders : Holders) → vec_len holders.codes ≡ vec_len t.holders.codes → IsSlabTable (record t { holders = holders }) × (slabs_in (record t { holders = holders }) ≡ slabs_in t)
+pub table_held : (t : Table) → IsSlabTable t → (holders : List ℕ) → length holders ≡ length t.holders → IsSlabTable (record t { holders = holders }) × (slabs_in (record t { holders = holders }) ≡ slabs_in t)
 unfolding slabs_in
 table_held t i holders len = (
   record {

@@ -193,7 +193,7 @@ pages_far t i class addr far k n o = let at = o.at in let above = far k o.there 
 -- where a slab has no region out at an address, none begins there
 pub none_starts : (t : Table) (addr : ℕ) → ((k : Key) (n : ℕ) → IsOutAt t (bits_at t.slots.items k.minor).class addr k n → ⊥) → false ≡ list_any (starts_at addr) (regions_in t)
 none_starts t addr none = sym (any_none (starts_at addr) (regions_in t) (λ r m.
-    let p = out_from t.slots.items t.holders.codes.items t.firsts.keys r m in
+    let p = out_from t.slots.items t.holders t.firsts.keys r m in
     let o = p.2 in
     false_from_ne_true _ (λ e. none p.0 p.1 (record { there = o.there; at = ap (λ (x : Region). x.addr) o.is ∙ eqb-true r.addr addr e; out = record { of_class = refl; inside = o.low; out = o.out } }))))
 
@@ -210,11 +210,11 @@ module _ (t : Table) (i : IsSlabTable t) (addr : ℕ) (key : Key) where
       cc)
 
   -- a region that is out is what begins at its address
-  pub starts : (n : ℕ) → IsOutAt t class addr key n → Contains (regions_in t) (slab_region t.slots.items t.holders.codes.items key n)
-  starts n o = out_has t.slots.items t.holders.codes.items t.firsts.keys _ key n (record { there = o.there; low = o.out.inside; out = o.out.out; is = refl })
+  pub starts : (n : ℕ) → IsOutAt t class addr key n → Contains (regions_in t) (slab_region t.slots.items t.holders key n)
+  starts n o = out_has t.slots.items t.holders t.firsts.keys _ key n (record { there = o.there; low = o.out.inside; out = o.out.out; is = refl })
 
   pub some_starts : (n : ℕ) → IsOutAt t class addr key n → true ≡ list_any (starts_at addr) (regions_in t)
   some_starts n o = sym (any_has (starts_at addr) (regions_in t) _ (starts n o) (eq-eqb _ addr o.at))
 
-  pub found_there : (n : ℕ) → IsOutAt t class addr key n → find (starts_at addr) (regions_in t) ≡ Some (slab_region t.slots.items t.holders.codes.items key n)
-  found_there n o = ap (λ a. find (starts_at a) (regions_in t)) (sym o.at) ∙ member_found addr_of (regions_in t) _ (regions_rise t.slots.items t.holders.codes.items t.firsts.keys i.ascending i.kept) (starts n o)
+  pub found_there : (n : ℕ) → IsOutAt t class addr key n → find (starts_at addr) (regions_in t) ≡ Some (slab_region t.slots.items t.holders key n)
+  found_there n o = ap (λ a. find (starts_at a) (regions_in t)) (sym o.at) ∙ member_found addr_of (regions_in t) _ (regions_rise t.slots.items t.holders t.firsts.keys i.ascending i.kept) (starts n o)

@@ -1,5 +1,6 @@
 pub mod Words
 pub mod Regions
+pub mod Blocks
 pub mod Charting
 pub mod Opening
 pub mod Places

@@ -142,7 +142,7 @@ module _ (t : Table) (i : IsSlabTable t) (key : Key) (there : Contains t.firsts.
   pub in_items : key.minor < length t.slots.items
   in_items = let l = i.in_slots key there in let same = t.slots.ok.0 in omega arith
 
-  pub table_changed : IsSlabIn new key.major → (u : Table) → u.firsts ≡ t.firsts → u.slots.items ≡ after → vec_len u.slots ≡ vec_len t.slots → u.free ≡ t.free → u.counts ≡ t.counts → u.chart ≡ t.chart → IsMoved t.bins.keys u.bins.keys (bin_of t.slots.items key) (bin_key new.class (eqb (left_of new) 0) key) → u.bins.spare ≡ t.bins.spare → vec_len u.holders.codes ≡ vec_len t.holders.codes → IsSlabTable u
+  pub table_changed : IsSlabIn new key.major → (u : Table) → u.firsts ≡ t.firsts → u.slots.items ≡ after → vec_len u.slots ≡ vec_len t.slots → u.free ≡ t.free → u.counts ≡ t.counts → u.chart ≡ t.chart → IsMoved t.bins.keys u.bins.keys (bin_of t.slots.items key) (bin_key new.class (eqb (left_of new) 0) key) → u.bins.spare ≡ t.bins.spare → length u.holders ≡ length t.holders → IsSlabTable u
   unfolding slabs_in
   table_changed is u firsts items len free counts chart moved spare codes =
       let keys = ap (λ (s : KeySet). s.keys) firsts in

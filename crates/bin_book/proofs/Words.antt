@@ -9,10 +9,10 @@ pub use Rattle.std.proofs.lemmas.Bool.{cases_eq, cases_lt, eq-eqb, leb-true, eqb
 pub use Rattle.std.proofs.lemmas.Bool.Decides.{nat_tests}
 pub use Rattle.std.proofs.lemmas.Cmp.{tied_itself}
 pub use Rattle.std.proofs.lemmas.Grind.{get_or-set_at}
-pub use Rattle.std.proofs.lemmas.List.{get_or-set_other, get_or-set_same, length-map, map-append, get_or_append_left, length_push, length-take-le, take_at, get_or_read_under, get_or-replicate}
+pub use Rattle.std.proofs.lemmas.List.{get_or-set_other, get_or-set_same, get_or_past, length-map, map-append, get_or_append_left, length_push, length-take-le, take_at, get_or_read_under, get_or-replicate}
 pub use Rattle.std.proofs.lemmas.List.Elements.{Contains-append_left, Contains-push, Contains-push_cases, Contains-append_cases, Contains-append_right}
-pub use Rattle.std.proofs.lemmas.List.Folds.{list_any-append}
-pub use Rattle.std.proofs.lemmas.List.FromFn.{length-range_with_len}
+pub use Rattle.std.proofs.lemmas.List.Folds.{list_any-append, sum_by-replicate}
+pub use Rattle.std.proofs.lemmas.List.FromFn.{length-range_with_len, length-map-range_with_len, get_or-map-range_with_len}
 pub use Rattle.std.proofs.lemmas.List.Kept.{IsStrictlySortedBy-filter}
 pub use Rattle.std.proofs.lemmas.List.Quantifiers.{position-Some}
 pub use Rattle.std.proofs.lemmas.List.Sums.{count_by-le-length, sum_by-append, sum_by-cons, length-filter, fails_before_first, sum_by-set}
@@ -29,6 +29,7 @@ pub use Rattle.ordered_set.proofs.Sorted.{absent, others_is, parts, present, eve
 pub use Rattle.ordered_set.specs.Keys.{IsAscending, is_above, is_below, is_from, with_key, without_key, is_other, last_of, KeySet}
 unfoldable pub use Rattle.ordered_set.specs.Keys.{key_cmp}
 pub use Rattle.ordered_set.specs.declared.key.Key.{Key}
+pub use Rattle.page_map.proofs.TableLemmas.{reads_more}
 pub use Rattle.page_map.specs.Pages.{Pages}
 pub use Rattle.size_classes.proofs.Table.{pages_bounds, size_bounds, slab_filled, at, passes_below}
 pub use Rattle.size_classes.specs.Classes.{pages_at, regions_at, size_at}
@@ -41,9 +42,9 @@ pub use native.Mathlib.Decide.{ℕ_discrete}
 pub use Rattle.bin_book.specs.Bins.{addr_of, meets_slab, place, slab_with_out, with_slab, Bins, free_of, is_all_free, with_free, with_regions_out, BinSlab, is_among, is_out, slab_places}
 pub use Rattle.bin_book.specs.Charts.{HasPage, Grows, first_at}
 pub use Rattle.bin_book.specs.ClassSets.{AreLowest, IsLeast, IsLowest}
-pub use Rattle.bin_book.specs.Holders.{holder_at}
+pub use Rattle.bin_book.specs.Holders.{AreBlocks, block_of, code_at, holder_at}
+unfoldable pub use Rattle.bin_book.specs.Holders.{codes_in}
 pub use Rattle.bin_book.specs.Tables.{AreCounts, AreFreeSlots, IsBinned, IsCharted, AreSlabKeys, IsSlabIn, IsSlabTable, bin_key, bin_of, bits_at, left_of, ones, slab_region, regions_in, slab_at, slab_of, slabs_without, IsOutAt, no_bits, regions_without, HasOut, IsLastKeyBelow, IsMoved, out_of, zeros, IsLowestOpen}
 unfoldable pub use Rattle.bin_book.specs.Tables.{out_of_slabs, slabs_in}
 pub use Rattle.bin_book.specs.declared.chart.Chart.{Chart}
-pub use Rattle.bin_book.specs.declared.holders.Holders.{Holders}
 pub use Rattle.bin_book.specs.declared.table.Table.{Table}

@@ -67,7 +67,7 @@ out_of_slabs slots codes keys = flat_map (out_of slots codes) keys
 
 -- the regions that are out of the slabs of a table, by address
 abbrev pub regions_in : Table → List Region
-regions_in t = out_of_slabs t.slots.items t.holders.codes.items t.firsts.keys
+regions_in t = out_of_slabs t.slots.items t.holders t.firsts.keys
 
 -- where a slab stands among those of its class: first those that have free regions, by first page
 abbrev pub bin_key : ℕ → Bool → Key → Key
@@ -139,7 +139,7 @@ pub record IsSlabTable (t : Table) : Type 0 where
   pub classes : length t.counts ≡ 36
   pub counts : AreCounts t.counts (slabs_in t)
   pub places : length t.firsts.keys + vec_len t.free ≡ vec_len t.slots
-  pub held : 512 * vec_len t.slots ≤ vec_len t.holders.codes
+  pub held : 512 * vec_len t.slots ≤ length t.holders
   pub small : vec_len t.slots < 2 ^ 32
   pub room : vec_len t.slots ≤ vec_capacity t.free
   pub chart_room : vec_len t.slots ≤ vec_len t.chart.firsts
@@ -171,4 +171,4 @@ slabs_without t key = map (slab_at t.slots.items) (without_key t.firsts.keys key
 
 -- the regions of these
 abbrev pub regions_without : Table → Key → List Region
-regions_without t key = out_of_slabs t.slots.items t.holders.codes.items (without_key t.firsts.keys key)
+regions_without t key = out_of_slabs t.slots.items t.holders (without_key t.firsts.keys key)

@@ -56,7 +56,7 @@ get-put numbers page None q = grind (arith, map.gets, unsigned_tied q page)
 get-put numbers page (Some n) q = grind (arith, map.gets, unsigned_tied q page)
 
 -- a list reads the same with more of what stands behind it
-reads_more : {A : Type 0} (xs : List A) (n : ℕ) (x : A) (k : ℕ) → get_or (xs ++ replicate n x) k x ≡ get_or xs k x
+pub reads_more : {A : Type 0} (xs : List A) (n : ℕ) (x : A) (k : ℕ) → get_or (xs ++ replicate n x) k x ≡ get_or xs k x
 reads_more [] zero x k = refl
 reads_more [] (suc n) x zero = refl
 reads_more [] (suc n) x (suc k) = reads_more [] n x k

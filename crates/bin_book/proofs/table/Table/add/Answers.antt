@@ -72,6 +72,6 @@ returns-clause-regions c =
     let b = c.before.before.before.before.before.before.before.before.before.before.before.before.before.before.before.before in
     let t = c.args.self.now in
     let bits = c.with_out-bits.result in
-    (λ x. out_of_slabs (set t.slots.items (sym c.from.ensures x) bits) c.give.new.self.codes.items (c.insert.ensures.keys x))
+    (λ x. out_of_slabs (set t.slots.items (sym c.from.ensures x) bits) c.give.new.self (c.insert.ensures.keys x))
     ∙ regions_added t c.requires.table c.args.class c.args.first c.from.result bits c.with_out-bits.ensures.class (new b) c.pop.new.self.items (free b) c.requires.apart c.args.client c.args.count c.requires.most c.with_out-bits.ensures.free
-    (subst IsAscending c.insert.ensures.keys c.insert.ensures.ascending) c.give.new.self.codes.items c.give.ensures.here c.give.ensures.others
+    (subst IsAscending c.insert.ensures.keys c.insert.ensures.ascending) c.give.new.self c.give.ensures.here c.give.ensures.others

@@ -13,4 +13,4 @@ returns-clause-slabs c = (table_held c.args.self.now c.requires.table c.set.new.
 pub returns-clause-regions : goal.returns-clause-regions
 returns-clause-regions c =
     let out = c.requires.out in
-    region_held c.args.self.now c.requires.table c.args.slab out.there c.args.region out.out.inside out.out.out c.set.new.self.codes.items c.args.holder c.set.ensures.here c.set.ensures.others
+    region_held c.args.self.now c.requires.table c.args.slab out.there c.args.region out.out.inside out.out.out c.set.new.self c.args.holder c.set.ensures.here c.set.ensures.others

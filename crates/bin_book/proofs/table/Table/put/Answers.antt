@@ -54,7 +54,7 @@ returns c =
     let slots = ap (set t.slots.items c.args.slab.minor) (new c.before) in record {
       table = table_changed t c.requires.table c.args.slab o.there b refl within _ refl slots refl refl refl refl (subst (IsMoved t.bins.keys c.move_key.new.bins.keys (bin_of t.slots.items c.args.slab)) (now c.before) moved) c.move_key.ensures.spare refl;
       slabs = put_slabs t c.requires.table c.args.class _ c.args.slab c.args.region o _ refl slots;
-      regions = ap (λ b. out_of_slabs (set t.slots.items c.args.slab.minor b) t.holders.codes.items t.firsts.keys) (new c.before)
+      regions = ap (λ b. out_of_slabs (set t.slots.items c.args.slab.minor b) t.holders t.firsts.keys) (new c.before)
           ∙ region_put t c.requires.table c.args.slab o.there c.args.region (inside_regions t c.requires.table c.args.class _ c.args.slab c.args.region o) (within_bits t c.requires.table c.args.class _ c.args.slab c.args.region o) within
           ∙ ap (λ n. filter (λ r. not (starts_at (place n c.args.slab.major c.args.region) r)) (regions_in t)) o.out.of_class;
       free = refl;
