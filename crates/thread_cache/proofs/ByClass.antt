@@ -1,18 +1,5 @@
 -- Lists of stacks by class, and the place at which a list has what passes a test.
-use Rattle.std.proofs.Common.{◌≡◌, ℕ, ◌+◌, ◌<◌, Bool, true, List, [], ◌∷◌, length, map, get_or, ◌++◌, take, replicate, ap, sym, refl, ◌∙◌, arith, inl, inr, Option, Some, None, IfSome, cond, not, lt-ltb, ◌||◌, subst}
-use Rattle.std.specs.List.{list_any, position, position_or_len, prefix_len, range_with_len, slice_get}
-use Rattle.std.proofs.Math.ListN.{set}
-use Rattle.std.proofs.Math.Seq.{map-set_same}
-use Rattle.std.proofs.lemmas.Bool.{cases_Bool}
-use Rattle.std.proofs.lemmas.List.{get_or-map, get_or-set_same, length-map, map-append, map-id, map-set, take_more}
-use Rattle.std.proofs.lemmas.List.FromFn.{get_or-range_with_len, length-range_with_len, map-range_with_len_more}
-use Rattle.std.proofs.lemmas.List.Quantifiers.{position-Some}
-use Rattle.std.proofs.lemmas.List.Folds.{list_any_at}
-use Rattle.std.proofs.lemmas.Option.{get_or_from_slice_get, slice_get_within}
-use Rattle.std.proofs.lemmas.Bool.Decides.{nat_tests}
-use Rattle.std.proofs.lemmas.Grind.{replicate_next}
-use Rattle.thread_cache.specs.declared.Held.{Held}
-use Rattle.thread_cache.specs.Caches.{Listed, IsByClass, addrs_of, cached_in, changed_at, dropped, has_at, is_at, is_cached, regions_of, without}
+use Rattle.thread_cache.proofs.Words.{◌≡◌, ℕ, ◌+◌, ◌<◌, Bool, true, List, [], ◌∷◌, length, map, get_or, ◌++◌, take, replicate, ap, sym, refl, ◌∙◌, arith, inl, inr, Option, Some, None, IfSome, cond, not, lt-ltb, ◌||◌, subst, list_any, position, position_or_len, prefix_len, range_with_len, slice_get, set, map-set_same, cases_Bool, get_or-map, get_or-set_same, length-map, map-append, map-id, map-set, take_more, get_or-range_with_len, length-range_with_len, map-range_with_len_more, position-Some, list_any_at, get_or_from_slice_get, slice_get_within, nat_tests, replicate_next, Held, Listed, IsByClass, addrs_of, cached_in, changed_at, dropped, has_at, is_at, is_cached, regions_of, without}
 
 -- the stacks are as many as the classes
 pub by_class_length : (stacks : List Listed) → IsByClass stacks → length stacks ≡ 41

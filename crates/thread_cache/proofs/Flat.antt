@@ -1,7 +1,5 @@
 -- Lists of which one after another is changed.
-use Rattle.std.proofs.Common.{◌≡◌, ℕ, ◌+◌, ◌<◌, List, [], ◌∷◌, ◌++◌, length, take, drop, map, get_or, ap, sym, ◌∙◌, ◌-◌, arith}
-use Rattle.std.proofs.Math.ListN.{set}
-use Rattle.std.proofs.lemmas.List.{append_assoc, drop_more, get_or-append_right, get_or-drop, length-map, length-take-le, map-append, set-append_right, take_more}
+use Rattle.thread_cache.proofs.Words.{◌≡◌, ℕ, ◌+◌, ◌<◌, List, [], ◌∷◌, ◌++◌, length, take, drop, map, get_or, ap, sym, ◌∙◌, ◌-◌, arith, set, append_assoc, drop_more, get_or-append_right, get_or-drop, length-map, length-take-le, map-append, set-append_right, take_more}
 
 -- one more list is changed
 pub one_mapped : {X : Type 0} (f : X → X) (xs : List X) (i : ℕ) (d : X) → i < length xs →

@@ -1,20 +1,5 @@
 -- The batches in which regions go back: what is so of their addresses.
-use Rattle.std.proofs.Common.{◌≡◌, ℕ, ◌+◌, ◌-◌, ◌/◌, ◌<◌, ◌≤◌, ◌==◌, ◌&&◌, ◌⊎◌, inl, inr, Bool, true, false, cond, List, [], ◌∷◌, ◌++◌, length, take, drop, map, filter, not, fold, min, Option, None, Some, refl, sym, ap, subst, ◌∙◌, arith, nat_lt, suc, zero, le-leb}
-use Rattle.std.proofs.Math.ListN.{set}
-use Rattle.std.specs.List.{Contains, flat_map, list_all}
-use Rattle.std.specs.BTreeSet.{insert_key}
-use Rattle.std.specs.Ordering.{match_ordering, nat_cmp}
-use Rattle.std.specs.declared.cmp.Ordering.TheVariants.{Less, Equal, Greater}
-use Rattle.std.specs.Option.{option_map}
-use Rattle.std.proofs.lemmas.Bool.{ltb-true, eqb-true}
-use Rattle.std.proofs.lemmas.Bool.Decides.{nat_tests}
-use Rattle.std.proofs.lemmas.List.{get_or-set_same, get_or-take, length-append, length-drop, length-take, length-take-le}
-use Rattle.std.proofs.lemmas.List.Concat.{flat_map-cons}
-use Rattle.std.proofs.lemmas.List.Elements.{filter-append, Contains-append_left, Contains-append_right}
-use Rattle.thread_cache.specs.declared.Held.{Held}
-use Rattle.thread_cache.specs.Caches.{cached_in, gone_from, is_elsewhere}
-use Rattle.thread_cache.specs.Desks.{BatchFacts, BatchesEnd, BatchesRise, IsBatch, added, addrs_in, batch_of, gave_with, going, going_with, is_cacheable, is_in, least_arena, lesser, older_count, rising_from}
-use Rattle.size_classes.specs.Classes.{slots_at}
+use Rattle.thread_cache.proofs.Words.{◌≡◌, ℕ, ◌+◌, ◌-◌, ◌/◌, ◌<◌, ◌≤◌, ◌==◌, ◌&&◌, ◌⊎◌, inl, inr, Bool, true, false, cond, List, [], ◌∷◌, ◌++◌, length, take, drop, map, filter, not, fold, min, Option, None, Some, refl, sym, ap, subst, ◌∙◌, arith, nat_lt, suc, zero, le-leb, set, Contains, flat_map, list_all, insert_key, match_ordering, nat_cmp, Less, Equal, Greater, option_map, ltb-true, eqb-true, nat_tests, get_or-set_same, get_or-take, length-append, length-drop, length-take, length-take-le, flat_map-cons, filter-append, Contains-append_left, Contains-append_right, Held, cached_in, gone_from, is_elsewhere, BatchFacts, BatchesEnd, BatchesRise, IsBatch, added, addrs_in, batch_of, gave_with, going, going_with, is_cacheable, is_in, least_arena, lesser, older_count, rising_from, slots_at}
 
 -- both tests pass
 both_true : (v w : Bool) → (v && w) ≡ true → (v ≡ true) × (w ≡ true)

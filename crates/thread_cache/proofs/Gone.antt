@@ -1,8 +1,5 @@
 -- Regions of an arena leave a list, from behind.
-use Rattle.std.proofs.Common.{◌≡◌, ℕ, ◌+◌, ◌-◌, ◌<◌, ◌≤◌, Bool, true, false, cond, List, [], ◌∷◌, ◌++◌, length, take, drop, filter, get_or, ap, sym, ◌∙◌, arith}
-use Rattle.std.specs.Prelude.{remove}
-use Rattle.std.proofs.lemmas.List.{append_assoc, drop_more, take_more, get_or-take, length-take-le}
-use Rattle.std.proofs.lemmas.List.Edits.{remove-append_right}
+use Rattle.thread_cache.proofs.Words.{◌≡◌, ℕ, ◌+◌, ◌-◌, ◌<◌, ◌≤◌, Bool, true, false, cond, List, [], ◌∷◌, ◌++◌, length, take, drop, filter, get_or, ap, sym, ◌∙◌, arith, remove, append_assoc, drop_more, take_more, get_or-take, length-take-le, remove-append_right}
 
 -- what is left once those behind a place that fail a test are gone, of the first so many
 abbrev pub left_behind : {X : Type 0} → (X → Bool) → ℕ → ℕ → List X → List X

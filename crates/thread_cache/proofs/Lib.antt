@@ -1,3 +1,4 @@
+pub mod Words
 pub mod ByClass
 pub mod Flat
 pub mod Gone

@@ -1,5 +1,4 @@
-use Rattle.std.proofs.Common.{◌≡◌, fold, take}
-use Rattle.thread_cache.specs.Desks.{added}
+use Rattle.thread_cache.proofs.Words.{◌≡◌, fold, take, added}
 use Rattle.thread_cache.proofs.batches.add_of.Given as goal
 
 -- the addresses of the regions so far

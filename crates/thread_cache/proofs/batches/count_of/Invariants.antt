@@ -1,5 +1,4 @@
-use Rattle.std.proofs.Common.{◌≡◌, ◌≤◌, count_by, take}
-use Rattle.thread_cache.specs.Desks.{is_in}
+use Rattle.thread_cache.proofs.Words.{◌≡◌, ◌≤◌, count_by, take, is_in}
 use Rattle.thread_cache.proofs.batches.count_of.Given as goal
 
 -- the regions so far

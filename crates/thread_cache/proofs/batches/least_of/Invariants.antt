@@ -1,5 +1,4 @@
-use Rattle.std.proofs.Common.{◌≡◌, fold, take}
-use Rattle.thread_cache.specs.Desks.{lesser}
+use Rattle.thread_cache.proofs.Words.{◌≡◌, fold, take, lesser}
 use Rattle.thread_cache.proofs.batches.least_of.Given as goal
 
 -- the least of the regions so far

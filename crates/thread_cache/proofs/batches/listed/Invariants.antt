@@ -1,4 +1,4 @@
-use Rattle.std.proofs.Common.{◌≡◌, ◌≤◌, ◌+◌, length, map}
+use Rattle.thread_cache.proofs.Words.{◌≡◌, ◌≤◌, ◌+◌, length, map}
 use Rattle.thread_cache.proofs.batches.listed.Given as goal
 
 -- the addresses so far, and room for the others

@@ -1,7 +1,4 @@
-use Rattle.std.proofs.Common.{◌∙◌, ap, length, sym, arith}
-use Rattle.std.specs.List.{slice_get}
-use Rattle.std.proofs.lemmas.List.{length-map}
-use Rattle.thread_cache.specs.Caches.{Listed, cached_in}
+use Rattle.thread_cache.proofs.Words.{◌∙◌, ap, length, sym, arith, slice_get, length-map, Listed, cached_in}
 use Rattle.thread_cache.proofs.ByClass.{by_class_length, list_at, read_is_cached}
 use Rattle.thread_cache.proofs.caches.Cache.cached.Goals as goal
 

@@ -1,6 +1,4 @@
-use Rattle.std.proofs.Common.{◌≡◌, ◌∙◌, ℕ, List, true, Option, IsSome, ap, sym, refl, subst}
-use Rattle.std.specs.List.{position}
-use Rattle.thread_cache.specs.Caches.{Listed, dropped, has_at, is_cached, regions_of}
+use Rattle.thread_cache.proofs.Words.{◌≡◌, ◌∙◌, ℕ, List, true, Option, IsSome, ap, sym, refl, subst, position, Listed, dropped, has_at, is_cached, regions_of}
 use Rattle.thread_cache.proofs.ByClass.{any_has_place, by_class_kept, dropped_at, has_first, place_through}
 use Rattle.thread_cache.proofs.caches.Cache.drop_cached.Goals as goal
 

@@ -1,4 +1,4 @@
-use Rattle.std.proofs.Common.{arith}
+use Rattle.thread_cache.proofs.Words.{arith}
 use Rattle.thread_cache.proofs.ByClass.{by_class_kept, by_class_length, list_at, lists_after}
 use Rattle.thread_cache.proofs.caches.Cache.drop_first_of.Goals as goal
 

@@ -1,7 +1,4 @@
-use Rattle.std.proofs.Common.{◌≡◌, ◌∙◌, ◌<◌, [], ap, sym, arith, filter, length}
-use Rattle.std.proofs.Math.ListN.{set}
-use Rattle.std.proofs.lemmas.List.{length-map}
-use Rattle.thread_cache.specs.Caches.{Listed, cached_in, is_elsewhere, regions_of}
+use Rattle.thread_cache.proofs.Words.{◌≡◌, ◌∙◌, ◌<◌, [], ap, sym, arith, filter, length, set, length-map, Listed, cached_in, is_elsewhere, regions_of}
 use Rattle.thread_cache.proofs.ByClass.{by_class_kept, by_class_length, list_at, lists_after}
 use Rattle.thread_cache.proofs.Flat.{one_mapped, unmapped_here}
 use Rattle.thread_cache.proofs.caches.Cache.drop_of.Goals as goal

@@ -1,5 +1,4 @@
-use Rattle.std.proofs.Common.{◌≡◌, ◌++◌, take, drop, filter, map}
-use Rattle.thread_cache.specs.Caches.{IsByClass, is_elsewhere, regions_of}
+use Rattle.thread_cache.proofs.Words.{◌≡◌, ◌++◌, take, drop, filter, map, IsByClass, is_elsewhere, regions_of}
 use Rattle.thread_cache.proofs.caches.Cache.drop_of.Given as goal
 
 -- in the classes so far only regions of other arenas are left

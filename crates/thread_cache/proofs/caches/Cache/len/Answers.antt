@@ -1,5 +1,4 @@
-use Rattle.std.proofs.Common.{ap, arith}
-use Rattle.size_classes.specs.Classes.{slots_at}
+use Rattle.thread_cache.proofs.Words.{ap, arith, slots_at}
 use Rattle.thread_cache.proofs.ByClass.{class_at}
 use Rattle.thread_cache.proofs.caches.Cache.len.Goals as goal
 

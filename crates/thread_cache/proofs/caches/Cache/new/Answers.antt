@@ -1,4 +1,4 @@
-use Rattle.std.proofs.Common.{arith}
+use Rattle.thread_cache.proofs.Words.{arith}
 use Rattle.thread_cache.proofs.ByClass.{one_more}
 use Rattle.thread_cache.proofs.caches.Cache.new.Goals as goal
 

@@ -1,6 +1,4 @@
-use Rattle.std.proofs.Common.{◌≡◌, ◌≤◌, [], map, replicate, vec_capacity}
-use Rattle.std.specs.List.{range_with_len}
-use Rattle.thread_cache.specs.Caches.{Listed, regions_of}
+use Rattle.thread_cache.proofs.Words.{◌≡◌, ◌≤◌, [], map, replicate, vec_capacity, range_with_len, Listed, regions_of}
 use Rattle.thread_cache.proofs.caches.Cache.new.Given as goal
 
 abbrev pub invariant-loop-class : goal.invariant-loop-class

@@ -1,5 +1,4 @@
-use Rattle.std.proofs.Common.{ap, arith}
-use Rattle.size_classes.specs.Classes.{slots_at}
+use Rattle.thread_cache.proofs.Words.{ap, arith, slots_at}
 use Rattle.thread_cache.proofs.ByClass.{by_class_length, class_at, list_at}
 use Rattle.thread_cache.proofs.caches.Cache.older_half.Goals as goal
 

@@ -1,4 +1,4 @@
-use Rattle.std.proofs.Common.{arith}
+use Rattle.thread_cache.proofs.Words.{arith}
 use Rattle.thread_cache.proofs.ByClass.{by_class_kept, by_class_length, class_at, list_at, lists_after}
 use Rattle.thread_cache.proofs.caches.Cache.put_cached.Goals as goal
 

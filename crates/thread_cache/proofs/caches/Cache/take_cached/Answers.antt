@@ -1,6 +1,4 @@
-use Rattle.std.proofs.Common.{arith, [], Option, None, Some, IfNone}
-use Rattle.std.proofs.lemmas.List.{set-get_or}
-use Rattle.thread_cache.specs.Caches.{regions_of}
+use Rattle.thread_cache.proofs.Words.{arith, [], Option, None, Some, IfNone, set-get_or, regions_of}
 use Rattle.thread_cache.proofs.ByClass.{by_class_kept, by_class_length, list_after, list_at, lists_after}
 use Rattle.thread_cache.proofs.caches.Cache.take_cached.Goals as goal
 

@@ -1,6 +1,4 @@
-use Rattle.std.proofs.Common.{◌≡◌, ◌<◌, [], fold, length, take}
-use Rattle.std.specs.List.{flat_map}
-use Rattle.thread_cache.specs.Desks.{added}
+use Rattle.thread_cache.proofs.Words.{◌≡◌, ◌<◌, [], fold, length, take, flat_map, added}
 use Rattle.thread_cache.proofs.desks.Desk.cached_in.Given as goal
 
 -- the addresses of the classes so far

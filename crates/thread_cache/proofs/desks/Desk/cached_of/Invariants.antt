@@ -1,6 +1,4 @@
-use Rattle.std.proofs.Common.{◌≡◌, ◌<◌, ◌≤◌, ◌*◌, count_by, length, take}
-use Rattle.std.specs.List.{flat_map}
-use Rattle.thread_cache.specs.Desks.{is_in}
+use Rattle.thread_cache.proofs.Words.{◌≡◌, ◌<◌, ◌≤◌, ◌*◌, count_by, length, take, flat_map, is_in}
 use Rattle.thread_cache.proofs.desks.Desk.cached_of.Given as goal
 
 -- those of the classes so far

@@ -1,8 +1,4 @@
-use Rattle.std.proofs.Common.{ℕ, List, ◌≡◌, ◌∙◌, ap, filter, rules}
-use Rattle.std.proofs.lemmas.Map.Made.{filter_same_pairs}
-use Rattle.thread_cache.specs.declared.Held.{Held}
-use Rattle.thread_cache.specs.Caches.{is_elsewhere}
-use Rattle.thread_cache.specs.Desks.{DeskFacts, DeskSeen, discarding}
+use Rattle.thread_cache.proofs.Words.{ℕ, List, ◌≡◌, ◌∙◌, ap, filter, rules, filter_same_pairs, Held, is_elsewhere, DeskFacts, DeskSeen, discarding}
 use Rattle.thread_cache.proofs.desks.Desk.discard.Goals as goal
 
 pub returns-clause-facts : goal.returns-clause-facts

@@ -1,6 +1,4 @@
-use Rattle.std.proofs.Common.{◌≡◌, ◌<◌, None, fold, length, take}
-use Rattle.std.specs.List.{flat_map}
-use Rattle.thread_cache.specs.Desks.{lesser}
+use Rattle.thread_cache.proofs.Words.{◌≡◌, ◌<◌, None, fold, length, take, flat_map, lesser}
 use Rattle.thread_cache.proofs.desks.Desk.least_cached.Given as goal
 
 -- the least of the classes so far

@@ -1,6 +1,4 @@
-use Rattle.std.proofs.Common.{◌≡◌, ◌∙◌, ap, sym, refl, Some}
-use Rattle.std.specs.List.{position, remove}
-use Rattle.thread_cache.specs.Caches.{Listed, is_at, without_place}
+use Rattle.thread_cache.proofs.Words.{◌≡◌, ◌∙◌, ap, sym, refl, Some, position, remove, Listed, is_at, without_place}
 use Rattle.thread_cache.proofs.ByClass.{any_has_place}
 use Rattle.thread_cache.proofs.stacks.Stack.drop_at.Goals as goal
 

@@ -1,8 +1,4 @@
-use Rattle.std.proofs.Common.{◌≡◌, ◌∙◌, ℕ, ◌+◌, ◌-◌, ◌<◌, List, Bool, true, false, ap, sym, subst, length, take, get_or, not, ◌==◌, arith, ◌≤◌, remove}
-use Rattle.std.proofs.lemmas.Bool.Decides.{nat_tests}
-use Rattle.std.proofs.lemmas.List.{get_or_append_left, length-take-le, get_or-take}
-use Rattle.thread_cache.specs.declared.Held.{Held}
-use Rattle.thread_cache.specs.Caches.{is_elsewhere}
+use Rattle.thread_cache.proofs.Words.{◌≡◌, ◌∙◌, ℕ, ◌+◌, ◌-◌, ◌<◌, List, Bool, true, false, ap, sym, subst, length, take, get_or, not, ◌==◌, arith, ◌≤◌, remove, nat_tests, get_or_append_left, length-take-le, get_or-take, Held, is_elsewhere}
 use Rattle.thread_cache.proofs.Gone.{left_behind, one_goes, one_stays}
 use Rattle.thread_cache.proofs.stacks.Stack.drop_first_of.Goals as goal
 

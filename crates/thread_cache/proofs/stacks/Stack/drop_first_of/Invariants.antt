@@ -1,5 +1,4 @@
-use Rattle.std.proofs.Common.{◌≡◌, ◌++◌, take, drop, filter}
-use Rattle.thread_cache.specs.Caches.{IsStack, is_elsewhere}
+use Rattle.thread_cache.proofs.Words.{◌≡◌, ◌++◌, take, drop, filter, IsStack, is_elsewhere}
 use Rattle.thread_cache.proofs.stacks.Stack.drop_first_of.Given as goal
 
 -- those before the place are as they were, and behind them are those that stay

@@ -1,6 +1,4 @@
-use Rattle.std.proofs.Common.{◌∙◌, ap, filter, rules}
-use Rattle.std.proofs.lemmas.Fn.{filter_same}
-use Rattle.thread_cache.specs.Caches.{Listed, is_elsewhere}
+use Rattle.thread_cache.proofs.Words.{◌∙◌, ap, filter, rules, filter_same, Listed, is_elsewhere}
 use Rattle.thread_cache.proofs.stacks.Stack.drop_of.Goals as goal
 
 pub returns-clause-regions : goal.returns-clause-regions

@@ -1,6 +1,4 @@
-use Rattle.std.proofs.Common.{◌+◌, ◌∙◌, ◌<◌, ◌++◌, ◌∷◌, [], take, length, ap, sym, arith}
-use Rattle.std.proofs.lemmas.List.{append_assoc}
-use Rattle.thread_cache.specs.Caches.{Listed, addrs_of}
+use Rattle.thread_cache.proofs.Words.{◌+◌, ◌∙◌, ◌<◌, ◌++◌, ◌∷◌, [], take, length, ap, sym, arith, append_assoc, Listed, addrs_of}
 use Rattle.thread_cache.proofs.ByClass.{addrs_more}
 use Rattle.thread_cache.proofs.stacks.Stack.older_half.Goals as goal
 

@@ -1,6 +1,4 @@
-use Rattle.std.proofs.Common.{◌≡◌, ◌-◌, ◌/◌, ◌≤◌, ◌++◌, take}
-use Rattle.size_classes.specs.Classes.{slots_at}
-use Rattle.thread_cache.specs.Caches.{addrs_of}
+use Rattle.thread_cache.proofs.Words.{◌≡◌, ◌-◌, ◌/◌, ◌≤◌, ◌++◌, take, slots_at, addrs_of}
 use Rattle.thread_cache.proofs.stacks.Stack.older_half.Given as goal
 
 abbrev pub invariant-loop-i : goal.invariant-loop-i
