@@ -1,11 +1,5 @@
 -- Shelves whose accounts are read off a list of boxes.
-use Rattle.std.proofs.Common.{◌≡◌, ◌≢◌, ℕ, ◌<◌, List, length, map, get_or, ap, refl, subst, sym, ◌∙◌, arith}
-use Rattle.std.proofs.Math.ListN.{set, length-set}
-use Rattle.std.proofs.lemmas.List.{get_or-map, get_or_read_under, get_or-set_other, get_or-set_same, map-set}
-use Rattle.hook_api.specs.declared.books.Book.{Book}
-use Rattle.hook_api.specs.Asked.{AskFacts}
-use Rattle.hook_api.specs.Hooks.{Account}
-use Rattle.hook_api.specs.Shelf.{AskStep, BoxStep, box_at, new_book, no_account}
+use Rattle.hook_api.proofs.Words.{◌≡◌, ◌≢◌, ℕ, ◌<◌, List, length, map, get_or, ap, refl, subst, sym, ◌∙◌, arith, set, length-set, get_or-map, get_or_read_under, get_or-set_other, get_or-set_same, map-set, Book, AskFacts, Account, AskStep, BoxStep, box_at, new_book, no_account}
 
 -- what is read off a list of boxes is read off the box
 pub read_at : {X Y : Type 0} (f : X → Y) (xs : List X) (i : ℕ) (x : X) (d : Y) → i < length xs → x ≡ get_or xs i x → get_or (map f xs) i d ≡ f x

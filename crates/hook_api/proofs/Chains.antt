@@ -1,16 +1,5 @@
 -- Chains of asks.
-use Rattle.std.proofs.Common.{◌≡◌, ◌≢◌, ℕ, ◌+◌, ◌==◌, Bool, true, false, List, [], ◌∷◌, ◌++◌, count_by, map, ap, subst, sym, refl, arith, append_assoc, append-nil, not, cond, filter, Option, Some, None, ◌≤◌}
-use Rattle.std.proofs.lemmas.Bool.{eqb-false, eqb-true}
-use Rattle.std.proofs.lemmas.Grind.{common_steps}
-use Rattle.std.proofs.lemmas.List.Sums.{sum_by-cons}
-use Rattle.hook_api.specs.declared.books.Book.{Book}
-use Rattle.hook_api.specs.declared.plans.Kind.{Kind}
-use Rattle.hook_api.specs.Asked.{AskFacts, heard_in}
-use Rattle.hook_api.specs.Counts.{capped}
-use Rattle.hook_api.specs.Hooks.{Account, Tells}
-use Rattle.hook_api.specs.Shelf.{AskStep, BoxState, BoxStep, PlanStep, Shelf, box_at, count_of}
-use Rattle.space_model.specs.declared.Heard.{Heard}
-use Rattle.hook_api.specs.Chain.{AskChain, AskChainAtEachBox, BoxChain, Chain, ChainAtEachBox, Event, EventStep, Made, PlanSet, TellsAll, asks_in, asks_of}
+use Rattle.hook_api.proofs.Words.{◌≡◌, ◌≢◌, ℕ, ◌+◌, ◌==◌, Bool, true, false, List, [], ◌∷◌, ◌++◌, count_by, map, ap, subst, sym, refl, arith, append_assoc, append-nil, not, cond, filter, Option, Some, None, ◌≤◌, eqb-false, eqb-true, common_steps, sum_by-cons, Book, Kind, AskFacts, heard_in, capped, Account, Tells, AskStep, BoxState, BoxStep, PlanStep, Shelf, box_at, count_of, Heard, AskChain, AskChainAtEachBox, BoxChain, Chain, ChainAtEachBox, Event, EventStep, Made, PlanSet, TellsAll, asks_in, asks_of}
 
 -- a chain and one more event
 pub chain_extended : (old mid new : Shelf) (events : List Event) (event : Event)

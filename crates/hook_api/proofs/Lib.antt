@@ -1,3 +1,4 @@
+pub mod Words
 pub mod Boxes
 pub mod Chains
 pub mod Pairing

@@ -1,15 +1,6 @@
 -- Entries beside their asks, when one more comes.
-use Rattle.std.proofs.Common.{◌≡◌, ℕ, suc, ◌+◌, ◌<◌, cond, subst, Bool, true, false, List, [], ◌∷◌, ◌++◌, length, count_by, Option, None, Some, IfSome, IsSomeAnd, is_some, refl, sym, ap, ◌∙◌, arith}
-use Rattle.std.proofs.lemmas.List.{length-append}
-use Rattle.std.proofs.lemmas.List.Sums.{sum_by-append, sum_by-cons}
-use Rattle.space_model.specs.declared.asks.Heard.{Heard}
-use Rattle.space_model.specs.declared.entries.Op.{Op}
-use Rattle.hook_api.specs.Asked.{AskFacts, heard_in}
-use Rattle.hook_api.specs.Kept.{IsKept, KeptFacts, heard_of}
-use Rattle.hook_api.specs.Deeds.{IsDeedOf, carried, op_of}
-use Rattle.hook_api.specs.Kepts.{IsPaired, ask_of, asks_after, asks_in, kept_of, paired}
-use Rattle.hook_api.specs.declared.deeds.Deed.{Deed}
-use Rattle.hook_api.specs.declared.slots.Slot.{Slot}
+use Rattle.hook_api.proofs.Words.{◌≡◌, ℕ, suc, ◌+◌, ◌<◌, cond, subst, Bool, true, false, List, [], ◌∷◌, ◌++◌, length, count_by, Option, None, Some, IfSome, IsSomeAnd, is_some, refl, sym, ap, ◌∙◌, arith, length-append, sum_by-append, sum_by-cons, Heard, Op, AskFacts, heard_in, IsKept, heard_of, IsDeedOf, carried, op_of, IsPaired, asks_after, kept_of, paired, Deed, Slot}
+use Rattle.hook_api.specs.Kepts.{asks_in}
 
 -- an entry that carries an ask carries what its ask heard
 heard_carried : (h : Option Heard) (asked : Option AskFacts) → IfSome h (λ heard. IsSomeAnd asked (λ made. heard_in made ≡ heard)) → IfSome h (λ heard. heard ≡ carried asked)

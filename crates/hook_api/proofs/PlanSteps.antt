@@ -1,9 +1,6 @@
 -- Plans over the asks of their kind.
-use Rattle.std.proofs.Common.{◌≡◌, ◌↔◌, ℕ, zero, suc, IsTrue, ap, arith, refl, inl, inr}
-use Rattle.std.proofs.lemmas.Bool.{eqb-true, eq-eqb}
-use Rattle.std.proofs.Math.Dec.{eqb-suc-zero}
-use Rattle.hook_api.specs.declared.plans.Plan.TheVariants.{Pass, After, All}
-use Rattle.hook_api.specs.Plans.{PlanRefusesNth, next_plan, plan_after, plan_of, refuses_next}
+use Rattle.hook_api.proofs.Words.{◌≡◌, ◌↔◌, ℕ, zero, suc, IsTrue, ap, arith, refl, inl, inr, eqb-true, eq-eqb, eqb-suc-zero, Pass, After, PlanRefusesNth, next_plan, plan_after, plan_of, refuses_next}
+use Rattle.hook_api.specs.declared.plans.Plan.TheVariants.{All}
 
 -- where nothing is refused, nothing ever is
 pub pass_stays : (asks : ℕ) → plan_after Pass asks ≡ Pass

@@ -1,12 +1,5 @@
 -- Sums over the views of all seats, where one view is replaced.
-use Rattle.std.proofs.Common.{◌≡◌, ℕ, ◌+◌, ◌<◌, ◌≤◌, ◌≢◌, zero, suc, List, [], ◌∷◌, length, get_or, set, sym, ap, subst, ⊎_elim, arith, refl}
-use Rattle.std.specs.List.{sum_by}
-use Rattle.std.proofs.lemmas.List.Sums.{sum_by-cons, sum_by-set}
-use mathlib.Core.Option.{some, some-injective, some-ne-none}
-use mathlib.Core.Logic.{dite}
-use native.Mathlib.Decide.{dec_lt}
-use lib.ListN.{get_elem?}
-use Rattle.atomic_table.proofs.Lists.{at_set}
+use Rattle.hook_api.proofs.Words.{◌≡◌, ℕ, ◌+◌, ◌<◌, ◌≤◌, ◌≢◌, zero, suc, List, [], ◌∷◌, length, get_or, set, sym, ap, subst, ⊎_elim, arith, refl, sum_by, sum_by-cons, sum_by-set, some, some-injective, some-ne-none, dite, dec_lt, get_elem?, at_set}
 
 module _ {A : Type 0} where
   -- an element that is there lies within the list, and is read there

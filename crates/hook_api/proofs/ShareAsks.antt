@@ -1,16 +1,5 @@
 -- One ask of a box that a seat has taken.
-use Rattle.std.proofs.Common.{◌≡◌, ℕ, ◌+◌, ◌<◌, ◌≤◌, ◌&&◌, Bool, true, false, not, cond, List, [], ◌∷◌, length, sym, refl, ap, ◌∙◌, subst, ⊎_elim, arith}
-use Rattle.atomic_table.specs.Table.{Me, rest}
-use Rattle.space_model.specs.declared.Answer.{Answer}
-use Rattle.space_model.specs.declared.Answer.TheVariants.{Refused, Done, Placed}
-use Rattle.hook_api.specs.declared.sights.Tally.{Tally}
-use Rattle.hook_api.specs.declared.sights.Sight.{Sight}
-use Rattle.hook_api.specs.Asked.{AskFacts, by_box, is_refusal}
-use Rattle.hook_api.specs.Counts.{capped, greatest}
-use Rattle.hook_api.specs.Hooks.{Account}
-use Rattle.hook_api.specs.Shelf.{BoxState, BoxStep}
-use Rattle.hook_api.specs.Shared.{IsAskOfSome}
-use Rattle.hook_api.specs.ShareSteps.{HasBox, Took, having}
+use Rattle.hook_api.proofs.Words.{◌≡◌, ℕ, ◌+◌, ◌<◌, ◌≤◌, ◌&&◌, Bool, true, false, not, cond, List, [], ◌∷◌, length, sym, refl, ap, ◌∙◌, subst, ⊎_elim, arith, Me, rest, Answer, Refused, Done, Placed, Tally, Sight, AskFacts, by_box, is_refusal, capped, greatest, Account, BoxState, BoxStep, IsAskOfSome, HasBox, Took, having}
 
 -- a box counts each refusal of its own
 counts_refusal : (from after : BoxState) (asked : AskFacts) (planned : Bool) (answer : Answer) → BoxStep from asked after → asked.planned ≡ planned → asked.answer ≡ answer

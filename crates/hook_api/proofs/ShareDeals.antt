@@ -1,22 +1,5 @@
 -- How seats are dealt and gathered, and what boxes come back with.
-use Rattle.std.proofs.Common.{◌≡◌, ℕ, ◌-◌, ◌<◌, zero, suc, inl, inr, Bool, false, set, List, [], ◌∷◌, ◌++◌, map, length, get_or, take, replicate, sym, refl, ap, ◌∙◌, subst, arith, append_assoc, Some}
-use mathlib.Core.Option.{some, some-injective, some-ne-none}
-use mathlib.Core.Logic.{dite}
-use native.Mathlib.Decide.{dec_le}
-use lib.ListN.{get_elem?}
-use Rattle.std.specs.List.{All, sum_by}
-use Rattle.std.proofs.lemmas.List.{map-append}
-use Rattle.std.proofs.lemmas.List.Elements.{All-pop}
-use Rattle.std.proofs.lemmas.List.Sums.{sum_by-cons}
-use Rattle.atomic_table.specs.Table.{State}
-use Rattle.hook_api.specs.declared.seat.AskSeat.{AskSeat}
-use Rattle.hook_api.specs.declared.sights.Sight.{Sight}
-use Rattle.hook_api.specs.Counts.{greatest}
-use Rattle.hook_api.specs.Shelf.{BoxState, no_account, no_box}
-use Rattle.hook_api.specs.Seats.{refused_at, tallies_of}
-use Rattle.hook_api.specs.Shared.{HasCounted}
-use Rattle.hook_api.specs.Sharing.{Covers, Rule, blank, clients_of, refused_by, refused_in}
-use Rattle.hook_api.specs.ShareSteps.{first_part, idle, joined, later_part, spent}
+use Rattle.hook_api.proofs.Words.{◌≡◌, ℕ, ◌-◌, ◌<◌, zero, suc, Bool, false, set, List, [], ◌∷◌, ◌++◌, map, length, get_or, take, replicate, sym, refl, ap, ◌∙◌, subst, arith, append_assoc, Some, some, some-injective, some-ne-none, get_elem?, All, sum_by, map-append, All-pop, sum_by-cons, State, AskSeat, Sight, BoxState, no_account, no_box, refused_at, tallies_of, Covers, Rule, blank, clients_of, refused_by, refused_in, first_part, idle, joined, later_part, spent}
 use Rattle.hook_api.proofs.SeatSums.{at_within}
 use Rattle.hook_api.proofs.ShareKeeps.{settled}
 

@@ -1,24 +1,5 @@
 -- Each step on the locks of a shared shelf keeps the rule.
-use Rattle.std.proofs.Common.{◌≡◌, ℕ, ◌+◌, ◌<◌, ◌≤◌, ◌≢◌, zero, suc, true, false, cond, eqb, List, [], ◌∷◌, ◌++◌, map, length, get_or, set, take, drop, replicate, min, sym, refl, ap, ◌∙◌, subst, ⊎_elim, arith, length-set, Option, Some, None}
-use mathlib.Core.Option.{none, some, some-injective, some-ne-none}
-use mathlib.Core.Logic.{dite}
-use native.Mathlib.Decide.{ℕ_discrete}
-use lib.ListN.{get_elem?}
-use lib.Seq.{set-get_or}
-use prog.Atomic.{either}
-use Rattle.std.proofs.lemmas.Bool.Decides.{nat_tests}
-use Rattle.std.proofs.lemmas.List.{get_or-set_other, get_or-set_same, length-append, length-replicate}
-use Rattle.std.proofs.lemmas.List.Sums.{sum_by-cons, sum_by-append, sum_by_push, sum_by-take-drop}
-use Rattle.std.specs.List.{sum_by}
-use Rattle.atomic_table.specs.Table.{State, Me, Act, rest, Valid, carried_after, step, keeps, takes, gives, stepped, Allows, Splits, Joins, opening}
-use Rattle.atomic_table.proofs.Lists.{set_else, set_here, set_again, at_snoc, some_there, exchanged}
-use Rattle.hook_api.specs.declared.sights.Tally.{Tally}
-use Rattle.hook_api.specs.declared.sights.Taken.{Taken}
-use Rattle.hook_api.specs.declared.sights.Sight.{Sight}
-use Rattle.hook_api.specs.Counts.{capped}
-use Rattle.hook_api.specs.Shelf.{BoxState}
-use Rattle.hook_api.specs.Sharing.{blank, opening_sight, refused_in, refused_by, clients_of, taken_is, takers, Covers, Rule}
-use Rattle.hook_api.specs.ShareSteps.{most, with_refusal, HasBox, gave, counted, idle, having, took, waited, first_part, later_part, joined, spent}
+use Rattle.hook_api.proofs.Words.{◌≡◌, ℕ, ◌+◌, ◌<◌, ◌≤◌, ◌≢◌, zero, suc, true, false, cond, eqb, List, [], ◌∷◌, ◌++◌, map, length, get_or, set, take, drop, replicate, min, sym, refl, ap, ◌∙◌, subst, ⊎_elim, arith, length-set, Option, Some, None, none, some, some-injective, some-ne-none, dite, ℕ_discrete, get_elem?, set-get_or, either, nat_tests, get_or-set_other, get_or-set_same, length-append, length-replicate, sum_by-cons, sum_by-append, sum_by_push, sum_by-take-drop, sum_by, State, Me, Act, rest, Valid, carried_after, step, keeps, takes, gives, stepped, Allows, Splits, Joins, opening, set_else, set_here, set_again, at_snoc, some_there, exchanged, Tally, Taken, Sight, capped, BoxState, blank, opening_sight, refused_in, refused_by, clients_of, taken_is, takers, Covers, Rule, most, with_refusal, HasBox, gave, counted, idle, having, took, waited, first_part, later_part, joined, spent}
 use Rattle.hook_api.proofs.SeatSums.{sum_set, sum_one, sum_two, sum_some, set_cases, at_only}
 
 -- 0 where a word is 0, and else 1

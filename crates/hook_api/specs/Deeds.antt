@@ -1,5 +1,5 @@
 -- What entries of a journal did, beside the asks that they carry.
-use Rattle.std.specs.Prelude.{◌≡◌, ℕ, Bool, true, false, [], ◌∷◌, List, Option, None, Some, IfSome, IsSomeAnd}
+use Rattle.std.specs.Prelude.{◌≡◌, Bool, true, false, [], ◌∷◌, Option, None, Some, IfSome}
 use Rattle.space_model.specs.declared.asks.Ask.TheVariants.{Commit}
 use Rattle.space_model.specs.declared.asks.Answer.TheVariants.{Done}
 use Rattle.space_model.specs.declared.asks.Heard.{Heard}

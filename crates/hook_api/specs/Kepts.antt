@@ -1,5 +1,5 @@
 -- Entries of a journal in few bytes, and their asks in a list of their own.
-use Rattle.std.specs.Prelude.{◌≡◌, ℕ, ◌-◌, ◌≤◌, ◌<◌, ◌^◌, true, List, [], ◌∷◌, Option, None, Some, if◌then◌else◌, count_by, drop, length, min, slice_get, vec_capacity, vec_len}
+use Rattle.std.specs.Prelude.{◌≡◌, ℕ, ◌-◌, List, [], ◌∷◌, Option, None, Some, if◌then◌else◌, count_by, drop, length, min, slice_get, vec_capacity, vec_len}
 use Rattle.hook_api.specs.Asked.{AskFacts}
 use Rattle.hook_api.specs.Kept.{KeptFacts}
 use Rattle.hook_api.specs.Deeds.{carried, op_of}

@@ -1,5 +1,5 @@
 -- What the fields of an ask that was made tell.
-use Rattle.std.specs.Prelude.{◌≡◌, ℕ}
+use Rattle.std.specs.Prelude.{◌≡◌}
 use Rattle.std.proofs.Common.{◌∙◌, ap}
 use Rattle.hook_api.specs.Asked.{AskFacts, RefusalCounts}
 use Rattle.hook_api.specs.Briefs.{IsBrief, IsBriefAnswer, read_answer, read_ask, write_answer, write_ask}

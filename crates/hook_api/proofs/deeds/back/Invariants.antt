@@ -1,4 +1,4 @@
-use Rattle.std.proofs.Common.{◌≡◌, ◌+◌, ◌≤◌, length, take}
+use Rattle.hook_api.proofs.Words.{◌≡◌, ◌+◌, ◌≤◌, length, take}
 use Rattle.hook_api.proofs.deeds.back.Given as goal
 
 -- the addresses so far are in the list, and there is room for the others

@@ -1,5 +1,4 @@
-use Rattle.std.proofs.Common.{◌≡◌, ◌++◌, ℕ, length}
-use Rattle.hook_api.specs.Kepts.{IsPaired, paired}
+use Rattle.hook_api.proofs.Words.{◌≡◌, ◌++◌, length, IsPaired, paired}
 use Rattle.hook_api.proofs.kepts.list_of.Given as goal
 
 -- the list and what is left, with the asks that are left, are all entries

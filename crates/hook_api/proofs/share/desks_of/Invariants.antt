@@ -1,7 +1,4 @@
-use Rattle.std.proofs.Common.{◌≡◌, ◌+◌, ◌≤◌, ◌++◌, List, map, vec_capacity, vec_len}
-use Rattle.std.specs.Vec.Iter.{into_iter_items, into_iter_len}
-use Rattle.hook_api.specs.Hooks.{Account}
-use Rattle.hook_api.specs.Shelf.{BoxState}
+use Rattle.hook_api.proofs.Words.{◌≡◌, ◌+◌, ◌≤◌, ◌++◌, List, map, vec_capacity, vec_len, into_iter_items, into_iter_len, Account, BoxState}
 use Rattle.hook_api.proofs.share.desks_of.Given as goal
 
 abbrev pub invariant-loop-hooks : goal.invariant-loop-hooks

@@ -1,8 +1,4 @@
-use Rattle.std.proofs.Common.{◌≡◌, ℕ, ◌<◌, length, slice_index_or}
-use Rattle.hook_api.specs.declared.plans.Kind.{Kind}
-use Rattle.hook_api.specs.Orders.{had_at, no_orders}
-use Rattle.hook_api.specs.Plans.{is_set, plan_at}
-use Rattle.hook_api.specs.Shelf.{new_book}
+use Rattle.hook_api.proofs.Words.{◌≡◌, ℕ, ◌<◌, length, slice_index_or, Kind, had_at, no_orders, is_set, plan_at, new_book}
 use Rattle.hook_api.proofs.share.orders_in.Given as goal
 
 abbrev pub invariant-loop-i : goal.invariant-loop-i

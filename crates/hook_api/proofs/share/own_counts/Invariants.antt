@@ -1,5 +1,4 @@
-use Rattle.std.proofs.Common.{◌≡◌, ℕ, ◌<◌, length, slice_index, slice_index_or}
-use Rattle.hook_api.specs.Shelf.{no_box}
+use Rattle.hook_api.proofs.Words.{◌≡◌, ℕ, ◌<◌, length, slice_index, slice_index_or, no_box}
 use Rattle.hook_api.proofs.share.own_counts.Given as goal
 
 abbrev pub invariant-loop-i : goal.invariant-loop-i

@@ -1,10 +1,4 @@
-use Rattle.std.proofs.Common.{rules, ◌≡◌, ℕ, ◌+◌, ◌++◌, ◌∷◌, [], List, Bool, false, IsTrue, get_or, map, ap, sym, suc, subst, take, arith, ◌∙◌}
-use mathlib.Core.Logic.{dite}
-use native.Mathlib.Decide.{ℕ_discrete}
-use lib.ListN.{get_elem?}
-use Rattle.std.proofs.lemmas.List.{map-append, get_or-set_other}
-use Rattle.std.specs.Mem.Slots.{slots_items, slots_filled}
-use Rattle.hook_api.specs.Shelf.{BoxState}
+use Rattle.hook_api.proofs.Words.{rules, ◌≡◌, ℕ, ◌+◌, ◌++◌, ◌∷◌, [], List, Bool, false, IsTrue, get_or, map, ap, sym, suc, subst, take, arith, ◌∙◌, dite, ℕ_discrete, get_elem?, map-append, get_or-set_other, slots_items, slots_filled, BoxState}
 use Rattle.hook_api.proofs.ShareDeals.{set_false, take_more}
 use Rattle.hook_api.proofs.unshare.empty.Goals as goal
 

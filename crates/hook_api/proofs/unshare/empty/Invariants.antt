@@ -1,6 +1,4 @@
-use Rattle.std.proofs.Common.{◌≡◌, ℕ, ◌<◌, ◌≤◌, false, IsTrue, map, slice_index_or, take, vec_capacity, vec_len}
-use Rattle.std.specs.Mem.Slots.{slots_items, slots_len, slots_filled}
-use Rattle.hook_api.specs.Shelf.{BoxState}
+use Rattle.hook_api.proofs.Words.{◌≡◌, ℕ, ◌<◌, ◌≤◌, false, IsTrue, map, slice_index_or, take, vec_capacity, vec_len, slots_items, slots_len, slots_filled, BoxState}
 use Rattle.hook_api.proofs.unshare.empty.Given as goal
 
 abbrev pub invariant-loop-i : goal.invariant-loop-i

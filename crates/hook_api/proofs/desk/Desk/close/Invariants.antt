@@ -1,4 +1,4 @@
-use Rattle.std.proofs.Common.{◌≡◌}
+use Rattle.hook_api.proofs.Words.{◌≡◌}
 use Rattle.hook_api.proofs.desk.Desk.close.Given as goal
 
 abbrev pub invariant-loop-kind : goal.invariant-loop-kind

@@ -1,6 +1,4 @@
-use Rattle.std.proofs.Common.{◌∷◌, sym, subst}
-use Rattle.atomic_table.specs.Table.{rest}
-use Rattle.hook_api.specs.ShareSteps.{HasBox}
+use Rattle.hook_api.proofs.Words.{◌∷◌, sym, subst, rest, HasBox}
 use Rattle.hook_api.proofs.ShareAsks.{asked_box}
 use Rattle.hook_api.proofs.locks.Locks.ask.Goals as goal
 

@@ -1,4 +1,4 @@
-use Rattle.std.proofs.Common.{ap}
+use Rattle.hook_api.proofs.Words.{ap}
 use Rattle.hook_api.proofs.ShareDeals.{covered}
 use Rattle.hook_api.proofs.locks.Locks.close.Goals as goal
 

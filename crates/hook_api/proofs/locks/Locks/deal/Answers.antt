@@ -1,8 +1,4 @@
-use Rattle.std.proofs.Common.{rules, ◌≡◌, ◌+◌, ◌-◌, ◌<◌, [], replicate, ap, ◌∙◌, suc, arith}
-use Rattle.std.proofs.lemmas.List.Elements.{All-push, All-same}
-use Rattle.hook_api.specs.Shared.{IsNewSeat}
-use Rattle.hook_api.specs.Sharing.{blank}
-use Rattle.hook_api.specs.ShareSteps.{first_part, idle, later_part}
+use Rattle.hook_api.proofs.Words.{rules, ◌≡◌, ◌+◌, ◌-◌, ◌<◌, [], replicate, ap, ◌∙◌, suc, arith, All-push, All-same, IsNewSeat, blank, first_part, idle, later_part}
 use Rattle.hook_api.proofs.ShareKeeps.{splits}
 use Rattle.hook_api.proofs.ShareDeals.{parted}
 use Rattle.hook_api.proofs.locks.Locks.deal.Goals as goal

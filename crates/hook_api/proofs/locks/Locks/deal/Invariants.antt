@@ -1,8 +1,4 @@
-use Rattle.std.proofs.Common.{◌≡◌, ◌+◌, ◌-◌, ◌≤◌, [], replicate, vec_capacity, vec_len, suc}
-use Rattle.std.specs.List.{All}
-use Rattle.hook_api.specs.Shared.{IsNewSeat}
-use Rattle.hook_api.specs.Sharing.{blank}
-use Rattle.hook_api.specs.ShareSteps.{idle}
+use Rattle.hook_api.proofs.Words.{◌≡◌, ◌+◌, ◌-◌, ◌≤◌, [], replicate, vec_capacity, vec_len, suc, All, IsNewSeat, blank, idle}
 use Rattle.hook_api.proofs.locks.Locks.deal.Given as goal
 
 abbrev pub invariant-loop : goal.invariant-loop

@@ -1,6 +1,4 @@
-use Rattle.std.proofs.Common.{rules, ◌≡◌, ◌++◌, ap, ◌∙◌}
-use Rattle.hook_api.specs.Seats.{tallies_of}
-use Rattle.hook_api.specs.declared.sights.Sight.{Sight}
+use Rattle.hook_api.proofs.Words.{rules, ◌≡◌, ◌++◌, ap, ◌∙◌, tallies_of, Sight}
 use Rattle.hook_api.proofs.ShareKeeps.{joins}
 use Rattle.hook_api.proofs.ShareDeals.{gathered, last_and_others, view_of_seat}
 use Rattle.hook_api.proofs.locks.Locks.gather.Goals as goal

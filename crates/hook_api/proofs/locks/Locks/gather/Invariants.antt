@@ -1,6 +1,4 @@
-use Rattle.std.proofs.Common.{◌≡◌, ◌++◌, [], None, vec_len}
-use Rattle.std.specs.List.{All}
-use Rattle.hook_api.specs.Seats.{tallies_of}
+use Rattle.hook_api.proofs.Words.{◌≡◌, ◌++◌, [], None, vec_len, All, tallies_of}
 use Rattle.hook_api.proofs.locks.Locks.gather.Given as goal
 
 abbrev pub invariant-loop-seat : goal.invariant-loop-seat

@@ -1,5 +1,4 @@
-use Rattle.std.proofs.Common.{rules, subst}
-use Rattle.hook_api.specs.ShareSteps.{HasBox}
+use Rattle.hook_api.proofs.Words.{rules, subst, HasBox}
 use Rattle.hook_api.proofs.ShareKeeps.{gives_kept, gives_counted}
 use Rattle.hook_api.proofs.locks.Locks.give.Goals as goal
 

@@ -1,4 +1,4 @@
-use Rattle.std.proofs.Common.{rules}
+use Rattle.hook_api.proofs.Words.{rules}
 use Rattle.hook_api.proofs.ShareKeeps.{waits_for}
 use Rattle.hook_api.proofs.locks.Locks.take.Goals as goal
 

@@ -1,4 +1,4 @@
-use Rattle.std.proofs.Common.{◌≡◌}
+use Rattle.hook_api.proofs.Words.{◌≡◌}
 use Rattle.hook_api.proofs.locks.Locks.take_soon.Given as goal
 
 abbrev pub invariant-loop : goal.invariant-loop

@@ -1,4 +1,4 @@
-use Rattle.std.proofs.Common.{rules}
+use Rattle.hook_api.proofs.Words.{rules}
 use Rattle.hook_api.proofs.ShareKeeps.{takes_box}
 use Rattle.hook_api.proofs.locks.Locks.try_take.Goals as goal
 

@@ -1,7 +1,4 @@
-use Rattle.std.proofs.Common.{◌≡◌, ℕ, ◌<◌, length, slice_index_or}
-use Rattle.hook_api.specs.declared.plans.Plan.TheVariants.{Pass}
-use Rattle.hook_api.specs.Orders.{no_order}
-use Rattle.hook_api.specs.Plans.{is_set}
+use Rattle.hook_api.proofs.Words.{◌≡◌, ℕ, ◌<◌, length, slice_index_or, Pass, no_order, is_set}
 use Rattle.hook_api.proofs.orders.Orders.of.Given as goal
 
 abbrev pub invariant-loop-i : goal.invariant-loop-i

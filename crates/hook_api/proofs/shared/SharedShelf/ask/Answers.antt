@@ -1,5 +1,4 @@
-use Rattle.std.proofs.Common.{sym, subst}
-use Rattle.hook_api.specs.Shared.{IsAskOfSome}
+use Rattle.hook_api.proofs.Words.{sym, subst, IsAskOfSome}
 use Rattle.hook_api.proofs.ShareAsks.{asked_at}
 use Rattle.hook_api.proofs.shared.SharedShelf.ask.Goals as goal
 

@@ -1,6 +1,4 @@
-use Rattle.std.proofs.Common.{arith, map, rules, set, subst}
-use Rattle.std.proofs.lemmas.Grind.{common_steps}
-use Rattle.hook_api.specs.Shelf.{AskStep, Shelf}
+use Rattle.hook_api.proofs.Words.{arith, map, rules, set, subst, common_steps, AskStep, Shelf}
 use Rattle.hook_api.proofs.Boxes.{ask_step_at}
 use Rattle.hook_api.proofs.shelf.HookShelf.ask.Goals as goal
 

@@ -1,8 +1,4 @@
-use Rattle.std.proofs.Common.{◌≡◌, ◌<◌, ◌∙◌, List, get_or, length, slice_index, ap, sym, refl, arith}
-use Rattle.hook_api.specs.declared.sights.Began.{Began}
-use Rattle.hook_api.specs.Hooks.{Account}
-use Rattle.hook_api.specs.Shelf.{BoxState, Shelf, no_account, no_box}
-use Rattle.std.proofs.lemmas.List.{length-map}
+use Rattle.hook_api.proofs.Words.{◌≡◌, ◌<◌, ◌∙◌, List, get_or, length, slice_index, ap, sym, refl, arith, Began, Account, BoxState, Shelf, no_account, no_box, length-map}
 use Rattle.hook_api.proofs.SeatSums.{at_within}
 use Rattle.hook_api.proofs.ShareKeeps.{opens, blank_refuses}
 use Rattle.hook_api.proofs.ShareDeals.{account_at}

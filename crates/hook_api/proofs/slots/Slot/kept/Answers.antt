@@ -1,5 +1,4 @@
-use Rattle.std.proofs.Common.{◌∙◌}
-use Rattle.hook_api.specs.Deeds.{carries}
+use Rattle.hook_api.proofs.Words.{◌∙◌, carries}
 use Rattle.hook_api.proofs.Pairing.{kept_again}
 use Rattle.hook_api.proofs.slots.Slot.kept.Goals as goal
 

@@ -1,4 +1,4 @@
-use Rattle.hook_api.specs.Shared.{IsSeatOf}
+use Rattle.hook_api.proofs.Words.{IsSeatOf}
 use Rattle.hook_api.proofs.tests.sharing.ask_often.Given as goal
 
 abbrev pub invariant-loop : goal.invariant-loop
