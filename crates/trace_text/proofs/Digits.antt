@@ -1,39 +1,46 @@
 -- Words of digits, as std says of them.
-use Rattle.std.proofs.Common.{◌≡◌, ℕ, zero, suc, ◌+◌, ◌*◌, ◌^◌, ◌<◌, ◌≤◌, true, ltb, leb, ◌&&◌, List, [], ◌∷◌, length, get_or, take, Some, None, inl, inr, refl, arith}
+use Rattle.std.proofs.Common.{◌≡◌, ℕ, zero, suc, ◌+◌, ◌*◌, ◌^◌, ◌<◌, ◌≤◌, true, List, [], ◌∷◌, length, get_or, take, Some, None, inl, inr, refl, arith}
 use Rattle.std.specs.Char.{digit_value, is_ascii_digit}
 use Rattle.std.specs.List.{list_all}
 use Rattle.std.specs.Str.Parse.{AllDigits, digits_value}
+use Rattle.std.proofs.Math.Nat.{mul-le-mul_right, pow-le-pow_right}
 use Rattle.std.proofs.lemmas.Bool.{and_parts, cases_lt, le-ltb}
-use Rattle.std.proofs.lemmas.Int.Digits.{digits_value_more}
-use Rattle.std.proofs.lemmas.Str.Parse.{digits_value-take-le}
 use Rattle.std.proofs.lemmas.Bool.Decides.{nat_tests}
-use Rattle.trace_text.specs.Numbers.{is_lower_hex, is_decimal, is_hexadecimal, value_in}
+use Rattle.std.proofs.lemmas.Grind.{pow_more}
+use Rattle.std.proofs.lemmas.Int.Digits.{digits_value-lt, digits_value_more}
+use Rattle.std.proofs.lemmas.List.{length-take-le}
+use Rattle.std.proofs.lemmas.Str.Parse.{digits_value-take-le}
+use Rattle.trace_text.specs.Numbers.{is_digit_in, value_in}
 
-digit_below_ten : (c : ℕ) → is_ascii_digit c ≡ true → digit_value c < 10
-digit_below_ten c h = grind (arith, nat_tests)
+-- a digit in a base is below it
+pub digit_in_below : (base c : ℕ) → 10 ≤ base → is_digit_in base c ≡ true → digit_value c < base
+digit_in_below base c low h = grind (arith, nat_tests)
 
-hex_below_sixteen : (c : ℕ) → is_lower_hex c ≡ true → digit_value c < 16
-hex_below_sixteen c h = grind (arith, nat_tests)
-
-all_decimal : (word : List ℕ) → list_all is_ascii_digit word ≡ true → AllDigits 10 word
-all_decimal [] h = tt
-all_decimal (c ∷ cs) h =
-    let parts = and_parts (is_ascii_digit c) (list_all is_ascii_digit cs) h in
-    (digit_below_ten c parts.0, all_decimal cs parts.1)
-
-all_hexadecimal : (word : List ℕ) → list_all is_lower_hex word ≡ true → AllDigits 16 word
-all_hexadecimal [] h = tt
-all_hexadecimal (c ∷ cs) h =
-    let parts = and_parts (is_lower_hex c) (list_all is_lower_hex cs) h in
-    (hex_below_sixteen c parts.0, all_hexadecimal cs parts.1)
+-- a word of digits in a base has std's digits in that base
+pub digits_in : (base : ℕ) (word : List ℕ) → 10 ≤ base → list_all (is_digit_in base) word ≡ true → AllDigits base word
+digits_in base [] low h = tt
+digits_in base (c ∷ cs) low h =
+    let parts = and_parts (is_digit_in base c) (list_all (is_digit_in base) cs) h in
+    (digit_in_below base c low parts.0, digits_in base cs low parts.1)
 
 -- a word of decimal digits has std's digits in base 10
-pub decimal_digits : (word : List ℕ) → is_decimal word ≡ true → AllDigits 10 word
-decimal_digits word h = all_decimal word (and_parts (ltb 0 (length word)) (list_all is_ascii_digit word) h).1
+pub decimal_digits : (word : List ℕ) → list_all is_ascii_digit word ≡ true → AllDigits 10 word
+decimal_digits word h = digits_in 10 word (omega arith) h
 
--- a word of hexadecimal digits has std's digits in base 16
-pub hexadecimal_digits : (word : List ℕ) → is_hexadecimal word ≡ true → AllDigits 16 word
-hexadecimal_digits word h = all_hexadecimal word (and_parts (ltb 0 (length word) && leb (length word) 16) (list_all is_lower_hex word) h).1
+-- so many digits fit whatever they are
+pub decimals_fit : (n : ℕ) → n ≤ 19 → 10 ^ n ≤ 2 ^ 64
+decimals_fit n few = let le : 10 ^ n ≤ 10 ^ 19 = pow-le-pow_right (omega arith) few in omega (arith, le)
+
+pub hexadecimals_fit : (n : ℕ) → n ≤ 16 → 16 ^ n ≤ 2 ^ 64
+hexadecimals_fit n few = pow-le-pow_right (omega arith) few
+
+-- where so many digits fit whatever they are, there is room for one more behind a front
+pub room_behind : (base : ℕ) (ds : List ℕ) (i v : ℕ) → 10 ≤ base → i < length ds → base ^ length ds ≤ 2 ^ 64 → list_all (is_digit_in base) (take i ds) ≡ true → v ≡ digits_value base (take i ds) → v * base + base ≤ 2 ^ 64
+room_behind base ds i v low lt fits h e =
+    let below : suc v ≤ base ^ i = rw (← e, length-take-le i ds (omega (arith, lt))) at (digits_value-lt base (take i ds) (digits_in base (take i ds) low h)) in
+    let times = mul-le-mul_right base below in
+    let high : base ^ (i + 1) ≤ base ^ length ds = pow-le-pow_right (omega (arith, low)) (omega (arith, lt)) in
+    omega (arith, times, pow_more base i, high, fits)
 
 -- each digit of such a word is below the base
 pub digit_below : (base : ℕ) (ds : List ℕ) (i : ℕ) → AllDigits base ds → i < length ds → digit_value (get_or ds i 0) < base

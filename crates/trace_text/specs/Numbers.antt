@@ -12,6 +12,10 @@ use Rattle.trace_text.specs.declared.faults.LineFault.TheVariants.{Words, Number
 abbrev pub is_lower_hex : ℕ → Bool
 is_lower_hex c = is_ascii_digit c || is_in_range 97 102 c
 
+-- a digit in base 10, or in base 16 a hexadecimal one in lower case
+abbrev pub is_digit_in : ℕ → ℕ → Bool
+is_digit_in base c = if base == 16 then is_lower_hex c else is_ascii_digit c
+
 -- a word of decimal digits, however many
 abbrev pub is_decimal : List ℕ → Bool
 is_decimal word = nat_lt 0 (length word) && list_all is_ascii_digit word
@@ -31,6 +35,10 @@ value_in base digits = if nat_lt (digits_value base digits) (2 ^ 64) then Some (
 -- the same number, where no 0 stands before it
 unfoldable pub number_in : ℕ → List ℕ → Result ℕ LineFault
 number_in base digits = if has_leading_zero digits then Err Number else ok_or (value_in base digits) Number
+
+-- the number that a word of digits in a base stands for
+abbrev pub numeral_of : ℕ → List ℕ → Result ℕ LineFault
+numeral_of base word = if nat_lt 0 (length word) && list_all (is_digit_in base) word then number_in base word else Err Words
 
 -- the number that a word of decimal digits stands for
 unfoldable pub decimal_of : List ℕ → Result ℕ LineFault

@@ -1,0 +1,11 @@
+use Rattle.std.proofs.Common.{◌≡◌, true, take}
+use Rattle.std.specs.List.{list_all}
+use Rattle.std.specs.Str.Parse.{digits_value}
+use Rattle.trace_text.specs.Numbers.{is_digit_in}
+use Rattle.trace_text.proofs.parts.short_value.Given as goal
+
+abbrev pub invariant-loop-byte : goal.invariant-loop-byte
+invariant-loop-byte l = record {
+  all : list_all (is_digit_in l.radix) (take l.byte-index l.word) ≡ true;
+  value : l.value ≡ digits_value l.radix (take l.byte-index l.word);
+}
