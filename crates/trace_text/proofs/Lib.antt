@@ -1,4 +1,5 @@
 pub mod Digits
 pub mod Causes
+pub mod Splits
 pub mod Shapes
 pub mod Limits

@@ -1,6 +1,6 @@
 //! Reading a line.
 
-ghost use Rattle.std.specs.Prelude.{◌≡◌, map, IfOk};
+ghost use Rattle.std.specs.Prelude.{◌≡◌, ◌<◌, map, length, None, IfOk, IfSome};
 ghost use Rattle.std.specs.List.{list_all};
 ghost use Rattle.trace_text.specs.Causes.{Gives};
 ghost use Rattle.trace_text.specs.Numbers.{decimal_of};
@@ -11,12 +11,12 @@ use crate::parts::{both_parts, decimal, is};
 use crate::ranges::{box_number, client, nth};
 use crate::verbs::{nothing, only_index, verb};
 use crate::{Line, LineFault};
+use arrayvec::ArrayVec;
 use hook_api::Kind;
-use smallvec::SmallVec;
-use std::alloc::{AllocError as NoMemory, Global};
+use std::alloc::Global;
 
-/// How many words a line has at most, if it has a shape at all. More of them take an allocation.
-const USUAL_WORDS: usize = 6;
+/// How many words a line has at most, if it has a shape at all.
+const MOST_WORDS: usize = 6;
 
 /// What a line says, which is given without its newline.
 ///
@@ -25,7 +25,7 @@ const USUAL_WORDS: usize = 6;
 /// or `_`; of a `ctl` it is 1 to 100 of these or `.`, and VALUE is 1 to 20 bytes. PTR is a NAME or `@` and an address of
 /// 1 to 16 lower-case hexadecimal digits. An `Err` is the first cause that holds, in the order of `LineFault`. Each but
 /// `NoMemory` comes exactly where it holds first.
-#[tactic(auto, unfolding(crate::specs::Grammar::line_of), using(crate::proofs::Limits::within_limits))]
+#[tactic(auto, unfolding(crate::specs::Grammar::line_of), using(crate::proofs::Limits::within_limits, crate::proofs::Shapes::long_without_shape))]
 pub fn read(alloc: Global, line: &[u8]) -> Result<Line, LineFault>
     ensures said { Gives result (line_of line.now) }
     ensures limits { IfOk result IsWithinLimits }
@@ -36,14 +36,21 @@ pub fn read(alloc: Global, line: &[u8]) -> Result<Line, LineFault>
     if is_blank(line) {
         return Ok(Line::Blank);
     }
-    let words = words(alloc, line)?;
+    let Some(words) = words(line) else {
+        return Err(LineFault::Words);
+    };
     said(alloc, words.as_slice())
 }
 
+/// Whether a line has printable bytes alone, all of which are looked at, many at once.
 fn all_printable(line: &[u8]) -> bool
     ensures { result ≡ list_all is_printable line.now }
 {
-    line.iter().all(|byte| is_printable(*byte))
+    let mut all = true;
+    for byte in line {
+        all &= is_printable(*byte);
+    }
+    all
 }
 
 fn is_printable(byte: u8) -> bool
@@ -58,10 +65,24 @@ fn is_blank(line: &[u8]) -> bool
     matches!(line, [] | [b'#', ..])
 }
 
-fn words(alloc: Global, line: &[u8]) -> Result<SmallVec<&[u8], USUAL_WORDS>, NoMemory>
-    ensures { IfOk result (λ v. map (λ w. w.now) v.items ≡ words_of line.now) }
+/// The words of a line, unless they are too many for any shape.
+fn words(line: &[u8]) -> Option<ArrayVec<&[u8], MOST_WORDS>>
+    ensures few { IfSome result (λ v. map (λ w. w.now) v.items ≡ words_of line.now) }
+    ensures many { result ≡ None → 6 < length (words_of line.now) }
 {
-    line.split(|byte| *byte == b' ').collect(alloc)
+    let mut words = ArrayVec::new();
+    let mut start = 0;
+    for at in 0..line.len() {
+        if line[at] == b' ' {
+            words.push(&line[start..at]);
+            if words.is_full() {
+                return None;
+            }
+            start = at + 1;
+        }
+    }
+    words.push(&line[start..]);
+    Some(words)
 }
 
 #[tactic(auto, unfolding(crate::specs::Grammar::said_of))]

@@ -1,15 +1,37 @@
-use Rattle.std.proofs.Common.{◌≡◌, ◌∙◌, ap, List, map, Option, Result, Ok, Err, rules, tests}
-use Rattle.std.specs.Prelude.{IfOk}
-use Rattle.std.specs.Iterator.{DrainsIf}
-use Rattle.std.proofs.lemmas.Iterator.{YieldsList, items_from_drains}
-use Rattle.std.proofs.lemmas.Iterator.Splits.{YieldsList-from_slice_split}
+use Rattle.std.proofs.Common.{◌≡◌, ◌∙◌, ◌+◌, ◌<◌, [], length, drop, sym, arith, append-nil, eq-eqb}
+use Rattle.std.proofs.lemmas.Bool.Decides.{nat_tests}
+use Rattle.trace_text.proofs.Splits.{no_space_here, no_space_more, words_cut, words_end, words_many, words_more}
+use Rattle.trace_text.proofs.reading.words.Goals.{then-line-at-eq32+else-is_full, else-line-at-eq32}
 use Rattle.trace_text.proofs.reading.words.Goals as goal
 
--- what a collection holds of references, by what they point at
-collected : {S A B V E : Type 0} {steps : S → Option A → S → Type 0} {v : A → B} {s : S} {all : List B} (items : V → List A) (r : Result V E)
-    → IfOk r (λ w. (xs : List A) × DrainsIf steps (Unit {0}) s xs × (items w ≡ xs)) → YieldsList steps v s all → IfOk r (λ w. map v (items w) ≡ all)
-collected {v = v} items (Ok w) ran road = ap (map v) ran.2 ∙ items_from_drains ran.0 ran.1 road
-collected items (Err e) ran road = tt
+pub loop-at-preserved : goal.loop-at-preserved
+loop-at-preserved c =
+    elim c.if-line-at-eq32.branch [
+      | then-line-at-eq32+else-is_full w ↦
+          let room : length w.push.new.self.items < 6 = grind (arith, nat_tests, w.if-is_full.ensures.value) in
+          record {
+            room = rw w.words-is room;
+            front = omega arith;
+            plain = rw w.start-is (no_space_here c.args.line.now (c.loop-at.at + 1));
+            so_far = rw (w.words-is, w.start-is) (words_more _ c.args.line.now c.loop-at.words.items _ w.push.new.self.items _ c.loop-at.start w.push.ensures.items c.loop-at.invariant.so_far
+                (words_cut c.args.line.now c.loop-at.start c.loop-at.at c.loop-at.invariant.front (omega arith) c.loop-at.invariant.plain (eq-eqb _ _ w.if-line-at-eq32.true)));
+          }
+      | else-line-at-eq32 w ↦ record {
+        room = rw w.words-is c.loop-at.invariant.room;
+        front = omega arith;
+        plain = rw w.start-is (no_space_more c.args.line.now c.loop-at.start c.loop-at.at c.loop-at.invariant.plain w.if-line-at-eq32.false);
+        so_far = rw (w.words-is, w.start-is) c.loop-at.invariant.so_far;
+      }
+    ]
 
-pub returns : goal.returns
-returns c = collected (λ w. w.items) c.collect.result c.collect.ensures.ran (YieldsList-from_slice_split _ _ c.args.line.now c.split.ensures.rest c.split.ensures.done c.split.ensures.closure (λ x r q k. search (rules, tests)))
+pub returns-then-is_full-clause-many : goal.returns-then-is_full-clause-many
+returns-then-is_full-clause-many c none =
+    let six : length c.push.new.self.items ≡ 6 = grind (arith, nat_tests, c.if-is_full.ensures.value) in
+    words_many _ c.args.line.now (drop (c.loop-at.at + 1) c.args.line.now) c.push.new.self.items six
+    (words_more _ c.args.line.now c.loop-at.words.items _ c.push.new.self.items _ c.loop-at.start c.push.ensures.items c.loop-at.invariant.so_far
+    (words_cut c.args.line.now c.loop-at.start c.loop-at.at c.loop-at.invariant.front (omega arith) c.loop-at.invariant.plain (eq-eqb _ _ c.if-line-at-eq32.true)))
+
+pub returns-clause-few : goal.returns-clause-few
+returns-clause-few c =
+    sym (words_more _ c.args.line.now c.loop-at.words.items _ c.push-2.new.self.items [] c.loop-at.start c.push-2.ensures.items c.loop-at.invariant.so_far
+    (words_end c.args.line.now c.loop-at.start c.loop-at.at (omega arith) c.loop-at.invariant.plain) ∙ append-nil _)
