@@ -26,6 +26,7 @@ const ADDRESS_DIGITS: usize = 16;
 
 /// Two parts of a line, or the first cause of either.
 #[tactic(auto, using(crate::proofs::Causes::both_gives), unfolding(crate::specs::Causes::both))]
+#[inline(always)]
 pub fn both_parts<A: Drop, B: Drop>(
     a: Result<A, LineFault>,
     b: Result<B, LineFault>,

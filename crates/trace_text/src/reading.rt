@@ -200,11 +200,14 @@ fn client_line(alloc: Global, first: &[u8], words: &[&[u8]]) -> Result<Line, Lin
     } else if is(word, "end") {
         nothing(rest)?;
         Ok(Line::End(client(first)?))
-    } else if is(word, "call") {
-        let (client, verb) = both_parts(client(first), verb(alloc, rest))?;
-        Ok(Line::Start { client, verb })
     } else {
+        let is_started = is(word, "call");
+        let words = if is_started { rest } else { words };
         let (client, verb) = both_parts(client(first), verb(alloc, words))?;
-        Ok(Line::Call { client, verb })
+        if is_started {
+            Ok(Line::Start { client, verb })
+        } else {
+            Ok(Line::Call { client, verb })
+        }
     }
 }
