@@ -120,6 +120,7 @@ fn memalign(alloc: Global, arguments: &[&[u8]]) -> Result<Verb, LineFault>
     Ok(Verb::Memalign { name, align, size })
 }
 
+#[inline(always)]
 fn only_pointer(alloc: Global, arguments: &[&[u8]]) -> Result<Ptr, LineFault>
     ensures { Gives result (in_one pointer_of (map (λ w. w.now) arguments.now)) }
 {
