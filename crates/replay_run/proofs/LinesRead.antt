@@ -1,42 +1,27 @@
 -- The lines of the bytes that a source had.
-use Rattle.replay_run.proofs.Words.{arith, Bool, cond, eqb, true, false, get_or, take, drop, length, ◌+◌, ◌≡◌, ◌≢◌, ◌<◌, ◌≤◌, ◌||◌, ℕ, suc, zero, List, [], ◌∷◌, ◌++◌, Some, None, Ok, refl, sym, ◌∙◌, ap, append_assoc, SaidLine, line_of, HasNoNewline, position, position_or_len, common_steps, eqb-true, drop_more, take-append-drop, All-head, All-tail, All-take, fails_before_first, position-Some, byte_limit, first_line, has_newline, ReadsTo}
+use Rattle.replay_run.proofs.Words.{arith, Bool, cond, eqb, true, false, get_or, take, drop, length, ◌+◌, ◌≡◌, ◌≢◌, ◌<◌, ◌≤◌, ◌||◌, ℕ, suc, zero, List, [], ◌∷◌, ◌++◌, Some, None, Ok, refl, sym, ◌∙◌, ap, append_assoc, SaidLine, line_of, HasNoNewline, common_steps, eqb-true, drop_more, take-append-drop, All-head, All-tail, take-length, nat_tests, PassesNowhere, NoneBefore, Passes, is_byte, byte_limit, first_line, has_newline, ReadsTo}
 
 -- ---- where a newline stands
 
--- the first newline ends the first line
-pub newline_first : (bytes : List ℕ) (n : ℕ) → position (λ (b : ℕ). eqb b 10) bytes ≡ Some n →
-    (n < length bytes) × HasNoNewline (take n bytes) × (bytes ≡ take n bytes ++ 10 ∷ drop (n + 1) bytes)
-newline_first bytes n at =
-    let told = position-Some (λ (b : ℕ). eqb b 10) bytes n 0 at in
-    let newline : get_or bytes n 0 ≡ 10 = eqb-true (get_or bytes n 0) 10 told.1 in (
-      told.0,
-      (λ k d below. let k' = told.2 k (grind (arith, common_steps)) in grind (arith, common_steps)),
-      sym (take-append-drop n bytes) ∙ ap (λ (xs : List ℕ). take n bytes ++ xs) (drop_more bytes n 0 told.0) ∙ ap (λ (x : ℕ). take n bytes ++ x ∷ drop (n + 1) bytes) newline,
-    )
-
--- where the first newline stands so far behind, none stands before
-no_newline_before : (bytes : List ℕ) (m : ℕ) → m ≤ position_or_len (λ (b : ℕ). eqb b 10) bytes → HasNoNewline (take m bytes)
-no_newline_before bytes m far = λ k d below.
+-- no newline is among bytes in which none was found
+pub none_seen : (bytes : List ℕ) (n m : ℕ) → PassesNowhere (Passes (is_byte 10) bytes) 0 n → m ≤ n → HasNoNewline (take m bytes)
+none_seen bytes n m none le = λ k d below.
     let near : k < m = grind (arith, common_steps) in
-    let plain : eqb (get_or bytes k d) 10 ≡ false = fails_before_first (λ (b : ℕ). eqb b 10) bytes k d (omega (arith, near, far)) in
-    grind (arith, common_steps)
+    let far = none k (omega arith) (omega (arith, near, le)) in
+    grind (arith, common_steps, nat_tests)
 
--- where no newline stands, the place is the end
-no_place : (bytes : List ℕ) → position (λ (b : ℕ). eqb b 10) bytes ≡ None → length bytes ≤ position_or_len (λ (b : ℕ). eqb b 10) bytes
-no_place bytes none = grind (arith, common_steps)
+-- nor among all of them
+pub none_stands : (bytes : List ℕ) → PassesNowhere (Passes (is_byte 10) bytes) 0 (length bytes) → HasNoNewline bytes
+none_stands bytes none = rw take-length at (none_seen bytes (length bytes) (length bytes) none (omega arith))
 
--- no newline is among bytes in which none is found
-pub none_stands : (bytes : List ℕ) → position (λ (b : ℕ). eqb b 10) bytes ≡ None → HasNoNewline bytes
-none_stands bytes none = λ k d below. fails_before_first (λ (b : ℕ). eqb b 10) bytes k d (omega (arith, below, no_place bytes none))
-
--- none is among the first ones where the first newline stands behind them
-pub stands_behind : (bytes : List ℕ) (n m : ℕ) → position (λ (b : ℕ). eqb b 10) bytes ≡ Some n → m ≤ n → HasNoNewline (take m bytes)
-stands_behind bytes n m at far =
-    no_newline_before bytes m (let place : position_or_len (λ (b : ℕ). eqb b 10) bytes ≡ n = grind (arith, common_steps) in omega (arith, place, far))
-
--- none is among the first bytes where none is among all
-pub none_in_front : (bytes : List ℕ) (m : ℕ) → HasNoNewline bytes → HasNoNewline (take m bytes)
-none_in_front bytes m none = All-take (λ (b : ℕ). eqb b 10 ≡ false) m bytes none
+-- the first newline ends the first line
+pub newline_first : (bytes : List ℕ) (n : ℕ) → NoneBefore (Passes (is_byte 10) bytes) 0 (length bytes) n → Passes (is_byte 10) bytes n →
+    HasNoNewline (take n bytes) × (bytes ≡ take n bytes ++ 10 ∷ drop (n + 1) bytes)
+newline_first bytes n found here = (
+  none_seen bytes n n found.before (omega arith),
+  sym (take-append-drop n bytes) ∙ ap (λ (xs : List ℕ). take n bytes ++ xs) (drop_more bytes n 0 found.high)
+      ∙ ap (λ (x : ℕ). take n bytes ++ x ∷ drop (n + 1) bytes) (eqb-true (get_or bytes n 0) 10 here),
+)
 
 -- ---- the first line
 

@@ -1,5 +1,5 @@
 -- The words of the proofs: definitions and lemmas of std, of the crates below and of this one, each under one name.
-pub use Rattle.std.specs.List.{Contains, count_by, position, position_or_len, sum_by, flat_map, range_with_len}
+pub use Rattle.std.specs.List.{Contains, count_by, sum_by, flat_map, range_with_len}
 pub use Rattle.std.specs.Option.{option_map}
 pub use Rattle.std.specs.Prelude.{slice_set}
 pub use Rattle.std.specs.Result.{IsErrAnd}
@@ -10,9 +10,10 @@ pub use Rattle.std.proofs.lemmas.Bool.{eqb-true, ltb-true}
 pub use Rattle.std.proofs.lemmas.Bool.Decides.{nat_tests}
 pub use Rattle.std.proofs.lemmas.Grind.{flat_map-append, common_steps}
 pub use Rattle.std.proofs.lemmas.List.{get_or_default, get_or_read, drop_more, take-append-drop, get_or-replicate, length-take-le, get_or-set_other, length-replicate, set-get_or, flat_map_more, get_or_past}
-pub use Rattle.std.proofs.lemmas.List.Elements.{All-filter, All-head, All-tail, All-nil, All-take}
+pub use Rattle.std.proofs.lemmas.List.Elements.{All-filter, All-head, All-tail, All-nil}
 pub use Rattle.std.proofs.lemmas.List.Quantifiers.{position-Some}
-pub use Rattle.std.proofs.lemmas.List.Sums.{sum_by-cons, fails_before_first, sum_by-le, sum_by-set, fold_push}
+pub use Rattle.std.proofs.lemmas.List.Sums.{sum_by-cons, sum_by-le, sum_by-set, fold_push}
+pub use Rattle.memchr.specs.Find.{NoneBefore, Nowhere as PassesNowhere, Passes, is_byte}
 pub use Rattle.call_table.proofs.Bounds.{chosen_stage}
 pub use Rattle.call_table.proofs.Credits.{begin-is_call, settle_place}
 pub use Rattle.call_table.proofs.Memaligns.{memaligns-are_aligned}

@@ -1,7 +1,6 @@
 //! Lines from a source.
 
-ghost use Rattle.std.specs.Prelude.{◌≤◌, ◌≡◌, ◌==◌, ◌<◌, ◌++◌, ◌↔◌, IsTrue, ℕ, List, [], drop, Option, None, Bool, length, IfOk, IfErr, IfSome, OnOk, OnErr};
-ghost use Rattle.std.specs.List.{position};
+ghost use Rattle.std.specs.Prelude.{◌≤◌, ◌≡◌, ◌<◌, ◌++◌, ◌↔◌, IsTrue, ℕ, List, [], drop, Option, None, Bool, length, IfOk, IfErr, IfSome, OnOk, OnErr};
 ghost use Rattle.edge_io.specs.Bytes.{Consumes, Keeps};
 ghost use Rattle.trace_text.specs.Lines.{HasNoNewline};
 ghost use Rattle.replay_run.specs.declared.input.Stop.TheVariants.{ReadFault};
@@ -12,6 +11,7 @@ ghost use Rattle.replay_run.specs.Input.{InBounds, IsFirst, IsReading, MetEnd, T
 
 use crate::prints::flush;
 use edge_io::{Sink, Source};
+use memchr::memchr;
 use report_text::Cause;
 use std::alloc::{AllocError as NoMemory, Global};
 use std::marker::Model;
@@ -112,13 +112,6 @@ impl Pending {
     }
 }
 
-/// Where the first newline stands.
-fn newline_in(pending: &[u8]) -> Option<usize>
-    ensures { result ≡ position (λ b. b == 10) pending.now }
-{
-    pending.iter().position(|byte| *byte == b'\n')
-}
-
 /// Where the first newline stands among the bytes of a line, or that they are too many for one.
 fn line_in(pending: &[u8]) -> Option<Found>
     ensures bounds { IfSome result (λ found. InBounds found pending.now) }
@@ -126,7 +119,7 @@ fn line_in(pending: &[u8]) -> Option<Found>
     ensures not_end { IfSome result (λ found. (left : Option (List ℕ)) (met : Bool) → MetEnd found left met) }
     ensures none { result ≡ None → (length pending.now ≤ 256) × HasNoNewline pending.now }
 {
-    match newline_in(pending) {
+    match memchr(b'\n', pending) {
         Some(place) if place <= LINE_BYTES => Some(Found::Line(place)),
         _ if pending.len() > LINE_BYTES => Some(Found::TooLong),
         _ => None,
