@@ -1,5 +1,5 @@
 -- Extents of which no two have a page in common: what is found by a page.
-use Rattle.part_book.proofs.Words.{◌≡◌, ℕ, ◌+◌, ◌<◌, ◌≤◌, true, false, cond, List, find, Option, Some, None, inl, inr, ap, ◌∙◌, arith, All, ltb, min, Contains, list_any, cases_Bool, false_from_ne_true, or_left, or_right, nat_tests, All-contains, All-weaker, list_any-from_Any, list_any_none, Part, Span, IsPlaced, end_of, has_page, meets, pages_end, begins_at, ends_at, IsApart, IsLastBelow, is_edge, all_from, find_closer, find_is, find_none, only_one}
+use Rattle.part_book.proofs.Words.{◌≡◌, ℕ, ◌+◌, ◌<◌, ◌≤◌, true, false, cond, List, find, Option, Some, None, inl, inr, ap, ◌∙◌, arith, All, ltb, min, Contains, list_any, cases_Bool, false_from_ne_true, or_left, or_right, nat_tests, All-contains, All-weaker, list_any-from_Any, list_any_none, Part, Span, IsPlaced, end_of, has_page, meets, pages_end, begins_at, ends_at, IsApart, IsLastBelow, is_edge, all_from, find_closer, find_is, find_none, found, only_one}
 
 pub placed : (parts : List Part) (p : Part) → IsApart parts → Contains parts p → IsPlaced p.span
 placed parts p apart m = All-contains (λ q. IsPlaced q.span) parts p apart.placed m
@@ -17,6 +17,13 @@ edge_has p page placed t = grind (arith, nat_tests)
 -- a page is the first or the last one of one extent
 pub one_edge : (parts : List Part) → IsApart parts → (page : ℕ) (x y : Part) → Contains parts x → Contains parts y → is_edge page x ≡ true → is_edge page y ≡ true → y ≡ x
 one_edge parts apart page x y m n t u = one_owner parts apart page x y m n (edge_has x page (placed parts x apart m) t) (edge_has y page (placed parts y apart n) u)
+
+-- which has that page
+pub held_by_edge : (parts : List Part) (page : ℕ) (p : Part) → IsApart parts → find (is_edge page) parts ≡ Some p → find (λ q. has_page page q.span) parts ≡ Some p
+held_by_edge parts page p apart e =
+    let is = found (is_edge page) parts p e in
+    let has = edge_has p page (placed parts p apart is.0) is.1 in
+    find_is (λ q. has_page page q.span) parts p is.0 has (λ y m u. one_owner parts apart page p y is.0 m has u)
 
 -- the extent that begins at a page is the one with this edge, or none
 pub begins_by_edge : (parts : List Part) (page : ℕ) → IsApart parts → (o : Option Part) → find (is_edge page) parts ≡ o → find (begins_at page) parts ≡ elim o [ None ↦ None | Some p ↦ cond (begins_at page p) (Some p) None ]

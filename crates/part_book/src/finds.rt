@@ -83,11 +83,14 @@ impl Table {
         Some(self.part_at(key.minor as u32))
     }
 
-    /// The extent that has a page.
+    /// The extent that has a page. Only a page within one is searched for.
     pub fn holding(&self, page: u64) -> Option<Part>
         requires table { IsRowTable self.now (rows_of self.now) }
         ensures { result ≡ find (λ p. has_page page p.span) (parts_of self.now) }
     {
+        if let Some(part) = self.at_edge(page) {
+            return Some(part);
+        }
         let part = self.last_below(page.saturating_add(1))?;
         if page < end_of(part.span) {
             Some(part)

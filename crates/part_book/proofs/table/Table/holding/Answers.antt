@@ -1,6 +1,9 @@
 use Rattle.part_book.proofs.Words.{◌+◌, sym, ◌∙◌, refl, arith, nat_tests, parts_of}
-use Rattle.part_book.proofs.Parts.{clamped, clamped_none, held_by_last, held_by_none, placed}
+use Rattle.part_book.proofs.Parts.{clamped, clamped_none, held_by_edge, held_by_last, held_by_none, placed}
 use Rattle.part_book.proofs.table.Table.holding.Goals as goal
+
+pub returns-in-Some : goal.returns-in-Some
+returns-in-Some c = sym (held_by_edge (parts_of c.args.self.now) c.args.page c.in-Some.part c.requires.table.indexes.apart (sym c.at_edge.ensures ∙ c.in-Some.is))
 
 pub end_of-requires : goal.end_of-requires
 end_of-requires c = placed (parts_of c.args.self.now) c.in_ok-part.part c.requires.table.indexes.apart c.in_ok-part.ensures.last.listed
