@@ -347,6 +347,14 @@ module _ (t : Table) (rows : List Row) (row : Row) (i : IsRowTable t rows) (m : 
         | inr f ↦ rw f (ap (sum_by (λ (r : Row). r.part.span.pages)) (none (filter test rows) (λ r n. let p = filter_from test rows r n in differs test r p.0 p.1 f)))
       ]
 
+  -- its number is among those that pass once at most
+  pub once : (test : Row → Bool) → count_by (λ n. eqb n row.number) (numbers_of (filter test rows)) ≤ 1
+  once test =
+      let same = count_map (λ (r : Row). r.number) (λ n. eqb n row.number) (filter test rows) in
+      let kept = count_kept test (λ (r : Row). eqb r.number row.number) rows in
+      let most = numbers_most t rows row.number i.slots in
+      omega arith
+
   -- it can be taken off the list of a rest
   pub can_unlist : (rest : Rest) (list : AgeList) → IsListOf rest list (vec_len t.slots) rows → CanUnlist rest list row
   can_unlist rest list l =
@@ -357,11 +365,7 @@ module _ (t : Table) (rows : List Row) (row : Row) (i : IsRowTable t rows) (m : 
             let sum = sum_less test in
             let own : cond (test row) row.part.span.pages 0 ≡ row.part.span.pages = ap (λ b. cond b row.part.span.pages 0) is in
             omega (arith, l.pages));
-        once = rw l.numbers (
-            let same = count_map (λ (r : Row). r.number) (λ n. eqb n row.number) (filter test rows) in
-            let kept = count_kept test (λ (r : Row). eqb r.number row.number) rows in
-            let most = numbers_most t rows row.number i.slots in
-            omega arith);
+        once = rw l.numbers (once test);
       }
 
   -- the list of a rest lacks its number and its pages

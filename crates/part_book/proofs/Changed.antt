@@ -1,5 +1,5 @@
 -- What an exchange makes of the extents, and of their slots.
-use Rattle.part_book.proofs.Words.{◌≡◌, ℕ, ◌+◌, ◌-◌, true, false, not, eqb, ltb, [], ◌∷◌, ◌++◌, filter, length-append, Some, option_map, vec_len, vec_capacity, inl, inr, refl, sym, ap, ◌∙◌, subst, arith, All, Contains, count_by, ◌/◌, ◌<◌, ◌||◌, List, find, Option, None, append_assoc, IfSome, IsSome, cases_Bool, eq-eqb, eqb-true, not_from_false, nat_tests, map-append, All-contains, All-filter, All-push, All-weaker, sum_by_push, Pages, Part, Span, IsPlaced, end_of, has_page, meets, begins_at, exchanged, Table, IsKeyed, Own, Row, first_key, is_edge, keys_without, with_edges, without_edges, IsApart, CanLower, HasListRoom, IsIndexed, IsLifted, IsRowTable, KeepsExtents, parts_of, rows_of, bit, find_is, all_from, filter_neither, filter_swap, find_kept, found, State, low_piece, high_piece, AreBeside, joined, leaves_for}
+use Rattle.part_book.proofs.Words.{◌≡◌, ◌≢◌, ℕ, ◌+◌, ◌-◌, ◌≤◌, nat_cmp, unsigned_tied, nat_cmp_total, true, false, not, eqb, ltb, [], ◌∷◌, ◌++◌, filter, length-append, Some, option_map, vec_len, vec_capacity, inl, inr, refl, sym, ap, ◌∙◌, subst, arith, All, Contains, count_by, ◌/◌, ◌<◌, ◌||◌, List, find, Option, None, append_assoc, IfSome, IsSome, cases_Bool, eq-eqb, eqb-true, not_from_false, nat_tests, map-append, All-contains, All-filter, All-push, All-weaker, sum_by_push, Pages, Part, Span, IsPlaced, end_of, has_page, meets, begins_at, exchanged, Table, IsKeyed, Own, Row, first_key, is_edge, keys_without, with_edges, without_edges, IsApart, CanLower, HasListRoom, IsIndexed, IsLifted, IsRowTable, KeepsExtents, parts_of, rows_of, bit, find_is, all_from, filter_neither, filter_swap, find_kept, found, State, low_piece, high_piece, AreBeside, joined, leaves_for}
 use Rattle.part_book.proofs.Additions.{IsAdded, IsFresh, added, can_lower, numbers_more, rows_added, count_fewer, fewer, numbers_less, one, removed, rows_removed}
 use Rattle.part_book.proofs.Indexes.{IsLeafed, in_slots, keeps, parts_in}
 use Rattle.part_book.proofs.Keyed.{keyed_same}
@@ -14,6 +14,17 @@ use Rattle.std.specs.FinSet as set
 -- a page that is the first or the last one of a span has the number of the span
 edge_own : (pages : Pages) (p : Part) (number page : ℕ) → IsPlaced p.span → Own pages p.span number → is_edge page p ≡ true → map_of.get pages.numbers page ≡ Some number
 edge_own pages p number page placed own t = grind (arith, nat_tests, own.first, own.last, t)
+
+-- where two spans begin at the same page, which keeps the number, their last pages alone change
+pub moved : (m : map_of.FinMap nat_cmp ℕ) (s t : Span) (number page : ℕ) → IsPlaced s → IsPlaced t → t.first ≡ s.first → t.pages ≢ s.pages → map_of.get m s.first ≡ Some number → 1 < s.pages →
+    map_of.get (map_of.remove (map_of.insert m (end_of t - 1) number) (end_of s - 1)) page ≡ map_of.get (with_edges (without_edges m s) t number) page
+moved m s t number page from to first differ own more =
+    simp (map_of.get-insert {X = ℕ} nat_cmp_total, map_of.get-remove {X = ℕ} nat_cmp_total, unsigned_tied) (grind (arith, nat_tests, own))
+
+pub moved_up : (m : map_of.FinMap nat_cmp ℕ) (s t : Span) (number page : ℕ) → IsPlaced s → IsPlaced t → t.first ≡ s.first → map_of.get m s.first ≡ Some number → s.pages ≤ 1 →
+    map_of.get (map_of.insert m (end_of t - 1) number) page ≡ map_of.get (with_edges (without_edges m s) t number) page
+moved_up m s t number page from to first own one =
+    simp (map_of.get-insert {X = ℕ} nat_cmp_total, map_of.get-remove {X = ℕ} nat_cmp_total, unsigned_tied) (grind (arith, nat_tests, own))
 
 -- a map that has the number already is as if it were taken away and given again
 pub own_again : (pages : Pages) (p : Part) (number page : ℕ) → IsPlaced p.span → Own pages p.span number → map_of.get pages.numbers page ≡ map_of.get (with_edges (without_edges pages.numbers p.span) p.span number) page

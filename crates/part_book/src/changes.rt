@@ -1,5 +1,5 @@
 //! An extent is taken off all indexes, put on all of them, or changed where it stands.
-ghost use Rattle.std.specs.Prelude.{◌≡◌, ◌≢◌, ◌==◌, ℕ, ◌+◌, ◌-◌, ◌/◌, ◌^◌, ◌<◌, ◌≤◌, true, false, [], ◌∷◌, ◌++◌, not, cond, length, find, filter, All, Contains, IsSome, IfSome, Some, is_some, vec_len, vec_capacity};
+ghost use Rattle.std.specs.Prelude.{◌≡◌, ◌≢◌, ◌==◌, ℕ, ◌+◌, ◌-◌, ◌/◌, ◌^◌, ◌<◌, ◌≤◌, true, false, [], ◌∷◌, ◌++◌, not, cond, count_by, length, find, filter, All, Contains, IsSome, IfSome, Some, is_some, vec_len, vec_capacity};
 ghost use Rattle.std.specs.FinMap as map_of;
 ghost use Rattle.std.specs.FinSet as set;
 ghost use Rattle.space_model.specs.Span.{IsPlaced, end_of, meets};
@@ -181,7 +181,7 @@ fn clear_edges(edges: &mut PageMap, span: Span)
     edges.clear(end_of(span) - 1);
 }
 
-// Takes the number of a span to another one that begins at the same page.
+// Takes the number of a span to another one that begins at the same page, which keeps it.
 fn move_edges(edges: &mut PageMap, from: Span, to: Span, number: u32)
     requires from { IsPlaced from }
     requires to { IsPlaced to }
@@ -194,8 +194,10 @@ fn move_edges(edges: &mut PageMap, from: Span, to: Span, number: u32)
     ensures leaves { (n : ℕ) → HasLeaves edges.old (n + leaves_for edges.old to) → HasLeaves edges.new n }
 {
     if to.pages != from.pages {
-        clear_edges(edges, from);
-        set_edges(edges, to, number);
+        edges.set(end_of(to) - 1, number);
+        if from.pages > 1 {
+            edges.clear(end_of(from) - 1);
+        }
     }
 }
 
@@ -239,6 +241,7 @@ fn unlist(
     requires dirty { CanUnlist Rest.Dirty dirty.old (record { number = number; part = part.now }) }
     requires muzzy { CanUnlist Rest.Muzzy muzzy.old (record { number = number; part = part.now }) }
     requires retained { CanUnlist Rest.Retained retained.old (record { number = number; part = part.now }) }
+    requires flights { count_by (λ flight. flight == number) flights.old.items ≤ 1 }
     ensures dirty { LosesRow Rest.Dirty dirty.old dirty.new (record { number = number; part = part.now }) }
     ensures muzzy { LosesRow Rest.Muzzy muzzy.old muzzy.new (record { number = number; part = part.now }) }
     ensures retained { LosesRow Rest.Retained retained.old retained.new (record { number = number; part = part.now }) }
@@ -278,10 +281,17 @@ fn drop_key(keys: &mut OrderedSet, key: Option<Key>)
     }
 }
 
-// Takes an extent off those in flight.
+// Takes an extent off those in flight, of which it mostly is the last one.
 fn land(flights: &mut Vec<u32>, number: u32)
+    requires { count_by (λ flight. flight == number) flights.old.items ≤ 1 }
     ensures numbers { flights.new.items ≡ filter (λ flight. not (flight == number)) flights.old.items }
     ensures room { vec_capacity flights.new ≡ vec_capacity flights.old }
 {
-    flights.retain(|flight| *flight != number);
+    if let Some(last) = flights.last()
+        && *last == number
+    {
+        flights.pop();
+    } else {
+        flights.retain(|flight| *flight != number);
+    }
 }

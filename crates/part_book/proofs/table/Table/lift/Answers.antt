@@ -1,5 +1,5 @@
-use Rattle.part_book.proofs.Words.{arith, ToDirty, ToMuzzy, ToRetained, rows_of}
-use Rattle.part_book.proofs.Additions.{one_rest, can_unlist, order_fewer}
+use Rattle.part_book.proofs.Words.{arith, ToDirty, ToMuzzy, ToRetained, is_in_flight, rows_of}
+use Rattle.part_book.proofs.Additions.{one_rest, can_unlist, once, order_fewer}
 use Rattle.part_book.proofs.Rowed.{row_placed}
 use Rattle.part_book.proofs.table.Table.lift.Goals as goal
 
@@ -11,6 +11,9 @@ unlist-requires-clause-muzzy c = can_unlist c.args.self.now (rows_of c.args.self
 
 pub unlist-requires-clause-retained : goal.unlist-requires-clause-retained
 unlist-requires-clause-retained c = can_unlist c.args.self.now (rows_of c.args.self.now) _ c.requires.table c.requires.there ToRetained _ c.requires.table.indexes.retained
+
+pub unlist-requires-clause-flights : goal.unlist-requires-clause-flights
+unlist-requires-clause-flights c = rw c.requires.table.indexes.flights (once c.args.self.now (rows_of c.args.self.now) _ c.requires.table c.requires.there (λ r. is_in_flight r.part.state))
 
 pub size_key-requires : goal.size_key-requires
 size_key-requires c = row_placed (rows_of c.args.self.now) _ c.requires.table.indexes.apart c.requires.there
