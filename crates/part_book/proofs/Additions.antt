@@ -16,20 +16,35 @@ pub record IsFresh (t : Table) (rows : List Row) (row : Row) : Type 0 where
   pub within : (r : Row) → Contains rows r → r.number < vec_len t.slots
   pub few : length rows ≤ vec_len t.slots
 
--- the number that was popped off the free ones is fresh
-pub fresh : (t : Table) (part : Part) (front : List ℕ) (o : Option ℕ) (number : ℕ) → IsRowTable t (rows_of t) → t.free.items ≡ front ++ option_to_list o → o ≡ Some number →
-    IsPlaced part.span → All (λ p. meets p.span part.span ≡ false) (parts_of t) → IsFresh t (rows_of t) (record { number = number; part = part })
-fresh t part front o number i free is placed apart =
+-- a slot that has no extent
+pub record IsUnused (t : Table) (n : ℕ) : Type 0 where
+  pub number : (r : Row) → Contains (rows_of t) r → r.number ≢ n
+  pub slot : n < vec_len t.slots
+
+-- such is the number that was popped off the free ones
+pub popped : (t : Table) (front : List ℕ) (o : Option ℕ) (number : ℕ) → IsRowTable t (rows_of t) → t.free.items ≡ front ++ option_to_list o → o ≡ Some number → IsUnused t number
+popped t front o number i free is =
     let all = i.slots.free number in
     let last = ap (count_by (λ n. eqb n number)) (free ∙ ap (λ x. front ++ option_to_list x) is) ∙ sum_by_push (λ n. bit (eqb n number)) front number in
     let one : bit (eqb number number) ≡ 1 = ap bit (eq-eqb number number refl) in
     let slot : number < vec_len t.slots = grind (arith, nat_tests) in
     let some : bit (ltb number (vec_len t.slots)) ≡ 1 = grind (arith, nat_tests) in
     record {
-      placed = placed;
-      apart = apart;
       number = λ r m e. (let there = count_some (λ x. eqb x.number number) (rows_of t) r m (eq-eqb r.number number e) in omega arith);
       slot = slot;
+    }
+
+-- and with it an extent that meets no other is fresh
+pub fresh : (t : Table) (part : Part) (front : List ℕ) (o : Option ℕ) (number : ℕ) → IsRowTable t (rows_of t) → t.free.items ≡ front ++ option_to_list o → o ≡ Some number →
+    IsPlaced part.span → All (λ p. meets p.span part.span ≡ false) (parts_of t) → IsFresh t (rows_of t) (record { number = number; part = part })
+fresh t part front o number i free is placed apart =
+    let unused = popped t front o number i free is in
+    let places = i.slots.places in
+    record {
+      placed = placed;
+      apart = apart;
+      number = unused.number;
+      slot = unused.slot;
       small = i.slots.small;
       within = λ r m. in_slots t (rows_of t) r i.slots m;
       few = omega arith;

@@ -60,13 +60,13 @@ module _ (t : Table) (row : Row) (i : IsRowTable t (rows_of t)) (m : Contains (r
   module _ (w : Table) (l : IsLifted t w row) (other : Row) (same : other.number ≡ row.number) (placed : IsPlaced other.part.span)
       (apart : All (λ p. meets p.span other.part.span ≡ false) (filter (λ p. not (begins_at row.part.span.first p)) (parts_of t))) where
     -- the table without the extent
-    abbrev between : Table
+    abbrev pub between : Table
     between = record w {
       firsts = record t.firsts { keys = keys_without t.firsts.keys (first_key row) };
       edges = record t.edges { numbers = without_edges t.edges.numbers row.part.span };
     }
 
-    left : IsIndexed between (others row.number (rows_of t))
+    pub left : IsIndexed between (others row.number (rows_of t))
     left = removed t (rows_of t) row i m between (record {
       order = l.order;
       places = l.places;
@@ -81,7 +81,7 @@ module _ (t : Table) (row : Row) (i : IsRowTable t (rows_of t)) (m : Contains (r
       slots = l.slots;
     })
 
-    begins : parts_in (others row.number (rows_of t)) ≡ filter (λ p. not (begins_at row.part.span.first p)) (parts_of t)
+    pub begins : parts_in (others row.number (rows_of t)) ≡ filter (λ p. not (begins_at row.part.span.first p)) (parts_of t)
     begins = others_begin t (rows_of t) row row.part.span.first i m (grind (arith, nat_tests))
 
     -- the other extent is new to it

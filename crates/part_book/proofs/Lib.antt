@@ -1,6 +1,7 @@
 pub mod Words
 pub mod Chunks
 pub mod Changed
+pub mod Divided
 pub mod Walks
 pub mod Fitting
 pub mod Indexes

@@ -9,7 +9,7 @@ pub use Rattle.std.proofs.lemmas.Bool.{cases_Bool, eq-eqb, false_from_ne_true, e
 pub use Rattle.std.proofs.lemmas.Bool.Decides.{nat_tests}
 pub use Rattle.std.proofs.lemmas.Cmp.{tied_itself}
 pub use Rattle.std.proofs.lemmas.Grind.{get_or_default_zero}
-pub use Rattle.std.proofs.lemmas.List.{get_or-set_other, get_or-set_same, length-map, map-append}
+pub use Rattle.std.proofs.lemmas.List.{get_or-set_other, get_or-set_same, length-map, length-set, map-append, set-get_or}
 pub use Rattle.std.proofs.lemmas.List.Elements.{All-contains, All-filter, All-map, All-push, All-weaker, filter-append, filter_agree, All-head, All-nil, All-tail, Contains-get_or, Contains-append_left, Contains-push, Contains-push_cases}
 pub use Rattle.std.proofs.lemmas.List.Filters.{sum_by-filter_both}
 pub use Rattle.std.proofs.lemmas.List.Folds.{find-append, list_any-from_Any, list_any_none, find_at}

@@ -65,6 +65,14 @@ pub record IsLastBelow (page : ℕ) (parts : List Part) (p : Part) : Type 0 wher
   pub below : p.span.first < page
   pub last : All (λ q. q.span.first < page → q.span.first ≤ p.span.first) parts
 
+-- two extents that lie in the space have just the pages of one, of which the low one has the first
+pub record ArePieces (p a b : Part) : Type 0 where
+  pub low : IsPlaced a.span
+  pub high : IsPlaced b.span
+  pub first : a.span.first ≡ p.span.first
+  pub beside : end_of a.span ≡ b.span.first
+  pub last : end_of b.span ≡ end_of p.span
+
 -- ---- the keys
 
 -- the key of an extent among the first pages

@@ -7,7 +7,7 @@ ghost use Rattle.space_model.specs.Part.{begins_at, exchanged, is_listed};
 ghost use Rattle.space_model.specs.Sound.{is_in_flight};
 ghost use Rattle.part_book.specs.Leaves.{HasLeaves, HasMore, leaves_for};
 ghost use Rattle.part_book.specs.Lists.{CanList, CanUnlist, GainsRow, LosesRow};
-ghost use Rattle.part_book.specs.Rows.{Own, keys_with, keys_without, with_edges, without_edges};
+ghost use Rattle.part_book.specs.Rows.{ArePieces, Own, keys_with, keys_without, with_edges, without_edges};
 ghost use Rattle.part_book.specs.Tables.{CanLower, HasListRoom, HasRoomFor, IsLifted, IsLowered, IsRowAt, IsRowTable, KeepsExtents, parts_of, rows_of};
 
 use crate::rows::{end_of, first_key, size_key};
@@ -93,6 +93,29 @@ impl Table {
         self.slots[number as usize] = other;
         move_edges(&mut self.edges, part.span, other.span, number);
         self.lower(number, &other);
+    }
+
+    /// Makes two of an extent, behind all others: a high one, and behind that a low one, which begins at the same page.
+    pub fn divide(&mut self, number: u32, part: Part, low: Part, high: Part)
+        requires table { IsRowTable self.old (rows_of self.old) }
+        requires there { Contains (rows_of self.old) (record { number = number; part = part }) }
+        requires pieces { ArePieces part low high }
+        requires apart { All (λ p. meets p.span part.span ≡ false) (filter (λ p. not (begins_at part.span.first p)) (parts_of self.old)) }
+        requires room { HasRoomFor self.old 1 }
+        requires leaves { HasLeaves self.old.edges 2 }
+        ensures kept { KeepsExtents self.new (exchanged (begins_at part.span.first) (parts_of self.old) (high ∷ low ∷ [])) }
+        ensures room { (n : ℕ) → HasRoomFor self.old (n + 1) → HasRoomFor self.new n }
+        ensures leaves { (n : ℕ) → HasLeaves self.old.edges (n + 2) → HasLeaves self.new.edges n }
+    {
+        self.lift(number, &part);
+        let other = self.free.pop().unwrap();
+        self.slots[other as usize] = high;
+        self.slots[number as usize] = low;
+        move_edges(&mut self.edges, part.span, low.span, number);
+        set_edges(&mut self.edges, high.span, other);
+        self.firsts.insert(first_key(other, high.span));
+        self.lower(other, &high);
+        self.lower(number, &low);
     }
 
     // Takes an extent off the order and off what its state puts it on.

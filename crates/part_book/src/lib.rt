@@ -258,6 +258,27 @@ impl PartBook {
         self.spare -= 1;
     }
 
+    /// Makes an extent of its own, in a state of its own, of the pages behind the first `left` of the extent that begins at a
+    /// page. Both have its commit state and come last, the new one first. It takes a place.
+    pub fn shed(&mut self, first: u64, left: u64, state: State)
+        requires room { 0 < self.old.spare }
+        requires begins { IsSome (find (begins_at first) self.old.parts) }
+        requires some { 0 < left }
+        requires fewer { IfSome (find (begins_at first) self.old.parts) (λ p. left < p.span.pages) }
+        ensures parts { IfSome (find (begins_at first) self.old.parts) (λ p. self.new.parts
+            ≡ exchanged (begins_at first) self.old.parts (record (high_piece left p) { state = state } ∷ low_piece left p ∷ [])) }
+        ensures spare { self.new.spare + 1 ≡ self.old.spare }
+    {
+        let (number, part) = self.table.extent_at(first);
+        let low = part.low_piece(left);
+        let high = Part {
+            state,
+            ..part.high_piece(left)
+        };
+        self.table.divide(number, part, low, high);
+        self.spare -= 1;
+    }
+
     /// Makes one of the two extents that begin at these pages, of which the second begins where
     /// the first one ends. It keeps the first one's state and commit state, and comes last. The
     /// place of the other one counts again after the next `reserve`.

@@ -1,4 +1,4 @@
-use Rattle.part_book.proofs.Words.{◌≡◌, ℕ, ◌≤◌, Some, option_to_list, true, rules, not, not_from_false, eqb, eq-eqb, false_from_ne_true, List, [], ◌∷◌, ◌++◌, filter, filter-append, filter_all_of, count_by, count_some, bit, sum_by_push, refl, sym, ap, ◌∙◌, arith}
+use Rattle.part_book.proofs.Words.{◌≡◌, ℕ, ◌≤◌, Some, option_to_list, true, rules, not, not_from_false, eqb, eq-eqb, false_from_ne_true, List, [], ◌∷◌, ◌++◌, filter, filter-append, filter_all_of, count_by, count_some, bit, sum_by_push, refl, ap, ◌∙◌, arith}
 use Rattle.std.proofs.lemmas.Fn.{filter_same}
 use Rattle.std.proofs.Common.{append-nil}
 use Rattle.part_book.proofs.changes.land.Goals as goal
