@@ -1,5 +1,5 @@
 -- What searches find among extents that are apart.
-use Rattle.arena_core.proofs.Words.{◌≡◌, ℕ, ◌-◌, ◌≤◌, Bool, true, false, cond, List, [], ◌∷◌, get_or, find, filter, slice_get, Option, None, Some, IfSome, refl, sym, ◌∙◌, ap, subst, arith, All, ◌&&◌, eqb, nat_le, count_by, option_or, nat_tests, sum_by-cons, All-head, All-tail, Part, Span, IsPlaced, end_of, has_page, begins_at, is_flight, is_flight_at, fit, is_spare, is_left_of, is_like, is_right_of, filter-begins_at, some_pages, fit-listed, Book, IsFirstFrom, ends_at, is_beside, find_is, IsApart, IsThere, found_if}
+use Rattle.arena_core.proofs.Words.{◌≡◌, ℕ, ◌-◌, ◌≤◌, Bool, true, false, cond, List, [], ◌∷◌, get_or, find, filter, slice_get, Option, None, Some, IfSome, refl, sym, ◌∙◌, ap, subst, arith, All, ◌&&◌, eqb, nat_le, count_by, nat_tests, sum_by-cons, All-head, All-tail, Part, Span, IsPlaced, end_of, has_page, begins_at, is_flight, is_flight_at, fit, is_spare, is_left_of, is_like, is_right_of, filter-begins_at, some_pages, fit-listed, Book, IsFirstFrom, ends_at, is_beside, find_is, IsApart, IsThere, found_if}
 use Rattle.space_model.specs.Part.{is_unused}
 use Rattle.list_facts.proofs.Members.{only_one}
 
@@ -39,11 +39,6 @@ fit_inside {b} {now} {o} pages align view apart e = subst (λ (x : Book). IfSome
     there : (o : Option Part) → o ≡ fit pages align b.parts → IfSome o (IsThere b.parts)
     there None e = tt
     there (Some p) e = let l = fit-listed pages align b.parts p (sym e) in found_there b.parts l.test p apart l.found
-
--- what either of two searches finds is there
-pub either_there : (parts : List Part) (o u : Option Part) → IfSome o (IsThere parts) → IfSome u (IsThere parts) → IfSome (option_or o u) (IsThere parts)
-either_there parts None u h k = k
-either_there parts (Some p) u h k = h
 
 -- ---- a search for one page
 

@@ -1,6 +1,5 @@
 -- Extents that are apart stay apart, with sums that are known, where one or two of them are exchanged.
-use Rattle.arena_core.proofs.Words.{◌≡◌, ◌≢◌, ℕ, ◌+◌, ◌-◌, ◌<◌, ◌≤◌, Bool, true, false, not, cond, List, [], ◌∷◌, ◌++◌, find, filter, Option, Some, IfSome, refl, sym, ap, subst, arith, All, append_assoc, inl, inr, count_by, list_any, sum_by, cases_Bool, cases_lt, nat_tests, sum_by-append, sum_by_push, sum_by-cons, sum_by-le-sum_by, All-cons, All-head, All-nil, All-push, All-tail, All-weaker, filter-append, Part, Span, State, IsPlaced, end_of, has_page, meets, pages_end, begins_at, exchanged, holders, is_active, begins_either, high_piece, joined, low_piece, All-exchanged, filter-begins_at, filter_nothing, find-le-sum_by, find_has, share, sum_by-either, sum_by-exchanged, sum_by-replaced, some_pages, lengths-le, AreBeside, Book, IsApart, IsThere, active_pages, all_pages}
-use Rattle.arena_core.proofs.Finds.{begins_once}
+use Rattle.arena_core.proofs.Words.{◌≡◌, ℕ, ◌+◌, ◌-◌, ◌<◌, ◌≤◌, Bool, true, false, not, cond, List, [], ◌∷◌, ◌++◌, filter, Option, Some, IfSome, refl, sym, ap, subst, arith, All, inl, inr, list_any, sum_by, cases_Bool, cases_lt, nat_tests, sum_by_push, sum_by-cons, sum_by-le-sum_by, All-cons, All-head, All-nil, All-push, All-tail, All-weaker, Part, Span, State, IsPlaced, end_of, has_page, meets, pages_end, begins_at, exchanged, holders, is_active, begins_either, high_piece, joined, low_piece, All-exchanged, filter-begins_at, find-le-sum_by, find_has, share, sum_by-either, sum_by-exchanged, sum_by-replaced, some_pages, lengths-le, AreBeside, Book, IsApart, IsThere, active_pages, all_pages}
 
 -- the pages of an extent, and those that serve regions
 abbrev pub pages : Part → ℕ
@@ -186,40 +185,10 @@ added {b} p view apart idle placed most =
       pages = sums pages;
     }
 
--- ---- a cut, and the lower piece behind the higher one
-
--- what a list has where a part of it has none that pass
-find_behind : (t : Part → Bool) (others tail : List Part) → filter t others ≡ [] → find t (others ++ tail) ≡ find t tail
-find_behind t [] tail none = refl
-find_behind t (x ∷ xs) tail none = grind (arith, find_behind t xs tail)
-
+-- where none passes, all others are all
 pub keeps_all : {X : Type 0} (t : X → Bool) (xs : List X) → filter t xs ≡ [] → filter (λ x. not (t x)) xs ≡ xs
 keeps_all t [] none = refl
 keeps_all t (x ∷ xs) none = grind (arith, keeps_all t xs)
-
-exchanged_behind : (t : Part → Bool) (others tail pieces : List Part) → filter t others ≡ [] →
-    exchanged t (others ++ tail) pieces ≡ others ++ exchanged t tail pieces
-exchanged_behind t others tail pieces none =
-    cc (filter-append (λ x. not (t x)) others tail, keeps_all t others none, append_assoc others (filter (λ x. not (t x)) tail) pieces)
-
--- where the last two extents begin at different pages, none of the others begins as one of them
-cleared : (page : ℕ) (others tail : List Part) → IsApart (others ++ tail) → count_by (begins_at page) tail ≡ 1 → filter (begins_at page) others ≡ []
-cleared page others tail apart one =
-    filter_nothing (begins_at page) others
-    (omega (arith, begins_once page (others ++ tail) apart, one, sum_by-append (λ p. cond (begins_at page p) 1 0) others tail))
-
--- What comes last where the first of the last two extents is exchanged for itself.
-pub record Behind (others : List Part) (a b : Part) : Type 0 where
-  pub there : find (begins_at a.span.first) (others ++ a ∷ b ∷ []) ≡ Some a
-  pub last : exchanged (begins_at a.span.first) (others ++ a ∷ b ∷ []) (a ∷ []) ≡ others ++ b ∷ a ∷ []
-
-behind : (others : List Part) (a b : Part) → IsApart (others ++ a ∷ b ∷ []) → a.span.first ≢ b.span.first → Behind others a b
-behind others a b apart differ =
-    let t = begins_at a.span.first in
-    let none = cleared a.span.first others (a ∷ b ∷ []) apart (grind (arith, nat_tests)) in record {
-      there = grind (arith, nat_tests, find_behind t others (a ∷ b ∷ []) none);
-      last = grind (arith, nat_tests, exchanged_behind t others (a ∷ b ∷ []) (a ∷ []) none);
-    }
 
 -- ---- as functions cite them
 
@@ -263,6 +232,19 @@ halved parts p left a b apart there some fewer =
       active = omega (arith, swap.active, sum_by-cons serving p [], sum_by-cons serving low (high ∷ []), sum_by-cons serving low []);
     }
 
+-- its higher piece is in a state of its own, and comes before the lower one
+pub shed : (parts : List Part) (p : Part) (left : ℕ) (state : State) → IsApart parts → IsThere parts p → 0 < left → left < p.span.pages →
+    Swapped parts (exchanged (begins_at p.span.first) parts (record (high_piece left p) { state = state } ∷ low_piece left p ∷ [])) (active_pages (p ∷ []))
+    (active_pages (low_piece left p ∷ []) + active_pages (record (high_piece left p) { state = state } ∷ []))
+shed parts p left state apart there some fewer =
+    let low : Part = low_piece left p in
+    let high : Part = record (high_piece left p) { state = state } in
+    let swap = swapped parts (high ∷ low ∷ []) p apart there (two_fill p low high left (there_placed parts p apart there) some fewer refl refl).1 in record {
+      apart = swap.apart;
+      pages = swap.pages;
+      active = omega (arith, swap.active, sum_by-cons serving p [], sum_by-cons serving high (low ∷ []), sum_by-cons serving low [], sum_by-cons serving high []);
+    }
+
 -- the pieces serve what the extent served
 pub pieces_serve : (p : Part) (left : ℕ) → left < p.span.pages → active_pages (low_piece left p ∷ []) + active_pages (high_piece left p ∷ []) ≡ active_pages (p ∷ [])
 pieces_serve p left fewer = omega (arith, parted (is_active p.state) p.span.pages fewer, sum_by-cons serving p [], sum_by-cons serving (low_piece left p) [], sum_by-cons serving (high_piece left p) [])
@@ -276,8 +258,3 @@ serves_most p = omega (arith, sum_by-cons serving p [], most (is_active p.state)
   where
     most : (b : Bool) (n : ℕ) → cond b n 0 ≤ n
     most b n = grind arith
-
--- where the higher piece is put down, the lower one may be put behind it
-pub low_behind : (parts : List Part) (p : Part) (left : ℕ) (down : State) → IsApart parts → IsThere parts p → 0 < left → left < p.span.pages →
-    Behind (filter (λ q. not (begins_at p.span.first q)) parts) (low_piece left p) (record (high_piece left p) { state = down })
-low_behind parts p left down apart there some fewer = behind _ _ _ (halved parts p left p.state down apart there some fewer).apart (omega arith)

@@ -9,7 +9,6 @@ ghost use Rattle.space_model.specs.Purging.{count_listed};
 ghost use Rattle.space_model.specs.Resizing.{is_spare};
 ghost use Rattle.space_model.specs.Step.{begins_either, high_piece, is_left_of, is_like, is_right_of, joined, low_piece, neighbour, next_flight};
 ghost use Rattle.part_book.specs.Books.{AreBeside, IsFirstFrom, pages_of};
-ghost use Rattle.part_book.specs.Rows.{IsApart};
 ghost use Rattle.arena_core.specs.Extents.{IsThere, active_pages, all_pages, found_if};
 
 use part_book::PartBook;
@@ -202,18 +201,16 @@ impl Extents {
 
     /// The neighbour that a merge may join to an extent: the right one at the first try, and the
     /// left one at the first two.
-    #[tactic(auto, using(crate::proofs::Finds::either_there))]
     pub fn neighbour(&self, tries: u8, part: &Part) -> Option<Part>
         ensures neighbour { result ≡ neighbour tries part.now self.now.parts }
         ensures there { IfSome result (IsThere self.now.parts) }
     {
-        let right = if tries == 0 {
-            self.right_of(part)
-        } else {
-            None
-        };
-        let left = if tries < 2 { self.left_of(part) } else { None };
-        right.or(left)
+        if tries == 0
+            && let Some(right) = self.right_of(part)
+        {
+            return Some(right);
+        }
+        if tries < 2 { self.left_of(part) } else { None }
     }
 
     /// Gives an extent a state and a commit state. It comes last.
@@ -248,11 +245,25 @@ impl Extents {
         ensures parts { self.new.parts ≡ exchanged (begins_at part.now.span.first) self.old.parts
             (record (low_piece left part.now) { state = low } ∷ record (high_piece left part.now) { state = high } ∷ []) }
         ensures spare { self.new.spare + 1 ≡ self.old.spare }
-        ensures apart { IsApart self.old.parts }
     {
         let active = active_after(self.active, &part.low_piece(left), low);
         self.active = active_after(active, &part.high_piece(left), high);
         self.book.cut(part.span.first, left, low, high);
+    }
+
+    /// Makes an extent of its own, in another state, of the pages behind the first `left`. The first pages come last, behind
+    /// it. It takes a place.
+    fn shed(&mut self, part: &Part, left: u64, state: State)
+        requires there { IsThere self.old.parts part.now }
+        requires room { 0 < self.old.spare }
+        requires some { 0 < left }
+        requires fewer { left < part.now.span.pages }
+        ensures parts { self.new.parts ≡ exchanged (begins_at part.now.span.first) self.old.parts
+            (record (high_piece left part.now) { state = state } ∷ low_piece left part.now ∷ []) }
+        ensures spare { self.new.spare + 1 ≡ self.old.spare }
+    {
+        self.active = active_after(self.active, &part.high_piece(left), state);
+        self.book.shed(part.span.first, left, state);
     }
 
     /// Makes two of an extent. The piece that keeps its state comes last, behind the other one, which is put down. It takes
@@ -269,8 +280,7 @@ impl Extents {
     {
         let down = part.state.rest().state();
         if keep_low {
-            self.halve(part, left, part.state, down);
-            self.change(&part.low_piece(left), part.state, part.committed);
+            self.shed(part, left, down);
         } else {
             self.halve(part, left, down, part.state);
         }

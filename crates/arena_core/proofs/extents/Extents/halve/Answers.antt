@@ -1,4 +1,4 @@
-use Rattle.arena_core.proofs.Words.{◌≡◌, ◌+◌, [], ◌∷◌, arith, ap, subst, sym, Part, begins_at, exchanged, high_piece, low_piece, IsApart, active_pages, all_pages}
+use Rattle.arena_core.proofs.Words.{◌≡◌, [], ◌∷◌, arith, ap, subst, sym, Part, begins_at, exchanged, high_piece, low_piece, IsApart, active_pages, all_pages}
 use Rattle.arena_core.proofs.Swaps.{at_some, halved, pieces_serve, serves_most, there_inside, there_placed, there_within}
 use Rattle.arena_core.proofs.extents.Extents.halve.Goals as goal
 
