@@ -1,5 +1,5 @@
 -- What a step leaves: its outcome for the space, and the body as it shall be.
-use Rattle.arena_core.proofs.Words.{◌≡◌, ◌≢◌, ◌∙◌, ◌⊎◌, inl, inr, ℕ, ◌<◌, IsTrue, List, [], ◌∷◌, ◌++◌, nat_lt, Result, Ok, Err, IfOk, OnOk, OnErr, length, refl, sym, ap, subst, arith, ltb-true, get_or-set_other, get_or-set_same, length-set, Entry, Op, Reply, Space, op_stands, reply_to, space_after, stands, Sound, absent_space, first_space, new_pace, Good, mine, both_true, Outcome, Outcome-good, Outcome-others, Outcome-sound, absent_replays_are_good, first_replays_are_good, Body, IsBody, Standing, all_rooms, entry_of, room_after, room_of, rooms_after, standing_of, HasPlaces, space_of, IsBooked}
+use Rattle.arena_core.proofs.Words.{◌≡◌, ◌≢◌, ◌∙◌, ◌⊎◌, inl, inr, ℕ, ◌<◌, IsTrue, List, [], ◌∷◌, ◌++◌, nat_lt, Result, Ok, Err, IfOk, OnOk, OnErr, length, refl, sym, ap, subst, arith, ltb-true, get_or-set_other, get_or-set_same, length-set, Entry, Op, Reply, Space, op_stands, reply_to, space_after, stands, Sound, absent_space, first_space, new_pace, Good, mine, both_true, Outcome, Outcome-good, Outcome-others, Outcome-sound, absent_replays_are_good, first_replays_are_good, Body, IsBody, IsReady, Standing, entry_of, room_after, room_of, rooms_after, standing_of, space_of, IsBooked}
 
 -- What a step leaves of a body that callers see as `a`.
 pub record Stepped {E : Type 0} (a : Standing) (new : Body) (client : ℕ) (op : Op) (r : Result Reply E) : Type 0 where
@@ -16,15 +16,15 @@ pub record Stepped {E : Type 0} (a : Standing) (new : Body) (client : ℕ) (op :
 pub stepped : {E : Type 0} {old new : Body} {a : Standing} {r : Result Reply E} (client : ℕ) (op : Op) → standing_of old ≡ a → IsBody old →
     IsTrue (stands a.space (entry_of client op)) → OnOk r (space_of new.indexes ≡ space_after (space_of old.indexes) (entry_of client op)) →
     IfOk r (λ told. told ≡ reply_to (space_of old.indexes) (entry_of client op)) → OnOk r (new.rooms ≡ rooms_after (standing_of old) client op) →
-    OnErr r (standing_of new ≡ standing_of old) → HasPlaces new.indexes (all_rooms new.rooms) → IsBooked (space_of new.indexes) new.indexes.regions.slabs → Stepped a new client op r
-stepped {E} {old} {new} {a} {r} client op view body stands_now after told rooms same places booked =
+    OnErr r (standing_of new ≡ standing_of old) → IsReady new → IsBooked (space_of new.indexes) new.indexes.regions.slabs → Stepped a new client op r
+stepped {E} {old} {new} {a} {r} client op view body stands_now after told rooms same ready booked =
     let s : Space = space_of old.indexes in
     let t : Space = space_of new.indexes in
     let may = subst (λ (x : Standing). IsTrue (stands x.space (entry_of client op))) (sym view) stands_now in
     let few : client < 32 = ltb-true client 32 (both_true (nat_lt client 32) (op_stands s client op) may).0 in
     let out : Outcome s t (entry_of client op) r = record { after = after; told = told; same = on_err r same } in
     let by : Stepped (standing_of old) new client op r = record {
-      body = record { sound = Outcome-sound s t (entry_of client op) r out body.sound may; clients = clients r rooms same; places = places; booked = booked };
+      body = record { sound = Outcome-sound s t (entry_of client op) r out body.sound may; clients = clients r rooms same; ready = ready; booked = booked };
       after = after;
       reply = told;
       room = room_is r few rooms;

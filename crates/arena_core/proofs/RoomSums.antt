@@ -1,5 +1,5 @@
 -- The sum of all rooms where one of them changes.
-use Rattle.arena_core.proofs.Words.{◌≡◌, ℕ, ◌+◌, ◌<◌, ◌≤◌, false, List, length, slice_set, refl, sym, subst, arith, sum_by-set, Op, Back, Space, Body, all_rooms, emptied_by_op, is_return, room_of, Indexes, HasPlaces}
+use Rattle.arena_core.proofs.Words.{◌≡◌, ℕ, ◌+◌, ◌<◌, ◌≤◌, false, List, length, slice_set, refl, arith, sum_by-set, Op, Back, Space, all_rooms, emptied_by_op, is_return, room_of, Indexes, HasPlaces}
 
 -- the sum with a client's new room, and its old one
 pub rooms_with : (rooms : List ℕ) (client room : ℕ) → client < length rooms → all_rooms (slice_set rooms client room) + room_of client rooms ≡ all_rooms rooms + room
@@ -10,12 +10,8 @@ pub rooms_fewer : (rooms : List ℕ) (client few more : ℕ) → client < length
 rooms_fewer rooms client few more h le = omega (arith, rooms_with rooms client few h, rooms_with rooms client more h)
 
 -- places for more are places for fewer
-pub places_fewer : (i : Indexes) (few more : ℕ) → few ≤ more → HasPlaces i more → HasPlaces i few
+places_fewer : (i : Indexes) (few more : ℕ) → few ≤ more → HasPlaces i more → HasPlaces i few
 places_fewer i few more le h = record { extents = omega (arith, h.extents); regions = omega (arith, h.regions); offers = omega (arith, h.offers) }
-
--- there is still room for all rooms where there is for as many as before
-pub room_of_all : {a b : Indexes} {old new : List ℕ} → ((n : ℕ) → HasPlaces a n → HasPlaces b n) → new ≡ old → HasPlaces a (all_rooms old) → HasPlaces b (all_rooms new)
-room_of_all {a} keeps same h = keeps _ (subst (λ rooms. HasPlaces a (all_rooms rooms)) (sym same) h)
 
 -- an operation that takes no place leaves one less than there were
 pub places_kept : {i j : Indexes} → ((n : ℕ) → HasPlaces i n → HasPlaces j n) → (n : ℕ) → HasPlaces i (n + 1) → HasPlaces j n

@@ -82,7 +82,7 @@ pub use Rattle.space_model.specs.declared.spaces.Life.TheVariants.{Live, Absent,
 pub use Rattle.space_model.specs.declared.spaces.Space.{Space}
 pub use mathlib.Core.Logic.{dite}
 pub use native.Mathlib.Decide.{ℕ_discrete}
-pub use Rattle.arena_core.specs.Arenas.{all_rooms, Standing, emptied_by_op, given_by, is_return, opens, IsBody, entry_of, room_after, room_of, rooms_after, standing_of}
+pub use Rattle.arena_core.specs.Arenas.{all_rooms, Standing, emptied_by_op, given_by, is_return, opens, IsBody, IsReady, entry_of, room_after, room_of, rooms_after, standing_of}
 pub use Rattle.arena_core.specs.Booked.{LandsTakeTheFirst, booked_slab, AreBooked, BooksStayWhereHoldersChange, BooksStayWhileExtentsDo, FillsTakeTheLowest, ReturnsAreFree, filled, OrderGrows, OrderStays}
 pub use Rattle.part_book.specs.Rows.{IsApart}
 pub use Rattle.arena_core.specs.Extents.{IsThere, found_if, active_pages, all_pages, goes_to}

@@ -78,9 +78,14 @@ entry_of client op = record { client = client; op = op }
 abbrev pub standing_of : Body → Standing
 standing_of body = record { space = space_of body.indexes; rooms = body.rooms }
 
+-- the indexes have the places that stand ready, which are enough for all rooms
+pub record IsReady (body : Body) : Type 0 where
+  pub places : HasPlaces body.indexes body.ready
+  pub rooms : all_rooms body.rooms ≤ body.ready
+
 -- the space is sound, there are 32 rooms, there are places for all of them, and the slabs are the space's
 pub record IsBody (body : Body) : Type 0 where
   pub sound : Sound (space_of body.indexes)
   pub clients : length body.rooms ≡ 32
-  pub places : HasPlaces body.indexes (all_rooms body.rooms)
+  pub ready : IsReady body
   pub booked : IsBooked (space_of body.indexes) body.indexes.regions.slabs

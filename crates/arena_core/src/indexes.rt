@@ -1,6 +1,6 @@
 //! An arena's space as its indexes keep it.
 
-ghost use Rattle.std.specs.Prelude.{◌≡◌, ◌≤◌, ℕ, max, OnOk};
+ghost use Rattle.std.specs.Prelude.{◌≡◌, ℕ, OnOk};
 ghost use Rattle.arena_core.specs.Indexes.{HasPlaces, space_of};
 
 use crate::extents::Extents;
@@ -27,19 +27,6 @@ pub struct Indexes {
     pub alloc: Global,
 }
 
-/// How many places are made beside those that are wanted, for the operations to come.
-const MORE: u64 = 64;
-
-/// How many places an index that has so many is asked for, where so many are wanted.
-pub fn asked(spare: u64, wanted: u64) -> u64
-    ensures { wanted ≤ max spare result }
-{
-    if wanted <= spare {
-        return 0;
-    }
-    wanted.saturating_add(MORE)
-}
-
 /// Makes places for at least so many further extents and offers, and for the regions of as many. The space stays, and its slabs.
 pub fn reserve(indexes: &mut Indexes, places: u64) -> Result<(), NoMemory>
     ensures space { space_of indexes.new ≡ space_of indexes.old }
@@ -47,11 +34,7 @@ pub fn reserve(indexes: &mut Indexes, places: u64) -> Result<(), NoMemory>
     ensures kept { (n : ℕ) → HasPlaces indexes.old n → HasPlaces indexes.new n }
     ensures ok { OnOk result (HasPlaces indexes.new places) }
 {
-    indexes
-        .extents
-        .reserve(asked(indexes.extents.spare(), places))?;
-    indexes
-        .regions
-        .reserve(asked(indexes.regions.places(), places))?;
+    indexes.extents.reserve(places)?;
+    indexes.regions.reserve(places)?;
     indexes.offers.reserve(places)
 }

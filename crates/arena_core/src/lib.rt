@@ -84,6 +84,7 @@ impl Arena {
                     alloc,
                 },
                 rooms: Rooms::none(),
+                ready: 0,
             },
         })
     }

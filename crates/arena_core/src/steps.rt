@@ -3,7 +3,7 @@
 ghost use Rattle.std.specs.Prelude.{◌≡◌, ℕ, ◌+◌, ◌*◌, ◌<◌, ◌≤◌, ◌^◌, false, true, length, max, IsTrue, IsOk, IfOk, OnOk, OnErr, slice_set};
 ghost use Rattle.space_model.specs.Step.{op_stands, step_of};
 ghost use Rattle.space_model.specs.Sound.{Sound};
-ghost use Rattle.arena_core.specs.Arenas.{IsBody, all_rooms, emptied_by_op, given_by, is_return, opens, room_of, rooms_after, standing_of};
+ghost use Rattle.arena_core.specs.Arenas.{IsBody, IsReady, all_rooms, emptied_by_op, given_by, is_return, opens, room_of, rooms_after, standing_of};
 ghost use Rattle.arena_core.specs.Indexes.{HasPlaces, space_of};
 ghost use Rattle.arena_core.specs.Slabs.{CanFollow, IsBooked, slabs_begun, slabs_followed};
 
@@ -16,24 +16,35 @@ use std::alloc::AllocError as NoMemory;
 /// How many operations that take no memory may follow one that makes room for them.
 const UNIT: u64 = 16;
 
-/// An arena: its space in indexes, and the rooms of its clients.
+/// How many places are made beside those that are wanted, for the operations to come.
+const MORE: u64 = 64;
+
+/// An arena: its space in indexes, the rooms of its clients, and for how many operations each index has places, at least.
 #[derive(Drop)]
 pub struct Body {
     pub indexes: Indexes,
     pub rooms: Rooms,
+    pub ready: u64,
 }
 
-/// Makes places for all rooms, of which the client's shall be this. Where memory is wanting nothing changes.
+/// Makes places for all rooms, of which the client's shall be this. Where memory is wanting nothing changes. The indexes
+/// are asked only where there may be too few.
 fn make_places(body: &mut Body, client: u32, room: u64) -> Result<(), NoMemory>
     requires client { client < 32 }
+    requires ready { IsReady body.old }
     ensures standing { standing_of body.new ≡ standing_of body.old }
     ensures slabs { body.new.indexes.regions.slabs ≡ body.old.indexes.regions.slabs }
-    ensures kept { (n : ℕ) → HasPlaces body.old.indexes n → HasPlaces body.new.indexes n }
-    ensures ok { OnOk result (HasPlaces body.new.indexes (all_rooms (slice_set body.old.rooms client room))) }
+    ensures ready { IsReady body.new }
+    ensures ok { OnOk result (all_rooms (slice_set body.old.rooms client room) ≤ body.new.ready) }
     ensures fits { OnOk result (all_rooms (slice_set body.old.rooms client room) < 2 ^ 64) }
 {
-    let places = body.rooms.total_with(client, room).ok_or(NoMemory)?;
-    indexes::reserve(&mut body.indexes, places)
+    let wanted = body.rooms.total_with(client, room).ok_or(NoMemory)?;
+    if wanted > body.ready {
+        let places = wanted.saturating_add(MORE);
+        indexes::reserve(&mut body.indexes, places)?;
+        body.ready = places;
+    }
+    Ok(())
 }
 
 /// Whether an operation is the first one of a unit, for which memory is taken.
@@ -104,7 +115,7 @@ fn open_unit(body: &mut Body, client: u32, op: &Op) -> Result<Reply, NoMemory>
     ensures reply { IfOk result (λ told. told ≡ (step_of (space_of body.old.indexes) client op.now).reply) }
     ensures rooms { OnOk result (body.new.rooms ≡ rooms_after (standing_of body.old) client op.now) }
     ensures err { OnErr result (standing_of body.new ≡ standing_of body.old) }
-    ensures places { HasPlaces body.new.indexes (all_rooms body.new.rooms) }
+    ensures ready { IsReady body.new }
     ensures booked { IsBooked (space_of body.new.indexes) body.new.indexes.regions.slabs }
 {
     let room = body.rooms.of(client).max(UNIT);
@@ -131,7 +142,7 @@ fn give_back(body: &mut Body, client: u32, addrs: &Addresses) -> Result<Reply, N
     ensures rooms { OnOk result (body.new.rooms ≡ rooms_after (standing_of body.old) client (Op.Back addrs.now)) }
     ensures few { OnOk result (emptied_by_op client (Op.Back addrs.now) (space_of body.old.indexes) ≤ length addrs.now) }
     ensures err { OnErr result (standing_of body.new ≡ standing_of body.old) }
-    ensures places { HasPlaces body.new.indexes (all_rooms body.new.rooms) }
+    ensures ready { IsReady body.new }
     ensures booked { IsBooked (space_of body.new.indexes) body.new.indexes.regions.slabs }
 {
     let least = body.rooms.of(client).max(UNIT);
@@ -184,12 +195,13 @@ fn use_up(body: &mut Body, client: u32, op: &Op) -> Reply
     ensures after { space_of body.new.indexes ≡ (step_of (space_of body.old.indexes) client op.now).after }
     ensures reply { result ≡ (step_of (space_of body.old.indexes) client op.now).reply }
     ensures rooms { body.new.rooms ≡ rooms_after (standing_of body.old) client op.now }
-    ensures places { HasPlaces body.new.indexes (all_rooms body.new.rooms) }
+    ensures ready { IsReady body.new }
     ensures booked { IsBooked (space_of body.new.indexes) body.new.indexes.regions.slabs }
 {
     let room = body.rooms.of(client);
     let reply = follow(&mut body.indexes, client, op);
     body.rooms.set(client, room - 1);
+    body.ready -= 1;
     reply
 }
 
@@ -205,7 +217,7 @@ pub fn step(body: &mut Body, client: u32, op: &Op) -> Result<Reply, NoMemory>
     ensures err { OnErr result (standing_of body.new ≡ standing_of body.old) }
     ensures few { OnOk result (emptied_by_op client op.now (space_of body.old.indexes) ≤ given_by op.now) }
     ensures sure { opens op.now ≡ false → IsOk result }
-    ensures places { HasPlaces body.new.indexes (all_rooms body.new.rooms) }
+    ensures ready { IsReady body.new }
     ensures booked { IsBooked (space_of body.new.indexes) body.new.indexes.regions.slabs }
 {
     match op {

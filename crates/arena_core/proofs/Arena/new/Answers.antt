@@ -16,7 +16,7 @@ invariant_of-result c =
       sound = subst Sound (λ i. record c.args.space { parts = (parts i).parts; regions = (regions i).regions; offers = offers i; dirty = dirty i; muzzy = muzzy i })
           (opening_sound c.args.space c.requires);
       clients = ap length c.none.ensures;
-      places = record { extents = omega (arith, nothing); regions = omega (arith, nothing); offers = omega (arith, nothing) };
+      ready = record { places = record { extents = omega arith; regions = omega arith; offers = omega arith }; rooms = omega (arith, nothing) };
       booked = booked_as (nothing_booked _ (ap (λ r. r.regions) c.new-2.ensures)) refl (ap (λ r. r.slabs) c.new-2.ensures);
     }
 

@@ -1,12 +1,9 @@
 use Rattle.arena_core.proofs.Words.{◌≡◌, ◌∙◌, ◌*◌, ◌≤◌, arith, ap, length, max, slice_set, Next, Space, after_back, all_rooms, room_of, space_of}
 use Rattle.space_model.specs.Step.{next_flight}
 use Rattle.arena_core.specs.Arenas.{emptied_by_return}
-use Rattle.arena_core.proofs.RoomSums.{places_fewer, room_of_all, rooms_fewer}
+use Rattle.arena_core.proofs.RoomSums.{rooms_fewer}
 use Rattle.arena_core.proofs.Books.{booked_as}
 use Rattle.arena_core.proofs.steps.give_back.Goals as goal
-
-pub returns-in_err-make_places-clause-places : goal.returns-in_err-make_places-clause-places
-returns-in_err-make_places-clause-places c = room_of_all c.make_places.ensures.kept (ap (λ a. a.rooms) c.make_places.ensures.standing) c.requires.body.places
 
 pub returns-in_err-make_places-clause-booked : goal.returns-in_err-make_places-clause-booked
 returns-in_err-make_places-clause-booked c = booked_as c.requires.body.booked (ap (λ a. a.space) c.make_places.ensures.standing) c.make_places.ensures.slabs
@@ -30,7 +27,9 @@ returns c =
       rooms = c.set.ensures ∙ (λ i. slice_set (rooms i) c.args.client (room i));
       few = omega (arith, counted, c.give_back-emptied.ensures.few, ap length c.as_slice-addrs.ensures);
       err = tt;
-      places = places_fewer c.give_back-emptied.new.indexes (all_rooms c.set.new.self) (all_rooms (slice_set c.args.body.now.rooms c.args.client c.max.result)) (omega (arith, new, fewer))
-          (c.give_back-emptied.ensures.places _ c.in_ok-make_places.ensures.ok);
+      ready = record {
+        places = c.give_back-emptied.ensures.places _ c.make_places.ensures.ready.places;
+        rooms = omega (arith, new, fewer, c.in_ok-make_places.ensures.ok);
+      };
       booked = c.give_back-emptied.ensures.booked;
     }

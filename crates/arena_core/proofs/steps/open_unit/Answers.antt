@@ -1,21 +1,15 @@
-use Rattle.arena_core.proofs.Words.{◌∙◌, ap, slice_set, subst, sym, step_of, all_rooms, HasPlaces, space_of, slabs_begun}
+use Rattle.arena_core.proofs.Words.{◌∙◌, ap, arith, slice_set, step_of, all_rooms, space_of, slabs_begun}
 use Rattle.arena_core.proofs.BookLaw.{begins_booked}
 use Rattle.arena_core.proofs.Books.{booked_as}
-use Rattle.arena_core.proofs.RoomSums.{room_of_all}
 use Rattle.arena_core.proofs.steps.open_unit.Goals as goal
 
-pub returns-in_err-make_places-clause-places : goal.returns-in_err-make_places-clause-places
-returns-in_err-make_places-clause-places c = room_of_all c.make_places.ensures.kept (ap (λ a. a.rooms) c.make_places.ensures.standing) c.requires.body.places
+pub returns-in_err-reply-clause-ready : goal.returns-in_err-reply-clause-ready
+returns-in_err-reply-clause-ready c = record { places = c.in_err-reply.ensures.places _ c.make_places.ensures.ready.places; rooms = c.make_places.ensures.ready.rooms }
 
-pub returns-in_err-reply-clause-places : goal.returns-in_err-reply-clause-places
-returns-in_err-reply-clause-places c =
-    room_of_all (λ n h. c.in_err-reply.ensures.places n (c.make_places.ensures.kept n h)) (ap (λ a. a.rooms) c.make_places.ensures.standing) c.requires.body.places
-
-pub returns-clause-places : goal.returns-clause-places
-returns-clause-places c =
-    c.in_ok-reply.ensures.places _
-    (subst (λ rooms. HasPlaces c.make_places.new.body.indexes (all_rooms rooms))
-    (sym (c.set.ensures ∙ (λ i. slice_set (ap (λ a. a.rooms) c.make_places.ensures.standing i) c.args.client c.max-room.result))) c.in_ok-make_places.ensures.ok)
+pub returns-clause-ready : goal.returns-clause-ready
+returns-clause-ready c =
+    let new = ap all_rooms (c.set.ensures ∙ (λ i. slice_set (ap (λ a. a.rooms) c.make_places.ensures.standing i) c.args.client c.max-room.result)) in
+    record { places = c.in_ok-reply.ensures.places _ c.make_places.ensures.ready.places; rooms = omega (arith, new, c.in_ok-make_places.ensures.ok) }
 
 pub returns-in_err-make_places-clause-booked : goal.returns-in_err-make_places-clause-booked
 returns-in_err-make_places-clause-booked c = booked_as c.requires.body.booked (ap (λ a. a.space) c.make_places.ensures.standing) c.make_places.ensures.slabs

@@ -8,12 +8,20 @@ pub set-requires-clause-fits : goal.set-requires-clause-fits
 set-requires-clause-fits c =
     omega (arith, rooms_with c.args.body.now.rooms c.args.client (c.of-room.result - 1) (omega (arith, c.requires.client, c.requires.body.clients)), c.of-room.ensures.room, c.of-room.ensures.total)
 
-pub returns-clause-places : goal.returns-clause-places
-returns-clause-places c =
+pub overflow_sub-body : goal.overflow_sub-body
+overflow_sub-body c =
+    omega (arith, rooms_with c.args.body.now.rooms c.args.client (c.of-room.result - 1) (omega (arith, c.requires.client, c.requires.body.clients)), c.of-room.ensures.room, c.requires.room, c.requires.body.ready.rooms)
+
+pub returns-clause-ready : goal.returns-clause-ready
+returns-clause-ready c =
+    let ready = c.args.body.now.ready in
     let sums = rooms_with c.args.body.now.rooms c.args.client (c.of-room.result - 1) (omega (arith, c.requires.client, c.requires.body.clients)) in
     let new = ap all_rooms c.set.ensures in
-    let one : all_rooms c.args.body.now.rooms ≡ all_rooms c.set.new.self + 1 = omega (arith, sums, new, c.of-room.ensures.room, c.requires.room) in
-    c.follow-reply.ensures.places (all_rooms c.set.new.self) (subst (HasPlaces c.args.body.now.indexes) one c.requires.body.places)
+    let one : ready ≡ ready - 1 + 1 = omega (arith, sums, new, c.of-room.ensures.room, c.requires.room, c.requires.body.ready.rooms) in
+    record {
+      places = c.follow-reply.ensures.places (ready - 1) (subst (HasPlaces c.args.body.now.indexes) one c.requires.body.ready.places);
+      rooms = omega (arith, sums, new, c.of-room.ensures.room, c.requires.room, c.requires.body.ready.rooms);
+    }
 
 pub follow-reply-requires-clause-may : goal.follow-reply-requires-clause-may
 follow-reply-requires-clause-may c = can_follow c.args.client (space_of c.args.body.now.indexes) c.args.op.now c.args.body.now.indexes.regions.slabs c.requires.body.sound c.requires.stands c.requires.body.booked
