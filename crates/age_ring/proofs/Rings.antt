@@ -3,7 +3,7 @@ use Rattle.std.proofs.Common.{◌≡◌, ◌≢◌, ℕ, zero, suc, ◌+◌, ◌
 use Rattle.std.specs.List.{AllByRecursion as Every, IsDistinct, list_any}
 use Rattle.std.proofs.lemmas.Bool.{cases_Bool, eqb-true, eq-eqb, ne_eqb, not_from_false}
 use Rattle.std.proofs.lemmas.Bool.Decides.{nat_tests}
-use Rattle.std.proofs.lemmas.List.Elements.{recursion_from_All}
+use Rattle.std.proofs.lemmas.List.Elements.{Contains-push, recursion_from_All}
 use Rattle.std.proofs.lemmas.Map.Steps.{length-le_from_distinct_below}
 use Rattle.ordered_set.proofs.Members.{contains_cases, contains_later}
 use Rattle.ordered_set.proofs.Sorted.{every_append, every_filter, every_map, every_member, filter_all}
@@ -192,6 +192,26 @@ ring_fits next prev places xs r = length-le_from_distinct_below xs places (disti
       | inl same ↦ let is = eqb-true q y same in let l = e.0 in omega arith
       | inr other ↦ inside ys e.1 q (rw other at t)
     ]
+
+-- the place before the end is the last one
+last_is : (next prev : ℕ → ℕ) (a x : ℕ) (xs : List ℕ) (b : ℕ) → Joined next prev a (x ∷ xs) b → (front : List ℕ) × (x ∷ xs ≡ front ++ prev b ∷ [])
+last_is next prev a x [] b j = ([], ap (λ k. k ∷ []) (sym j.1.1.1))
+last_is next prev a x (y ∷ ys) b j = let p = last_is next prev x y ys b j.1.1 in (x ∷ p.0, ap (λ ks. x ∷ ks) p.1)
+
+-- and what is left without it are those before it
+all_before : (front : List ℕ) (x : ℕ) → Differ (front ++ x ∷ []) → filter (λ k. not (eqb k x)) (front ++ x ∷ []) ≡ front
+all_before [] x d = rw (eq-eqb x x refl) refl
+all_before (y ∷ ys) x d =
+    let other : x ≢ y = every_member (λ k. k ≢ y) (ys ++ x ∷ []) d.0 x (Contains-push ys x) in
+    rw (ne_eqb y x (λ e. other (sym e))) (ap (λ ks. y ∷ ks) (all_before ys x d.1))
+
+-- so the last place comes last where it is taken out and put back
+pub last_stays : (next prev : ℕ → ℕ) (places : ℕ) (xs : List ℕ) (x : ℕ) → IsRing next prev places xs → Contains xs x → prev 0 ≡ x → filter (λ k. not (eqb k x)) xs ++ x ∷ [] ≡ xs
+last_stays next prev places [] x r (k, l, is) e = absurd (omega arith)
+last_stays next prev places (y ∷ ys) x r m e =
+    let p = last_is next prev 0 y ys 0 r.joined in
+    let all : y ∷ ys ≡ p.0 ++ x ∷ [] = p.1 ∙ ap (λ k. p.0 ++ k ∷ []) e in
+    subst (λ ks. filter (λ k. not (eqb k x)) ks ++ x ∷ [] ≡ ks) (sym all) (ap (λ ks. ks ++ x ∷ []) (all_before p.0 x (subst Differ all r.differ)))
 
 -- one less
 pub length_less : (xs : List ℕ) (x : ℕ) → Differ xs → Contains xs x → length (filter (λ k. not (eqb k x)) xs) + 1 ≡ length xs

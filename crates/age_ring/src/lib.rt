@@ -109,6 +109,18 @@ impl AgeRing {
         join(&mut self.links, link.prev, link.next);
         self.len -= 1;
     }
+
+    /// Puts a number that is there behind all others.
+    pub fn renew(&mut self, number: u32)
+        requires { Contains self.old.numbers number }
+        ensures numbers { self.new.numbers ≡ filter (λ n. not (n == number)) self.old.numbers ++ number ∷ [] }
+        ensures places { self.new.places ≡ self.old.places }
+    {
+        if link_at(&self.links, 0).prev != number + 1 {
+            self.remove(number);
+            self.push(number);
+        }
+    }
 }
 
 // The links of a place.
@@ -159,10 +171,12 @@ mod tests {
         ages.push(7);
         ages.push(0);
         ages.push(3);
+        ages.renew(3);
         assert_eq!(rt; ages.len(), 3);
         assert_eq!(rt; ages.first(), Some(7));
-        ages.remove(7);
+        ages.renew(7);
         assert_eq!(rt; ages.first(), Some(0));
+        ages.remove(7);
         ages.remove(3);
         ages.push(7);
         ages.remove(0);

@@ -153,15 +153,17 @@ module _ (t : Table) (rows : List Row) (row : Row) (i : IsIndexed t rows) (f : I
       let small = f.small in
       let slot = f.slot in
       record {
-        placed = f.placed;
         place = omega (arith, i.places);
         new_number = rw i.order new_of_all;
-        dirty = can_list ToDirty t.dirty i.dirty;
-        muzzy = can_list ToMuzzy t.muzzy i.muzzy;
-        retained = can_list ToRetained t.retained i.retained;
-        sizes = λ _. omega (arith, unused_most rows, room.sizes);
-        absent = key_absent size_key rows row t.sizes.keys i.sizes (λ r k n a b. size_own r row k (let l = f.within r n in omega arith) (omega arith) a b) f.number;
-        flights = omega (arith, t.flights.ok.0, room.flights, length-filter in_flight rows, count_by-le-length in_flight rows);
+        lists = record {
+          placed = f.placed;
+          dirty = can_list ToDirty t.dirty i.dirty;
+          muzzy = can_list ToMuzzy t.muzzy i.muzzy;
+          retained = can_list ToRetained t.retained i.retained;
+          sizes = λ _. omega (arith, unused_most rows, room.sizes);
+          absent = key_absent size_key rows row t.sizes.keys i.sizes (λ r k n a b. size_own r row k (let l = f.within r n in omega arith) (omega arith) a b) f.number;
+          flights = omega (arith, t.flights.ok.0, room.flights, length-filter in_flight rows, count_by-le-length in_flight rows);
+        };
       }
 
   -- ---- the table afterwards

@@ -103,7 +103,7 @@ module _ (t : Table) (row : Row) (i : IsRowTable t (rows_of t)) (m : Contains (r
     pub lowerable : HasListRoom w 1 → CanLower w other
     lowerable room =
         let can = can_lower between (others row.number (rows_of t)) other left again (record { sizes = room.sizes; flights = room.flights }) in
-        record { placed = can.placed; place = can.place; new_number = can.new_number; dirty = can.dirty; muzzy = can.muzzy; retained = can.retained; sizes = can.sizes; absent = can.absent; flights = can.flights }
+        record { place = can.place; new_number = can.new_number; lists = record { placed = can.lists.placed; dirty = can.lists.dirty; muzzy = can.lists.muzzy; retained = can.lists.retained; sizes = can.lists.sizes; absent = can.lists.absent; flights = can.lists.flights } }
 
     -- the table keeps the extents, and the other one in place of the one
     pub table_exchanged : (u : Table) → other.part.span.first ≡ row.part.span.first → IsAdded between u other → u.firsts ≡ t.firsts → u.free ≡ t.free → KeepsExtents u (exchanged (begins_at row.part.span.first) (parts_of t) (other.part ∷ []))

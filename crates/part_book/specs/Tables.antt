@@ -91,17 +91,21 @@ pub record IsLifted (t u : Table) (row : Row) : Type 0 where
   pub slots : u.slots ≡ t.slots
   pub free : u.free ≡ t.free
 
--- the lists have a place for an extent that they lack
-pub record CanLower (t : Table) (row : Row) : Type 0 where
+-- the lists of its state have a place for an extent that they lack
+pub record CanEnter (t : Table) (row : Row) : Type 0 where
   pub placed : IsPlaced row.part.span
-  pub place : row.number < t.order.places
-  pub new_number : All (λ n. n ≢ row.number) t.order.numbers
   pub dirty : CanList t.dirty row
   pub muzzy : CanList t.muzzy row
   pub retained : CanList t.retained row
   pub sizes : IsSome (size_key row) → 0 < t.sizes.spare
   pub absent : IfSome (size_key row) (λ k. ¬ Contains t.sizes.keys k)
   pub flights : vec_len t.flights < vec_capacity t.flights
+
+-- and so has the order
+pub record CanLower (t : Table) (row : Row) : Type 0 where
+  pub place : row.number < t.order.places
+  pub new_number : All (λ n. n ≢ row.number) t.order.numbers
+  pub lists : CanEnter t row
 
 -- the lists have the extent besides, and the other indexes are as they were
 pub record IsLowered (t u : Table) (row : Row) : Type 0 where
@@ -116,3 +120,10 @@ pub record IsLowered (t u : Table) (row : Row) : Type 0 where
   pub edges : u.edges ≡ t.edges
   pub slots : u.slots ≡ t.slots
   pub free : u.free ≡ t.free
+
+-- the table with its order alone changed: without a number, or with one more
+abbrev pub without_number : Table → ℕ → Table
+without_number t number = record t { order = record t.order { numbers = filter (λ n. not (n == number)) t.order.numbers } }
+
+abbrev pub with_number : Table → ℕ → Table
+with_number t number = record t { order = record t.order { numbers = t.order.numbers ++ number ∷ [] } }

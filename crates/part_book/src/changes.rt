@@ -8,7 +8,7 @@ ghost use Rattle.space_model.specs.Sound.{is_in_flight};
 ghost use Rattle.part_book.specs.Leaves.{HasLeaves, HasMore, leaves_for};
 ghost use Rattle.part_book.specs.Lists.{CanList, CanUnlist, GainsRow, LosesRow};
 ghost use Rattle.part_book.specs.Rows.{ArePieces, Own, keys_with, keys_without, with_edges, without_edges};
-ghost use Rattle.part_book.specs.Tables.{CanLower, HasListRoom, HasRoomFor, IsLifted, IsLowered, IsRowAt, IsRowTable, KeepsExtents, parts_of, rows_of};
+ghost use Rattle.part_book.specs.Tables.{CanEnter, CanLower, HasListRoom, HasRoomFor, IsLifted, IsLowered, IsRowAt, IsRowTable, KeepsExtents, parts_of, rows_of, with_number, without_number};
 
 use crate::rows::{end_of, first_key, size_key};
 use crate::table::{AgeList, Table};
@@ -89,10 +89,11 @@ impl Table {
         ensures chunks { (chunk : ℕ) → set.contains self.old.edges.chunks chunk ≡ true
             → set.contains self.new.edges.chunks chunk ≡ true }
     {
-        self.lift(number, &part);
+        self.leave(number, &part);
         self.slots[number as usize] = other;
         move_edges(&mut self.edges, part.span, other.span, number);
-        self.lower(number, &other);
+        self.enter(number, &other);
+        self.order.renew(number);
     }
 
     /// Makes two of an extent, behind all others: a high one, and behind that a low one, which begins at the same page.
@@ -125,7 +126,18 @@ impl Table {
         ensures lists { IsLifted self.old self.new (record { number = number; part = part.now }) }
         ensures room { (n : ℕ) → HasListRoom self.old n → HasListRoom self.new (n + 1) }
     {
+        self.leave(number, part);
         self.order.remove(number);
+    }
+
+    // Takes an extent off what its state puts it on.
+    fn leave(&mut self, number: u32, part: &Part)
+        requires table { IsRowTable self.old (rows_of self.old) }
+        requires there { Contains (rows_of self.old) (record { number = number; part = part.now }) }
+        ensures lists { IsLifted self.old (without_number self.new number) (record { number = number; part = part.now }) }
+        ensures order { self.new.order ≡ self.old.order }
+        ensures room { (n : ℕ) → HasListRoom self.old n → HasListRoom self.new n }
+    {
         unlist(
             &mut self.dirty,
             &mut self.muzzy,
@@ -143,7 +155,17 @@ impl Table {
         ensures lists { IsLowered self.old self.new (record { number = number; part = part.now }) }
         ensures room { (n : ℕ) → HasListRoom self.old (n + 1) → HasListRoom self.new n }
     {
+        self.enter(number, part);
         self.order.push(number);
+    }
+
+    // Puts an extent on what its state puts it on.
+    fn enter(&mut self, number: u32, part: &Part)
+        requires { CanEnter self.old (record { number = number; part = part.now }) }
+        ensures lists { IsLowered self.old (with_number self.new number) (record { number = number; part = part.now }) }
+        ensures order { self.new.order ≡ self.old.order }
+        ensures room { (n : ℕ) → HasListRoom self.old n → HasListRoom self.new n }
+    {
         list(
             &mut self.dirty,
             &mut self.muzzy,

@@ -28,7 +28,7 @@ lower-requires c =
     let room = c.lift.ensures.room 1 c.requires.room.lists in
     let can = high_lowerable t (record { number = c.args.number; part = c.args.part }) c.requires.table c.requires.there c.lift.new.self l (record { number = c.args.number; part = c.args.low }) (record { number = c.unwrap-other.result; part = c.args.high }) refl c.requires.pieces c.requires.apart unused
     (record { sizes = omega (arith, room.sizes); flights = omega (arith, room.flights) }) in
-    record { placed = can.placed; place = can.place; new_number = can.new_number; dirty = can.dirty; muzzy = can.muzzy; retained = can.retained; sizes = can.sizes; absent = can.absent; flights = can.flights }
+    record { place = can.place; new_number = can.new_number; lists = record { placed = can.lists.placed; dirty = can.lists.dirty; muzzy = can.lists.muzzy; retained = can.lists.retained; sizes = can.lists.sizes; absent = can.lists.absent; flights = can.lists.flights } }
 
 pub lower-requires-2 : goal.lower-requires-2
 lower-requires-2 c =
@@ -45,7 +45,7 @@ lower-requires-2 c =
     let room = c.lower.ensures.room 1 (record { sizes = omega (arith, up.sizes); flights = omega (arith, up.flights) }) in
     let can = low_lowerable t row c.requires.table c.requires.there c.lift.new.self l low high refl c.requires.pieces c.requires.apart unused c.lower.new.self done c.lower.new.self
     (record { order = k.order; places = k.places; dirty = k.dirty; muzzy = k.muzzy; retained = k.retained; flights = k.flights; sizes = k.sizes }) room in
-    record { placed = can.placed; place = can.place; new_number = can.new_number; dirty = can.dirty; muzzy = can.muzzy; retained = can.retained; sizes = can.sizes; absent = can.absent; flights = can.flights }
+    record { place = can.place; new_number = can.new_number; lists = record { placed = can.lists.placed; dirty = can.lists.dirty; muzzy = can.lists.muzzy; retained = can.lists.retained; sizes = can.lists.sizes; absent = can.lists.absent; flights = can.lists.flights } }
 
 pub returns-clause-room : goal.returns-clause-room
 returns-clause-room c n room =

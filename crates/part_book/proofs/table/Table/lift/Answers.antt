@@ -1,30 +1,27 @@
-use Rattle.part_book.proofs.Words.{arith, ToDirty, ToMuzzy, ToRetained, is_in_flight, rows_of}
-use Rattle.part_book.proofs.Additions.{one_rest, can_unlist, once, order_fewer}
-use Rattle.part_book.proofs.Rowed.{row_placed}
+use Rattle.part_book.proofs.Words.{arith, not, eqb, filter, length, ap, ◌∙◌, rows_of}
+use Rattle.part_book.proofs.Additions.{order_fewer}
 use Rattle.part_book.proofs.table.Table.lift.Goals as goal
 
-pub unlist-requires-clause-dirty : goal.unlist-requires-clause-dirty
-unlist-requires-clause-dirty c = can_unlist c.args.self.now (rows_of c.args.self.now) _ c.requires.table c.requires.there ToDirty _ c.requires.table.indexes.dirty
-
-pub unlist-requires-clause-muzzy : goal.unlist-requires-clause-muzzy
-unlist-requires-clause-muzzy c = can_unlist c.args.self.now (rows_of c.args.self.now) _ c.requires.table c.requires.there ToMuzzy _ c.requires.table.indexes.muzzy
-
-pub unlist-requires-clause-retained : goal.unlist-requires-clause-retained
-unlist-requires-clause-retained c = can_unlist c.args.self.now (rows_of c.args.self.now) _ c.requires.table c.requires.there ToRetained _ c.requires.table.indexes.retained
-
-pub unlist-requires-clause-flights : goal.unlist-requires-clause-flights
-unlist-requires-clause-flights c = rw c.requires.table.indexes.flights (once c.args.self.now (rows_of c.args.self.now) _ c.requires.table c.requires.there (λ r. is_in_flight r.part.state))
-
-pub size_key-requires : goal.size_key-requires
-size_key-requires c = row_placed (rows_of c.args.self.now) _ c.requires.table.indexes.apart c.requires.there
+pub returns-clause-lists : goal.returns-clause-lists
+returns-clause-lists c =
+    let l = c.leave.ensures.lists in
+    record {
+      order = c.remove.ensures.numbers ∙ ap (λ o. filter (λ n. not (eqb n c.args.number)) o.numbers) c.leave.ensures.order;
+      places = c.remove.ensures.places ∙ ap (λ o. o.places) c.leave.ensures.order;
+      dirty = l.dirty;
+      muzzy = l.muzzy;
+      retained = l.retained;
+      sizes = l.sizes;
+      flights = l.flights;
+      firsts = l.firsts;
+      edges = l.edges;
+      slots = l.slots;
+      free = l.free;
+    }
 
 pub returns-clause-room : goal.returns-clause-room
 returns-clause-room c n room =
-    let t = c.args.self.now in
-    let fewer = order_fewer t _ c.requires.table c.requires.there c.remove.ensures.numbers in
-    let rests = one_rest (record { number = c.args.number; part = c.args.part.now }) in
-    let spare = rw c.size_key.ensures at c.drop_key.ensures.spare in
-    record {
-      sizes = omega (arith, room.sizes, c.unlist.ensures.dirty.len, c.unlist.ensures.muzzy.len, c.unlist.ensures.retained.len);
-      flights = omega (arith, room.flights);
-    }
+    let fewer = order_fewer c.args.self.now _ c.requires.table c.requires.there (c.remove.ensures.numbers ∙ ap (λ o. filter (λ n. not (eqb n c.args.number)) o.numbers) c.leave.ensures.order) in
+    let left = c.leave.ensures.room n room in
+    let same = ap (λ o. length o.numbers) c.leave.ensures.order in
+    record { sizes = omega (arith, left.sizes); flights = omega (arith, left.flights) }

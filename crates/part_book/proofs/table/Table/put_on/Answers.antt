@@ -15,7 +15,7 @@ pub lower-requires : goal.lower-requires
 lower-requires c =
     let new = fresh c.args.self.now c.args.part _ _ _ c.requires.table c.pop.ensures.items c.unwrap-number.ensures c.requires.placed c.requires.apart in
     let can = can_lower c.args.self.now (rows_of c.args.self.now) _ c.requires.table.indexes new c.requires.room.lists in
-    record { placed = can.placed; place = can.place; new_number = can.new_number; dirty = can.dirty; muzzy = can.muzzy; retained = can.retained; sizes = can.sizes; absent = can.absent; flights = can.flights }
+    record { place = can.place; new_number = can.new_number; lists = record { placed = can.lists.placed; dirty = can.lists.dirty; muzzy = can.lists.muzzy; retained = can.lists.retained; sizes = can.lists.sizes; absent = can.lists.absent; flights = can.lists.flights } }
 
 pub returns-clause-kept : goal.returns-clause-kept
 returns-clause-kept c =
