@@ -88,13 +88,17 @@ fn a_large_book_is_not_scanned(rt: HostRuntime) -> Result<(), Fail> {
     Ok(())
 }
 
-// Cuts the first page off an extent, where it has another one and there is a place.
-fn cut(book: &mut PartBook, first: u64) -> bool {
+// Cuts the first page off an extent, where it has another one and there is a place. That page comes first or last.
+fn cut(book: &mut PartBook, first: u64, last: bool) -> bool {
     if let Some(part) = book.look(first)
         && 1 < part.span.pages
         && book.spare() > 0
     {
-        book.cut(first, 1, State::Dirty, State::Dirty);
+        if last {
+            book.shed(first, 1, State::Dirty);
+        } else {
+            book.cut(first, 1, State::Dirty, State::Dirty);
+        }
         return true;
     }
     false
@@ -106,7 +110,7 @@ fn come_and_go(book: &mut PartBook, half: u64) -> bool {
     let next = page.saturating_add(1);
     let added = add_page(book, page) && add_page(book, next);
     let joined = join(book, page, next) && has_pages(book, page, 2);
-    let apart = cut(book, page) && has_pages(book, next, 1);
+    let apart = cut(book, page, half % 2 == 0) && has_pages(book, next, 1);
     added && joined && apart && flies_off(book, page)
 }
 
