@@ -1,3 +1,4 @@
+pub mod Items
 pub mod Stages
 pub mod Words
 pub mod Table

@@ -3,8 +3,7 @@ use Rattle.std.specs.Prelude.{◌≡◌, ℕ, Bool, true, false, Option, None, S
 use Rattle.space_model.specs.declared.Span.{Span}
 use Rattle.hook_api.specs.Asked.{AskFacts}
 use Rattle.call_table.specs.declared.needs.Answered.{Answered}
-use Rattle.call_table.specs.declared.needs.Item.{Item}
-use Rattle.call_table.specs.declared.needs.Item.TheVariants.{Told}
+use Rattle.call_table.specs.Items.{Item, Told}
 use Rattle.call_table.specs.declared.points.AskPoint.{AskPoint}
 use Rattle.call_table.specs.declared.points.TurnPoint.{TurnPoint}
 use Rattle.call_table.specs.declared.points.Place.{Place}

@@ -1,8 +1,7 @@
 -- The words in which calls are told: types, variants and definitions of this crate and of those below it, each under one name.
 pub use Rattle.call_table.specs.declared.needs.Request.{Request}
 pub use Rattle.call_table.specs.declared.needs.Request.TheVariants.{Malloc, Memalign, Free, FreeForeign, Publish, Take, Flush, Cache, Purge as PurgeAll, Decay, Time, Reset, Destroy, Create, Bind, HookBox, GrowLimit}
-pub use Rattle.call_table.specs.declared.needs.Item.{Item}
-pub use Rattle.call_table.specs.declared.needs.Item.TheVariants.{Replied, Told, Starved}
+pub use Rattle.call_table.specs.Items.{Item, Replied, Told, Starved}
 pub use Rattle.call_table.specs.declared.needs.Given.{Given}
 pub use Rattle.call_table.specs.declared.needs.Given.TheVariants.{Region, Done as Finished, Arena, Limits}
 pub use Rattle.call_table.specs.declared.needs.Answered.{Answered}

@@ -3,6 +3,7 @@
 ghost use Rattle.std.specs.Prelude.{◌≡◌, List, ◌∷◌, None, IfOk, IsOk, OnOk, OnErr, ◌≤◌, ◌||◌, true, false, is_some, length};
 ghost use Rattle.call_table.specs.Calls.{HasRoomToHold, may_hold, moment_of, takes_memory};
 ghost use Rattle.call_table.specs.Desks.{flushes};
+ghost use Rattle.call_table.specs.Items.{Item as Fed, lent};
 ghost use Rattle.call_table.specs.Points.{IsSizedNext, IsSizedPoint};
 ghost use Rattle.call_table.specs.Needs.{Goes, HasFewAddresses, IsFewAddresses, IsPointOrEnd, NeedIs, NeedsWant};
 ghost use Rattle.call_table.specs.Reads.{aimed, ended_by, taken_next};
@@ -97,10 +98,10 @@ impl TurnPoint {
 
 impl Place {
     /// Where an item leads that isn't the answer to the ask.
-    fn step(&self, heard: &Option<Asked>, item: &Item) -> Lead
+    fn step(&self, heard: &Option<Asked>, item: Item<'_>) -> Lead
         requires sized { IsSizedPoint (point_at self.now heard.now) }
-        requires item { hears (point_at self.now heard.now) item.now ≡ false }
-        ensures { led result None ≡ step (point_at self.now heard.now) item.now }
+        requires item { hears (point_at self.now heard.now) (lent item) ≡ false }
+        ensures { led result None ≡ step (point_at self.now heard.now) (lent item.entry) }
     {
         match (self, heard, item) {
             (Place::Turns(point), _, Item::Replied(reply)) => point.turned(reply),
@@ -259,10 +260,10 @@ impl Stage {
     }
 
     /// The answer to its ask stands beside the place, if the item is that.
-    fn hear(&mut self, item: &Item) -> bool
-        ensures hears { result ≡ hears_next self.old.next item.now }
+    fn hear(&mut self, item: Item<'_>) -> bool
+        ensures hears { result ≡ hears_next self.old.next (lent item.entry) }
         ensures heard { (request : Request) (desk : DeskFacts) → result ≡ true
-            → self.new ≡ settle request desk self.old.arena (step_next self.old.next item.now) }
+            → self.new ≡ settle request desk self.old.arena (step_next self.old.next (lent item.entry)) }
         ensures sized { IsSizedNext self.old.next → IsSizedNext self.new.next }
         ensures other { result ≡ false → self.new ≡ self.old }
     {
@@ -276,10 +277,10 @@ impl Stage {
     }
 
     /// Where an item leads that isn't the answer to an ask.
-    fn step(&self, item: &Item) -> Lead
+    fn step(&self, item: Item<'_>) -> Lead
         requires sized { IsSizedNext self.now.next }
-        requires item { hears_next self.now.next item.now ≡ false }
-        ensures { led result None ≡ step_next self.now.next item.now }
+        requires item { hears_next self.now.next (lent item) ≡ false }
+        ensures { led result None ≡ step_next self.now.next (lent item.entry) }
     {
         match &self.lead {
             Lead::To(place) => place.step(&self.heard, item),
@@ -292,13 +293,13 @@ impl Stage {
         &mut self,
         request: Request,
         desk: &Desk,
-        item: &Item,
+        item: Item<'_>,
         alloc: Global,
     ) -> Result<(), NoMemory>
         requires { IsSizedNext self.old.next }
-        ensures stage { OnOk result (self.new ≡ settle request desk.now.facts self.old.arena (step_next self.old.next item.now)) }
+        ensures stage { OnOk result (self.new ≡ settle request desk.now.facts self.old.arena (step_next self.old.next (lent item.entry))) }
         ensures sized { IsSizedNext self.new.next }
-        ensures more { OnErr result (step_next self.old.next item.now ≡ More) }
+        ensures more { OnErr result (step_next self.old.next (lent item.entry) ≡ More) }
         ensures err { OnErr result (self.new ≡ stage self.old.arena (Ends Answered.NoMemory)) }
     {
         if self.hear(item) {
@@ -426,18 +427,18 @@ impl Call {
     ///
     /// The run of the call goes on as from here. `NoMemory` only where there is none to name the regions that go back next: the
     /// call has ended with that answer.
-    pub fn next(&mut self, desk: &mut Desk, item: Item, alloc: Global) -> Result<(), NoMemory>
-        requires goes { Goes (after (moment_of self.old desk.old.facts) item).stage.next }
+    pub fn next(&mut self, desk: &mut Desk, item: Item<'_>, alloc: Global) -> Result<(), NoMemory>
+        requires goes { Goes (after (moment_of self.old desk.old.facts) (lent item)).stage.next }
         requires room { HasRoomToHold desk.old.facts.hand desk.old.room self.old.stage.next }
         ensures client { self.new.client ≡ self.old.client }
-        ensures moment { OnOk result (moment_of self.new desk.new.facts ≡ after (moment_of self.old desk.old.facts) item) }
-        ensures reads { OnOk result ((items : List Item) → run (moment_of self.old desk.old.facts) (item ∷ items) ≡ run (moment_of self.new desk.new.facts) items) }
-        ensures err { OnErr result (moment_of self.new desk.new.facts ≡ starved_after (moment_of self.old desk.old.facts) item) }
-        ensures more { OnErr result (step_next self.old.stage.next item ≡ More) }
+        ensures moment { OnOk result (moment_of self.new desk.new.facts ≡ after (moment_of self.old desk.old.facts) (lent item.entry)) }
+        ensures reads { OnOk result ((items : List Fed) → run (moment_of self.old desk.old.facts) (lent item.entry ∷ items) ≡ run (moment_of self.new desk.new.facts) items) }
+        ensures err { OnErr result (moment_of self.new desk.new.facts ≡ starved_after (moment_of self.old desk.old.facts) (lent item.entry)) }
+        ensures more { OnErr result (step_next self.old.stage.next (lent item.entry) ≡ More) }
         ensures room { HasRoomToHold desk.new.facts.hand desk.new.room self.new.stage.next }
     {
-        self.stage.tell(desk, &item);
-        let fed = self.stage.feed(self.request, desk, &item, alloc);
+        self.stage.tell(desk, item);
+        let fed = self.stage.feed(self.request, desk, item, alloc);
         self.stage.close(self.request, desk);
         fed
     }

@@ -3,6 +3,7 @@
 ghost use Rattle.std.specs.Prelude.{◌≡◌, ◌<◌, ◌≤◌, true, length, take, drop};
 ghost use Rattle.call_table.specs.Calls.{HasRoomToHold, wants_place};
 ghost use Rattle.call_table.specs.Desks.{address_behind, desk_closed, desk_ended, desk_fed, desk_turned, landed_behind, sharing, switched};
+ghost use Rattle.call_table.specs.Items.{lent};
 ghost use Rattle.call_table.specs.Points.{IsSizedNext, IsSizedTurn};
 ghost use Rattle.call_table.specs.Stages.{Ends};
 
@@ -76,9 +77,9 @@ impl TurnPoint {
 
 impl Stage {
     /// What the client has after an item.
-    pub(crate) fn tell(&self, desk: &mut Desk, item: &Item)
+    pub(crate) fn tell(&self, desk: &mut Desk, item: Item<'_>)
         requires { IsSizedNext self.now.next }
-        ensures facts { desk.new.facts ≡ desk_fed desk.old.facts self.now.arena self.now.next item.now }
+        ensures facts { desk.new.facts ≡ desk_fed desk.old.facts self.now.arena self.now.next (lent item.entry) }
         ensures room { desk.old.room ≤ desk.new.room }
     {
         if let Lead::To(Place::Turns(point)) = &self.lead {

@@ -143,13 +143,13 @@ pub enum Need {
     Done(Answered),
 }
 
-/// What a call is fed.
-#[derive(Drop)]
-pub enum Item {
+/// What a call is fed, which stays where it is.
+#[derive(Clone, Copy)]
+pub enum Item<'a> {
     /// The reply to the turn that it needed.
-    Replied(Reply),
+    Replied(&'a Reply),
     /// The answer to the ask that it needed.
-    Told(Asked),
+    Told(&'a Asked),
     /// The turn that it needed found no memory, and changed nothing.
     Starved,
 }

@@ -4,7 +4,7 @@ ghost use Rattle.std.specs.Prelude.{IfOk};
 ghost use Rattle.call_table.specs.Points.{IsSizedNext};
 
 use crate::{Answered, Given, Item, Lead, Need, Request, Stage};
-use hook_api::{HookShelf, Kind, RisingHooks};
+use hook_api::{Asked, HookShelf, Kind, RisingHooks};
 use size_classes::Addrs;
 use space_model::{Addresses, Ask, Op, Reply, Span};
 use std::alloc::{AllocError as NoMemory, Global};
@@ -54,15 +54,14 @@ impl Play {
     }
 
     /// It is fed an item, and its need was as the script says, or it wasn't.
-    fn feed(&mut self, same: bool, item: Item) -> Result<(), NoMemory>
+    fn feed(&mut self, same: bool, item: Item<'_>) -> Result<(), NoMemory>
         requires { IsSizedNext self.old.stage.next }
         ensures { IsSizedNext self.new.stage.next }
     {
         self.as_told = self.as_told && same;
         self.desk.reserve()?;
-        self.stage.tell(&mut self.desk, &item);
-        self.stage
-            .feed(self.request, &self.desk, &item, self.alloc)?;
+        self.stage.tell(&mut self.desk, item);
+        self.stage.feed(self.request, &self.desk, item, self.alloc)?;
         self.stage.close(self.request, &mut self.desk);
         Ok(())
     }
@@ -83,7 +82,7 @@ impl Play {
         ensures { IsSizedNext self.new.stage.next }
     {
         let same = self.needs_turn(&op)?;
-        self.feed(same, Item::Replied(reply))
+        self.feed(same, Item::Replied(&reply))
     }
 
     /// It needs this turn, which finds no memory.
@@ -104,7 +103,7 @@ impl Play {
             Some(Need::Turn(turn)) => turn.asked.is_some(),
             _ => false,
         };
-        self.feed(same, Item::Replied(reply))
+        self.feed(same, Item::Replied(&reply))
     }
 
     /// It needs this ask, which box 0 answers, or refuses where that is planned.
@@ -116,8 +115,8 @@ impl Play {
             Some(Need::Ask { ask: needed, .. }) => needed == ask,
             _ => false,
         };
-        let item = answer(self.alloc, ask, planned)?;
-        self.feed(same, item)
+        let asked = answer(self.alloc, ask, planned)?;
+        self.feed(same, Item::Told(&asked))
     }
 
     /// The region that it has answered, where all was as told.
@@ -135,7 +134,7 @@ impl Play {
 }
 
 /// The answer of box 0 to an ask, which it refuses where that is planned.
-fn answer(alloc: Global, ask: Ask, planned: Option<Kind>) -> Result<Item, NoMemory> {
+fn answer(alloc: Global, ask: Ask, planned: Option<Kind>) -> Result<Asked, NoMemory> {
     let mut boxes = Vec::new(alloc);
     while boxes.len() < 32 {
         boxes.push(RisingHooks::new())?;
@@ -144,7 +143,7 @@ fn answer(alloc: Global, ask: Ask, planned: Option<Kind>) -> Result<Item, NoMemo
     if let Some(kind) = planned {
         shelf.plan(0, kind, 1);
     }
-    Ok(Item::Told(shelf.ask(0, ask)))
+    Ok(shelf.ask(0, ask))
 }
 
 /// The return of so many regions, so many bytes from one to the next.

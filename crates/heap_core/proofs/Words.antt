@@ -28,6 +28,7 @@ pub use Rattle.call_table.proofs.Standing.{wants-stand}
 pub use Rattle.call_table.proofs.Steps.{steps-keep, never_starves}
 pub use Rattle.call_table.specs.Calls.{CallFacts, HasRoomToHold, moment_of}
 pub use Rattle.call_table.specs.Desks.{desk_fed, flushes, held_region, address_behind, desk_turned, landed_behind, sharing, desk_ended, switched}
+pub use Rattle.call_table.specs.Items.{lent}
 pub use Rattle.call_table.specs.Knows.{KnowsTurn, Idle, Knows, Alone, Flies, Settled, in_flight, Gets, GivesBack, HasOffered, KnowsAsk, HasPair, is_held, is_served, is_of_arena}
 pub use Rattle.call_table.specs.Laws.{IsInRange, KnowsNext, Keeps, Moves, Stands, left, stages, with_found, Ready}
 pub use Rattle.call_table.specs.Needs.{Goes, NeedIs, NeedsWant}

@@ -1,8 +1,7 @@
 -- The words in which the calls of clients are told: types and variants of the table of calls, each under one name.
 pub use Rattle.call_table.specs.declared.needs.Request.{Request}
 pub use Rattle.call_table.specs.declared.needs.Request.TheVariants.{Malloc, Memalign, Free, FreeForeign, Publish, Take, Flush, Cache, Purge as PurgeAll, Decay, Time, Reset, Destroy, Create, Bind, HookBox, GrowLimit}
-pub use Rattle.call_table.specs.declared.needs.Item.{Item}
-pub use Rattle.call_table.specs.declared.needs.Item.TheVariants.{Replied, Told, Starved}
+pub use Rattle.call_table.specs.Items.{Item, Replied, Told, Starved}
 pub use Rattle.call_table.specs.declared.needs.Given.{Given}
 pub use Rattle.call_table.specs.declared.needs.Given.TheVariants.{Region, Done as Finished, Arena, Limits}
 pub use Rattle.call_table.specs.declared.needs.Answered.{Answered}

@@ -4,6 +4,7 @@ ghost use Rattle.std.specs.Prelude.{◌≡◌, IfSome, IfNone, IfOk, IsOk, IsSom
 ghost use Rattle.std.specs.Option.{option_and_then};
 ghost use Rattle.thread_cache.specs.Desks.{DeskFacts, held_at, not_holding};
 ghost use Rattle.call_table.specs.Calls.{moment_of};
+ghost use Rattle.call_table.specs.Items.{lent};
 ghost use Rattle.call_table.specs.Needs.{Goes, IsFewAddresses, NeedIs};
 ghost use Rattle.call_table.specs.Reads.{ended_by, taken_next};
 ghost use Rattle.call_table.specs.Runs.{after, begin};
@@ -137,9 +138,9 @@ impl Client {
 
     /// Feeds an item to its open call. Gives the answer, where the call has ended by it: that is `NoMemory` where there is none
     /// to name the regions that go back next.
-    pub fn feed(&mut self, item: Item, alloc: Global) -> Option<Answered>
-        requires { IsSomeAnd self.old.call (λ call. Goes (after (moment_of call self.old.desk) item).stage.next) }
-        ensures { IfSome self.old.call (λ call. FedTo call self.old.desk item result self.new) }
+    pub fn feed(&mut self, item: Item<'_>, alloc: Global) -> Option<Answered>
+        requires { IsSomeAnd self.old.call (λ call. Goes (after (moment_of call self.old.desk) (lent item)).stage.next) }
+        ensures { IfSome self.old.call (λ call. FedTo call self.old.desk (lent item.entry) result self.new) }
     {
         let Some(call) = &mut self.call else {
             unreachable!()

@@ -5,6 +5,7 @@ ghost use Rattle.hook_api.specs.Shelf.{Shelf};
 ghost use Rattle.space_model.specs.declared.entries.Op.TheVariants.{Publish};
 ghost use Rattle.arena_core.specs.Arenas.{all_rooms, opens};
 ghost use Rattle.thread_cache.specs.Desks.{held_at};
+ghost use Rattle.call_table.specs.Items.{lent};
 ghost use Rattle.call_table.specs.Needs.{NeedIs};
 ghost use Rattle.heap_core.specs.Arenas.{reply_in, room_in, record_at, spaces_of};
 ghost use Rattle.heap_core.specs.Clients.{CanTurn, after_turn};
@@ -55,8 +56,8 @@ fn make_turn(arenas: &mut Arenas, log: &mut AskLog, turn: &mut Turn) -> Result<R
 }
 
 /// What a call is fed that wanted a turn.
-fn item_of(made: Result<Reply, NoMemory>) -> Item
-    ensures { result ≡ item_of made }
+fn item_of(made: &Result<Reply, NoMemory>) -> Item<'_>
+    ensures { lent result ≡ item_of made.now }
 {
     match made {
         Ok(reply) => Item::Replied(reply),
@@ -133,7 +134,7 @@ impl Heap {
         let client = turn.client as usize;
         self.arenas.are_apart();
         let made = make_turn(&mut self.arenas, &mut self.log, turn);
-        let ended = self.clients[client].feed(item_of(made), alloc);
+        let ended = self.clients[client].feed(item_of(&made), alloc);
         Stepped {
             did: Did::Turn,
             ended,
@@ -190,7 +191,7 @@ impl Heap {
         self.arenas.are_apart();
         let asked = shelf.ask(self.arenas.at(arena).box_no(), ask);
         self.log.push(client, asked);
-        let ended = self.clients[client as usize].feed(Item::Told(asked), alloc);
+        let ended = self.clients[client as usize].feed(Item::Told(&asked), alloc);
         Stepped {
             did: Did::Ask(asked),
             ended,

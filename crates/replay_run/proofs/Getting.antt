@@ -1,7 +1,7 @@
 -- A call that gets a region goes nowhere else until it ends.
 use Rattle.replay_run.proofs.Words.{ℕ, ◌^◌, Bool, true, false, cond, not, min, [], ◌∷◌, Option, None, Some, nat_lt, aligned_for, Reply, Noted, Took, Grow, Refuse, Grown, Landed, Regions, Span, max_series, AskFacts, Held, DeskFacts, Item, Replied, Wish, TurnPoint, Filling, Looking, Landing, AskPoint, Skipping, Trimming, Growing, Paring, Needing, Granting, Committing, Point, Turns, Asks, Tells, Next, Go, Over, More, begin_get, begin_memalign, is_alignment, page_align, small_hit, chunks_for, commit, is_marked, op_at, starved, step, told, trim, turn_replied, chosen_stage}
 use Rattle.space_model.specs.declared.Reply.TheVariants.{Nothing, Cut}
-use Rattle.call_table.specs.declared.needs.Item.TheVariants.{Told, Starved}
+use Rattle.call_table.specs.Items.{Told, Starved}
 
 -- the points at which a call gets a region
 abbrev pub TurnGets : TurnPoint → Type 0

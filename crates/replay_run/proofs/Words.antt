@@ -31,8 +31,7 @@ pub use Rattle.call_table.specs.Table.{step, chunks_for, commit, is_marked, op_a
 pub use Rattle.call_table.specs.declared.needs.Answered.{Answered}
 pub use Rattle.call_table.specs.declared.needs.Answered.TheVariants.{NotHeld}
 pub use Rattle.call_table.specs.declared.needs.Given.TheVariants.{Region}
-pub use Rattle.call_table.specs.declared.needs.Item.{Item}
-pub use Rattle.call_table.specs.declared.needs.Item.TheVariants.{Replied, Told as ToldItem}
+pub use Rattle.call_table.specs.Items.{Item, Replied, Told as ToldItem}
 pub use Rattle.call_table.specs.declared.needs.Request.{Request}
 pub use Rattle.call_table.specs.declared.needs.Request.TheVariants.{Memalign}
 pub use Rattle.call_table.specs.declared.points.AskPoint.{AskPoint}

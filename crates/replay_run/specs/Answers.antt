@@ -7,8 +7,7 @@ use Rattle.thread_cache.specs.Desks.{DeskFacts}
 use Rattle.call_table.specs.declared.needs.Answered.{Answered}
 use Rattle.call_table.specs.declared.needs.Answered.TheVariants.{Ok, NotHeld}
 use Rattle.call_table.specs.declared.needs.Given.TheVariants.{Region}
-use Rattle.call_table.specs.declared.needs.Item.{Item}
-use Rattle.call_table.specs.declared.needs.Item.TheVariants.{Told as ToldItem}
+use Rattle.call_table.specs.Items.{Item, Told as ToldItem}
 use Rattle.call_table.specs.declared.needs.Request.{Request}
 use Rattle.call_table.specs.declared.needs.Request.TheVariants.{Memalign}
 use Rattle.call_table.specs.Calls.{CallFacts}

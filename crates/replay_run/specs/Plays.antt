@@ -8,7 +8,7 @@ use Rattle.hook_api.specs.Chain.{Event as ShelfEvent}
 use Rattle.hook_api.specs.Hooks.{Answers as AnswersTo}
 use Rattle.call_table.specs.Stages.{Go, Point}
 use Rattle.call_table.specs.Calls.{CallFacts}
-use Rattle.call_table.specs.declared.needs.Item.TheVariants.{Told as ToldItem}
+use Rattle.call_table.specs.Items.{Told as ToldItem}
 use Rattle.call_table.specs.Table.{Want, WantAsk, WantTurn, want}
 use Rattle.heap_core.specs.Arenas.{IsArenas, record_at}
 use Rattle.heap_core.specs.Heaps.{HeapFacts, answered_by, holder_for, moment_after, starved_on, told_to, turned_for, unnamed_on}
