@@ -1,6 +1,6 @@
 //! The automaton of a call.
 
-ghost use Rattle.std.specs.Prelude.{◌≡◌, List, ◌∷◌, None, IfOk, IsOk, OnOk, OnErr, ◌≤◌, ◌||◌, true, false, is_some, length};
+ghost use Rattle.std.specs.Prelude.{◌≡◌, List, ◌∷◌, None, Some, IfNone, IfOk, IfSome, IsOk, OnOk, OnErr, ◌≤◌, ◌||◌, true, false, is_some, length};
 ghost use Rattle.call_table.specs.Calls.{HasRoomToHold, may_hold, moment_of, takes_memory};
 ghost use Rattle.call_table.specs.Desks.{flushes};
 ghost use Rattle.call_table.specs.Items.{Item as Fed, lent};
@@ -378,12 +378,13 @@ impl Call {
     }
 
     /// Its answer, where it has ended.
-    pub fn answer(&self) -> Option<Answered>
-        ensures answer { result ≡ ended_by self.now.stage.next }
+    pub fn answer(&self) -> Option<&Answered>
+        ensures some { IfSome result (λ answer. ended_by self.now.stage.next ≡ Some answer.now) }
+        ensures none { IfNone result (ended_by self.now.stage.next ≡ None) }
         ensures place { IsPointOrEnd self.now.stage.next }
     {
         match &self.stage.lead {
-            Lead::Ends(answer) => Some(*answer),
+            Lead::Ends(answer) => Some(answer),
             _ => None,
         }
     }

@@ -36,23 +36,14 @@ impl Model for Client {
     ghost invariant = { HasDeskRoom };
 }
 
-/// Keeps no call.
-fn close(place: &mut Option<Call>)
-    ensures { place.new ≡ None }
-{
-    *place = None;
-}
-
 /// Keeps a call only while it is open. Gives its answer, once it has ended.
 fn settle(place: &mut Option<Call>) -> Option<Answered>
     ensures open { IfSome place.old (λ call. (desk : DeskFacts) → place.new ≡ open_call call.client (moment_of call desk) call.stage.next) }
     ensures answer { IfSome place.old (λ call. result ≡ ended_by call.stage.next) }
 {
-    let ended = place.as_ref()?.answer();
-    if ended.is_some() {
-        close(place);
-    }
-    ended
+    let ended = *place.as_ref()?.answer()?;
+    *place = None;
+    Some(ended)
 }
 
 impl Client {
@@ -132,8 +123,11 @@ impl Client {
         ensures err { OnErr result (self.new ≡ self.old) }
     {
         let call = Call::start(client, &mut self.desk, request, alloc)?;
+        if let Some(answer) = call.answer() {
+            return Ok(Some(*answer));
+        }
         self.call = Some(call);
-        Ok(settle(&mut self.call))
+        Ok(None)
     }
 
     /// Feeds an item to its open call. Gives the answer, where the call has ended by it: that is `NoMemory` where there is none
