@@ -7,7 +7,7 @@ use Rattle.call_table.specs.Table.{Want, WantTurn, WantAsk, want}
 
 -- the need is what is wanted of the arena
 abbrev pub NeedsWant : ℕ → ℕ → Want → Need → Type 0
-NeedsWant client arena (WantTurn op asked) need = need ≡ NeedsTurn (record { arena = arena; client = client; op = op; asked = asked })
+NeedsWant client arena (WantTurn op asked) need = need ≡ NeedsTurn (record { arena = arena; client = client; op = op })
 NeedsWant client arena (WantAsk ask) need = need ≡ NeedsAsk arena ask
 
 -- the need of a client is what its call wants at a point, or the answer

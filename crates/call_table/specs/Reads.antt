@@ -1,12 +1,18 @@
 -- What is read of a call, and where a call is aimed that takes a region over.
 use Rattle.std.specs.Prelude.{ℕ, true, false, Option, None, Some}
-use Rattle.call_table.specs.Words.{Answered, Owning, Turns, Next, Go, Ends}
+use Rattle.hook_api.specs.Asked.{AskFacts}
+use Rattle.call_table.specs.Words.{Answered, Owning, Turns, Asks, Next, Go, Ends}
 use Rattle.call_table.specs.Calls.{CallFacts}
 
 -- the answer of a call that has ended
 abbrev pub ended_by : Next → Option Answered
 ended_by (Ends answer) = Some answer
 ended_by next = None
+
+-- the ask whose answer is taken in next, where one is
+abbrev pub heard_next : Next → Option AskFacts
+heard_next (Go (Asks point heard)) = heard
+heard_next next = None
 
 -- the address of a region of another client that a call takes over next to free it, if it wasn't published for the call yet
 abbrev pub taken_next : Next → Option ℕ

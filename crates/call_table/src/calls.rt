@@ -6,7 +6,7 @@ ghost use Rattle.call_table.specs.Desks.{flushes};
 ghost use Rattle.call_table.specs.Items.{Item as Fed, lent};
 ghost use Rattle.call_table.specs.Points.{IsSizedNext, IsSizedPoint};
 ghost use Rattle.call_table.specs.Needs.{Goes, HasFewAddresses, IsFewAddresses, IsPointOrEnd, NeedIs, NeedsWant};
-ghost use Rattle.call_table.specs.Reads.{aimed, ended_by, taken_next};
+ghost use Rattle.call_table.specs.Reads.{aimed, ended_by, heard_next, taken_next};
 ghost use Rattle.call_table.specs.Runs.{after, begin, run, settle, stage, starved_after, step_next};
 ghost use Rattle.call_table.specs.Table.{op_at, step, want};
 ghost use Rattle.call_table.specs.Stages.{Ends, Go, More, hears, hears_next, led, point_at};
@@ -127,27 +127,20 @@ impl Place {
         match (self, heard) {
             (Place::Turns(point), _) => {
                 let op = point.op(alloc)?;
-                Ok(turn(arena, client, op, None))
+                Ok(turn(arena, client, op))
             }
             (Place::Asks(point), None) => Ok(point.need(arena)),
-            (Place::Asks(point), Some(asked)) => {
-                Ok(turn(arena, client, point.done(asked), Some(*asked)))
-            }
+            (Place::Asks(point), Some(asked)) => Ok(turn(arena, client, point.done(asked))),
             (Place::Tells(span, committed), _) => Ok(told(arena, *span, *committed)),
         }
     }
 }
 
 /// A turn of an arena.
-fn turn(arena: u32, client: u32, op: Op, asked: Option<Asked>) -> Need
-    ensures { result ≡ Need.Turn (record { arena = arena; client = client; op = op; asked = asked }) }
+fn turn(arena: u32, client: u32, op: Op) -> Need
+    ensures { result ≡ Need.Turn (record { arena = arena; client = client; op = op }) }
 {
-    Need::Turn(Turn {
-        arena,
-        client,
-        op,
-        asked,
-    })
+    Need::Turn(Turn { arena, client, op })
 }
 
 /// The ask that destroys an extent.
@@ -375,6 +368,13 @@ impl Call {
             Lead::Ends(answer) => Ok(Need::Done(*answer)),
             _ => unreachable!(),
         }
+    }
+
+    /// The ask whose answer the turn carries that it needs next, where it carries one.
+    pub fn heard(&self) -> &Option<Asked>
+        ensures { result.now ≡ heard_next self.now.stage.next }
+    {
+        &self.stage.heard
     }
 
     /// Its answer, where it has ended.

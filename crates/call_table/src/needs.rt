@@ -121,10 +121,8 @@ pub struct Turn {
     pub arena: u32,
     /// The client whose turn it is.
     pub client: u32,
-    /// The operation.
+    /// The operation. The ask whose answer it carries stands with the call.
     pub op: Op,
-    /// The ask whose answer the operation carries, where it carries one.
-    pub asked: Option<Asked>,
 }
 
 /// What a call needs next.

@@ -100,7 +100,7 @@ impl Play {
         ensures { IsSizedNext self.new.stage.next }
     {
         let same = match self.need()? {
-            Some(Need::Turn(turn)) => turn.asked.is_some(),
+            Some(Need::Turn(_)) => self.stage.heard.is_some(),
             _ => false,
         };
         self.feed(same, Item::Replied(&reply))

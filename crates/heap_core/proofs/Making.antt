@@ -1,5 +1,5 @@
 -- What a turn, an ask or the want of memory leaves of a heap, and what a step then tells.
-use Rattle.heap_core.proofs.Words.{inl, inr, ◌≡◌, ◌≢◌, ◌⊎◌, ◌≤◌, ◌<◌, ℕ, ◌+◌, Bool, true, false, List, Option, None, Some, Result, Ok, Err, IfSome, IsOk, IsSomeAnd, slice_set, refl, sym, ap, subst, ◌∙◌, arith, ◌++◌, ◌∷◌, [], AskStep, Shelf, opens, Ask, Op, Reply, AskFacts, Replied, Told, Starved, Answered, NoMemory, Point, More, Turn, moment_of, Goes, Moment, after, starved_after, WantTurn, WantAsk, is_marked, step, want, IsArenas, record_at, reply_in, room_in, spaces_of, with_chunk_found, CanTurn, after_turn, FedTo, HeapFacts, IsStarved, IsStep, IsSure, answered_by, holder_for, starved_on, told_to, turned_for, turned_on, unnamed_on, DidTurn, DidAsk, owed_to, IsHeap, asks_at, asks_next, owing, Record, Seat, answer_of, seat_at, seat_of, Comes, SeatSound, MadeTurn, item_of}
+use Rattle.heap_core.proofs.Words.{inl, inr, ◌≡◌, ◌≢◌, ◌⊎◌, ◌≤◌, ◌<◌, ℕ, ◌+◌, Bool, true, false, List, Option, None, Some, Result, Ok, Err, IfSome, IsOk, IsSomeAnd, slice_set, refl, sym, ap, subst, ◌∙◌, arith, ◌++◌, ◌∷◌, [], AskStep, Shelf, opens, Ask, Op, Reply, AskFacts, Replied, Told, Starved, Answered, NoMemory, Point, More, moment_of, Goes, Moment, after, starved_after, WantTurn, WantAsk, is_marked, step, want, IsArenas, record_at, reply_in, room_in, spaces_of, with_chunk_found, CanTurn, after_turn, FedTo, HeapFacts, IsStarved, IsStep, IsSure, answered_by, holder_for, starved_on, told_to, turned_for, turned_on, unnamed_on, DidTurn, DidAsk, owed_to, IsHeap, asks_at, asks_next, owing, Record, Seat, answer_of, seat_at, seat_of, Comes, SeatSound, TurnFacts, MadeTurn, item_of}
 use Rattle.heap_core.proofs.Asking.{owed_after}
 use Rattle.heap_core.proofs.Changes.{heap_seated, heap_turned, room_used}
 use Rattle.heap_core.proofs.Sitting.{asks-sit, starves-sit, turns-sit}
@@ -58,7 +58,7 @@ module _ (records : List Record) (c : ℕ) (seat : Seat) (op : Op) (asked : Opti
           omega (arith, some, less, has, here, kept)
 
 -- memory is wanting only for a turn that takes some
-marked_err : {E : Type 0} (records records' : List Record) (owed owed' : List ℕ) (seat : Seat) (turn : Turn) (error : E) (w : Wanted records turn.client seat (WantTurn turn.op turn.asked) turn.arena) →
+marked_err : {E : Type 0} (records records' : List Record) (owed owed' : List ℕ) (seat : Seat) (turn : TurnFacts) (error : E) (w : Wanted records turn.client seat (WantTurn turn.op turn.asked) turn.arena) →
     MadeTurn records owed turn (Err error) records' owed' → is_marked turn.op ≡ true
 marked_err records records' owed owed' seat turn error w is = opens_marked w.point turn.op turn.asked w.want_is (by (opens turn.op) refl)
   where
@@ -67,7 +67,7 @@ marked_err records records' owed owed' seat turn error w is = opens_marked w.poi
     by false e = let sure = is.sure e in absurd (cc)
 
 -- where a turn was made, or found no memory, the client may be fed what came of it
-pub turn_goes : {E : Type 0} (records records' : List Record) (owed owed' : List ℕ) (seat : Seat) (turn : Turn) (made : Result Reply E) → IsArenas records → turn.client < 32 →
+pub turn_goes : {E : Type 0} (records records' : List Record) (owed owed' : List ℕ) (seat : Seat) (turn : TurnFacts) (made : Result Reply E) → IsArenas records → turn.client < 32 →
     (w : Wanted records turn.client seat (WantTurn turn.op turn.asked) turn.arena) → MadeTurn records owed turn made records' owed' →
     IsSomeAnd seat.call (λ call. Goes (after (moment_of call seat.desk) (item_of made)).stage.next)
 turn_goes records records' owed owed' seat turn made arenas few w is = subst (λ k. IsSomeAnd k (λ call. Goes (after (moment_of call seat.desk) (item_of made)).stage.next)) (sym w.is) (by made is)
@@ -79,16 +79,16 @@ turn_goes records records' owed owed' seat turn made arenas few w is = subst (λ
     by (Err error) is = (ends_starved records turn.client seat turn.op turn.asked turn.arena arenas few w (marked_err records records' owed owed' seat turn error w is)).0
 
 -- a turn of a client in the arenas, by the place where its call stands
-turned_there : {E : Type 0} (records records' : List Record) (owed owed' : List ℕ) (seat : Seat) (turn : Turn) (told : Reply) (w : Wanted records turn.client seat (WantTurn turn.op turn.asked) turn.arena) →
+turned_there : {E : Type 0} (records records' : List Record) (owed owed' : List ℕ) (seat : Seat) (turn : TurnFacts) (told : Reply) (w : Wanted records turn.client seat (WantTurn turn.op turn.asked) turn.arena) →
     MadeTurn {E = E} records owed turn (Ok told) records' owed' → records' ≡ after_turn records w.call.stage.arena turn.client turn.op turn.asked
 turned_there records records' owed owed' seat turn told w is = is.after ∙ ap (λ a. after_turn records a turn.client turn.op turn.asked) w.arena_is
 
-told_there : {E : Type 0} (records records' : List Record) (owed owed' : List ℕ) (seat : Seat) (turn : Turn) (told : Reply) (w : Wanted records turn.client seat (WantTurn turn.op turn.asked) turn.arena) →
+told_there : {E : Type 0} (records records' : List Record) (owed owed' : List ℕ) (seat : Seat) (turn : TurnFacts) (told : Reply) (w : Wanted records turn.client seat (WantTurn turn.op turn.asked) turn.arena) →
     MadeTurn {E = E} records owed turn (Ok told) records' owed' → told ≡ reply_in records w.call.stage.arena turn.client (with_chunk_found (spaces_of records) w.call.stage.arena turn.op)
 told_there records records' owed owed' seat turn told w is = is.reply ∙ ap (λ a. reply_in records a turn.client (with_chunk_found (spaces_of records) a turn.op)) w.arena_is
 
 -- and the heap is as it has to be after it
-pub turn_heap : {E : Type 0} (records records' : List Record) (seats : List Seat) (owed owed' : List ℕ) (turn : Turn) (made : Result Reply E) (seat : Seat) (ended : Option Answered) → IsHeap records seats owed → IsArenas records →
+pub turn_heap : {E : Type 0} (records records' : List Record) (seats : List Seat) (owed owed' : List ℕ) (turn : TurnFacts) (made : Result Reply E) (seat : Seat) (ended : Option Answered) → IsHeap records seats owed → IsArenas records →
     turn.client < 32 → (w : Wanted records turn.client (seat_at seats turn.client) (WantTurn turn.op turn.asked) turn.arena) → MadeTurn records owed turn made records' owed' →
     IfSome (seat_at seats turn.client).call (λ call. FedTo call (seat_at seats turn.client).desk (item_of made) ended seat) → IsHeap records' (slice_set seats turn.client seat) owed'
 turn_heap records records' seats owed owed' turn (Err error) seat ended heap arenas few w is fed =
@@ -138,7 +138,7 @@ turn_heap records records' seats owed owed' turn (Ok told) seat ended heap arena
     by (inr (same, e, more)) = sat (starved_after at' (Replied told)) same (leads.2 more) (omega arith)
 
 -- and what the step tells is what it did
-pub turn_step : {E : Type 0} (h : HeapFacts) (records' : List Record) (owed owed' : List ℕ) (turn : Turn) (made : Result Reply E) (seat : Seat) (ended : Option Answered) (shelf : Shelf) → IsArenas h.records → turn.client < 32 →
+pub turn_step : {E : Type 0} (h : HeapFacts) (records' : List Record) (owed owed' : List ℕ) (turn : TurnFacts) (made : Result Reply E) (seat : Seat) (ended : Option Answered) (shelf : Shelf) → IsArenas h.records → turn.client < 32 →
     (w : Wanted h.records turn.client (seat_at h.seats turn.client) (WantTurn turn.op turn.asked) turn.arena) → holder_for h w.call ≡ None → MadeTurn h.records owed turn made records' owed' →
     IfSome (seat_at h.seats turn.client).call (λ call. FedTo call (seat_at h.seats turn.client).desk (item_of made) ended seat) →
     IsStep h shelf turn.client (seat_at h.seats turn.client).call (record { did = DidTurn; ended = ended }) (record { records = records'; seats = slice_set h.seats turn.client seat; heard = h.heard }) shelf
@@ -189,7 +189,7 @@ turn_step h records' owed owed' turn (Ok told) seat ended shelf arenas few w fre
         inr (inr (free, is_new), e)
 
 -- a turn that takes no memory is made
-pub turn_sure : {E : Type 0} (h now : HeapFacts) (records' : List Record) (seats' : List Seat) (heard' : List AskFacts) (owed owed' : List ℕ) (turn : Turn) (made : Result Reply E) → h ≡ now →
+pub turn_sure : {E : Type 0} (h now : HeapFacts) (records' : List Record) (seats' : List Seat) (heard' : List AskFacts) (owed owed' : List ℕ) (turn : TurnFacts) (made : Result Reply E) → h ≡ now →
     (w : Wanted h.records turn.client (seat_at h.seats turn.client) (WantTurn turn.op turn.asked) turn.arena) → MadeTurn h.records owed turn made records' owed' →
     IsSure now turn.client (seat_at now.seats turn.client).call (record { records = records'; seats = seats'; heard = heard' })
 turn_sure h now records' seats' heard' owed owed' turn made view w is =

@@ -1,5 +1,5 @@
 -- A region that its holder publishes for another client's call.
-use Rattle.heap_core.proofs.Words.{inl, ◌≡◌, ◌≢◌, ◌≤◌, ◌<◌, ℕ, ◌+◌, true, false, List, Option, None, Some, Ok, Err, IsSomeAnd, is_some, length, get_or, slice_set, refl, sym, ap, subst, ◌∙◌, arith, option_map, get_or_default, get_or-set_other, get_or-set_same, position-Some, Publish, TakeOver, Shelf, not_holding, Reply, AskFacts, Held, held_at, Owning, Turns, Next, Go, Turn, CallFacts, aimed, published_next, taken_next, IsArenas, room_in, CanTurn, after_turn, aimed_seat, HeapFacts, IsStepFor, IsStep, IsSure, SureAt, WantedAt, answered_by, holding_client, holder_for, parted, published_for, region_for, seated, turned_for, DidTurn, owed_to, IsHeap, asks_next, owing, Record, Seat, first_seat, holder_of, seat_at, IsSeated, SeatSound, Sits, SitsAt, HolderIs, IsPublished, MadeTurn, StarvesAt, StarvesNext, TakesAt}
+use Rattle.heap_core.proofs.Words.{inl, ◌≡◌, ◌≢◌, ◌≤◌, ◌<◌, ℕ, ◌+◌, true, false, List, Option, None, Some, Ok, Err, IsSomeAnd, is_some, length, get_or, slice_set, refl, sym, ap, subst, ◌∙◌, arith, option_map, get_or_default, get_or-set_other, get_or-set_same, position-Some, Publish, TakeOver, Shelf, not_holding, Reply, AskFacts, Held, held_at, Owning, Turns, Next, Go, CallFacts, aimed, published_next, taken_next, IsArenas, room_in, CanTurn, after_turn, aimed_seat, HeapFacts, IsStepFor, IsStep, IsSure, SureAt, WantedAt, answered_by, holding_client, holder_for, parted, published_for, region_for, seated, turned_for, DidTurn, owed_to, IsHeap, asks_next, owing, Record, Seat, first_seat, holder_of, seat_at, IsSeated, SeatSound, Sits, SitsAt, HolderIs, IsPublished, TurnFacts, MadeTurn, StarvesAt, StarvesNext, TakesAt}
 use Rattle.heap_core.specs.Arenas.{records_turned}
 use Rattle.heap_core.specs.Heaps.{region_in_seat}
 use Rattle.heap_core.specs.declared.heaps.Stepped.{Stepped}
@@ -23,7 +23,7 @@ held_there seats addr holder seat region is at held none =
 -- ---- a holder publishes
 
 -- the turn of a holder
-abbrev pub publishing : ℕ → Held → Turn
+abbrev pub publishing : ℕ → Held → TurnFacts
 publishing holder region = record { arena = region.arena; client = holder; op = Publish region.addr; asked = None }
 
 few_next : (room : ℕ) (next : Next) → asks_next room next ≤ room + 1
@@ -59,7 +59,7 @@ publish_heap records records' seats owed owed' holder region told seat heap aren
     subst (λ rs. IsHeap rs (slice_set seats holder seat) owed') (sym made.after) (subst (λ s. IsHeap then (slice_set seats holder s) owed') (sym is) done)
 
 -- where memory is wanting, places may have been promised
-pub publish_kept : {E : Type 0} (records records' : List Record) (seats : List Seat) (owed owed' : List ℕ) (turn : Turn) (error : E) → IsHeap records seats owed → MadeTurn records owed turn (Err error) records' owed' → IsHeap records' seats owed'
+pub publish_kept : {E : Type 0} (records records' : List Record) (seats : List Seat) (owed owed' : List ℕ) (turn : TurnFacts) (error : E) → IsHeap records seats owed → MadeTurn records owed turn (Err error) records' owed' → IsHeap records' seats owed'
 publish_kept records records' seats owed owed' turn error heap made = subst (λ rs. IsHeap rs seats owed') (sym made.err) (record {
   number = heap.number;
   sound = heap.sound;

@@ -1,5 +1,5 @@
 -- What a client's open call wants, and where a step for it leads.
-use Rattle.heap_core.proofs.Words.{inl, inr, ◌≡◌, ◌⊎◌, ◌≤◌, ◌<◌, ℕ, ◌+◌, true, false, List, Option, None, Some, Result, Ok, IfSome, IsSomeAnd, refl, sym, ap, subst, ◌∙◌, arith, Shelf, opens, Item, Told, Starved, Answered, NoMemory, TurnPoint, Dooming, Owning, AskPoint, Needing, Point, Turns, Asks, Tells, Next, Go, More, Ends, Ask, Op, AskFacts, DeskFacts, Need, NeedsTurn, NeedsAsk, Turn, CallFacts, moment_of, desk_fed, NeedIs, NeedsWant, taken_next, Moment, after, moved, starved_after, step_next, Want, WantTurn, WantAsk, done_at, is_marked, op_at, starved, step, want, room_in, FedTo, NeedOf, never_starves, HeapFacts, IsStepFor, IsStep, IsSure, SureAt, SureFor, WantedAt, asks_at, asks_next, owing, Record, Seat, answer_of, seat_at, seat_of, IsSeated, SeatSound, Sits, SitsAt, IsMarked, Needs, StarvesAt, StarvesNext}
+use Rattle.heap_core.proofs.Words.{inl, inr, ◌≡◌, ◌⊎◌, ◌≤◌, ◌<◌, ℕ, ◌+◌, true, false, List, Option, None, Some, Result, Ok, IfSome, IsSomeAnd, is_some, refl, sym, ap, subst, ◌∙◌, arith, Shelf, opens, Item, Told, Starved, Answered, NoMemory, TurnPoint, Dooming, Owning, AskPoint, Needing, Point, Turns, Asks, Tells, Next, Go, More, Ends, Ask, Op, AskFacts, DeskFacts, Need, NeedsTurn, NeedsAsk, Turn, CallFacts, moment_of, desk_fed, NeedIs, NeedsWant, heard_next, taken_next, Moment, after, moved, starved_after, step_next, Want, WantTurn, WantAsk, done_at, is_marked, op_at, starved, step, want, room_in, FedTo, NeedOf, never_starves, HeapFacts, IsStepFor, IsStep, IsSure, SureAt, SureFor, WantedAt, asks_at, asks_next, owing, Record, Seat, answer_of, heard_by, seat_at, seat_of, IsSeated, SeatSound, Sits, SitsAt, IsMarked, Needs, StarvesAt, StarvesNext}
 use Rattle.heap_core.specs.declared.heaps.Stepped.{Stepped}
 
 -- ---- the point of an open call
@@ -34,31 +34,48 @@ wanted records c seat wants arena P sound some tells =
     record { call = k.0; point = g.0; is = k.1; client = s.0; goes = g.1; sits = g.2; want_is = t.0; arena_is = t.1 }
 
 -- what it needs is what it wants
-turn_needed : (client at : ℕ) (w : Want) (turn : Turn) → NeedsWant client at w (NeedsTurn turn) → (w ≡ WantTurn turn.op turn.asked) × (turn.arena ≡ at)
-turn_needed client at (WantTurn op asked) turn is =
-    let same : turn ≡ record { arena = at; client = client; op = op; asked = asked } = cc in
-    (ap (λ (t : Turn). WantTurn t.op t.asked) (sym same), ap (λ (t : Turn). t.arena) same)
-turn_needed client at (WantAsk ask) turn is = absurd (cc)
+turn_needed : (client at : ℕ) (point : Point) (turn : Turn) → NeedsWant client at (want point) (NeedsTurn turn) → (want point ≡ WantTurn turn.op (heard_next (Go point))) × (turn.arena ≡ at)
+turn_needed client at (Turns point) turn is =
+    let same : turn ≡ record { arena = at; client = client; op = op_at point } = cc in
+    (ap (λ (t : Turn). WantTurn t.op None) (sym same), ap (λ (t : Turn). t.arena) same)
+turn_needed client at (Asks point (Some asked)) turn is =
+    let same : turn ≡ record { arena = at; client = client; op = done_at point asked } = cc in
+    (ap (λ (t : Turn). WantTurn t.op (Some asked)) (sym same), ap (λ (t : Turn). t.arena) same)
+turn_needed client at point turn is = absurd (cc)
 
 ask_needed : (client at : ℕ) (w : Want) (arena : ℕ) (ask : Ask) → NeedsWant client at w (NeedsAsk arena ask) → (w ≡ WantAsk ask) × (arena ≡ at)
 ask_needed client at (WantAsk ask') arena ask is = (cc, cc)
 ask_needed client at (WantTurn op asked) arena ask is = absurd (cc)
 
-pub turn_wanted : (records : List Record) (c : ℕ) (seat : Seat) (turn : Turn) → SeatSound records c seat → Needs seat.call (NeedsTurn turn) → Wanted records c seat (WantTurn turn.op turn.asked) turn.arena
+pub turn_wanted : (records : List Record) (c : ℕ) (seat : Seat) (turn : Turn) → SeatSound records c seat → Needs seat.call (NeedsTurn turn) → Wanted records c seat (WantTurn turn.op (heard_by seat.call)) turn.arena
 turn_wanted records c seat turn sound needs =
-    wanted records c seat (WantTurn turn.op turn.asked) turn.arena (λ call. NeedIs call.client call.stage.arena call.stage.next (NeedsTurn turn)) sound needs
-    (λ call point goes need. turn_needed call.client call.stage.arena (want point) turn (subst (λ next. NeedIs call.client call.stage.arena next (NeedsTurn turn)) goes need))
+    let k = some_call seat.call (λ call. NeedIs call.client call.stage.arena call.stage.next (NeedsTurn turn)) needs in
+    subst (λ heard. Wanted records c seat (WantTurn turn.op heard) turn.arena) (ap heard_by (sym k.1))
+    (wanted records c seat (WantTurn turn.op (heard_next k.0.stage.next)) turn.arena (λ call. (call ≡ k.0) × NeedIs call.client call.stage.arena call.stage.next (NeedsTurn turn)) sound
+    (subst (λ call. IsSomeAnd call (λ call. (call ≡ k.0) × NeedIs call.client call.stage.arena call.stage.next (NeedsTurn turn))) (sym k.1) (refl, k.2))
+    (λ call point goes need.
+    let t = turn_needed call.client call.stage.arena point turn (subst (λ next. NeedIs call.client call.stage.arena next (NeedsTurn turn)) goes need.1) in
+    (t.0 ∙ ap (λ next. WantTurn turn.op (heard_next next)) (sym goes ∙ ap (λ (k : CallFacts). k.stage.next) need.0), t.1)))
 
 pub ask_wanted : (records : List Record) (c : ℕ) (seat : Seat) (arena : ℕ) (ask : Ask) → SeatSound records c seat → Needs seat.call (NeedsAsk arena ask) → Wanted records c seat (WantAsk ask) arena
 ask_wanted records c seat arena ask sound needs =
     wanted records c seat (WantAsk ask) arena (λ call. NeedIs call.client call.stage.arena call.stage.next (NeedsAsk arena ask)) sound needs
     (λ call point goes need. ask_needed call.client call.stage.arena (want point) arena ask (subst (λ next. NeedIs call.client call.stage.arena next (NeedsAsk arena ask)) goes need))
 
--- likewise where the heap is seen to be so
-pub turn_seen : (h now : HeapFacts) (turn : Turn) → h ≡ now → SeatSound h.records turn.client (seat_at h.seats turn.client) → Needs (seat_at now.seats turn.client).call (NeedsTurn turn) →
-    Wanted h.records turn.client (seat_at h.seats turn.client) (WantTurn turn.op turn.asked) turn.arena
-turn_seen h now turn view sound needs =
-    turn_wanted h.records turn.client (seat_at h.seats turn.client) turn sound (subst (λ (n : HeapFacts). Needs (seat_at n.seats turn.client).call (NeedsTurn turn)) (sym view) needs)
+-- likewise where the heap is seen to be so, and the client with the ask that it heard
+pub turn_seen : (h now : HeapFacts) (turn : Turn) (seat : Seat) (asked : Option AskFacts) → h ≡ now → SeatSound h.records turn.client (seat_at h.seats turn.client) → Needs (seat_at now.seats turn.client).call (NeedsTurn turn) →
+    seat ≡ seat_at h.seats turn.client → asked ≡ heard_by seat.call → Wanted h.records turn.client (seat_at h.seats turn.client) (WantTurn turn.op asked) turn.arena
+turn_seen h now turn seat asked view sound needs same heard =
+    let at : Seat = seat_at h.seats turn.client in
+    subst (λ a. Wanted h.records turn.client at (WantTurn turn.op a) turn.arena) (sym (heard ∙ ap (λ (s : Seat). heard_by s.call) same))
+    (turn_wanted h.records turn.client at turn sound (subst (λ (n : HeapFacts). Needs (seat_at n.seats turn.client).call (NeedsTurn turn)) (sym view) needs))
+
+-- and it has an open call
+pub turn_calls : (h now : HeapFacts) (turn : Turn) (seat : Seat) → h ≡ now → Needs (seat_at now.seats turn.client).call (NeedsTurn turn) → seat ≡ seat_at h.seats turn.client → is_some seat.call ≡ true
+turn_calls h now turn seat view needs same =
+    let is : seat ≡ seat_at now.seats turn.client = same ∙ ap (λ (n : HeapFacts). seat_at n.seats turn.client) view in
+    let k = some_call (seat_at now.seats turn.client).call (λ call. NeedIs call.client call.stage.arena call.stage.next (NeedsTurn turn)) needs in
+    ap (λ (s : Seat). is_some s.call) is ∙ ap is_some k.1
 
 pub ask_seen : (h now : HeapFacts) (c arena : ℕ) (ask : Ask) → h ≡ now → SeatSound h.records c (seat_at h.seats c) → Needs (seat_at now.seats c).call (NeedsAsk arena ask) → Wanted h.records c (seat_at h.seats c) (WantAsk ask) arena
 ask_seen h now c arena ask view sound needs = ask_wanted h.records c (seat_at h.seats c) arena ask sound (subst (λ (n : HeapFacts). Needs (seat_at n.seats c).call (NeedsAsk arena ask)) (sym view) needs)
@@ -213,7 +230,7 @@ taken_is next addr is = absurd (cc)
 
 turn_client_of : (client at : ℕ) (w : Want) (turn : Turn) → NeedsWant client at w (NeedsTurn turn) → turn.client ≡ client
 turn_client_of client at (WantTurn op asked) turn is =
-    let same : turn ≡ record { arena = at; client = client; op = op; asked = asked } = cc in
+    let same : turn ≡ record { arena = at; client = client; op = op } = cc in
     ap (λ (t : Turn). t.client) same
 turn_client_of client at (WantAsk ask) turn is = absurd (cc)
 

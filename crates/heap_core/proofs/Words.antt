@@ -32,7 +32,7 @@ pub use Rattle.call_table.specs.Items.{lent}
 pub use Rattle.call_table.specs.Knows.{KnowsTurn, Idle, Knows, Alone, Flies, Settled, in_flight, Gets, GivesBack, HasOffered, KnowsAsk, HasPair, is_held, is_served, is_of_arena}
 pub use Rattle.call_table.specs.Laws.{IsInRange, KnowsNext, Keeps, Moves, Stands, left, stages, with_found, Ready}
 pub use Rattle.call_table.specs.Needs.{Goes, NeedIs, NeedsWant}
-pub use Rattle.call_table.specs.Reads.{ended_by, aimed, published_next, taken_next}
+pub use Rattle.call_table.specs.Reads.{ended_by, aimed, heard_next, published_next, taken_next}
 pub use Rattle.call_table.specs.Rooms.{needed_at, Suffices, flying, needed_next, room_then}
 pub use Rattle.call_table.specs.Runs.{Moment, after, batch_goes, begin, begin_desk, begin_free, begin_get, begin_publish, begin_stage, closed, first_turn, is_alignment, moved, page_align, small_hit, stage, step_next, after_time, begin_bind, begin_malloc, begin_memalign, desk_freed, desk_got, desk_published, first_turn_but_0, purge_visit, share, decay_setting, wish_for, starved_after, settle}
 pub use Rattle.call_table.specs.Table.{op_at, WantTurn, ask_at, done_at, is_marked, step, want, WantAsk, make_next, told, turn_replied, starved, Want}
@@ -83,9 +83,9 @@ pub use Rattle.heap_core.specs.Heaps.{HeapFacts, IsStarved, IsStep, IsSure, answ
 pub use Rattle.heap_core.specs.Logs.{owed_to}
 pub use Rattle.heap_core.specs.Owing.{asks_at, owing, IsHeap, asks_next}
 pub use Rattle.heap_core.specs.Records.{Record, opening_space, IsReplayed, most_room, entries_of, IsRecorded, shown}
-pub use Rattle.heap_core.specs.Seats.{seat_of, Seat, asked_for, first_seat, free_request, held_by, holder_of, seat_at, answer_of, open_call}
+pub use Rattle.heap_core.specs.Seats.{seat_of, Seat, asked_for, first_seat, free_request, heard_by, held_by, holder_of, seat_at, answer_of, open_call}
 pub use Rattle.heap_core.specs.Sitting.{IsSeated, SeatSound, Comes, HasSlots, StartsSit, Suits, SuitsChange, SuitsTurn, IsTheHand, is_region, AimsSit, HasRegions, HoldersPublish, Sits, SitsAt, SuitsAsk, SuitsGet, SuitsThen, is_region_in, IsAtRest, in_hand, regions_of_desk, OpeningSits, IsPlain, AsksSit, OthersSit, StarvesSit, TurnsSit}
-pub use Rattle.heap_core.specs.Stepping.{MadeTurn, item_of, HolderIs, IsPublished, StarvesAt, StarvesNext, TakesAt, IsMarked, Needs}
+pub use Rattle.heap_core.specs.Stepping.{TurnFacts, with_ask, MadeTurn, item_of, HolderIs, IsPublished, StarvesAt, StarvesNext, TakesAt, IsMarked, Needs}
 pub use Rattle.heap_core.specs.Words.{Request, Malloc, Memalign, Free, Flush, Cache, Reset, Destroy, Create, Item, Replied, TurnPoint, Filling, Skipping, Point, Turns, Asks, Tells, Next, Go, Over, More, FreeForeign, Take, PurgeAll, Decay, Time, HookBox, GrowLimit, Finished, TooLarge, BadAlign, NotHeld, NoSuchArena as NoArena, Automatic, Stops, Leaves, Looking, Taking, Advancing, Changing, Making, Resetting, Destroying, Publishing, Owning, Ends, Stage, Wish, Change, Visits, Landing, Giving, AskPoint, Gone, Nowhere, Answered, Told, Starved, NoMemory, Then, Batches, Visiting, Finding, Dooming, Merging, Arena, Limits, Given, Needing}
 pub use Rattle.heap_core.specs.declared.heaps.Did.TheVariants.{Turn as DidTurn, Ask as DidAsk}
 pub use Rattle.heap_core.specs.declared.records.Recorded.TheInside.{Inside}

@@ -1,10 +1,10 @@
 -- The clients of a heap: what each has, its open call, and how both change.
 use Rattle.std.specs.Prelude.{ℕ, false, List, [], Option, None, Some, is_some, replicate, slice_index_or}
 use Rattle.std.specs.List.{position}
-use Rattle.call_table.specs.Words.{Held, DeskFacts, held_at}
+use Rattle.call_table.specs.Words.{AskFacts, Held, DeskFacts, held_at}
 use Rattle.heap_core.specs.Words.{Request, Free, FreeForeign, Answered, Next, Go}
 use Rattle.call_table.specs.Calls.{CallFacts}
-use Rattle.call_table.specs.Reads.{ended_by}
+use Rattle.call_table.specs.Reads.{ended_by, heard_next}
 use Rattle.call_table.specs.Runs.{Moment, begin}
 
 -- A client of a heap: what it has, and its call while one is open.
@@ -32,6 +32,11 @@ open_call c at next = None
 -- a client whose call came to this moment
 abbrev pub seat_of : ℕ → Moment → Seat
 seat_of c at = record { desk = at.desk; call = open_call c at at.stage.next }
+
+-- the ask whose answer an open call takes in next, where it does
+abbrev pub heard_by : Option CallFacts → Option AskFacts
+heard_by None = None
+heard_by (Some call) = heard_next call.stage.next
 
 -- the answer of a call, if it has ended at this moment
 abbrev pub answer_of : Moment → Option Answered

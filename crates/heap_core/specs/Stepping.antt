@@ -1,7 +1,7 @@
 -- What the parts of a step of a client rest on.
 use Rattle.std.specs.Prelude.{◌≡◌, ◌≢◌, ◌+◌, ◌<◌, ◌≤◌, ℕ, true, false, List, Option, None, Some, Result, Ok, Err, IfOk, IsOk, IsSomeAnd, OnOk, OnErr}
 use Rattle.space_model.specs.declared.entries.Op.TheVariants.{Publish}
-use Rattle.call_table.specs.Words.{Reply, Held}
+use Rattle.call_table.specs.Words.{Op, Reply, AskFacts, Held}
 use Rattle.heap_core.specs.Words.{Item, Replied, Starved, Next, Go}
 use Rattle.call_table.specs.declared.needs.Need.{Need}
 use Rattle.call_table.specs.Calls.{CallFacts}
@@ -16,6 +16,16 @@ use Rattle.heap_core.specs.Clients.{after_turn}
 use Rattle.heap_core.specs.Logs.{owed_to}
 use Rattle.heap_core.specs.Records.{Record}
 use Rattle.heap_core.specs.Heaps.{HeapFacts, holder_for, parted, region_for}
+
+-- A turn with the ask whose answer its operation carries, where it carries one.
+pub record TurnFacts : Type 0 where
+  pub arena : ℕ
+  pub client : ℕ
+  pub op : Op
+  pub asked : Option AskFacts
+
+abbrev pub with_ask : Turn → Option AskFacts → TurnFacts
+with_ask turn asked = record { arena = turn.arena; client = turn.client; op = turn.op; asked = asked }
 
 -- what a call is fed that wanted a turn
 abbrev pub item_of : {E : Type 0} → Result Reply E → Item
@@ -54,7 +64,7 @@ IsPublished h holder region new = new ≡ record (parted h holder region) { reco
 
 -- A turn was made with the places that it takes for the asks that may follow it, or memory was wanting for it, which happens only
 -- where it takes some.
-pub record MadeTurn {E : Type 0} (records : List Record) (owed : List ℕ) (turn : Turn) (made : Result Reply E) (records' : List Record) (owed' : List ℕ) : Type 0 where
+pub record MadeTurn {E : Type 0} (records : List Record) (owed : List ℕ) (turn : TurnFacts) (made : Result Reply E) (records' : List Record) (owed' : List ℕ) : Type 0 where
   pub after : OnOk made (records' ≡ after_turn records turn.arena turn.client turn.op turn.asked)
   pub reply : IfOk made (λ told. told ≡ reply_in records turn.arena turn.client (with_chunk_found (spaces_of records) turn.arena turn.op))
   pub err : OnErr made (records' ≡ records)

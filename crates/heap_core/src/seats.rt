@@ -1,6 +1,6 @@
 //! A client of a heap: what it has, and its call while one is open.
 
-ghost use Rattle.std.specs.Prelude.{◌≡◌, IfSome, IfNone, IfOk, IsOk, IsSomeAnd, None, OnOk, OnErr, is_some};
+ghost use Rattle.std.specs.Prelude.{◌≡◌, IfSome, IfNone, IfOk, IsOk, IsSomeAnd, None, OnOk, OnErr, true, is_some};
 ghost use Rattle.std.specs.Option.{option_and_then};
 ghost use Rattle.thread_cache.specs.Desks.{DeskFacts, held_at, not_holding};
 ghost use Rattle.call_table.specs.Calls.{moment_of};
@@ -8,10 +8,11 @@ ghost use Rattle.call_table.specs.Items.{lent};
 ghost use Rattle.call_table.specs.Needs.{Goes, IsFewAddresses, NeedIs};
 ghost use Rattle.call_table.specs.Reads.{ended_by, taken_next};
 ghost use Rattle.call_table.specs.Runs.{after, begin};
-ghost use Rattle.heap_core.specs.Seats.{answer_of, first_seat, open_call, seat_of};
+ghost use Rattle.heap_core.specs.Seats.{answer_of, first_seat, heard_by, open_call, seat_of};
 ghost use Rattle.heap_core.specs.Feeding.{FedTo, NeedOf, aimed_seat};
 
 use call_table::{Answered, Call, Item, Need, Request};
+use hook_api::Asked;
 use std::alloc::{AllocError as NoMemory, Global};
 use std::marker::Model;
 use thread_cache::{Desk, Held};
@@ -92,6 +93,17 @@ impl Client {
     {
         let call = self.call.as_ref()?;
         Some(call.need(alloc))
+    }
+
+    /// The ask whose answer the turn carries that its open call needs, where it carries one.
+    pub fn heard(&self) -> &Option<Asked>
+        requires { is_some self.now.call ≡ true }
+        ensures { result.now ≡ heard_by self.now.call }
+    {
+        let Some(call) = &self.call else {
+            unreachable!()
+        };
+        call.heard()
     }
 
     /// The address of a region of another client, where its open call takes that over next to free it.

@@ -14,7 +14,7 @@ ghost use Rattle.heap_core.specs.Heaps.{IsStep, IsSure, parted, seated};
 ghost use Rattle.heap_core.specs.Logs.{owed_to};
 ghost use Rattle.heap_core.specs.Records.{most_room};
 ghost use Rattle.heap_core.specs.Seats.{seat_at};
-ghost use Rattle.heap_core.specs.Stepping.{HolderIs, IsPublished, MadeTurn, Needs, StarvesAt, TakesAt, item_of};
+ghost use Rattle.heap_core.specs.Stepping.{HolderIs, IsPublished, MadeTurn, Needs, StarvesAt, TakesAt, item_of, with_ask};
 
 use crate::Arenas;
 use crate::heaps::{Did, Heap, Stepped, holder_of};
@@ -22,7 +22,7 @@ use crate::logs::AskLog;
 use crate::records::places_for;
 use arena_core::Arena;
 use call_table::{Answered, Item, Need, Turn};
-use hook_api::{ExtentHooks, HookShelf};
+use hook_api::{Asked, ExtentHooks, HookShelf};
 use space_model::{Ask, Op, Reply};
 use std::alloc::{AllocError as NoMemory, Global};
 use thread_cache::Held;
@@ -44,15 +44,20 @@ fn promise(log: &mut AskLog, arena: &Arena, client: u32, op: &Op) -> Result<(), 
 
 /// A turn in one of the arenas, with places for the asks that may follow it. Where memory is wanting, nothing changes. The
 /// operation is from then on as it entered the journal.
-fn make_turn(arenas: &mut Arenas, log: &mut AskLog, turn: &mut Turn) -> Result<Reply, NoMemory>
+fn make_turn(
+    arenas: &mut Arenas,
+    log: &mut AskLog,
+    turn: &mut Turn,
+    asked: &Option<Asked>,
+) -> Result<Reply, NoMemory>
     requires arena { turn.old.arena < 32 }
     requires client { turn.old.client < 32 }
-    requires can { CanTurn arenas.old turn.old.client turn.old.arena turn.old.op turn.old.asked }
-    ensures turn { MadeTurn arenas.old log.old.owed turn.old result arenas.new log.new.owed }
+    requires can { CanTurn arenas.old turn.old.client turn.old.arena turn.old.op asked.now }
+    ensures turn { MadeTurn arenas.old log.old.owed (with_ask turn.old asked.now) result arenas.new log.new.owed }
     ensures asks { log.new.asks ≡ log.old.asks }
 {
     promise(log, arenas.at(turn.arena), turn.client, &turn.op)?;
-    arenas.turn(turn.arena, turn.client, &mut turn.op, &turn.asked)
+    arenas.turn(turn.arena, turn.client, &mut turn.op, asked)
 }
 
 /// What a call is fed that wanted a turn.
@@ -91,9 +96,8 @@ impl Heap {
             arena: region.arena,
             client: holder,
             op: Op::Publish { addr: region.addr },
-            asked: None,
         };
-        make_turn(&mut self.arenas, &mut self.log, &mut turn)?;
+        make_turn(&mut self.arenas, &mut self.log, &mut turn, &None)?;
         self.clients[holder as usize].lose(region.addr);
         Ok(())
     }
@@ -133,7 +137,8 @@ impl Heap {
     {
         let client = turn.client as usize;
         self.arenas.are_apart();
-        let made = make_turn(&mut self.arenas, &mut self.log, turn);
+        let asked = self.clients[client].heard();
+        let made = make_turn(&mut self.arenas, &mut self.log, turn, asked);
         let ended = self.clients[client].feed(item_of(&made), alloc);
         Stepped {
             did: Did::Turn,

@@ -1,31 +1,42 @@
-use Rattle.heap_core.proofs.Words.{None, IfSome, IsSomeAnd, slice_set, subst, sym, moment_of, Goes, after, FedTo, HeapFacts, IsStep, DidTurn, Seat, seat_at, HolderIs, item_of}
+use Rattle.heap_core.proofs.Words.{None, IfSome, IsSomeAnd, slice_set, subst, sym, moment_of, Goes, after, FedTo, HeapFacts, IsStep, DidTurn, Seat, seat_at, HolderIs, item_of, with_ask}
 use Rattle.heap_core.proofs.Changes.{seat_is}
 use Rattle.heap_core.proofs.Making.{turn_can, turn_goes, turn_heap, turn_step, turn_sure, turn_there}
-use Rattle.heap_core.proofs.Wanting.{turn_seen}
+use Rattle.heap_core.proofs.Wanting.{turn_calls, turn_seen}
 use Rattle.heap_core.proofs.heaps.Heap.turn.Goals as goal
+
+pub heard-asked-requires : goal.heard-asked-requires
+heard-asked-requires c =
+    turn_calls _ _ c.args.turn.now c.index.result.now c.self.view_is c.requires.needs
+    (seat_is c.self.inside.clients.items c.args.turn.now.client c.index.result.now c.self.invariant.number c.requires.client c.index.ensures)
 
 pub make_turn-made-requires-clause-can : goal.make_turn-made-requires-clause-can
 make_turn-made-requires-clause-can c =
-    let turn = c.args.turn.now in
     let inside = c.self.inside in
     let seats = inside.clients.items in
-    let w = turn_seen _ _ turn c.self.view_is (c.self.invariant.sound turn.client c.requires.client) c.requires.needs in
+    let client = c.args.turn.now.client in
+    let turn = with_ask c.args.turn.now c.heard-asked.result.now in
+    let w = turn_seen _ _ c.args.turn.now _ _ c.self.view_is (c.self.invariant.sound client c.requires.client) c.requires.needs
+    (seat_is seats client c.index.result.now c.self.invariant.number c.requires.client c.index.ensures) c.heard-asked.ensures in
     turn_can inside.arenas turn.client (seat_at seats turn.client) turn.op turn.asked turn.arena c.are_apart.ensures.arenas c.requires.client w
 
 pub make_turn-made-requires-clause-arena : goal.make_turn-made-requires-clause-arena
 make_turn-made-requires-clause-arena c =
-    let turn = c.args.turn.now in
     let inside = c.self.inside in
     let seats = inside.clients.items in
-    let w = turn_seen _ _ turn c.self.view_is (c.self.invariant.sound turn.client c.requires.client) c.requires.needs in
+    let client = c.args.turn.now.client in
+    let turn = with_ask c.args.turn.now c.heard-asked.result.now in
+    let w = turn_seen _ _ c.args.turn.now _ _ c.self.view_is (c.self.invariant.sound client c.requires.client) c.requires.needs
+    (seat_is seats client c.index.result.now c.self.invariant.number c.requires.client c.index.ensures) c.heard-asked.ensures in
     turn_there inside.arenas turn.client (seat_at seats turn.client) turn.op turn.asked turn.arena c.are_apart.ensures.arenas c.requires.client w
 
 pub feed-ended-requires : goal.feed-ended-requires
 feed-ended-requires c =
-    let turn = c.args.turn.now in
     let inside = c.self.inside in
     let seats = inside.clients.items in
-    let w = turn_seen _ _ turn c.self.view_is (c.self.invariant.sound turn.client c.requires.client) c.requires.needs in
+    let client = c.args.turn.now.client in
+    let turn = with_ask c.args.turn.now c.heard-asked.result.now in
+    let w = turn_seen _ _ c.args.turn.now _ _ c.self.view_is (c.self.invariant.sound client c.requires.client) c.requires.needs
+    (seat_is seats client c.index.result.now c.self.invariant.number c.requires.client c.index.ensures) c.heard-asked.ensures in
     let goes = subst (λ (seat : Seat). IsSomeAnd seat.call (λ call. Goes (after (moment_of call seat.desk) (item_of c.make_turn-made.result)).stage.next))
     (sym (seat_is seats turn.client c.index_mut.result.now c.self.invariant.number c.requires.client c.index_mut.ensures.value))
     (turn_goes inside.arenas c.make_turn-made.new.arenas inside.log.owed c.make_turn-made.new.log.owed (seat_at seats turn.client) turn c.make_turn-made.result c.are_apart.ensures.arenas c.requires.client w c.make_turn-made.ensures.turn) in
@@ -33,10 +44,12 @@ feed-ended-requires c =
 
 pub invariant_of-self : goal.invariant_of-self
 invariant_of-self c =
-    let turn = c.args.turn.now in
     let inside = c.self.inside in
     let seats = inside.clients.items in
-    let w = turn_seen _ _ turn c.self.view_is (c.self.invariant.sound turn.client c.requires.client) c.requires.needs in
+    let client = c.args.turn.now.client in
+    let turn = with_ask c.args.turn.now c.heard-asked.result.now in
+    let w = turn_seen _ _ c.args.turn.now _ _ c.self.view_is (c.self.invariant.sound client c.requires.client) c.requires.needs
+    (seat_is seats client c.index.result.now c.self.invariant.number c.requires.client c.index.ensures) c.heard-asked.ensures in
     let fed = subst (λ (seat : Seat). IfSome seat.call (λ call. FedTo call seat.desk (item_of c.make_turn-made.result) c.feed-ended.result c.feed-ended.new.self))
     (seat_is seats turn.client c.index_mut.result.now c.self.invariant.number c.requires.client c.index_mut.ensures.value)
     (subst (λ item. IfSome c.index_mut.result.now.call (λ call. FedTo call c.index_mut.result.now.desk item c.feed-ended.result c.feed-ended.new.self)) c.item_of.ensures c.feed-ended.ensures) in
@@ -45,10 +58,12 @@ invariant_of-self c =
 
 pub returns-clause-step : goal.returns-clause-step
 returns-clause-step c =
-    let turn = c.args.turn.now in
     let inside = c.self.inside in
     let seats = inside.clients.items in
-    let w = turn_seen _ _ turn c.self.view_is (c.self.invariant.sound turn.client c.requires.client) c.requires.needs in
+    let client = c.args.turn.now.client in
+    let turn = with_ask c.args.turn.now c.heard-asked.result.now in
+    let w = turn_seen _ _ c.args.turn.now _ _ c.self.view_is (c.self.invariant.sound client c.requires.client) c.requires.needs
+    (seat_is seats client c.index.result.now c.self.invariant.number c.requires.client c.index.ensures) c.heard-asked.ensures in
     let fed = subst (λ (seat : Seat). IfSome seat.call (λ call. FedTo call seat.desk (item_of c.make_turn-made.result) c.feed-ended.result c.feed-ended.new.self))
     (seat_is seats turn.client c.index_mut.result.now c.self.invariant.number c.requires.client c.index_mut.ensures.value)
     (subst (λ item. IfSome c.index_mut.result.now.call (λ call. FedTo call c.index_mut.result.now.desk item c.feed-ended.result c.feed-ended.new.self)) c.item_of.ensures c.feed-ended.ensures) in
@@ -63,9 +78,11 @@ returns-clause-step c =
 
 pub returns-clause-sure : goal.returns-clause-sure
 returns-clause-sure c =
-    let turn = c.args.turn.now in
     let inside = c.self.inside in
     let seats = inside.clients.items in
-    let w = turn_seen _ _ turn c.self.view_is (c.self.invariant.sound turn.client c.requires.client) c.requires.needs in
+    let client = c.args.turn.now.client in
+    let turn = with_ask c.args.turn.now c.heard-asked.result.now in
+    let w = turn_seen _ _ c.args.turn.now _ _ c.self.view_is (c.self.invariant.sound client c.requires.client) c.requires.needs
+    (seat_is seats client c.index.result.now c.self.invariant.number c.requires.client c.index.ensures) c.heard-asked.ensures in
     turn_sure (record { records = inside.arenas; seats = seats; heard = inside.log.asks }) c.args.self.now c.make_turn-made.new.arenas (slice_set seats turn.client c.feed-ended.new.self) c.make_turn-made.new.log.asks inside.log.owed
     c.make_turn-made.new.log.owed turn c.make_turn-made.result c.self.view_is w c.make_turn-made.ensures.turn
