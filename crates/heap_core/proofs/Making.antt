@@ -271,20 +271,20 @@ module _ (records : List Record) (seats : List Seat) (owed : List ℕ) (c arena 
 pub ask_step : (h : HeapFacts) (c arena : ℕ) (ask : Ask) (asked : AskFacts) (seat : Seat) (ended : Option Answered) (shelf shelf' : Shelf) (owed : List ℕ) → IsHeap h.records h.seats owed → IsArenas h.records → c < 32 →
     (w : Wanted h.records c (seat_at h.seats c) (WantAsk ask) arena) → asked.ask ≡ ask → AskStep shelf asked shelf' → asked.box_no ≡ (record_at h.records arena).space.box_no →
     IfSome (seat_at h.seats c).call (λ call. FedTo call (seat_at h.seats c).desk (Told asked) ended seat) →
-    IsStep h shelf c (seat_at h.seats c).call (record { did = DidAsk asked; ended = ended }) (record { records = h.records; seats = slice_set h.seats c seat; heard = h.heard ++ asked ∷ [] }) shelf'
+    IsStep h shelf c (seat_at h.seats c).call (record { did = DidAsk; ended = ended }) (record { records = h.records; seats = slice_set h.seats c seat; heard = h.heard ++ asked ∷ [] }) shelf'
 ask_step h c arena ask asked seat ended shelf shelf' owed heap arenas few w is step box fed =
     let told = heard h.records h.seats owed c arena ask shelf shelf' asked heap arenas few w ended seat fed in
     let new : HeapFacts = record { records = h.records; seats = slice_set h.seats c seat; heard = h.heard ++ asked ∷ [] } in
     let same : new ≡ told_to h c w.call asked = (λ i. record { records = h.records; seats = slice_set h.seats c (told.0 i); heard = h.heard ++ asked ∷ [] }) in
     let of_box : asked.box_no ≡ (record_at h.records w.call.stage.arena).space.box_no = box ∙ ap (λ a. (record_at h.records a).space.box_no) w.arena_is in
-    step_made h h.records shelf shelf' c (WantAsk ask) arena (record { did = DidAsk asked; ended = ended }) new w (asked, refl, is, of_box, step, same, told.1)
+    step_made h h.records shelf shelf' c (WantAsk ask) arena (record { did = DidAsk; ended = ended }) new w (asked, refl, is, of_box, step, same, told.1)
 
 -- the same of a heap that is seen so, and of the asks with that one behind them
 pub ask_step_at : (h now : HeapFacts) (heard' : List AskFacts) (c arena : ℕ) (ask : Ask) (asked : AskFacts) (seat : Seat) (ended : Option Answered) (shelf shelf' : Shelf) (owed : List ℕ) → h ≡ now → heard' ≡ h.heard ++ asked ∷ [] →
     IsHeap h.records h.seats owed → IsArenas h.records → c < 32 → (w : Wanted h.records c (seat_at h.seats c) (WantAsk ask) arena) → asked.ask ≡ ask → AskStep shelf asked shelf' →
     asked.box_no ≡ (record_at h.records arena).space.box_no → IfSome (seat_at h.seats c).call (λ call. FedTo call (seat_at h.seats c).desk (Told asked) ended seat) →
-    IsStep now shelf c (seat_at now.seats c).call (record { did = DidAsk asked; ended = ended }) (record { records = h.records; seats = slice_set h.seats c seat; heard = heard' }) shelf'
+    IsStep now shelf c (seat_at now.seats c).call (record { did = DidAsk; ended = ended }) (record { records = h.records; seats = slice_set h.seats c seat; heard = heard' }) shelf'
 ask_step_at h now heard' c arena ask asked seat ended shelf shelf' owed view joins heap arenas few w is step box fed =
-    subst (λ heard. IsStep now shelf c (seat_at now.seats c).call (record { did = DidAsk asked; ended = ended }) (record { records = h.records; seats = slice_set h.seats c seat; heard = heard }) shelf') (sym joins)
-    (subst (λ (n : HeapFacts). IsStep n shelf c (seat_at n.seats c).call (record { did = DidAsk asked; ended = ended }) (record { records = h.records; seats = slice_set h.seats c seat; heard = h.heard ++ asked ∷ [] }) shelf') view
+    subst (λ heard. IsStep now shelf c (seat_at now.seats c).call (record { did = DidAsk; ended = ended }) (record { records = h.records; seats = slice_set h.seats c seat; heard = heard }) shelf') (sym joins)
+    (subst (λ (n : HeapFacts). IsStep n shelf c (seat_at n.seats c).call (record { did = DidAsk; ended = ended }) (record { records = h.records; seats = slice_set h.seats c seat; heard = h.heard ++ asked ∷ [] }) shelf') view
     (ask_step h c arena ask asked seat ended shelf shelf' owed heap arenas few w is step box fed))

@@ -124,7 +124,7 @@ abbrev pub IsStepFor : HeapFacts → Shelf → ℕ → CallFacts → Want → St
 IsStepFor h shelf c call (WantTurn op asked) stepped new shelf' = (stepped.did ≡ Turn) × (shelf' ≡ shelf)
     × (((new ≡ turned_for h c call op asked (holder_for h call)) × (stepped.ended ≡ answered_by h c call op (holder_for h call)))
     ⊎ (IsStarved h c call op asked new × (stepped.ended ≡ Some NoMemory)))
-IsStepFor h shelf c call (WantAsk ask) stepped new shelf' = (asked : AskFacts) × (stepped.did ≡ Ask asked) × (asked.ask ≡ ask)
+IsStepFor h shelf c call (WantAsk ask) stepped new shelf' = (asked : AskFacts) × (stepped.did ≡ Ask) × (asked.ask ≡ ask)
     × (asked.box_no ≡ (record_at h.records call.stage.arena).space.box_no) × AskStep shelf asked shelf'
     × (new ≡ told_to h c call asked) × (stepped.ended ≡ answer_of (moment_after h c call (Told asked)))
 

@@ -1,6 +1,6 @@
 -- The asks of a heap, and the places that are promised for those to come.
-use Rattle.std.specs.Prelude.{◌≡◌, ◌<◌, ◌≤◌, ◌^◌, ℕ, List, length, slice_index_or}
-use Rattle.std.specs.List.{sum_by}
+use Rattle.std.specs.Prelude.{◌≡◌, ◌<◌, ◌≤◌, ◌^◌, ◌-◌, ℕ, List, Option, length, slice_index_or}
+use Rattle.std.specs.List.{slice_get, sum_by}
 use Rattle.call_table.specs.Words.{AskFacts}
 use Rattle.heap_core.specs.declared.logs.AskLog.TheInside.{Inside}
 
@@ -12,6 +12,10 @@ pub record LogFacts : Type 0 where
 -- how many places a client was promised
 abbrev pub owed_to : List ℕ → ℕ → ℕ
 owed_to owed c = slice_index_or owed c 0
+
+-- the last ask, if there is one
+abbrev pub last_of : List AskFacts → Option AskFacts
+last_of asks = slice_get asks (length asks - 1)
 
 -- all that was promised
 abbrev pub all_owed : List ℕ → ℕ

@@ -1,12 +1,13 @@
 //! A heap.
 
-ghost use Rattle.std.specs.Prelude.{◌≡◌, ◌<◌, ◌/◌, ◌^◌, ℕ, None, length, map, is_some, IfOk, IfSome, OnOk, OnErr};
+ghost use Rattle.std.specs.Prelude.{◌≡◌, ◌<◌, ◌/◌, ◌^◌, ℕ, None, length, map, is_some, option_copied, IfOk, IfSome, OnOk, OnErr};
 ghost use Rattle.std.specs.List.{list_any, position};
 ghost use Rattle.space_model.specs.Span.{has_page};
 ghost use Rattle.call_table.specs.Laws.{IsInRange};
 ghost use Rattle.thread_cache.specs.Desks.{held_at};
 ghost use Rattle.heap_core.specs.Arenas.{IsArenas, journal_of, record_at};
 ghost use Rattle.heap_core.specs.Heaps.{opening_heap, started};
+ghost use Rattle.heap_core.specs.Logs.{last_of};
 ghost use Rattle.heap_core.specs.Seats.{answer_of, asked_for, begun, free_request, held_by, holder_of, seat_at};
 ghost use Rattle.heap_core.specs.Sitting.{SeatSound};
 
@@ -32,8 +33,8 @@ pub enum Did {
     Idle,
     /// A turn of an arena was made for its call, or found no memory.
     Turn,
-    /// Its call made an ask.
-    Ask(Asked),
+    /// Its call made an ask, which is the last one that was made.
+    Ask,
 }
 
 /// What a step of a client told.
@@ -173,6 +174,13 @@ impl Heap {
         ensures { result ≡ position (λ r. list_any (λ p. has_page (addr / 4096) p.span) r.space.parts) self.now.records }
     {
         self.arenas.arena_of(addr / PAGE_BYTES)
+    }
+
+    /// The last ask that was made.
+    pub fn last_ask(&self) -> Option<&Asked>
+        ensures { option_copied result ≡ last_of self.now.heard }
+    {
+        self.log.last()
     }
 
     /// Begins a call of a client that has none open. Gives its answer, where it has ended already. A free of a region that

@@ -1,7 +1,7 @@
 //! The asks of a heap, with places for those to come.
 
-ghost use Rattle.std.specs.Prelude.{◌≡◌, ◌≢◌, ◌+◌, ◌<◌, ◌≤◌, ◌^◌, ℕ, [], ◌∷◌, ◌++◌, length, OnOk};
-ghost use Rattle.heap_core.specs.Logs.{owed_to};
+ghost use Rattle.std.specs.Prelude.{◌≡◌, ◌≢◌, ◌+◌, ◌<◌, ◌≤◌, ◌^◌, ℕ, [], ◌∷◌, ◌++◌, length, option_copied, OnOk};
+ghost use Rattle.heap_core.specs.Logs.{last_of, owed_to};
 
 use crate::reserves::Reserved;
 use hook_api::Asked;
@@ -70,6 +70,13 @@ impl AskLog {
         self.asks.push(asked);
         self.owed[client as usize] -= 1;
         self.total -= 1;
+    }
+
+    /// The last ask.
+    pub fn last(&self) -> Option<&Asked>
+        ensures { option_copied result ≡ last_of self.now.asks }
+    {
+        self.asks.as_slice().last()
     }
 
     /// What is always so: there are fewer than 2^64 asks.

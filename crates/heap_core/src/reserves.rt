@@ -50,6 +50,13 @@ impl<T> Reserved<T> {
     }
 
     /// The members, in order.
+    pub fn as_slice(&self) -> &[T]
+        ensures { result.now ≡ self.now.items }
+    {
+        &self.items
+    }
+
+    /// The members, in order, which are kept no more.
     pub fn into_vec(self) -> Vec<T>
         ensures { result.items ≡ self.items }
     {

@@ -198,7 +198,7 @@ impl Heap {
         self.log.push(client, asked);
         let ended = self.clients[client as usize].feed(Item::Told(&asked), alloc);
         Stepped {
-            did: Did::Ask(asked),
+            did: Did::Ask,
             ended,
         }
     }

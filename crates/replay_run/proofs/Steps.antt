@@ -1,5 +1,10 @@
 -- A step of a client's open call is an event.
-use Rattle.replay_run.proofs.Words.{◌≡◌, ◌≢◌, inl, inr, ℕ, Bool, true, List, [], ◌++◌, Option, None, Some, is_none, is_some, refl, sym, ◌∙◌, ap, append-nil, Appends-trans, Appends, AppendsPrefix, Chain, Shelf, Next, Go, Point, CallFacts, Want, WantAsk, WantTurn, want, Did, Stepped, ToldItem, HeapFacts, IsStepFor, IsStep, WantedAt, answered_by, holder_for, moment_after, answer_of, seat_at, ask_line, turn_line, Line, Verb, WorldEvent, IsNext, Starved, Told, Turned, Unnamed, after_event, client_awaited, line_in, shelf_event, Stop, IsSound, Reached, EndsHere, Here, Now, Outset, did_line, is_one_step, shown_line, world_at, status_for, Awaits, OneStep, World, awaits_after, ended_line, has_open_call, names_closed, step_text, stepped, verb_at, verbs_closed}
+use Rattle.replay_run.proofs.Words.{◌≡◌, ◌≢◌, inl, inr, ℕ, ◌+◌, Bool, true, List, [], ◌∷◌, ◌++◌, Option, None, Some, is_none, is_some, length, length-append, refl, sym, subst, arith, ◌∙◌, ap, append-nil, Appends-trans, Appends, AppendsPrefix, Chain, Shelf, Next, Go, Point, CallFacts, Want, WantAsk, WantTurn, want, Did, Stepped, ToldItem, HeapFacts, IsStepFor, IsStep, WantedAt, answered_by, holder_for, moment_after, answer_of, seat_at, ask_line, turn_line, Line, Verb, WorldEvent, IsNext, Starved, Told, Turned, Unnamed, after_event, client_awaited, line_in, shelf_event, Stop, IsSound, Reached, EndsHere, Here, Now, Outset, did_line, is_one_step, shown_line, world_at, status_for, Awaits, OneStep, World, awaits_after, ended_line, has_open_call, names_closed, step_text, stepped, verb_at, verbs_closed}
+use Rattle.std.proofs.Math.Seq.{get_or-append_seam}
+use Rattle.std.proofs.lemmas.Option.{slice_get-get_or}
+use Rattle.std.specs.List.{slice_get}
+use Rattle.hook_api.specs.Asked.{AskFacts}
+use Rattle.heap_core.specs.Logs.{last_of}
 use Rattle.call_table.specs.declared.needs.Answered.TheVariants.{NoMemory}
 use Rattle.replay_run.proofs.Came.{Leads, came_next}
 use Rattle.replay_run.proofs.Endings.{all_of, behind, longer}
@@ -15,7 +20,13 @@ pub record StepEvent (w : World) (c : ℕ) (shelf : Shelf) (told : Stepped) (hea
   pub leads : (after_event w event).heap ≡ heap
   pub more : List ℕ
   pub text : (after_event w event).text ≡ w.text ++ more
-  pub after : told.ended ≢ Some NoMemory → after_event w event ≡ stepped w c heap (did_line c told.did) told.ended
+  pub after : told.ended ≢ Some NoMemory → after_event w event ≡ stepped w c heap (did_line c told.did (last_of heap.heard)) told.ended
+
+-- the ask that was made is the last one
+last_pushed : (heard : List AskFacts) (asked : AskFacts) → last_of (heard ++ asked ∷ []) ≡ Some asked
+last_pushed heard asked =
+    let behind : length (heard ++ asked ∷ []) ≡ length heard + 1 = length-append heard (asked ∷ []) in
+    subst (λ k. slice_get (heard ++ asked ∷ []) k ≡ Some asked) (omega (arith, behind)) (slice_get-get_or (heard ++ asked ∷ []) (length heard) asked (omega (arith, behind)) ∙ ap Some (get_or-append_seam heard asked [] asked))
 
 -- a step by what its call wants
 step_wanted : (w : World) (c : ℕ) (shelf : Shelf) (call : CallFacts) (told : Stepped) (heap : HeapFacts) (shelf' : Shelf) (point : Point) (wanted : Want) →
@@ -59,7 +70,7 @@ step_wanted w c shelf call told heap shelf' point (WantAsk ask) awaited open_cal
   leads = sym made.5;
   more = step_text w.awaits (ask_line c made.0.ask made.0.answer) ++ ended_line c (verb_at w.verbs c) (answer_of (moment_after w.heap c call (ToldItem made.0)));
   text = refl;
-  after = λ memory. rw (made.1, made.5, made.6) refl;
+  after = λ memory. rw (made.1, made.5, made.6, last_pushed w.heap.heard made.0) refl;
 }
 
 -- a step by where its call stands
@@ -87,13 +98,13 @@ open_there : (h : HeapFacts) (c : ℕ) → has_open_call h c ≡ true → (seat_
 open_there h c is none = absurd (cc (is, ap is_some none))
 
 -- the line of a step is shown where one step is waited for
-shown_where : (awaits : Awaits) (c : ℕ) (did : Did) → step_text awaits (did_line c did) ≡ shown_line (is_one_step awaits) c did
-shown_where (OneStep client) c did = refl
-shown_where awaits c did = refl
+shown_where : (awaits : Awaits) (c : ℕ) (did : Did) (last : Option AskFacts) → step_text awaits (did_line c did last) ≡ shown_line (is_one_step awaits) c did last
+shown_where (OneStep client) c did last = refl
+shown_where awaits c did last = refl
 
 -- what is printed of a step
-abbrev pub step_line : Bool → ℕ → List (Option Verb) → Stepped → List ℕ
-step_line shown c verbs told = shown_line shown c told.did ++ ended_line c (verb_at verbs c) told.ended
+abbrev pub step_line : Bool → ℕ → List (Option Verb) → Stepped → HeapFacts → List ℕ
+step_line shown c verbs told heap = shown_line shown c told.did (last_of heap.heard) ++ ended_line c (verb_at verbs c) told.ended
 
 -- the moment behind a step, where so much was printed
 abbrev pub now_stepped : Now → ℕ → Stepped → HeapFacts → Shelf → Option (List ℕ) → Now
@@ -108,13 +119,13 @@ now_stepped now c told heap shelf held = record now {
 -- the replay came behind the step
 step_came : {from : Outset} {count : ℕ} {awaits : Awaits} {now : Now} (so : Here from count awaits [] now) (c : ℕ) (told : Stepped) (heap : HeapFacts) (shelf : Shelf) (held : Option (List ℕ)) →
     client_awaited awaits ≡ Some c → has_open_call now.heap c ≡ true → IsStep now.heap now.shelf c (seat_at now.heap.seats c).call told heap shelf → IsSound heap → told.ended ≢ Some NoMemory →
-    Reached from count (awaits_after awaits (is_none told.ended)) [] (so.text ++ step_line (is_one_step awaits) c now.verbs told) (now_stepped now c told heap shelf held)
+    Reached from count (awaits_after awaits (is_none told.ended)) [] (so.text ++ step_line (is_one_step awaits) c now.verbs told heap) (now_stepped now c told heap shelf held)
 step_came {from} {count} {awaits} {now} so c told heap shelf held awaited is step sound memory =
     let event = step_event (world_at now so.text awaits) c now.shelf told heap shelf awaited (open_there now.heap c is) step in
-    let leads : Leads event.event awaits [] so.text now (awaits_after awaits (is_none told.ended)) [] (so.text ++ step_line (is_one_step awaits) c now.verbs told) (now_stepped now c told heap shelf held) = record {
+    let leads : Leads event.event awaits [] so.text now (awaits_after awaits (is_none told.ended)) [] (so.text ++ step_line (is_one_step awaits) c now.verbs told heap) (now_stepped now c told heap shelf held) = record {
       next = event.next;
       after = event.after memory
-          ∙ ap (λ (line : List ℕ). record (world_at (now_stepped now c told heap shelf held) [] (awaits_after awaits (is_none told.ended))) { text = so.text ++ (line ++ ended_line c (verb_at now.verbs c) told.ended) }) (shown_where awaits c told.did);
+          ∙ ap (λ (line : List ℕ). record (world_at (now_stepped now c told heap shelf held) [] (awaits_after awaits (is_none told.ended))) { text = so.text ++ (line ++ ended_line c (verb_at now.verbs c) told.ended) }) (shown_where awaits c told.did (last_of heap.heard));
       sound = sound;
       lines = ap (λ (ls : List Line). ls ++ []) (sym event.lines);
       chain = event.chain;
@@ -146,16 +157,16 @@ step_stops {from} {count} {awaits} {now} so c told heap shelf stop awaited is st
 -- the replay stops behind the step, of which a beginning was printed
 pub step_stops_printed : {from : Outset} {count : ℕ} {awaits : Awaits} {now : Now} (so : Here from count awaits [] now) (c : ℕ) (told : Stepped) (heap : HeapFacts) (shelf : Shelf) (held : Option (List ℕ)) (stop : Stop) →
     client_awaited awaits ≡ Some c → has_open_call now.heap c ≡ true → IsStep now.heap now.shelf c (seat_at now.heap.seats c).call told heap shelf → IsSound heap → told.ended ≢ Some NoMemory →
-    status_for stop ≢ 4 → AppendsPrefix now.held held (step_line (is_one_step awaits) c now.verbs told) → EndsHere from (status_for stop) (record now { heap = heap; shelf = shelf; held = held })
+    status_for stop ≢ 4 → AppendsPrefix now.held held (step_line (is_one_step awaits) c now.verbs told heap) → EndsHere from (status_for stop) (record now { heap = heap; shelf = shelf; held = held })
 step_stops_printed {from} {count} {awaits} {now} so c told heap shelf held stop awaited is step sound memory other printed =
     stops_after (step_came so c told heap shelf held awaited is step sound memory) stop other (behind from.held now.held held so.text _ so.prints printed)
 
 -- the replay goes on behind the step, of which all was printed
 pub step_goes : {from : Outset} {count : ℕ} {awaits : Awaits} {now : Now} (so : Here from count awaits [] now) (c : ℕ) (told : Stepped) (heap : HeapFacts) (shelf : Shelf) (held : Option (List ℕ)) →
     client_awaited awaits ≡ Some c → has_open_call now.heap c ≡ true → IsStep now.heap now.shelf c (seat_at now.heap.seats c).call told heap shelf → IsSound heap → told.ended ≢ Some NoMemory →
-    Appends now.held held (step_line (is_one_step awaits) c now.verbs told) → Here from count (awaits_after awaits (is_none told.ended)) [] (now_stepped now c told heap shelf held)
+    Appends now.held held (step_line (is_one_step awaits) c now.verbs told heap) → Here from count (awaits_after awaits (is_none told.ended)) [] (now_stepped now c told heap shelf held)
 step_goes {from} {count} {awaits} {now} so c told heap shelf held awaited is step sound memory printed = record {
-  text = so.text ++ step_line (is_one_step awaits) c now.verbs told;
+  text = so.text ++ step_line (is_one_step awaits) c now.verbs told heap;
   came = step_came so c told heap shelf held awaited is step sound memory;
-  prints = Appends-trans from.held now.held held so.text (step_line (is_one_step awaits) c now.verbs told) so.prints printed;
+  prints = Appends-trans from.held now.held held so.text (step_line (is_one_step awaits) c now.verbs told heap) so.prints printed;
 }

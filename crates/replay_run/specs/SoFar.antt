@@ -1,6 +1,7 @@
 -- What is known of a replay while it goes on.
-use Rattle.std.specs.Prelude.{◌≡◌, ◌≢◌, ◌≤◌, ◌+◌, ℕ, Bool, true, false, List, [], ◌++◌, Option, Result, Ok, Err, length, map}
+use Rattle.std.specs.Prelude.{◌≡◌, ◌≢◌, ◌≤◌, ◌+◌, ℕ, Bool, true, false, List, [], ◌++◌, Option, None, Some, Result, Ok, Err, length, map}
 use Rattle.edge_io.specs.Bytes.{Appends, Consumes, IsAtEnd}
+use Rattle.hook_api.specs.Asked.{AskFacts}
 use Rattle.hook_api.specs.Chain.{Chain}
 use Rattle.hook_api.specs.Shelf.{Shelf}
 use Rattle.heap_core.specs.declared.heaps.Did.{Did}
@@ -97,16 +98,21 @@ abbrev pub is_one_step : Awaits → Bool
 is_one_step (OneStep c) = true
 is_one_step awaits = false
 
--- the line of what a step did
-abbrev pub did_line : ℕ → Did → List ℕ
-did_line c Idle = []
-did_line c Turn = turn_line c
-did_line c (Ask asked) = ask_line c asked.ask asked.answer
+-- the line of an ask, if there is one
+abbrev pub asked_line : ℕ → Option AskFacts → List ℕ
+asked_line c (Some asked) = ask_line c asked.ask asked.answer
+asked_line c None = []
+
+-- the line of what a step did, where this is the last ask then
+abbrev pub did_line : ℕ → Did → Option AskFacts → List ℕ
+did_line c Idle last = []
+did_line c Turn last = turn_line c
+did_line c Ask last = asked_line c last
 
 -- what is printed of a step: its line, where it is to be shown, and that of its call, where it has ended
-abbrev pub shown_line : Bool → ℕ → Did → List ℕ
-shown_line true c did = did_line c did
-shown_line false c did = []
+abbrev pub shown_line : Bool → ℕ → Did → Option AskFacts → List ℕ
+shown_line true c did last = did_line c did last
+shown_line false c did last = []
 
 -- a replay that ends here with a status
 abbrev pub EndsHere : Outset → ℕ → Now → Type 0

@@ -1,6 +1,6 @@
 //! Calls of clients: how they begin, their steps, and their ends.
 
-ghost use Rattle.std.specs.Prelude.{◌≡◌, ◌≢◌, ◌++◌, ◌<◌, ◌≤◌, ℕ, Bool, true, false, [], Some, IfErr, OnErr, OnOk};
+ghost use Rattle.std.specs.Prelude.{◌≡◌, ◌≢◌, ◌++◌, ◌<◌, ◌≤◌, ℕ, Bool, true, false, [], Some, option_copied, IfErr, OnErr, OnOk};
 ghost use Rattle.edge_io.specs.Bytes.{Appends, AppendsPrefix};
 ghost use Rattle.hook_api.specs.Shelf.{Shelf};
 ghost use Rattle.call_table.specs.declared.needs.Answered.{Answered};
@@ -8,9 +8,10 @@ ghost use Rattle.call_table.specs.declared.needs.Answered.TheVariants.{NoMemory 
 ghost use Rattle.trace_text.specs.declared.lines.Verb.{Verb};
 ghost use Rattle.trace_text.specs.Grammar.{IsVerbWithinLimits};
 ghost use Rattle.report_text.specs.Lines.{call_line};
+ghost use Rattle.heap_core.specs.Logs.{last_of};
 ghost use Rattle.replay_run.specs.Heads.{answer_line};
 ghost use Rattle.replay_run.specs.Plays.{client_awaited};
-ghost use Rattle.replay_run.specs.SoFar.{GoesOn, Here, Outset, Reading, is_one_step, now_of, shown_line};
+ghost use Rattle.replay_run.specs.SoFar.{GoesOn, Here, Outset, Reading, asked_line, is_one_step, now_of, shown_line};
 ghost use Rattle.replay_run.specs.Steps.{steps_of};
 ghost use Rattle.replay_run.specs.Stops.{HasStopCause};
 ghost use Rattle.replay_run.specs.World.{Awaits, Nothing, TheStart, awaits_after, awaits_begun, awaits_call, ended_line, has_open_call, names_ended};
@@ -21,8 +22,8 @@ use crate::prints::print;
 use crate::state::State;
 use call_table::Answered;
 use edge_io::Sink;
-use heap_core::{Did, Stepped};
-use hook_api::{ExtentHooks, HookShelf};
+use heap_core::{Did, Heap, Stepped};
+use hook_api::{Asked, ExtentHooks, HookShelf};
 use report_text::{Head, ask_line, call_line, turn_line};
 use space_model::Rest;
 use std::alloc::{AllocError as NoMemory, Global};
@@ -54,13 +55,29 @@ fn head(verb: &Verb) -> Head<'_>
     }
 }
 
+/// Writes the line of an ask, if there is one.
+fn write_ask(out: &mut Vec<u8>, client: u32, asked: Option<&Asked>) -> Result<(), NoMemory>
+    ensures { OnOk result (out.new.items ≡ out.old.items ++ asked_line client (option_copied asked.entry)) }
+{
+    match asked {
+        Some(asked) => ask_line(out, client, asked.ask(), asked.answer()),
+        None => Ok(()),
+    }
+}
+
 /// Writes the line of what a step did, where it is to be shown.
-fn write_step(out: &mut Vec<u8>, shown: bool, client: u32, did: Did) -> Result<(), NoMemory>
-    ensures { OnOk result (out.new.items ≡ out.old.items ++ shown_line shown client did) }
+fn write_step(
+    out: &mut Vec<u8>,
+    shown: bool,
+    client: u32,
+    did: Did,
+    heap: &Heap,
+) -> Result<(), NoMemory>
+    ensures { OnOk result (out.new.items ≡ out.old.items ++ shown_line shown client did (last_of heap.now.heard)) }
 {
     match did {
         Did::Turn if shown => turn_line(out, client),
-        Did::Ask(asked) if shown => ask_line(out, client, asked.ask(), asked.answer()),
+        Did::Ask if shown => write_ask(out, client, heap.last_ask()),
         _ => Ok(()),
     }
 }
@@ -89,9 +106,10 @@ fn print_step<K: Sink>(
     client: u32,
     verb: &Option<Verb>,
     told: &Stepped,
+    heap: &Heap,
 ) -> Result<(), Stop>
-    ensures text { OnOk result (Appends (K.held sink.old) (K.held sink.new) (shown_line shown client told.now.did ++ ended_line client verb.now told.now.ended)) }
-    ensures beginning { OnErr result (AppendsPrefix (K.held sink.old) (K.held sink.new) (shown_line shown client told.now.did ++ ended_line client verb.now told.now.ended)) }
+    ensures text { OnOk result (Appends (K.held sink.old) (K.held sink.new) (shown_line shown client told.now.did (last_of heap.now.heard) ++ ended_line client verb.now told.now.ended)) }
+    ensures beginning { OnErr result (AppendsPrefix (K.held sink.old) (K.held sink.new) (shown_line shown client told.now.did (last_of heap.now.heard) ++ ended_line client verb.now told.now.ended)) }
     ensures cause { IfErr result (λ stop. HasStopCause stop 0 0 (K.faults sink.old) (K.faults sink.new)) }
     ensures counts { K.faults sink.old ≤ K.faults sink.new }
 {
@@ -99,7 +117,7 @@ fn print_step<K: Sink>(
         return Ok(());
     }
     text.clear();
-    write_step(text, shown, client, told.did)?;
+    write_step(text, shown, client, told.did, heap)?;
     write_end(text, client, verb, told.ended)?;
     print(sink, text)
 }
@@ -137,7 +155,15 @@ pub fn step_once<K: Sink, H: ExtentHooks>(
         return Err(Stop::NoMemory);
     }
     let verb = &state.verbs[client as usize];
-    print_step(&mut state.text, sink, shown, client, verb, &told)?;
+    print_step(
+        &mut state.text,
+        sink,
+        shown,
+        client,
+        verb,
+        &told,
+        &state.heap,
+    )?;
     state.close(client, told.ended)?;
     Ok(())
 }
