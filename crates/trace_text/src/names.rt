@@ -4,6 +4,7 @@ ghost use Rattle.std.specs.Prelude.{◌≡◌, ◌≤◌, length, IfOk};
 
 use smallvec::SmallVec;
 use std::alloc::{AllocError as NoMemory, Global};
+use std::fmt::{Debug, Error, Formatter, Write};
 use std::hash::{Hash, Hasher};
 use std::marker::Model;
 
@@ -11,7 +12,7 @@ use std::marker::Model;
 const USUAL_BYTES: usize = 16;
 
 /// A word of a line, of at most 100 bytes, which contracts see as the list of its bytes.
-#[derive(Debug, Drop)]
+#[derive(Drop)]
 pub struct Name {
     bytes: SmallVec<u8, USUAL_BYTES>,
 }
@@ -43,6 +44,15 @@ impl Name {
         ensures bound { length result.now ≤ 100 }
     {
         self.bytes.as_slice()
+    }
+}
+
+impl Debug for Name {
+    fn fmt<W: Write>(&self, f: &mut Formatter<W>) -> Result<(), Error> {
+        match std::str::from_utf8(self.as_bytes()) {
+            Ok(text) => Debug::fmt(text, f),
+            Err(_) => Debug::fmt(self.as_bytes(), f),
+        }
     }
 }
 
