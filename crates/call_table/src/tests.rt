@@ -11,6 +11,29 @@ use std::alloc::{AllocError as NoMemory, Global};
 use std::test::Fail;
 use thread_cache::{Desk, Held};
 
+/// Regions that lie the same number of bytes apart.
+#[derive(Clone, Copy)]
+struct Regions {
+    first: u64,
+    bytes: u64,
+    count: u64,
+}
+
+/// What a call must need next, and what comes of that.
+#[derive(Drop)]
+enum Step<'a> {
+    /// The turn that is written so, which is told this.
+    Turn(&'a str, Reply),
+    /// The turn that gives these regions back, which is told this.
+    Back(Regions, Reply),
+    /// The turn that gives these regions back, which finds no memory.
+    Starved(Regions),
+    /// The turn that takes the answer in, which is told this.
+    TakesIn(Reply),
+    /// This ask, which box 0 answers, or refuses where that is planned.
+    Ask(Ask, Option<Kind>),
+}
+
 /// A call that is played by hand: the script says what it must need next, and what comes of that.
 #[derive(Drop)]
 struct Play {
@@ -66,57 +89,53 @@ impl Play {
         Ok(())
     }
 
-    /// It needs this turn.
-    fn needs_turn(&self, op: &Op) -> Result<bool, NoMemory>
+    /// Its need is what the script says.
+    fn needs(&self, step: &Step<'_>) -> Result<bool, NoMemory>
         requires { IsSizedNext self.now.stage.next }
     {
-        match self.need()? {
-            Some(Need::Turn(turn)) => Ok(turn.op == *op),
+        match (self.need()?, step) {
+            (Some(Need::Turn(turn)), Step::Turn(text, _)) => {
+                Ok(format!(in self.alloc; "{:?}", turn.op)?.as_str() == *text)
+            }
+            (Some(Need::Turn(turn)), Step::Back(regions, _)) => {
+                Ok(turn.op == regions.back(self.alloc)?)
+            }
+            (Some(Need::Turn(turn)), Step::Starved(regions)) => {
+                Ok(turn.op == regions.back(self.alloc)?)
+            }
+            (Some(Need::Turn(_)), Step::TakesIn(_)) => Ok(self.stage.heard.is_some()),
+            (Some(Need::Ask { ask: needed, .. }), Step::Ask(ask, _)) => Ok(needed == *ask),
             _ => Ok(false),
         }
     }
 
-    /// It needs this turn, and is told this reply.
-    fn turn(&mut self, op: Op, reply: Reply) -> Result<(), NoMemory>
+    /// It is carried one step on, as the script says.
+    fn step(&mut self, step: &Step<'_>) -> Result<(), NoMemory>
         requires { IsSizedNext self.old.stage.next }
         ensures { IsSizedNext self.new.stage.next }
     {
-        let same = self.needs_turn(&op)?;
-        self.feed(same, Item::Replied(&reply))
+        let same = self.needs(step)?;
+        match step {
+            Step::Turn(_, reply) | Step::Back(_, reply) | Step::TakesIn(reply) => {
+                self.feed(same, Item::Replied(reply))
+            }
+            Step::Starved(_) => self.feed(same, Item::Starved),
+            Step::Ask(ask, planned) => {
+                let asked = answer(self.alloc, *ask, *planned)?;
+                self.feed(same, Item::Told(&asked))
+            }
+        }
     }
 
-    /// It needs this turn, which finds no memory.
-    fn starve(&mut self, op: Op) -> Result<(), NoMemory>
+    /// It is carried on by all steps of a script.
+    fn run(&mut self, script: &[Step<'_>]) -> Result<(), NoMemory>
         requires { IsSizedNext self.old.stage.next }
         ensures { IsSizedNext self.new.stage.next }
     {
-        let same = self.needs_turn(&op)?;
-        self.feed(same, Item::Starved)
-    }
-
-    /// It needs the turn that takes the answer in, and is told this reply.
-    fn take_in(&mut self, reply: Reply) -> Result<(), NoMemory>
-        requires { IsSizedNext self.old.stage.next }
-        ensures { IsSizedNext self.new.stage.next }
-    {
-        let same = match self.need()? {
-            Some(Need::Turn(_)) => self.stage.heard.is_some(),
-            _ => false,
-        };
-        self.feed(same, Item::Replied(&reply))
-    }
-
-    /// It needs this ask, which box 0 answers, or refuses where that is planned.
-    fn ask(&mut self, ask: Ask, planned: Option<Kind>) -> Result<(), NoMemory>
-        requires { IsSizedNext self.old.stage.next }
-        ensures { IsSizedNext self.new.stage.next }
-    {
-        let same = match self.need()? {
-            Some(Need::Ask { ask: needed, .. }) => needed == ask,
-            _ => false,
-        };
-        let asked = answer(self.alloc, ask, planned)?;
-        self.feed(same, Item::Told(&asked))
+        for step in script {
+            self.step(step)?;
+        }
+        Ok(())
     }
 
     /// The region that it has answered, where all was as told.
@@ -146,17 +165,28 @@ fn answer(alloc: Global, ask: Ask, planned: Option<Kind>) -> Result<Asked, NoMem
     Ok(shelf.ask(0, ask))
 }
 
-/// The return of so many regions, so many bytes from one to the next.
-fn back(alloc: Global, first: u64, bytes: u64, count: u64) -> Result<Op, NoMemory> {
-    let mut list = Addrs::new(alloc);
-    let mut addr = first;
-    for _ in 0..count {
-        list.reserve(1)?;
-        list.push(addr);
-        addr = addr.saturating_add(bytes);
+impl Regions {
+    /// The turn that gives them back.
+    fn back(&self, alloc: Global) -> Result<Op, NoMemory> {
+        let mut list = Addrs::new(alloc);
+        let mut addr = self.first;
+        for _ in 0..self.count {
+            list.reserve(1)?;
+            list.push(addr);
+            addr = addr.saturating_add(self.bytes);
+        }
+        let addrs = Addresses::new(list);
+        Ok(Op::Back { addrs })
     }
-    let addrs = Addresses::new(list);
-    Ok(Op::Back { addrs })
+}
+
+/// Regions, the first one at this address, so many bytes from one to the next.
+fn regions(first: u64, bytes: u64, count: u64) -> Regions {
+    Regions {
+        first,
+        bytes,
+        count,
+    }
 }
 
 /// A client that holds a region.
@@ -185,14 +215,6 @@ fn span(first: u64, pages: u64) -> Span {
     Span { first, pages }
 }
 
-fn look(pages: u64, align: u64) -> Op {
-    Op::Look { pages, align }
-}
-
-fn land(span: Span, class: u8, count: u32) -> Op {
-    Op::Land { span, class, count }
-}
-
 fn landed(first: u64, count: u32) -> Reply {
     Reply::Landed { first, count }
 }
@@ -211,15 +233,20 @@ fn chunk(align: u64) -> Ask {
 #[test]
 fn a_malloc_in_an_empty_arena(rt: HostRuntime) -> Result<(), Fail> {
     let alloc = rt.alloc();
-    let (grant, own, committed) = (span(512, 512), span(512, 5), true);
-    let (span, left) = (grant, 5);
+    let (span, own, left, committed) = (span(512, 512), span(512, 5), 5, true);
+    let script = [
+        Step::Turn("Look { pages: 5, align: 1 }", Reply::Grow { series: 1 }),
+        Step::Ask(chunk(512), None),
+        Step::TakesIn(Reply::Grown { span, committed }),
+        Step::Ask(Ask::Split { span, left }, None),
+        Step::TakesIn(Reply::Cut(own)),
+        Step::Turn(
+            "Land { span: Span { first: 512, pages: 5 }, class: 37, count: 1 }",
+            landed(0x20_0000, 1),
+        ),
+    ];
     let mut play = Play::start(Request::Malloc { size: 20000 }, Desk::new(alloc)?, alloc)?;
-    play.turn(look(5, 1), Reply::Grow { series: 1 })?;
-    play.ask(chunk(512), None)?;
-    play.take_in(Reply::Grown { span, committed })?;
-    play.ask(Ask::Split { span, left }, None)?;
-    play.take_in(Reply::Cut(own))?;
-    play.turn(land(own, 37, 1), landed(0x20_0000, 1))?;
+    play.run(&script)?;
     assert_eq!(rt; play.region(), Some(0x20_0000));
     assert!(rt; play.desk.held_at(0x20_0000).is_some());
     Ok(())
@@ -229,18 +256,23 @@ fn a_malloc_in_an_empty_arena(rt: HostRuntime) -> Result<(), Fail> {
 fn a_free_that_purges(rt: HostRuntime) -> Result<(), Fail> {
     let alloc = rt.alloc();
     let (addr, span, committed) = (0x20_0000, span(512, 5), true);
+    let look = "PutLook { span: Span { first: 512, pages: 5 }, tries: 0 }";
+    let offer = "Offer { span: Span { first: 512, pages: 5 } }";
+    let script = [
+        Step::Back(regions(addr, 0, 1), Reply::Next(Some(span))),
+        Step::Turn(look, Reply::Purge { lazy: true }),
+        Step::Ask(Ask::PurgeLazy(span), Some(Kind::PurgeLazy)),
+        Step::TakesIn(Reply::Lazy(false)),
+        Step::Turn(offer, Reply::Noted),
+        Step::Ask(Ask::Dalloc { span, committed }, None),
+        Step::TakesIn(Reply::Kept),
+        Step::Ask(Ask::Decommit(span), None),
+        Step::TakesIn(Reply::Decommitted(true)),
+        Step::Turn(look, Reply::Next(None)),
+    ];
     let desk = desk_with(addr, 37, 3, alloc)?;
     let mut play = Play::start(Request::Free { addr }, desk, alloc)?;
-    play.turn(back(alloc, addr, 0, 1)?, Reply::Next(Some(span)))?;
-    play.turn(Op::PutLook { span, tries: 0 }, Reply::Purge { lazy: true })?;
-    play.ask(Ask::PurgeLazy(span), Some(Kind::PurgeLazy))?;
-    play.take_in(Reply::Lazy(false))?;
-    play.turn(Op::Offer { span }, Reply::Noted)?;
-    play.ask(Ask::Dalloc { span, committed }, None)?;
-    play.take_in(Reply::Kept)?;
-    play.ask(Ask::Decommit(span), None)?;
-    play.take_in(Reply::Decommitted(true))?;
-    play.turn(Op::PutLook { span, tries: 0 }, Reply::Next(None))?;
+    play.run(&script)?;
     assert_eq!(rt; play.stage.arena, 3);
     assert!(rt; play.is_done());
     Ok(())
@@ -250,10 +282,13 @@ fn a_free_that_purges(rt: HostRuntime) -> Result<(), Fail> {
 fn an_aligned_malloc(rt: HostRuntime) -> Result<(), Fail> {
     let alloc = rt.alloc();
     let (align, size) = (4194304, 16384);
+    let script = [
+        Step::Turn("Look { pages: 4, align: 1024 }", Reply::Grow { series: 1 }),
+        Step::Ask(chunk(1024), None),
+    ];
     let request = Request::Memalign { align, size };
     let mut play = Play::start(request, Desk::new(alloc)?, alloc)?;
-    play.turn(look(4, 1024), Reply::Grow { series: 1 })?;
-    play.ask(chunk(1024), None)?;
+    play.run(&script)?;
     assert!(rt; play.as_told);
     Ok(())
 }
@@ -270,19 +305,24 @@ fn caching_desk(addr: u64, alloc: Global) -> Result<Desk, NoMemory> {
 #[test]
 fn a_malloc_fills_the_cache(rt: HostRuntime) -> Result<(), Fail> {
     let alloc = rt.alloc();
-    let mut desk = Desk::new(alloc)?;
-    desk.switch(true);
     let (span, committed, skip) = (span(512, 7), true, 0);
     let took = Reply::Took {
         span,
         committed,
         skip,
     };
-    let (class, count) = (35, 10);
+    let script = [
+        Step::Turn("Fill { class: 35, count: 10 }", Reply::Nothing),
+        Step::Turn("Look { pages: 7, align: 1 }", took),
+        Step::Turn(
+            "Land { span: Span { first: 512, pages: 7 }, class: 35, count: 2 }",
+            landed(0x20_0000, 2),
+        ),
+    ];
+    let mut desk = Desk::new(alloc)?;
+    desk.switch(true);
     let mut play = Play::start(Request::Malloc { size: 14336 }, desk, alloc)?;
-    play.turn(Op::Fill { class, count }, Reply::Nothing)?;
-    play.turn(look(7, 1), took)?;
-    play.turn(land(span, 35, 2), landed(0x20_0000, 2))?;
+    play.run(&script)?;
     assert_eq!(rt; play.region(), Some(0x20_0000));
     assert_eq!(rt; play.desk.cached_of(0), 1);
     Ok(())
@@ -301,9 +341,10 @@ fn a_cached_region_is_handed_out(rt: HostRuntime) -> Result<(), Fail> {
 #[test]
 fn a_cache_is_flushed_before_it_is_off(rt: HostRuntime) -> Result<(), Fail> {
     let alloc = rt.alloc();
+    let script = [Step::Back(regions(0x20_3800, 0, 1), Reply::Next(None))];
     let desk = caching_desk(0x20_3800, alloc)?;
     let mut play = Play::start(Request::Cache { on: false }, desk, alloc)?;
-    play.turn(back(alloc, 0x20_3800, 0, 1)?, Reply::Next(None))?;
+    play.run(&script)?;
     assert!(rt; play.is_done());
     assert!(rt; !play.desk.caches());
     Ok(())
@@ -313,9 +354,12 @@ fn a_cache_is_flushed_before_it_is_off(rt: HostRuntime) -> Result<(), Fail> {
 fn a_free_into_a_full_cache(rt: HostRuntime) -> Result<(), Fail> {
     let alloc = rt.alloc();
     let addr = 0x10_0000;
+    let script = [
+        Step::Back(regions(0x20_0000, 32768, 5), Reply::Next(None)),
+        Step::Back(regions(0x20_4000, 32768, 5), Reply::Next(None)),
+    ];
     let mut play = Play::start(Request::Free { addr }, full_desk(alloc)?, alloc)?;
-    play.turn(back(alloc, 0x20_0000, 32768, 5)?, Reply::Next(None))?;
-    play.turn(back(alloc, 0x20_4000, 32768, 5)?, Reply::Next(None))?;
+    play.run(&script)?;
     assert!(rt; play.is_done());
     assert_eq!(rt; play.desk.cached_of(0), 1);
     assert_eq!(rt; play.desk.cached_of(3), 10);
@@ -326,10 +370,13 @@ fn a_free_into_a_full_cache(rt: HostRuntime) -> Result<(), Fail> {
 fn a_free_of_a_region_of_another_client(rt: HostRuntime) -> Result<(), Fail> {
     let alloc = rt.alloc();
     let (addr, arena) = (0x20_0000, 2);
+    let script = [
+        Step::Turn("TakeOver { addr: 2097152 }", Reply::Owned { class: 37 }),
+        Step::Starved(regions(addr, 0, 1)),
+    ];
     let request = Request::FreeForeign { addr, arena };
     let mut play = Play::start(request, Desk::new(alloc)?, alloc)?;
-    play.turn(Op::TakeOver { addr }, Reply::Owned { class: 37 })?;
-    play.starve(back(alloc, addr, 0, 1)?)?;
+    play.run(&script)?;
     assert!(rt; play.as_told);
     assert!(rt; play.desk.held_at(addr).is_some());
     Ok(())
