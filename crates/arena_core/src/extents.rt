@@ -176,6 +176,7 @@ impl Extents {
     }
 
     /// The client's extent in flight with just this span.
+    #[inline(always)]
     pub fn flight(&self, client: u32, span: Span) -> Option<Part>
         ensures flight { result ≡ find (is_flight_at client span) self.now.parts }
         ensures there { IfSome result (IsThere self.now.parts) }
@@ -214,6 +215,7 @@ impl Extents {
     }
 
     /// Gives an extent a state and a commit state. It comes last.
+    #[inline(always)]
     pub fn change(&mut self, part: &Part, state: State, committed: bool)
         requires { IsThere self.old.parts part.now }
         ensures parts { self.new.parts ≡ exchanged (begins_at part.now.span.first) self.old.parts
@@ -301,6 +303,7 @@ impl Extents {
     }
 
     /// Makes one of two extents side by side, with the first one's state and commit state. It comes last.
+    #[inline(always)]
     pub fn join(&mut self, low: &Part, high: &Part)
         requires low { IsThere self.old.parts low.now }
         requires high { IsThere self.old.parts high.now }

@@ -206,6 +206,7 @@ fn use_up(body: &mut Body, client: u32, op: &Op) -> Reply
 }
 
 /// What an operation does that may stand, and the room that it makes or uses up.
+#[inline(always)]
 pub fn step(body: &mut Body, client: u32, op: &Op) -> Result<Reply, NoMemory>
     requires client { client < 32 }
     requires stands { IsTrue (op_stands (space_of body.old.indexes) client op.now) }

@@ -74,6 +74,7 @@ impl ClassSet {
     }
 
     /// Takes a key out.
+    #[inline(always)]
     pub fn remove(&mut self, key: Key)
         requires there { Contains self.old.keys key }
         requires class { key.major < 72 }

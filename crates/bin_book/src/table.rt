@@ -165,6 +165,7 @@ impl Table {
     }
 
     /// The slab in which a region is out at an address, and its place there.
+    #[inline(always)]
     pub fn find(&self, addr: u64) -> Option<(Key, u32)>
         requires table { IsSlabTable self.now }
         ensures some { IfSome result (λ found. IsOutAt self.now (bits_at self.now.slots.items found.0.minor).class addr found.0 found.1) }
@@ -191,6 +192,7 @@ impl Table {
     }
 
     // The place of the region of the class that is out at an address, in the last slab that begins at its page or below.
+    #[inline(always)]
     fn out_at(&self, slab: Key, class: u8, addr: u64) -> Option<u32>
         requires table { IsSlabTable self.now }
         requires class { IsSmall class }

@@ -80,6 +80,7 @@ impl Stage {
     }
 
     /// A region of a class: the one that was hit in the cache, or one of those that are got.
+    #[inline(always)]
     fn get(class: u8, align: u64, hit: Option<Held>, desk: &Desk) -> Stage
         requires { class < 121 }
         ensures { result ≡ begin_get class align hit desk.now.facts }
@@ -155,6 +156,7 @@ impl Stage {
 
 impl Stage {
     /// The batch goes back, or where there is none, all is done.
+    #[inline(always)]
     pub(crate) fn go_back(&mut self, batch: Option<Batch>)
         ensures { self.new ≡ batch_goes self.old.arena (option_map batch_facts batch) }
     {

@@ -97,6 +97,7 @@ impl Then {
     }
 
     /// The next extent in flight is put down, or there is none.
+    #[inline(always)]
     pub(crate) fn put_next(&self, next: Option<Span>) -> Lead
         ensures { led result None ≡ put_next self.now next }
     {

@@ -44,6 +44,7 @@ fn promise(log: &mut AskLog, arena: &Arena, client: u32, op: &Op) -> Result<(), 
 
 /// A turn in one of the arenas, with places for the asks that may follow it. Where memory is wanting, nothing changes. The
 /// operation is from then on as it entered the journal.
+#[inline(always)]
 fn make_turn(
     arenas: &mut Arenas,
     log: &mut AskLog,

@@ -161,6 +161,7 @@ impl OrderedSet {
     }
 
     /// The greatest key below this one, if there is one.
+    #[inline(always)]
     pub fn before(&self, key: Key) -> Option<Key>
         ensures found { result ≡ last_of (filter (is_below key) self.now.keys) }
         ensures ascending { IsAscending self.now.keys }

@@ -84,6 +84,7 @@ impl PageMap {
     }
 
     /// Gives a page a number. A chunk without a leaf takes a spare one for it, and keeps it.
+    #[inline(always)]
     pub fn set(&mut self, page: u64, number: u32)
         requires page { page < PAGES }
         requires room { set.contains self.old.chunks (page / CHUNK_PAGES) ≡ false

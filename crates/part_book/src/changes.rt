@@ -53,6 +53,7 @@ impl Table {
     }
 
     /// Puts a new extent on, behind all others.
+    #[inline(always)]
     pub fn put_on(&mut self, part: Part)
         requires table { IsRowTable self.old (rows_of self.old) }
         requires placed { IsPlaced part.span }
@@ -74,6 +75,7 @@ impl Table {
     }
 
     /// Makes another one of an extent, behind all others, which begins at the same page.
+    #[inline(always)]
     pub fn exchange(&mut self, number: u32, part: Part, other: Part)
         requires table { IsRowTable self.old (rows_of self.old) }
         requires there { Contains (rows_of self.old) (record { number = number; part = part }) }
@@ -120,6 +122,7 @@ impl Table {
     }
 
     // Takes an extent off the order and off what its state puts it on.
+    #[inline(always)]
     fn lift(&mut self, number: u32, part: &Part)
         requires table { IsRowTable self.old (rows_of self.old) }
         requires there { Contains (rows_of self.old) (record { number = number; part = part.now }) }
@@ -150,6 +153,7 @@ impl Table {
     }
 
     // Puts an extent last in the order, and on what its state puts it on.
+    #[inline(always)]
     fn lower(&mut self, number: u32, part: &Part)
         requires { CanLower self.old (record { number = number; part = part.now }) }
         ensures lists { IsLowered self.old self.new (record { number = number; part = part.now }) }

@@ -217,6 +217,7 @@ impl PartBook {
     }
 
     /// Gives the extent that begins at a page a state and a commit state. It comes last.
+    #[inline(always)]
     pub fn set_state(&mut self, first: u64, state: State, committed: bool)
         requires begins { IsSome (find (begins_at first) self.old.parts) }
         ensures parts { IfSome (find (begins_at first) self.old.parts) (λ p. self.new.parts

@@ -71,6 +71,7 @@ impl Names {
     }
 
     /// The address, in bytes, that a pointer in a line stands for.
+    #[inline(always)]
     pub fn address_at(&self, target: &Ptr) -> u64
         ensures { result ≡ address_at self.now target.now }
     {

@@ -113,6 +113,7 @@ fn digit(value: u64) -> u8
     }
 }
 
+#[inline(always)]
 fn write_decimal(out: &mut Vec<u8>, number: u64) -> Result<(), NoMemory>
     ensures { OnOk result (out.new.items ≡ out.old.items ++ decimal number) }
 {

@@ -72,6 +72,7 @@ impl Desk {
     }
 
     /// The region that it holds at an address.
+    #[inline(always)]
     pub fn held_at(&self, addr: u64) -> Option<Held>
         ensures { result ≡ held_at addr self.now.facts }
     {
@@ -103,6 +104,7 @@ impl Desk {
     }
 
     /// It holds a region from now on.
+    #[inline(always)]
     pub fn hold(&mut self, region: Held)
         requires { 1 ≤ self.old.room }
         ensures facts { self.new.facts ≡ holding region self.old.facts }
@@ -112,6 +114,7 @@ impl Desk {
     }
 
     /// It holds no region at the address any more.
+    #[inline(always)]
     pub fn lose(&mut self, addr: u64)
         ensures facts { self.new.facts ≡ not_holding addr self.old.facts }
         ensures room { self.old.room ≤ self.new.room }
