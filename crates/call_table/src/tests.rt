@@ -166,6 +166,15 @@ fn answer(alloc: Global, ask: Ask, planned: Option<Kind>) -> Result<Asked, NoMem
 }
 
 impl Regions {
+    /// So many, the first one at this address, so many bytes from one to the next.
+    fn at(first: u64, bytes: u64, count: u64) -> Regions {
+        Regions {
+            first,
+            bytes,
+            count,
+        }
+    }
+
     /// The turn that gives them back.
     fn back(&self, alloc: Global) -> Result<Op, NoMemory> {
         let mut list = Addrs::new(alloc);
@@ -177,15 +186,6 @@ impl Regions {
         }
         let addrs = Addresses::new(list);
         Ok(Op::Back { addrs })
-    }
-}
-
-/// Regions, the first one at this address, so many bytes from one to the next.
-fn regions(first: u64, bytes: u64, count: u64) -> Regions {
-    Regions {
-        first,
-        bytes,
-        count,
     }
 }
 
@@ -259,7 +259,7 @@ fn a_free_that_purges(rt: HostRuntime) -> Result<(), Fail> {
     let look = "PutLook { span: Span { first: 512, pages: 5 }, tries: 0 }";
     let offer = "Offer { span: Span { first: 512, pages: 5 } }";
     let script = [
-        Step::Back(regions(addr, 0, 1), Reply::Next(Some(span))),
+        Step::Back(Regions::at(addr, 0, 1), Reply::Next(Some(span))),
         Step::Turn(look, Reply::Purge { lazy: true }),
         Step::Ask(Ask::PurgeLazy(span), Some(Kind::PurgeLazy)),
         Step::TakesIn(Reply::Lazy(false)),
@@ -341,7 +341,7 @@ fn a_cached_region_is_handed_out(rt: HostRuntime) -> Result<(), Fail> {
 #[test]
 fn a_cache_is_flushed_before_it_is_off(rt: HostRuntime) -> Result<(), Fail> {
     let alloc = rt.alloc();
-    let script = [Step::Back(regions(0x20_3800, 0, 1), Reply::Next(None))];
+    let script = [Step::Back(Regions::at(0x20_3800, 0, 1), Reply::Next(None))];
     let desk = caching_desk(0x20_3800, alloc)?;
     let mut play = Play::start(Request::Cache { on: false }, desk, alloc)?;
     play.run(&script)?;
@@ -355,8 +355,8 @@ fn a_free_into_a_full_cache(rt: HostRuntime) -> Result<(), Fail> {
     let alloc = rt.alloc();
     let addr = 0x10_0000;
     let script = [
-        Step::Back(regions(0x20_0000, 32768, 5), Reply::Next(None)),
-        Step::Back(regions(0x20_4000, 32768, 5), Reply::Next(None)),
+        Step::Back(Regions::at(0x20_0000, 32768, 5), Reply::Next(None)),
+        Step::Back(Regions::at(0x20_4000, 32768, 5), Reply::Next(None)),
     ];
     let mut play = Play::start(Request::Free { addr }, full_desk(alloc)?, alloc)?;
     play.run(&script)?;
@@ -372,7 +372,7 @@ fn a_free_of_a_region_of_another_client(rt: HostRuntime) -> Result<(), Fail> {
     let (addr, arena) = (0x20_0000, 2);
     let script = [
         Step::Turn("TakeOver { addr: 2097152 }", Reply::Owned { class: 37 }),
-        Step::Starved(regions(addr, 0, 1)),
+        Step::Starved(Regions::at(addr, 0, 1)),
     ];
     let request = Request::FreeForeign { addr, arena };
     let mut play = Play::start(request, Desk::new(alloc)?, alloc)?;
