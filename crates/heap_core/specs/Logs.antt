@@ -14,8 +14,8 @@ abbrev pub owed_to : List ℕ → ℕ → ℕ
 owed_to owed c = slice_index_or owed c 0
 
 -- the last ask, if there is one
-abbrev pub last_of : List AskFacts → Option AskFacts
-last_of asks = slice_get asks (length asks - 1)
+abbrev pub last_asked : List AskFacts → Option AskFacts
+last_asked asks = slice_get asks (length asks - 1)
 
 -- all that was promised
 abbrev pub all_owed : List ℕ → ℕ

@@ -7,7 +7,7 @@ ghost use Rattle.call_table.specs.Laws.{IsInRange};
 ghost use Rattle.thread_cache.specs.Desks.{held_at};
 ghost use Rattle.heap_core.specs.Arenas.{IsArenas, journal_of, record_at};
 ghost use Rattle.heap_core.specs.Heaps.{opening_heap, started};
-ghost use Rattle.heap_core.specs.Logs.{last_of};
+ghost use Rattle.heap_core.specs.Logs.{last_asked};
 ghost use Rattle.heap_core.specs.Seats.{answer_of, asked_for, begun, free_request, held_by, holder_of, seat_at};
 ghost use Rattle.heap_core.specs.Sitting.{SeatSound};
 
@@ -178,7 +178,7 @@ impl Heap {
 
     /// The last ask that was made.
     pub fn last_ask(&self) -> Option<&Asked>
-        ensures { option_copied result ≡ last_of self.now.heard }
+        ensures { option_copied result ≡ last_asked self.now.heard }
     {
         self.log.last()
     }

@@ -1,7 +1,7 @@
 //! The asks of a heap, with places for those to come.
 
 ghost use Rattle.std.specs.Prelude.{◌≡◌, ◌≢◌, ◌+◌, ◌<◌, ◌≤◌, ◌^◌, ℕ, [], ◌∷◌, ◌++◌, length, option_copied, OnOk};
-ghost use Rattle.heap_core.specs.Logs.{last_of, owed_to};
+ghost use Rattle.heap_core.specs.Logs.{last_asked, owed_to};
 
 use crate::reserves::Reserved;
 use hook_api::Asked;
@@ -74,7 +74,7 @@ impl AskLog {
 
     /// The last ask.
     pub fn last(&self) -> Option<&Asked>
-        ensures { option_copied result ≡ last_of self.now.asks }
+        ensures { option_copied result ≡ last_asked self.now.asks }
     {
         self.asks.as_slice().last()
     }

@@ -4,7 +4,7 @@ use Rattle.std.proofs.Math.Seq.{get_or-append_seam}
 use Rattle.std.proofs.lemmas.Option.{slice_get-get_or}
 use Rattle.std.specs.List.{slice_get}
 use Rattle.hook_api.specs.Asked.{AskFacts}
-use Rattle.heap_core.specs.Logs.{last_of}
+use Rattle.heap_core.specs.Logs.{last_asked}
 use Rattle.call_table.specs.declared.needs.Answered.TheVariants.{NoMemory}
 use Rattle.replay_run.proofs.Came.{Leads, came_next}
 use Rattle.replay_run.proofs.Endings.{all_of, behind, longer}
@@ -20,10 +20,10 @@ pub record StepEvent (w : World) (c : ℕ) (shelf : Shelf) (told : Stepped) (hea
   pub leads : (after_event w event).heap ≡ heap
   pub more : List ℕ
   pub text : (after_event w event).text ≡ w.text ++ more
-  pub after : told.ended ≢ Some NoMemory → after_event w event ≡ stepped w c heap (did_line c told.did (last_of heap.heard)) told.ended
+  pub after : told.ended ≢ Some NoMemory → after_event w event ≡ stepped w c heap (did_line c told.did (last_asked heap.heard)) told.ended
 
 -- the ask that was made is the last one
-last_pushed : (heard : List AskFacts) (asked : AskFacts) → last_of (heard ++ asked ∷ []) ≡ Some asked
+last_pushed : (heard : List AskFacts) (asked : AskFacts) → last_asked (heard ++ asked ∷ []) ≡ Some asked
 last_pushed heard asked =
     let behind : length (heard ++ asked ∷ []) ≡ length heard + 1 = length-append heard (asked ∷ []) in
     subst (λ k. slice_get (heard ++ asked ∷ []) k ≡ Some asked) (omega (arith, behind)) (slice_get-get_or (heard ++ asked ∷ []) (length heard) asked (omega (arith, behind)) ∙ ap Some (get_or-append_seam heard asked [] asked))
@@ -104,7 +104,7 @@ shown_where awaits c did last = refl
 
 -- what is printed of a step
 abbrev pub step_line : Bool → ℕ → List (Option Verb) → Stepped → HeapFacts → List ℕ
-step_line shown c verbs told heap = shown_line shown c told.did (last_of heap.heard) ++ ended_line c (verb_at verbs c) told.ended
+step_line shown c verbs told heap = shown_line shown c told.did (last_asked heap.heard) ++ ended_line c (verb_at verbs c) told.ended
 
 -- the moment behind a step, where so much was printed
 abbrev pub now_stepped : Now → ℕ → Stepped → HeapFacts → Shelf → Option (List ℕ) → Now
@@ -125,7 +125,7 @@ step_came {from} {count} {awaits} {now} so c told heap shelf held awaited is ste
     let leads : Leads event.event awaits [] so.text now (awaits_after awaits (is_none told.ended)) [] (so.text ++ step_line (is_one_step awaits) c now.verbs told heap) (now_stepped now c told heap shelf held) = record {
       next = event.next;
       after = event.after memory
-          ∙ ap (λ (line : List ℕ). record (world_at (now_stepped now c told heap shelf held) [] (awaits_after awaits (is_none told.ended))) { text = so.text ++ (line ++ ended_line c (verb_at now.verbs c) told.ended) }) (shown_where awaits c told.did (last_of heap.heard));
+          ∙ ap (λ (line : List ℕ). record (world_at (now_stepped now c told heap shelf held) [] (awaits_after awaits (is_none told.ended))) { text = so.text ++ (line ++ ended_line c (verb_at now.verbs c) told.ended) }) (shown_where awaits c told.did (last_asked heap.heard));
       sound = sound;
       lines = ap (λ (ls : List Line). ls ++ []) (sym event.lines);
       chain = event.chain;

@@ -8,7 +8,7 @@ ghost use Rattle.call_table.specs.declared.needs.Answered.TheVariants.{NoMemory 
 ghost use Rattle.trace_text.specs.declared.lines.Verb.{Verb};
 ghost use Rattle.trace_text.specs.Grammar.{IsVerbWithinLimits};
 ghost use Rattle.report_text.specs.Lines.{call_line};
-ghost use Rattle.heap_core.specs.Logs.{last_of};
+ghost use Rattle.heap_core.specs.Logs.{last_asked};
 ghost use Rattle.replay_run.specs.Heads.{answer_line};
 ghost use Rattle.replay_run.specs.Plays.{client_awaited};
 ghost use Rattle.replay_run.specs.SoFar.{GoesOn, Here, Outset, Reading, asked_line, is_one_step, now_of, shown_line};
@@ -73,7 +73,7 @@ fn write_step(
     did: Did,
     heap: &Heap,
 ) -> Result<(), NoMemory>
-    ensures { OnOk result (out.new.items ≡ out.old.items ++ shown_line shown client did (last_of heap.now.heard)) }
+    ensures { OnOk result (out.new.items ≡ out.old.items ++ shown_line shown client did (last_asked heap.now.heard)) }
 {
     match did {
         Did::Turn if shown => turn_line(out, client),
@@ -108,8 +108,8 @@ fn print_step<K: Sink>(
     told: &Stepped,
     heap: &Heap,
 ) -> Result<(), Stop>
-    ensures text { OnOk result (Appends (K.held sink.old) (K.held sink.new) (shown_line shown client told.now.did (last_of heap.now.heard) ++ ended_line client verb.now told.now.ended)) }
-    ensures beginning { OnErr result (AppendsPrefix (K.held sink.old) (K.held sink.new) (shown_line shown client told.now.did (last_of heap.now.heard) ++ ended_line client verb.now told.now.ended)) }
+    ensures text { OnOk result (Appends (K.held sink.old) (K.held sink.new) (shown_line shown client told.now.did (last_asked heap.now.heard) ++ ended_line client verb.now told.now.ended)) }
+    ensures beginning { OnErr result (AppendsPrefix (K.held sink.old) (K.held sink.new) (shown_line shown client told.now.did (last_asked heap.now.heard) ++ ended_line client verb.now told.now.ended)) }
     ensures cause { IfErr result (λ stop. HasStopCause stop 0 0 (K.faults sink.old) (K.faults sink.new)) }
     ensures counts { K.faults sink.old ≤ K.faults sink.new }
 {
