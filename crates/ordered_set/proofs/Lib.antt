@@ -10,4 +10,5 @@ pub mod Packed
 pub mod Places
 pub mod Removed
 pub mod Searches
+pub mod Shifts
 pub mod Sorted
