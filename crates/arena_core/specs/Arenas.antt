@@ -47,6 +47,12 @@ abbrev pub is_return : Op → Bool
 is_return (Back addrs) = true
 is_return _ = false
 
+-- whether memory may be wanting for the operation itself
+abbrev pub may_fail : Op → Bool
+may_fail (Fill class count) = true
+may_fail Counts = true
+may_fail _ = false
+
 -- how many extents are emptied when the client gives regions back
 abbrev pub emptied_by_return : ℕ → List ℕ → Space → ℕ
 emptied_by_return client addrs s = length (filter (is_emptied (staying client addrs s.regions)) s.parts)

@@ -1,6 +1,6 @@
 //! The extents of an arena, with running sums of their pages.
 
-ghost use Rattle.std.specs.Prelude.{◌≡◌, ◌==◌, ◌&&◌, ◌+◌, ◌^◌, ◌<◌, ◌≤◌, ℕ, [], ◌∷◌, ◌++◌, max, nat_le, count_by, find, slice_get, All, IfOk, IfSome, IsNone, IsSome, Some, OnOk, OnErr, cond, true, false};
+ghost use Rattle.std.specs.Prelude.{◌≡◌, ◌==◌, ◌&&◌, ◌+◌, ◌^◌, ◌<◌, ◌≤◌, ℕ, [], ◌∷◌, ◌++◌, max, nat_le, count_by, find, option_copied, slice_get, All, IfOk, IfSome, IsNone, IsSome, Some, OnOk, OnErr, cond, true, false};
 ghost use Rattle.std.specs.List.{list_any};
 ghost use Rattle.space_model.specs.Span.{IsPlaced, has_page, meets};
 ghost use Rattle.space_model.specs.Part.{begins_at, exchanged, holders, is_active, is_flight, is_flight_at, is_in_flight, is_listed, is_unused, listed, put_down};
@@ -126,7 +126,7 @@ impl Extents {
         ensures at { find (begins_at first) self.now.parts ≡ Some result }
         ensures there { IsThere self.now.parts result }
     {
-        self.book.look(first).unwrap()
+        self.book.look(first).copied().unwrap()
     }
 
     /// The unused extent that begins at a page, if it has so many pages.
@@ -142,7 +142,7 @@ impl Extents {
         ensures holds { result ≡ find (λ p. has_page page p.span) self.now.parts }
         ensures there { IfSome result (IsThere self.now.parts) }
     {
-        self.book.holding(page)
+        self.book.holding(page).copied()
     }
 
     /// The first extent that begins at a page or behind it.
@@ -176,7 +176,6 @@ impl Extents {
     }
 
     /// The client's extent in flight with just this span.
-    #[inline(always)]
     pub fn flight(&self, client: u32, span: Span) -> Option<Part>
         ensures flight { result ≡ find (is_flight_at client span) self.now.parts }
         ensures there { IfSome result (IsThere self.now.parts) }
@@ -344,36 +343,36 @@ fn active_after(active: u64, part: &Part, state: State) -> u64
 }
 
 /// What was found, where it is the client's extent in flight and has so many pages.
-fn flight_of(client: u32, pages: u64, found: Option<Part>) -> Option<Part>
-    ensures { result ≡ found_if (λ p. is_flight client p.state && p.span.pages == pages) found }
+fn flight_of(client: u32, pages: u64, found: Option<&Part>) -> Option<Part>
+    ensures { result ≡ found_if (λ p. is_flight client p.state && p.span.pages == pages) (option_copied found.entry) }
 {
     let part = found?;
     if part.state.is_flight_of(client) && part.span.pages == pages {
-        Some(part)
+        Some(*part)
     } else {
         None
     }
 }
 
 /// What was found, where it is unused and has so many pages.
-fn spare_of(pages: u64, found: Option<Part>) -> Option<Part>
-    ensures { result ≡ found_if (λ p. is_unused p.state && nat_le pages p.span.pages) found }
+fn spare_of(pages: u64, found: Option<&Part>) -> Option<Part>
+    ensures { result ≡ found_if (λ p. is_unused p.state && nat_le pages p.span.pages) (option_copied found.entry) }
 {
     let part = found?;
     if part.state.is_unused() && pages <= part.span.pages {
-        Some(part)
+        Some(*part)
     } else {
         None
     }
 }
 
 /// What was found, where it is listed where an extent in flight belongs, and as committed.
-fn like(part: &Part, found: Option<Part>) -> Option<Part>
-    ensures { result ≡ found_if (is_like part.now) found }
+fn like(part: &Part, found: Option<&Part>) -> Option<Part>
+    ensures { result ≡ found_if (is_like part.now) (option_copied found.entry) }
 {
     let other = found?;
-    if part.is_like(&other) {
-        Some(other)
+    if part.is_like(other) {
+        Some(*other)
     } else {
         None
     }

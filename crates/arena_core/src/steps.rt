@@ -3,7 +3,7 @@
 ghost use Rattle.std.specs.Prelude.{◌≡◌, ℕ, ◌+◌, ◌*◌, ◌<◌, ◌≤◌, ◌^◌, false, true, length, max, IsTrue, IsOk, IfOk, OnOk, OnErr, slice_set};
 ghost use Rattle.space_model.specs.Step.{op_stands, step_of};
 ghost use Rattle.space_model.specs.Sound.{Sound};
-ghost use Rattle.arena_core.specs.Arenas.{IsBody, IsReady, all_rooms, emptied_by_op, given_by, is_return, opens, room_of, rooms_after, standing_of};
+ghost use Rattle.arena_core.specs.Arenas.{IsBody, IsReady, all_rooms, emptied_by_op, given_by, is_return, may_fail, opens, room_of, rooms_after, standing_of};
 ghost use Rattle.arena_core.specs.Indexes.{HasPlaces, space_of};
 ghost use Rattle.arena_core.specs.Slabs.{CanFollow, IsBooked, slabs_begun, slabs_followed};
 
@@ -70,6 +70,36 @@ pub fn opens(op: &Op) -> bool
     )
 }
 
+/// The first operation of a unit, if it isn't a return and takes no memory itself.
+fn begin_surely(indexes: &mut Indexes, client: u32, op: &Op) -> Reply
+    requires client { client < 32 }
+    requires opens { opens op.now ≡ true }
+    requires other { is_return op.now ≡ false }
+    requires sure { may_fail op.now ≡ false }
+    requires stands { IsTrue (op_stands (space_of indexes.old) client op.now) }
+    requires sound { Sound (space_of indexes.old) }
+    requires booked { IsBooked (space_of indexes.old) indexes.old.regions.slabs }
+    ensures after { space_of indexes.new ≡ (step_of (space_of indexes.old) client op.now).after }
+    ensures reply { result ≡ (step_of (space_of indexes.old) client op.now).reply }
+    ensures slabs { indexes.new.regions.slabs ≡ slabs_begun client (space_of indexes.old) op.now indexes.old.regions.slabs }
+    ensures places { (n : ℕ) → HasPlaces indexes.old n → HasPlaces indexes.new n }
+{
+    match op {
+        Op::Look { pages, align } => moves::look(indexes, client, *pages, *align),
+        Op::Advance { now } => settings::advance(indexes, *now),
+        Op::Set(setting) => settings::set(indexes, client, *setting),
+        Op::PurgeTake { rest, keep } => purges::purge_take(indexes, client, *rest, *keep),
+        Op::Publish { addr } => holders::publish(indexes, client, *addr),
+        Op::TakeOver { addr } => holders::take_over(indexes, client, *addr),
+        Op::Reset { cached } => ends::reset(indexes, client, *cached),
+        Op::Destroy { cached } => ends::destroy(indexes, client, *cached),
+        Op::DestroyTake => ends::destroy_take(indexes),
+        Op::Widen { addr, pages } => resizes::widen(indexes, client, *addr, *pages),
+        Op::Trim { .. } => resizes::trim(indexes, client),
+        _ => unreachable!(),
+    }
+}
+
 /// The first operation of a unit, if it isn't a return. Where memory is wanting for it, the space stays.
 fn begin(indexes: &mut Indexes, client: u32, op: &Op) -> Result<Reply, NoMemory>
     requires client { client < 32 }
@@ -86,20 +116,9 @@ fn begin(indexes: &mut Indexes, client: u32, op: &Op) -> Result<Reply, NoMemory>
     ensures places { (n : ℕ) → HasPlaces indexes.old n → HasPlaces indexes.new n }
 {
     match op {
-        Op::Look { pages, align } => Ok(moves::look(indexes, client, *pages, *align)),
         Op::Fill { class, count } => fills::fill(indexes, client, *class, *count),
-        Op::Advance { now } => Ok(settings::advance(indexes, *now)),
-        Op::Set(setting) => Ok(settings::set(indexes, client, *setting)),
         Op::Counts => settings::counted(indexes),
-        Op::PurgeTake { rest, keep } => Ok(purges::purge_take(indexes, client, *rest, *keep)),
-        Op::Publish { addr } => Ok(holders::publish(indexes, client, *addr)),
-        Op::TakeOver { addr } => Ok(holders::take_over(indexes, client, *addr)),
-        Op::Reset { cached } => Ok(ends::reset(indexes, client, *cached)),
-        Op::Destroy { cached } => Ok(ends::destroy(indexes, client, *cached)),
-        Op::DestroyTake => Ok(ends::destroy_take(indexes)),
-        Op::Widen { addr, pages } => Ok(resizes::widen(indexes, client, *addr, *pages)),
-        Op::Trim { .. } => Ok(resizes::trim(indexes, client)),
-        _ => unreachable!(),
+        _ => Ok(begin_surely(indexes, client, op)),
     }
 }
 
@@ -199,10 +218,9 @@ fn use_up(body: &mut Body, client: u32, op: &Op) -> Reply
     ensures booked { IsBooked (space_of body.new.indexes) body.new.indexes.regions.slabs }
 {
     let room = body.rooms.of(client);
-    let reply = follow(&mut body.indexes, client, op);
     body.rooms.set(client, room - 1);
     body.ready -= 1;
-    reply
+    follow(&mut body.indexes, client, op)
 }
 
 /// What an operation does that may stand, and the room that it makes or uses up.
@@ -221,9 +239,11 @@ pub fn step(body: &mut Body, client: u32, op: &Op) -> Result<Reply, NoMemory>
     ensures ready { IsReady body.new }
     ensures booked { IsBooked (space_of body.new.indexes) body.new.indexes.regions.slabs }
 {
-    match op {
-        Op::Back { addrs } => give_back(body, client, addrs),
-        _ if opens(op) => open_unit(body, client, op),
-        _ => Ok(use_up(body, client, op)),
+    if let Op::Back { addrs } = op {
+        return give_back(body, client, addrs);
     }
+    if opens(op) {
+        return open_unit(body, client, op);
+    }
+    Ok(use_up(body, client, op))
 }

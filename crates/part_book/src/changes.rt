@@ -28,7 +28,7 @@ impl Table {
         ensures leaves { leaves_for self.now.edges result.1.span ≡ 0 }
     {
         let number = self.edges.get(first).unwrap();
-        (number, self.part_at(number))
+        (number, *self.part_at(number))
     }
 
     /// Takes the extent that begins at a page off, and gives it back.

@@ -1,5 +1,5 @@
 //! The searches for an extent.
-ghost use Rattle.std.specs.Prelude.{◌≡◌, ◌<◌, ◌≤◌, count_by, find, option_map, slice_get, vec_len, All, IfSome, IsNone};
+ghost use Rattle.std.specs.Prelude.{◌≡◌, ◌<◌, ◌≤◌, count_by, find, option_copied, option_map, slice_get, vec_len, All, IfSome, IsNone};
 ghost use Rattle.std.specs.List.{list_any};
 ghost use Rattle.space_model.specs.Span.{has_page, meets};
 ghost use Rattle.space_model.specs.Part.{begins_at, is_flight, is_in_flight, is_listed};
@@ -15,26 +15,26 @@ use space_model::{Part, Rest, Span};
 
 impl Table {
     /// The extent with a number.
-    pub fn part_at(&self, number: u32) -> Part
+    pub fn part_at(&self, number: u32) -> &Part
         requires { number < vec_len self.now.slots }
-        ensures { result ≡ part_at self.now.slots.items number }
+        ensures { result.now ≡ part_at self.now.slots.items number }
     {
-        self.slots[number as usize]
+        &self.slots[number as usize]
     }
 
     // The extent whose first or last page this is.
-    fn at_edge(&self, page: u64) -> Option<Part>
+    fn at_edge(&self, page: u64) -> Option<&Part>
         requires table { IsRowTable self.now (rows_of self.now) }
-        ensures { result ≡ find (is_edge page) (parts_of self.now) }
+        ensures { option_copied result ≡ find (is_edge page) (parts_of self.now) }
     {
         let number = self.edges.get(page)?;
         Some(self.part_at(number))
     }
 
     /// The extent that begins at a page.
-    pub fn look(&self, first: u64) -> Option<Part>
+    pub fn look(&self, first: u64) -> Option<&Part>
         requires table { IsRowTable self.now (rows_of self.now) }
-        ensures { result ≡ find (begins_at first) (parts_of self.now) }
+        ensures { option_copied result ≡ find (begins_at first) (parts_of self.now) }
     {
         let part = self.at_edge(first)?;
         if part.span.first == first {
@@ -45,9 +45,9 @@ impl Table {
     }
 
     /// The extent that ends before a page.
-    pub fn ending_at(&self, page: u64) -> Option<Part>
+    pub fn ending_at(&self, page: u64) -> Option<&Part>
         requires table { IsRowTable self.now (rows_of self.now) }
-        ensures { result ≡ find (ends_at page) (parts_of self.now) }
+        ensures { option_copied result ≡ find (ends_at page) (parts_of self.now) }
     {
         let part = self.at_edge(page.checked_sub(1)?)?;
         if end_of(part.span) == page {
@@ -58,10 +58,10 @@ impl Table {
     }
 
     // The last extent that begins below a page.
-    fn last_below(&self, page: u64) -> Option<Part>
+    fn last_below(&self, page: u64) -> Option<&Part>
         requires table { IsRowTable self.now (rows_of self.now) }
         ensures none { IsNone result → All (λ p. page ≤ p.span.first) (parts_of self.now) }
-        ensures last { IfSome result (IsLastBelow page (parts_of self.now)) }
+        ensures last { IfSome result (λ part. IsLastBelow page (parts_of self.now) part.now) }
     {
         let key = self.firsts.before(Key {
             major: page,
@@ -80,13 +80,13 @@ impl Table {
             major: page,
             minor: 0,
         })?;
-        Some(self.part_at(key.minor as u32))
+        Some(*self.part_at(key.minor as u32))
     }
 
     /// The extent that has a page. Only a page within one is searched for.
-    pub fn holding(&self, page: u64) -> Option<Part>
+    pub fn holding(&self, page: u64) -> Option<&Part>
         requires table { IsRowTable self.now (rows_of self.now) }
-        ensures { result ≡ find (λ p. has_page page p.span) (parts_of self.now) }
+        ensures { option_copied result ≡ find (λ p. has_page page p.span) (parts_of self.now) }
     {
         if let Some(part) = self.at_edge(page) {
             return Some(part);
@@ -140,7 +140,7 @@ impl Table {
         let mut size = self.sizes.at_or_after(start)?;
         while size.major / RADIX == rank {
             if holds_run(size, pages, align) {
-                return Some(self.part_at((size.minor % RADIX) as u32));
+                return Some(*self.part_at((size.minor % RADIX) as u32));
             }
             size = self.sizes.after(size)?;
         }
@@ -153,7 +153,7 @@ impl Table {
         ensures { result ≡ find (λ p. is_listed rest p.state) (parts_of self.now) }
     {
         let number = self.list_of(rest).ages.first()?;
-        Some(self.part_at(number))
+        Some(*self.part_at(number))
     }
 
     /// The extent that is longest among all.
@@ -162,7 +162,7 @@ impl Table {
         ensures { result ≡ slice_get (parts_of self.now) 0 }
     {
         let number = self.order.first()?;
-        Some(self.part_at(number))
+        Some(*self.part_at(number))
     }
 
     /// How many extents there are of a rest.

@@ -2,7 +2,7 @@
 //! `reserve` take memory.
 #![tactic(auto)]
 
-ghost use Rattle.std.specs.Prelude.{◌≡◌, ◌==◌, ◌<◌, ◌+◌, ◌||◌, false, [], ◌∷◌, ◌++◌, not, length, max, find, filter, count_by, option_map, slice_get, All, IfSome, IsNone, IsSome, OnOk, OnErr, IfOk};
+ghost use Rattle.std.specs.Prelude.{◌≡◌, ◌==◌, ◌<◌, ◌+◌, ◌||◌, false, [], ◌∷◌, ◌++◌, not, length, max, find, filter, count_by, option_copied, option_map, slice_get, All, IfSome, IsNone, IsSome, OnOk, OnErr, IfOk};
 ghost use Rattle.std.specs.List.{list_any};
 ghost use Rattle.space_model.specs.Span.{IsPlaced, has_page, meets};
 ghost use Rattle.space_model.specs.Part.{begins_at, exchanged, is_flight, is_in_flight, is_listed};
@@ -95,15 +95,15 @@ impl PartBook {
     }
 
     /// The extent that begins at a page.
-    pub fn look(&self, first: u64) -> Option<Part>
-        ensures { result ≡ find (begins_at first) self.now.parts }
+    pub fn look(&self, first: u64) -> Option<&Part>
+        ensures { option_copied result ≡ find (begins_at first) self.now.parts }
     {
         self.table.look(first)
     }
 
     /// The extent that has a page.
-    pub fn holding(&self, page: u64) -> Option<Part>
-        ensures { result ≡ find (λ p. has_page page p.span) self.now.parts }
+    pub fn holding(&self, page: u64) -> Option<&Part>
+        ensures { option_copied result ≡ find (λ p. has_page page p.span) self.now.parts }
     {
         self.table.holding(page)
     }
@@ -124,8 +124,8 @@ impl PartBook {
     }
 
     /// The extent right after a span, or the one right before it.
-    pub fn neighbour(&self, span: Span, right: bool) -> Option<Part>
-        ensures { result ≡ find (is_beside span right) self.now.parts }
+    pub fn neighbour(&self, span: Span, right: bool) -> Option<&Part>
+        ensures { option_copied result ≡ find (is_beside span right) self.now.parts }
     {
         if right {
             self.table.look(span.first.checked_add(span.pages)?)

@@ -35,7 +35,7 @@ fn has_page(book: &PartBook, page: u64) -> bool {
     let left = book.neighbour(part.span, false);
     let right = book.neighbour(part.span, true);
     let ends = left.is_none() == (page == 512) && right.is_none() == (page == 511 + MANY);
-    ends && book.look(page) == Some(part) && book.holding(page) == Some(part)
+    ends && book.look(page) == Some(&part) && book.holding(page) == Some(&part)
 }
 
 fn lists_all(book: &PartBook) -> bool {
@@ -58,7 +58,7 @@ fn join(book: &mut PartBook, low: u64, high: u64) -> bool {
 
 // Whether the extent that begins at a page has so many pages.
 fn has_pages(book: &PartBook, first: u64, pages: u64) -> bool {
-    book.look(first) == Some(dirty(first, pages))
+    book.look(first) == Some(&dirty(first, pages))
 }
 
 // Takes an extent into flight, and out of the book.

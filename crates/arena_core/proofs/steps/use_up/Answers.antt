@@ -19,15 +19,15 @@ returns-clause-ready c =
     let new = ap all_rooms c.set.ensures in
     let one : ready ≡ ready - 1 + 1 = omega (arith, sums, new, c.of-room.ensures.room, c.requires.room, c.requires.body.ready.rooms) in
     record {
-      places = c.follow-reply.ensures.places (ready - 1) (subst (HasPlaces c.args.body.now.indexes) one c.requires.body.ready.places);
+      places = c.follow.ensures.places (ready - 1) (subst (HasPlaces c.args.body.now.indexes) one c.requires.body.ready.places);
       rooms = omega (arith, sums, new, c.of-room.ensures.room, c.requires.room, c.requires.body.ready.rooms);
     }
 
-pub follow-reply-requires-clause-may : goal.follow-reply-requires-clause-may
-follow-reply-requires-clause-may c = can_follow c.args.client (space_of c.args.body.now.indexes) c.args.op.now c.args.body.now.indexes.regions.slabs c.requires.body.sound c.requires.stands c.requires.body.booked
+pub follow-requires-clause-may : goal.follow-requires-clause-may
+follow-requires-clause-may c = can_follow c.args.client (space_of c.args.body.now.indexes) c.args.op.now c.args.body.now.indexes.regions.slabs c.requires.body.sound c.requires.stands c.requires.body.booked
 
 pub returns-clause-booked : goal.returns-clause-booked
 returns-clause-booked c =
     let op = c.args.op.now in
     booked_as (follows_booked c.args.client (space_of c.args.body.now.indexes) op c.args.body.now.indexes.regions.slabs c.requires.body.sound c.requires.stands c.requires.follows c.requires.body.booked)
-    c.follow-reply.ensures.after c.follow-reply.ensures.slabs
+    c.follow.ensures.after c.follow.ensures.slabs

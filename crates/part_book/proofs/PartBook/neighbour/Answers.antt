@@ -1,3 +1,4 @@
+use Rattle.std.specs.Option.{option_copied}
 use Rattle.part_book.proofs.Words.{◌≤◌, sym, ap, ◌∙◌, arith, find, begins_at, end_of, pages_end, parts_of}
 use Rattle.part_book.proofs.Parts.{none_begins}
 use Rattle.part_book.proofs.PartBook.neighbour.Goals as goal
@@ -8,4 +9,4 @@ returns-in_err-checked_add c =
     let far : pages_end ≤ end_of c.args.span = omega arith in
     let none = none_begins (parts_of t) (end_of c.args.span) c.self.invariant.table.indexes.apart far in
     let seen = ap (λ b. find (begins_at (end_of c.args.span)) b.parts) (sym c.self.view_is) ∙ none in
-    c.from_residual.ensures ∙ sym (rw c.if-right.true seen)
+    ap option_copied c.from_residual.ensures ∙ sym (rw c.if-right.true seen)

@@ -1,9 +1,10 @@
+use Rattle.std.specs.Option.{option_copied}
 use Rattle.part_book.proofs.Words.{sym, ap, ◌∙◌, Some, rows_of}
 use Rattle.part_book.proofs.Indexes.{edge_none, edge_part, edge_row, slot_of}
 use Rattle.part_book.proofs.table.Table.at_edge.Goals as goal
 
 pub returns-in_err-number : goal.returns-in_err-number
-returns-in_err-number c = c.from_residual.ensures ∙ sym (edge_none c.args.self.now (rows_of c.args.self.now) c.args.page c.requires.table (sym c.in_err-number.ensures.number))
+returns-in_err-number c = ap option_copied c.from_residual.ensures ∙ sym (edge_none c.args.self.now (rows_of c.args.self.now) c.args.page c.requires.table (sym c.in_err-number.ensures.number))
 
 pub part_at-requires : goal.part_at-requires
 part_at-requires c =

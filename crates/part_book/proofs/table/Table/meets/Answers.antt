@@ -3,13 +3,13 @@ use Rattle.part_book.proofs.Parts.{clamped, clamped_none, met_by_last, met_by_no
 use Rattle.part_book.proofs.table.Table.meets.Goals as goal
 
 pub end_of-requires : goal.end_of-requires
-end_of-requires c = placed (parts_of c.args.self.now) c.in-Some.part c.requires.table.indexes.apart c.in-Some.ensures.last.listed
+end_of-requires c = placed (parts_of c.args.self.now) c.in-Some.part.now c.requires.table.indexes.apart c.in-Some.ensures.last.listed
 
 pub returns-in-Some : goal.returns-in-Some
 returns-in-Some c =
     let parts = parts_of c.args.self.now in
-    let last = clamped parts c.in-Some.part (end_of c.args.span) c.requires.table.indexes.apart (subst (λ n. IsLastBelow n parts c.in-Some.part) c.saturating_add.ensures c.in-Some.ensures.last) in
-    ap (ltb c.args.span.first) c.end_of.ensures ∙ sym (met_by_last parts c.args.span c.in-Some.part c.requires.table.indexes.apart last)
+    let last = clamped parts c.in-Some.part.now (end_of c.args.span) c.requires.table.indexes.apart (subst (λ n. IsLastBelow n parts c.in-Some.part.now) c.saturating_add.ensures c.in-Some.ensures.last) in
+    ap (ltb c.args.span.first) c.end_of.ensures ∙ sym (met_by_last parts c.args.span c.in-Some.part.now c.requires.table.indexes.apart last)
 
 pub returns-in-None : goal.returns-in-None
 returns-in-None c =
