@@ -1,9 +1,9 @@
 -- A region that its client comes to hold has room: where none is wanted, none is wanted either where the call goes.
-use Rattle.call_table.proofs.Words.{◌≡◌, ℕ, ◌≤◌, ◌||◌, Bool, true, false, Option, is_some, Result, Err, OnOk, OnErr, arith, refl, sym, subst, ap, ◌∙◌, nat_tests, Request, Flush, Cache, Item, NoMemory, TurnPoint, Point, Next, Go, Over, More, Ends, Stage, Reply, Held, DeskFacts, BatchFacts, batch_of, going, gets_at, gets_turn, may_hold, wants_place, HasRoomToHold, desk_fed, desk_turned, batch_goes, begin_desk, begin_stage, settle, stage, step_next, step}
+use Rattle.call_table.proofs.Words.{◌≡◌, ℕ, ◌≤◌, ◌||◌, Bool, true, false, Option, None, Some, is_some, Result, Err, OnOk, OnErr, arith, refl, sym, subst, ap, ◌∙◌, nat_tests, Request, Flush, Cache, Item, NoMemory, TurnPoint, Point, Next, Go, Over, More, Ends, Stage, Reply, Held, DeskFacts, BatchFacts, batch_of, going, CallFacts, gets_at, gets_turn, may_hold, started, wants_place, HasRoomToHold, IsPointOrEnd, ended_by, Moment, begin, desk_fed, desk_turned, batch_goes, begin_desk, begin_stage, settle, stage, step_next, step}
 use Rattle.std.proofs.Common.{Ok}
 use Rattle.call_table.specs.Words.{Region, Ok as Answers}
 use Rattle.call_table.proofs.Bounds.{settle_keeps}
-use Rattle.call_table.proofs.Credits.{led_or_ended}
+use Rattle.call_table.proofs.Credits.{begin-is_call, led_or_ended}
 
 -- no region comes where it leads
 abbrev pub Quiet : Next → Type 0
@@ -75,3 +75,16 @@ fed_room request desk now arena (Go point) item had has fed at same within room 
 fed_room request desk now arena next item had has (Ok done) at same within room ok err more wants =
     let no : wants_place now.hand at.next ≡ false = ap (λ (s : Stage). wants_place now.hand s.next) ok in absurd (cc)
 fed_room request desk now arena next item had has (Err e) at same within room ok err more wants = absurd (cc)
+
+open_is : (c : ℕ) (at : Moment) (was : Option CallFacts) (next : Next) → IsPointOrEnd next → ended_by next ≡ None → Some (record { client = c; request = at.request; stage = at.stage }) ≡ started c at was next
+open_is c at was (Go point) place none = refl
+open_is c at was (Ends answer) place none = absurd (cc)
+open_is c at was next place none = absurd place
+
+-- a call that begins and hasn't ended is open
+pub begins_open : (c : ℕ) (request : Request) (had desk : DeskFacts) (was : Option CallFacts) (at : Stage) → at ≡ begin_stage request had → had ≡ desk → ended_by at.next ≡ None →
+    Some (record { client = c; request = request; stage = at }) ≡ started c (begin request desk) was (begin_stage request desk).next
+begins_open c request had desk was at is same none =
+    let now : at ≡ begin_stage request desk = is ∙ ap (begin_stage request) same in
+    ap (λ (s : Stage). Some (record { client = c; request = request; stage = s })) now
+    ∙ open_is c (begin request desk) was (begin_stage request desk).next (begin-is_call request desk).0 (subst (λ (s : Stage). ended_by s.next ≡ None) now none)

@@ -1,5 +1,5 @@
 -- A call takes no more extents out of a list than stood in it at its first turn there.
-use Rattle.call_table.proofs.Words.{◌≡◌, refl, ℕ, ◌+◌, ◌-◌, ◌≤◌, ◌<◌, Bool, true, false, cond, List, [], ◌∷◌, Option, None, Some, sym, subst, arith, ap, nat_lt, find, count_by, cond_both, nat_tests, is_listed, listed, pages_listed, after_purge_take, count_listed, purge_at, Stepped, find-le-sum_by, Request, Item, Replied, Told, Starved, Then, Batches, Visiting, TurnPoint, Taking, Finding, Offering, AskPoint, Merging, Easing, Returning, Decommitting, Forcing, Point, Turns, Asks, Tells, Next, Go, Over, More, Reply, Taken, Rest, Part, Space, mine, AskFacts, DeskFacts, BatchFacts, batch_of, going, WantTurn, is_marked, op_at, starved, step, told, turn_replied, want, Moment, after, batch_goes, begin, begin_stage, settle, step_next, desk_fed, flushes, Knows, KnowsTurn, HasLeft, Moves, Stride, Strides, Walks, taken_by, taken_of, found_by, found_of, PurgesAreFew}
+use Rattle.call_table.proofs.Words.{◌≡◌, refl, ℕ, ◌+◌, ◌≤◌, ◌<◌, Bool, cond, List, [], ◌∷◌, Option, None, Some, sym, subst, arith, ap, nat_lt, find, cond_both, nat_tests, is_listed, listed, pages_listed, after_purge_take, count_listed, purge_at, Stepped, find-le-sum_by, Request, Item, Replied, Told, Starved, Then, Batches, Visiting, TurnPoint, Taking, Finding, Offering, AskPoint, Merging, Easing, Returning, Decommitting, Forcing, Point, Turns, Asks, Tells, Next, Go, Over, More, Reply, Taken, Rest, Part, Space, mine, AskFacts, DeskFacts, BatchFacts, batch_of, going, WantTurn, is_marked, op_at, starved, step, told, turn_replied, want, Moment, after, batch_goes, begin, begin_stage, settle, step_next, desk_fed, flushes, Knows, KnowsTurn, HasLeft, Moves, Stride, Strides, Walks, taken_by, taken_of, found_by, found_of, PurgesAreFew}
 use Rattle.space_model.specs.Stepped.{is_live}
 use Rattle.space_model.proofs.Lists.{find_passes}
 

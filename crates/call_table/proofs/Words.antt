@@ -57,12 +57,13 @@ pub use Rattle.thread_cache.specs.Desks.{has_slot, older_count, rising_from, bef
 unfoldable pub use lib.Count.{ones}
 pub use Rattle.call_table.specs.Aligned.{IsCacheAligned, MemalignsAreAligned}
 pub use Rattle.call_table.specs.Bounds.{is_told, is_turn, brings, is_malloc, most_asks, AsksAreFew, IsShort, MallocsAreShort, is_free, is_purge, Stride, Strides, Follows, Walks, emptied_by, emptied_by_all, asks, purges, FreesAreFew, taken_by, taken_of, found_by, found_of, PurgesAreFew}
-pub use Rattle.call_table.specs.Calls.{IsCall, gets_at, gets_turn, may_hold, wants_place, HasRoomToHold, CallFacts, moment_of}
+pub use Rattle.call_table.specs.Calls.{IsCall, gets_at, gets_turn, may_hold, wants_place, HasRoomToHold, CallFacts, moment_of, started}
 pub use Rattle.call_table.specs.Causes.{Extent, extent_after, extent_of, NothingFits, AllCame, Came, extent, WasGranted, IsNeeded, IsWishOf, RegionCause, GivenCause, CauseOf, AnswersHaveCauses}
 pub use Rattle.call_table.specs.Desks.{flushes, desk_fed, desk_turned, address_behind, held_region, sharing}
 pub use Rattle.call_table.specs.Items.{lent}
 pub use Rattle.call_table.specs.Knows.{IsWish, Idle, Gets, is_held, Flies, Droppable, HasOffered, IsThen, IsVisit, HasLeft, in_flight, Knows, KnowsTurn, Alone, is_served, HasPair, Settled, KnowsAsk, Heard, IsChange, is_of_arena}
 pub use Rattle.call_table.specs.Laws.{Ready, KnowsNext, BatchesKnow, BeginsKnow, Has, RunsEndOnce, unheard, Keeps, stages_then, stages_later, left, left_then, left_visit, stages_visit, left_turn, left_ask, flights_of, Moves, stages, with_found, IsNearer, looks_left, purges_left, stages_ask, WantsStand, stages_turn, stages_change, StepsKeep}
+pub use Rattle.call_table.specs.Reads.{ended_by}
 pub use Rattle.call_table.specs.Needs.{Goes, IsPointOrEnd}
 pub use Rattle.call_table.specs.Points.{IsFew, IsSizedPoint, IsSizedNext}
 pub use Rattle.call_table.specs.Refusals.{AfterRefusal, HoldsExtent, Rests, RefusalsStand}

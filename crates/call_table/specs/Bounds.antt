@@ -1,5 +1,5 @@
 -- How long the run of a call is.
-use Rattle.std.specs.Prelude.{◌≡◌, ℕ, ◌+◌, ◌*◌, ◌≤◌, Bool, true, false, List, [], ◌∷◌, Option, None, Some, count_by, sum_by, if◌then◌else◌}
+use Rattle.std.specs.Prelude.{◌≡◌, ℕ, ◌+◌, ◌*◌, ◌≤◌, Bool, true, false, List, [], ◌∷◌, None, Some, count_by, sum_by, if◌then◌else◌}
 use Rattle.space_model.specs.declared.Op.TheVariants.{Back}
 use Rattle.space_model.specs.Part.{is_listed, listed}
 use Rattle.space_model.specs.Purging.{count_listed}

@@ -1,5 +1,5 @@
 -- A call as contracts see it.
-use Rattle.std.specs.Prelude.{◌≡◌, ◌≤◌, ℕ, Bool, true, false, ◌||◌, Option, is_some}
+use Rattle.std.specs.Prelude.{◌≡◌, ◌≤◌, ℕ, Bool, true, false, ◌||◌, Option, Some, is_some}
 use Rattle.call_table.specs.Words.{Request, Malloc, Memalign, Free, FreeForeign, Publish, Take, Region, Finished, Ok, Later, Answers, DirtyToo, Then, Batches, Visiting, Visits, TurnPoint, Filling, Looking, Landing, Finding, Taking, Offering, Changing, Owning, AskPoint, Merging, Easing, Returning, Decommitting, Forcing, Point, Turns, Asks, Tells, Next, Go, Ends, Stage, Held, DeskFacts}
 use Rattle.call_table.specs.Desks.{flushes}
 use Rattle.call_table.specs.Points.{IsSizedNext}
@@ -15,6 +15,11 @@ pub record CallFacts : Type 0 where
 -- the moment of a call, with what its client has
 abbrev pub moment_of : CallFacts → DeskFacts → Moment
 moment_of call desk = record { request = call.request; desk = desk; stage = call.stage }
+
+-- what stands in a place once a call of a client began, for which this is next: the call, where it is open
+abbrev pub started : ℕ → Moment → Option CallFacts → Next → Option CallFacts
+started c at was (Go point) = Some (record { client = c; request = at.request; stage = at.stage })
+started c at was next = was
 
 -- it waits at a point or has ended, and what it asks for fits into a number
 abbrev pub IsCall : Stage → Type 0

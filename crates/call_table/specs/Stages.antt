@@ -1,5 +1,5 @@
 -- Where a call stands: at a point, or at its end.
-use Rattle.std.specs.Prelude.{◌≡◌, ℕ, Bool, true, false, Option, None, Some}
+use Rattle.std.specs.Prelude.{◌≡◌, ℕ, Bool, true, false, Option, None}
 use Rattle.space_model.specs.declared.Span.{Span}
 use Rattle.hook_api.specs.Asked.{AskFacts}
 use Rattle.call_table.specs.declared.needs.Answered.{Answered}

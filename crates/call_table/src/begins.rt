@@ -73,46 +73,46 @@ fn share(class: u8, desk: &Desk) -> u32
 
 impl Stage {
     /// The call ends with an answer before any turn.
-    pub(crate) fn ended(arena: u32, answer: Answered) -> Stage
-        ensures { result ≡ stage arena (Ends answer) }
+    fn end(&mut self, arena: u32, answer: Answered)
+        ensures { self.new ≡ stage arena (Ends answer) }
     {
-        Stage::at(arena, Lead::Ends(answer))
+        self.stand(arena, Lead::Ends(answer));
     }
 
     /// A region of a class: the one that was hit in the cache, or one of those that are got.
     #[inline(always)]
-    fn get(class: u8, align: u64, hit: Option<Held>, desk: &Desk) -> Stage
+    fn get(&mut self, class: u8, align: u64, hit: Option<Held>, desk: &Desk)
         requires { class < 121 }
-        ensures { result ≡ begin_get class align hit desk.now.facts }
+        ensures { self.new ≡ begin_get class align hit desk.now.facts }
     {
         match hit {
             Some(region) => {
                 let addr = region.addr;
-                Stage::ended(region.arena, Answered::Ok(Given::Region { addr, class }))
+                self.end(region.arena, Answered::Ok(Given::Region { addr, class }));
             }
-            None => Stage::at(desk.arena(), get(class, align, share(class, desk))),
+            None => self.stand(desk.arena(), get(class, align, share(class, desk))),
         }
     }
 
     /// A malloc of so many bytes.
-    fn malloc(size: u64, desk: &mut Desk) -> Stage
-        ensures stage { result ≡ begin_malloc size desk.old.facts }
+    fn malloc(&mut self, size: u64, desk: &mut Desk)
+        ensures stage { self.new ≡ begin_malloc size desk.old.facts }
         ensures facts { desk.new.facts ≡ begin_desk (Request.Malloc size) desk.old.facts }
         ensures room { desk.new.room ≡ desk.old.room }
     {
         match class_of(size) {
             Ok(class) => {
                 let hit = desk.take_hit(class);
-                Stage::get(class, 1, hit, desk)
+                self.get(class, 1, hit, desk);
             }
-            Err(_) => Stage::ended(desk.arena(), Answered::TooLarge),
+            Err(_) => self.end(desk.arena(), Answered::TooLarge),
         }
     }
 
     /// A malloc of so many bytes at an alignment in bytes.
     #[tactic(auto, using(crate::proofs::Aligned::alignments))]
-    fn memalign(align: u64, size: u64, desk: &mut Desk) -> Stage
-        ensures stage { result ≡ begin_memalign align size desk.old.facts }
+    fn memalign(&mut self, align: u64, size: u64, desk: &mut Desk)
+        ensures stage { self.new ≡ begin_memalign align size desk.old.facts }
         ensures facts { desk.new.facts ≡ begin_desk (Request.Memalign align size) desk.old.facts }
         ensures room { desk.new.room ≡ desk.old.room }
     {
@@ -120,36 +120,36 @@ impl Stage {
         match aligned_class(size, align) {
             Ok(class) if class < SMALL_CLASSES => {
                 let hit = desk.take_hit(class);
-                Stage::get(class, pages, hit, desk)
+                self.get(class, pages, hit, desk);
             }
-            Ok(class) => Stage::get(class, pages, None, desk),
-            Err(SizeFault::TooLarge) => Stage::ended(desk.arena(), Answered::TooLarge),
-            Err(SizeFault::BadAlign) => Stage::ended(desk.arena(), Answered::BadAlign),
+            Ok(class) => self.get(class, pages, None, desk),
+            Err(SizeFault::TooLarge) => self.end(desk.arena(), Answered::TooLarge),
+            Err(SizeFault::BadAlign) => self.end(desk.arena(), Answered::BadAlign),
         }
     }
 }
 
 impl Stage {
     /// A turn of the arena with this index comes first, if there may be one.
-    fn first(arena: u32, point: TurnPoint) -> Stage
-        ensures { result ≡ first_turn arena point }
+    fn first(&mut self, arena: u32, point: TurnPoint)
+        ensures { self.new ≡ first_turn arena point }
     {
         let lead = if arena < 32 {
             point.next()
         } else {
             Lead::Ends(Answered::NoArena(arena))
         };
-        Stage::at(arena, lead)
+        self.stand(arena, lead);
     }
 
     /// The same, but arena 0 stays.
-    fn first_but_0(arena: u32, point: TurnPoint) -> Stage
-        ensures { result ≡ first_turn_but_0 arena point }
+    fn first_but_0(&mut self, arena: u32, point: TurnPoint)
+        ensures { self.new ≡ first_turn_but_0 arena point }
     {
         if arena == 0 {
-            Stage::ended(arena, Answered::Automatic)
+            self.end(arena, Answered::Automatic);
         } else {
-            Stage::first(arena, point)
+            self.first(arena, point);
         }
     }
 }
@@ -169,62 +169,60 @@ impl Stage {
         }
     }
 
-    /// The same, before any turn.
-    fn batch(arena: u32, batch: Option<Batch>) -> Stage
-        ensures { result ≡ batch_goes arena (option_map batch_facts batch) }
-    {
-        let mut stage = Stage::ended(arena, Answered::Ok(Given::Done));
-        stage.go_back(batch);
-        stage
-    }
-
     /// The region that the client holds at an address is freed.
-    fn free(addr: u64, desk: &mut Desk, alloc: Global) -> Result<Stage, NoMemory>
-        ensures stage { IfOk result (λ at. at ≡ begin_free addr (held_at addr desk.old.facts) desk.old.facts) }
+    fn free(&mut self, addr: u64, desk: &mut Desk, alloc: Global) -> Result<(), NoMemory>
+        ensures stage { OnOk result (self.new ≡ begin_free addr (held_at addr desk.old.facts) desk.old.facts) }
         ensures facts { OnOk result (desk.new.facts ≡ begin_desk (Request.Free addr) desk.old.facts) }
         ensures room { desk.old.room ≤ desk.new.room }
         ensures err { OnErr result (desk.new.facts ≡ desk.old.facts) }
     {
         let Some(region) = desk.held_at(addr) else {
-            return Ok(Stage::ended(0, Answered::NotHeld(addr)));
+            self.end(0, Answered::NotHeld(addr));
+            return Ok(());
         };
         let batch = desk.batch(desk.hand_for(region), false, alloc)?;
         desk.lose(addr);
         desk.free(region);
-        Ok(Stage::batch(region.arena, batch))
+        self.arena = region.arena;
+        self.go_back(batch);
+        Ok(())
     }
 
     /// The region that the client holds at an address is published.
-    fn publish(addr: u64, desk: &mut Desk) -> Stage
-        ensures stage { result ≡ begin_publish addr (held_at addr desk.old.facts) }
+    fn publish(&mut self, addr: u64, desk: &mut Desk)
+        ensures stage { self.new ≡ begin_publish addr (held_at addr desk.old.facts) }
         ensures facts { desk.new.facts ≡ begin_desk (Request.Publish addr) desk.old.facts }
         ensures room { desk.old.room ≤ desk.new.room }
     {
         let Some(region) = desk.held_at(addr) else {
-            return Stage::ended(0, Answered::NotHeld(addr));
+            self.end(0, Answered::NotHeld(addr));
+            return;
         };
         desk.lose(addr);
         desk.take(region);
-        Stage::at(region.arena, TurnPoint::Publishing(region.addr).next())
+        self.stand(region.arena, TurnPoint::Publishing(region.addr).next());
     }
 
     /// All cached regions go back.
-    fn flush(desk: &Desk, alloc: Global) -> Result<Stage, NoMemory>
-        ensures { IfOk result (λ at. at ≡ begin_flush desk.now.facts) }
+    fn flush(&mut self, desk: &Desk, alloc: Global) -> Result<(), NoMemory>
+        ensures { OnOk result (self.new ≡ begin_flush desk.now.facts) }
     {
         let batch = desk.batch(desk.hand(), true, alloc)?;
-        Ok(Stage::batch(desk.arena(), batch))
+        self.arena = desk.arena();
+        self.go_back(batch);
+        Ok(())
     }
 
     /// The cache is on at once, or it is flushed first.
-    fn cache(on: bool, desk: &Desk, alloc: Global) -> Result<Stage, NoMemory>
-        ensures stage { IfOk result (λ at. at ≡ begin_cache on desk.now.facts) }
+    fn cache(&mut self, on: bool, desk: &Desk, alloc: Global) -> Result<(), NoMemory>
+        ensures stage { OnOk result (self.new ≡ begin_cache on desk.now.facts) }
         ensures spare { on ≡ true → IsOk result }
     {
         if on {
-            Ok(Stage::ended(desk.arena(), Answered::Ok(Given::Done)))
+            self.end(desk.arena(), Answered::Ok(Given::Done));
+            Ok(())
         } else {
-            Stage::flush(desk, alloc)
+            self.flush(desk, alloc)
         }
     }
 }
@@ -274,109 +272,113 @@ fn after_time(rest: Rest, ms: i64) -> Change
     }
 }
 
-/// Another arena is bound first, and then the client leaves its own.
-fn bind(arena: u32, index: u32) -> Stage
-    ensures { result ≡ begin_bind arena index }
-{
-    if index == arena {
-        Stage::ended(arena, Answered::Ok(Given::Done))
-    } else {
-        Stage::first(
-            index,
-            TurnPoint::Changing(Setting::Bind, Change::Leaves(arena)),
-        )
+impl Stage {
+    /// Another arena is bound first, and then the client leaves its own.
+    fn bind(&mut self, arena: u32, index: u32)
+        ensures { self.new ≡ begin_bind arena index }
+    {
+        if index == arena {
+            self.end(arena, Answered::Ok(Given::Done));
+        } else {
+            let change = Change::Leaves(arena);
+            self.first(index, TurnPoint::Changing(Setting::Bind, change));
+        }
     }
-}
 
-/// The setting alone.
-fn set(index: u32, setting: Setting) -> Stage
-    ensures { result ≡ begin_set index setting }
-{
-    Stage::first(index, TurnPoint::Changing(setting, Change::Stops))
-}
+    /// The setting alone.
+    fn set(&mut self, index: u32, setting: Setting)
+        ensures { self.new ≡ begin_set index setting }
+    {
+        self.first(index, TurnPoint::Changing(setting, Change::Stops));
+    }
 
-/// A region is taken over, and then goes back, if that is told.
-fn owning(index: u32, addr: u64, frees: bool) -> Stage
-    ensures { result ≡ first_turn index (TurnPoint.Owning addr frees false) }
-{
-    Stage::first(
-        index,
-        TurnPoint::Owning {
-            addr,
-            frees,
-            published: false,
-        },
-    )
-}
+    /// A region is taken over, and then goes back, if that is told.
+    fn own(&mut self, index: u32, addr: u64, frees: bool)
+        ensures { self.new ≡ first_turn index (TurnPoint.Owning addr frees false) }
+    {
+        let published = false;
+        self.first(
+            index,
+            TurnPoint::Owning {
+                addr,
+                frees,
+                published,
+            },
+        );
+    }
 
-/// Where a request begins that leaves what the client has as it is, and takes no memory.
-fn begun(request: Request, desk: &Desk) -> Stage
-    requires { LeavesDesk request }
-    ensures { result ≡ begin_stage request desk.now.facts }
-{
-    match request {
-        Request::FreeForeign { addr, arena } => owning(arena, addr, true),
-        Request::Take { addr, arena } => owning(arena, addr, false),
-        Request::Purge { arena } => Stage::first(arena, TurnPoint::Taking(Visit::purge(), None)),
-        Request::Decay { arena, now } => Stage::first(arena, TurnPoint::Advancing(now)),
-        Request::Time {
-            arena,
-            rest,
-            ms,
-            now,
-        } => Stage::first(
-            arena,
-            TurnPoint::Changing(time_of(rest, ms, now), after_time(rest, ms)),
-        ),
-        Request::Reset { arena } => {
-            Stage::first_but_0(arena, TurnPoint::Resetting(desk.cached_of(arena)))
-        }
-        Request::Destroy { arena } => {
-            Stage::first_but_0(arena, TurnPoint::Destroying(desk.cached_of(arena)))
-        }
-        Request::Create {
-            box_no,
-            dirty_ms,
-            muzzy_ms,
-            now,
-        } => Stage::first(
-            1,
-            TurnPoint::Making(
-                1,
-                Setting::Live {
+    /// Where a request begins that leaves what the client has as it is, and takes no memory.
+    fn begin_rare(&mut self, request: &Request, desk: &Desk)
+        requires { LeavesDesk request.now }
+        ensures { self.new ≡ begin_stage request.now desk.now.facts }
+    {
+        match *request {
+            Request::FreeForeign { addr, arena } => self.own(arena, addr, true),
+            Request::Take { addr, arena } => self.own(arena, addr, false),
+            Request::Purge { arena } => self.first(arena, TurnPoint::Taking(Visit::purge(), None)),
+            Request::Decay { arena, now } => self.first(arena, TurnPoint::Advancing(now)),
+            Request::Time {
+                arena,
+                rest,
+                ms,
+                now,
+            } => {
+                let setting = time_of(rest, ms, now);
+                self.first(arena, TurnPoint::Changing(setting, after_time(rest, ms)));
+            }
+            Request::Reset { arena } => {
+                self.first_but_0(arena, TurnPoint::Resetting(desk.cached_of(arena)));
+            }
+            Request::Destroy { arena } => {
+                self.first_but_0(arena, TurnPoint::Destroying(desk.cached_of(arena)));
+            }
+            Request::Create {
+                box_no,
+                dirty_ms,
+                muzzy_ms,
+                now,
+            } => {
+                let setting = Setting::Live {
                     box_no,
                     dirty_ms,
                     muzzy_ms,
                     now,
-                },
-            ),
-        ),
-        Request::Bind { arena } => bind(desk.arena(), arena),
-        Request::HookBox { arena, box_no } => set(arena, Setting::HookBox(box_no)),
-        Request::GrowLimit { arena, chunks } => set(arena, Setting::GrowLimit { chunks }),
-        _ => unreachable!(),
+                };
+                self.first(1, TurnPoint::Making(1, setting));
+            }
+            Request::Bind { arena } => self.bind(desk.arena(), arena),
+            Request::HookBox { arena, box_no } => self.set(arena, Setting::HookBox(box_no)),
+            Request::GrowLimit { arena, chunks } => {
+                self.set(arena, Setting::GrowLimit { chunks });
+            }
+            _ => unreachable!(),
+        }
     }
-}
 
-impl Stage {
-    /// Where a request begins of a client, whose desk is as it is then. `NoMemory` only where there is none to name several
-    /// regions that go back: the desk is as it was.
-    pub(crate) fn begin(request: Request, desk: &mut Desk, alloc: Global) -> Result<Stage, NoMemory>
-        ensures stage { IfOk result (λ at. at ≡ begin_stage request desk.old.facts) }
-        ensures facts { OnOk result (desk.new.facts ≡ begin_desk request desk.old.facts) }
-        ensures sized { IfOk result (λ at. IsSizedNext at.next) }
+    /// It stands where a request begins of a client, whose desk is as it is then. `NoMemory` only where there is none to name
+    /// several regions that go back: the desk is as it was.
+    pub(crate) fn begin(
+        &mut self,
+        request: &Request,
+        desk: &mut Desk,
+        alloc: Global,
+    ) -> Result<(), NoMemory>
+        ensures stage { OnOk result (self.new ≡ begin_stage request.now desk.old.facts) }
+        ensures facts { OnOk result (desk.new.facts ≡ begin_desk request.now desk.old.facts) }
+        ensures sized { OnOk result (IsSizedNext self.new.next) }
         ensures room { desk.old.room ≤ desk.new.room }
-        ensures spare { may_hold request ≡ false → flushes request ≡ false → IsOk result }
+        ensures spare { may_hold request.now ≡ false → flushes request.now ≡ false → IsOk result }
         ensures err { OnErr result (desk.new.facts ≡ desk.old.facts) }
     {
-        match request {
-            Request::Malloc { size } => Ok(Stage::malloc(size, desk)),
-            Request::Memalign { align, size } => Ok(Stage::memalign(align, size, desk)),
-            Request::Free { addr } => Stage::free(addr, desk, alloc),
-            Request::Publish { addr } => Ok(Stage::publish(addr, desk)),
-            Request::Flush => Stage::flush(desk, alloc),
-            Request::Cache { on } => Stage::cache(on, desk, alloc),
-            request => Ok(begun(request, desk)),
+        match *request {
+            Request::Malloc { size } => self.malloc(size, desk),
+            Request::Memalign { align, size } => self.memalign(align, size, desk),
+            Request::Free { addr } => return self.free(addr, desk, alloc),
+            Request::Publish { addr } => self.publish(addr, desk),
+            Request::Flush => return self.flush(desk, alloc),
+            Request::Cache { on } => return self.cache(on, desk, alloc),
+            _ => self.begin_rare(request, desk),
         }
+        Ok(())
     }
 }

@@ -1,7 +1,7 @@
 //! The automaton of a call.
 
 ghost use Rattle.std.specs.Prelude.{◌≡◌, List, ◌∷◌, None, Some, IfNone, IfOk, IfSome, IsOk, OnOk, OnErr, ◌≤◌, ◌||◌, true, false, is_some, length};
-ghost use Rattle.call_table.specs.Calls.{HasRoomToHold, may_hold, moment_of, takes_memory};
+ghost use Rattle.call_table.specs.Calls.{HasRoomToHold, may_hold, moment_of, started, takes_memory};
 ghost use Rattle.call_table.specs.Desks.{flushes};
 ghost use Rattle.call_table.specs.Items.{Item as Fed, lent};
 ghost use Rattle.call_table.specs.Points.{IsSizedNext, IsSizedPoint};
@@ -153,10 +153,10 @@ fn told(arena: u32, span: Span, committed: bool) -> Need
 
 impl Request {
     /// Whether all cached regions go back.
-    fn flushes(self) -> bool
-        ensures { result ≡ flushes self }
+    fn flushes(&self) -> bool
+        ensures { result ≡ flushes self.now }
     {
-        match self {
+        match *self {
             Request::Flush => true,
             Request::Cache { on } => !on,
             _ => false,
@@ -164,10 +164,10 @@ impl Request {
     }
 
     /// Whether its client may come to hold a region by it.
-    fn may_hold(self) -> bool
-        ensures { result ≡ may_hold self }
+    fn may_hold(&self) -> bool
+        ensures { result ≡ may_hold self.now }
     {
-        match self {
+        match *self {
             Request::Malloc { .. }
             | Request::Memalign { .. }
             | Request::Free { .. }
@@ -179,10 +179,10 @@ impl Request {
     }
 
     /// Makes room for a region that its client may come to hold by it, or has in hand. Takes no memory where neither is.
-    fn make_room(self, desk: &mut Desk) -> Result<(), NoMemory>
+    fn make_room(&self, desk: &mut Desk) -> Result<(), NoMemory>
         ensures facts { desk.new.facts ≡ desk.old.facts }
-        ensures room { OnOk result ((may_hold self || is_some desk.old.facts.hand) ≡ true → 1 ≤ desk.new.room) }
-        ensures spare { (may_hold self || is_some desk.old.facts.hand) ≡ false → IsOk result }
+        ensures room { OnOk result ((may_hold self.now || is_some desk.old.facts.hand) ≡ true → 1 ≤ desk.new.room) }
+        ensures spare { (may_hold self.now || is_some desk.old.facts.hand) ≡ false → IsOk result }
     {
         if self.may_hold() || desk.hand().is_some() {
             desk.reserve()
@@ -193,20 +193,26 @@ impl Request {
 }
 
 impl Stage {
-    /// It stands in the arena with this index, where nothing was answered yet.
-    pub(crate) fn at(arena: u32, lead: Lead) -> Stage
-        ensures { result ≡ stage arena (led lead None) }
-    {
+    /// It stands nowhere yet.
+    pub(crate) fn new() -> Stage {
         Stage {
-            arena,
-            lead,
+            arena: 0,
+            lead: Lead::Nowhere,
             heard: None,
         }
     }
 
+    /// It stands in the arena with this index, where this leads.
+    pub(crate) fn stand(&mut self, arena: u32, lead: Lead)
+        ensures { self.new ≡ stage arena (led lead None) }
+    {
+        self.arena = arena;
+        self.go(lead);
+    }
+
     /// It stands at the next batch of regions that go back, or at the end.
-    fn go_on(&mut self, request: Request, desk: &Desk, alloc: Global) -> Result<(), NoMemory>
-        ensures stage { OnOk result (self.new ≡ settle request desk.now.facts self.old.arena More) }
+    fn go_on(&mut self, request: &Request, desk: &Desk, alloc: Global) -> Result<(), NoMemory>
+        ensures stage { OnOk result (self.new ≡ settle request.now desk.now.facts self.old.arena More) }
         ensures err { OnErr result (self.new ≡ stage self.old.arena (Ends Answered.NoMemory)) }
     {
         match desk.batch(desk.hand(), request.flushes(), alloc) {
@@ -223,7 +229,9 @@ impl Stage {
     pub(crate) fn go(&mut self, lead: Lead)
         ensures { self.new ≡ stage self.old.arena (led lead None) }
     {
-        self.heard = None;
+        if self.heard.is_some() {
+            self.heard = None;
+        }
         self.lead = lead;
     }
 
@@ -231,12 +239,12 @@ impl Stage {
     /// that go back: the call has ended with that answer.
     fn settle(
         &mut self,
-        request: Request,
+        request: &Request,
         desk: &Desk,
         lead: Lead,
         alloc: Global,
     ) -> Result<(), NoMemory>
-        ensures stage { OnOk result (self.new ≡ settle request desk.now.facts self.old.arena (led lead None)) }
+        ensures stage { OnOk result (self.new ≡ settle request.now desk.now.facts self.old.arena (led lead None)) }
         ensures more { OnErr result (led lead None ≡ More) }
         ensures err { OnErr result (self.new ≡ stage self.old.arena (Ends Answered.NoMemory)) }
     {
@@ -281,16 +289,27 @@ impl Stage {
         }
     }
 
+    /// Its answer, where the call has ended.
+    fn answer(&self) -> Option<&Answered>
+        ensures some { IfSome result (λ answer. ended_by self.now.next ≡ Some answer.now) }
+        ensures none { IfNone result (ended_by self.now.next ≡ None) }
+    {
+        match &self.lead {
+            Lead::Ends(answer) => Some(answer),
+            _ => None,
+        }
+    }
+
     /// It takes in an item, by what the client has after it.
     pub(crate) fn feed(
         &mut self,
-        request: Request,
+        request: &Request,
         desk: &Desk,
         item: Item<'_>,
         alloc: Global,
     ) -> Result<(), NoMemory>
         requires { IsSizedNext self.old.next }
-        ensures stage { OnOk result (self.new ≡ settle request desk.now.facts self.old.arena (step_next self.old.next (lent item.entry))) }
+        ensures stage { OnOk result (self.new ≡ settle request.now desk.now.facts self.old.arena (step_next self.old.next (lent item.entry))) }
         ensures sized { IsSizedNext self.new.next }
         ensures more { OnErr result (step_next self.old.next (lent item.entry) ≡ More) }
         ensures err { OnErr result (self.new ≡ stage self.old.arena (Ends Answered.NoMemory)) }
@@ -324,29 +343,40 @@ impl Model for Call {
 }
 
 impl Call {
-    /// A call that carries out a request of a client. Its desk is from now on as the call leaves it, with room for the region
-    /// that it may come to hold. `NoMemory` where there is none for that, or to name several regions that go back first: the
-    /// client has what it had. A request by which no region is got, given away or flushed takes no memory.
+    /// A call begins that carries out a request of a client. It stands in the place where it is open, and else gives its answer.
+    /// The desk is from now on as the call leaves it, with room for the region that it may come to hold. `NoMemory` where there
+    /// is none for that, or to name several regions that go back first: the client has what it had. A request by which no region
+    /// is got, given away or flushed takes no memory.
     pub fn start(
+        place: &mut Option<Call>,
         client: u32,
         desk: &mut Desk,
-        request: Request,
+        request: &Request,
         alloc: Global,
-    ) -> Result<Call, NoMemory>
-        ensures client { IfOk result (λ call. call.client ≡ client) }
-        ensures moment { IfOk result (λ call. moment_of call desk.new.facts ≡ begin request desk.old.facts) }
-        ensures room { IfOk result (λ call. HasRoomToHold desk.new.facts.hand desk.new.room call.stage.next) }
-        ensures spare { takes_memory request desk.old.facts ≡ false → IsOk result }
+    ) -> Result<Option<Answered>, NoMemory>
+        ensures place { OnOk result (place.new ≡ started client (begin request.now desk.old.facts) place.old (begin request.now desk.old.facts).stage.next) }
+        ensures desk { OnOk result (desk.new.facts ≡ (begin request.now desk.old.facts).desk) }
+        ensures answer { IfOk result (λ ended. ended ≡ ended_by (begin request.now desk.old.facts).stage.next) }
+        ensures room { OnOk result (HasRoomToHold desk.new.facts.hand desk.new.room (begin request.now desk.old.facts).stage.next) }
+        ensures spare { takes_memory request.now desk.old.facts ≡ false → IsOk result }
         ensures err { OnErr result (desk.new.facts ≡ desk.old.facts) }
+        ensures free { OnErr result (place.new ≡ place.old) }
     {
         request.make_room(desk)?;
-        let stage = Stage::begin(request, desk, alloc)?;
+        let mut stage = Stage::new();
+        stage.begin(request, desk, alloc)?;
         stage.close(request, desk);
-        Ok(Call {
+        if let Some(answer) = stage.answer() {
+            return Ok(Some(*answer));
+        }
+        let request = *request;
+        let call = Call {
             client,
             request,
             stage,
-        })
+        };
+        *place = Some(call);
+        Ok(None)
     }
 
     /// The client whose call it is.
@@ -383,10 +413,7 @@ impl Call {
         ensures none { IfNone result (ended_by self.now.stage.next ≡ None) }
         ensures place { IsPointOrEnd self.now.stage.next }
     {
-        match &self.stage.lead {
-            Lead::Ends(answer) => Some(answer),
-            _ => None,
-        }
+        self.stage.answer()
     }
 
     /// The address of a region of another client, where the call takes that over next to free it, and it wasn't published for
@@ -439,8 +466,8 @@ impl Call {
         ensures room { HasRoomToHold desk.new.facts.hand desk.new.room self.new.stage.next }
     {
         self.stage.tell(desk, item);
-        let fed = self.stage.feed(self.request, desk, item, alloc);
-        self.stage.close(self.request, desk);
+        let fed = self.stage.feed(&self.request, desk, item, alloc);
+        self.stage.close(&self.request, desk);
         fed
     }
 }

@@ -92,20 +92,20 @@ impl Stage {
 
 impl Request {
     /// A cache that was to be on or off is so.
-    fn switch(self, desk: &mut Desk)
-        ensures { desk.new.facts ≡ switched self desk.old.facts }
+    fn switch(&self, desk: &mut Desk)
+        ensures { desk.new.facts ≡ switched self.now desk.old.facts }
     {
-        if let Request::Cache { on } = self {
+        if let Request::Cache { on } = *self {
             desk.switch(on);
         }
     }
 
     /// What the client has once its call has ended.
-    fn end(self, desk: &mut Desk, arena: u32, answer: Answered)
-        requires { wants_place desk.old.facts.hand (Ends answer) ≡ true → 1 ≤ desk.old.room }
-        ensures { desk.new.facts ≡ desk_ended self arena answer desk.old.facts }
+    fn end(&self, desk: &mut Desk, arena: u32, answer: &Answered)
+        requires { wants_place desk.old.facts.hand (Ends answer.now) ≡ true → 1 ≤ desk.old.room }
+        ensures { desk.new.facts ≡ desk_ended self.now arena answer.now desk.old.facts }
     {
-        match answer {
+        match *answer {
             Answered::Ok(Given::Region { addr, class }) => desk.hold(Held { addr, class, arena }),
             Answered::Ok(Given::Done) => {
                 desk.keep_hand();
@@ -119,13 +119,13 @@ impl Request {
 
 impl Stage {
     /// What the client has where its call stands now.
-    pub(crate) fn close(&self, request: Request, desk: &mut Desk)
+    pub(crate) fn close(&self, request: &Request, desk: &mut Desk)
         requires { wants_place desk.old.facts.hand self.now.next ≡ true → 1 ≤ desk.old.room }
-        ensures facts { desk.new.facts ≡ desk_closed request self.now.arena self.now.next desk.old.facts }
+        ensures facts { desk.new.facts ≡ desk_closed request.now self.now.arena self.now.next desk.old.facts }
         ensures room { HasRoomToHold desk.new.facts.hand desk.new.room self.now.next }
     {
         if let Lead::Ends(answer) = &self.lead {
-            request.end(desk, self.arena, *answer);
+            request.end(desk, self.arena, answer);
         }
     }
 }

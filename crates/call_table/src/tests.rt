@@ -50,8 +50,9 @@ impl Play {
         ensures { IfOk result (λ play. IsSizedNext play.stage.next) }
     {
         desk.reserve()?;
-        let stage = Stage::begin(request, &mut desk, alloc)?;
-        stage.close(request, &mut desk);
+        let mut stage = Stage::new();
+        stage.begin(&request, &mut desk, alloc)?;
+        stage.close(&request, &mut desk);
         let as_told = true;
         Ok(Play {
             request,
@@ -84,8 +85,9 @@ impl Play {
         self.as_told = self.as_told && same;
         self.desk.reserve()?;
         self.stage.tell(&mut self.desk, item);
-        self.stage.feed(self.request, &self.desk, item, self.alloc)?;
-        self.stage.close(self.request, &mut self.desk);
+        self.stage
+            .feed(&self.request, &self.desk, item, self.alloc)?;
+        self.stage.close(&self.request, &mut self.desk);
         Ok(())
     }
 

@@ -26,7 +26,7 @@ pub use Rattle.call_table.proofs.Own.{live_where, region_found}
 pub use Rattle.call_table.proofs.Rooms.{rooms-suffice}
 pub use Rattle.call_table.proofs.Standing.{wants-stand}
 pub use Rattle.call_table.proofs.Steps.{steps-keep, never_starves}
-pub use Rattle.call_table.specs.Calls.{CallFacts, HasRoomToHold, moment_of}
+pub use Rattle.call_table.specs.Calls.{CallFacts, HasRoomToHold, moment_of, started}
 pub use Rattle.call_table.specs.Desks.{desk_fed, flushes, held_region, address_behind, desk_turned, landed_behind, sharing, desk_ended, switched}
 pub use Rattle.call_table.specs.Items.{lent}
 pub use Rattle.call_table.specs.Knows.{KnowsTurn, Idle, Knows, Alone, Flies, Settled, in_flight, Gets, GivesBack, HasOffered, KnowsAsk, HasPair, is_held, is_served, is_of_arena}

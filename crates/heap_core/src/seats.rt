@@ -123,6 +123,7 @@ impl Client {
     }
 
     /// Begins a call. Gives its answer, where it has ended already. Where memory is wanting nothing changes.
+    #[tactic(auto, using(crate::proofs::Feeding::started_open))]
     pub fn start(
         &mut self,
         client: u32,
@@ -134,12 +135,7 @@ impl Client {
         ensures answer { IfOk result (λ ended. ended ≡ answer_of (begin request self.old.desk)) }
         ensures err { OnErr result (self.new ≡ self.old) }
     {
-        let call = Call::start(client, &mut self.desk, request, alloc)?;
-        if let Some(answer) = call.answer() {
-            return Ok(Some(*answer));
-        }
-        self.call = Some(call);
-        Ok(None)
+        Call::start(&mut self.call, client, &mut self.desk, &request, alloc)
     }
 
     /// Feeds an item to its open call. Gives the answer, where the call has ended by it: that is `NoMemory` where there is none
