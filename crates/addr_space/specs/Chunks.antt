@@ -11,8 +11,8 @@ abbrev pub overlap : ℕ → ℕ → ℕ → ℕ
 overlap first end chunk = min end (512 * chunk + 512) - max first (512 * chunk)
 
 -- how many pages of a chunk a span has
-abbrev pub pages_in : Span → ℕ → ℕ
-pages_in span chunk = overlap span.first (span.first + span.pages) chunk
+abbrev pub pages_within : Span → ℕ → ℕ
+pages_within span chunk = overlap span.first (span.first + span.pages) chunk
 
 -- there is a number for each chunk, and no page is placed
 pub record IsBlank (placed : List ℕ) : Type 0 where
@@ -26,13 +26,13 @@ AreFree placed from to = (chunk : ℕ) → from ≤ chunk → chunk < to → use
 -- a span can be placed: it ends in the space, and each chunk with a page of it is one of the space and has no page that is placed
 pub record IsFreeSpan (placed : List ℕ) (span : Span) : Type 0 where
   pub ends : span.first + span.pages ≤ 512 * 1048576
-  pub inside : (chunk : ℕ) → 0 < pages_in span chunk → (1 ≤ chunk) × (chunk < 1048576)
-  pub free : (chunk : ℕ) → 0 < pages_in span chunk → used_at placed chunk ≡ 0
+  pub inside : (chunk : ℕ) → 0 < pages_within span chunk → (1 ≤ chunk) × (chunk < 1048576)
+  pub free : (chunk : ℕ) → 0 < pages_within span chunk → used_at placed chunk ≡ 0
 
 -- a span ends in the space, and each chunk has as many pages placed as the span has of it
 pub record IsPlacedSpan (placed : List ℕ) (span : Span) : Type 0 where
   pub ends : span.first + span.pages ≤ 512 * 1048576
-  pub each : (chunk : ℕ) → pages_in span chunk ≤ used_at placed chunk
+  pub each : (chunk : ℕ) → pages_within span chunk ≤ used_at placed chunk
 
 -- so many pages, at least one, can be placed from a chunk on, at the alignment: in chunks of the space, none of which has a page that is placed
 pub record IsFit (placed : List ℕ) (pages align chunk : ℕ) : Type 0 where
@@ -48,12 +48,12 @@ NoFit placed pages align chunk = IsFit placed pages align chunk → ⊥
 -- the pages of the span are placed too
 pub record IsOn (old : List ℕ) (span : Span) (new : List ℕ) : Type 0 where
   pub chunks : length new ≡ length old
-  pub each : (chunk : ℕ) → used_at new chunk ≡ used_at old chunk + pages_in span chunk
+  pub each : (chunk : ℕ) → used_at new chunk ≡ used_at old chunk + pages_within span chunk
 
 -- the pages of the span are placed no more, as far as they were
 pub record IsOff (old : List ℕ) (span : Span) (new : List ℕ) : Type 0 where
   pub chunks : length new ≡ length old
-  pub each : (chunk : ℕ) → used_at new chunk ≡ used_at old chunk - pages_in span chunk
+  pub each : (chunk : ℕ) → used_at new chunk ≡ used_at old chunk - pages_within span chunk
 
 -- there is a number for each chunk, at most its pages; chunk 0 has none, and no chunk below the low one is free
 pub record IsChunks (placed : List ℕ) (low : ℕ) : Type 0 where
@@ -64,7 +64,7 @@ pub record IsChunks (placed : List ℕ) (low : ℕ) : Type 0 where
   pub used : (chunk : ℕ) → 1 ≤ chunk → chunk < low → 0 < used_at placed chunk
 
 -- so many pages from a page on, which begins a chunk, are the lowest that fit
-pub record IsLowest (placed : List ℕ) (pages align first : ℕ) : Type 0 where
+pub record IsLowestFit (placed : List ℕ) (pages align first : ℕ) : Type 0 where
   pub chunk : first ≡ 512 * (first / 512)
   pub fits : IsFit placed pages align (first / 512)
   pub lowest : (lower : ℕ) → lower < first / 512 → NoFit placed pages align lower

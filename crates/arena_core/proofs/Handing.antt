@@ -1,6 +1,5 @@
 -- A region that gets another holder.
 use Rattle.arena_core.proofs.Words.{◌≡◌, ◌≢◌, ℕ, suc, ◌+◌, ◌*◌, ◌/◌, ◌%◌, ◌<◌, ◌≤◌, Bool, true, false, not, cond, List, [], ◌∷◌, get_or, map, filter, find, Option, None, Some, Less, is_gt, is_lt, is_eq, refl, sym, ◌∙◌, ap, subst, arith, eqb, nat_lt, inl, inr, Every, count_by, sum_by, list_any, option_map, cases_Bool, cases_order, nat_tests, sum_by-cons, Region, held_anew, is_held_by, is_published, starts_at, holds_at, find-le-sum_by, find_passes, both_true, is_held_at, is_published_at}
-use Rattle.std.specs.List.{Contains}
 use Rattle.arena_core.proofs.Emptying.{any_counts, counts_any}
 use Rattle.arena_core.proofs.Finds.{fewer_pass}
 
@@ -14,13 +13,6 @@ anew_sum test holder f blind (r ∷ rs) =
     omega (arith, here, sum_by-cons f (cond (test r) (record r { holder = holder }) r) (held_anew test holder rs), sum_by-cons f r rs, anew_sum test holder f blind rs)
 
 -- ---- a published region
-
--- a search whose first element passes, or doesn't
-found_first : {X : Type 0} (t : X → Bool) (x : X) (xs : List X) → t x ≡ true → find t (x ∷ xs) ≡ Some x
-found_first t x xs h = rw h refl
-
-found_later : {X : Type 0} (t : X → Bool) (x : X) (xs : List X) → t x ≡ false → find t (x ∷ xs) ≡ find t xs
-found_later t x xs h = rw h refl
 
 -- one region that passes a test is the only one at its address, so it alone changes by either
 pub anew_alone : (t : Region → Bool) (addr : ℕ) (holder : Option ℕ) (regions : List Region) → ((r : Region) → t r ≡ true → starts_at addr r ≡ true) → count_by (starts_at addr) regions ≤ 1 →

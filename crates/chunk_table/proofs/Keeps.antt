@@ -15,7 +15,7 @@ use Rattle.atomic_table.proofs.Lists.{at_set, set_else, at_snoc, exchanged}
 use Rattle.chunk_table.specs.declared.view.Share.{Share}
 use Rattle.chunk_table.specs.declared.view.View.{View}
 use Rattle.chunk_table.specs.Rule.{mark, owns, marked, blank, opening_view, Agrees, Rule}
-use Rattle.chunk_table.specs.Steps.{with_owned, without, with_taken, first_of, alone, Shows, claimed, freed, looked, first_part, later_part, joined, spent}
+use Rattle.chunk_table.specs.Steps.{with_owned, with_freed, with_taken, first_of, alone, Shows, claimed, freed, looked, first_part, later_part, joined, spent}
 
 -- an element that is there lies within the list, and is read there
 at_within : {A : Type 0} (l : List A) (i : ℕ) (a d : A) → get_elem? l i ≡ some a → (i < length l) × (get_or l i d ≡ a)
@@ -108,7 +108,7 @@ agrees_with : (arenas : ℕ) (words : List ℕ) (c m : ℕ) → c < length words
 agrees_with arenas words c m lt t own a = record { of = a.of; owner = λ chunk. let was = a.owner chunk in let now = read_set words c chunk m lt in let had = any_with chunk c t.owned in grind (arith, nat_tests) }
 
 -- and once that word is 0 again
-agrees_without : (arenas : ℕ) (words : List ℕ) (c : ℕ) → c < length words → (t : Share) → Agrees arenas words t → Agrees arenas (set words c 0) (without c t)
+agrees_without : (arenas : ℕ) (words : List ℕ) (c : ℕ) → c < length words → (t : Share) → Agrees arenas words t → Agrees arenas (set words c 0) (with_freed c t)
 agrees_without arenas words c lt t a = record { of = a.of; owner = λ chunk. let was = a.owner chunk in let now = read_set words c chunk 0 lt in let had = any_without chunk c t.owned in grind (arith, nat_tests) }
 
 -- the marks of some shares that own a chunk are its word
@@ -212,11 +212,11 @@ module _ {S : Type 0} (arenas : ℕ) where
   frees slots id me given c below one had s r long at small =
       let sh : Share = first_of me.0.shares in let same : sh ≡ given = ap (λ (v : View). first_of v.shares) one in let here = at ∙ ap some (one ∙ ap alone (sym same)) in let own : owns c sh ≡ true = ap (owns c) same ∙ had in let agree = own_agrees s r id sh here in
       let size = r.size in let lt : c < length s.words = omega arith in let found : get_or s.words c 0 ≡ mark sh = (let a = agree.owner c in grind (arith, nat_tests)) in (
-        alone (without c sh),
+        alone (with_freed c sh),
         keeps,
         tt,
-        moved s r id (alone sh) (alone (without c sh)) here (set s.words c 0) (still s r c 0) (named_set s r c 0 lt (omega arith)) (λ n. refl)
-            (All-cons (Agrees arenas (set s.words c 0)) (without c sh) [] (agrees_without arenas s.words c lt sh agree) (All-nil (Agrees arenas (set s.words c 0))))
+        moved s r id (alone sh) (alone (with_freed c sh)) here (set s.words c 0) (still s r c 0) (named_set s r c 0 lt (omega arith)) (λ n. refl)
+            (All-cons (Agrees arenas (set s.words c 0)) (with_freed c sh) [] (agrees_without arenas s.words c lt sh agree) (All-nil (Agrees arenas (set s.words c 0))))
             (λ j u other there. all_else arenas s.words c 0 (mark sh) lt (λ t differs. ((λ e. differs (sym e ∙ found)), (λ e. omega arith))) u.shares (others_unmarked s r id sh here j u other there) (r.agrees j u there)),
         refl,
       )

@@ -11,8 +11,8 @@ abbrev pub with_owned : ℕ → Share → Share
 with_owned chunk s = record { number = s.number; arenas = s.arenas; owned = s.owned ++ chunk ∷ []; taken = s.taken }
 
 -- the arena no longer owns a chunk
-abbrev pub without : ℕ → Share → Share
-without chunk s = record { number = s.number; arenas = s.arenas; owned = filter (λ c. not (c == chunk)) s.owned; taken = s.taken }
+abbrev pub with_freed : ℕ → Share → Share
+with_freed chunk s = record { number = s.number; arenas = s.arenas; owned = filter (λ c. not (c == chunk)) s.owned; taken = s.taken }
 
 -- the arena failed to claim a chunk, which another has
 abbrev pub with_taken : ℕ → ℕ → Share → Share
@@ -42,7 +42,7 @@ module _ {S : Type 0} where
 
   -- the chunk is free
   abbrev pub freed : Step S → Me S View → ℕ → Me S View → Type 0
-  freed st m found n = n ≡ (alone (without st.word (first_of m.0.shares)), m.1)
+  freed st m found n = n ≡ (alone (with_freed st.word (first_of m.0.shares)), m.1)
 
   -- nothing changed, each share agrees with the word, and no chunk is owned by two of them
   abbrev pub looked : Step S → Me S View → ℕ → Me S View → Type 0

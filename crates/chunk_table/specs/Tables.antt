@@ -1,6 +1,5 @@
 -- What a clause says of a table of chunks, of its seats, and of the book that they leave.
 use Rattle.std.specs.Prelude.{ℕ, ◌≡◌, ◌≢◌, ◌+◌, ◌-◌, ◌<◌, ◌≤◌, List}
-use Rattle.chunk_table.specs.declared.view.Taken.{Taken}
 use Rattle.chunk_table.specs.declared.view.Share.{Share}
 use Rattle.chunk_table.specs.declared.table.ChunkTable.{ChunkTable}
 use Rattle.chunk_table.specs.declared.claims.Claim.{Claim}
@@ -29,10 +28,6 @@ number seat = seat.number
 -- the chunks that a seat's arena owns, in the order in which it claimed them
 abbrev pub owned : ChunkSeat → List ℕ
 owned seat = (share_of seat).owned
-
--- the failed claims of a seat's arena, in order
-abbrev pub taken : ChunkSeat → List Taken
-taken seat = (share_of seat).taken
 
 -- it is a seat of this table
 abbrev pub IsSeatOf : ChunkTable → ChunkSeat → Type 0

@@ -1,7 +1,7 @@
 //! What a seat does to the words.
 ghost use Rattle.std.specs.Prelude.{◌≡◌, ◌==◌, ◌+◌, ◌≤◌, false, true, []};
 ghost use Rattle.chunk_table.specs.Rule.{owns};
-ghost use Rattle.chunk_table.specs.Steps.{alone, without};
+ghost use Rattle.chunk_table.specs.Steps.{alone, with_freed};
 ghost use Rattle.chunk_table.specs.Tables.{arena_count, number, share_of, IsSeatOf, IsChunk, ClaimTells};
 ghost use Rattle.chunk_table.specs.Views.{IsOne, only_share};
 
@@ -65,7 +65,7 @@ impl ChunkTable {
         requires own { owns chunk (share_of seat.old) ≡ true }
         ensures table { IsSeatOf self.now seat.new }
         ensures number { number seat.new ≡ number seat.old }
-        ensures free { share_of seat.new ≡ without chunk (share_of seat.old) }
+        ensures free { share_of seat.new ≡ with_freed chunk (share_of seat.old) }
     {
         let mut place = place_of(mem::replace(&mut seat.badge, Badge::blank()));
         self.table

@@ -4,6 +4,6 @@ use Rattle.circular_buffer.specs.Buffer.{keep_last}
 use Rattle.decay_curve.specs.declared.additions.Additions.TheInside.{Inside}
 
 -- there is room for 200 additions, and the latest ones are kept
-pub record IsKept (a : Inside) : Type 0 where
+pub record KeepsLatest (a : Inside) : Type 0 where
   pub room : a.latest.capacity ≡ 200
   pub latest : a.latest.items ≡ keep_last 200 a.all.added

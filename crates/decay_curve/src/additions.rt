@@ -27,11 +27,11 @@ impl Model for Additions {
 
     ghost Value = { List Added };
 
-    ghost use Rattle.decay_curve.specs.Kept.{IsKept};
+    ghost use Rattle.decay_curve.specs.Kept.{KeepsLatest};
 
     ghost view = { λ a. a.all.added };
 
-    ghost invariant = { IsKept };
+    ghost invariant = { KeepsLatest };
 }
 
 impl Additions {

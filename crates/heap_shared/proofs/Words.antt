@@ -11,7 +11,7 @@ pub use Rattle.std.proofs.lemmas.List.Folds.{Any-from_list_any, list_any-from_An
 pub use Rattle.arena_core.specs.Arenas.{opens, Standing, entry_of, room_after, room_of, rooms_after}
 pub use Rattle.chunk_table.proofs.Keeps.{any_without}
 pub use Rattle.chunk_table.specs.Rule.{owns}
-pub use Rattle.chunk_table.specs.Steps.{without}
+pub use Rattle.chunk_table.specs.Steps.{with_freed}
 pub use Rattle.chunk_table.specs.Tables.{share_of}
 pub use Rattle.chunk_table.specs.declared.table.ChunkTable.{ChunkTable}
 pub use Rattle.chunk_table.specs.declared.view.Share.{Share}

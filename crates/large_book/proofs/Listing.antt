@@ -11,7 +11,7 @@ use Rattle.space_model.specs.Region.{address_of, held_anew, inserted, starts_at}
 use Rattle.list_facts.specs.ByKey.{AreBehind, IsRising}
 use Rattle.list_facts.specs.Codes.{code_of, of_code}
 use Rattle.list_facts.proofs.ByKey.{absent_filter, finds_changed, finds_without, is_inserted, rising_changed, rising_filter, same_finds}
-use Rattle.large_book.specs.Larges.{Numbers, addr_of, number_of, region_at, region_of, listed, larges_in}
+use Rattle.large_book.specs.Larges.{Numbers, addr_of, packed, region_at, region_numbered, listed, larges_in}
 
 -- ---- what is listed
 
@@ -44,7 +44,7 @@ found_cons (Some number) addr page rs = grind (arith, nat_tests)
 abbrev is_among : ℕ → ℕ → ℕ → Bool
 is_among addr page more = eqb (addr % 4096) 0 && leb page (addr / 4096) && ltb (addr / 4096) (page + more)
 
-finds : (numbers : Numbers) (addr page more : ℕ) → find (starts_at addr) (listed numbers page more) ≡ cond (is_among addr page more) (region_of numbers (addr / 4096)) None
+finds : (numbers : Numbers) (addr page more : ℕ) → find (starts_at addr) (listed numbers page more) ≡ cond (is_among addr page more) (region_numbered numbers (addr / 4096)) None
 unfolding listed
 finds numbers addr page zero = grind (arith, nat_tests)
 finds numbers addr page (suc more) =
@@ -52,7 +52,7 @@ finds numbers addr page (suc more) =
 
 -- what begins at an address
 abbrev pub found : Numbers → ℕ → Option Region
-found numbers addr = cond (is_among addr 0 536870912) (region_of numbers (addr / 4096)) None
+found numbers addr = cond (is_among addr 0 536870912) (region_numbered numbers (addr / 4096)) None
 
 pub larges_rise : (numbers : Numbers) → IsRising addr_of (larges_in numbers)
 unfolding larges_in
@@ -70,7 +70,7 @@ holder_back class None low = let is : (class + 256 * 0) / 256 ≡ 0 = omega (ari
 holder_back class (Some client) low = let is : (class + 256 * (client + 1)) / 256 ≡ client + 1 = omega (arith, low) in rw is (grind (arith, nat_tests))
 
 -- a region's number gives the region back at its page
-pub region_back : (r : Region) (page : ℕ) → r.class < 256 → address_of page ≡ r.addr → region_at page (number_of r) ≡ r
+pub region_back : (r : Region) (page : ℕ) → r.class < 256 → address_of page ≡ r.addr → region_at page (packed r) ≡ r
 region_back r page class addr =
     let same : (r.class + 256 * code_of r.holder) % 256 ≡ r.class = omega (arith, class) in
     let holder = holder_back r.class r.holder class in
@@ -104,12 +104,12 @@ same_larges numbers rs rising same = same_finds addr_of _ _ (larges_rise numbers
 
 -- where a page is written, its region stands in the place of what began there
 write_is : (numbers : Numbers) (r : Region) → r.class < 256 → r.addr % 4096 ≡ 0 → r.addr < 4096 * 536870912
-    → larges_in (map.insert numbers (r.addr / 4096) (number_of r)) ≡ inserted r (filter (λ q. not (starts_at r.addr q)) (larges_in numbers))
+    → larges_in (map.insert numbers (r.addr / 4096) (packed r)) ≡ inserted r (filter (λ q. not (starts_at r.addr q)) (larges_in numbers))
 write_is numbers r class page low = is_inserted addr_of r (larges_in numbers) _ (larges_rise numbers) (larges_rise _) (λ a.
-    larges_found _ a ∙ found_put numbers r.addr (number_of r) a page low ∙ rw (region_back r (r.addr / 4096) class (omega (arith, page)), ← larges_found numbers a) refl)
+    larges_found _ a ∙ found_put numbers r.addr (packed r) a page low ∙ rw (region_back r (r.addr / 4096) class (omega (arith, page)), ← larges_found numbers a) refl)
 
 pub add_is : (numbers : Numbers) (r : Region) → r.class < 256 → r.addr % 4096 ≡ 0 → r.addr < 4096 * 536870912 → find (starts_at r.addr) (larges_in numbers) ≡ None
-    → larges_in (map.insert numbers (r.addr / 4096) (number_of r)) ≡ inserted r (larges_in numbers)
+    → larges_in (map.insert numbers (r.addr / 4096) (packed r)) ≡ inserted r (larges_in numbers)
 add_is numbers r class page low free = write_is numbers r class page low ∙ ap (inserted r) (absent_filter addr_of r.addr (larges_in numbers) free)
 
 -- the region with another holder
@@ -117,17 +117,17 @@ abbrev pub held_by : Option ℕ → Region → Region
 held_by holder r = record r { holder = holder }
 
 pub hand_over_is : (numbers : Numbers) (addr number : ℕ) (holder : Option ℕ) → Stands numbers addr → map.get numbers (addr / 4096) ≡ Some number
-    → larges_in (map.insert numbers (addr / 4096) (number_of (held_by holder (region_at (addr / 4096) number)))) ≡ held_anew (starts_at addr) holder (larges_in numbers)
+    → larges_in (map.insert numbers (addr / 4096) (packed (held_by holder (region_at (addr / 4096) number)))) ≡ held_anew (starts_at addr) holder (larges_in numbers)
 hand_over_is numbers addr number holder stood has =
     let next = held_by holder (region_at (addr / 4096) number) in
     let page = stood.page in
     let low = stood.low in
     same_larges _ _ (rising_changed addr_of (held_by holder) (λ r. refl) (starts_at addr) (larges_in numbers) (larges_rise numbers)) (λ a.
-    found_put numbers addr (number_of next) a page low
+    found_put numbers addr (packed next) a page low
     ∙ grind (arith, nat_tests, region_back next (addr / 4096) (omega arith) refl, larges_found numbers a, finds_changed addr_of (held_by holder) (λ r. refl) addr a (larges_in numbers)))
 
 pub replace_is : (numbers : Numbers) (r : Region) → r.class < 256 → Stands numbers r.addr
-    → larges_in (map.insert numbers (r.addr / 4096) (number_of r)) ≡ inserted r (filter (λ q. not (starts_at r.addr q)) (larges_in numbers))
+    → larges_in (map.insert numbers (r.addr / 4096) (packed r)) ≡ inserted r (filter (λ q. not (starts_at r.addr q)) (larges_in numbers))
 replace_is numbers r class stood = write_is numbers r class stood.page stood.low
 
 pub take_is : (numbers : Numbers) (addr : ℕ) → is_some (find (starts_at addr) (larges_in numbers)) ≡ true → larges_in (map.remove numbers (addr / 4096)) ≡ filter (λ r. not (starts_at addr r)) (larges_in numbers)

@@ -29,21 +29,21 @@ IsHolder None = Unit {0}
 IsHolder (Some client) = client < 32
 
 -- a region's class and holder in one number
-abbrev pub number_of : Region → ℕ
-number_of r = r.class + 256 * code_of r.holder
+abbrev pub packed : Region → ℕ
+packed r = r.class + 256 * code_of r.holder
 
 -- the region at a page that has such a number
 abbrev pub region_at : ℕ → ℕ → Region
 region_at page number = record { addr = address_of page; class = number % 256; holder = of_code (number / 256) }
 
 -- the region at a page, if the page has a number
-abbrev pub region_of : Numbers → ℕ → Option Region
-region_of numbers page = option_map (region_at page) (map.get numbers page)
+abbrev pub region_numbered : Numbers → ℕ → Option Region
+region_numbered numbers page = option_map (region_at page) (map.get numbers page)
 
 -- the regions at so many pages from one on
 unfoldable pub listed : Numbers → ℕ → ℕ → List Region
 listed numbers page zero = []
-listed numbers page (suc more) = cons_option (region_of numbers page) (listed numbers (page + 1) more)
+listed numbers page (suc more) = cons_option (region_numbered numbers page) (listed numbers (page + 1) more)
 
 -- the regions at all pages
 unfoldable pub larges_in : Numbers → List Region

@@ -3,7 +3,7 @@ ghost use Rattle.std.specs.Prelude.{◌≡◌, ◌+◌, ◌*◌, ◌/◌, ◌%�
 ghost use Rattle.space_model.specs.Region.{held_anew, inserted, starts_at};
 ghost use Rattle.large_book.specs.Larges.{IsHolder};
 
-use crate::numbers::{number_of, region_at};
+use crate::numbers::{packed, region_at};
 use page_map::{PAGES, PageMap};
 use size_classes::PAGE_BYTES;
 use space_model::Region;
@@ -63,7 +63,7 @@ impl LargeBook {
         ensures regions { self.new.regions ≡ inserted region self.old.regions }
         ensures spare { self.old.spare ≤ self.new.spare + 1 }
     {
-        self.pages.set(region.addr / PAGE_BYTES, number_of(region));
+        self.pages.set(region.addr / PAGE_BYTES, packed(region));
     }
 
     /// The region that begins at an address.
@@ -91,7 +91,7 @@ impl LargeBook {
         let page = addr / PAGE_BYTES;
         let number = self.pages.get(page).unwrap();
         let region = region_at(page, number);
-        self.pages.set(page, number_of(Region { holder, ..region }));
+        self.pages.set(page, packed(Region { holder, ..region }));
     }
 
     /// A region comes in place of the one that begins where it does.
@@ -105,7 +105,7 @@ impl LargeBook {
     {
         let page = region.addr / PAGE_BYTES;
         let _number = self.pages.get(page).unwrap();
-        self.pages.set(page, number_of(region));
+        self.pages.set(page, packed(region));
     }
 
     /// Takes the region that begins at an address out. The answer is that region.

@@ -1,7 +1,7 @@
 //! A region's class and holder in the number of a page.
 ghost use Rattle.std.specs.Prelude.{◌≡◌, ◌*◌, ◌/◌, ◌<◌, ◌≤◌, ◌^◌};
 ghost use Rattle.list_facts.specs.Codes.{code_of, of_code};
-ghost use Rattle.large_book.specs.Larges.{IsHolder, number_of, region_at};
+ghost use Rattle.large_book.specs.Larges.{IsHolder, packed, region_at};
 
 use page_map::PAGES;
 use size_classes::PAGE_BYTES;
@@ -11,9 +11,9 @@ use space_model::Region;
 const CLASS_SPAN: u32 = 256;
 
 /// A region's class and holder in one number.
-pub fn number_of(region: Region) -> u32
+pub fn packed(region: Region) -> u32
     requires holder { IsHolder region.holder }
-    ensures { result ≡ number_of region }
+    ensures { result ≡ packed region }
 {
     u32::from(region.class) + CLASS_SPAN * code_of(region.holder)
 }

@@ -30,14 +30,6 @@ tally_less f g n place count less more is here others e =
     (λ same. let at : get_or more place 0 ≡ g place = ap (λ j. get_or more j 0) (sym same) ∙ was ∙ ap g same in let one = is.here in let two : get_or less place 0 ≡ f place = omega arith in ap (λ j. get_or less j 0) same ∙ two ∙ ap f (sym same))
     (λ other. sym (is.others k other) ∙ was ∙ others k other))
 
--- a number that is written
-pub set_more : (ns : List ℕ) (place count : ℕ) → place < length ns → IsMoreAt place count ns (set ns place (get_or ns place 0 + count))
-set_more ns place count low = record {
-  len = length-set ns place (get_or ns place 0 + count);
-  here = get_or-set_same ns place (get_or ns place 0 + count) 0 low;
-  others = λ k other. get_or-set_other ns place k (get_or ns place 0 + count) 0 other;
-}
-
 -- the numbers of the small classes come first, and those of the large ones behind them
 pub small_first : (regions : List Region) → take 36 (regions_by_class 0 121 regions) ≡ regions_by_class 0 36 regions
 small_first regions = refl
