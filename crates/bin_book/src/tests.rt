@@ -71,12 +71,12 @@ fn many_slabs_come_and_go(rt: HostRuntime) -> Result<(), Fail> {
     let mut out = Addrs::new(rt.alloc());
     for slab in 0..1 << 18 {
         assert!(rt; add(&mut book, 24, 512 + 2 * slab));
-        assert!(rt; take(&mut book, 24, 1, &mut out) == (slab < 8));
+        assert!(rt; take(&mut book, 24, 1, &mut out) == (slab < 2));
     }
-    assert!(rt; out.as_slice().last().copied() == Some(4096 * 526 + 2048) && !book.has_free(23));
-    assert!(rt; put_back(&mut book, 24, 4096 * 526) == Some(false));
-    assert!(rt; put_back(&mut book, 24, 4096 * 526 + 2048) == Some(true));
-    assert!(rt; put_back(&mut book, 24, 4096 * 526).is_none());
+    assert!(rt; out.as_slice().last().copied() == Some(4096 * 514 + 2048) && !book.has_free(23));
+    assert!(rt; put_back(&mut book, 24, 4096 * 514) == Some(false));
+    assert!(rt; put_back(&mut book, 24, 4096 * 514 + 2048) == Some(true));
+    assert!(rt; put_back(&mut book, 24, 4096 * 514).is_none());
     assert!(rt; book.slabs()[24] == (1 << 18) - 1 && book.spare() == 1);
     book.clear();
     assert!(rt; book.slabs()[24] == 0 && book.spare() == 1 << 18);

@@ -6,7 +6,7 @@ use std::alloc::{AllocError as NoMemory, Global};
 use std::marker::Model;
 
 /// How many addresses a list holds before it needs memory.
-const INLINE: usize = 8;
+const INLINE: usize = 2;
 
 /// A list of addresses. Contracts see the addresses in order, as `items`, and how many more fit, as `room`.
 ///
@@ -31,7 +31,7 @@ impl Addrs {
     /// The empty list.
     pub fn new(alloc: Global) -> Addrs
         ensures items { result.items ≡ [] }
-        ensures room { result.room ≡ 8 }
+        ensures room { result.room ≡ 2 }
     {
         Addrs {
             list: SmallVec::new(alloc),

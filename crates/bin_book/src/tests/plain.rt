@@ -75,17 +75,18 @@ fn slab_comes(book: &mut BinBook, list: &mut Vec<Place>, number: u64) -> Result<
 }
 
 // The lowest free regions of a class are taken from both, up to seven, and are the same.
-fn regions_go(book: &mut BinBook, list: &mut Vec<Place>, number: u64) -> bool {
+fn regions_go(book: &mut BinBook, list: &mut Vec<Place>, number: u64) -> Result<bool, NoMemory> {
     let class = CLASSES[(number % 3) as usize];
     let count = (number / 3 % 8) as u32;
     let mut out = Addrs::new(*list.allocator());
+    out.reserve(u64::from(count))?;
     let taken = super::take(book, class, count, &mut out);
     for addr in out.as_slice() {
         if take_lowest(list, class) != Some(*addr) {
-            return false;
+            return Ok(false);
         }
     }
-    taken && (out.len() == count as usize || take_lowest(list, class).is_none())
+    Ok(taken && (out.len() == count as usize || take_lowest(list, class).is_none()))
 }
 
 // A region is put back into both, where it is out.
@@ -105,7 +106,7 @@ fn region_comes(book: &mut BinBook, list: &mut Vec<Place>, number: u64) -> bool 
 fn turn(book: &mut BinBook, list: &mut Vec<Place>, number: u64) -> Result<bool, NoMemory> {
     let same = match number % 4 {
         0 => slab_comes(book, list, number / 4)?,
-        1 => regions_go(book, list, number / 4),
+        1 => regions_go(book, list, number / 4)?,
         _ => region_comes(book, list, number / 4),
     };
     Ok(
