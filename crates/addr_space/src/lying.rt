@@ -27,7 +27,7 @@ impl ExtentHooks for LyingHooks {
     ghost account = { lying_account };
 
     fn alloc(&mut self, _at: Option<u64>, _pages: u64, _align: u64, _commit: bool) -> Option<Placed>
-        ensures hook { HookCall (lying_account self.old) (Ask.Alloc _at _pages _align _commit) (placed_answer result) (lying_account self.new) }
+        ensures hook { HookCall (lying_account self.old) (Ask.Alloc _commit _at _pages _align) (placed_answer result) (lying_account self.new) }
         ensures places { result ≡ Some self.old.placed }
         ensures same { self.new ≡ self.old }
     {

@@ -4,7 +4,7 @@ ghost use Rattle.std.specs.Prelude.{◌≡◌, ℕ, ◌+◌, ◌≤◌, ◌↔�
 ghost use Rattle.hook_api.specs.Counts.{capped, Rose};
 ghost use Rattle.hook_api.specs.Hooks.{HookCall, placed_answer, said_answer};
 ghost use Rattle.space_model.specs.Span.{pages_end};
-ghost use Rattle.addr_space.specs.Chunks.{FitNowhere, IsBlank, IsFreeSpan, IsLowest, IsOff, IsOn, IsPlacedSpan};
+ghost use Rattle.addr_space.specs.Chunks.{FitNowhere, IsBlank, IsFreeSpan, IsLowestFit, IsOff, IsOn, IsPlacedSpan};
 ghost use Rattle.addr_space.specs.Hooks.{placing_account};
 
 use crate::chunks::Chunks;
@@ -74,7 +74,7 @@ impl AddrSpace {
 
     /// Where a range would go, if it has a place.
     fn place_for(&self, at: Option<u64>, pages: u64, align: u64) -> Option<u64>
-        ensures lowest { at ≡ None → IfSome result (IsLowest self.now.placed pages (max align 1)) }
+        ensures lowest { at ≡ None → IfSome result (IsLowestFit self.now.placed pages (max align 1)) }
         ensures none { at ≡ None → IfNone result (FitNowhere self.now.placed pages (max align 1)) }
         ensures wished { (first : ℕ) → at ≡ Some first → SomeIff result (IsFreeSpan self.now.placed (record { first = first; pages = pages })) first }
         ensures free { IfSome result (λ first. IsFreeSpan self.now.placed (record { first = first; pages = pages })) }
@@ -95,8 +95,8 @@ impl ExtentHooks for AddrSpace {
     ghost account = { placing_account };
 
     fn alloc(&mut self, at: Option<u64>, pages: u64, align: u64, _commit: bool) -> Option<Placed>
-        ensures hook { HookCall (placing_account self.old) (Ask.Alloc at pages align _commit) (placed_answer result) (placing_account self.new) }
-        ensures lowest { at ≡ None → IfSome result (λ placed. IsLowest self.old.placed pages (max align 1) placed.first) }
+        ensures hook { HookCall (placing_account self.old) (Ask.Alloc _commit at pages align) (placed_answer result) (placing_account self.new) }
+        ensures lowest { at ≡ None → IfSome result (λ placed. IsLowestFit self.old.placed pages (max align 1) placed.first) }
         ensures nowhere { at ≡ None → IfNone result (FitNowhere self.old.placed pages (max align 1)) }
         ensures wished { (first : ℕ) → at ≡ Some first → IsSome result ↔ IsFreeSpan self.old.placed (record { first = first; pages = pages }) }
         ensures there { (first : ℕ) → at ≡ Some first → IfSome result (λ placed. placed.first ≡ first) }

@@ -2,7 +2,7 @@
 
 ghost use Rattle.std.specs.Prelude.{◌≡◌, ◌↔◌, ℕ, [], true, max, None, Some, IsSome, IfOk, IfSome, IfNone};
 ghost use Rattle.hook_api.specs.Hooks.{HookCall, placed_answer, said_answer};
-ghost use Rattle.addr_space.specs.Chunks.{FitNowhere, IsFreeSpan, IsLowest, IsOff, IsOn, IsPlacedSpan};
+ghost use Rattle.addr_space.specs.Chunks.{FitNowhere, IsFreeSpan, IsLowestFit, IsOff, IsOn, IsPlacedSpan};
 ghost use Rattle.addr_space.specs.Telling.{ToldOne, telling_account, told_after};
 
 use crate::space::AddrSpace;
@@ -73,9 +73,9 @@ impl ExtentHooks for TellingHooks {
     ghost account = { telling_account };
 
     fn alloc(&mut self, at: Option<u64>, pages: u64, align: u64, commit: bool) -> Option<Placed>
-        ensures hook { HookCall (telling_account self.old) (Ask.Alloc at pages align commit) (placed_answer result) (telling_account self.new) }
-        ensures told { ToldOne self.old (record { ask = Ask.Alloc at pages align commit; answer = placed_answer result }) self.new }
-        ensures lowest { at ≡ None → IfSome result (λ placed. IsLowest self.old.inner.placed pages (max align 1) placed.first) }
+        ensures hook { HookCall (telling_account self.old) (Ask.Alloc commit at pages align) (placed_answer result) (telling_account self.new) }
+        ensures told { ToldOne self.old (record { ask = Ask.Alloc commit at pages align; answer = placed_answer result }) self.new }
+        ensures lowest { at ≡ None → IfSome result (λ placed. IsLowestFit self.old.inner.placed pages (max align 1) placed.first) }
         ensures nowhere { at ≡ None → IfNone result (FitNowhere self.old.inner.placed pages (max align 1)) }
         ensures wished { (first : ℕ) → at ≡ Some first → IsSome result ↔ IsFreeSpan self.old.inner.placed (record { first = first; pages = pages }) }
         ensures placed { IfSome result (λ placed. IsOn self.old.inner.placed (record { first = placed.first; pages = pages }) self.new.inner.placed) }

@@ -105,7 +105,7 @@ grow_by_still s c span committed (Some why) = same s
 grow_by_still s c span committed None = record { parts = idle_behind s.parts _ (one _ refl); regions = refl }
 
 pub grow_still : (s : Space) (c : ℕ) (found : Option ℕ) (ask : Ask) (answer : Answer) → Still s (after_grow s c found ask answer).after
-grow_still s c found (Alloc at pages align commit) (Placed first committed zeroed) =
+grow_still s c found (Alloc commit at pages align) (Placed committed zeroed first) =
     let span : Span = record { first = first; pages = pages } in grow_by_still s c span committed (why_not found align s.parts span)
 grow_still s c found ask answer = same s
 

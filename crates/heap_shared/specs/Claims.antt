@@ -35,7 +35,7 @@ with_found op found = op
 
 -- the span that an alloc answered, where it lies in the space and is aligned
 abbrev pub granted_span : Ask → Answer → Option Span
-granted_span (Alloc at pages align commit) (Placed first committed zeroed) =
+granted_span (Alloc commit at pages align) (Placed committed zeroed first) =
     let s : Span = record { first = first; pages = pages } in if is_in_space s && first % align == 0 then Some s else None
 granted_span ask answer = None
 

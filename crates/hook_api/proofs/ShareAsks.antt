@@ -6,10 +6,10 @@ counts_refusal : (from after : BoxState) (asked : AskFacts) (planned : Bool) (an
     → capped (from.account.refusals + cond (is_refusal answer && not planned) 1 0) ≤ after.account.refusals
 counts_refusal from after asked true Refused step is answered = let same : after.account.refusals ≡ from.account.refusals = ap (λ (a : Account). a.refusals) (step.held_back is) in omega arith
 counts_refusal from after asked true Done step is answered = let same : after.account.refusals ≡ from.account.refusals = ap (λ (a : Account). a.refusals) (step.held_back is) in omega arith
-counts_refusal from after asked true (Placed first committed zeroed) step is answered = let same : after.account.refusals ≡ from.account.refusals = ap (λ (a : Account). a.refusals) (step.held_back is) in omega arith
+counts_refusal from after asked true (Placed committed zeroed first) step is answered = let same : after.account.refusals ≡ from.account.refusals = ap (λ (a : Account). a.refusals) (step.held_back is) in omega arith
 counts_refusal from after asked false Refused step is answered = let old : ℕ = from.account.refusals in let new : ℕ = after.account.refusals in ⊎_elim (λ (up : old < new). omega arith) (λ (most : new ≡ greatest). omega arith) ((step.passed is).cause answered)
 counts_refusal from after asked false Done step is answered = let up = (step.passed is).never_falls in omega arith
-counts_refusal from after asked false (Placed first committed zeroed) step is answered = let up = (step.passed is).never_falls in omega arith
+counts_refusal from after asked false (Placed committed zeroed first) step is answered = let up = (step.passed is).never_falls in omega arith
 
 -- one tally
 one_of : (l : List Tally) → length l ≡ 1 → (t : Tally) × (l ≡ t ∷ [])

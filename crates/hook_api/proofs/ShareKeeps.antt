@@ -1,5 +1,5 @@
 -- Each step on the locks of a shared shelf keeps the rule.
-use Rattle.hook_api.proofs.Words.{◌≡◌, ℕ, ◌+◌, ◌<◌, ◌≤◌, ◌≢◌, zero, suc, true, false, cond, eqb, List, [], ◌∷◌, ◌++◌, map, length, get_or, set, take, drop, replicate, min, sym, refl, ap, ◌∙◌, subst, ⊎_elim, arith, length-set, Option, Some, None, none, some, some-injective, some-ne-none, dite, ℕ_discrete, get_elem?, set-get_or, either, nat_tests, get_or-set_other, get_or-set_same, length-append, length-replicate, sum_by-cons, sum_by-append, sum_by_push, sum_by-take-drop, sum_by, State, Me, Act, rest, Valid, carried_after, step, keeps, takes, gives, stepped, Allows, Splits, Joins, opening, set_else, set_here, set_again, at_snoc, some_there, exchanged, Tally, Taken, Sight, capped, BoxState, blank, opening_sight, refused_in, refused_by, clients_of, taken_is, takers, Covers, Rule, most, with_refusal, HasBox, gave, counted, idle, having, took, waited, first_part, later_part, joined, spent}
+use Rattle.hook_api.proofs.Words.{◌≡◌, ℕ, ◌+◌, ◌<◌, ◌≤◌, ◌≢◌, zero, suc, true, false, cond, eqb, List, [], ◌∷◌, ◌++◌, map, length, get_or, set, take, drop, replicate, min, sym, refl, ap, ◌∙◌, subst, ⊎_elim, arith, length-set, Option, Some, None, none, some, some-injective, some-ne-none, dite, ℕ_discrete, get_elem?, set-get_or, either, nat_tests, get_or-set_other, get_or-set_same, length-append, length-replicate, sum_by-cons, sum_by-append, sum_by_push, sum_by-take-drop, sum_by, State, Me, Act, rest, Valid, carried_after, step, keeps, takes, gives, stepped, Allows, Splits, Joins, opening, set_else, set_here, set_again, at_snoc, some_there, exchanged, Tally, Taken, Sight, capped, BoxState, blank, opening_sight, refused_in, refused_by, clients_of, taken_is, takers, Covers, Rule, most, with_refusal, HasBox, came_home, counted, idle, having, took, waited, first_part, later_part, joined, spent}
 use Rattle.hook_api.proofs.SeatSums.{sum_set, sum_one, sum_two, sum_some, set_cases, at_only}
 
 -- 0 where a word is 0, and else 1
@@ -257,8 +257,8 @@ pub refusal_else : (c : ℕ) (t : Tally) (i : ℕ) → i ≢ c → refused_in i 
 refusal_else c t i ne = get_or-set_other t.refused c i (min (refused_in c t + 1) most) 0 ne
 
 -- giving a box back after an ask that it didn't refuse keeps the rule
-pub gives_kept : (own : List ℕ) (clients slots id : ℕ) (me : Me BoxState Sight) (c : ℕ) → c < 32 → slots ≡ 32 → HasBox c false me → Allows (Rule own clients) slots id me c (λ _. 0) (gave (step slots c 0 0 none) me)
-gives_kept own clients slots id me c below all has = gives_box own clients slots id me c has.0 has.1 has.1 has.2 0 (gave (step slots c 0 0 none) me) below all has.3 (omega arith) (λ i ne. refl) has.4
+pub gives_kept : (own : List ℕ) (clients slots id : ℕ) (me : Me BoxState Sight) (c : ℕ) → c < 32 → slots ≡ 32 → HasBox c false me → Allows (Rule own clients) slots id me c (λ _. 0) (came_home (step slots c 0 0 none) me)
+gives_kept own clients slots id me c below all has = gives_box own clients slots id me c has.0 has.1 has.1 has.2 0 (came_home (step slots c 0 0 none) me) below all has.3 (omega arith) (λ i ne. refl) has.4
     (λ found. ap {B = Me BoxState Sight} (λ (m : Me BoxState Sight). (idle m.0.tallies, rest m.1)) (sym has.3))
 
 -- so does it with one more refusal, after an ask that it refused

@@ -32,7 +32,7 @@ pub use Rattle.hook_api.specs.Kepts.{IsPaired, ask_of, asks_after, kept_of, pair
 pub use Rattle.hook_api.specs.Orders.{no_order, had_at, no_orders}
 pub use Rattle.hook_api.specs.Plans.{PlanRefusesNth, next_plan, plan_after, plan_of, refuses_next, is_set, plan_at}
 pub use Rattle.hook_api.specs.Seats.{refused_at, tallies_of}
-pub use Rattle.hook_api.specs.ShareSteps.{first_part, idle, joined, later_part, spent, most, with_refusal, HasBox, gave, counted, having, took, waited, Took}
+pub use Rattle.hook_api.specs.ShareSteps.{first_part, idle, joined, later_part, spent, most, with_refusal, HasBox, came_home, counted, having, took, waited, Took}
 pub use Rattle.hook_api.specs.Shared.{HasCounted, IsAskOfSome, IsSeatOf, IsNewSeat}
 pub use Rattle.hook_api.specs.Sharing.{Covers, Rule, blank, clients_of, refused_by, refused_in, opening_sight, taken_is, takers}
 pub use Rattle.hook_api.specs.Shelf.{BoxState, no_account, no_box, AskStep, BoxStep, PlanStep, Shelf, box_at, count_of, new_book}

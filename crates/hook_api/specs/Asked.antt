@@ -28,7 +28,7 @@ RefusalCounts answer before after = answer ≡ Refused → Rose before after
 abbrev pub is_refusal : Answer → Bool
 is_refusal Refused = true
 is_refusal Done = false
-is_refusal (Placed first committed zeroed) = false
+is_refusal (Placed committed zeroed first) = false
 
 -- whether the box refused the ask, and no plan
 abbrev pub by_box : AskFacts → Bool

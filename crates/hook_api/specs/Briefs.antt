@@ -18,8 +18,8 @@ range_of first pages = record { first = first; pages = pages }
 
 -- an ask of a shape, with a flag and as many numbers as it has
 abbrev pub ask_by : AskShape → Bool → ℕ → ℕ → ℕ → ℕ → Ask
-ask_by Anywhere flag a b c d = Alloc None a b flag
-ask_by At flag a b c d = Alloc (Some c) a b flag
+ask_by Anywhere flag a b c d = Alloc flag None a b
+ask_by At flag a b c d = Alloc flag (Some c) a b
 ask_by Dallocs flag a b c d = Dalloc (range_of a b) flag
 ask_by Destroys flag a b c d = Destroy (range_of a b) flag
 ask_by Commits flag a b c d = Commit (range_of a b)
@@ -39,8 +39,8 @@ brief shape flag span c d = record { shape = shape; flag = flag; a = span.first;
 
 -- an ask in few numbers: what it doesn't have is false or 0
 abbrev pub write_ask : Ask → BriefAsk
-write_ask (Alloc None pages align commit) = record { shape = Anywhere; flag = commit; a = pages; b = align; c = 0; d = 0 }
-write_ask (Alloc (Some first) pages align commit) = record { shape = At; flag = commit; a = pages; b = align; c = first; d = 0 }
+write_ask (Alloc commit None pages align) = record { shape = Anywhere; flag = commit; a = pages; b = align; c = 0; d = 0 }
+write_ask (Alloc commit (Some first) pages align) = record { shape = At; flag = commit; a = pages; b = align; c = first; d = 0 }
 write_ask (Dalloc span committed) = brief Dallocs committed span 0 0
 write_ask (Destroy span committed) = brief Destroys committed span 0 0
 write_ask (Commit span) = brief Commits false span 0 0
@@ -54,10 +54,10 @@ write_ask (Merge low high) = brief Merges false low high.first high.pages
 abbrev pub answer_by : AnswerShape → ℕ → Answer
 answer_by No first = Refused
 answer_by Yes first = Done
-answer_by Range first = Placed first false false
-answer_by Committed first = Placed first true false
-answer_by Zeroed first = Placed first false true
-answer_by Ready first = Placed first true true
+answer_by Range first = Placed false false first
+answer_by Committed first = Placed true false first
+answer_by Zeroed first = Placed false true first
+answer_by Ready first = Placed true true first
 
 -- the answer that few numbers tell
 abbrev pub read_answer : BriefAnswer → Answer
@@ -67,10 +67,10 @@ read_answer brief = answer_by brief.shape brief.first
 abbrev pub write_answer : Answer → BriefAnswer
 write_answer Refused = record { shape = No; first = 0 }
 write_answer Done = record { shape = Yes; first = 0 }
-write_answer (Placed first false false) = record { shape = Range; first = first }
-write_answer (Placed first true false) = record { shape = Committed; first = first }
-write_answer (Placed first false true) = record { shape = Zeroed; first = first }
-write_answer (Placed first true true) = record { shape = Ready; first = first }
+write_answer (Placed false false first) = record { shape = Range; first = first }
+write_answer (Placed true false first) = record { shape = Committed; first = first }
+write_answer (Placed false true first) = record { shape = Zeroed; first = first }
+write_answer (Placed true true first) = record { shape = Ready; first = first }
 
 -- these numbers tell an ask, and are the only ones that tell it
 abbrev pub IsBrief : BriefAsk → Type 0

@@ -21,9 +21,9 @@ Tells old heard new = IfSome new (λ all. IsSomeAnd old (λ before. all ≡ befo
 
 -- an answer of the ask's kind: an alloc places or refuses, a destroy is done, any other ask is done or refused
 abbrev pub Answers : Ask → Answer → Type 0
-Answers (Alloc at pages align commit) answer = answer ≢ Done
+Answers (Alloc commit at pages align) answer = answer ≢ Done
 Answers (Destroy span committed) answer = answer ≡ Done
-Answers _ answer = (first : ℕ) (committed zeroed : Bool) → answer ≢ Placed first committed zeroed
+Answers _ answer = (first : ℕ) (committed zeroed : Bool) → answer ≢ Placed committed zeroed first
 
 -- whether the ask is a destroy
 abbrev pub is_destroy : Ask → Bool
@@ -41,7 +41,7 @@ pub record HookCall (old : Account) (ask : Ask) (answer : Answer) (new : Account
 -- what `alloc` gives, as an answer
 abbrev pub placed_answer : Option range.Placed → Answer
 placed_answer None = Refused
-placed_answer (Some placed) = Placed placed.first placed.committed placed.zeroed
+placed_answer (Some placed) = Placed placed.committed placed.zeroed placed.first
 
 -- what another hook says, as an answer
 abbrev pub said_answer : Said → Answer

@@ -38,8 +38,8 @@ pub record Written : Type 0 where
   pub spare : ℕ
 
 -- the entries with their asks, and the places in both lists
-abbrev pub written : Inside → Written
-written w = record {
+abbrev pub written_pairs : Inside → Written
+written_pairs w = record {
   kept = paired w.slots.items w.asks.items;
   spare = min (vec_capacity w.slots - vec_len w.slots) (vec_capacity w.asks - vec_len w.asks);
 }

@@ -9,7 +9,7 @@ use Rattle.hook_api.specs.declared.plans.Plan.TheVariants.{Pass, After, All}
 
 -- the kind of an ask; a destroy has none
 abbrev pub kind_of : Ask → Option Kind
-kind_of (ask.Alloc at pages align commit) = Some Alloc
+kind_of (ask.Alloc commit at pages align) = Some Alloc
 kind_of (ask.Dalloc span committed) = Some Dalloc
 kind_of (ask.Destroy span committed) = None
 kind_of (ask.Commit span) = Some Commit

@@ -52,8 +52,8 @@ module _ {S : Type 0} where
   waited st m found n = n ≡ m
 
   -- the box is at home again
-  abbrev pub gave : Step S → Me S Sight → ℕ → Me S Sight → Type 0
-  gave st m found n = n ≡ (idle m.0.tallies, rest m.1)
+  abbrev pub came_home : Step S → Me S Sight → ℕ → Me S Sight → Type 0
+  came_home st m found n = n ≡ (idle m.0.tallies, rest m.1)
 
   -- the box is at home again, and one more refusal was counted
   abbrev pub counted : Step S → Me S Sight → ℕ → Me S Sight → Type 0

@@ -81,7 +81,7 @@ fn brief(shape: AskShape, flag: bool, span: Span, c: u64, d: u64) -> BriefAsk
 
 /// An alloc.
 fn alloc(at: Option<u64>, pages: u64, align: u64, commit: bool) -> BriefAsk
-    ensures ask { read_ask result ≡ Ask.Alloc at pages align commit }
+    ensures ask { read_ask result ≡ Ask.Alloc commit at pages align }
     ensures brief { IsBrief result }
 {
     let (shape, c) = match at {
@@ -124,7 +124,7 @@ impl BriefAsk {
 
     /// An alloc at the page that is wished, if one is.
     fn alloc(self, at: Option<u64>) -> Ask
-        ensures { result ≡ Ask.Alloc at self.a self.b self.flag }
+        ensures { result ≡ Ask.Alloc self.flag at self.a self.b }
     {
         Ask::Alloc {
             at,

@@ -34,7 +34,7 @@ pub trait ExtentHooks: Drop {
 
     /// A new range of `pages` pages at a multiple of `align`, at page `at` if it is given. `None`: no range.
     fn alloc(&mut self, at: Option<u64>, pages: u64, align: u64, commit: bool) -> Option<Placed>
-        ensures { HookCall (account self.old) (Ask.Alloc at pages align commit) (placed_answer result) (account self.new) };
+        ensures { HookCall (account self.old) (Ask.Alloc commit at pages align) (placed_answer result) (account self.new) };
 
     /// The range isn't needed any more. `Refused`: it stays mapped, and committed as it was.
     fn dalloc(&mut self, span: Span, committed: bool) -> Said

@@ -95,11 +95,11 @@ pub struct Writing {
 }
 
 impl Model for Writing {
-    ghost use Rattle.hook_api.specs.Kepts.{IsWriting, Written, written};
+    ghost use Rattle.hook_api.specs.Kepts.{IsWriting, Written, written_pairs};
 
     ghost Value = { Written };
 
-    ghost view = { written };
+    ghost view = { written_pairs };
 
     ghost invariant = { IsWriting };
 }

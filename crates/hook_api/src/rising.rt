@@ -62,7 +62,7 @@ impl ExtentHooks for RisingHooks {
     ghost account = { rising_account };
 
     fn alloc(&mut self, _at: Option<u64>, pages: u64, align: u64, _commit: bool) -> Option<Placed>
-        ensures hook { HookCall (rising_account self.old) (Ask.Alloc _at pages align _commit) (placed_answer result) (rising_account self.new) }
+        ensures hook { HookCall (rising_account self.old) (Ask.Alloc _commit _at pages align) (placed_answer result) (rising_account self.new) }
         ensures room { IsSome result ↔ InChunks (rising_place self.old.next align) pages }
         ensures place { IfSome result (λ placed. placed ≡ record { first = rising_place self.old.next align; committed = true; zeroed = true }) }
         ensures next { IfSome result (λ placed. self.new ≡ record self.old { next = placed.first + pages }) }

@@ -49,9 +49,9 @@ impl<S> Play<S, Sight> for Waits {
 pub struct Gives;
 
 impl<S> Play<S, Sight> for Gives {
-    ghost use Rattle.hook_api.specs.ShareSteps.{gave};
+    ghost use Rattle.hook_api.specs.ShareSteps.{came_home};
 
-    ghost then = { gave };
+    ghost then = { came_home };
 }
 
 /// Gives a box back after an ask that it refused.

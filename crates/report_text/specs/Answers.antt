@@ -18,7 +18,7 @@ use Rattle.report_text.specs.Places.{address_text, page_text, span_text}
 
 -- the kind of an ask
 abbrev pub kind_text : Ask → List ℕ
-kind_text (Alloc at pages align commit) = codes "alloc"
+kind_text (Alloc commit at pages align) = codes "alloc"
 kind_text (Dalloc span is_committed) = codes "dalloc"
 kind_text (Destroy span is_committed) = codes "destroy"
 kind_text (Commit span) = codes "commit"
@@ -75,4 +75,4 @@ ended_text head answered = answer_text answered
 abbrev pub said_text : Answer → List ℕ
 said_text HookRefused = codes "refused"
 said_text HookDone = codes "done"
-said_text (Placed first is_committed is_zeroed) = codes "placed " ++ page_text first
+said_text (Placed is_committed is_zeroed first) = codes "placed " ++ page_text first

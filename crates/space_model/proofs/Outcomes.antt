@@ -132,7 +132,7 @@ cut_goes c s heard keep_low ask answer is sound live h = absurd (cc)
 -- ---- GrowDone
 
 grow_unless_goes : (c : ℕ) (s : Space) (heard : Heard) (found : Option ℕ) (span : Span) (b : Bool) (at : Option ℕ) (align : ℕ) (commit : Bool) (o : Option Why) →
-    heard.ask ≡ Alloc at span.pages align commit → why_not found align s.parts span ≡ o → Sound s → is_live s.life ≡ true → 0 < span.pages →
+    heard.ask ≡ Alloc commit at span.pages align → why_not found align s.parts span ≡ o → Sound s → is_live s.life ≡ true → 0 < span.pages →
     Goes c s (GrowDone heard found) (grow_unless s c span b o)
 grow_unless_goes c s heard found span b at align commit (Some why) is e sound live some =
     still_goes c s (GrowDone heard found) (Bad why) sound (λ page before. refl, refl, refl) (GrowBad why refl)
@@ -152,9 +152,9 @@ grow_unless_goes c s heard found span b at align commit None is e sound live som
 
 pub grow_goes : (c : ℕ) (s : Space) (heard : Heard) (found : Option ℕ) (ask : Ask) (answer : Answer) → heard.ask ≡ ask → Sound s → is_live s.life ≡ true →
     grow_stands s c ask answer ≡ true → Goes c s (GrowDone heard found) (after_grow s c found ask answer)
-grow_goes c s heard found (Alloc at pages align commit) Refuses is sound live h =
+grow_goes c s heard found (Alloc commit at pages align) Refuses is sound live h =
     still_goes c s (GrowDone heard found) Refused sound (λ page before. refl, refl, refl) (GrowRefused refl)
-grow_goes c s heard found (Alloc at pages align commit) (Placed first b zeroed) is sound live h =
+grow_goes c s heard found (Alloc commit at pages align) (Placed b zeroed first) is sound live h =
     let within = both_true (nat_lt 0 pages && is_power_of_two align) _ h in
     let span : Span = record { first = first; pages = pages } in
     grow_unless_goes c s heard found span b at align commit (why_not found align s.parts span) is refl sound live (ltb-true _ _ (both_true (nat_lt 0 pages) _ within.0).0)

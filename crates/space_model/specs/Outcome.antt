@@ -58,7 +58,7 @@ pub data Outcome (c : ℕ) (s t : Space) : Op → Reply → Type 0 where
   GrowRefused : {heard : Heard} {found : Option ℕ} → t ≡ s → Outcome c s t (GrowDone heard found) Refused
   GrowBad : {heard : Heard} {found : Option ℕ} (why : Why) → t ≡ s → Outcome c s t (GrowDone heard found) (Bad why)
   GrowGrown : {heard : Heard} {found : Option ℕ} (span : Span) (is_committed : Bool) (at : Option ℕ) (align : ℕ) (commit : Bool) →
-      heard.ask ≡ Alloc at span.pages align commit → Flying c t span is_committed → Outcome c s t (GrowDone heard found) (Grown span is_committed)
+      heard.ask ≡ Alloc commit at span.pages align → Flying c t span is_committed → Outcome c s t (GrowDone heard found) (Grown span is_committed)
   -- a commit is done, or the extent was put down
   CommitNoted : {heard : Heard} (span : Span) → heard.ask ≡ Commit span → Flying c t span true → Outcome c s t (CommitDone heard) Noted
   CommitWhole : {heard : Heard} (span : Span) → heard.ask ≡ Commit span → PutDown c s t span → Outcome c s t (CommitDone heard) Whole

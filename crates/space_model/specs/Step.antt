@@ -100,8 +100,8 @@ grow_unless space c s committed None = record {
 
 -- takes in the answer to an alloc
 abbrev pub after_grow : Space → ℕ → Option ℕ → Ask → Answer → Stepped
-after_grow space c found (Alloc at pages align commit) Refuses = stays space Refused
-after_grow space c found (Alloc at pages align commit) (Placed first committed zeroed) =
+after_grow space c found (Alloc commit at pages align) Refuses = stays space Refused
+after_grow space c found (Alloc commit at pages align) (Placed committed zeroed first) =
     let s : Span = record { first = first; pages = pages } in
     grow_unless space c s committed (why_not found align space.parts s)
 after_grow space c found ask answer = stays space Noted
@@ -259,7 +259,7 @@ reply_to space entry = (step_of space entry.client entry.op).reply
 abbrev pub is_range_or_no : Answer → Bool
 is_range_or_no Done = false
 is_range_or_no Refuses = true
-is_range_or_no (Placed first committed zeroed) = true
+is_range_or_no (Placed committed zeroed first) = true
 
 -- whether the client allocates from the arena, or holds a region of it
 abbrev pub is_customer : Space → ℕ → Bool
@@ -273,7 +273,7 @@ cut_stands space c ask answer = false
 
 -- whether the answer to an alloc may be taken in
 abbrev pub grow_stands : Space → ℕ → Ask → Answer → Bool
-grow_stands space c (Alloc at pages align commit) answer =
+grow_stands space c (Alloc commit at pages align) answer =
     is_range_or_no answer && nat_lt 0 pages && is_power_of_two align && is_customer space c
 grow_stands space c ask answer = false
 

@@ -75,5 +75,5 @@ has_flight space c span test = found_passes test (find (is_flight_at c span) spa
 
 -- whether the answer is one to an ask other than alloc
 abbrev pub is_yes_or_no : Answer → Bool
-is_yes_or_no (Placed first committed zeroed) = false
+is_yes_or_no (Placed committed zeroed first) = false
 is_yes_or_no answer = true

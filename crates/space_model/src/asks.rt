@@ -7,14 +7,14 @@ use crate::Span;
 pub enum Ask {
     /// `extent_alloc_t`: a new range, at a given place or anywhere.
     Alloc {
+        /// Whether the range is to be committed.
+        commit: bool,
         /// The first page that is wished, if any.
         at: Option<u64>,
         /// How many pages.
         pages: u64,
         /// The alignment of the first page.
         align: u64,
-        /// Whether the range is to be committed.
-        commit: bool,
     },
     /// `extent_dalloc_t`: the range isn't needed any more.
     Dalloc {
@@ -63,12 +63,12 @@ pub enum Answer {
     Done,
     /// A new range begins at this page. Nothing says that the answer is true.
     Placed {
-        /// The first page.
-        first: u64,
         /// Whether the range is committed.
         committed: bool,
         /// Whether its bytes are zero.
         zeroed: bool,
+        /// The first page.
+        first: u64,
     },
 }
 

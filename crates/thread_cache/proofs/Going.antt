@@ -1,5 +1,5 @@
 -- The batches in which regions go back: what is so of their addresses.
-use Rattle.thread_cache.proofs.Words.{◌≡◌, ℕ, ◌+◌, ◌-◌, ◌/◌, ◌<◌, ◌≤◌, ◌==◌, ◌&&◌, ◌⊎◌, inl, inr, Bool, true, false, cond, List, [], ◌∷◌, ◌++◌, length, take, drop, map, filter, not, fold, min, Option, None, Some, refl, sym, ap, subst, ◌∙◌, arith, nat_lt, suc, zero, le-leb, set, Contains, flat_map, list_all, insert_key, match_ordering, nat_cmp, Less, Equal, Greater, option_map, ltb-true, eqb-true, nat_tests, get_or-set_same, get_or-take, length-append, length-drop, length-take, length-take-le, flat_map-cons, filter-append, Contains-append_left, Contains-append_right, Held, cached_in, gone_from, is_elsewhere, BatchFacts, BatchesEnd, BatchesRise, IsBatch, added, addrs_in, batch_of, gave_with, going, going_with, is_cacheable, is_in, least_arena, lesser, older_count, rising_from, slots_at}
+use Rattle.thread_cache.proofs.Words.{◌≡◌, ℕ, ◌+◌, ◌-◌, ◌/◌, ◌<◌, ◌≤◌, ◌==◌, ◌&&◌, ◌⊎◌, inl, inr, Bool, true, false, cond, List, [], ◌∷◌, ◌++◌, length, take, drop, map, filter, not, fold, min, Option, None, Some, refl, sym, ap, subst, ◌∙◌, arith, nat_lt, suc, zero, le-leb, set, Contains, flat_map, list_all, insert_key, match_ordering, nat_cmp, Less, Equal, Greater, option_map, ltb-true, eqb-true, nat_tests, get_or-set_same, get_or-take, length-append, length-drop, length-take, length-take-le, flat_map-cons, filter-append, Contains-append_left, Contains-append_right, Held, cached_in, gone_from, is_elsewhere, BatchFacts, BatchesEnd, BatchesRise, IsBatch, added, addrs_in, batch_of, gave_with, going, going_with, is_cacheable, is_in_arena, least_arena, lesser, older_count, rising_from, slots_at}
 
 -- both tests pass
 both_true : (v w : Bool) → (v && w) ≡ true → (v ≡ true) × (w ≡ true)
@@ -49,14 +49,14 @@ added_rise : (arena : ℕ) (xs : List ℕ) (regions : List Held) → rising_from
 added_rise arena xs [] rise = rise
 added_rise arena xs (r ∷ rs) rise =
     added_rise arena (added arena xs r) rs
-    (elim (is_in arena r) as (λ v. rising_from 0 (cond v (insert_key nat_cmp xs r.addr) xs) ≡ true) [ true ↦ insert_rises 0 r.addr xs rise (omega arith) | false ↦ rise ])
+    (elim (is_in_arena arena r) as (λ v. rising_from 0 (cond v (insert_key nat_cmp xs r.addr) xs) ≡ true) [ true ↦ insert_rises 0 r.addr xs rise (omega arith) | false ↦ rise ])
 
 added_all : (test : ℕ → Bool) (arena : ℕ) (xs : List ℕ) (regions : List Held) → list_all test xs ≡ true → ((r : Held) → Contains regions r → r.arena ≡ arena → test r.addr ≡ true) →
     list_all test (fold (added arena) xs regions) ≡ true
 added_all test arena xs [] all each = all
 added_all test arena xs (r ∷ rs) all each =
     added_all test arena (added arena xs r) rs
-    (elim (is_in arena r) as (λ v. is_in arena r ≡ v → list_all test (cond v (insert_key nat_cmp xs r.addr) xs) ≡ true) [
+    (elim (is_in_arena arena r) as (λ v. is_in_arena arena r ≡ v → list_all test (cond v (insert_key nat_cmp xs r.addr) xs) ≡ true) [
       | true ↦ λ h. insert_all test r.addr xs all (each r (0, omega arith, refl) (eqb-true _ _ h))
       | false ↦ λ h. all
     ] refl)
@@ -66,7 +66,7 @@ added_all test arena xs (r ∷ rs) all each =
 added_more : (arena : ℕ) (xs : List ℕ) (regions : List Held) → 0 < length xs → 0 < length (fold (added arena) xs regions)
 added_more arena xs [] some = some
 added_more arena xs (r ∷ rs) some =
-    added_more arena (added arena xs r) rs (elim (is_in arena r) as (λ v. 0 < length (cond v (insert_key nat_cmp xs r.addr) xs)) [ true ↦ insert_some r.addr xs | false ↦ some ])
+    added_more arena (added arena xs r) rs (elim (is_in_arena arena r) as (λ v. 0 < length (cond v (insert_key nat_cmp xs r.addr) xs)) [ true ↦ insert_some r.addr xs | false ↦ some ])
 
 at_home : (a b : ℕ) → a ≡ b → (a == b) ≡ true
 at_home a b e = grind (arith, nat_tests)
@@ -74,7 +74,7 @@ at_home a b e = grind (arith, nat_tests)
 added_some : (arena : ℕ) (xs : List ℕ) (regions : List Held) (r : Held) → Contains regions r → r.arena ≡ arena → 0 < length (fold (added arena) xs regions)
 added_some arena xs [] r (k, inside, is) home = absurd (omega (arith, inside))
 added_some arena xs (x ∷ rs) r (zero, inside, is) home =
-    let here : is_in arena x ≡ true = at_home x.arena arena (ap (λ (h : Held). h.arena) is ∙ home) in
+    let here : is_in_arena arena x ≡ true = at_home x.arena arena (ap (λ (h : Held). h.arena) is ∙ home) in
     added_more arena (added arena xs x) rs (subst (λ v. 0 < length (cond v (insert_key nat_cmp xs x.addr) xs)) (sym here) (insert_some x.addr xs))
 added_some arena xs (x ∷ rs) r (suc k, inside, is) home = added_some arena (added arena xs x) rs r (k, omega (arith, inside), is) home
 

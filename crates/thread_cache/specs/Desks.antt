@@ -26,8 +26,8 @@ pub record DeskSeen : Type 0 where
   pub room : ℕ
 
 -- whether a region is of an arena
-abbrev pub is_in : ℕ → Held → Bool
-is_in arena region = region.arena == arena
+abbrev pub is_in_arena : ℕ → Held → Bool
+is_in_arena arena region = region.arena == arena
 
 -- ---- what is held
 
@@ -84,7 +84,7 @@ hitting class desk =
 
 -- how many regions of an arena are cached
 abbrev pub cached_of : ℕ → DeskFacts → ℕ
-cached_of arena desk = count_by (is_in arena) (flat_map (λ list. list) desk.cached)
+cached_of arena desk = count_by (is_in_arena arena) (flat_map (λ list. list) desk.cached)
 
 -- ---- what goes back
 
@@ -119,7 +119,7 @@ least_arena regions = fold lesser None regions
 
 -- the address of a region of the arena among rising ones, each once
 abbrev pub added : ℕ → List ℕ → Held → List ℕ
-added arena addrs region = if is_in arena region then insert_key nat_cmp addrs region.addr else addrs
+added arena addrs region = if is_in_arena arena region then insert_key nat_cmp addrs region.addr else addrs
 
 -- the addresses of the regions of an arena, rising, each once
 abbrev pub addrs_in : ℕ → List Held → List ℕ

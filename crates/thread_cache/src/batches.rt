@@ -4,7 +4,7 @@ ghost use Rattle.std.specs.Prelude.{◌≡◌, ◌<◌, ◌≤◌, [], ◌∷◌
 ghost use Rattle.std.specs.List.{flat_map};
 ghost use Rattle.std.specs.Option.{option_map};
 ghost use Rattle.thread_cache.specs.Caches.{cached_in};
-ghost use Rattle.thread_cache.specs.Desks.{added, addrs_in, batch_facts, batch_of, cached_of, gave, going_with, is_in, least_arena, lesser, older_count};
+ghost use Rattle.thread_cache.specs.Desks.{added, addrs_in, batch_facts, batch_of, cached_of, gave, going_with, is_in_arena, least_arena, lesser, older_count};
 
 use crate::{CACHED_CLASSES, Desk, Held};
 use size_classes::{Addrs, slots};
@@ -48,7 +48,7 @@ fn add_of(addrs: &mut BTreeSet<u64>, regions: &[Held], arena: u32) -> Result<(),
 
 /// How many of some regions are of an arena.
 fn count_of(regions: &[Held], arena: u32) -> u64
-    ensures count { result ≡ count_by (is_in arena) regions.now }
+    ensures count { result ≡ count_by (is_in_arena arena) regions.now }
     ensures within { result ≤ length regions.now }
 {
     let mut count = 0;

@@ -23,8 +23,8 @@ pub const CACHED_CLASSES: u8 = 41;
 pub struct Held {
     /// The address of its first byte.
     pub addr: u64,
-    /// Its size class, below 121.
-    pub class: u8,
     /// The index of its arena.
     pub arena: u32,
+    /// Its size class, below 121.
+    pub class: u8,
 }

@@ -20,7 +20,7 @@ counts_bound s client = elim (is_live s.life) as (λ v. is_in client (cond v (st
 
 -- a client may have its arena grow
 grow_stands : (s : Space) (client : ℕ) → Sound s → client < 32 → is_in client s.bound ≡ true →
-    IsTrue (stands s (entry_of client (GrowDone (record { ask = Alloc None 512 512 true; answer = Placed 512 true true }) None)))
+    IsTrue (stands s (entry_of client (GrowDone (record { ask = Alloc true None 512 512; answer = Placed true true 512 }) None)))
 unfolding lib.Count.ones
 grow_stands s client sound few bound =
     let below : nat_lt client 32 ≡ true = grind (arith, nat_tests) in rw below (rw (bound_live s client sound bound) (rw bound refl))
