@@ -9,24 +9,24 @@ cut_whole s c keep_low span left answer e = grind arith
 pub commit_whole : (s : Space) (c : ℕ) (span : Span) (answer : Answer) → Whole ≡ (after_commit s c (Commit span) answer).reply → answer ≡ Refuses
 commit_whole s c span answer e = grind arith
 
-pub grow_refused : (s : Space) (c : ℕ) (found : Option ℕ) (pages align : ℕ) (answer : Answer) → Refuse ≡ (after_grow s c found (Alloc None pages align false) answer).reply → answer ≡ Refuses
+pub grow_refused : (s : Space) (c : ℕ) (found : Option ℕ) (pages align : ℕ) (answer : Answer) → Refuse ≡ (after_grow s c found (Alloc false None pages align) answer).reply → answer ≡ Refuses
 grow_refused s c found pages align answer e = grind arith
 
 -- A placed range that was found bad, or granted.
 pub record WasPlaced (answer : Answer) (pages : ℕ) (span : Span) : Type 0 where
   pub is_committed : Bool
   pub zeroed : Bool
-  pub placed : answer ≡ Placed span.first is_committed zeroed
+  pub placed : answer ≡ Placed is_committed zeroed span.first
   pub pages_are : span.pages ≡ pages
 
-pub grow_bad : (s : Space) (c : ℕ) (found : Option ℕ) (pages align : ℕ) (answer : Answer) (why : Why) → Bad why ≡ (after_grow s c found (Alloc None pages align false) answer).reply →
+pub grow_bad : (s : Space) (c : ℕ) (found : Option ℕ) (pages align : ℕ) (answer : Answer) (why : Why) → Bad why ≡ (after_grow s c found (Alloc false None pages align) answer).reply →
     WasPlaced answer pages (answered_span pages answer) × (why_not found align s.parts (answered_span pages answer) ≡ Some why)
-grow_bad s c found pages align (Placed first b z) why e = (record { is_committed = b; zeroed = z; placed = refl; pages_are = refl }, grind arith)
+grow_bad s c found pages align (Placed b z first) why e = (record { is_committed = b; zeroed = z; placed = refl; pages_are = refl }, grind arith)
 grow_bad s c found pages align answer why e = absurd (cc)
 
-pub grow_grown : (s : Space) (c : ℕ) (found : Option ℕ) (pages align : ℕ) (answer : Answer) (span : Span) (b : Bool) → Grown span b ≡ (after_grow s c found (Alloc None pages align false) answer).reply →
-    (z : Bool) × (answer ≡ Placed span.first b z)
-grow_grown s c found pages align (Placed first d z) span b e = (z, grind arith)
+pub grow_grown : (s : Space) (c : ℕ) (found : Option ℕ) (pages align : ℕ) (answer : Answer) (span : Span) (b : Bool) → Grown span b ≡ (after_grow s c found (Alloc false None pages align) answer).reply →
+    (z : Bool) × (answer ≡ Placed b z span.first)
+grow_grown s c found pages align (Placed d z first) span b e = (z, grind arith)
 grow_grown s c found pages align answer span b e = absurd (cc)
 
 -- ---- what is among the items

@@ -53,7 +53,7 @@ lazy_onto c s span later Done sound flies is kind =
     rw at.found (purged_goes c t span later _ piece flies.offers is found refl (omega (arith, count)))
 lazy_onto c s span later Refuses sound flies is kind =
     ((record { part = flies.part; found = flies.found; is = rw flies.is refl; offers = flies.offers }, is), inr (refl, omega arith))
-lazy_onto c s span later (Placed first b zeroed) sound flies is kind = absurd (kind first b zeroed refl)
+lazy_onto c s span later (Placed b zeroed first) sound flies is kind = absurd (kind first b zeroed refl)
 
 -- ---- the offer and the dalloc
 
@@ -123,7 +123,7 @@ return_onto c s span later found Done sound has is kind =
     next_goes c (record s { offers = without_offer c span true s.offers }) (stages_then later) _ later (offer_gone c s span has) is (inr (refl, omega arith))
 return_onto c s span later found Refuses sound has is kind =
     kept_goes c (record s { offers = without_offer c span true s.offers }) span later found (is_regranted found span s.parts) (offer_gone c s span has) is (offer_some c s span sound has) refl
-return_onto c s span later found (Placed first b zeroed) sound has is kind = absurd (kind first b zeroed refl)
+return_onto c s span later found (Placed b zeroed first) sound has is kind = absurd (kind first b zeroed refl)
 
 -- ---- the decommit and the forced purge
 
@@ -143,7 +143,7 @@ decommit_onto c s span later Done sound flies is kind =
     rw at.found (purged_goes c t span later _ piece flies.offers is found (retained_settled (rest_of p.state) flies.is.1) (omega (arith, count)))
 decommit_onto c s span later Refuses sound flies is kind =
     (((record { part = flies.part; found = flies.found; is = flies.is.1; offers = flies.offers }, is), tt), inr (refl, omega arith))
-decommit_onto c s span later (Placed first b zeroed) sound flies is kind = absurd (kind first b zeroed refl)
+decommit_onto c s span later (Placed b zeroed first) sound flies is kind = absurd (kind first b zeroed refl)
 
 pub forced_onto : (c : ℕ) (s : Space) (span : Span) (later : Then) → (flies : Flies (mine c s) span (λ p. rest_of p.state ≡ ToRetained)) → IsThen later →
     Onto c (forced span later) (stages_then later) (left_ask (flights_of c s) (Forcing span later)) (stays s Noted)
@@ -156,7 +156,7 @@ forced_onto c s span later flies is =
 visit_room : (visit : Visit) (left : Option ℕ) (listed : ℕ) → HasLeft left → Room (stages_visit visit left) (left_visit left) (Visiting visit (takes_left left listed)) 16
 visit_room visit left listed some = grind arith
 
-visit_stage : (visit : Visit) (left : Option ℕ) → stages_later visit.later ≤ stages_visit visit left
+visit_stage : (visit : Visit) (left : Option ℕ) → stages_later visit ≤ stages_visit visit left
 visit_stage visit left = grind arith
 
 purgeable_backed : (r : Rest) → is_purgeable r ≡ true → is_backed r ≡ true
@@ -164,7 +164,7 @@ purgeable_backed r h = grind arith
 
 took_goes : (c : ℕ) (s : Space) (visit : Visit) (left : Option ℕ) (o : Option Part) → find (λ p. is_listed visit.rest p.state) s.parts ≡ o → Idle (mine c s) → IsVisit visit → HasLeft left →
     Onto c (turn_replied (Taking visit left)) (stages_visit visit left) (left_visit left) (purge_at s c visit.rest o)
-took_goes c s visit left None e idle is some = visited_goes c s (stages_visit visit left) (left_visit left) visit.later idle (visit_stage visit left)
+took_goes c s visit left None e idle is some = visited_goes c s (stages_visit visit left) (left_visit left) visit idle (visit_stage visit left)
 took_goes c s visit left (Some p) e idle is some =
     let taken : Part = taken_out c p in
     let t : Space = (purge_at s c visit.rest (Some p)).after in

@@ -1,5 +1,5 @@
 -- What the turns of a call leave that gets an extent: what it knows where it goes on.
-use Rattle.call_table.proofs.Words.{min, ◌≡◌, ◌≢◌, ℕ, ◌+◌, ◌-◌, ◌<◌, ◌≤◌, Bool, true, false, not, cond, List, [], ◌∷◌, ◌++◌, Option, None, Some, refl, sym, ◌∙◌, ap, subst, arith, filter, find, count_ones, is_power_of_two, nat_tests, cond_both, leb-true, eqb-true, ones_le_self, filter-append, pages_bounds, run_start, holds_run, exchanged, begins_at, is_flight, is_flight_at, put_down, taken_out, listed, rest_of, fit, fit_of, is_best, is_candidate, Stepped, whole_at, after_cut, cut_at, kept_piece, other_piece, after_look, look_at, after_grow, grow_unless, why_not, new_part, after_commit, commit_at, find_passes, put_down-nobody, both_true, itself, Wish, Looking, Landing, Next, Alloc, Commit, Split, Answer, Placed, Done, Refuses, Reply, Noted, Cut, Whole, Bad, Grown, Rest, Space, Part, Span, Why, mine, same_span, end_of, land_at, Answers, commit, grant, grow, trim, skip_to, turn_replied, IsWish, Idle, Alone, Gets, is_served, in_flight, Keeps}
+use Rattle.call_table.proofs.Words.{min, ◌≡◌, ◌≢◌, ℕ, ◌+◌, ◌-◌, ◌<◌, ◌≤◌, Bool, true, false, not, cond, List, [], ◌∷◌, ◌++◌, Option, None, Some, refl, sym, ◌∙◌, ap, subst, arith, filter, find, count_ones, is_power_of_two, nat_tests, cond_both, leb-true, eqb-true, ones_le_self, filter-append, pages_bounds, run_start, holds_run, exchanged, begins_at, is_flight, is_flight_at, put_down, taken_out, listed, rest_of, fit, fit_of, is_best, is_candidate, Stepped, whole_at, after_cut, cut_at, kept_piece, other_piece, after_look, look_at, after_grow, grow_unless, why_not, new_part, after_commit, commit_at, find_passes, put_down-nobody, both_true, itself, Wish, Looking, Landing, Next, Alloc, Commit, Split, Answer, Placed, Done, Refuses, Reply, Noted, Cut, Whole, Bad, Grown, Rest, Space, Part, Span, Why, mine, same_span, end_of, land_at, AnswersTo, commit, grant, grow, trim, skip_to, turn_replied, IsWish, Idle, Alone, Gets, is_served, in_flight, Keeps}
 use Rattle.space_model.specs.Stepped.{is_live}
 use Rattle.call_table.specs.Words.{Refuse as Refused}
 use Rattle.call_table.proofs.Lists.{passes_alone}
@@ -119,16 +119,16 @@ cut_done c s f bound keep_low span left b alone on =
 
 -- the answer to a split
 pub cut_onto : (c : ℕ) (s : Space) (f : Reply → Next) (bound : ℕ) (keep_low : Bool) (span : Span) (left : ℕ) (b : Bool) (answer : Answer) →
-    Alone (mine c s) span b → Answers (Split span left) answer →
+    Alone (mine c s) span b → AnswersTo (Split span left) answer →
     AnyAfter c s (λ t. Alone (mine c t) (kept_span keep_low left span) b → Keeps c t 0 bound (f (Cut (kept_span keep_low left span)))) →
     AnyAfter c s (λ t. Idle (mine c t) → Keeps c t 0 bound (f Whole)) → Onto c f 0 bound (after_cut s c keep_low (Split span left) answer)
 cut_onto c s f bound keep_low span left b Done alone kind on_cut on_whole =
     subst (λ o. Onto c f 0 bound (cut_at s keep_low left o)) (sym (alone_found c s span b alone)) (cut_done c s f bound keep_low span left b alone on_cut)
 cut_onto c s f bound keep_low span left b Refuses alone kind on_cut on_whole = whole_onto c s f bound span b alone on_whole
-cut_onto c s f bound keep_low span left b (Placed first is_committed zeroed) alone kind on_cut on_whole = absurd (kind first is_committed zeroed refl)
+cut_onto c s f bound keep_low span left b (Placed is_committed zeroed first) alone kind on_cut on_whole = absurd (kind first is_committed zeroed refl)
 
 -- the answer to a commit
-pub commit_onto : (c : ℕ) (s : Space) (f : Reply → Next) (bound : ℕ) (span : Span) (b : Bool) (answer : Answer) → Alone (mine c s) span b → Answers (Commit span) answer →
+pub commit_onto : (c : ℕ) (s : Space) (f : Reply → Next) (bound : ℕ) (span : Span) (b : Bool) (answer : Answer) → Alone (mine c s) span b → AnswersTo (Commit span) answer →
     AnyAfter c s (λ t. Alone (mine c t) span true → Keeps c t 0 bound (f Noted)) →
     AnyAfter c s (λ t. Idle (mine c t) → Keeps c t 0 bound (f Whole)) → Onto c f 0 bound (after_commit s c (Commit span) answer)
 commit_onto c s f bound span b Done alone kind on_noted on_whole =
@@ -145,7 +145,7 @@ commit_onto c s f bound span b Done alone kind on_noted on_whole =
     } in
     subst (λ o. Onto c f 0 bound (commit_at s o)) (sym (alone_found c s span b alone)) (on_noted t refl still)
 commit_onto c s f bound span b Refuses alone kind on_noted on_whole = whole_onto c s f bound span b alone on_whole
-commit_onto c s f bound span b (Placed first is_committed zeroed) alone kind on_noted on_whole = absurd (kind first is_committed zeroed refl)
+commit_onto c s f bound span b (Placed is_committed zeroed first) alone kind on_noted on_whole = absurd (kind first is_committed zeroed refl)
 
 -- the answer to an alloc
 grown_onto : (c : ℕ) (s : Space) (f : Reply → Next) (bound : ℕ) (span : Span) (b : Bool) (o : Option Why) → Idle (mine c s) →
@@ -168,9 +168,9 @@ pub alloc_onto : (c : ℕ) (s : Space) (f : Reply → Next) (bound : ℕ) (found
     answer ≢ Done → AnyAfter c s (λ t. Idle (mine c t) → Keeps c t 0 bound (f Refused)) →
     AnyAfter c s (λ t. Idle (mine c t) → (why : Why) → Keeps c t 0 bound (f (Bad why))) →
     AnyAfter c s (λ t. (span : Span) (b : Bool) → span.pages ≡ pages → Alone (mine c t) span b → Keeps c t 0 bound (f (Grown span b))) →
-    Onto c f 0 bound (after_grow s c found (Alloc None pages align false) answer)
+    Onto c f 0 bound (after_grow s c found (Alloc false None pages align) answer)
 alloc_onto c s f bound found pages align Refuses idle kind on_refused on_bad on_grown = on_refused s refl idle
-alloc_onto c s f bound found pages align (Placed first b zeroed) idle kind on_refused on_bad on_grown =
+alloc_onto c s f bound found pages align (Placed b zeroed first) idle kind on_refused on_bad on_grown =
     let span : Span = record { first = first; pages = pages } in
     grown_onto c s f bound span b (why_not found align s.parts span) idle on_bad (λ t e alone. on_grown t e span b refl alone)
 alloc_onto c s f bound found pages align Done idle kind on_refused on_bad on_grown = absurd (kind refl)

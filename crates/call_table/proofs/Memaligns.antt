@@ -11,7 +11,7 @@ took_aligned : (s : Space) (c pages align : ℕ) (span : Span) (b : Bool) (skip 
 took_aligned s c pages align span b skip some e = grind (arith, run_divides)
 
 -- what an alloc granted begins at a multiple of the alignment
-grown_aligned : (s : Space) (c : ℕ) (found : Option ℕ) (pages align : ℕ) (answer : Answer) (span : Span) (b : Bool) → Grown span b ≡ (after_grow s c found (Alloc None pages align false) answer).reply → align ∣ span.first
+grown_aligned : (s : Space) (c : ℕ) (found : Option ℕ) (pages align : ℕ) (answer : Answer) (span : Span) (b : Bool) → Grown span b ≡ (after_grow s c found (Alloc false None pages align) answer).reply → align ∣ span.first
 grown_aligned s c found pages align answer span b e = grind (arith, nat_tests, dvd_of_mod-eq-zero)
 
 -- where the kept piece of a cut begins

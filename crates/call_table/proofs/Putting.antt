@@ -1,5 +1,5 @@
 -- What the turns of a call leave that puts extents down: what it knows where it goes on.
-use Rattle.call_table.proofs.Words.{append-nil, inl, inr, ◌⊎◌, ◌≡◌, ◌≢◌, ℕ, ◌+◌, ◌-◌, ◌*◌, ◌<◌, ◌≤◌, ◌==◌, ◌&&◌, ◌||◌, Bool, true, false, not, cond, List, [], ◌∷◌, ◌++◌, Option, None, Some, refl, sym, ◌∙◌, ap, subst, arith, filter, find, length, lt-ltb, beq, option_map, option_or, nat_tests, cond_both, eqb-true, ltb-true, or_right, length-append, find-append, Dirty, exchanged, begins_at, is_flight, is_flight_at, is_listed, rest_of, listed, put_down, taken_out, Stepped, joined, begins_either, is_lazy, is_purged, next_flight, is_like, is_right_of, is_left_of, neighbour, put_at_rest, put_beside, may_merge, join_at, after_merge, after_back, find_passes, find_has, filter-begins_at, span_is, if_found, belongs, beq_itself, some_pages, put_down-nobody, listed-nobody, both_true, itself, Later, Then, Batches, Giving, Finding, Point, Turns, Merge, Answer, Placed, Done, Refuses, Purge, Rest, ToDirty, Space, Part, Span, Sound, mine, same_span, end_of, AnswersTo, look_on, merged, onward, put_next, turn_replied, visited, Idle, Flies, HasPair, Settled, Droppable, IsThen, in_flight, Keeps, IsNearer, stages, stages_then, stages_later, left, left_then, left_turn, flights_of, looks_left, purges_left}
+use Rattle.call_table.proofs.Words.{append-nil, inl, inr, ◌⊎◌, ◌≡◌, ◌≢◌, ℕ, ◌+◌, ◌-◌, ◌*◌, ◌<◌, ◌≤◌, ◌==◌, ◌&&◌, ◌||◌, Bool, true, false, not, cond, List, [], ◌∷◌, ◌++◌, Option, None, Some, refl, sym, ◌∙◌, ap, subst, arith, filter, find, length, lt-ltb, beq, option_map, option_or, nat_tests, cond_both, eqb-true, ltb-true, or_right, length-append, find-append, Dirty, exchanged, begins_at, is_flight, is_flight_at, is_listed, rest_of, listed, put_down, taken_out, Stepped, joined, begins_either, is_lazy, is_purged, next_flight, is_like, is_right_of, is_left_of, neighbour, put_at_rest, put_beside, may_merge, join_at, after_merge, after_back, find_passes, find_has, filter-begins_at, span_is, if_found, belongs, beq_itself, some_pages, put_down-nobody, listed-nobody, both_true, itself, Then, Batches, Giving, Finding, Point, Turns, Merge, Answer, Placed, Done, Refuses, Purge, Rest, ToDirty, Space, Part, Span, Sound, mine, same_span, end_of, AnswersTo, look_on, merged, onward, put_next, turn_replied, visited, Idle, Flies, HasPair, Settled, Droppable, IsThen, in_flight, Keeps, IsNearer, stages, stages_then, stages_later, left, left_then, left_turn, flights_of, looks_left, purges_left, Visit}
 use Rattle.std.proofs.Common.{ltb as nat_lt}
 use Rattle.call_table.specs.Table.{drop}
 use Rattle.call_table.proofs.Lists.{filter-swap, find-kept, find-none, filter-none, filter-fewer, filter-either, first_heads, none_passes, find-gone}
@@ -22,8 +22,8 @@ pub near : (c : ℕ) (t : Space) (stage bound : ℕ) (later : Then) (point : Poi
 near c t stage bound later point n same most room = grind arith
 
 -- what follows a visit
-pub visited_goes : (c : ℕ) (t : Space) (stage bound : ℕ) (later : Later) → Idle (mine c t) → stages_later later ≤ stage → Keeps c t stage bound (visited later)
-visited_goes c t stage bound later idle most = grind arith
+pub visited_goes : (c : ℕ) (t : Space) (stage bound : ℕ) (visit : Visit) → Idle (mine c t) → stages_later visit ≤ stage → Keeps c t stage bound (visited visit)
+visited_goes c t stage bound visit idle most = grind arith
 
 pub room_stage : (stage bound : ℕ) (later : Then) (n : ℕ) → Room stage bound later n → stages_then later ≤ stage
 room_stage stage bound later n room = grind arith
@@ -305,7 +305,7 @@ merge_onto c s low high own_low fresh later answer sound pair is kind =
         rw (at.found, to.found) (apart_goes c s low high true fresh later pair.low_part pair.high_part pair.offers is pair.low_settled pair.low_found pair.high_found at to (λ e. absurd (omega (arith, e, below))))
     by_answer false Refuses at to below kind =
         rw (at.found, to.found) (apart_goes c s high low false fresh later pair.high_part pair.low_part pair.offers is pair.high_settled pair.high_found pair.low_found to at (λ e. absurd (omega (arith, e, below))))
-    by_answer own_low (Placed first b zeroed) at to below kind = absurd (kind first b zeroed refl)
+    by_answer own_low (Placed b zeroed first) at to below kind = absurd (kind first b zeroed refl)
 
 -- the reply to regions that went back
 pub back_onto : (c : ℕ) (s : Space) (addrs : List ℕ) → (mine c s).offers ≡ [] → Onto c (turn_replied (Giving addrs)) 1 0 (after_back s c addrs)

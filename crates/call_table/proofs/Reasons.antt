@@ -1,6 +1,5 @@
 -- The reasons of each point to which a call comes, and of its answer.
-use Rattle.call_table.proofs.Words.{rules, ◌≡◌, ℕ, ◌*◌, ◌^◌, ◌⊎◌, inl, inr, Bool, true, false, not, min, max, List, [], ◌∷◌, ◌++◌, Option, None, Some, refl, sym, ◌∙◌, ap, subst, arith, nat_lt, append_assoc, Contains, cond_both, ltb-true, not-true, not-false, nat_tests, step_of, after_cut, after_commit, after_grow, Request, Malloc, Memalign, Free, FreeForeign, Publish, Take, Item, Replied, Told, Starved, Given, Refused, BadAnswer, NotHeld, aligned_for, class_for, most_regions, BatchFacts, held_at, hit, Wish, Later, DirtyToo, Then, Batches, Visiting, Change, Visits, TurnPoint, Filling, Looking, Landing, Finding, Taking, Offering, Changing, Owning, AskPoint, Skipping, Trimming, Growing, Paring, Needing, Granting, Committing, Merging, Easing, Returning, Decommitting, Forcing, Point, Turns, Asks, Tells, Next, Go, Over, Gone, Ends, Stage, Refuses, Reply, NoArena, Nothing, Took, Cut, Whole, Refuse, Bad, Grown, Landed, Regions, Owned, Space, Span, Why, AskFacts, Held, DeskFacts, answered_span, alloc_of, ask_at, done_at, op_at, is_marked, starved, whole_chunks, step, turn_replied, told, commit, trim, put_next, took_over, batch_goes, begin, begin_free, begin_get, begin_malloc, begin_memalign, begin_publish, begin_stage, get, is_alignment, page_align, settle, share, small_hit, step_next, wish_for, with_found, extent, extent_of, NothingFits, WasGranted, IsNeeded, IsWishOf, RegionCause, GivenCause, CauseOf, Came, AllCame, AnswersHaveCauses}
-use Rattle.call_table.specs.Words.{Answers}
+use Rattle.call_table.proofs.Words.{rules, ◌≡◌, ℕ, ◌*◌, ◌^◌, ◌⊎◌, inl, inr, Bool, true, false, not, min, max, List, [], ◌∷◌, ◌++◌, Option, None, Some, refl, sym, ◌∙◌, ap, subst, arith, nat_lt, append_assoc, Contains, cond_both, ltb-true, not-true, not-false, nat_tests, step_of, after_cut, after_commit, after_grow, Request, Malloc, Memalign, Free, FreeForeign, Publish, Take, Item, Replied, Told, Starved, Given, Refused, BadAnswer, NotHeld, aligned_for, class_for, most_regions, BatchFacts, held_at, hit, Wish, Then, Batches, Visiting, Change, Visits, TurnPoint, Filling, Looking, Landing, Finding, Taking, Offering, Changing, Owning, AskPoint, Skipping, Trimming, Growing, Paring, Needing, Granting, Committing, Merging, Easing, Returning, Decommitting, Forcing, Point, Turns, Asks, Tells, Next, Go, Over, Gone, Ends, Stage, Refuses, Reply, NoArena, Nothing, Took, Cut, Whole, Refuse, Bad, Grown, Landed, Regions, Owned, Space, Span, Why, AskFacts, Held, DeskFacts, answered_span, alloc_of, ask_at, done_at, op_at, is_marked, starved, whole_chunks, step, turn_replied, told, commit, trim, put_next, took_over, batch_goes, begin, begin_free, begin_get, begin_malloc, begin_memalign, begin_publish, begin_stage, get, is_alignment, page_align, settle, share, small_hit, step_next, wish_for, with_found, extent, extent_of, NothingFits, WasGranted, IsNeeded, IsWishOf, RegionCause, GivenCause, CauseOf, Came, AllCame, AnswersHaveCauses, Visit, visit_gives, visited}
 use Rattle.call_table.proofs.Aligned.{failing_is_not, passing_is}
 use Rattle.call_table.proofs.Bounds.{Settles, run_keeps, settle_keeps}
 use Rattle.call_table.proofs.Causes.{cut_whole, commit_whole, grow_refused, grow_bad, grow_grown, last_in, more_in, extent_next, fits_more}
@@ -10,16 +9,15 @@ module _ (desk : DeskFacts) where
   -- ---- the reasons of each point
 
   -- the answer that comes in the end has its cause already
-  abbrev pub LaterWhy : Request → List Item → Later → Type 0
-  LaterWhy request items (Answers given) = GivenCause desk request items given
-  LaterWhy request items (DirtyToo keep given) = GivenCause desk request items given
+  abbrev pub VisitWhy : Request → List Item → Visit → Type 0
+  VisitWhy request items visit = GivenCause desk request items (visit_gives visit.told visit.rest visit.keep visit.other)
 
   abbrev pub ThenWhy : Request → List Item → Then → Type 0
   ThenWhy request items Batches = Unit {0}
-  ThenWhy request items (Visiting visit left) = LaterWhy request items visit.later
+  ThenWhy request items (Visiting visit left) = VisitWhy request items visit
 
   abbrev pub ChangeWhy : Request → List Item → Change → Type 0
-  ChangeWhy request items (Visits visit) = LaterWhy request items visit.later
+  ChangeWhy request items (Visits visit) = VisitWhy request items visit
   ChangeWhy request items change = Unit {0}
 
   -- the region that is taken over is that of the request, and goes back where it is to be freed
@@ -33,7 +31,7 @@ module _ (desk : DeskFacts) where
   TurnWhy request items (Looking wish) = IsWishOf request wish
   TurnWhy request items (Landing wish span) = IsWishOf request wish
   TurnWhy request items (Finding own tries fresh later) = ThenWhy request items later
-  TurnWhy request items (Taking visit left) = LaterWhy request items visit.later
+  TurnWhy request items (Taking visit left) = VisitWhy request items visit
   TurnWhy request items (Offering span later) = ThenWhy request items later
   TurnWhy request items (Changing setting change) = ChangeWhy request items change
   TurnWhy request items (Owning addr frees past) = OwnWhy request addr frees
@@ -82,11 +80,15 @@ module _ (desk : DeskFacts) where
   given_more : (request : Request) (items : List Item) (item : Item) (given : Given) → GivenCause desk request items given → GivenCause desk request (items ++ item ∷ []) given
   given_more request items item given why = first_of (grind (arith, more_in), search (rules, more_in))
 
-  later_more : (request : Request) (items : List Item) (item : Item) (later : Later) → LaterWhy request items later → LaterWhy request (items ++ item ∷ []) later
-  later_more request items item later why = grind (arith, given_more)
+  visit_more : (request : Request) (items : List Item) (item : Item) (visit : Visit) → VisitWhy request items visit → VisitWhy request (items ++ item ∷ []) visit
+  visit_more request items item visit why = given_more request items item _ why
+
+  visited_why : (request : Request) (items : List Item) (visit : Visit) → VisitWhy request items visit → NextWhy request items (visited visit)
+  visited_why request items visit why = grind arith
 
   then_more : (request : Request) (items : List Item) (item : Item) (later : Then) → ThenWhy request items later → ThenWhy request (items ++ item ∷ []) later
-  then_more request items item later why = grind (arith, later_more)
+  then_more request items item Batches why = tt
+  then_more request items item (Visiting visit left) why = visit_more request items item visit why
 
   -- ---- where a point leads
 
@@ -123,7 +125,7 @@ module _ (desk : DeskFacts) where
   turned_why request items point Whole why = tt
   turned_why request items point reply why =
       let last = last_in items (Replied reply) in
-      first_of (search (rules, given_more, later_more, then_more, put_why), grind (arith, nat_tests, given_more, later_more, then_more))
+      first_of (search (rules, given_more, visit_more, visited_why, then_more, put_why), grind (arith, nat_tests, given_more, visit_more, visited_why, then_more))
 
   -- ---- after an answer was taken in
 

@@ -24,7 +24,7 @@ live_held c s (addr ∷ addrs) sound some held =
 
 -- ---- each turn may stand
 
-plain_answer : (answer : Answer) → ((first : ℕ) (b z : Bool) → answer ≢ Placed first b z) → is_yes_or_no answer ≡ true
+plain_answer : (answer : Answer) → ((first : ℕ) (b z : Bool) → answer ≢ Placed b z first) → is_yes_or_no answer ≡ true
 plain_answer answer h = grind arith
 
 range_answer : (answer : Answer) → answer ≢ Done → is_range_or_no answer ≡ true

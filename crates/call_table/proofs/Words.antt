@@ -70,5 +70,5 @@ pub use Rattle.call_table.specs.Refusals.{AfterRefusal, HoldsExtent, Rests, Refu
 pub use Rattle.call_table.specs.Rooms.{flying, empties, needed_ask, needed_next, needed_turn, room_then, RoomsSuffice}
 pub use Rattle.call_table.specs.Runs.{page_align, batch_goes, begin_flush, begin_free, begin_get, begin_malloc, begin_memalign, begin_publish, get, share, wish_for, IsRun, begin, Moment, after, run, settle, step_next, begin_stage, small_hit, stage, begin_desk}
 unfoldable pub use Rattle.call_table.specs.Runs.{is_alignment}
-pub use Rattle.call_table.specs.Table.{answered_span, decommitted, eased, forced, put_purged, returned, takes_left, turn_replied, done_at, is_marked, op_at, starved, step, told, want, commit, grant, grow, trim, skip_to, alloc_of, ask_at, chunks_for, whole_chunks, look_on, merged, onward, put_next, visited, took_over, need_chunks, limited, setting_changed, make_next, skipped, trimmed, grown, needed, grant_split, committed, WantTurn}
-pub use Rattle.call_table.specs.Words.{IsAlignment, aligned_for, class_for, Malloc, Memalign, Free, Publish, Flush, Cache, Mine, Held, DeskFacts, most_regions, cached_in, BatchFacts, batch_of, freeing, going, caching, going_with, held_at, is_cacheable, Request, Item, Answered, Finished, Ok, NoSuchArena, TurnPoint, Filling, Looking, Landing, Giving, Finding, Offering, Point, Turns, Asks, Tells, Next, Go, Over, More, Gone, Ends, Nowhere, Stage, AskPoint, Skipping, Trimming, Growing, Paring, Needing, Granting, Committing, Merging, Easing, Returning, Decommitting, Forcing, Alloc, Commit, Split, Answer, Placed, Refuses, Whole, Refuse, Bad, Grown, Space, Span, Why, TooLarge, hit, Visit, Then, Visiting, Taking, Dalloc, Decommit, PurgeLazy, Done, Noted, Kept, Abandoned, Rest, ToDirty, ToMuzzy, ToRetained, Part, Sound, mine, same_span, AnswersTo, Replied, Told, Starved, Batches, Owning, Reply, AskFacts, Wish, Cut, end_of, land_at, AnswersTo as Answers, Took, Grow, Landed, Regions, align_at, fill_at, lowest_free, max_series, NoMemory, Later, Merge, Purge, FreeForeign, Take, Given, Refused, BadAnswer, NotHeld, DirtyToo, Change, Visits, Changing, NoArena, Nothing, Owned, Joined, Op, Advancing, Making, Resetting, Destroying, Dooming, Publishing, pages_at, Busy, Doomed, InUse, Setting, Taken}
+pub use Rattle.call_table.specs.Table.{answered_span, decommitted, eased, forced, put_purged, returned, takes_left, turn_replied, done_at, is_marked, op_at, starved, step, told, want, commit, grant, grow, trim, skip_to, alloc_of, ask_at, chunks_for, whole_chunks, look_on, merged, onward, put_next, visited, took_over, need_chunks, limited, setting_changed, make_next, skipped, trimmed, grown, needed, grant_split, committed, WantTurn, visit_gives}
+pub use Rattle.call_table.specs.Words.{IsAlignment, aligned_for, class_for, Malloc, Memalign, Free, Publish, Flush, Cache, Mine, Held, DeskFacts, most_regions, cached_in, BatchFacts, batch_of, freeing, going, caching, going_with, held_at, is_cacheable, Request, Item, Answered, Finished, Ok, NoSuchArena, TurnPoint, Filling, Looking, Landing, Giving, Finding, Offering, Point, Turns, Asks, Tells, Next, Go, Over, More, Gone, Ends, Nowhere, Stage, AskPoint, Skipping, Trimming, Growing, Paring, Needing, Granting, Committing, Merging, Easing, Returning, Decommitting, Forcing, Alloc, Commit, Split, Answer, Placed, Refuses, Whole, Refuse, Bad, Grown, Space, Span, Why, TooLarge, hit, Visit, Then, Visiting, Taking, Dalloc, Decommit, PurgeLazy, Done, Noted, Kept, Abandoned, Rest, ToDirty, ToMuzzy, ToRetained, Part, Sound, mine, same_span, AnswersTo, Replied, Told, Starved, Batches, Owning, Reply, AskFacts, Wish, Cut, end_of, land_at, Took, Grow, Landed, Regions, align_at, fill_at, lowest_free, max_series, NoMemory, Merge, Purge, FreeForeign, Take, Given, Refused, BadAnswer, NotHeld, Change, Visits, Changing, NoArena, Nothing, Owned, Joined, Op, Advancing, Making, Resetting, Destroying, Dooming, Publishing, pages_at, Busy, Doomed, InUse, Setting, Taken}

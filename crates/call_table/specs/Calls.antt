@@ -1,6 +1,6 @@
 -- A call as contracts see it.
 use Rattle.std.specs.Prelude.{◌≡◌, ◌≤◌, ℕ, Bool, true, false, ◌||◌, Option, Some, is_some}
-use Rattle.call_table.specs.Words.{Request, Malloc, Memalign, Free, FreeForeign, Publish, Take, Region, Finished, Ok, Later, Answers, DirtyToo, Then, Batches, Visiting, Visits, TurnPoint, Filling, Looking, Landing, Finding, Taking, Offering, Changing, Owning, AskPoint, Merging, Easing, Returning, Decommitting, Forcing, Point, Turns, Asks, Tells, Next, Go, Ends, Stage, Held, DeskFacts}
+use Rattle.call_table.specs.Words.{Request, Malloc, Memalign, Free, FreeForeign, Publish, Take, Region, Finished, Ok, Then, Batches, Visiting, Visits, TurnPoint, Filling, Looking, Landing, Finding, Taking, Offering, Changing, Owning, AskPoint, Merging, Easing, Returning, Decommitting, Forcing, Point, Turns, Asks, Tells, Next, Go, Ends, Stage, Held, DeskFacts}
 use Rattle.call_table.specs.Desks.{flushes}
 use Rattle.call_table.specs.Points.{IsSizedNext}
 use Rattle.call_table.specs.Needs.{IsPointOrEnd}
@@ -27,34 +27,20 @@ IsCall at = IsPointOrEnd at.next × IsSizedNext at.next
 
 -- ---- room for a region that the client comes to hold
 
--- whether the answer behind a visit is a region
-abbrev pub gets_later : Later → Bool
-gets_later (Answers (Region addr class)) = true
-gets_later (DirtyToo keep (Region addr class)) = true
-gets_later later = false
-
-abbrev pub gets_then : Then → Bool
-gets_then Batches = false
-gets_then (Visiting visit left) = gets_later visit.later
-
--- whether a region may come of a point: it lands, is free or is taken over, or is the answer already
+-- whether a region may come of a point: it lands, is free or is taken over
 abbrev pub gets_turn : TurnPoint → Bool
 gets_turn (Filling wish count) = true
 gets_turn (Looking wish) = true
 gets_turn (Landing wish span) = true
-gets_turn (Finding own tries fresh later) = gets_then later
-gets_turn (Taking visit left) = gets_later visit.later
-gets_turn (Offering span later) = gets_then later
-gets_turn (Changing setting (Visits visit)) = gets_later visit.later
 gets_turn (Owning addr frees past) = true
 gets_turn point = false
 
 abbrev pub gets_ask : AskPoint → Bool
-gets_ask (Merging low high own_low fresh later) = gets_then later
-gets_ask (Easing span later) = gets_then later
-gets_ask (Returning span later) = gets_then later
-gets_ask (Decommitting span later) = gets_then later
-gets_ask (Forcing span later) = gets_then later
+gets_ask (Merging low high own_low fresh later) = false
+gets_ask (Easing span later) = false
+gets_ask (Returning span later) = false
+gets_ask (Decommitting span later) = false
+gets_ask (Forcing span later) = false
 gets_ask point = true
 
 abbrev pub gets_at : Point → Bool

@@ -57,14 +57,14 @@ pub record WasGranted (wish : Wish) (items : List Item) (span : Span) : Type 0 w
   pub exact : asked.ask ≡ alloc_of wish (whole_chunks wish.pages)
   pub is_committed : Bool
   pub zeroed : Bool
-  pub placed : asked.answer ≡ Placed span.first is_committed zeroed
+  pub placed : asked.answer ≡ Placed is_committed zeroed span.first
   pub replied : Contains items (Replied (Grown span is_committed))
   pub more : wish.pages < span.pages
 
 -- an ask is needed after the items: an alloc of just as many chunks where no extent served, a split of what it granted, and
 -- a commit of an extent that isn't committed
 abbrev pub IsNeeded : Wish → List Item → Ask → Type 0
-IsNeeded wish items (Alloc at pages align is_committed) = (pages ≡ whole_chunks wish.pages) × NothingFits items
+IsNeeded wish items (Alloc is_committed at pages align) = (pages ≡ whole_chunks wish.pages) × NothingFits items
 IsNeeded wish items (Split span left) = (left ≡ wish.pages) × WasGranted wish items span
 IsNeeded wish items (Commit span) = extent_of items ≡ Some (extent span false)
 IsNeeded wish items ask = ⊥
@@ -101,7 +101,7 @@ pub record BadCause (request : Request) (items : List Item) (span : Span) (why :
   pub alloc : asked.ask ≡ alloc_of wish span.pages
   pub is_committed : Bool
   pub zeroed : Bool
-  pub placed : asked.answer ≡ Placed span.first is_committed zeroed
+  pub placed : asked.answer ≡ Placed is_committed zeroed span.first
   pub found : Option ℕ
   pub parts : List Part
   pub against : why_not found (max 512 wish.align) parts span ≡ Some why

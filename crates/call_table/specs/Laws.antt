@@ -4,8 +4,8 @@ use Rattle.space_model.specs.declared.Op.TheVariants.{GrowDone, OfferDone}
 use Rattle.space_model.specs.Step.{step_of, op_stands}
 use Rattle.space_model.specs.Settings.{is_decay_time}
 use Rattle.space_model.specs.Purging.{is_purgeable}
-use Rattle.call_table.specs.Words.{Request, Time, Create, HookBox, GrowLimit as SetGrowLimit, Item, Replied, Told, Starved, Answered, Op, Space, Sound, Mine, mine, AskFacts, Held, DeskFacts, max_series, AnswersTo, cached_of, held_at}
-use Rattle.call_table.specs.Words.{Visit, Later, Answers, DirtyToo, Then, Batches, Visiting, Change, Stops, Visits, Leaves, TurnPoint, Filling, Looking, Landing, Giving, Finding, Taking, Offering, Advancing, Changing, Making, Resetting, Destroying, Dooming, AskPoint, Skipping, Trimming, Growing, Paring, Needing, Granting, Committing, Merging, Easing, Returning, Decommitting, Forcing, Point, Turns, Asks, Tells, Next, Go, Over, More, Ends, Nowhere, Stage}
+use Rattle.call_table.specs.Words.{Request, Time, Create, HookBox, GrowLimit as SetGrowLimit, Item, Replied, Told, Starved, Answered, Op, Space, Sound, Mine, mine, AskFacts, Held, DeskFacts, max_series, AnswersTo, cached_of, held_at, Rest, ToMuzzy}
+use Rattle.call_table.specs.Words.{Visit, Then, Batches, Visiting, Change, Stops, Visits, Leaves, TurnPoint, Filling, Looking, Landing, Giving, Finding, Taking, Offering, Advancing, Changing, Making, Resetting, Destroying, Dooming, AskPoint, Skipping, Trimming, Growing, Paring, Needing, Granting, Committing, Merging, Easing, Returning, Decommitting, Forcing, Point, Turns, Asks, Tells, Next, Go, Over, More, Ends, Nowhere, Stage}
 use Rattle.call_table.specs.Table.{Want, WantTurn, WantAsk, want, step, is_marked}
 use Rattle.call_table.specs.Knows.{Idle, Knows, is_held, is_served}
 use Rattle.call_table.specs.Runs.{IsRun, begin_stage, settle}
@@ -35,22 +35,25 @@ Moves c s want item t = ⊥
 -- ---- how far a call is from its end
 
 -- how many times it still learns how much there is to do: how many extents a giving back emptied, or a visit has
-abbrev pub stages_later : Later → ℕ
-stages_later (Answers given) = 0
-stages_later (DirtyToo keep given) = 2
+abbrev pub stages_list : Rest → Option ℕ → ℕ
+stages_list ToMuzzy (Some dirty) = 2
+stages_list rest other = 0
+
+abbrev pub stages_later : Visit → ℕ
+stages_later visit = stages_list visit.rest visit.other
 
 abbrev pub stages_then : Then → ℕ
 stages_then Batches = 0
-stages_then (Visiting visit left) = stages_later visit.later
+stages_then (Visiting visit left) = stages_later visit
 
 abbrev pub stages_change : Change → ℕ
 stages_change Stops = 0
-stages_change (Visits visit) = 2 + stages_later visit.later
+stages_change (Visits visit) = 2 + stages_later visit
 stages_change (Leaves arena) = 1
 
 abbrev pub stages_visit : Visit → Option ℕ → ℕ
-stages_visit visit None = 1 + stages_later visit.later
-stages_visit visit (Some left) = stages_later visit.later
+stages_visit visit None = 1 + stages_later visit
+stages_visit visit (Some left) = stages_later visit
 
 abbrev pub stages_turn : TurnPoint → ℕ
 stages_turn (Filling wish count) = 1

@@ -39,7 +39,7 @@ Goes next = Unit {0}
 
 -- so few regions go back that no memory is wanted to name them
 abbrev pub HasFewAddresses : TurnPoint → Type 0
-HasFewAddresses (Giving addrs) = length addrs ≤ 8
+HasFewAddresses (Giving addrs) = length addrs ≤ 2
 HasFewAddresses point = Unit {0}
 
 abbrev pub IsFewAddresses : Next → Type 0

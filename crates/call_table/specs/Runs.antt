@@ -4,7 +4,7 @@ use Rattle.std.specs.List.{list_any, range_with_len}
 use Rattle.std.specs.Ordering.{int_eq}
 use Rattle.thread_cache.specs.Desks.{not_holding}
 use Rattle.call_table.specs.Words.{Request, Malloc, Memalign, Free, FreeForeign, Publish, Take, Flush, Cache, PurgeAll, Decay, Time, Reset, Destroy, Create, Bind, HookBox, GrowLimit, Item, Region, Finished, Answered, Ok, TooLarge, BadAlign, NotHeld, NoSuchArena as NoArena, NoMemory, Automatic}
-use Rattle.call_table.specs.Words.{Wish, Visit, Answers, DirtyToo, Change, Stops, Visits, Leaves, TurnPoint, Filling, Looking, Giving, Taking, Advancing, Changing, Making, Resetting, Destroying, Publishing, Owning, Turns, Next, Go, Over, More, Gone, Ends, Nowhere, Stage}
+use Rattle.call_table.specs.Words.{Wish, Visit, Change, Stops, Visits, Leaves, TurnPoint, Filling, Looking, Giving, Taking, Advancing, Changing, Making, Resetting, Destroying, Publishing, Owning, Turns, Next, Go, Over, More, Gone, Ends, Nowhere, Stage}
 use Rattle.call_table.specs.Words.{Rest, ToDirty, ToMuzzy, ToRetained, Setting, DirtyMs, MuzzyMs, SetBox, SetBound, SetLimit, MakeLive, Held, DeskFacts, aligned_for, class_for, pages_at, slots_at, most_regions, BatchFacts, batch_of, cached_of, freeing, going, going_with, held_at, hit, hitting}
 use Rattle.call_table.specs.Table.{step}
 use Rattle.call_table.specs.Desks.{desk_closed, desk_fed, flushes}
@@ -96,7 +96,7 @@ decay_setting ToRetained ms now = MuzzyMs ms now
 
 -- the extents of the list, all of them
 abbrev pub whole_visit : Rest → Visit
-whole_visit rest = record { rest = rest; keep = 0; later = Answers Finished }
+whole_visit rest = record { rest = rest; keep = 0; other = None; told = false }
 
 -- a new time purges, unless it is never
 abbrev pub after_time : Rest → ℤ → Change
@@ -104,7 +104,7 @@ after_time rest ms = if int_eq ms (negsuc 0) then Stops else Visits (whole_visit
 
 -- the muzzy extents and then the dirty ones, all of them
 abbrev pub purge_visit : Visit
-purge_visit = record { rest = ToMuzzy; keep = 0; later = DirtyToo 0 Finished }
+purge_visit = record { rest = ToMuzzy; keep = 0; other = Some 0; told = false }
 
 -- another arena is bound first, and then the client leaves its own
 abbrev pub begin_bind : ℕ → ℕ → Stage

@@ -6,10 +6,8 @@ use Rattle.call_table.specs.declared.needs.Answered.{Answered}
 use Rattle.call_table.specs.Items.{Item, Told}
 use Rattle.call_table.specs.declared.points.AskPoint.{AskPoint}
 use Rattle.call_table.specs.declared.points.TurnPoint.{TurnPoint}
-use Rattle.call_table.specs.declared.points.Place.{Place}
-use Rattle.call_table.specs.declared.points.Place.TheVariants.{Turns as AtTurn, Asks as AtAsk, Tells as AtEnd}
 use Rattle.call_table.specs.declared.points.Lead.{Lead}
-use Rattle.call_table.specs.declared.points.Lead.TheVariants.{To, Over as ToOther, More as ToMore, Gone as ToGone, Ends as ToAnswer, Nowhere as ToNowhere}
+use Rattle.call_table.specs.declared.points.Lead.TheVariants.{Turns as AtTurn, Asks as AtAsk, Tells as AtEnd, Over as ToOther, More as ToMore, Gone as ToGone, Ends as ToAnswer, Nowhere as ToNowhere}
 
 -- A point at which a call waits: for the reply to a turn; for the answer to an ask, or, where it is there, for the reply to the
 -- turn that takes it in; or for the ask that destroys an extent of an arena that has ended, committed or not.
@@ -33,16 +31,12 @@ pub record Stage : Type 0 where
   pub arena : ℕ
   pub next : Next
 
--- the point at a place, with what was answered there
-abbrev pub point_at : Place → Option AskFacts → Point
-point_at (AtTurn point) heard = Turns point
-point_at (AtAsk point) heard = Asks point heard
-point_at (AtEnd span is_committed) heard = Tells span is_committed
-
 -- where a lead leads, with what was answered there
 abbrev pub led : Lead → Option AskFacts → Next
-led (To place) heard = Go (point_at place heard)
-led (ToOther arena place) heard = Over arena (point_at place heard)
+led (AtTurn point) heard = Go (Turns point)
+led (AtAsk point) heard = Go (Asks point heard)
+led (AtEnd span is_committed) heard = Go (Tells span is_committed)
+led (ToOther arena point) heard = Over arena (Turns point)
 led ToMore heard = More
 led ToGone heard = Gone
 led (ToAnswer answer) heard = Ends answer
@@ -59,5 +53,5 @@ hears_next next item = false
 
 -- only at an ask there is an answer to be taken in
 abbrev pub IsHeardAt : Lead → Option AskFacts → Type 0
-IsHeardAt (To (AtAsk point)) heard = Unit {0}
+IsHeardAt (AtAsk point) heard = Unit {0}
 IsHeardAt lead heard = heard ≡ None

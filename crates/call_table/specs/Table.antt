@@ -3,8 +3,8 @@ use Rattle.std.specs.Prelude.{ℕ, ◌+◌, ◌-◌, ◌*◌, ◌/◌, ◌==◌,
 use Rattle.space_model.specs.declared.Ask.TheVariants.{Destroy as DestroyExtent}
 use Rattle.space_model.specs.declared.Op.TheVariants.{Look, CutDone, GrowDone, CommitDone, Land, Back, PutLook, MergeDone, Fill, Advance, PurgeTake, LazyDone, Offer, OfferDone, DecommitDone, ForcedDone, Publish, TakeOver, Reset, Destroy, DestroyTake, Set}
 use Rattle.hook_api.specs.Asked.{heard_in}
-use Rattle.call_table.specs.Words.{Item, Replied, Told, Starved, Given, Region, Finished, Arena, Limits, Ok, Refused, BadAnswer, NotHeld, Busy, NoMemory, ArenasFull, end_of, max_series}
-use Rattle.call_table.specs.Words.{Wish, Visit, Later, Answers, DirtyToo, Then, Batches, Visiting, Change, Stops, Visits, Leaves, TurnPoint, Filling, Looking, Landing, Giving, Finding, Taking, Offering, Advancing, Changing, Making, Resetting, Destroying, Dooming, Publishing, Owning, AskPoint, Skipping, Trimming, Growing, Paring, Needing, Granting, Committing, Merging, Easing, Returning, Decommitting, Forcing, Point, Turns, Asks, Tells, Next, Go, Over, More, Gone, Ends, Nowhere}
+use Rattle.call_table.specs.Words.{Item, Replied, Told, Starved, Given, Region, Finished, Arena, Limits, Ok, Refused, BadAnswer, NotHeld, Busy, NoMemory, ArenasFull, end_of, max_series, Rest}
+use Rattle.call_table.specs.Words.{Wish, Visit, Then, Batches, Visiting, Change, Stops, Visits, Leaves, TurnPoint, Filling, Looking, Landing, Giving, Finding, Taking, Offering, Advancing, Changing, Making, Resetting, Destroying, Dooming, Publishing, Owning, AskPoint, Skipping, Trimming, Growing, Paring, Needing, Granting, Committing, Merging, Easing, Returning, Decommitting, Forcing, Point, Turns, Asks, Tells, Next, Go, Over, More, Gone, Ends, Nowhere}
 use Rattle.call_table.specs.Words.{Ask, Alloc, Dalloc, Commit, Decommit, PurgeLazy, PurgeForced, Split, Merge, Answer, Placed, Op, Reply, NoArena, Nothing, Noted, Took, Grow, Cut, Whole, Refuse, Bad, Grown, Landed, NextFlight, Beside, Purge, Joined, Regions, LimitsAre, Taken, Lazy, Kept, Abandoned, Decommitted, Doomed, Owned, InUse, ToDirty, ToMuzzy, Setting, Unbind, Span, AskFacts}
 
 -- ---- what is wanted at a point
@@ -24,7 +24,7 @@ whole_chunks pages = chunks_for pages * 512
 
 -- an alloc of so many pages, anywhere and uncommitted, at the alignment of a wish and of a chunk
 abbrev pub alloc_of : Wish → ℕ → Ask
-alloc_of wish pages = Alloc None pages (max 512 wish.align) false
+alloc_of wish pages = Alloc false None pages (max 512 wish.align)
 
 -- the operation of a turn that takes in no answer
 abbrev pub op_at : TurnPoint → Op
@@ -114,28 +114,37 @@ grow wish series =
 
 -- the range that an alloc's answer places, of so many pages
 abbrev pub answered_span : ℕ → Answer → Span
-answered_span pages (Placed first is_committed zeroed) = record { first = first; pages = pages }
+answered_span pages (Placed is_committed zeroed first) = record { first = first; pages = pages }
 answered_span pages answer = record { first = 0; pages = pages }
 
 -- ---- an extent that is put down
 
--- the dirty extents of which so many pages may stay, and then the answer
-abbrev pub dirty_visit : ℕ → Given → Visit
-dirty_visit keep given = record { rest = ToDirty; keep = keep; later = Answers given }
+-- the dirty extents of which so many pages may stay
+abbrev pub dirty_visit : ℕ → Option ℕ → Bool → Visit
+dirty_visit keep other told = record { rest = ToDirty; keep = keep; other = other; told = told }
 
 -- the first extent of a visit is taken
 abbrev pub visit_all : Visit → Next
 visit_all visit = Go (Turns (Taking visit None))
 
--- what follows a visit
-abbrev pub visited : Later → Next
-visited (Answers given) = Ends (Ok given)
-visited (DirtyToo keep given) = visit_all (dirty_visit keep given)
+-- what a visit gives in the end: that it is done, or how many pages might stay
+abbrev pub visit_gives : Bool → Rest → ℕ → Option ℕ → Given
+visit_gives false rest keep other = Finished
+visit_gives true ToMuzzy keep other = Limits other (Some keep)
+visit_gives true rest keep other = Limits (Some keep) other
+
+-- what follows a visit of a list: one of the dirty extents after that of the muzzy ones, where these are visited too, or the answer
+abbrev pub visited_list : Rest → Option ℕ → ℕ → Bool → Next
+visited_list ToMuzzy (Some dirty) keep told = visit_all (dirty_visit dirty (Some keep) told)
+visited_list rest other keep told = Ends (Ok (visit_gives told rest keep other))
+
+abbrev pub visited : Visit → Next
+visited visit = visited_list visit.rest visit.other visit.keep visit.told
 
 -- what follows once nothing is in flight
 abbrev pub onward : Then → Next
 onward Batches = More
-onward (Visiting visit left) = if left == 0 then visited visit.later else Go (Turns (Taking visit (Some left)))
+onward (Visiting visit left) = if left == 0 then visited visit else Go (Turns (Taking visit (Some left)))
 
 -- the next extent in flight is put down, or there is none
 abbrev pub put_next : Then → Option Span → Next
@@ -173,9 +182,8 @@ takes_left (Some left) listed = left - 1
 -- after both decays told how many pages may stay
 abbrev pub limited : Option ℕ → Option ℕ → Next
 limited None None = Ends (Ok (Limits None None))
-limited (Some dirty) None = visit_all (dirty_visit dirty (Limits (Some dirty) None))
-limited None (Some muzzy) = visit_all (record { rest = ToMuzzy; keep = muzzy; later = Answers (Limits None (Some muzzy)) })
-limited (Some dirty) (Some muzzy) = visit_all (record { rest = ToMuzzy; keep = muzzy; later = DirtyToo dirty (Limits (Some dirty) (Some muzzy)) })
+limited (Some dirty) None = visit_all (dirty_visit dirty None true)
+limited dirty (Some muzzy) = visit_all (record { rest = ToMuzzy; keep = muzzy; other = dirty; told = true })
 
 -- ---- settings
 
@@ -210,7 +218,7 @@ turn_replied (Finding own tries fresh later) (Beside other) = beside own tries f
 turn_replied (Finding own tries fresh later) (NextFlight next) = put_next later next
 turn_replied (Finding own tries true later) (Purge lazy) = drop own lazy later
 turn_replied (Taking visit left) (Taken span lazy listed) = drop span lazy (Visiting visit (takes_left left listed))
-turn_replied (Taking visit left) Nothing = visited visit.later
+turn_replied (Taking visit left) Nothing = visited visit
 turn_replied (Taking visit left) NoArena = Gone
 turn_replied (Offering span later) Noted = Go (Asks (Returning span later) None)
 turn_replied (Advancing now) (LimitsAre dirty muzzy) = limited dirty muzzy
@@ -221,7 +229,7 @@ turn_replied (Making index setting) Noted = Ends (Ok (Arena index))
 turn_replied (Making index setting) Nothing = make_next index setting
 turn_replied (Resetting cached) (InUse held flights threads) = Ends (Busy held flights threads)
 turn_replied (Resetting cached) Noted = Ends (Ok Finished)
-turn_replied (Resetting cached) (Purge lazy) = visit_all (dirty_visit 0 Finished)
+turn_replied (Resetting cached) (Purge lazy) = visit_all (dirty_visit 0 None false)
 turn_replied (Resetting cached) NoArena = Gone
 turn_replied (Destroying cached) (InUse held flights threads) = Ends (Busy held flights threads)
 turn_replied (Destroying cached) Noted = Go (Turns Dooming)

@@ -8,8 +8,6 @@ pub use Rattle.call_table.specs.declared.needs.Answered.{Answered}
 pub use Rattle.call_table.specs.declared.needs.Answered.TheVariants.{Ok, Refused, BadAnswer, TooLarge, BadAlign, NotHeld, NoArena as NoSuchArena, Busy, NoMemory, ArenasFull, Automatic}
 pub use Rattle.call_table.specs.declared.points.Wish.{Wish}
 pub use Rattle.call_table.specs.declared.points.Visit.{Visit}
-pub use Rattle.call_table.specs.declared.points.Later.{Later}
-pub use Rattle.call_table.specs.declared.points.Later.TheVariants.{Answers, DirtyToo}
 pub use Rattle.call_table.specs.declared.points.Then.{Then}
 pub use Rattle.call_table.specs.declared.points.Then.TheVariants.{Batches, Visiting}
 pub use Rattle.call_table.specs.declared.points.Change.{Change}

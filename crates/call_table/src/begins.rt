@@ -11,7 +11,7 @@ ghost use Rattle.call_table.specs.Points.{IsSizedNext};
 ghost use Rattle.call_table.specs.Runs.{after_time, batch_goes, begin_bind, begin_cache, begin_desk, begin_flush, begin_free, begin_get, begin_malloc, begin_memalign, begin_publish, begin_set, begin_stage, first_turn, first_turn_but_0, get, purge_visit, share, stage, decay_setting, whole_visit, wish_for};
 ghost use Rattle.call_table.specs.Stages.{Ends, led};
 
-use crate::{Answered, Change, Given, Later, Lead, Request, Stage, TurnPoint, Visit, Wish};
+use crate::{Answered, Change, Given, Lead, Request, Stage, TurnPoint, Visit, Wish};
 use size_classes::{
     PAGE_BYTES, SMALL_CLASSES, SizeFault, aligned_class, class_of, class_pages, slab_regions, slots,
 };
@@ -245,7 +245,8 @@ impl Visit {
         Visit {
             rest,
             keep: 0,
-            later: Later::Answers(Given::Done),
+            other: None,
+            told: false,
         }
     }
 
@@ -256,7 +257,8 @@ impl Visit {
         Visit {
             rest: Rest::Muzzy,
             keep: 0,
-            later: Later::DirtyToo(0, Given::Done),
+            other: Some(0),
+            told: false,
         }
     }
 }

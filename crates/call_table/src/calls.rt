@@ -4,15 +4,15 @@ ghost use Rattle.std.specs.Prelude.{◌≡◌, List, ◌∷◌, None, Some, IfNo
 ghost use Rattle.call_table.specs.Calls.{HasRoomToHold, may_hold, moment_of, started, takes_memory};
 ghost use Rattle.call_table.specs.Desks.{flushes};
 ghost use Rattle.call_table.specs.Items.{Item as Fed, lent};
-ghost use Rattle.call_table.specs.Points.{IsSizedNext, IsSizedPoint};
-ghost use Rattle.call_table.specs.Needs.{Goes, HasFewAddresses, IsFewAddresses, IsPointOrEnd, NeedIs, NeedsWant};
+ghost use Rattle.call_table.specs.Points.{IsSizedNext};
+ghost use Rattle.call_table.specs.Needs.{Goes, HasFewAddresses, IsFewAddresses, IsPointOrEnd, NeedIs};
 ghost use Rattle.call_table.specs.Reads.{aimed, ended_by, heard_next, taken_next};
 ghost use Rattle.call_table.specs.Runs.{after, begin, run, settle, stage, starved_after, step_next};
-ghost use Rattle.call_table.specs.Table.{op_at, step, want};
-ghost use Rattle.call_table.specs.Stages.{Ends, Go, More, hears, hears_next, led, point_at};
+ghost use Rattle.call_table.specs.Table.{op_at};
+ghost use Rattle.call_table.specs.Stages.{Ends, Go, More, hears_next, led};
 ghost use Rattle.thread_cache.specs.Desks.{DeskFacts};
 
-use crate::{Answered, Item, Lead, Need, Place, Request, Turn, TurnPoint};
+use crate::{Answered, Item, Lead, Need, Request, Turn, TurnPoint};
 use hook_api::Asked;
 use size_classes::Addrs;
 use space_model::{Addresses, Ask, Op, Span};
@@ -42,7 +42,7 @@ impl Model for Stage {
 /// The same addresses again.
 fn copied(addrs: &Addresses, alloc: Global) -> Result<Addresses, NoMemory>
     ensures copy { IfOk result (λ copy. copy ≡ addrs.now) }
-    ensures few { length addrs.now ≤ 8 → IsOk result }
+    ensures few { length addrs.now ≤ 2 → IsOk result }
 {
     let mut list = Addrs::new(alloc);
     list.reserve(addrs.as_slice().len() as u64)?;
@@ -93,46 +93,6 @@ impl TurnPoint {
             TurnPoint::Publishing(addr) => Op::Publish { addr: *addr },
             TurnPoint::Owning { addr, .. } => Op::TakeOver { addr: *addr },
         })
-    }
-}
-
-impl Place {
-    /// Where an item leads that isn't the answer to the ask.
-    fn step(&self, heard: &Option<Asked>, item: Item<'_>) -> Lead
-        requires sized { IsSizedPoint (point_at self.now heard.now) }
-        requires item { hears (point_at self.now heard.now) (lent item) ≡ false }
-        ensures { led result None ≡ step (point_at self.now heard.now) (lent item.entry) }
-    {
-        match (self, heard, item) {
-            (Place::Turns(point), _, Item::Replied(reply)) => point.turned(reply),
-            (Place::Turns(point), _, Item::Starved) => point.starved(),
-            (Place::Asks(point), Some(asked), Item::Replied(reply)) => point.told(asked, reply),
-            (Place::Tells(..), _, Item::Told(_)) => TurnPoint::Dooming.next(),
-            _ => Lead::Nowhere,
-        }
-    }
-
-    /// What is needed of an arena at the place. `NoMemory` only where several regions go back.
-    pub(crate) fn need(
-        &self,
-        heard: &Option<Asked>,
-        arena: u32,
-        client: u32,
-        alloc: Global,
-    ) -> Result<Need, NoMemory>
-        requires { IsSizedPoint (point_at self.now heard.now) }
-        ensures need { IfOk result (NeedsWant client arena (want (point_at self.now heard.now))) }
-        ensures few { IsFewAddresses (Go (point_at self.now heard.now)) → IsOk result }
-    {
-        match (self, heard) {
-            (Place::Turns(point), _) => {
-                let op = point.op(alloc)?;
-                Ok(turn(arena, client, op))
-            }
-            (Place::Asks(point), None) => Ok(point.need(arena)),
-            (Place::Asks(point), Some(asked)) => Ok(turn(arena, client, point.done(asked))),
-            (Place::Tells(span, committed), _) => Ok(told(arena, *span, *committed)),
-        }
     }
 }
 
@@ -249,9 +209,9 @@ impl Stage {
         ensures err { OnErr result (self.new ≡ stage self.old.arena (Ends Answered.NoMemory)) }
     {
         match lead {
-            Lead::Over(arena, place) => {
+            Lead::Over(arena, point) => {
                 self.arena = arena;
-                self.go(Lead::To(place));
+                self.go(Lead::Turns(point));
             }
             Lead::More => return self.go_on(request, desk, alloc),
             Lead::Gone => self.go(Lead::Ends(Answered::NoArena(self.arena))),
@@ -269,7 +229,7 @@ impl Stage {
         ensures other { result ≡ false → self.new ≡ self.old }
     {
         match (&self.lead, &self.heard, item) {
-            (Lead::To(Place::Asks(_)), None, Item::Told(asked)) => {
+            (Lead::Asks(_), None, Item::Told(asked)) => {
                 self.heard = Some(*asked);
                 true
             }
@@ -283,9 +243,12 @@ impl Stage {
         requires item { hears_next self.now.next (lent item) ≡ false }
         ensures { led result None ≡ step_next self.now.next (lent item.entry) }
     {
-        match &self.lead {
-            Lead::To(place) => place.step(&self.heard, item),
-            _ended => Lead::Nowhere,
+        match (&self.lead, &self.heard, item) {
+            (Lead::Turns(point), _, Item::Replied(reply)) => point.turned(reply),
+            (Lead::Turns(point), _, Item::Starved) => point.starved(),
+            (Lead::Asks(point), Some(asked), Item::Replied(reply)) => point.told(asked, reply),
+            (Lead::Tells(..), _, Item::Told(_)) => TurnPoint::Dooming.next(),
+            _ => Lead::Nowhere,
         }
     }
 
@@ -297,6 +260,28 @@ impl Stage {
         match &self.lead {
             Lead::Ends(answer) => Some(answer),
             _ => None,
+        }
+    }
+
+    /// What a client needs there, or the answer of its call. `NoMemory` only where there is none to name several regions that
+    /// go back.
+    #[inline(always)]
+    pub(crate) fn need(&self, client: u32, alloc: Global) -> Result<Need, NoMemory>
+        requires place { IsPointOrEnd self.now.next }
+        requires sized { IsSizedNext self.now.next }
+        ensures need { IfOk result (NeedIs client self.now.arena self.now.next) }
+        ensures few { IsFewAddresses self.now.next → IsOk result }
+    {
+        match (&self.lead, &self.heard) {
+            (Lead::Turns(point), _) => {
+                let op = point.op(alloc)?;
+                Ok(turn(self.arena, client, op))
+            }
+            (Lead::Asks(point), None) => Ok(point.need(self.arena)),
+            (Lead::Asks(point), Some(asked)) => Ok(turn(self.arena, client, point.done(asked))),
+            (Lead::Tells(span, committed), _) => Ok(told(self.arena, *span, *committed)),
+            (Lead::Ends(answer), _) => Ok(Need::Done(*answer)),
+            _ => unreachable!(),
         }
     }
 
@@ -392,12 +377,7 @@ impl Call {
         ensures need { IfOk result (NeedIs self.now.client self.now.stage.arena self.now.stage.next) }
         ensures few { IsFewAddresses self.now.stage.next → IsOk result }
     {
-        let Stage { arena, lead, heard } = &self.stage;
-        match lead {
-            Lead::To(place) => place.need(heard, *arena, self.client, alloc),
-            Lead::Ends(answer) => Ok(Need::Done(*answer)),
-            _ => unreachable!(),
-        }
+        self.stage.need(self.client, alloc)
     }
 
     /// The ask whose answer the turn carries that it needs next, where it carries one.
@@ -422,14 +402,12 @@ impl Call {
         ensures { result ≡ taken_next self.now.stage.next }
     {
         match &self.stage.lead {
-            Lead::To(
-                Place::Turns(
-                    TurnPoint::Owning {
-                        addr,
-                        frees: true,
-                        published: false,
-                    },
-                ),
+            Lead::Turns(
+                TurnPoint::Owning {
+                    addr,
+                    frees: true,
+                    published: false,
+                },
             ) => Some(*addr),
             _ => None,
         }
@@ -446,7 +424,7 @@ impl Call {
                 frees: true,
                 published: true,
             };
-            self.stage.lead = Lead::To(Place::Turns(point));
+            self.stage.lead = Lead::Turns(point);
         }
     }
 

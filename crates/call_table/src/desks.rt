@@ -7,7 +7,7 @@ ghost use Rattle.call_table.specs.Items.{lent};
 ghost use Rattle.call_table.specs.Points.{IsSizedNext, IsSizedTurn};
 ghost use Rattle.call_table.specs.Stages.{Ends};
 
-use crate::{Answered, Change, Given, Item, Lead, Place, Request, Stage, TurnPoint};
+use crate::{Answered, Change, Given, Item, Lead, Request, Stage, TurnPoint};
 use size_classes::size_of;
 use space_model::Reply;
 use thread_cache::{Desk, Held};
@@ -82,7 +82,7 @@ impl Stage {
         ensures facts { desk.new.facts ≡ desk_fed desk.old.facts self.now.arena self.now.next (lent item.entry) }
         ensures room { desk.old.room ≤ desk.new.room }
     {
-        if let Lead::To(Place::Turns(point)) = &self.lead {
+        if let Lead::Turns(point) = &self.lead {
             if let Item::Replied(reply) = item {
                 point.tell(desk, self.arena, reply);
             }

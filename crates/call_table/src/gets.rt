@@ -5,7 +5,7 @@ ghost use Rattle.call_table.specs.Table.{ask_at, chunks_for, commit, grant, grow
 ghost use Rattle.call_table.specs.Points.{IsSized};
 ghost use Rattle.call_table.specs.Stages.{Asks, Ends, Go, led};
 
-use crate::{Answered, AskPoint, Given, Lead, Need, Place, TurnPoint, Wish};
+use crate::{Answered, AskPoint, Given, Lead, Need, TurnPoint, Wish};
 use space_model::{CHUNK_PAGES, MAX_SERIES, Reply, Span};
 
 impl AskPoint {
@@ -13,7 +13,7 @@ impl AskPoint {
     pub(crate) fn first(self) -> Lead
         ensures { led result None ≡ Go (Asks self None) }
     {
-        Lead::To(Place::Asks(self))
+        Lead::Asks(self)
     }
 
     /// What is needed: the ask.
@@ -39,7 +39,7 @@ impl Wish {
         ensures { led result None ≡ commit self span committed }
     {
         if committed {
-            Lead::To(Place::Turns(TurnPoint::Landing(self, span)))
+            Lead::Turns(TurnPoint::Landing(self, span))
         } else {
             AskPoint::Committing(self, span).first()
         }
@@ -158,7 +158,7 @@ impl Wish {
                 Some(addr) => self.region(*addr),
                 None => Lead::Nowhere,
             },
-            Reply::Nothing => Lead::To(Place::Turns(TurnPoint::Looking(self))),
+            Reply::Nothing => Lead::Turns(TurnPoint::Looking(self)),
             Reply::NoArena => Lead::Gone,
             _ => Lead::Nowhere,
         }

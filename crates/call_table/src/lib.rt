@@ -23,7 +23,7 @@ pub use laws::{
     mallocs_are_short, refusals_stand, rooms_suffice, runs_end_once, steps_keep, wants_stand,
 };
 pub use needs::{Answered, Given, Item, Need, Request, Turn};
-pub use points::{AskPoint, Change, Later, Lead, Place, Then, TurnPoint, Visit, Wish};
+pub use points::{AskPoint, Change, Lead, Then, TurnPoint, Visit, Wish};
 
 #[cfg(test)]
 mod tests;

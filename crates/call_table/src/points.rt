@@ -1,6 +1,6 @@
 //! The points at which a call waits.
 
-use crate::{Answered, Given};
+use crate::Answered;
 use space_model::{Addresses, Rest, Setting, Span};
 
 /// The extent that a call needs, and the regions that are to land in it.
@@ -16,24 +16,18 @@ pub struct Wish {
     pub count: u32,
 }
 
-/// What follows once the extents of a visit are purged.
-#[derive(Clone, Copy)]
-pub enum Later {
-    /// The answer.
-    Answers(Given),
-    /// The dirty extents are visited too, of which so many pages may stay, and then comes the answer.
-    DirtyToo(u64, Given),
-}
-
-/// A purge of listed extents.
+/// A purge of listed extents: of the muzzy ones, of the dirty ones, or first of those and then of these. What it gives is that
+/// it is done, or how many pages might stay.
 #[derive(Clone, Copy)]
 pub struct Visit {
     /// Their list, dirty or muzzy.
     pub rest: Rest,
+    /// Whether the answer tells how many pages might stay.
+    pub told: bool,
     /// How many pages may stay.
     pub keep: u64,
-    /// What follows.
-    pub later: Later,
+    /// How many pages of the other list may stay, where that is visited before or after this one.
+    pub other: Option<u64>,
 }
 
 /// What follows once the client has nothing in flight any more.
@@ -177,24 +171,17 @@ pub enum AskPoint {
     Forcing(Span, Then),
 }
 
-/// A place where a call waits: a point without the answer that is to be taken in there.
+/// Where a call waits, or where an item leads. What a hook answered to an ask stands beside it.
 #[derive(Drop)]
-pub enum Place {
+pub enum Lead {
     /// For the reply to a turn.
     Turns(TurnPoint),
     /// For the answer to an ask, or, where it is there, for the reply to the turn that takes it in.
     Asks(AskPoint),
     /// For the ask that destroys an extent of an arena that has ended, committed or not. No turn takes its answer in.
     Tells(Span, bool),
-}
-
-/// Where an item leads.
-#[derive(Drop)]
-pub enum Lead {
-    /// To a place.
-    To(Place),
-    /// To a place of the arena with this index.
-    Over(u32, Place),
+    /// To a turn of the arena with this index.
+    Over(u32, TurnPoint),
     /// To the next batch of regions that go back, or to the end.
     More,
     /// To the end, since the arena isn't live.

@@ -2,10 +2,10 @@
 
 ghost use Rattle.std.specs.Prelude.{◌≡◌, None};
 ghost use Rattle.space_model.specs.Span.{end_of};
-ghost use Rattle.call_table.specs.Table.{beside, decommitted, dirty_visit, drop, eased, forced, look_on, merged, onward, put_next, put_purged, returned, turn_replied, visit_all, visited};
+ghost use Rattle.call_table.specs.Table.{beside, decommitted, dirty_visit, drop, eased, forced, visit_gives, look_on, merged, onward, put_next, put_purged, returned, turn_replied, visit_all, visited};
 ghost use Rattle.call_table.specs.Stages.{Asks, Go, Turns, led};
 
-use crate::{Answered, AskPoint, Given, Later, Lead, Place, Then, TurnPoint, Visit};
+use crate::{Answered, AskPoint, Given, Lead, Then, TurnPoint, Visit};
 use space_model::{Reply, Rest, Span};
 
 /// The page after a span's last one. In 128 bits, so that no span wraps.
@@ -20,31 +20,48 @@ impl TurnPoint {
     pub(crate) fn next(self) -> Lead
         ensures { led result None ≡ Go (Turns self) }
     {
-        Lead::To(Place::Turns(self))
-    }
-}
-
-impl Later {
-    /// What follows a visit.
-    fn visited(self) -> Lead
-        ensures { led result None ≡ visited self }
-    {
-        match self {
-            Later::Answers(given) => Lead::Ends(Answered::Ok(given)),
-            Later::DirtyToo(keep, given) => Visit::dirty(keep, given).first(),
-        }
+        Lead::Turns(self)
     }
 }
 
 impl Visit {
-    /// The dirty extents, of which so many pages may stay, and then the answer.
-    pub(crate) fn dirty(keep: u64, given: Given) -> Visit
-        ensures { result ≡ dirty_visit keep given }
+    /// The dirty extents, of which so many pages may stay.
+    pub(crate) fn dirty(keep: u64, other: Option<u64>, told: bool) -> Visit
+        ensures { result ≡ dirty_visit keep other told }
     {
         Visit {
             rest: Rest::Dirty,
             keep,
-            later: Later::Answers(given),
+            other,
+            told,
+        }
+    }
+
+    /// What its answer gives.
+    fn given(&self) -> Given
+        ensures { result ≡ visit_gives self.now.told self.now.rest self.now.keep self.now.other }
+    {
+        let keep = Some(self.keep);
+        match (self.told, self.rest) {
+            (false, _) => Given::Done,
+            (true, Rest::Muzzy) => Given::Limits {
+                dirty: self.other,
+                muzzy: keep,
+            },
+            (true, _) => Given::Limits {
+                dirty: keep,
+                muzzy: self.other,
+            },
+        }
+    }
+
+    /// What follows it: a visit of the dirty extents after that of the muzzy ones, where these are visited too, or the answer.
+    fn visited(&self) -> Lead
+        ensures { led result None ≡ visited self.now }
+    {
+        match (self.rest, self.other) {
+            (Rest::Muzzy, Some(keep)) => Visit::dirty(keep, Some(self.keep), self.told).first(),
+            _ => Lead::Ends(Answered::Ok(self.given())),
         }
     }
 
@@ -64,7 +81,7 @@ impl Visit {
                 let left = left.unwrap_or(listed).saturating_sub(1);
                 Then::Visiting(*self, left).drop_extent(span, lazy)
             }
-            Reply::Nothing => self.later.visited(),
+            Reply::Nothing => self.visited(),
             Reply::NoArena => Lead::Gone,
             _ => Lead::Nowhere,
         }
@@ -78,7 +95,7 @@ impl Then {
     {
         match *self {
             Then::Batches => Lead::More,
-            Then::Visiting(visit, 0) => visit.later.visited(),
+            Then::Visiting(visit, 0) => visit.visited(),
             Then::Visiting(visit, left) => TurnPoint::Taking(visit, Some(left)).next(),
         }
     }

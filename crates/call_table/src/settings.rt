@@ -4,32 +4,26 @@ ghost use Rattle.std.specs.Prelude.{◌≡◌, ◌<◌, Bool, None};
 ghost use Rattle.call_table.specs.Table.{setting_changed, limited, make_next, turn_replied};
 ghost use Rattle.call_table.specs.Stages.{Go, Turns, led};
 
-use crate::{Answered, Change, Given, Later, Lead, Place, TurnPoint, Visit};
+use crate::{Answered, Change, Given, Lead, TurnPoint, Visit};
 use space_model::{Reply, Rest, Setting};
 
 /// After both decays told how many pages may stay.
 fn limited(dirty: Option<u64>, muzzy: Option<u64>) -> Lead
     ensures { led result None ≡ limited dirty muzzy }
 {
-    let given = Given::Limits { dirty, muzzy };
-    match (dirty, muzzy) {
-        (None, None) => Lead::Ends(Answered::Ok(given)),
-        (Some(keep), None) => Visit::dirty(keep, given).first(),
-        (None, Some(keep)) => muzzy_visit(keep, Later::Answers(given)),
-        (Some(dirty_keep), Some(keep)) => muzzy_visit(keep, Later::DirtyToo(dirty_keep, given)),
+    if let Some(keep) = muzzy {
+        let visit = Visit {
+            rest: Rest::Muzzy,
+            keep,
+            other: dirty,
+            told: true,
+        };
+        return visit.first();
     }
-}
-
-/// The muzzy extents, of which so many pages may stay.
-pub(crate) fn muzzy_visit(keep: u64, later: Later) -> Lead
-    ensures { led result None ≡ Go (Turns (TurnPoint.Taking (record { rest = Rest.Muzzy; keep = keep; later = later }) None)) }
-{
-    Visit {
-        rest: Rest::Muzzy,
-        keep,
-        later,
+    match dirty {
+        Some(keep) => Visit::dirty(keep, None, true).first(),
+        None => Lead::Ends(Answered::Ok(Given::Limits { dirty, muzzy })),
     }
-    .first()
 }
 
 impl Change {
@@ -42,7 +36,7 @@ impl Change {
             Change::Visits(visit) => visit.first(),
             Change::Leaves(arena) => Lead::Over(
                 arena,
-                Place::Turns(TurnPoint::Changing(Setting::Unbind, Change::Stops)),
+                TurnPoint::Changing(Setting::Unbind, Change::Stops),
             ),
         }
     }
@@ -64,10 +58,7 @@ fn make_next(index: u32, setting: Setting) -> Lead
     ensures { led result None ≡ make_next index setting }
 {
     if index < 31 {
-        Lead::Over(
-            index + 1,
-            Place::Turns(TurnPoint::Making(index + 1, setting)),
-        )
+        Lead::Over(index + 1, TurnPoint::Making(index + 1, setting))
     } else {
         Lead::Ends(Answered::ArenasFull)
     }
@@ -110,7 +101,7 @@ pub(crate) fn was_reset(cached: u64, reply: &Reply) -> Lead
             threads,
         }),
         Reply::Noted => Lead::Ends(Answered::Ok(Given::Done)),
-        Reply::Purge { .. } => Visit::dirty(0, Given::Done).first(),
+        Reply::Purge { .. } => Visit::dirty(0, None, false).first(),
         Reply::NoArena => Lead::Gone,
         _ => Lead::Nowhere,
     }
@@ -141,7 +132,7 @@ pub(crate) fn doomed(reply: &Reply) -> Lead
     ensures { led result None ≡ turn_replied TurnPoint.Dooming reply.now }
 {
     match *reply {
-        Reply::Doomed { span, committed } => Lead::To(Place::Tells(span, committed)),
+        Reply::Doomed { span, committed } => Lead::Tells(span, committed),
         Reply::Nothing => Lead::Ends(Answered::Ok(Given::Done)),
         _ => Lead::Nowhere,
     }

@@ -68,10 +68,8 @@ impl Play {
         requires { IsSizedNext self.now.stage.next }
     {
         match &self.stage.lead {
-            Lead::To(place) => {
-                let Stage { arena, heard, .. } = &self.stage;
-                let need = place.need(heard, *arena, 1, self.alloc)?;
-                Ok(Some(need))
+            Lead::Turns(_) | Lead::Asks(_) | Lead::Tells(..) => {
+                Ok(Some(self.stage.need(1, self.alloc)?))
             }
             _ => Ok(None),
         }

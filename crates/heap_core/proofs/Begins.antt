@@ -189,7 +189,7 @@ module _ (records : List Record) (c : ℕ) (is : IsArenas records) (idle : IsIdl
     begins Flush knows = comes_more records c desk.arena Flush desk is owns idle
     begins (Cache true) knows = begins_at (Cache true) desk [] desk.arena (Ends (Ok Finished)) owns knows (refl, can_keep desk empty)
     begins (Cache false) knows = comes_more records c desk.arena (Cache false) desk is owns idle
-    begins (PurgeAll index) knows = first_comes (PurgeAll index) index (Taking purge_visit None) knows (empty, tt) refl
+    begins (PurgeAll index) knows = first_comes (PurgeAll index) index (Taking purge_visit None) knows empty refl
     begins (Decay index now) knows = first_comes (Decay index now) index (Advancing now) knows empty refl
     begins (Time index rest ms now) knows = first_comes (Time index rest ms now) index (Changing (decay_setting rest ms now) (after_time rest ms)) knows (empty, time_suits index rest ms now) refl
     begins (Reset index) knows = first_comes_but_0 (Reset index) index (Resetting (cached_of index desk)) knows (empty, refl) refl

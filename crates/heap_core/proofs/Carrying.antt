@@ -1,5 +1,5 @@
 -- What a turn of a client does to the regions that it holds, and to those that it has.
-use Rattle.heap_core.proofs.Words.{◌≡◌, ◌≢◌, ℕ, ◌+◌, ◌-◌, ◌*◌, ◌<◌, ◌≤◌, ◌==◌, ◌&&◌, ◌||◌, Bool, true, false, cond, List, [], ◌∷◌, Option, None, Some, length, map, refl, sym, ◌∙◌, ap, subst, arith, suc, zero, filter, find, min, nat_lt, count_by, list_any, range_with_len, eqb-true, ltb-true, length-map, length-take, All-cons, All-nil, All-weaker, filter_passes, length-range_with_len, sum_by-cons, regions_at, size_at, Region, emptied, ended, flight_count, held_count, if_free, is_published_at, take_over_at, is_flight_at, address_of, is_held_by_other, landing, region_of, regions_from, IsPlaced, is_live, stays, step_of, Stepped, is_dirty_time_over, is_lazy, find_has, both_true, discarding, empty_handed, gave, is_in, Request, Wish, Change, Stops, Visits, Leaves, TurnPoint, Filling, Landing, Giving, Changing, Making, Resetting, Destroying, Publishing, Owning, Reply, Noted, Purge, Busy, Setting, Space, Part, Span, Sound, mine, Held, DeskFacts, cached_of, freeing, going, most_regions, fill_at, land_at, lowest_free, address_behind, desk_turned, flushes, landed_behind, held_region, sharing, KnowsTurn, op_at, HasSlots, IsTheHand, SuitsTurn}
+use Rattle.heap_core.proofs.Words.{◌≡◌, ◌≢◌, ℕ, ◌+◌, ◌-◌, ◌*◌, ◌<◌, ◌≤◌, ◌==◌, ◌&&◌, ◌||◌, Bool, true, false, cond, List, [], ◌∷◌, Option, None, Some, length, map, refl, sym, ◌∙◌, ap, subst, arith, suc, zero, filter, find, min, nat_lt, count_by, list_any, range_with_len, eqb-true, ltb-true, length-map, length-take, All-cons, All-nil, All-weaker, filter_passes, length-range_with_len, sum_by-cons, regions_at, size_at, Region, emptied, ended, flight_count, held_count, if_free, is_published_at, take_over_at, is_flight_at, address_of, is_held_by_other, landing, region_of, regions_from, IsPlaced, is_live, stays, step_of, Stepped, is_dirty_time_over, is_lazy, find_has, both_true, discarding, empty_handed, gave, is_in_arena, Request, Wish, Change, Stops, Visits, Leaves, TurnPoint, Filling, Landing, Giving, Changing, Making, Resetting, Destroying, Publishing, Owning, Reply, Noted, Purge, Busy, Setting, Space, Part, Span, Sound, mine, Held, DeskFacts, cached_of, freeing, going, most_regions, fill_at, land_at, lowest_free, address_behind, desk_turned, flushes, landed_behind, held_region, sharing, KnowsTurn, op_at, HasSlots, IsTheHand, SuitsTurn}
 use Rattle.call_table.specs.Words.{NoArena}
 use Rattle.heap_core.proofs.Hands.{Count, Hands, Single, hands_come, hands_discard, hands_part}
 use Rattle.heap_core.proofs.Having.{Shaped, discard_shaped, free_gains, of_hand, over, share_all}
@@ -121,18 +121,18 @@ module _ (n m : Count) (c arena : ℕ) (s : Space) (desk : DeskFacts) (request :
 
   giving : (addrs : List ℕ) → SuitsTurn desk request arena (Giving addrs) → Carries (Giving addrs) (step_of s c (op_at (Giving addrs)))
   giving addrs suits now =
-      let gone : List Held = filter (is_in arena) (going (flushes request) desk) in
+      let gone : List Held = filter (is_in_arena arena) (going (flushes request) desk) in
       let parts = gave_parts desk (flushes request) arena addrs shaped suits in
-      let home = All-weaker (λ r. is_in arena r ≡ true) (λ (r : Held). r.arena ≡ arena) (λ r h. eqb-true r.arena arena h) gone (filter_passes (is_in arena) (going (flushes request) desk)) in record {
+      let home = All-weaker (λ r. is_in_arena arena r ≡ true) (λ (r : Held). r.arena ≡ arena) (λ r h. eqb-true r.arena arena h) gone (filter_passes (is_in_arena arena) (going (flushes request) desk)) in record {
         hands = hands_part n m arena gone desk (gave arena desk) single hands parts home (λ a k. gone_here a k) others;
         shaped = parts.shaped;
       }
     where
-      gone_here : (a k : ℕ) → m arena a k ≡ cond (any_at a (filter (is_in arena) (going (flushes request) desk))) 0 (n arena a k)
+      gone_here : (a k : ℕ) → m arena a k ≡ cond (any_at a (filter (is_in_arena arena) (going (flushes request) desk))) 0 (n arena a k)
       gone_here a k =
           now a k ∙ back_counts c a k addrs s.regions
           ∙ ap (λ v. cond v 0 (count_at c a k s.regions)) (ap (list_any (λ x. x == a)) (batch_addrs (going (flushes request) desk) arena addrs suits) ∙ addrs_any arena a (going (flushes request) desk))
-          ∙ ap (cond (any_at a (filter (is_in arena) (going (flushes request) desk))) 0) (sym (counted a k))
+          ∙ ap (cond (any_at a (filter (is_in_arena arena) (going (flushes request) desk))) 0) (sym (counted a k))
 
   publishing : (addr : ℕ) → SuitsTurn desk request arena (Publishing addr) → Carries (Publishing addr) (step_of s c (op_at (Publishing addr)))
   publishing addr suits now = by desk.hand refl suits

@@ -1,5 +1,5 @@
 -- The regions that a client has are those that it holds in the arenas, however they are counted there.
-use Rattle.heap_core.proofs.Words.{◌≡◌, ◌≢◌, ℕ, ◌+◌, ◌<◌, ◌≤◌, ◌==◌, ◌&&◌, ◌||◌, inl, inr, Bool, true, false, cond, List, [], ◌∷◌, All, None, Some, length, get_or, refl, sym, ◌∙◌, ap, subst, arith, suc, zero, nat_eq, filter, count_by, flat_map, sum_by, lookup, eqb-true, nat_tests, All-head, All-tail, get_or-le-sum_by, sum_by-cons, Region, eqb_itself, ones, is_elsewhere, discarding, holding, is_in, Held, DeskFacts, cached_of, held_at, is_region, both_true}
+use Rattle.heap_core.proofs.Words.{◌≡◌, ◌≢◌, ℕ, ◌+◌, ◌<◌, ◌≤◌, ◌==◌, ◌&&◌, ◌||◌, inl, inr, Bool, true, false, cond, List, [], ◌∷◌, All, None, Some, length, get_or, refl, sym, ◌∙◌, ap, subst, arith, suc, zero, nat_eq, filter, count_by, flat_map, sum_by, lookup, eqb-true, nat_tests, All-head, All-tail, get_or-le-sum_by, sum_by-cons, Region, eqb_itself, ones, is_elsewhere, discarding, holding, is_in_arena, Held, DeskFacts, cached_of, held_at, is_region, both_true}
 use Rattle.call_table.specs.Laws.{Has}
 use Rattle.heap_core.proofs.Entries.{IsKeyed, none_found, of_entry}
 use Rattle.heap_core.proofs.Clients.{at_or_else}
@@ -141,10 +141,10 @@ hands_part n m arena gone desk after single hands parts home here others i a k =
 -- ---- nothing is left in an arena
 
 -- what no region of a list is of, none is at
-none_of_arena : (arena a k : ℕ) (rs : List Held) → count_by (is_in arena) rs ≡ 0 → sum_by (one_in arena a k) rs ≡ 0
+none_of_arena : (arena a k : ℕ) (rs : List Held) → count_by (is_in_arena arena) rs ≡ 0 → sum_by (one_in arena a k) rs ≡ 0
 none_of_arena arena a k [] none = refl
 none_of_arena arena a k (r ∷ rs) none =
-    let count = sum_by-cons (λ (q : Held). ones (is_in arena q)) r rs in
+    let count = sum_by-cons (λ (q : Held). ones (is_in_arena arena q)) r rs in
     let sum = sum_by-cons (one_in arena a k) r rs in grind (arith, none_of_arena arena a k rs)
 
 -- what is held elsewhere stays
@@ -217,21 +217,21 @@ one_out p (y ∷ ys) some =
     ] refl refl
 
 -- no more regions of an arena are listed than there are, where each is
-pub no_more : (arena : ℕ) (xs : List Held) (ys : List Region) → ((a k : ℕ) → sum_by (one_in arena a k) xs ≤ count_by (is_region a k) ys) → count_by (is_in arena) xs ≤ length ys
+pub no_more : (arena : ℕ) (xs : List Held) (ys : List Region) → ((a k : ℕ) → sum_by (one_in arena a k) xs ≤ count_by (is_region a k) ys) → count_by (is_in_arena arena) xs ≤ length ys
 no_more arena [] ys within = omega arith
 no_more arena (r ∷ rs) ys within =
-    elim (is_in arena r) as (λ v. is_in arena r ≡ v → ones (is_in arena r) ≡ ones v → count_by (is_in arena) (r ∷ rs) ≤ length ys) [
+    elim (is_in_arena arena r) as (λ v. is_in_arena arena r ≡ v → ones (is_in_arena arena r) ≡ ones v → count_by (is_in_arena arena) (r ∷ rs) ≤ length ys) [
       | true ↦ λ e o.
           let own : one_in arena r.addr r.class r ≡ 1 = rw (e, eqb_itself r.addr, eqb_itself r.class) refl in
           let out = one_out (is_region r.addr r.class) ys (omega (arith, own, within r.addr r.class, sum_by-cons (one_in arena r.addr r.class) r rs)) in
           let rest = no_more arena rs out.1 (λ a k. omega (arith, alike a k e out.0 out.2, within a k, out.4 (λ q. ones (is_region a k q)), sum_by-cons (one_in arena a k) r rs)) in
-          omega (arith, o, rest, out.3, sum_by-cons (λ (q : Held). ones (is_in arena q)) r rs)
+          omega (arith, o, rest, out.3, sum_by-cons (λ (q : Held). ones (is_in_arena arena q)) r rs)
       | false ↦ λ e o.
           let rest = no_more arena rs ys (λ a k. omega (arith, within a k, sum_by-cons (one_in arena a k) r rs)) in
-          omega (arith, o, rest, sum_by-cons (λ (q : Held). ones (is_in arena q)) r rs)
+          omega (arith, o, rest, sum_by-cons (λ (q : Held). ones (is_in_arena arena q)) r rs)
     ] refl refl
   where
-    alike : (a k : ℕ) → is_in arena r ≡ true → (x : Region) → is_region r.addr r.class x ≡ true → one_in arena a k r ≡ ones (is_region a k x)
+    alike : (a k : ℕ) → is_in_arena arena r ≡ true → (x : Region) → is_region r.addr r.class x ≡ true → one_in arena a k r ≡ ones (is_region a k x)
     alike a k e x is =
         let tests = both_true (x.addr == r.addr) (x.class == r.class) is in
         ap (λ v. ones (v && r.addr == a && r.class == k)) e ∙ sym (ap (λ n. ones (n == a && x.class == k)) (eqb-true x.addr r.addr tests.0) ∙ ap (λ n. ones (r.addr == a && n == k)) (eqb-true x.class r.class tests.1))

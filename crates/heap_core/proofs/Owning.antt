@@ -118,7 +118,7 @@ nothing_found f parts low n (Some k) e none =
 -- what an alloc grants is met by no arena
 alloc_meets : (spaces : List Space) (s : Space) (c : ℕ) (ask : Ask) (answer : Answer) (span : Span) (b : Bool) (page chunk : ℕ) →
     (after_grow s c (met_by_alloc spaces ask answer) ask answer).reply ≡ Grown span b → has_page page span ≡ true → has_page page (chunk_span chunk) ≡ true → list_any (owns_chunk chunk) spaces ≡ false
-alloc_meets spaces s c (Alloc at pages align commit) (Placed first committed zeroed) span b page chunk told in_span in_chunk =
+alloc_meets spaces s c (Alloc commit at pages align) (Placed committed zeroed first) span b page chunk told in_span in_chunk =
     elim (is_in_space range) as (λ v. (grow_unless s c range committed (cond (not v) (Some OffSpace) (cond (not (first % align == 0)) (Some Unaligned)
     (option_map (λ k. Meets (chunk_span k)) (find (is_owned (cond (v && first % align == 0) (met_in spaces range) None) s.parts) (chunks_of range)))))).reply ≡ Grown span b → list_any (owns_chunk chunk) spaces ≡ false) [
       | false ↦ λ h. absurd (cc)

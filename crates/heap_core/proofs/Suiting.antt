@@ -1,5 +1,7 @@
 -- What a client has suits each point to which its call comes.
-use Rattle.heap_core.proofs.Words.{rules, ◌≡◌, ℕ, ◌<◌, ◌≤◌, true, false, List, [], ◌∷◌, None, refl, sym, ◌∙◌, subst, arith, nat_lt, cond_both, ltb-true, nat_tests, discarding, Request, Given, Answered, Change, Stops, Visits, Leaves, TurnPoint, Filling, Looking, Landing, Changing, Making, Resetting, Owning, AskPoint, Skipping, Next, Go, Over, Ends, Reply, Nothing, Noted, Took, Grow, Refuse, Landed, Regions, Owned, Setting, Bind, AskFacts, Held, DeskFacts, desk_turned, landed_behind, held_region, sharing, needed_at, make_next, told, turn_replied, HasSlots, IsPlain, Suits, SuitsChange, SuitsAsk, SuitsTurn}
+use Rattle.heap_core.proofs.Words.{rules, ◌≡◌, ℕ, ◌<◌, ◌≤◌, true, false, List, [], ◌∷◌, None, refl, sym, ◌∙◌, subst, arith, nat_lt, cond_both, ltb-true, nat_tests, discarding, Request, Given, Answered, Change, Stops, Visits, Leaves, TurnPoint, Filling, Looking, Landing, Changing, Making, Resetting, Owning, AskPoint, Skipping, Next, Go, Over, Ends, Reply, Nothing, Noted, Took, Grow, Refuse, Landed, Regions, Owned, Setting, Bind, AskFacts, Held, DeskFacts, desk_turned, landed_behind, held_region, sharing, needed_at, make_next, told, turn_replied, HasSlots, Suits, SuitsChange, SuitsAsk, SuitsTurn}
+use Rattle.call_table.specs.Table.{visited}
+use Rattle.call_table.specs.declared.points.Visit.{Visit}
 use Rattle.heap_core.specs.Words.{Region, Ok}
 use Rattle.heap_core.proofs.Having.{CanKeep, cache_hand}
 
@@ -30,9 +32,8 @@ can_keep desk e = subst (CanKeep desk) (sym e) tt
 module _ (desk : DeskFacts) (request : Request) (arena : ℕ) where
   -- ---- what follows a turn
 
-  plain_suits : (given : Given) → desk.hand ≡ None → IsPlain given → Suited [] desk request arena (Ends (Ok given))
-  plain_suits (Region addr class) empty plain = absurd plain
-  plain_suits given empty plain = (refl, can_keep desk empty)
+  visited_suits : (visit : Visit) → desk.hand ≡ None → Suited [] desk request arena (visited visit)
+  visited_suits visit empty = grind (arith, can_keep)
 
   make_suits : (index : ℕ) (setting : Setting) → desk.hand ≡ None → Suited [] desk request arena (make_next index setting)
   make_suits index setting empty =
@@ -43,7 +44,7 @@ module _ (desk : DeskFacts) (request : Request) (arena : ℕ) where
   pub told_suits : (point : AskPoint) (asked : AskFacts) (reply : Reply) → SuitsAsk desk arena point → Suited [] desk request arena (told point asked reply)
   told_suits (Skipping wish span b skip) asked Nothing suits = refl
   told_suits point asked Nothing suits = refl
-  told_suits point asked reply suits = first_of (search rules, grind (arith, nat_tests, plain_suits))
+  told_suits point asked reply suits = first_of (search rules, grind (arith, nat_tests, visited_suits))
 
 -- ---- where the reply to a turn leads that took no answer in
 
@@ -58,7 +59,7 @@ fewer_slots desk class few many le slots more = let room = slots (omega (arith, 
 change_suits : (desk : DeskFacts) (request : Request) (arena : ℕ) (setting : Setting) (change : Change) → desk.arena < 32 → desk.hand ≡ None → SuitsChange desk arena setting change →
     Suited [] (desk_turned desk arena (Changing setting change) Noted) request arena (turn_replied (Changing setting change) Noted)
 change_suits desk request arena setting Stops low empty suits = (refl, can_keep desk empty)
-change_suits desk request arena setting (Visits visit) low empty suits = (refl, (empty, suits.1))
+change_suits desk request arena setting (Visits visit) low empty suits = (refl, empty)
 change_suits desk request arena Bind (Leaves old) low empty suits =
     (refl, omega (arith, suits.0, low), (empty, λ e. suits.1 (sym e ∙ suits.0)), refl)
 change_suits desk request arena setting (Leaves old) low empty suits = absurd suits
@@ -79,4 +80,4 @@ turned_suits desk request arena (Resetting cached) Noted low suits = (refl, can_
 turned_suits desk request arena (Owning addr true past) reply low suits = grind arith
 turned_suits desk request arena point Refuse low suits = refl
 turned_suits desk request arena point reply low suits =
-    let keep = can_keep desk in let plain = plain_suits desk request arena in first_of (search rules, grind (arith, nat_tests))
+    let keep = can_keep desk in let visits = visited_suits desk request arena in first_of (search rules, grind (arith, nat_tests))

@@ -65,7 +65,7 @@ module _ (s : Space) (c arena : ℕ) (desk : DeskFacts) (request : Request) (was
       ]
   change_binds Bind change suits = inl (refl, λ home. bind_keeps s c (was home))
   change_binds Unbind Stops suits = inl (refl, λ home. absurd (suits (sym home)))
-  change_binds Unbind (Visits visit) suits = inl (refl, λ home. absurd (suits.0 (sym home)))
+  change_binds Unbind (Visits visit) suits = inl (refl, λ home. absurd (suits (sym home)))
   change_binds setting (Leaves old) suits = absurd suits
   change_binds setting change suits = inl (refl, λ home. ap (is_in c) (set_steady s c setting tt).bound ∙ was home)
 

@@ -74,7 +74,7 @@ pub use Rattle.space_model.specs.declared.entries.Op.TheVariants.{Look, Back, Gr
 pub use Rattle.space_model.specs.declared.entries.Why.TheVariants.{OffSpace, Unaligned, Meets}
 pub use Rattle.space_model.specs.declared.parts.Region.{Region, Region as SpaceRegion}
 pub use Rattle.thread_cache.specs.Caches.{is_elsewhere, put_in, gone_from}
-pub use Rattle.thread_cache.specs.Desks.{has_slot, not_holding, discarding, empty_handed, gave, is_in, holding, before_last, held_again, held_again_with, kept, kept_with, added, addrs_in, gave_with, least_arena, lesser, older_count}
+pub use Rattle.thread_cache.specs.Desks.{has_slot, not_holding, discarding, empty_handed, gave, is_in_arena, holding, before_last, held_again, held_again_with, kept, kept_with, added, addrs_in, gave_with, least_arena, lesser, older_count}
 pub use Rattle.heap_core.specs.Arenas.{room_in, IsArenas, opening_records, no_record, record_after, record_at, spaces_of, reply_in, AreRecorded, journal_of, opening_record}
 pub use Rattle.heap_core.specs.Chunks.{with_chunk_found, met_by_alloc, met_by_dalloc, others_of, Apart, met_in, owns_chunk, space_at}
 pub use Rattle.heap_core.specs.Clients.{IsIdle, mine_in, CanTurn, after_turn, AsksLeadOn, OthersStay, TurnsLeadOn, Waits, WaitsNext}
@@ -84,7 +84,7 @@ pub use Rattle.heap_core.specs.Logs.{owed_to}
 pub use Rattle.heap_core.specs.Owing.{asks_at, owing, IsHeap, asks_next}
 pub use Rattle.heap_core.specs.Records.{Record, opening_space, IsReplayed, most_room, entries_of, IsRecorded, shown}
 pub use Rattle.heap_core.specs.Seats.{seat_of, Seat, asked_for, first_seat, free_request, heard_by, held_by, holder_of, seat_at, answer_of, open_call}
-pub use Rattle.heap_core.specs.Sitting.{IsSeated, SeatSound, Comes, HasSlots, StartsSit, Suits, SuitsChange, SuitsTurn, IsTheHand, is_region, AimsSit, HasRegions, HoldersPublish, Sits, SitsAt, SuitsAsk, SuitsGet, SuitsThen, is_region_in, IsAtRest, in_hand, regions_of_desk, OpeningSits, IsPlain, AsksSit, OthersSit, StarvesSit, TurnsSit}
+pub use Rattle.heap_core.specs.Sitting.{IsSeated, SeatSound, Comes, HasSlots, StartsSit, Suits, SuitsChange, SuitsTurn, IsTheHand, is_region, AimsSit, HasRegions, HoldersPublish, Sits, SitsAt, SuitsAsk, SuitsGet, SuitsThen, is_region_in, IsAtRest, in_hand, regions_of_desk, OpeningSits, AsksSit, OthersSit, StarvesSit, TurnsSit}
 pub use Rattle.heap_core.specs.Stepping.{TurnFacts, with_ask, MadeTurn, item_of, HolderIs, IsPublished, StarvesAt, StarvesNext, TakesAt, IsMarked, Needs}
 pub use Rattle.heap_core.specs.Words.{Request, Malloc, Memalign, Free, Flush, Cache, Reset, Destroy, Create, Item, Replied, TurnPoint, Filling, Skipping, Point, Turns, Asks, Tells, Next, Go, Over, More, FreeForeign, Take, PurgeAll, Decay, Time, HookBox, GrowLimit, Finished, TooLarge, BadAlign, NotHeld, NoSuchArena as NoArena, Automatic, Stops, Leaves, Looking, Taking, Advancing, Changing, Making, Resetting, Destroying, Publishing, Owning, Ends, Stage, Wish, Change, Visits, Landing, Giving, AskPoint, Gone, Nowhere, Answered, Told, Starved, NoMemory, Then, Batches, Visiting, Finding, Dooming, Merging, Arena, Limits, Given, Needing}
 pub use Rattle.heap_core.specs.declared.heaps.Did.TheVariants.{Turn as DidTurn, Ask as DidAsk}

@@ -29,7 +29,7 @@ met_in spaces span = find (λ chunk. list_any (owns_chunk chunk) spaces) (chunks
 
 -- the chunk that speaks against the answer to an alloc: none where that was refused, off the space or unaligned
 abbrev pub met_by_alloc : List Space → Ask → Answer → Option ℕ
-met_by_alloc spaces (Alloc at pages align commit) (Placed first committed zeroed) =
+met_by_alloc spaces (Alloc commit at pages align) (Placed committed zeroed first) =
     let s : Span = record { first = first; pages = pages } in
     if is_in_space s && s.first % align == 0 then met_in spaces s else None
 met_by_alloc spaces ask answer = None

@@ -8,7 +8,7 @@ use Rattle.space_model.specs.Step.{stands}
 use Rattle.arena_core.specs.Arenas.{entry_of}
 use Rattle.thread_cache.specs.Desks.{not_holding}
 use Rattle.heap_core.specs.Words.{Request, Item, Replied, Told, Starved, Given, Region}
-use Rattle.heap_core.specs.Words.{Later, Answers, DirtyToo, Then, Batches, Visiting, Change, Stops, Visits, Leaves, TurnPoint, Filling, Looking, Landing, Giving, Finding, Taking, Offering, Changing, Resetting, Destroying, Publishing, Owning, AskPoint, Skipping, Trimming, Growing, Paring, Needing, Granting, Committing, Merging, Easing, Returning, Decommitting, Forcing, Point, Turns, Asks, Tells, Next, Go, More}
+use Rattle.heap_core.specs.Words.{Then, Batches, Visiting, Change, Stops, Visits, Leaves, TurnPoint, Filling, Looking, Landing, Giving, Finding, Taking, Offering, Changing, Resetting, Destroying, Publishing, Owning, AskPoint, Skipping, Trimming, Growing, Paring, Needing, Granting, Committing, Merging, Easing, Returning, Decommitting, Forcing, Point, Turns, Asks, Tells, Next, Go, More}
 use Rattle.call_table.specs.Words.{Op, Setting, Unbind, SetBound as Bind, AskFacts, Held, DeskFacts, batch_of, cached_of, going, held_at, AnswersTo, slots_at, cached_in}
 use Rattle.call_table.specs.Calls.{CallFacts, moment_of}
 use Rattle.call_table.specs.Desks.{flushes}
@@ -72,20 +72,10 @@ pub record SuitsGet (desk : DeskFacts) (arena class count : ℕ) : Type 0 where
   pub own : arena ≡ desk.arena
   pub slots : HasSlots desk class count
 
--- an answer that gives no region
-abbrev pub IsPlain : Given → Type 0
-IsPlain (Region addr class) = ⊥
-IsPlain given = Unit {0}
-
--- a visit ends with an answer that gives no region
-abbrev pub SuitsLater : Later → Type 0
-SuitsLater (Answers given) = IsPlain given
-SuitsLater (DirtyToo keep given) = IsPlain given
-
 -- a region is in hand only while regions go back
 abbrev pub SuitsThen : DeskFacts → Then → Type 0
 SuitsThen desk Batches = Unit {0}
-SuitsThen desk (Visiting visit left) = (desk.hand ≡ None) × SuitsLater visit.later
+SuitsThen desk (Visiting visit left) = desk.hand ≡ None
 
 -- the client doesn't leave the arena from which it allocates
 abbrev pub IsBoundStill : DeskFacts → ℕ → Setting → Type 0
@@ -95,7 +85,7 @@ IsBoundStill desk arena setting = Unit {0}
 -- another arena is bound before the client leaves its own
 abbrev pub SuitsChange : DeskFacts → ℕ → Setting → Change → Type 0
 SuitsChange desk arena setting Stops = IsBoundStill desk arena setting
-SuitsChange desk arena setting (Visits visit) = IsBoundStill desk arena setting × SuitsLater visit.later
+SuitsChange desk arena setting (Visits visit) = IsBoundStill desk arena setting
 SuitsChange desk arena Bind (Leaves old) = (old ≡ desk.arena) × (arena ≢ desk.arena)
 SuitsChange desk arena setting (Leaves old) = ⊥
 
@@ -111,7 +101,6 @@ SuitsTurn desk request arena (Looking wish) = SuitsGet desk arena wish.class wis
 SuitsTurn desk request arena (Landing wish span) = SuitsGet desk arena wish.class wish.count
 SuitsTurn desk request arena (Giving addrs) = batch_of (going (flushes request) desk) ≡ Some (record { arena = arena; addrs = addrs })
 SuitsTurn desk request arena (Finding own tries fresh later) = SuitsThen desk later
-SuitsTurn desk request arena (Taking visit left) = (desk.hand ≡ None) × SuitsLater visit.later
 SuitsTurn desk request arena (Offering span later) = SuitsThen desk later
 SuitsTurn desk request arena (Changing setting change) = (desk.hand ≡ None) × SuitsChange desk arena setting change
 SuitsTurn desk request arena (Resetting cached) = (desk.hand ≡ None) × (cached ≡ cached_of arena desk)

@@ -7,8 +7,6 @@ pub use Rattle.call_table.specs.declared.needs.Given.TheVariants.{Region, Done a
 pub use Rattle.call_table.specs.declared.needs.Answered.{Answered}
 pub use Rattle.call_table.specs.declared.needs.Answered.TheVariants.{Ok, TooLarge, BadAlign, NotHeld, NoArena as NoSuchArena, NoMemory, ArenasFull, Automatic}
 pub use Rattle.call_table.specs.declared.points.Wish.{Wish}
-pub use Rattle.call_table.specs.declared.points.Later.{Later}
-pub use Rattle.call_table.specs.declared.points.Later.TheVariants.{Answers, DirtyToo}
 pub use Rattle.call_table.specs.declared.points.Then.{Then}
 pub use Rattle.call_table.specs.declared.points.Then.TheVariants.{Batches, Visiting}
 pub use Rattle.call_table.specs.declared.points.Change.{Change}
