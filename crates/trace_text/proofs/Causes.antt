@@ -1,8 +1,5 @@
 -- What two parts that were read give together.
-use Rattle.std.proofs.Common.{◌≡◌, ◌⊎◌, inl, inr, refl, Result, Ok, Err}
-use Rattle.trace_text.specs.declared.faults.LineFault.{LineFault}
-use Rattle.trace_text.specs.declared.faults.LineFault.TheVariants.{NoMemory, Bytes, Words, Number, Threads, Range}
-use Rattle.trace_text.specs.Causes.{both, first_cause, GivesCause, Gives}
+use Rattle.trace_text.proofs.Words.{◌≡◌, ◌⊎◌, inl, inr, refl, Result, Ok, Err, LineFault, NoMemory, Bytes, Words, Number, Threads, Range, both, first_cause, GivesCause, Gives}
 
 -- an answered cause is want of memory, or the line's
 cause_cases : {A : Type 0} (e : LineFault) (x : Result A LineFault) → GivesCause e x → (e ≡ NoMemory) ⊎ (x ≡ Err e)

@@ -1,16 +1,5 @@
 -- Words of digits, as std says of them.
-use Rattle.std.proofs.Common.{◌≡◌, ℕ, zero, suc, ◌+◌, ◌*◌, ◌^◌, ◌<◌, ◌≤◌, true, List, [], ◌∷◌, length, get_or, take, Some, None, inl, inr, refl, arith}
-use Rattle.std.specs.Char.{digit_value, is_ascii_digit}
-use Rattle.std.specs.List.{list_all}
-use Rattle.std.specs.Str.Parse.{AllDigits, digits_value}
-use Rattle.std.proofs.Math.Nat.{mul-le-mul_right, pow-le-pow_right}
-use Rattle.std.proofs.lemmas.Bool.{and_parts, cases_lt, le-ltb}
-use Rattle.std.proofs.lemmas.Bool.Decides.{nat_tests}
-use Rattle.std.proofs.lemmas.Grind.{pow_more}
-use Rattle.std.proofs.lemmas.Int.Digits.{digits_value-lt, digits_value_more}
-use Rattle.std.proofs.lemmas.List.{length-take-le}
-use Rattle.std.proofs.lemmas.Str.Parse.{digits_value-take-le}
-use Rattle.trace_text.specs.Numbers.{is_digit_in, value_in}
+use Rattle.trace_text.proofs.Words.{◌≡◌, ℕ, zero, suc, ◌+◌, ◌*◌, ◌^◌, ◌<◌, ◌≤◌, true, List, [], ◌∷◌, length, get_or, take, Some, None, inl, inr, refl, arith, digit_value, is_ascii_digit, list_all, AllDigits, digits_value, mul-le-mul_right, pow-le-pow_right, and_parts, cases_lt, le-ltb, nat_tests, pow_more, digits_value-lt, digits_value_more, length-take-le, digits_value-take-le, is_digit_in, value_in}
 
 -- a digit in a base is below it
 pub digit_in_below : (base c : ℕ) → 10 ≤ base → is_digit_in base c ≡ true → digit_value c < base

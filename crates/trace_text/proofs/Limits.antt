@@ -1,23 +1,6 @@
 -- The limits that a line keeps to.
-use Rattle.std.proofs.Common.{◌≡◌, ℕ, ℤ, pos, negsuc, ◌^◌, ◌<◌, Bool, true, false, ltb, leb, eqb, cond, List, [], ◌∷◌, Result, Ok, Err, refl, arith}
-use Rattle.std.specs.Prelude.{IfOk, codes}
-use Rattle.std.specs.Str.{bytes_eq}
-use Rattle.std.proofs.lemmas.Bool.{ltb-true, ltb-false}
-use Rattle.space_model.specs.declared.parts.Rest.{Rest}
-use Rattle.space_model.specs.Purging.{is_purgeable}
-use Rattle.space_model.specs.Settings.{is_decay_time}
-use Rattle.trace_text.specs.declared.faults.LineFault.{LineFault}
-use Rattle.trace_text.specs.declared.faults.LineFault.TheVariants.{Words, Range}
-use Rattle.trace_text.specs.declared.lines.Verb.{Verb}
-use Rattle.trace_text.specs.declared.lines.Verb.TheVariants.{Free, Publish, Take, Purge, Decay, Reset, Destroy, Create, Bind, Cache, Flush, CtlWrite}
-use Rattle.trace_text.specs.declared.lines.Line.{Line}
+use Rattle.trace_text.proofs.Words.{◌≡◌, ℕ, ℤ, pos, negsuc, ◌^◌, ◌<◌, Bool, true, false, ltb, leb, eqb, cond, List, [], ◌∷◌, Result, Ok, Err, refl, arith, IfOk, codes, bytes_eq, ltb-true, ltb-false, Rest, is_purgeable, is_decay_time, LineFault, Words, Range, Verb, Free, Publish, Take, Purge, Decay, Reset, Destroy, Create, Bind, Cache, Flush, CtlWrite, Line, ◌>>=◌, both, Gives, decimal_of, name_of, control_of, value_of, client_of, box_of, index_of, time_of, nothing_of, in_one, pointer_of, malloc_of, memalign_of, decay_time_of, switch_of, control_call_of, client_verb_of, arena_verb_of, unused_verb_of, verb_of, refusals_of, plan_of, client_line_of, setting_of, begins_client, said_of, IsVerbWithinLimits, IsWithinLimits}
 use Rattle.trace_text.specs.declared.lines.Line.TheVariants.{Call, Start, Step, End, At, Counts, Phase, Join}
-use Rattle.trace_text.specs.Causes.{◌>>=◌, both, Gives}
-use Rattle.trace_text.specs.Numbers.{decimal_of}
-use Rattle.trace_text.specs.Names.{name_of, control_of, value_of}
-use Rattle.trace_text.specs.Ranges.{client_of, box_of, index_of, time_of}
-use Rattle.trace_text.specs.Verbs.{nothing_of, in_one, pointer_of, malloc_of, memalign_of, decay_time_of, switch_of, control_call_of, client_verb_of, arena_verb_of, unused_verb_of, verb_of}
-use Rattle.trace_text.specs.Grammar.{refusals_of, plan_of, client_line_of, setting_of, begins_client, said_of, IsVerbWithinLimits, IsWithinLimits}
 
 abbrev IsAny : {A : Type 0} → A → Type 0
 IsAny x = Unit {0}

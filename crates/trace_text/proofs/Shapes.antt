@@ -1,19 +1,6 @@
 -- How the shapes of a line are told apart.
-use Rattle.std.proofs.Common.{◌≡◌, ℕ, ◌<◌, Bool, true, false, eqb, ltb, cond, List, [], ◌∷◌, length, take, drop, Option, Some, None, Result, Ok, Err, refl, arith}
-use Rattle.std.specs.Prelude.{IfErr}
-use Rattle.std.specs.Option.{ok_or}
-use Rattle.std.proofs.lemmas.Bool.{cond_both}
-use Rattle.std.proofs.Math.Bool.{and-true}
-use Rattle.std.specs.Cmp.Lexicographic.{pointwise}
+use Rattle.trace_text.proofs.Words.{◌≡◌, ℕ, ◌<◌, Bool, true, false, eqb, ltb, cond, List, [], ◌∷◌, length, take, drop, Option, Some, None, Result, Ok, Err, refl, arith, IfErr, ok_or, cond_both, and-true, pointwise, LineFault, Words, Number, ◌>>=◌, both, first_cause, is_decimal, has_leading_zero, value_in, number_in, decimal_of, address_of, name_of, client_of, nothing_of, pointer_of, malloc_of, memalign_of, decay_time_of, control_call_of, client_verb_of, arena_verb_of, unused_verb_of, verb_of, plan_of, client_line_of, setting_of, said_of}
 use Rattle.trace_text.specs.declared.lines.Ptr.TheVariants.{Name, At}
-use Rattle.trace_text.specs.declared.faults.LineFault.{LineFault}
-use Rattle.trace_text.specs.declared.faults.LineFault.TheVariants.{Words, Number}
-use Rattle.trace_text.specs.Causes.{◌>>=◌, both, first_cause}
-use Rattle.trace_text.specs.Numbers.{is_decimal, has_leading_zero, value_in, number_in, decimal_of, address_of}
-use Rattle.trace_text.specs.Names.{name_of}
-use Rattle.trace_text.specs.Ranges.{client_of}
-use Rattle.trace_text.specs.Verbs.{nothing_of, pointer_of, malloc_of, memalign_of, decay_time_of, control_call_of, client_verb_of, arena_verb_of, unused_verb_of, verb_of}
-use Rattle.trace_text.specs.Grammar.{plan_of, client_line_of, setting_of, said_of}
 
 -- a word that doesn't begin with `@` is a name
 pub named : (word : List ℕ) → pointwise eqb (take 1 word) (64 ∷ []) ≡ false → pointer_of word ≡ (name_of word >>= λ n. Ok (Name n))

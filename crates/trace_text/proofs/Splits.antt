@@ -1,12 +1,5 @@
 -- How a line is cut into its words.
-use Rattle.std.proofs.Common.{◌≡◌, ◌∙◌, ap, sym, ℕ, ◌+◌, ◌<◌, ◌≤◌, true, false, eqb, List, [], ◌∷◌, ◌++◌, length, get_or, drop, map, arith, append_assoc, length-append, length-drop}
-use Rattle.std.specs.List.{All, slice_range}
-use Rattle.std.proofs.lemmas.Bool.Decides.{nat_tests}
-use Rattle.std.proofs.lemmas.Grind.{common_steps}
-use Rattle.std.proofs.lemmas.List.{drop_more, length-map, map-append, take_all}
-use Rattle.std.proofs.lemmas.List.Folds.{drop_split}
-use Rattle.std.proofs.lemmas.List.Splits.{length-slice_split, slice_split_at, slice_split_none}
-use Rattle.trace_text.specs.Grammar.{words_of}
+use Rattle.trace_text.proofs.Words.{◌≡◌, ◌∙◌, ap, sym, ℕ, ◌+◌, ◌<◌, ◌≤◌, true, false, eqb, List, [], ◌∷◌, ◌++◌, length, get_or, drop, map, arith, append_assoc, length-append, length-drop, All, slice_range, nat_tests, common_steps, drop_more, length-map, map-append, take_all, drop_split, length-slice_split, slice_split_at, slice_split_none, words_of}
 
 -- no space stands from one place up to another
 pub record NoSpace (line : List ℕ) (start end : ℕ) : Type 0 where

@@ -1,6 +1,6 @@
 //! Reading a line.
 
-ghost use Rattle.std.specs.Prelude.{◌≡◌, ◌<◌, map, length, None, IfOk, IfSome};
+ghost use Rattle.std.specs.Prelude.{◌≡◌, ◌<◌, [], map, length, false, true, IfOk};
 ghost use Rattle.std.specs.List.{list_all};
 ghost use Rattle.trace_text.specs.Causes.{Gives};
 ghost use Rattle.trace_text.specs.Numbers.{decimal_of};
@@ -36,9 +36,10 @@ pub fn read(alloc: Global, line: &[u8]) -> Result<Line, LineFault>
     if is_blank(line) {
         return Ok(Line::Blank);
     }
-    let Some(words) = words(line) else {
+    let mut words = ArrayVec::new();
+    if !split(line, &mut words) {
         return Err(LineFault::Words);
-    };
+    }
     said(alloc, words.as_slice())
 }
 
@@ -65,24 +66,24 @@ fn is_blank(line: &[u8]) -> bool
     matches!(line, [] | [b'#', ..])
 }
 
-/// The words of a line, unless they are too many for any shape.
-fn words(line: &[u8]) -> Option<ArrayVec<&[u8], MOST_WORDS>>
-    ensures few { IfSome result (λ v. map (λ w. w.now) v.items ≡ words_of line.now) }
-    ensures many { result ≡ None → 6 < length (words_of line.now) }
+/// Puts the words of a line into an empty list. Gives false where they are too many for any shape.
+fn split<'a>(line: &'a [u8], words: &mut ArrayVec<&'a [u8], MOST_WORDS>) -> bool
+    requires empty { words.old.items ≡ [] }
+    ensures few { result ≡ true → map (λ w. w.now) words.new.items ≡ words_of line.now }
+    ensures many { result ≡ false → 6 < length (words_of line.now) }
 {
-    let mut words = ArrayVec::new();
     let mut start = 0;
     for at in 0..line.len() {
         if line[at] == b' ' {
             words.push(&line[start..at]);
             if words.is_full() {
-                return None;
+                return false;
             }
             start = at + 1;
         }
     }
     words.push(&line[start..]);
-    Some(words)
+    true
 }
 
 #[tactic(auto, unfolding(crate::specs::Grammar::said_of))]

@@ -1,6 +1,4 @@
-use Rattle.std.proofs.Common.{◌∙◌, sym, arith}
-use Rattle.std.proofs.lemmas.Int.Digits.{digits_value_more}
-use Rattle.std.proofs.lemmas.List.{take_all}
+use Rattle.trace_text.proofs.Words.{◌∙◌, sym, arith, digits_value_more, take_all}
 use Rattle.trace_text.proofs.Digits.{digit_below, front_too_large, all_fit}
 use Rattle.trace_text.proofs.parts.long_value.Goals as goal
 

@@ -1,5 +1,4 @@
-use Rattle.std.proofs.Common.{◌≡◌, ◌<◌, ◌^◌, take}
-use Rattle.std.specs.Str.Parse.{digits_value}
+use Rattle.trace_text.proofs.Words.{◌≡◌, ◌<◌, ◌^◌, take, digits_value}
 use Rattle.trace_text.proofs.parts.long_value.Given as goal
 
 abbrev pub invariant-loop-digit : goal.invariant-loop-digit

@@ -1,6 +1,4 @@
-use Rattle.std.proofs.Common.{◌∙◌, get_or, true, sym, arith}
-use Rattle.std.proofs.lemmas.Int.Digits.{digits_value_more}
-use Rattle.std.proofs.lemmas.List.Folds.{list_all_more}
+use Rattle.trace_text.proofs.Words.{◌∙◌, get_or, true, sym, arith, digits_value_more, list_all_more}
 use Rattle.trace_text.proofs.Digits.{digit_in_below, room_behind}
 use Rattle.trace_text.proofs.parts.short_value.Goals as goal
 

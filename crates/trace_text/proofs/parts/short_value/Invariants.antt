@@ -1,7 +1,4 @@
-use Rattle.std.proofs.Common.{◌≡◌, true, take}
-use Rattle.std.specs.List.{list_all}
-use Rattle.std.specs.Str.Parse.{digits_value}
-use Rattle.trace_text.specs.Numbers.{is_digit_in}
+use Rattle.trace_text.proofs.Words.{◌≡◌, true, take, list_all, digits_value, is_digit_in}
 use Rattle.trace_text.proofs.parts.short_value.Given as goal
 
 abbrev pub invariant-loop-byte : goal.invariant-loop-byte

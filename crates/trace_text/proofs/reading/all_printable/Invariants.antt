@@ -1,6 +1,4 @@
-use Rattle.std.proofs.Common.{◌≡◌, take}
-use Rattle.std.specs.List.{list_all}
-use Rattle.trace_text.specs.Grammar.{is_printable}
+use Rattle.trace_text.proofs.Words.{◌≡◌, take, list_all, is_printable}
 use Rattle.trace_text.proofs.reading.all_printable.Given as goal
 
 abbrev pub invariant-loop-byte : goal.invariant-loop-byte

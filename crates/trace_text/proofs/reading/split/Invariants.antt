@@ -1,7 +1,6 @@
-use Rattle.std.proofs.Common.{◌≡◌, ◌≤◌, ◌<◌, ◌++◌, map, drop, length}
-use Rattle.trace_text.specs.Grammar.{words_of}
+use Rattle.trace_text.proofs.Words.{◌≡◌, ◌≤◌, ◌<◌, ◌++◌, map, drop, length, words_of}
 use Rattle.trace_text.proofs.Splits.{NoSpace}
-use Rattle.trace_text.proofs.reading.words.Given as goal
+use Rattle.trace_text.proofs.reading.split.Given as goal
 
 abbrev pub invariant-loop-at : goal.invariant-loop-at
 invariant-loop-at l = record {

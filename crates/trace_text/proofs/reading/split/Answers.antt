@@ -1,8 +1,7 @@
-use Rattle.std.proofs.Common.{◌≡◌, ◌∙◌, ◌+◌, ◌<◌, [], length, drop, sym, arith, append-nil, eq-eqb}
-use Rattle.std.proofs.lemmas.Bool.Decides.{nat_tests}
+use Rattle.trace_text.proofs.Words.{◌≡◌, ◌∙◌, ◌+◌, ◌<◌, [], length, drop, sym, arith, append-nil, eq-eqb, nat_tests}
 use Rattle.trace_text.proofs.Splits.{no_space_here, no_space_more, words_cut, words_end, words_many, words_more}
-use Rattle.trace_text.proofs.reading.words.Goals.{then-line-at-eq32+else-is_full, else-line-at-eq32}
-use Rattle.trace_text.proofs.reading.words.Goals as goal
+use Rattle.trace_text.proofs.reading.split.Goals.{then-line-at-eq32+else-is_full, else-line-at-eq32}
+use Rattle.trace_text.proofs.reading.split.Goals as goal
 
 pub loop-at-preserved : goal.loop-at-preserved
 loop-at-preserved c =
@@ -25,13 +24,13 @@ loop-at-preserved c =
     ]
 
 pub returns-then-is_full-clause-many : goal.returns-then-is_full-clause-many
-returns-then-is_full-clause-many c none =
+returns-then-is_full-clause-many c told =
     let six : length c.push.new.self.items ≡ 6 = grind (arith, nat_tests, c.if-is_full.ensures.value) in
     words_many _ c.args.line.now (drop (c.loop-at.at + 1) c.args.line.now) c.push.new.self.items six
     (words_more _ c.args.line.now c.loop-at.words.items _ c.push.new.self.items _ c.loop-at.start c.push.ensures.items c.loop-at.invariant.so_far
     (words_cut c.args.line.now c.loop-at.start c.loop-at.at c.loop-at.invariant.front (omega arith) c.loop-at.invariant.plain (eq-eqb _ _ c.if-line-at-eq32.true)))
 
 pub returns-clause-few : goal.returns-clause-few
-returns-clause-few c =
+returns-clause-few c told =
     sym (words_more _ c.args.line.now c.loop-at.words.items _ c.push-2.new.self.items [] c.loop-at.start c.push-2.ensures.items c.loop-at.invariant.so_far
     (words_end c.args.line.now c.loop-at.start c.loop-at.at (omega arith) c.loop-at.invariant.plain) ∙ append-nil _)
