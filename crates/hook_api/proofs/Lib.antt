@@ -1,6 +1,7 @@
 pub mod Words
 pub mod Boxes
 pub mod Chains
+pub mod Filling
 pub mod Pairing
 pub mod PlanSteps
 pub mod SeatSums

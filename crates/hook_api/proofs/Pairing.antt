@@ -1,6 +1,12 @@
 -- Entries beside their asks, when one more comes.
-use Rattle.hook_api.proofs.Words.{◌≡◌, ℕ, suc, ◌+◌, ◌<◌, cond, subst, Bool, true, false, List, [], ◌∷◌, ◌++◌, length, count_by, Option, None, Some, IfSome, IsSomeAnd, is_some, refl, sym, ap, ◌∙◌, arith, length-append, sum_by-append, sum_by-cons, Heard, Op, AskFacts, heard_in, IsKept, heard_of, IsDeedOf, carried, op_of, IsPaired, asks_after, kept_of, paired, Deed, Slot}
+use Rattle.hook_api.proofs.Words.{◌≡◌, ℕ, suc, ◌+◌, ◌<◌, cond, subst, Bool, true, false, List, [], ◌∷◌, ◌++◌, length, count_by, Option, None, Some, IfSome, IsSomeAnd, is_none, is_some, refl, sym, ap, ◌∙◌, arith, length-append, sum_by-append, sum_by-cons, Heard, Op, AskFacts, heard_in, IsKept, heard_of, IsDeedOf, carried, carries, op_of, IsPaired, asks_after, kept_of, paired, FillsIn, filled_in, Deed, Slot}
+use Rattle.hook_api.proofs.Filling.{filled_length}
 use Rattle.hook_api.specs.Kepts.{asks_in}
+use Rattle.hook_api.specs.NarrowDeeds.{deed_by, says_elsewhere}
+use Rattle.hook_api.specs.NarrowSlots.{slot_told}
+use Rattle.hook_api.specs.declared.slots.NarrowSlot.TheInside.{Inside}
+use Rattle.std.proofs.Props.{props}
+use mathlib.Core.HLevel.{is_prop→PathP}
 
 -- an entry that carries an ask carries what its ask heard
 heard_carried : (h : Option Heard) (asked : Option AskFacts) → IfSome h (λ heard. IsSomeAnd asked (λ made. heard_in made ≡ heard)) → IfSome h (λ heard. heard ≡ carried asked)
@@ -86,3 +92,24 @@ fits_push slots slot asks asked fits e =
     let last = one_fits slot asked e in
     let long = length-append asks (asks_in asked) in
     omega (arith, fits, whole, last, long)
+
+-- there are as many entries as narrow ones
+pub kept_length : (few : List (Option Slot)) (whole : List Slot) (asks : List AskFacts) → FillsIn few whole → length (paired (filled_in few whole) asks) ≡ length few
+kept_length few whole asks fits = paired_length (filled_in few whole) asks ∙ filled_length few whole fits
+
+-- two entries are the same where their fields are
+pub same_slot : (s t : Slot) → s.deed ≡ t.deed → s.client ≡ t.client → s.asks ≡ t.asks → s ≡ t
+same_slot s t deeds clients asks = λ i. record {
+  deed = deeds i;
+  client = clients i;
+  asks = asks i;
+  carried = is_prop→PathP (λ j. carries (deeds j) ≡ true → asks j ≡ true) (λ j. hlevel props) s.carried t.carried i;
+}
+
+-- what few bytes tell, if they tell anything, is the entry with their fields
+pub told_slot : (n : Inside) (s : Slot) → is_none (slot_told n) ≡ false → deed_by n.shape n.mark n.a n.b n.c ≡ s.deed → n.client ≡ s.client → n.asks ≡ s.asks → slot_told n ≡ Some s
+told_slot n s some deeds clients asks = by (says_elsewhere n.shape) refl
+  where
+    by : (b : Bool) → says_elsewhere n.shape ≡ b → slot_told n ≡ Some s
+    by true e = let none = rw e at some in absurd (cc none)
+    by false e = rw e (ap Some (same_slot _ s deeds clients asks))

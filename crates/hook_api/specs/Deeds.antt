@@ -5,11 +5,10 @@ use Rattle.space_model.specs.declared.asks.Answer.TheVariants.{Done}
 use Rattle.space_model.specs.declared.asks.Heard.{Heard}
 use Rattle.space_model.specs.declared.entries.Op.{Op}
 use Rattle.space_model.specs.declared.entries.Op.TheVariants.{Look, CutDone, GrowDone, CommitDone, Land, Back, PutLook, MergeDone, Fill, Advance, PurgeTake, LazyDone, Offer, OfferDone, DecommitDone, ForcedDone, Publish, TakeOver, Reset, Destroy, DestroyTake, Counts, Set, Widen, JoinDone, Trim, TrimDone}
-use Rattle.space_model.specs.declared.entries.Setting.TheVariants.{DirtyMs, MuzzyMs, HookBox, Bind, Unbind, GrowLimit, Live}
 use Rattle.hook_api.specs.Asked.{AskFacts, heard_in}
 use Rattle.hook_api.specs.Kept.{heard_of}
 use Rattle.hook_api.specs.declared.deeds.Deed.{Deed}
-use Rattle.hook_api.specs.declared.deeds.Deed.TheVariants.{Looked, Cut, Grew, Committed, Landed, GaveOne, Gave, Sought, Merged, Filled, Advanced, Took, PurgedLazily, Offered, Returned, Decommitted, PurgedForcibly, Published, TookOver, Emptied, Ended, Doomed, Counted, SetDirty, SetMuzzy, SetBox, Bound, Unbound, SetLimit, Created, Widened, Joined, Trimmed, Shrunk}
+use Rattle.hook_api.specs.declared.deeds.Deed.TheVariants.{Looked, Cut, Grew, Committed, Landed, GaveOne, Gave, Sought, Merged, Filled, Advanced, Took, PurgedLazily, Offered, Returned, Decommitted, PurgedForcibly, Published, TookOver, Emptied, Ended, Doomed, Counted, Changed, Widened, Joined, Trimmed, Shrunk}
 
 -- what a journal's ask heard; where there is none it doesn't matter
 abbrev pub carried : Option AskFacts → Heard
@@ -22,14 +21,14 @@ op_of (Looked pages align) heard = Look pages align
 op_of (Cut keep_low) heard = CutDone heard keep_low
 op_of (Grew found) heard = GrowDone heard found
 op_of Committed heard = CommitDone heard
-op_of (Landed span count class) heard = Land span class count
+op_of (Landed class count span) heard = Land span class count
 op_of (GaveOne addr) heard = Back (addr ∷ [])
 op_of (Gave addrs) heard = Back addrs.items
-op_of (Sought span tries) heard = PutLook span tries
+op_of (Sought tries span) heard = PutLook span tries
 op_of (Merged own_low) heard = MergeDone heard own_low
-op_of (Filled count class) heard = Fill class count
+op_of (Filled class count) heard = Fill class count
 op_of (Advanced now) heard = Advance now
-op_of (Took keep rest) heard = PurgeTake rest keep
+op_of (Took rest keep) heard = PurgeTake rest keep
 op_of PurgedLazily heard = LazyDone heard
 op_of (Offered span) heard = Offer span
 op_of (Returned found) heard = OfferDone heard found
@@ -41,16 +40,10 @@ op_of (Emptied cached) heard = Reset cached
 op_of (Ended cached) heard = Destroy cached
 op_of Doomed heard = DestroyTake
 op_of Counted heard = Counts
-op_of (SetDirty ms now) heard = Set (DirtyMs ms now)
-op_of (SetMuzzy ms now) heard = Set (MuzzyMs ms now)
-op_of (SetBox box_no) heard = Set (HookBox box_no)
-op_of Bound heard = Set Bind
-op_of Unbound heard = Set Unbind
-op_of (SetLimit chunks) heard = Set (GrowLimit chunks)
-op_of (Created dirty_ms muzzy_ms now box_no) heard = Set (Live box_no dirty_ms muzzy_ms now)
+op_of (Changed setting) heard = Set setting
 op_of (Widened addr pages) heard = Widen addr pages
 op_of (Joined class) heard = JoinDone heard class
-op_of (Trimmed addr class) heard = Trim addr class
+op_of (Trimmed class addr) heard = Trim addr class
 op_of (Shrunk class) heard = TrimDone heard class
 
 -- whether what an entry did takes the answer to an ask in
@@ -66,17 +59,6 @@ carries PurgedForcibly = true
 carries (Joined class) = true
 carries (Shrunk class) = true
 carries deed = false
-
--- whether a setting was changed
-abbrev pub sets : Deed → Bool
-sets (SetDirty ms now) = true
-sets (SetMuzzy ms now) = true
-sets (SetBox box_no) = true
-sets Bound = true
-sets Unbound = true
-sets (SetLimit chunks) = true
-sets (Created dirty_ms muzzy_ms now box_no) = true
-sets deed = false
 
 -- whether an operation gives regions back
 abbrev pub gives_back : Op → Bool

@@ -3,6 +3,7 @@ use Rattle.std.specs.Prelude.{◌≡◌, ℕ, ◌-◌, List, [], ◌∷◌, Opti
 use Rattle.hook_api.specs.Asked.{AskFacts}
 use Rattle.hook_api.specs.Kept.{KeptFacts}
 use Rattle.hook_api.specs.Deeds.{carried, op_of}
+use Rattle.hook_api.specs.Filling.{FillsIn, filled_in}
 use Rattle.hook_api.specs.declared.slots.Slot.{Slot}
 use Rattle.hook_api.specs.declared.kepts.Writing.TheInside.{Inside}
 
@@ -37,13 +38,17 @@ pub record Written : Type 0 where
   pub kept : List KeptFacts
   pub spare : ℕ
 
--- the entries with their asks, and the places in both lists
+-- the entries with their asks, and the places in each of the lists
 abbrev pub written_pairs : Inside → Written
 written_pairs w = record {
-  kept = paired w.slots.items w.asks.items;
-  spare = min (vec_capacity w.slots - vec_len w.slots) (vec_capacity w.asks - vec_len w.asks);
+  kept = paired (filled_in w.few.items w.whole.items) w.asks.items;
+  spare = min (min (vec_capacity w.few - vec_len w.few) (vec_capacity w.whole - vec_len w.whole)) w.asks.spare;
 }
 
--- there are just as many asks as entries that have one
+-- there are just as many whole entries as marks, and just as many asks as entries that have one
+abbrev pub AreKept : List (Option Slot) → List Slot → List AskFacts → Type 0
+AreKept few whole asks = FillsIn few whole × IsPaired (filled_in few whole) asks
+
+-- the lists belong together
 abbrev pub IsWriting : Inside → Type 0
-IsWriting w = IsPaired w.slots.items w.asks.items
+IsWriting w = AreKept w.few.items w.whole.items w.asks.items

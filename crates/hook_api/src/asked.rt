@@ -4,7 +4,7 @@ ghost use Rattle.std.specs.Prelude.{◌≡◌};
 ghost use Rattle.hook_api.specs.Asked.{by_box, heard_in, RefusalCounts};
 
 use crate::briefs::{AnswerShape, AskShape, BriefAnswer, BriefAsk};
-use space_model::{Answer, Ask, Heard, Seq};
+use space_model::{Answer, Ask, Heard};
 use std::marker::Model;
 
 /// An ask that was made, with its answer. Only a shelf makes one. `Refused` means that the count of refusals of its box
@@ -12,19 +12,19 @@ use std::marker::Model;
 /// a journal has many of them: contracts see them whole.
 #[derive(Clone, Copy)]
 pub struct Asked {
-    box_no: u32,
-    planned: bool,
-    ask_shape: AskShape,
-    flag: bool,
-    answer_shape: AnswerShape,
-    a: u64,
-    b: u64,
-    c: u64,
-    d: u64,
-    first: u64,
-    place: u64,
-    before: u64,
-    after: u64,
+    pub(crate) box_no: u32,
+    pub(crate) planned: bool,
+    pub(crate) ask_shape: AskShape,
+    pub(crate) flag: bool,
+    pub(crate) answer_shape: AnswerShape,
+    pub(crate) a: u64,
+    pub(crate) b: u64,
+    pub(crate) c: u64,
+    pub(crate) d: u64,
+    pub(crate) first: u64,
+    pub(crate) place: u64,
+    pub(crate) before: u64,
+    pub(crate) after: u64,
 }
 
 impl Model for Asked {
@@ -162,6 +162,3 @@ impl Asked {
         }
     }
 }
-
-/// Asks, in the order in which they were made.
-pub type Askeds = Seq<Asked>;

@@ -4,7 +4,7 @@ ghost use Rattle.std.specs.Prelude.{◌≡◌, false, true, cond, None, Some, is
 ghost use Rattle.space_model.specs.declared.entries.Op.{Op};
 ghost use Rattle.space_model.specs.declared.asks.Heard.{Heard};
 ghost use Rattle.hook_api.specs.Kept.{heard_of};
-ghost use Rattle.hook_api.specs.Deeds.{IsDeedOf, carried, carries, gives_back, op_of, sets};
+ghost use Rattle.hook_api.specs.Deeds.{IsDeedOf, carried, carries, gives_back, op_of};
 
 use crate::Asked;
 use size_classes::Addrs;
@@ -24,14 +24,14 @@ pub enum Deed {
     Cut(bool),
     Grew(Option<u64>),
     Committed,
-    Landed(Span, u32, u8),
+    Landed(u8, u32, Span),
     GaveOne(u64),
     Gave(Vec<u64>),
-    Sought(Span, u8),
+    Sought(u8, Span),
     Merged(bool),
-    Filled(u32, u8),
+    Filled(u8, u32),
     Advanced(u64),
-    Took(u64, Rest),
+    Took(Rest, u64),
     PurgedLazily,
     Offered(Span),
     Returned(Option<u64>),
@@ -43,16 +43,10 @@ pub enum Deed {
     Ended(u64),
     Doomed,
     Counted,
-    SetDirty(i64, u64),
-    SetMuzzy(i64, u64),
-    SetBox(u32),
-    Bound,
-    Unbound,
-    SetLimit(u64),
-    Created(i64, i64, u64, u32),
+    Changed(Setting),
     Widened(u64, u64),
     Joined(u8),
-    Trimmed(u64, u8),
+    Trimmed(u8, u64),
     Shrunk(u8),
 }
 
@@ -68,13 +62,13 @@ impl Deed {
             Op::CutDone { keep_low, .. } => Deed::Cut(*keep_low),
             Op::GrowDone { found, .. } => Deed::Grew(*found),
             Op::CommitDone { .. } => Deed::Committed,
-            Op::Land { span, class, count } => Deed::Landed(*span, *count, *class),
+            Op::Land { span, class, count } => Deed::Landed(*class, *count, *span),
             Op::Back { addrs } => Deed::gave(addrs.as_slice(), alloc)?,
-            Op::PutLook { span, tries } => Deed::Sought(*span, *tries),
+            Op::PutLook { span, tries } => Deed::Sought(*tries, *span),
             Op::MergeDone { own_low, .. } => Deed::Merged(*own_low),
-            Op::Fill { class, count } => Deed::Filled(*count, *class),
+            Op::Fill { class, count } => Deed::Filled(*class, *count),
             Op::Advance { now } => Deed::Advanced(*now),
-            Op::PurgeTake { rest, keep } => Deed::Took(*keep, *rest),
+            Op::PurgeTake { rest, keep } => Deed::Took(*rest, *keep),
             Op::LazyDone { .. } => Deed::PurgedLazily,
             Op::Offer { span } => Deed::Offered(*span),
             Op::OfferDone { found, .. } => Deed::Returned(*found),
@@ -86,10 +80,10 @@ impl Deed {
             Op::Destroy { cached } => Deed::Ended(*cached),
             Op::DestroyTake => Deed::Doomed,
             Op::Counts => Deed::Counted,
-            Op::Set(setting) => Deed::set(*setting),
+            Op::Set(setting) => Deed::Changed(*setting),
             Op::Widen { addr, pages } => Deed::Widened(*addr, *pages),
             Op::JoinDone { class, .. } => Deed::Joined(*class),
-            Op::Trim { addr, class } => Deed::Trimmed(*addr, *class),
+            Op::Trim { addr, class } => Deed::Trimmed(*class, *addr),
             Op::TrimDone { class, .. } => Deed::Shrunk(*class),
         })
     }
@@ -106,27 +100,6 @@ impl Deed {
                 list.extend_from_slice(addrs)?;
                 Ok(Deed::Gave(list))
             }
-        }
-    }
-
-    /// The change of a setting.
-    fn set(setting: Setting) -> Deed
-        ensures deed { IsDeedOf (Op.Set setting) result }
-        ensures carries { carries result ≡ false }
-    {
-        match setting {
-            Setting::DirtyMs { ms, now } => Deed::SetDirty(ms, now),
-            Setting::MuzzyMs { ms, now } => Deed::SetMuzzy(ms, now),
-            Setting::HookBox(box_no) => Deed::SetBox(box_no),
-            Setting::Bind => Deed::Bound,
-            Setting::Unbind => Deed::Unbound,
-            Setting::GrowLimit { chunks } => Deed::SetLimit(chunks),
-            Setting::Live {
-                box_no,
-                dirty_ms,
-                muzzy_ms,
-                now,
-            } => Deed::Created(dirty_ms, muzzy_ms, now, box_no),
         }
     }
 
@@ -150,14 +123,14 @@ impl Deed {
                 found: *found,
             },
             Deed::Committed => Op::CommitDone { heard },
-            Deed::Landed(span, count, class) => Op::Land {
+            Deed::Landed(class, count, span) => Op::Land {
                 span: *span,
                 class: *class,
                 count: *count,
             },
             Deed::GaveOne(addr) => back(&[*addr], alloc)?,
             Deed::Gave(addrs) => back(addrs.as_slice(), alloc)?,
-            Deed::Sought(span, tries) => Op::PutLook {
+            Deed::Sought(tries, span) => Op::PutLook {
                 span: *span,
                 tries: *tries,
             },
@@ -165,12 +138,12 @@ impl Deed {
                 heard,
                 own_low: *own_low,
             },
-            Deed::Filled(count, class) => Op::Fill {
+            Deed::Filled(class, count) => Op::Fill {
                 class: *class,
                 count: *count,
             },
             Deed::Advanced(now) => Op::Advance { now: *now },
-            Deed::Took(keep, rest) => Op::PurgeTake {
+            Deed::Took(rest, keep) => Op::PurgeTake {
                 rest: *rest,
                 keep: *keep,
             },
@@ -196,7 +169,7 @@ impl Deed {
                 heard,
                 class: *class,
             },
-            Deed::Trimmed(addr, class) => Op::Trim {
+            Deed::Trimmed(class, addr) => Op::Trim {
                 addr: *addr,
                 class: *class,
             },
@@ -204,30 +177,8 @@ impl Deed {
                 heard,
                 class: *class,
             },
-            _ => Op::Set(self.setting()),
+            Deed::Changed(setting) => Op::Set(*setting),
         })
-    }
-
-    /// The setting that was changed.
-    fn setting(&self) -> Setting
-        requires { sets self.now ≡ true }
-        ensures { (heard : Heard) → op_of self.now heard ≡ Op.Set result }
-    {
-        match self {
-            Deed::SetDirty(ms, now) => Setting::DirtyMs { ms: *ms, now: *now },
-            Deed::SetMuzzy(ms, now) => Setting::MuzzyMs { ms: *ms, now: *now },
-            Deed::SetBox(box_no) => Setting::HookBox(*box_no),
-            Deed::Bound => Setting::Bind,
-            Deed::Unbound => Setting::Unbind,
-            Deed::SetLimit(chunks) => Setting::GrowLimit { chunks: *chunks },
-            Deed::Created(dirty_ms, muzzy_ms, now, box_no) => Setting::Live {
-                box_no: *box_no,
-                dirty_ms: *dirty_ms,
-                muzzy_ms: *muzzy_ms,
-                now: *now,
-            },
-            _ => unreachable!(),
-        }
     }
 }
 

@@ -1,97 +1,158 @@
 //! The entries of a journal with their asks, kept in few bytes.
 
-ghost use Rattle.std.specs.Prelude.{◌≡◌, ◌+◌, ◌<◌, ◌≤◌, ◌^◌, [], ◌∷◌, ◌++◌, true, is_some, length, vec_capacity, vec_len, IfOk, OnOk};
-ghost use Rattle.hook_api.specs.Kepts.{IsPaired, ask_of, asks_after, asks_in, kept_of, paired};
+ghost use Rattle.std.specs.Prelude.{◌≡◌, ◌+◌, ◌<◌, ◌≤◌, ◌^◌, None, [], ◌∷◌, ◌++◌, true, is_some, length, vec_capacity, vec_len, IfOk, IfSome, OnOk};
+ghost use Rattle.hook_api.specs.Kepts.{ask_of, asks_after, kept_of};
+ghost use Rattle.hook_api.specs.Filling.{FillsIn, filled_in};
 
-use crate::{Asked, Kept, Slot};
+use crate::ask_list::{AskReader, push_whole};
+use crate::slots::NarrowSlot;
+use crate::{AskList, Asked, Kept, Slot};
 use space_model::Seq;
 use std::alloc::{AllocError as NoMemory, Global};
 use std::marker::Model;
 
-/// Entries of a journal with their asks, in order.
+/// Entries of a journal with their asks, in order: a narrow one for each, and the whole ones for which one only stands.
 #[derive(Drop)]
 pub struct Kepts {
-    slots: Vec<Slot>,
-    asks: Vec<Asked>,
+    few: Vec<NarrowSlot>,
+    whole: Vec<Slot>,
+    asks: AskList,
 }
 
 impl Model for Kepts {
     ghost use Rattle.std.specs.Prelude.{List};
     ghost use Rattle.hook_api.specs.Kept.{KeptFacts};
-    ghost use Rattle.hook_api.specs.Kepts.{IsPaired, paired};
+    ghost use Rattle.hook_api.specs.Kepts.{AreKept, paired};
+    ghost use Rattle.hook_api.specs.Filling.{filled_in};
 
     ghost Value = { List KeptFacts };
 
-    ghost view = { λ k. paired k.slots.items k.asks.items };
+    ghost view = { λ k. paired (filled_in k.few.items k.whole.items) k.asks.items };
 
-    ghost invariant = { λ k. IsPaired k.slots.items k.asks.items };
+    ghost invariant = { λ k. AreKept k.few.items k.whole.items k.asks.items };
 }
 
 impl Kepts {
     /// How many entries there are.
-    #[tactic(auto, using(crate::proofs::Pairing::paired_length))]
+    #[tactic(auto, using(crate::proofs::Pairing::kept_length))]
     pub fn len(&self) -> usize
         ensures { result ≡ length self.now }
     {
-        self.slots.len()
+        self.few.len()
     }
 
     /// The entries beside their asks, as a list.
     pub fn to_list(&self, alloc: Global) -> Result<Seq<Kept>, NoMemory>
         ensures { IfOk result (λ list. list ≡ self.now) }
     {
-        Ok(Seq::from_vec(list_of(&self.slots, &self.asks, alloc)?))
+        let mut list = Vec::with_capacity(alloc, self.len())?;
+        let mut left = self.reader();
+        while let Some(kept) = left.next(alloc)? {
+            list.push(kept)?;
+        }
+        Ok(Seq::from_vec(list))
+    }
+
+    /// The entries beside their asks, to be read one behind the other.
+    fn reader(&self) -> KeptReader<'_>
+        ensures { result ≡ self.now }
+    {
+        KeptReader {
+            few: &self.few,
+            whole: &self.whole,
+            asks: self.asks.reader(),
+        }
     }
 }
 
-/// The ask of an entry, if it has one, and the asks behind it.
-fn next_ask<'a>(slot: &Slot, asks: &'a [Asked]) -> (Option<Asked>, &'a [Asked])
-    requires { slot.now.asks ≡ true → 0 < length asks.now }
-    ensures asked { result.0 ≡ ask_of slot.now asks.now }
-    ensures has { is_some result.0 ≡ slot.now.asks }
-    ensures rest { result.1.now ≡ asks_after slot.now asks.now }
-{
-    if slot.asks {
-        (Some(asks[0]), &asks[1..])
-    } else {
-        (None, asks)
+/// Entries beside their asks, of which the first ones were read. Contracts see those that are left.
+#[derive(Drop)]
+struct KeptReader<'a> {
+    few: &'a [NarrowSlot],
+    whole: &'a [Slot],
+    asks: AskReader<'a>,
+}
+
+impl<'a> Model for KeptReader<'a> {
+    ghost use Rattle.std.specs.Prelude.{List};
+    ghost use Rattle.hook_api.specs.Kept.{KeptFacts};
+    ghost use Rattle.hook_api.specs.Kepts.{AreKept, paired};
+    ghost use Rattle.hook_api.specs.Filling.{filled_in};
+
+    ghost Value = { List KeptFacts };
+
+    ghost view = { λ r. paired (filled_in r.few.now r.whole.now) r.asks };
+
+    ghost invariant = { λ r. AreKept r.few.now r.whole.now r.asks };
+}
+
+impl<'a> KeptReader<'a> {
+    /// Reads the first entry that is left.
+    #[tactic(auto, using(crate::proofs::Filling::fits_first, crate::proofs::Filling::fits_none, crate::proofs::Filling::fits_some, crate::proofs::Pairing::fits_first, crate::proofs::Pairing::fits_rest))]
+    fn next(&mut self, alloc: Global) -> Result<Option<Kept>, NoMemory>
+        ensures first { IfOk result (λ next. IfSome next (λ kept. self.old ≡ kept ∷ self.new)) }
+        ensures end { IfOk result (λ next. next ≡ None → self.old ≡ []) }
+    {
+        let Some((narrow, behind)) = self.few.split_first() else {
+            return Ok(None);
+        };
+        self.few = behind;
+        if let Some(slot) = narrow.slot() {
+            return Ok(Some(kept_with(&slot, &mut self.asks, alloc)?));
+        }
+        let Some((slot, others)) = self.whole.split_first() else {
+            return Ok(None);
+        };
+        self.whole = others;
+        Ok(Some(kept_with(slot, &mut self.asks, alloc)?))
     }
 }
 
-/// The entries beside their asks.
-#[tactic(auto, using(crate::proofs::Pairing::fits_first, crate::proofs::Pairing::fits_rest))]
-fn list_of(slots: &[Slot], asks: &[Asked], alloc: Global) -> Result<Vec<Kept>, NoMemory>
-    requires { IsPaired slots.now asks.now }
-    ensures { IfOk result (λ list. list.items ≡ paired slots.now asks.now) }
+/// An entry beside its ask, which is read if it has one.
+fn kept_with(slot: &Slot, asks: &mut AskReader, alloc: Global) -> Result<Kept, NoMemory>
+    requires { slot.now.asks ≡ true → 0 < length asks.old }
+    ensures kept { IfOk result (λ kept. kept ≡ kept_of slot.now (ask_of slot.now asks.old)) }
+    ensures rest { asks.new ≡ asks_after slot.now asks.old }
 {
-    let mut list = Vec::with_capacity(alloc, slots.len())?;
-    let mut left = slots;
-    let mut asks_left = asks;
-    while let Some((slot, behind)) = left.split_first() {
-        let (asked, asks_behind) = next_ask(slot, asks_left);
-        list.push(slot.kept(asked, alloc)?)?;
-        left = behind;
-        asks_left = asks_behind;
-    }
-    Ok(list)
+    let asked = next_ask(slot, asks);
+    slot.kept(asked, alloc)
 }
 
-/// Puts an ask behind the others, if there is one. There is a place for it.
-fn push_ask(asks: &mut Vec<Asked>, asked: &Option<Asked>)
-    requires { vec_len asks.old < vec_capacity asks.old }
-    ensures asks { asks.new.items ≡ asks.old.items ++ asks_in asked.now }
-    ensures places { vec_capacity asks.old ≤ vec_capacity asks.new }
+/// The ask of an entry, which is read if it has one.
+fn next_ask(slot: &Slot, asks: &mut AskReader) -> Option<Asked>
+    requires { slot.now.asks ≡ true → 0 < length asks.old }
+    ensures asked { result ≡ ask_of slot.now asks.old }
+    ensures has { is_some result ≡ slot.now.asks }
+    ensures rest { asks.new ≡ asks_after slot.now asks.old }
 {
-    if let Some(asked) = asked {
-        asks.push(*asked).unwrap();
-    }
+    if slot.asks { asks.next() } else { None }
+}
+
+/// Puts an entry behind the others: in few bytes if its numbers fit there, and else whole, behind a mark. There is a place for
+/// it in both lists.
+#[tactic(auto, using(crate::proofs::Filling::filled_push, crate::proofs::Filling::fits_push))]
+fn push_slot(few: &mut Vec<NarrowSlot>, whole: &mut Vec<Slot>, slot: Slot)
+    requires few { vec_len few.old < vec_capacity few.old }
+    requires whole { vec_len whole.old < vec_capacity whole.old }
+    requires fits { FillsIn few.old.items whole.old.items }
+    ensures slots { filled_in few.new.items whole.new.items ≡ filled_in few.old.items whole.old.items ++ slot ∷ [] }
+    ensures fits { FillsIn few.new.items whole.new.items }
+    ensures narrow { vec_len few.new ≡ vec_len few.old + 1 }
+    ensures wide { vec_len whole.new ≤ vec_len whole.old + 1 }
+    ensures few_places { vec_capacity few.old ≤ vec_capacity few.new }
+    ensures whole_places { vec_capacity whole.old ≤ vec_capacity whole.new }
+{
+    let narrow = NarrowSlot::of(&slot);
+    push_whole(whole, slot, narrow.is_mark());
+    few.push(narrow).unwrap();
 }
 
 /// A journal that goes on, with places for entries to come.
 #[derive(Drop)]
 pub struct Writing {
-    slots: Vec<Slot>,
-    asks: Vec<Asked>,
+    few: Vec<NarrowSlot>,
+    whole: Vec<Slot>,
+    asks: AskList,
 }
 
 impl Model for Writing {
@@ -110,8 +171,9 @@ impl Writing {
         ensures { result.kept ≡ [] }
     {
         Writing {
-            slots: Vec::new(alloc),
-            asks: Vec::new(alloc),
+            few: Vec::new(alloc),
+            whole: Vec::new(alloc),
+            asks: AskList::new(alloc),
         }
     }
 
@@ -121,13 +183,14 @@ impl Writing {
         ensures spare { self.old.spare ≤ self.new.spare }
         ensures ok { OnOk result (more ≤ self.new.spare) }
     {
-        self.slots.reserve(more as usize)?;
-        self.asks.reserve(more as usize)?;
+        self.few.reserve(more as usize)?;
+        self.whole.reserve(more as usize)?;
+        self.asks.reserve(more)?;
         Ok(())
     }
 
     /// Puts an entry at the end, with its ask. It takes a place.
-    #[tactic(auto, using(crate::proofs::Pairing::paired_push, crate::proofs::Pairing::fits_push, crate::proofs::Pairing::paired_length))]
+    #[tactic(auto, using(crate::proofs::Pairing::paired_push, crate::proofs::Pairing::fits_push, crate::proofs::Pairing::kept_length))]
     pub fn push(&mut self, slot: Slot, asked: &Option<Asked>)
         requires room { 0 < self.old.spare }
         requires asks { slot.asks ≡ is_some asked.now }
@@ -135,15 +198,17 @@ impl Writing {
         ensures spare { self.old.spare ≤ self.new.spare + 1 }
         ensures few { length self.new.kept < 2 ^ 64 }
     {
-        push_ask(&mut self.asks, asked);
-        self.slots.push(slot).unwrap();
+        if let Some(asked) = asked {
+            self.asks.push(asked);
+        }
+        push_slot(&mut self.few, &mut self.whole, slot);
     }
 
     /// The entries, once no more are to come. Takes no memory.
     pub fn into_kepts(self) -> Kepts
         ensures { result ≡ self.kept }
     {
-        let Writing { slots, asks } = self;
-        Kepts { slots, asks }
+        let Writing { few, whole, asks } = self;
+        Kepts { few, whole, asks }
     }
 }

@@ -6,6 +6,7 @@
 //! A [`SharedShelf`] has each box under a lock of its own, and a seat for each client that asks.
 #![tactic(auto)]
 
+mod ask_list;
 mod asked;
 mod books;
 mod boxed;
@@ -17,6 +18,8 @@ mod kept;
 mod kepts;
 mod laws;
 mod locks;
+mod narrow_asks;
+mod narrow_deeds;
 mod orders;
 mod plans;
 mod rising;
@@ -29,7 +32,8 @@ mod sights;
 mod slots;
 mod unshare;
 
-pub use asked::{Asked, Askeds};
+pub use ask_list::{AskList, Askeds};
+pub use asked::Asked;
 pub use hooks::{Boxes, ExtentHooks, Placed, Said};
 pub use kept::{Journal, Journals, Kept};
 pub use kepts::{Kepts, Writing};

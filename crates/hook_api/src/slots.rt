@@ -1,13 +1,16 @@
-//! An entry of a journal in few bytes, without its ask.
+//! An entry of a journal in few bytes, without its ask, and in fewer where its numbers are small.
 
-ghost use Rattle.std.specs.Prelude.{◌≡◌, false, true, is_some, IfOk, IsOk};
+ghost use Rattle.std.specs.Prelude.{◌≡◌, false, true, None, Some, is_none, is_some, IfOk, IfSome, IsOk};
 ghost use Rattle.hook_api.specs.Deeds.{carries, gives_back};
 ghost use Rattle.hook_api.specs.Kept.{IsKept};
+ghost use Rattle.hook_api.specs.NarrowDeeds.{deed_by};
 
 use crate::deeds::Deed;
+use crate::narrow_deeds::{NarrowDeed, NarrowShape};
 use crate::{Asked, Kept};
 use space_model::{Entry, Op};
 use std::alloc::{AllocError as NoMemory, Global};
+use std::marker::Model;
 
 /// An entry without its ask, in 48 bytes.
 #[derive(Drop)]
@@ -46,5 +49,103 @@ impl Slot {
             op: self.deed.op(asked, alloc)?,
         };
         Ok(Kept::new(entry, asked))
+    }
+}
+
+/// An entry without its ask in 16 bytes, or the mark of one whose numbers don't fit there. Contracts see the entry, or `None`
+/// for the mark.
+#[derive(Drop)]
+pub(crate) struct NarrowSlot {
+    shape: NarrowShape,
+    mark: u8,
+    asks: bool,
+    client: u8,
+    a: u32,
+    b: u32,
+    c: u32,
+    ghost carried: { carries (deed_by shape mark a b c) ≡ true → asks ≡ true },
+}
+
+impl Model for NarrowSlot {
+    ghost use Rattle.std.specs.Prelude.{Option};
+    ghost use Rattle.hook_api.specs.NarrowSlots.{slot_told};
+    ghost use Rattle.hook_api.specs.declared.slots.Slot.{Slot};
+
+    ghost Value = { Option Slot };
+
+    ghost view = { slot_told };
+}
+
+/// An entry in few bytes, if its numbers fit there.
+fn small(slot: &Slot) -> Option<NarrowSlot>
+    ensures { IfSome result (λ narrow. narrow ≡ Some slot.now) }
+{
+    let deed = NarrowDeed::of(&slot.deed)?;
+    if slot.client >= 256 {
+        return None;
+    }
+    Some(NarrowSlot {
+        shape: deed.shape,
+        mark: deed.mark,
+        asks: slot.asks,
+        client: slot.client as u8,
+        a: deed.a,
+        b: deed.b,
+        c: deed.c,
+    })
+}
+
+/// The mark of an entry whose numbers don't fit.
+fn mark() -> NarrowSlot
+    ensures { result ≡ None }
+{
+    NarrowSlot {
+        shape: NarrowShape::Elsewhere,
+        mark: 0,
+        asks: false,
+        client: 0,
+        a: 0,
+        b: 0,
+        c: 0,
+    }
+}
+
+impl NarrowSlot {
+    /// An entry in few bytes, or the mark of one whose numbers don't fit.
+    pub(crate) fn of(slot: &Slot) -> NarrowSlot
+        ensures { IfSome result (λ small. small ≡ slot.now) }
+    {
+        match small(slot) {
+            Some(narrow) => narrow,
+            None => mark(),
+        }
+    }
+
+    /// Whether this is the mark of an entry whose numbers don't fit.
+    pub(crate) fn is_mark(&self) -> bool
+        ensures { result ≡ is_none self.now }
+    {
+        matches!(self.shape, NarrowShape::Elsewhere)
+    }
+
+    /// The entry, unless this is the mark of one.
+    pub(crate) fn slot(&self) -> Option<Slot>
+        ensures { result ≡ self.now }
+    {
+        if self.is_mark() {
+            return None;
+        }
+        let deed = NarrowDeed {
+            shape: self.shape,
+            mark: self.mark,
+            a: self.a,
+            b: self.b,
+            c: self.c,
+        };
+        Some(Slot {
+            deed: deed.deed(),
+            client: u32::from(self.client),
+            asks: self.asks,
+        })
     }
 }

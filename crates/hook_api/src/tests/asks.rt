@@ -1,0 +1,98 @@
+//! Lists of asks, through their public calls.
+
+use super::{ALLOC, DALLOC, SPLIT, WIDE};
+use crate::narrow_asks::NarrowAsk;
+use crate::{AskList, Asked, Askeds};
+use space_model::{Answer, Ask, Seq, Span};
+use std::mem::size_of;
+use std::process::Abort;
+use std::test::Fail;
+
+const MERGE: Ask = Ask::Merge {
+    low: Span {
+        first: 512,
+        pages: 3,
+    },
+    high: Span {
+        first: 515,
+        pages: 7,
+    },
+};
+
+/// An ask at a place that is answered by a range.
+fn grown(place: u64, ask: Ask, first: u64) -> Asked {
+    let answer = Answer::Placed {
+        first,
+        committed: true,
+        zeroed: false,
+    };
+    Asked::new((31, place), ask, answer, (place, place), false)
+}
+
+/// An ask that is done, or refused by a plan after so many refusals.
+fn said(ask: Ask, refused: Option<u64>) -> Asked {
+    match refused {
+        Some(before) if before < u64::MAX => {
+            Asked::new((2, 5), ask, Answer::Refused, (before, before + 1), true)
+        }
+        _ => Asked::new((300, 6), ask, Answer::Done, (7, 7), false),
+    }
+}
+
+/// Checks that two asks are the same.
+fn same(rt: &impl Abort, asked: &Asked, other: &Asked) {
+    assert_eq!(rt; asked.ask(), other.ask());
+    assert_eq!(rt; asked.answer(), other.answer());
+    assert_eq!(rt; asked.planned(), other.planned());
+    assert_eq!(rt; asked.box_no(), other.box_no());
+    assert_eq!(rt;
+        [asked.place(), asked.before(), asked.after()],
+        [other.place(), other.before(), other.after()]
+    );
+}
+
+/// Checks that the asks of a list are these.
+fn are(rt: &impl Abort, list: &Seq<Asked>, rows: &[(Asked, bool)]) {
+    assert_eq!(rt; list.len(), rows.len());
+    for (asked, (row, _)) in list.as_slice().iter().zip(rows) {
+        same(rt, asked, row);
+    }
+}
+
+#[test]
+fn asks_come_back_in_order(rt: HostRuntime) -> Result<(), Fail> {
+    let alloc = rt.alloc();
+    let rows = [
+        (grown(0, ALLOC, 512), false),
+        (grown(WIDE, ALLOC, 512), true),
+        (grown(1, ALLOC, WIDE), true),
+        (grown(WIDE - 1, ALLOC, WIDE - 1), false),
+        (grown(2, MERGE, 512), true),
+        (grown(2, MERGE, 0), false),
+        (said(MERGE, Some(3)), false),
+        (said(DALLOC, Some(WIDE - 1)), false),
+        (said(DALLOC, Some(WIDE)), true),
+        (said(SPLIT, None), true),
+        (grown(3, SPLIT, 0), false),
+    ];
+    let mut list = AskList::new(alloc);
+    for (asked, marked) in &rows {
+        assert_eq!(rt; NarrowAsk::of(asked).is_mark(), *marked);
+        list.reserve(1)?;
+        list.push(asked);
+    }
+    assert_eq!(rt; list.len(), rows.len());
+    are(&rt, &list.to_list(alloc)?, &rows);
+    let asks = Askeds::from_list(list);
+    assert_eq!(rt; asks.len(), rows.len());
+    are(&rt, &asks.to_list(alloc)?, &rows);
+    Ok(())
+}
+
+#[test]
+fn asks_take_few_bytes(rt: HostRuntime) -> Result<(), Fail> {
+    assert_eq!(rt; size_of::<Asked>(), 72);
+    assert_eq!(rt; size_of::<NarrowAsk>(), 32);
+    assert_eq!(rt; Askeds::new(rt.alloc()).len(), 0);
+    Ok(())
+}
