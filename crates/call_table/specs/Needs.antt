@@ -2,7 +2,7 @@
 use Rattle.std.specs.Prelude.{◌≡◌, ◌≤◌, ℕ, length}
 use Rattle.call_table.specs.Words.{Request, Malloc, Memalign, Free, Publish, Flush, Cache, TurnPoint, Giving, Turns, Next, Go, Ends, Nowhere}
 use Rattle.call_table.specs.declared.needs.Need.{Need}
-use Rattle.call_table.specs.declared.needs.Need.TheVariants.{Turn as NeedsTurn, Ask as NeedsAsk, Done as IsDone}
+use Rattle.call_table.specs.declared.needs.Need.TheVariants.{Turn as NeedsTurn, Ask as NeedsAsk, Done as IsDone, Starved as IsStarved}
 use Rattle.call_table.specs.Table.{Want, WantTurn, WantAsk, want}
 
 -- the need is what is wanted of the arena
@@ -10,8 +10,19 @@ abbrev pub NeedsWant : ℕ → ℕ → Want → Need → Type 0
 NeedsWant client arena (WantTurn op asked) need = need ≡ NeedsTurn (record { arena = arena; client = client; op = op })
 NeedsWant client arena (WantAsk ask) need = need ≡ NeedsAsk arena ask
 
--- the need of a client is what its call wants at a point, or the answer
+-- so few regions go back that no memory is wanted to name them
+abbrev pub HasFewAddresses : TurnPoint → Type 0
+HasFewAddresses (Giving addrs) = length addrs ≤ 2
+HasFewAddresses point = Unit {0}
+
+abbrev pub IsFewAddresses : Next → Type 0
+IsFewAddresses (Go (Turns point)) = HasFewAddresses point
+IsFewAddresses next = Unit {0}
+
+-- The need of a client is what its call wants at a point, or the answer. It is starved only where more regions go back than can
+-- be named without memory.
 abbrev pub NeedIs : ℕ → ℕ → Next → Need → Type 0
+NeedIs client arena next IsStarved = IsFewAddresses next → ⊥
 NeedIs client arena (Go point) need = NeedsWant client arena (want point) need
 NeedIs client arena (Ends answer) need = need ≡ IsDone answer
 NeedIs client arena next need = ⊥
@@ -36,12 +47,3 @@ IsPointOrEnd next = ⊥
 abbrev pub Goes : Next → Type 0
 Goes Nowhere = ⊥
 Goes next = Unit {0}
-
--- so few regions go back that no memory is wanted to name them
-abbrev pub HasFewAddresses : TurnPoint → Type 0
-HasFewAddresses (Giving addrs) = length addrs ≤ 2
-HasFewAddresses point = Unit {0}
-
-abbrev pub IsFewAddresses : Next → Type 0
-IsFewAddresses (Go (Turns point)) = HasFewAddresses point
-IsFewAddresses next = Unit {0}

@@ -5,7 +5,7 @@ ghost use Rattle.call_table.specs.Calls.{HasRoomToHold, may_hold, moment_of, sta
 ghost use Rattle.call_table.specs.Desks.{flushes};
 ghost use Rattle.call_table.specs.Items.{Item as Fed, lent};
 ghost use Rattle.call_table.specs.Points.{IsSizedNext};
-ghost use Rattle.call_table.specs.Needs.{Goes, HasFewAddresses, IsFewAddresses, IsPointOrEnd, NeedIs};
+ghost use Rattle.call_table.specs.Needs.{Goes, HasFewAddresses, IsPointOrEnd, NeedIs};
 ghost use Rattle.call_table.specs.Reads.{aimed, ended_by, heard_next, taken_next};
 ghost use Rattle.call_table.specs.Runs.{after, begin, run, settle, stage, starved_after, step_next};
 ghost use Rattle.call_table.specs.Table.{op_at};
@@ -263,24 +263,22 @@ impl Stage {
         }
     }
 
-    /// What a client needs there, or the answer of its call. `NoMemory` only where there is none to name several regions that
-    /// go back.
+    /// What a client needs there, or the answer of its call. It is starved only where several regions go back.
     #[inline(always)]
-    pub(crate) fn need(&self, client: u32, alloc: Global) -> Result<Need, NoMemory>
+    pub(crate) fn need(&self, client: u32, alloc: Global) -> Need
         requires place { IsPointOrEnd self.now.next }
         requires sized { IsSizedNext self.now.next }
-        ensures need { IfOk result (NeedIs client self.now.arena self.now.next) }
-        ensures few { IsFewAddresses self.now.next → IsOk result }
+        ensures { NeedIs client self.now.arena self.now.next result }
     {
         match (&self.lead, &self.heard) {
-            (Lead::Turns(point), _) => {
-                let op = point.op(alloc)?;
-                Ok(turn(self.arena, client, op))
-            }
-            (Lead::Asks(point), None) => Ok(point.need(self.arena)),
-            (Lead::Asks(point), Some(asked)) => Ok(turn(self.arena, client, point.done(asked))),
-            (Lead::Tells(span, committed), _) => Ok(told(self.arena, *span, *committed)),
-            (Lead::Ends(answer), _) => Ok(Need::Done(*answer)),
+            (Lead::Turns(point), _) => match point.op(alloc) {
+                Ok(op) => turn(self.arena, client, op),
+                Err(_) => Need::Starved,
+            },
+            (Lead::Asks(point), None) => point.need(self.arena),
+            (Lead::Asks(point), Some(asked)) => turn(self.arena, client, point.done(asked)),
+            (Lead::Tells(span, committed), _) => told(self.arena, *span, *committed),
+            (Lead::Ends(answer), _) => Need::Done(*answer),
             _ => unreachable!(),
         }
     }
@@ -371,11 +369,10 @@ impl Call {
         self.client
     }
 
-    /// What the call needs next, or its answer. `NoMemory` only where there is none to name several regions that go back:
-    /// that turn then finds no memory.
-    pub fn need(&self, alloc: Global) -> Result<Need, NoMemory>
-        ensures need { IfOk result (NeedIs self.now.client self.now.stage.arena self.now.stage.next) }
-        ensures few { IsFewAddresses self.now.stage.next → IsOk result }
+    /// What the call needs next, or its answer. It is starved only where several regions go back: that turn then finds no
+    /// memory.
+    pub fn need(&self, alloc: Global) -> Need
+        ensures { NeedIs self.now.client self.now.stage.arena self.now.stage.next result }
     {
         self.stage.need(self.client, alloc)
     }

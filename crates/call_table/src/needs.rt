@@ -139,6 +139,8 @@ pub enum Need {
     },
     /// Nothing: the call has ended.
     Done(Answered),
+    /// Nothing can be named: there is no memory for the addresses of several regions that go back next.
+    Starved,
 }
 
 /// What a call is fed, which stays where it is.

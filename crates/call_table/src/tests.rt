@@ -64,14 +64,14 @@ impl Play {
     }
 
     /// What it needs now, while it waits.
-    fn need(&self) -> Result<Option<Need>, NoMemory>
+    fn need(&self) -> Option<Need>
         requires { IsSizedNext self.now.stage.next }
     {
         match &self.stage.lead {
             Lead::Turns(_) | Lead::Asks(_) | Lead::Tells(..) => {
-                Ok(Some(self.stage.need(1, self.alloc)?))
+                Some(self.stage.need(1, self.alloc))
             }
-            _ => Ok(None),
+            _ => None,
         }
     }
 
@@ -93,7 +93,7 @@ impl Play {
     fn needs(&self, step: &Step<'_>) -> Result<bool, NoMemory>
         requires { IsSizedNext self.now.stage.next }
     {
-        match (self.need()?, step) {
+        match (self.need(), step) {
             (Some(Need::Turn(turn)), Step::Turn(text, _)) => {
                 Ok(format!(in self.alloc; "{:?}", turn.op)?.as_str() == *text)
             }

@@ -25,3 +25,4 @@ pub mod Settling
 pub mod Turns
 pub mod Begins
 pub mod Publishing
+pub mod LastAsk

@@ -1,6 +1,5 @@
 -- The laws of the clients of a heap, and that the clients of a new one rest.
-use Rattle.heap_core.proofs.Words.{◌≡◌, ℕ, ◌+◌, ◌<◌, ◌≤◌, ◌==◌, ◌||◌, Bool, true, false, cond, List, [], All, refl, sym, ap, subst, arith, suc, zero, nat_lt, get_or, replicate, count_by, range_with_len, ltb-true, nat_tests, All-nil, absent_space, first_space, Mine, mine, Held, no_record, opening_records, mine_in, Record, opening_space, OpeningSits, is_region}
-use Rattle.space_model.specs.Clients.{is_in}
+use Rattle.heap_core.proofs.Words.{◌≡◌, ℕ, ◌+◌, ◌<◌, ◌≤◌, ◌==◌, ◌||◌, Bool, true, false, cond, List, [], All, refl, sym, ap, subst, arith, suc, zero, nat_lt, get_or, replicate, count_by, range_with_len, ltb-true, nat_tests, All-nil, absent_space, first_space, Mine, mine, Held, no_record, opening_records, mine_in, Record, opening_space, OpeningSits, is_region, is_in}
 use Rattle.heap_core.proofs.Entries.{IsKeyed}
 use Rattle.heap_core.proofs.Turned.{opening_at, past}
 pub use Rattle.heap_core.proofs.Begins.{starts-sit}

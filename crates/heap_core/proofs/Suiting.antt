@@ -1,7 +1,5 @@
 -- What a client has suits each point to which its call comes.
-use Rattle.heap_core.proofs.Words.{rules, ◌≡◌, ℕ, ◌<◌, ◌≤◌, true, false, List, [], ◌∷◌, None, refl, sym, ◌∙◌, subst, arith, nat_lt, cond_both, ltb-true, nat_tests, discarding, Request, Given, Answered, Change, Stops, Visits, Leaves, TurnPoint, Filling, Looking, Landing, Changing, Making, Resetting, Owning, AskPoint, Skipping, Next, Go, Over, Ends, Reply, Nothing, Noted, Took, Grow, Refuse, Landed, Regions, Owned, Setting, Bind, AskFacts, Held, DeskFacts, desk_turned, landed_behind, held_region, sharing, needed_at, make_next, told, turn_replied, HasSlots, Suits, SuitsChange, SuitsAsk, SuitsTurn}
-use Rattle.call_table.specs.Table.{visited}
-use Rattle.call_table.specs.declared.points.Visit.{Visit}
+use Rattle.heap_core.proofs.Words.{rules, ◌≡◌, ℕ, ◌<◌, ◌≤◌, true, false, List, [], ◌∷◌, None, refl, sym, ◌∙◌, subst, arith, nat_lt, cond_both, ltb-true, nat_tests, discarding, Request, Given, Answered, Change, Stops, Visits, Leaves, TurnPoint, Filling, Looking, Landing, Changing, Making, Resetting, Owning, AskPoint, Skipping, Next, Go, Over, Ends, Reply, Nothing, Noted, Took, Grow, Refuse, Landed, Regions, Owned, Setting, Bind, AskFacts, Held, DeskFacts, desk_turned, landed_behind, held_region, sharing, needed_at, make_next, told, turn_replied, HasSlots, Suits, SuitsChange, SuitsAsk, SuitsTurn, visited, Visit}
 use Rattle.heap_core.specs.Words.{Region, Ok}
 use Rattle.heap_core.proofs.Having.{CanKeep, cache_hand}
 

@@ -1,7 +1,5 @@
 -- A region that its holder publishes for another client's call.
-use Rattle.heap_core.proofs.Words.{inl, ◌≡◌, ◌≢◌, ◌≤◌, ◌<◌, ℕ, ◌+◌, true, false, List, Option, None, Some, Ok, Err, IsSomeAnd, is_some, length, get_or, slice_set, refl, sym, ap, subst, ◌∙◌, arith, option_map, get_or_default, get_or-set_other, get_or-set_same, position-Some, Publish, TakeOver, Shelf, not_holding, Reply, AskFacts, Held, held_at, Owning, Turns, Next, Go, CallFacts, aimed, published_next, taken_next, IsArenas, room_in, CanTurn, after_turn, aimed_seat, HeapFacts, IsStepFor, IsStep, IsSure, SureAt, WantedAt, answered_by, holding_client, holder_for, parted, published_for, region_for, seated, turned_for, DidTurn, owed_to, IsHeap, asks_next, owing, Record, Seat, first_seat, holder_of, seat_at, IsSeated, SeatSound, Sits, SitsAt, HolderIs, IsPublished, TurnFacts, MadeTurn, StarvesAt, StarvesNext, TakesAt}
-use Rattle.heap_core.specs.Arenas.{records_turned}
-use Rattle.heap_core.specs.Heaps.{region_in_seat}
+use Rattle.heap_core.proofs.Words.{inl, ◌≡◌, ◌≢◌, ◌≤◌, ◌<◌, ℕ, ◌+◌, true, false, List, Option, None, Some, Ok, Err, IsSomeAnd, is_some, length, get_or, slice_set, refl, sym, ap, subst, ◌∙◌, arith, option_map, get_or_default, get_or-set_other, get_or-set_same, position-Some, Publish, TakeOver, Shelf, not_holding, Reply, AskFacts, Held, held_at, Owning, Turns, Next, Go, CallFacts, aimed, published_next, taken_next, IsArenas, room_in, CanTurn, after_turn, aimed_seat, HeapFacts, IsStepFor, IsStep, IsSure, SureAt, WantedAt, answered_by, holding_client, holder_for, parted, published_for, region_for, seated, turned_for, DidTurn, owed_to, IsHeap, asks_next, owing, Record, Seat, first_seat, holder_of, seat_at, IsSeated, SeatSound, Sits, SitsAt, HolderIs, IsPublished, TurnFacts, MadeTurn, StarvesAt, StarvesNext, TakesAt, records_turned, region_in_seat}
 use Rattle.heap_core.specs.declared.heaps.Stepped.{Stepped}
 use Rattle.heap_core.proofs.Asking.{few_asks}
 use Rattle.heap_core.proofs.Clients.{at_or_else}

@@ -49,7 +49,7 @@ arenas_set records arena new is there index clients replayed apart = record {
         by false e = subst P (sym (get_or-set_other records arena i new no_record (λ same. grind (arith, nat_tests)))) there_too
 
 -- after a turn of a client, or where memory was wanting for it, still no chunk has two owners
-pub arenas_turned : {E : Type 0} (records : List Record) (arena client : ℕ) (op settled_op : Op) (asked : Option AskFacts) (r : Result Reply E) (new : Record) → IsArenas records → arena < 32 →
+pub arenas_turned : {A E : Type 0} (records : List Record) (arena client : ℕ) (op settled_op : Op) (asked : Option AskFacts) (r : Result A E) (new : Record) → IsArenas records → arena < 32 →
     settled_op ≡ with_chunk_found (spaces_of records) arena op → IsTrue (stands (record_at records arena).space (entry_of client (with_chunk_found (spaces_of records) arena op))) →
     OnOk r (new ≡ record_after (record_at records arena) client settled_op asked) → OnErr r (new ≡ record_at records arena) →
     new.index ≡ (record_at records arena).index → IsReplayed new.index new.kept new.space → IsArenas (slice_set records arena new)
@@ -68,7 +68,7 @@ arenas_turned records arena client op settled_op asked (Ok reply) new is there s
     let clients : length new.rooms ≡ 32 = ap (λ (x : Record). length x.rooms) after ∙ length-set (record_at records arena).rooms client _ ∙ is.clients arena there in
     arenas_set records arena new is there index clients replayed (subst (λ t. Apart (slice_set spaces arena t)) (sym space) (apart_turn spaces arena client op within is.apart sound may_here))
 
-pub arenas_turned_from : {E : Type 0} (records : List Record) (arena client : ℕ) (op settled_op : Op) (asked : Option AskFacts) (r : Result Reply E) (old new : Record) → old ≡ record_at records arena → IsArenas records → arena < 32 →
+pub arenas_turned_from : {A E : Type 0} (records : List Record) (arena client : ℕ) (op settled_op : Op) (asked : Option AskFacts) (r : Result A E) (old new : Record) → old ≡ record_at records arena → IsArenas records → arena < 32 →
     settled_op ≡ with_chunk_found (spaces_of records) arena op → IsTrue (stands (record_at records arena).space (entry_of client (with_chunk_found (spaces_of records) arena op))) →
     OnOk r (new ≡ record_after old client settled_op asked) → OnErr r (new ≡ old) → new.index ≡ old.index → IsReplayed new.index new.kept new.space → IsArenas (slice_set records arena new)
 arenas_turned_from records arena client op settled_op asked r old new at is there settles may after same index replayed =
@@ -81,7 +81,7 @@ given_settled spaces arena (GrowDone heard found) = refl
 given_settled spaces arena (OfferDone heard found) = refl
 given_settled spaces arena op = refl
 
-pub room_turned : {E : Type 0} (records now : List Record) (arena client : ℕ) (op settled_op : Op) (r : Result Reply E) (old new : Record) → records ≡ now → old ≡ record_at records arena → IsArenas records → arena < 32 →
+pub room_turned : {A E : Type 0} (records now : List Record) (arena client : ℕ) (op settled_op : Op) (r : Result A E) (old new : Record) → records ≡ now → old ≡ record_at records arena → IsArenas records → arena < 32 →
     settled_op ≡ with_chunk_found (spaces_of records) arena op → OnOk r (room_of client new.rooms ≤ all_rooms old.rooms + most_room settled_op) →
     OnOk r (room_in (slice_set records arena new) arena client ≤ all_rooms (record_at now arena).rooms + most_room op)
 room_turned records now arena client op settled_op (Err e) old new view at is there settles few = tt

@@ -1,5 +1,5 @@
 -- What a client's open call wants, and where a step for it leads.
-use Rattle.heap_core.proofs.Words.{inl, inr, ◌≡◌, ◌⊎◌, ◌≤◌, ◌<◌, ℕ, ◌+◌, true, false, List, Option, None, Some, Result, Ok, IfSome, IsSomeAnd, is_some, refl, sym, ap, subst, ◌∙◌, arith, Shelf, opens, Item, Told, Starved, Answered, NoMemory, TurnPoint, Dooming, Owning, AskPoint, Needing, Point, Turns, Asks, Tells, Next, Go, More, Ends, Ask, Op, AskFacts, DeskFacts, Need, NeedsTurn, NeedsAsk, Turn, CallFacts, moment_of, desk_fed, NeedIs, NeedsWant, heard_next, taken_next, Moment, after, moved, starved_after, step_next, Want, WantTurn, WantAsk, done_at, is_marked, op_at, starved, step, want, room_in, FedTo, NeedOf, never_starves, HeapFacts, IsStepFor, IsStep, IsSure, SureAt, SureFor, WantedAt, asks_at, asks_next, owing, Record, Seat, answer_of, heard_by, seat_at, seat_of, IsSeated, SeatSound, Sits, SitsAt, IsMarked, Needs, StarvesAt, StarvesNext}
+use Rattle.heap_core.proofs.Words.{inl, inr, ◌≡◌, ◌⊎◌, ◌≤◌, ◌<◌, ℕ, ◌+◌, true, false, List, Option, None, Some, Result, Ok, IfSome, IsSomeAnd, is_some, refl, sym, ap, subst, ◌∙◌, arith, Shelf, opens, Item, Told, Starved, Answered, NoMemory, TurnPoint, Dooming, Owning, AskPoint, Needing, Point, Turns, Asks, Tells, Next, Go, More, Ends, Ask, Op, AskFacts, DeskFacts, Need, NeedsTurn, NeedsAsk, Turn, CallFacts, moment_of, desk_fed, NeedIs, NeedsWant, heard_next, taken_next, Moment, after, moved, starved_after, step_next, Want, WantTurn, WantAsk, done_at, is_marked, op_at, starved, step, want, room_in, FedTo, never_starves, HeapFacts, IsStepFor, IsStep, IsSure, SureAt, SureFor, WantedAt, asks_at, asks_next, owing, Record, Seat, answer_of, heard_by, seat_at, seat_of, IsSeated, SeatSound, Sits, SitsAt, IsMarked, Needs, StarvesAt, StarvesNext}
 use Rattle.heap_core.specs.declared.heaps.Stepped.{Stepped}
 
 -- ---- the point of an open call
@@ -241,24 +241,16 @@ turn_client records c seat turn sound needs =
     let g = goes_on records c seat.desk k.0 k.0.stage.next s.1 in
     turn_client_of k.0.client k.0.stage.arena (want g.0) turn (subst (λ next. NeedIs k.0.client k.0.stage.arena next (NeedsTurn turn)) g.1 k.2) ∙ s.0
 
--- what a client's call told that it needs
-pub needs_of : {E : Type 0} (call : Option CallFacts) (told : Option (Result Need E)) (need : Need) → IfSome told (NeedOf call) → told ≡ Some (Ok need) → Needs call need
-needs_of {E} call told need known is = by call (subst (λ t. IfSome t (NeedOf call)) is known)
-  where
-    by : (call : Option CallFacts) → NeedOf {E = E} call (Ok need) → Needs call need
-    by (Some k) known = known.0
-    by None known = absurd known
-
 -- What a client's call told, seen of the heap: whose turn it is, and that the call needs it.
 pub record TurnTold (now : HeapFacts) (c : ℕ) (turn : Turn) : Type 0 where
   pub client : turn.client ≡ c
   pub needs : Needs (seat_at now.seats turn.client).call (NeedsTurn turn)
 
-pub turn_told : {E : Type 0} (h now : HeapFacts) (c : ℕ) (turn : Turn) (seat : Seat) (told : Option (Result Need E)) (inner : Result Need E) (need : Need) → h ≡ now → SeatSound h.records c (seat_at h.seats c) → seat ≡ seat_at h.seats c →
-    IfSome told (NeedOf seat.call) → told ≡ Some inner → inner ≡ Ok need → need ≡ NeedsTurn turn → TurnTold now c turn
-turn_told h now c turn seat told inner need view sound at known is ok same =
+pub turn_told : (h now : HeapFacts) (c : ℕ) (turn : Turn) (seat : Seat) (call : CallFacts) (need : Need) → h ≡ now → SeatSound h.records c (seat_at h.seats c) → seat ≡ seat_at h.seats c →
+    seat.call ≡ Some call → NeedIs call.client call.stage.arena call.stage.next need → need ≡ NeedsTurn turn → TurnTold now c turn
+turn_told h now c turn seat call need view sound at is told same =
     let here : Needs (seat_at h.seats c).call (NeedsTurn turn) =
-    subst (λ (s : Seat). Needs s.call (NeedsTurn turn)) at (needs_of seat.call told (NeedsTurn turn) known (is ∙ ap Some (ok ∙ ap Ok same))) in
+    subst (λ (s : Seat). Needs s.call (NeedsTurn turn)) at (subst (λ k. Needs k (NeedsTurn turn)) (sym is) (subst (NeedIs call.client call.stage.arena call.stage.next) same told)) in
     let who : turn.client ≡ c = turn_client h.records c (seat_at h.seats c) turn sound here in
     record { client = who; needs = subst (λ k. Needs (seat_at now.seats k).call (NeedsTurn turn)) (sym who) (subst (λ (n : HeapFacts). Needs (seat_at n.seats c).call (NeedsTurn turn)) view here) }
 

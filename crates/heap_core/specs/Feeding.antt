@@ -1,11 +1,9 @@
 -- A client, and its call as that is fed.
-use Rattle.std.specs.Prelude.{◌≡◌, ◌⊎◌, ℕ, Option, Some, Result, IfOk, IfSome, IsOk, IsSomeAnd}
+use Rattle.std.specs.Prelude.{◌≡◌, ◌⊎◌, ℕ, Option, Some, IfSome}
 use Rattle.std.specs.Option.{option_map}
 use Rattle.call_table.specs.Words.{DeskFacts}
 use Rattle.heap_core.specs.Words.{Item, Answered, NoMemory, More}
-use Rattle.call_table.specs.declared.needs.Need.{Need}
 use Rattle.call_table.specs.Calls.{CallFacts, HasRoomToHold, moment_of}
-use Rattle.call_table.specs.Needs.{IsFewAddresses, NeedIs}
 use Rattle.call_table.specs.Reads.{aimed}
 use Rattle.call_table.specs.Runs.{after, starved_after, step_next}
 use Rattle.heap_core.specs.declared.seats.Client.TheInside.{Inside}
@@ -18,10 +16,6 @@ shown c = record { desk = c.desk.facts; call = c.call }
 -- while its call is open, there is room for a region that it may come to hold
 abbrev pub HasDeskRoom : Inside → Type 0
 HasDeskRoom c = IfSome c.call (λ call. HasRoomToHold c.desk.facts.hand c.desk.room call.stage.next)
-
--- what a call needs, or that memory is wanting to name several regions that go back
-abbrev pub NeedOf : {E : Type 0} → Option CallFacts → Result Need E → Type 0
-NeedOf call need = IsSomeAnd call (λ call. IfOk need (NeedIs call.client call.stage.arena call.stage.next) × (IsFewAddresses call.stage.next → IsOk need))
 
 -- its call takes a region over in the arena with this index
 abbrev pub aimed_seat : Seat → ℕ → Seat

@@ -7,7 +7,6 @@ pub mod Heaps
 pub mod Logs
 pub mod Owing
 pub mod Records
-pub mod Reserves
 pub mod Seats
 pub mod Sitting
 pub mod Stepping

@@ -27,6 +27,11 @@ pub record TurnFacts : Type 0 where
 abbrev pub with_ask : Turn → Option AskFacts → TurnFacts
 with_ask turn asked = record { arena = turn.arena; client = turn.client; op = turn.op; asked = asked }
 
+-- the reply in its place, where the turn was made
+abbrev pub replied_by : {A E : Type 0} → Result A E → Reply → Result Reply E
+replied_by (Ok done) reply = Ok reply
+replied_by (Err error) reply = Err error
+
 -- what a call is fed that wanted a turn
 abbrev pub item_of : {E : Type 0} → Result Reply E → Item
 item_of (Ok reply) = Replied reply

@@ -148,21 +148,22 @@ impl Arenas {
     }
 
     /// A turn of a client in an arena, whose entry joins the journal beside the ask that it carries. The chunk that speaks
-    /// against that ask's answer is looked for among all arenas in this very turn. Where memory is wanting, nothing changes;
-    /// that comes at the first turn of a unit alone.
+    /// against that ask's answer is looked for among all arenas in this very turn. The reply is written into the place for it.
+    /// Where memory is wanting, nothing changes in the arenas; that comes at the first turn of a unit alone.
     pub fn turn(
         &mut self,
         arena: u32,
         client: u32,
         op: &mut Op,
         asked: &Option<Asked>,
-    ) -> Result<Reply, NoMemory>
+        reply: &mut Reply,
+    ) -> Result<(), NoMemory>
         requires arena { arena < 32 }
         requires stands { IsTrue (stands (record_at self.old arena).space (entry_of client (with_chunk_found (spaces_of self.old) arena op.old))) }
         requires room { opens op.old ≡ false → 0 < room_in self.old arena client }
         requires kept { IsKept (entry_of client op.old) asked.now }
         ensures after { OnOk result (self.new ≡ records_turned self.old arena client (with_chunk_found (spaces_of self.old) arena op.old) asked.now) }
-        ensures reply { IfOk result (λ told. told ≡ reply_in self.old arena client (with_chunk_found (spaces_of self.old) arena op.old)) }
+        ensures reply { OnOk result (reply.new ≡ reply_in self.old arena client (with_chunk_found (spaces_of self.old) arena op.old)) }
         ensures room { OnOk result (room_in self.new arena client ≤ all_rooms (record_at self.old arena).rooms + most_room op.old) }
         ensures err { OnErr result (self.new ≡ self.old) }
         ensures sure { opens op.old ≡ false → IsOk result }
@@ -170,7 +171,7 @@ impl Arenas {
         ensures op { op.new ≡ with_chunk_found (spaces_of self.old) arena op.old }
     {
         settle(&self.records, arena, op);
-        self.records[arena as usize].turn(client, op, asked)
+        self.records[arena as usize].turn(client, op, asked, reply)
     }
 
     /// What is always so: no chunk is met by extents of two arenas, so no page is in two of them, and each arena is what its

@@ -1,6 +1,6 @@
 //! A heap.
 
-ghost use Rattle.std.specs.Prelude.{◌≡◌, ◌<◌, ◌/◌, ◌^◌, ℕ, None, length, map, is_some, option_copied, IfOk, IfSome, OnOk, OnErr};
+ghost use Rattle.std.specs.Prelude.{◌≡◌, ◌<◌, ◌/◌, ◌^◌, ℕ, None, length, map, is_some, IfOk, IfSome, OnOk, OnErr};
 ghost use Rattle.std.specs.List.{list_any, position};
 ghost use Rattle.space_model.specs.Span.{has_page};
 ghost use Rattle.call_table.specs.Laws.{IsInRange};
@@ -44,6 +44,28 @@ pub struct Stepped {
     pub did: Did,
     /// The answer of its call, where that has ended by it.
     pub ended: Option<Answered>,
+}
+
+impl Stepped {
+    /// Nothing was done.
+    pub fn none() -> Stepped
+        ensures { result ≡ record { did = Did.Idle; ended = None } }
+    {
+        Stepped {
+            did: Did::Idle,
+            ended: None,
+        }
+    }
+
+    /// This was done, and no call has ended by it.
+    pub(crate) fn go_on(&mut self, did: Did)
+        ensures { self.new ≡ record { did = did; ended = None } }
+    {
+        self.did = did;
+        if self.ended.is_some() {
+            self.ended = None;
+        }
+    }
 }
 
 /// The 32 arenas and the 32 clients of a heap, with every ask that was made. Contracts see the arenas with their journals, what
@@ -177,8 +199,8 @@ impl Heap {
     }
 
     /// The last ask that was made.
-    pub fn last_ask(&self) -> Option<&Asked>
-        ensures { option_copied result ≡ last_asked self.now.heard }
+    pub fn last_ask(&self) -> Option<Asked>
+        ensures { result ≡ last_asked self.now.heard }
     {
         self.log.last()
     }
@@ -211,6 +233,6 @@ impl Heap {
     {
         let Heap { arenas, log, .. } = self;
         let journals = arenas.into_journals(alloc)?;
-        Ok((journals, Askeds::from_vec(log.into_asks())))
+        Ok((journals, log.into_asks()))
     }
 }

@@ -6,7 +6,6 @@ mod heaps;
 mod laws;
 mod logs;
 mod records;
-mod reserves;
 mod seats;
 mod steps;
 

@@ -1,10 +1,9 @@
 //! The asks of a heap, with places for those to come.
 
-ghost use Rattle.std.specs.Prelude.{◌≡◌, ◌≢◌, ◌+◌, ◌<◌, ◌≤◌, ◌^◌, ℕ, [], ◌∷◌, ◌++◌, length, option_copied, OnOk};
+ghost use Rattle.std.specs.Prelude.{◌≡◌, ◌≢◌, ◌+◌, ◌<◌, ◌≤◌, ◌^◌, ℕ, [], ◌∷◌, ◌++◌, length, OnOk};
 ghost use Rattle.heap_core.specs.Logs.{last_asked, owed_to};
 
-use crate::reserves::Reserved;
-use hook_api::Asked;
+use hook_api::{AskList, Asked, Askeds};
 use std::alloc::{AllocError as NoMemory, Global};
 use std::marker::Model;
 
@@ -15,7 +14,8 @@ const CLIENTS: usize = 32;
 /// [`AskLog::promise`] takes memory.
 #[derive(Drop)]
 pub struct AskLog {
-    asks: Reserved<Asked>,
+    asks: AskList,
+    last: Option<Asked>,
     owed: [u64; CLIENTS],
     total: u64,
 }
@@ -36,7 +36,8 @@ impl AskLog {
         ensures { result.asks ≡ [] }
     {
         AskLog {
-            asks: Reserved::new(alloc),
+            asks: AskList::new(alloc),
+            last: None,
             owed: [0; CLIENTS],
             total: 0,
         }
@@ -67,16 +68,17 @@ impl AskLog {
         ensures others { (other : ℕ) → other ≢ client → owed_to self.new.owed other ≡ owed_to self.old.owed other }
         ensures one { owed_to self.old.owed client ≤ owed_to self.new.owed client + 1 }
     {
-        self.asks.push(asked);
+        self.asks.push(&asked);
+        self.last = Some(asked);
         self.owed[client as usize] -= 1;
         self.total -= 1;
     }
 
     /// The last ask.
-    pub fn last(&self) -> Option<&Asked>
-        ensures { option_copied result ≡ last_asked self.now.asks }
+    pub fn last(&self) -> Option<Asked>
+        ensures { result ≡ last_asked self.now.asks }
     {
-        self.asks.as_slice().last()
+        self.last
     }
 
     /// What is always so: there are fewer than 2^64 asks.
@@ -86,11 +88,11 @@ impl AskLog {
         let _asks = &self.asks;
     }
 
-    /// The asks, in order.
-    pub fn into_asks(self) -> Vec<Asked>
-        ensures { result.items ≡ self.asks }
+    /// The asks, in order. Takes no memory.
+    pub fn into_asks(self) -> Askeds
+        ensures { result ≡ self.asks }
     {
         let AskLog { asks, .. } = self;
-        asks.into_vec()
+        Askeds::from_list(asks)
     }
 }

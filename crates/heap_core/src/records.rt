@@ -99,15 +99,21 @@ impl Recorded {
         &self.arena
     }
 
-    /// A turn of a client, whose entry joins the journal beside the ask that it carries. Where memory is wanting, nothing
-    /// changes; that comes at the first turn of a unit alone.
-    pub fn turn(&mut self, client: u32, op: &Op, asked: &Option<Asked>) -> Result<Reply, NoMemory>
+    /// A turn of a client, whose entry joins the journal beside the ask that it carries. The reply is written into the place
+    /// for it. Where memory is wanting, nothing else changes; that comes at the first turn of a unit alone.
+    pub fn turn(
+        &mut self,
+        client: u32,
+        op: &Op,
+        asked: &Option<Asked>,
+        reply: &mut Reply,
+    ) -> Result<(), NoMemory>
         requires stands { IsTrue (stands self.old.space (entry_of client op.now)) }
         requires room { opens op.now ≡ false → 0 < room_of client self.old.rooms }
         requires kept { IsKept (entry_of client op.now) asked.now }
         ensures index { self.new.index ≡ self.old.index }
         ensures after { OnOk result (self.new ≡ record_after self.old client op.now asked.now) }
-        ensures reply { IfOk result (λ told. told ≡ reply_to self.old.space (entry_of client op.now)) }
+        ensures reply { OnOk result (reply.new ≡ reply_to self.old.space (entry_of client op.now)) }
         ensures replayed { IsReplayed self.new.index self.new.kept self.new.space }
         ensures few { OnOk result (length self.new.kept < 2 ^ 64) }
         ensures room { OnOk result (room_of client self.new.rooms ≤ all_rooms self.old.rooms + most_room op.now) }
@@ -117,9 +123,9 @@ impl Recorded {
     {
         make_places(&mut self.journal, &self.arena, op)?;
         let slot = Slot::of(client, op, asked, self.alloc)?;
-        let reply = self.arena.step(client, op)?;
+        *reply = self.arena.step(client, op)?;
         self.journal.push(slot, asked);
-        Ok(reply)
+        Ok(())
     }
 
     /// The journal, once no turn is to come.

@@ -1,17 +1,17 @@
 //! A client of a heap: what it has, and its call while one is open.
 
-ghost use Rattle.std.specs.Prelude.{◌≡◌, IfSome, IfNone, IfOk, IsOk, IsSomeAnd, None, OnOk, OnErr, true, is_some};
+ghost use Rattle.std.specs.Prelude.{◌≡◌, IfSome, IfNone, IfOk, IsSomeAnd, None, Some, OnOk, OnErr, true, is_some};
 ghost use Rattle.std.specs.Option.{option_and_then};
 ghost use Rattle.thread_cache.specs.Desks.{DeskFacts, held_at, not_holding};
 ghost use Rattle.call_table.specs.Calls.{moment_of};
 ghost use Rattle.call_table.specs.Items.{lent};
-ghost use Rattle.call_table.specs.Needs.{Goes, IsFewAddresses, NeedIs};
+ghost use Rattle.call_table.specs.Needs.{Goes};
 ghost use Rattle.call_table.specs.Reads.{ended_by, taken_next};
 ghost use Rattle.call_table.specs.Runs.{after, begin};
 ghost use Rattle.heap_core.specs.Seats.{answer_of, first_seat, heard_by, open_call, seat_of};
-ghost use Rattle.heap_core.specs.Feeding.{FedTo, NeedOf, aimed_seat};
+ghost use Rattle.heap_core.specs.Feeding.{FedTo, aimed_seat};
 
-use call_table::{Answered, Call, Item, Need, Request};
+use call_table::{Answered, Call, Item, Request};
 use hook_api::Asked;
 use std::alloc::{AllocError as NoMemory, Global};
 use std::marker::Model;
@@ -37,14 +37,21 @@ impl Model for Client {
     ghost invariant = { HasDeskRoom };
 }
 
-/// Keeps a call only while it is open. Gives its answer, once it has ended.
-fn settle(place: &mut Option<Call>) -> Option<Answered>
+/// Keeps a call only while it is open. Its answer is told, once it has ended.
+fn settle(place: &mut Option<Call>, ended: &mut Option<Answered>)
     ensures open { IfSome place.old (λ call. (desk : DeskFacts) → place.new ≡ open_call call.client (moment_of call desk) call.stage.next) }
-    ensures answer { IfSome place.old (λ call. result ≡ ended_by call.stage.next) }
+    ensures answer { IfSome place.old (λ call. ended.new ≡ ended_by call.stage.next) }
 {
-    let ended = *place.as_ref()?.answer()?;
-    *place = None;
-    Some(ended)
+    if ended.is_some() {
+        *ended = None;
+    }
+    let Some(call) = place else {
+        return;
+    };
+    if let Some(answer) = call.answer() {
+        *ended = Some(*answer);
+        *place = None;
+    }
 }
 
 impl Client {
@@ -86,13 +93,12 @@ impl Client {
         self.desk.lose(addr);
     }
 
-    /// What its open call needs, if it has one. `NoMemory` only where there is none to name several regions that go back.
-    pub fn need(&self, alloc: Global) -> Option<Result<Need, NoMemory>>
+    /// Its open call, if it has one.
+    pub fn call(&self) -> Option<&Call>
         ensures none { IfNone result (self.now.call ≡ None) }
-        ensures some { IfSome result (NeedOf self.now.call) }
+        ensures some { IfSome result (λ call. self.now.call ≡ Some call.now) }
     {
-        let call = self.call.as_ref()?;
-        Some(call.need(alloc))
+        self.call.as_ref()
     }
 
     /// The ask whose answer the turn carries that its open call needs, where it carries one.
@@ -138,16 +144,16 @@ impl Client {
         Call::start(&mut self.call, client, &mut self.desk, &request, alloc)
     }
 
-    /// Feeds an item to its open call. Gives the answer, where the call has ended by it: that is `NoMemory` where there is none
-    /// to name the regions that go back next.
-    pub fn feed(&mut self, item: Item<'_>, alloc: Global) -> Option<Answered>
+    /// Feeds an item to its open call. The answer is told, where the call has ended by it: that is `NoMemory` where there is
+    /// none to name the regions that go back next.
+    pub fn feed(&mut self, item: Item<'_>, alloc: Global, ended: &mut Option<Answered>)
         requires { IsSomeAnd self.old.call (λ call. Goes (after (moment_of call self.old.desk) (lent item)).stage.next) }
-        ensures { IfSome self.old.call (λ call. FedTo call self.old.desk (lent item.entry) result self.new) }
+        ensures { IfSome self.old.call (λ call. FedTo call self.old.desk (lent item.entry) ended.new self.new) }
     {
         let Some(call) = &mut self.call else {
             unreachable!()
         };
         let _named = call.next(&mut self.desk, item, alloc);
-        settle(&mut self.call)
+        settle(&mut self.call, ended);
     }
 }

@@ -14,7 +14,7 @@ ghost use Rattle.heap_core.specs.Heaps.{IsStep, IsSure, parted, seated};
 ghost use Rattle.heap_core.specs.Logs.{owed_to};
 ghost use Rattle.heap_core.specs.Records.{most_room};
 ghost use Rattle.heap_core.specs.Seats.{seat_at};
-ghost use Rattle.heap_core.specs.Stepping.{HolderIs, IsPublished, MadeTurn, Needs, StarvesAt, TakesAt, item_of, with_ask};
+ghost use Rattle.heap_core.specs.Stepping.{HolderIs, IsPublished, MadeTurn, Needs, StarvesAt, TakesAt, item_of, replied_by, with_ask};
 
 use crate::Arenas;
 use crate::heaps::{Did, Heap, Stepped, holder_of};
@@ -42,31 +42,32 @@ fn promise(log: &mut AskLog, arena: &Arena, client: u32, op: &Op) -> Result<(), 
     log.promise(client, places_for(arena, op)?)
 }
 
-/// A turn in one of the arenas, with places for the asks that may follow it. Where memory is wanting, nothing changes. The
-/// operation is from then on as it entered the journal.
+/// A turn in one of the arenas, with places for the asks that may follow it. The reply is written into the place for it. Where
+/// memory is wanting, nothing else changes. The operation is from then on as it entered the journal.
 #[inline(always)]
 fn make_turn(
     arenas: &mut Arenas,
     log: &mut AskLog,
     turn: &mut Turn,
     asked: &Option<Asked>,
-) -> Result<Reply, NoMemory>
+    reply: &mut Reply,
+) -> Result<(), NoMemory>
     requires arena { turn.old.arena < 32 }
     requires client { turn.old.client < 32 }
     requires can { CanTurn arenas.old turn.old.client turn.old.arena turn.old.op asked.now }
-    ensures turn { MadeTurn arenas.old log.old.owed (with_ask turn.old asked.now) result arenas.new log.new.owed }
+    ensures turn { MadeTurn arenas.old log.old.owed (with_ask turn.old asked.now) (replied_by result reply.new) arenas.new log.new.owed }
     ensures asks { log.new.asks ≡ log.old.asks }
 {
     promise(log, arenas.at(turn.arena), turn.client, &turn.op)?;
-    arenas.turn(turn.arena, turn.client, &mut turn.op, asked)
+    arenas.turn(turn.arena, turn.client, &mut turn.op, asked, reply)
 }
 
 /// What a call is fed that wanted a turn.
-fn item_of(made: &Result<Reply, NoMemory>) -> Item<'_>
-    ensures { lent result ≡ item_of made.now }
+fn item_of<'a>(made: Result<(), NoMemory>, reply: &'a Reply) -> Item<'a>
+    ensures { lent result ≡ item_of (replied_by made reply.now) }
 {
     match made {
-        Ok(reply) => Item::Replied(reply),
+        Ok(()) => Item::Replied(reply),
         Err(_) => Item::Starved,
     }
 }
@@ -98,7 +99,14 @@ impl Heap {
             client: holder,
             op: Op::Publish { addr: region.addr },
         };
-        make_turn(&mut self.arenas, &mut self.log, &mut turn, &None)?;
+        let mut reply = Reply::Noted;
+        make_turn(
+            &mut self.arenas,
+            &mut self.log,
+            &mut turn,
+            &None,
+            &mut reply,
+        )?;
         self.clients[holder as usize].lose(region.addr);
         Ok(())
     }
@@ -114,69 +122,70 @@ impl Heap {
     }
 
     /// The call of a client has ended, since the turn that it wants found no memory.
-    fn starve(&mut self, client: u32, alloc: Global) -> Stepped
+    fn starve(&mut self, client: u32, alloc: Global, told: &mut Stepped)
         requires client { client < 32 }
         requires starves { StarvesAt (seat_at self.old.seats client).call }
-        ensures step { (shelf : Shelf) → IsStep self.old shelf client (seat_at self.old.seats client).call result self.new shelf }
+        ensures step { (shelf : Shelf) → IsStep self.old shelf client (seat_at self.old.seats client).call told.new self.new shelf }
         ensures sure { IsSure self.old client (seat_at self.old.seats client).call self.new }
     {
         self.arenas.are_apart();
-        let ended = self.clients[client as usize].feed(Item::Starved, alloc);
-        Stepped {
-            did: Did::Turn,
-            ended,
-        }
+        told.did = Did::Turn;
+        self.clients[client as usize].feed(Item::Starved, alloc, &mut told.ended);
     }
 
     /// The turn that a client's call wants.
-    fn turn(&mut self, turn: &mut Turn, alloc: Global) -> Stepped
+    fn turn(&mut self, turn: &mut Turn, alloc: Global, told: &mut Stepped)
         requires client { turn.old.client < 32 }
         requires needs { Needs (seat_at self.old.seats turn.old.client).call (Need.Turn turn.old) }
         requires free { IfSome (seat_at self.old.seats turn.old.client).call (λ call. HolderIs self.old call None) }
-        ensures step { (shelf : Shelf) → IsStep self.old shelf turn.old.client (seat_at self.old.seats turn.old.client).call result self.new shelf }
+        ensures step { (shelf : Shelf) → IsStep self.old shelf turn.old.client (seat_at self.old.seats turn.old.client).call told.new self.new shelf }
         ensures sure { IsSure self.old turn.old.client (seat_at self.old.seats turn.old.client).call self.new }
     {
         let client = turn.client as usize;
         self.arenas.are_apart();
         let asked = self.clients[client].heard();
-        let made = make_turn(&mut self.arenas, &mut self.log, turn, asked);
-        let ended = self.clients[client].feed(item_of(&made), alloc);
-        Stepped {
-            did: Did::Turn,
-            ended,
-        }
+        let mut reply = Reply::Noted;
+        let made = make_turn(&mut self.arenas, &mut self.log, turn, asked, &mut reply);
+        told.did = Did::Turn;
+        self.clients[client].feed(item_of(made, &reply), alloc, &mut told.ended);
     }
 
     /// The turn by which a holder publishes the region that a client's call takes over next.
-    fn take_over(&mut self, client: u32, holder: u32, region: Held, alloc: Global) -> Stepped
+    fn take_over(
+        &mut self,
+        client: u32,
+        holder: u32,
+        region: Held,
+        alloc: Global,
+        told: &mut Stepped,
+    )
         requires client { client < 32 }
         requires holder { IsSomeAnd (seat_at self.old.seats client).call (λ call. HolderIs self.old call (Some (holder, region))) }
-        ensures step { (shelf : Shelf) → IsStep self.old shelf client (seat_at self.old.seats client).call result self.new shelf }
+        ensures step { (shelf : Shelf) → IsStep self.old shelf client (seat_at self.old.seats client).call told.new self.new shelf }
         ensures sure { IsSure self.old client (seat_at self.old.seats client).call self.new }
     {
         self.stands();
         match self.publish(holder, region) {
             Ok(()) => {
                 self.aim(client, region.arena);
-                Stepped {
-                    did: Did::Turn,
-                    ended: None,
-                }
+                told.go_on(Did::Turn);
             }
-            Err(_) => self.starve(client, alloc),
+            Err(_) => self.starve(client, alloc, told),
         }
     }
 
     /// A turn for a client's call: the one by which a holder publishes, if there is one, and else the one that the call wants.
-    fn turn_for(&mut self, turn: &mut Turn, alloc: Global) -> Stepped
+    fn turn_for(&mut self, turn: &mut Turn, alloc: Global, told: &mut Stepped)
         requires client { turn.old.client < 32 }
         requires needs { Needs (seat_at self.old.seats turn.old.client).call (Need.Turn turn.old) }
-        ensures step { (shelf : Shelf) → IsStep self.old shelf turn.old.client (seat_at self.old.seats turn.old.client).call result self.new shelf }
+        ensures step { (shelf : Shelf) → IsStep self.old shelf turn.old.client (seat_at self.old.seats turn.old.client).call told.new self.new shelf }
         ensures sure { IsSure self.old turn.old.client (seat_at self.old.seats turn.old.client).call self.new }
     {
         match self.holder_for(turn.client) {
-            Some((holder, region)) => self.take_over(turn.client, holder as u32, region, alloc),
-            None => self.turn(turn, alloc),
+            Some((holder, region)) => {
+                self.take_over(turn.client, holder as u32, region, alloc, told);
+            }
+            None => self.turn(turn, alloc, told),
         }
     }
 
@@ -188,20 +197,18 @@ impl Heap {
         ask: Ask,
         shelf: &mut HookShelf<H>,
         alloc: Global,
-    ) -> Stepped
+        told: &mut Stepped,
+    )
         requires client { client < 32 }
         requires needs { Needs (seat_at self.old.seats client).call (Need.Ask arena ask) }
-        ensures step { IsStep self.old shelf.old client (seat_at self.old.seats client).call result self.new shelf.new }
+        ensures step { IsStep self.old shelf.old client (seat_at self.old.seats client).call told.new self.new shelf.new }
         ensures sure { IsSure self.old client (seat_at self.old.seats client).call self.new }
     {
         self.arenas.are_apart();
         let asked = shelf.ask(self.arenas.at(arena).box_no(), ask);
         self.log.push(client, asked);
-        let ended = self.clients[client as usize].feed(Item::Told(&asked), alloc);
-        Stepped {
-            did: Did::Ask,
-            ended,
-        }
+        told.did = Did::Ask;
+        self.clients[client as usize].feed(Item::Told(&asked), alloc, &mut told.ended);
     }
 
     /// Carries the open call of a client on, if it has one, by one turn or one ask. Where the call has ended by it, its answer
@@ -217,15 +224,32 @@ impl Heap {
         ensures step { IsStep self.old shelf.old client (seat_at self.old.seats client).call result self.new shelf.new }
         ensures sure { IsSure self.old client (seat_at self.old.seats client).call self.new }
     {
-        match self.clients[client as usize].need(alloc) {
-            None => Stepped {
-                did: Did::Idle,
-                ended: None,
-            },
-            Some(Ok(Need::Ask { arena, ask })) => self.ask(client, arena, ask, shelf, alloc),
-            Some(Ok(Need::Turn(mut turn))) => self.turn_for(&mut turn, alloc),
-            Some(Ok(Need::Done(_))) => unreachable!(),
-            Some(Err(_)) => self.starve(client, alloc),
+        let mut told = Stepped::none();
+        self.step_into(client, shelf, alloc, &mut told);
+        told
+    }
+
+    /// The same, for a caller that has a place for what is told.
+    pub fn step_into<H: ExtentHooks>(
+        &mut self,
+        client: u32,
+        shelf: &mut HookShelf<H>,
+        alloc: Global,
+        told: &mut Stepped,
+    )
+        requires { client < 32 }
+        ensures step { IsStep self.old shelf.old client (seat_at self.old.seats client).call told.new self.new shelf.new }
+        ensures sure { IsSure self.old client (seat_at self.old.seats client).call self.new }
+    {
+        let Some(call) = self.clients[client as usize].call() else {
+            told.go_on(Did::Idle);
+            return;
+        };
+        match call.need(alloc) {
+            Need::Ask { arena, ask } => self.ask(client, arena, ask, shelf, alloc, told),
+            Need::Turn(mut turn) => self.turn_for(&mut turn, alloc, told),
+            Need::Starved => self.starve(client, alloc, told),
+            Need::Done(_) => unreachable!(),
         }
     }
 }

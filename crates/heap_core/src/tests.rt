@@ -22,7 +22,8 @@ fn make(rt: &impl Abort, arenas: &mut Arenas) -> Result<(), Fail> {
         muzzy_ms: 5000,
         now: 9,
     });
-    let reply = arenas.turn(1, CLIENT, &mut live, &None)?;
+    let mut reply = Reply::Nothing;
+    arenas.turn(1, CLIENT, &mut live, &None, &mut reply)?;
     assert_eq!(rt; reply, Reply::Noted);
     assert_eq!(rt;
         (arenas.at(1).life(), arenas.at(1).box_no()),
@@ -36,7 +37,8 @@ fn look(rt: &impl Abort, arenas: &mut Arenas, arena: u32, reply: Reply) -> Resul
     requires { arena < 32 }
 {
     let mut op = Op::Look { pages: 5, align: 1 };
-    let told = arenas.turn(arena, CLIENT, &mut op, &None)?;
+    let mut told = Reply::Nothing;
+    arenas.turn(arena, CLIENT, &mut op, &None, &mut told)?;
     assert_eq!(rt; told, reply);
     Ok(())
 }
@@ -172,7 +174,7 @@ fn calls_of_two_clients_interleave(rt: HostRuntime) -> Result<(), Fail> {
     assert_eq!(rt; heap.arena(0).counts().allocated, 20480 + 16);
     let (journals, asks) = heap.finish(alloc)?;
     assert!(rt; journals.as_slice()[0].kept.len() > 0);
-    assert!(rt; !asks.as_slice().is_empty());
+    assert!(rt; !asks.to_list(alloc)?.is_empty());
     Ok(())
 }
 

@@ -1,7 +1,6 @@
 -- The region that a memalign is given is aligned: each step of the call keeps what is so of its place.
-use Rattle.replay_run.proofs.Words.{◌≡◌, ℕ, ◌%◌, ◌<◌, ◌==◌, Bool, true, false, All, inl, inr, List, [], ◌∷◌, ◌++◌, Option, None, Some, IfSome, length, get_or, refl, sym, ◌∙◌, ap, subst, arith, nat_lt, Contains, count_by, eqb-true, ltb-true, nat_tests, get_or_default, All-filter, All-head, All-tail, sum_by-cons, ones, align_at, SpaceRegion, Space, is_held_by, Sound, both_true, Held, cached_in, DeskFacts, cached_is_flat, Answered, Region, Item, Request, Memalign, Owning, Point, Turns, Next, Go, Over, More, Gone, Ends, Nowhere, IsCacheAligned, CallFacts, AllCame, desk_fed, Moment, after, begin, begin_memalign, begin_stage, run, settle, step_next, step, memaligns-are_aligned, IsArenas, opening_records, record_at, HeapFacts, Record, Seat, asked_for, first_desk, first_seat, seat_at, HasRegions, IsSeated, SitsAt, is_region, sound_at, had_counts, Owns, count_in, counts_low, has_owns, opening-sits, opening_is, past, IsAligned, IsAlignedFor, MemalignsAreAligned, Tale, answer_in, tale_fed, tale_in, WorldEvent, IsSound, World}
+use Rattle.replay_run.proofs.Words.{◌≡◌, ℕ, ◌%◌, ◌<◌, ◌==◌, Bool, true, false, All, inl, inr, List, [], ◌∷◌, ◌++◌, Option, None, Some, IfSome, length, get_or, refl, sym, ◌∙◌, ap, subst, arith, nat_lt, Contains, count_by, eqb-true, ltb-true, nat_tests, get_or_default, All-filter, All-head, All-tail, sum_by-cons, ones, align_at, SpaceRegion, Space, is_held_by, Sound, both_true, Held, cached_in, DeskFacts, cached_is_flat, Answered, Region, Item, Request, Memalign, Owning, Point, Turns, Next, Go, Over, More, Gone, Ends, Nowhere, IsCacheAligned, CallFacts, AllCame, desk_fed, Moment, after, begin, begin_memalign, begin_stage, run, settle, step_next, step, memaligns-are_aligned, IsArenas, opening_records, record_at, HeapFacts, Record, Seat, asked_for, first_desk, first_seat, seat_at, HasRegions, IsSeated, SitsAt, is_region, sound_at, had_counts, Owns, count_in, counts_low, has_owns, opening-sits, opening_is, past, IsAligned, IsAlignedFor, MemalignsAreAligned, Tale, answer_in, tale_fed, tale_in, WorldEvent, IsSound, World, Came}
 use Rattle.call_table.specs.declared.needs.Answered.TheVariants.{Ok}
-use Rattle.call_table.specs.Causes.{Came}
 use Rattle.replay_run.proofs.Getting.{Gets, begin_gets, step_gets}
 use Rattle.replay_run.proofs.Tales.{EndsWith, IsEnded, Kept, each_event}
 

@@ -1,7 +1,6 @@
 -- Each step that doesn't end for want of memory adds an entry to a journal, or an ask.
-use Rattle.replay_run.proofs.Words.{arith, length, length-append, All, ◌+◌, ◌^◌, ◌≤◌, ◌≡◌, ◌≢◌, ◌<◌, inl, inr, ℕ, true, List, [], ◌∷◌, Option, None, Some, is_some, refl, ap, sum_by, get_or_default, position-Some, sum_by-le, sum_by-set, Op, Publish, AskFacts, Shelf, Held, held_at, Next, Go, Point, CallFacts, taken_next, Want, WantAsk, WantTurn, want, Stepped, no_record, record_after, record_at, Record, HeapFacts, IsStepFor, IsStep, WantedAt, holding_client, holder_for, op_for, region_in_seat, turned_for, Seat, first_seat, seat_at, HoldersPublish, IsSeated, SitsAt, IsSound, entry_count, step_limit, steps_of, has_open_call}
+use Rattle.replay_run.proofs.Words.{arith, length, length-append, All, ◌+◌, ◌^◌, ◌≤◌, ◌≡◌, ◌≢◌, ◌<◌, inl, inr, ℕ, true, List, [], ◌∷◌, Option, None, Some, is_some, refl, ap, sum_by, get_or_default, position-Some, sum_by-le, sum_by-set, Op, Publish, AskFacts, Shelf, Held, held_at, Next, Go, Point, CallFacts, taken_next, Want, WantAsk, WantTurn, want, Stepped, no_record, record_after, record_at, Record, HeapFacts, IsStepFor, IsStep, WantedAt, holding_client, holder_for, op_for, region_in_seat, turned_for, Seat, first_seat, seat_at, HoldersPublish, IsSeated, SitsAt, IsSound, entry_count, step_limit, steps_of, has_open_call, records_turned}
 use Rattle.call_table.specs.declared.needs.Answered.TheVariants.{NoMemory}
-use Rattle.heap_core.specs.Arenas.{records_turned}
 
 -- a turn in an arena adds an entry to its journal
 turn_longer : (records : List Record) (arena c : ℕ) (op : Op) (asked : Option AskFacts) → arena < length records →

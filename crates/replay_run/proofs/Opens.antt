@@ -1,7 +1,6 @@
 -- A call that has no answer is open.
-use Rattle.replay_run.proofs.Words.{arith, length, length-set, ◌≡◌, ◌≢◌, ◌<◌, inl, inr, ℕ, true, Option, None, Some, is_none, is_some, set, refl, sym, ◌∙◌, ap, get_or-set_same, Op, AskFacts, Shelf, Item, Request, Next, Go, Over, More, Gone, Ends, Nowhere, Point, CallFacts, desk_fed, IsPointOrEnd, ended_by, taken_next, Moment, step_next, Want, WantAsk, WantTurn, want, begin-is_call, settle_place, Stepped, HeapFacts, IsStepFor, IsStep, WantedAt, answered_by, holder_for, moment_after, parted, started, turned_for, Seat, answer_of, asked_for, begun, first_seat, open_call, seat_at, seat_of, AsksSit, HoldersPublish, IsSeated, SitsAt, TurnsSit, IsSound, has_open_call}
+use Rattle.replay_run.proofs.Words.{arith, length, length-set, ◌≡◌, ◌≢◌, ◌<◌, inl, inr, ℕ, true, Option, None, Some, is_none, is_some, set, refl, sym, ◌∙◌, ap, get_or-set_same, Op, AskFacts, Shelf, Item, Request, Next, Go, Over, More, Gone, Ends, Nowhere, Point, CallFacts, desk_fed, IsPointOrEnd, ended_by, taken_next, Moment, step_next, Want, WantAsk, WantTurn, want, begin-is_call, settle_place, Stepped, HeapFacts, IsStepFor, IsStep, WantedAt, answered_by, holder_for, moment_after, parted, started, turned_for, Seat, answer_of, asked_for, begun, first_seat, open_call, seat_at, seat_of, AsksSit, HoldersPublish, IsSeated, SitsAt, TurnsSit, IsSound, has_open_call, Goes}
 use Rattle.call_table.specs.declared.needs.Answered.TheVariants.{NoMemory}
-use Rattle.call_table.specs.Needs.{Goes}
 use Rattle.replay_run.proofs.Longer.{holder_region}
 
 -- a call that came to a place is open there, or has its answer

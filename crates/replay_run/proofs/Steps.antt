@@ -1,10 +1,5 @@
 -- A step of a client's open call is an event.
-use Rattle.replay_run.proofs.Words.{◌≡◌, ◌≢◌, inl, inr, ℕ, ◌+◌, Bool, true, List, [], ◌∷◌, ◌++◌, Option, None, Some, is_none, is_some, length, length-append, refl, sym, subst, arith, ◌∙◌, ap, append-nil, Appends-trans, Appends, AppendsPrefix, Chain, Shelf, Next, Go, Point, CallFacts, Want, WantAsk, WantTurn, want, Did, Stepped, ToldItem, HeapFacts, IsStepFor, IsStep, WantedAt, answered_by, holder_for, moment_after, answer_of, seat_at, ask_line, turn_line, Line, Verb, WorldEvent, IsNext, Starved, Told, Turned, Unnamed, after_event, client_awaited, line_in, shelf_event, Stop, IsSound, Reached, EndsHere, Here, Now, Outset, did_line, is_one_step, shown_line, world_at, status_for, Awaits, OneStep, World, awaits_after, ended_line, has_open_call, names_closed, step_text, stepped, verb_at, verbs_closed}
-use Rattle.std.proofs.Math.Seq.{get_or-append_seam}
-use Rattle.std.proofs.lemmas.Option.{slice_get-get_or}
-use Rattle.std.specs.List.{slice_get}
-use Rattle.hook_api.specs.Asked.{AskFacts}
-use Rattle.heap_core.specs.Logs.{last_asked}
+use Rattle.replay_run.proofs.Words.{◌≡◌, ◌≢◌, inl, inr, ℕ, ◌+◌, Bool, true, List, [], ◌∷◌, ◌++◌, Option, None, Some, is_none, is_some, refl, sym, subst, arith, ◌∙◌, ap, append-nil, Appends-trans, Appends, AppendsPrefix, Chain, Shelf, Next, Go, Point, CallFacts, Want, WantAsk, WantTurn, want, Did, Stepped, ToldItem, HeapFacts, IsStepFor, IsStep, WantedAt, answered_by, holder_for, moment_after, answer_of, seat_at, ask_line, turn_line, Line, Verb, WorldEvent, IsNext, Starved, Told, Turned, Unnamed, after_event, client_awaited, line_in, shelf_event, Stop, IsSound, Reached, EndsHere, Here, Now, Outset, did_line, is_one_step, shown_line, world_at, status_for, Awaits, OneStep, World, awaits_after, ended_line, has_open_call, names_closed, step_text, stepped, verb_at, verbs_closed, AskFacts, last_asked, last_pushed}
 use Rattle.call_table.specs.declared.needs.Answered.TheVariants.{NoMemory}
 use Rattle.replay_run.proofs.Came.{Leads, came_next}
 use Rattle.replay_run.proofs.Endings.{all_of, behind, longer}
@@ -21,12 +16,6 @@ pub record StepEvent (w : World) (c : ℕ) (shelf : Shelf) (told : Stepped) (hea
   pub more : List ℕ
   pub text : (after_event w event).text ≡ w.text ++ more
   pub after : told.ended ≢ Some NoMemory → after_event w event ≡ stepped w c heap (did_line c told.did (last_asked heap.heard)) told.ended
-
--- the ask that was made is the last one
-last_pushed : (heard : List AskFacts) (asked : AskFacts) → last_asked (heard ++ asked ∷ []) ≡ Some asked
-last_pushed heard asked =
-    let behind : length (heard ++ asked ∷ []) ≡ length heard + 1 = length-append heard (asked ∷ []) in
-    subst (λ k. slice_get (heard ++ asked ∷ []) k ≡ Some asked) (omega (arith, behind)) (slice_get-get_or (heard ++ asked ∷ []) (length heard) asked (omega (arith, behind)) ∙ ap Some (get_or-append_seam heard asked [] asked))
 
 -- a step by what its call wants
 step_wanted : (w : World) (c : ℕ) (shelf : Shelf) (call : CallFacts) (told : Stepped) (heap : HeapFacts) (shelf' : Shelf) (point : Point) (wanted : Want) →

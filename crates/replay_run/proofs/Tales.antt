@@ -1,9 +1,8 @@
 -- What is kept by each step of a call is so of each open call of a play by its tale, and of each answer.
-use Rattle.replay_run.proofs.Words.{◌≡◌, ◌≢◌, ℕ, ◌<◌, ◌≤◌, ◌==◌, Bool, true, false, List, [], ◌∷◌, Option, None, Some, IfSome, is_none, length, refl, sym, ◌∙◌, ap, subst, arith, nat_lt, option_map, ltb-true, nat_tests, get_or-replicate, get_or-set_other, length-replicate, set-get_or, Op, Space, Sound, step_of, AskFacts, Held, DeskFacts, not_holding, Answered, NotHeld, Item, Replied, ToldItem, Request, Owning, Point, Turns, Next, Go, Over, More, Gone, Ends, Nowhere, CallFacts, moment_of, desk_fed, Moves, aimed, ended_by, published_next, Moment, after, begin_stage, settle, step_next, Want, WantAsk, WantTurn, step, record_at, spaces_of, with_chunk_found, HeapFacts, answered_by, holder_for, moment_after, parted, published_for, region_for, replied, started, told_to, turned_for, Seat, answer_of, asked_for, begun, first_seat, open_call, seat_at, seat_of, IsSeated, SitsAt, found_for, settled_is, sound_at, past, ask_line, turn_line, Line, Call, Start, Step, End, Verb, Take, CtlPlain, CtlWrite, AllEvents, NowhereCause, Tale, answer_begun, answer_in, no_tales, tale_at, tale_begun, tale_fed, tale_in, tale_turned, tale_until, tales_after, tales_begun, line_cause, verb_cause, address_at, AllWorlds, WorldEvent, HasSoundHeap, IsAskOf, IsPlay, IsSound, IsWanted, client_awaited, Read, Began, Turned, Told, Starved, Unnamed, after_event, Awaits, Memory, Nothing, OneStep, TheEnd, TheEndBefore, TheStart, World, arena_with, awaits_after, awaits_call, awaits_or_idle, begins, begun_as, has_open_call, line_read, opening_world, request_of, stepped, take_in, target_of}
+use Rattle.replay_run.proofs.Words.{◌≡◌, ◌≢◌, ℕ, ◌<◌, ◌≤◌, ◌==◌, Bool, true, false, List, [], ◌∷◌, Option, None, Some, IfSome, is_none, length, refl, sym, ◌∙◌, ap, subst, arith, nat_lt, option_map, ltb-true, nat_tests, get_or-replicate, get_or-set_other, length-replicate, set-get_or, Op, Space, Sound, step_of, AskFacts, Held, DeskFacts, not_holding, Answered, NotHeld, Item, Replied, ToldItem, Request, Owning, Point, Turns, Next, Go, Over, More, Gone, Ends, Nowhere, CallFacts, moment_of, desk_fed, Moves, aimed, ended_by, published_next, Moment, after, begin_stage, settle, step_next, Want, WantAsk, WantTurn, step, record_at, spaces_of, with_chunk_found, HeapFacts, answered_by, holder_for, moment_after, parted, published_for, region_for, replied, started, told_to, turned_for, Seat, answer_of, asked_for, begun, first_seat, open_call, seat_at, seat_of, IsSeated, SitsAt, found_for, settled_is, sound_at, past, ask_line, turn_line, Line, Call, Start, Step, End, Verb, Take, CtlPlain, CtlWrite, AllEvents, NowhereCause, Tale, answer_begun, answer_in, no_tales, tale_at, tale_begun, tale_fed, tale_in, tale_turned, tale_until, tales_after, tales_begun, line_cause, verb_cause, address_at, AllWorlds, WorldEvent, HasSoundHeap, IsAskOf, IsPlay, IsSound, IsWanted, client_awaited, Read, Began, Turned, Told, Starved, Unnamed, after_event, Awaits, Memory, Nothing, OneStep, TheEnd, TheEndBefore, TheStart, World, arena_with, awaits_after, awaits_call, awaits_or_idle, begins, begun_as, has_open_call, line_read, opening_world, request_of, stepped, take_in, target_of, Came}
 use Rattle.std.proofs.Common.{slice_set}
 use Rattle.std.proofs.lemmas.List.{get_or-set_same}
 use Rattle.std.proofs.Math.ListN.{length-set}
-use Rattle.call_table.specs.Causes.{Came}
 
 -- the call that is to begin is one that is carried out
 abbrev pub IsBuilt : Awaits → Type 0

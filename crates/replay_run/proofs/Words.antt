@@ -1,4 +1,5 @@
 -- The words of the proofs: definitions and lemmas of std, of the crates below and of this one, each under one name.
+unfoldable pub use Rattle.report_text.specs.Lines.{call_line}
 pub use Rattle.std.specs.List.{Contains, count_by, sum_by, flat_map, range_with_len}
 pub use Rattle.std.specs.Option.{option_map}
 pub use Rattle.std.specs.Prelude.{slice_set}
@@ -20,10 +21,10 @@ pub use Rattle.call_table.proofs.Memaligns.{memaligns-are_aligned}
 pub use Rattle.call_table.proofs.Reasons.{NextWhy, begin_why, settle_why, step_why}
 pub use Rattle.call_table.specs.Aligned.{IsCacheAligned}
 pub use Rattle.call_table.specs.Calls.{CallFacts, moment_of}
-pub use Rattle.call_table.specs.Causes.{AllCame}
+pub use Rattle.call_table.specs.Causes.{AllCame, Came}
 pub use Rattle.call_table.specs.Desks.{desk_fed}
 pub use Rattle.call_table.specs.Laws.{Moves}
-pub use Rattle.call_table.specs.Needs.{IsPointOrEnd}
+pub use Rattle.call_table.specs.Needs.{IsPointOrEnd, Goes}
 pub use Rattle.call_table.specs.Reads.{taken_next, ended_by, aimed, published_next}
 pub use Rattle.call_table.specs.Runs.{Moment, after, begin, begin_memalign, begin_stage, run, settle, step_next, begin_get, is_alignment, page_align, small_hit}
 pub use Rattle.call_table.specs.Stages.{Point, Turns, Next, Go, Over, More, Gone, Ends, Nowhere, Asks, Tells}
@@ -45,7 +46,7 @@ pub use Rattle.heap_core.proofs.Hands.{had_counts}
 pub use Rattle.heap_core.proofs.Settling.{Owns, count_in, counts_low, has_owns}
 pub use Rattle.heap_core.proofs.Sitting.{opening-sits, asks-sit, holders-publish, turns-sit}
 pub use Rattle.heap_core.proofs.Turned.{opening_is, past}
-pub use Rattle.heap_core.specs.Arenas.{IsArenas, opening_records, record_at, journal_of, no_record, record_after, spaces_of}
+pub use Rattle.heap_core.specs.Arenas.{IsArenas, opening_records, record_at, journal_of, no_record, record_after, spaces_of, records_turned}
 pub use Rattle.heap_core.specs.Chunks.{with_chunk_found}
 pub use Rattle.heap_core.specs.Heaps.{HeapFacts, holder_for, published_for, region_for, started, turned_for, opening_heap, IsStepFor, IsStep, WantedAt, holding_client, op_for, region_in_seat, answered_by, moment_after, parted, replied, told_to}
 pub use Rattle.heap_core.specs.Records.{Record}
@@ -59,7 +60,6 @@ pub use Rattle.hook_api.specs.Shelf.{Shelf, PlanStep}
 pub use Rattle.hook_api.specs.declared.kept.Journal.{Journal}
 pub use Rattle.hook_api.specs.declared.plans.Kind.{Kind}
 pub use Rattle.report_text.specs.Lines.{idle_line, ask_line, turn_line}
-unfoldable pub use Rattle.report_text.specs.Lines.{call_line}
 pub use Rattle.report_text.specs.declared.causes.Cause.{Cause}
 pub use Rattle.report_text.specs.declared.causes.Cause.TheVariants.{Clock, Cut, LimitBytes, LimitLines, LimitThreads}
 pub use Rattle.size_classes.specs.Classes.{align_at, aligned_for}
@@ -105,3 +105,5 @@ pub use Rattle.replay_run.specs.declared.input.Found.{Found}
 pub use Rattle.replay_run.specs.declared.input.Found.TheVariants.{Line as FoundLine, TooLong}
 pub use Rattle.replay_run.specs.declared.input.Stop.{Stop}
 pub use Rattle.replay_run.specs.declared.input.Stop.TheVariants.{ReadFault, WriteFault, NoMemory}
+pub use Rattle.heap_core.specs.Logs.{last_asked}
+pub use Rattle.heap_core.proofs.LastAsk.{last_pushed}

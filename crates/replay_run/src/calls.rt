@@ -1,6 +1,6 @@
 //! Calls of clients: how they begin, their steps, and their ends.
 
-ghost use Rattle.std.specs.Prelude.{◌≡◌, ◌≢◌, ◌++◌, ◌<◌, ◌≤◌, ℕ, Bool, true, false, [], Some, option_copied, IfErr, OnErr, OnOk};
+ghost use Rattle.std.specs.Prelude.{◌≡◌, ◌≢◌, ◌++◌, ◌<◌, ◌≤◌, ℕ, Bool, true, false, [], Some, IfErr, OnErr, OnOk};
 ghost use Rattle.edge_io.specs.Bytes.{Appends, AppendsPrefix};
 ghost use Rattle.hook_api.specs.Shelf.{Shelf};
 ghost use Rattle.call_table.specs.declared.needs.Answered.{Answered};
@@ -56,8 +56,8 @@ fn head(verb: &Verb) -> Head<'_>
 }
 
 /// Writes the line of an ask, if there is one.
-fn write_ask(out: &mut Vec<u8>, client: u32, asked: Option<&Asked>) -> Result<(), NoMemory>
-    ensures { OnOk result (out.new.items ≡ out.old.items ++ asked_line client (option_copied asked.entry)) }
+fn write_ask(out: &mut Vec<u8>, client: u32, asked: Option<Asked>) -> Result<(), NoMemory>
+    ensures { OnOk result (out.new.items ≡ out.old.items ++ asked_line client asked) }
 {
     match asked {
         Some(asked) => ask_line(out, client, asked.ask(), asked.answer()),
@@ -87,12 +87,12 @@ fn write_end(
     out: &mut Vec<u8>,
     client: u32,
     verb: &Option<Verb>,
-    answer: Option<Answered>,
+    answer: &Option<Answered>,
 ) -> Result<(), NoMemory>
-    ensures { OnOk result (out.new.items ≡ out.old.items ++ ended_line client verb.now answer) }
+    ensures { OnOk result (out.new.items ≡ out.old.items ++ ended_line client verb.now answer.now) }
 {
     match (verb, answer) {
-        (Some(verb), Some(answer)) => call_line(out, client, head(verb), &answer),
+        (Some(verb), Some(answer)) => call_line(out, client, head(verb), answer),
         _ => Ok(()),
     }
 }
@@ -118,7 +118,7 @@ fn print_step<K: Sink>(
     }
     text.clear();
     write_step(text, shown, client, told.did, heap)?;
-    write_end(text, client, verb, told.ended)?;
+    write_end(text, client, verb, &told.ended)?;
     print(sink, text)
 }
 
@@ -130,7 +130,7 @@ fn is_starved(told: &Stepped) -> bool
 }
 
 /// Makes one step of a client's open call, and prints its answer where it ends by it. The line of the step itself is printed
-/// where it is to be shown.
+/// where it is to be shown. What the step told stands in the place for it.
 pub fn step_once<K: Sink, H: ExtentHooks>(
     alloc: Global,
     sink: &mut K,
@@ -138,6 +138,7 @@ pub fn step_once<K: Sink, H: ExtentHooks>(
     state: &mut State,
     client: u32,
     shown: bool,
+    told: &mut Stepped,
 ) -> Result<(), Stop>
     requires client { client < 32 }
     requires open_call { has_open_call state.old.heap client ≡ true }
@@ -149,9 +150,9 @@ pub fn step_once<K: Sink, H: ExtentHooks>(
     ensures counts { K.faults sink.old ≤ K.faults sink.new }
 {
     state.heap.stands();
-    let told = state.heap.step_client(client, shelf, alloc);
+    state.heap.step_into(client, shelf, alloc, told);
     state.heap.stands();
-    if is_starved(&told) {
+    if is_starved(told) {
         return Err(Stop::NoMemory);
     }
     let verb = &state.verbs[client as usize];
@@ -161,10 +162,10 @@ pub fn step_once<K: Sink, H: ExtentHooks>(
         shown,
         client,
         verb,
-        &told,
+        told,
         &state.heap,
     )?;
-    state.close(client, told.ended)?;
+    state.close(client, &told.ended)?;
     Ok(())
 }
 
@@ -244,8 +245,9 @@ pub fn run_to_end<K: Sink, H: ExtentHooks>(
     ensures cause { IfErr result (λ stop. HasStopCause stop 0 0 (K.faults sink.old) (K.faults sink.new)) }
     ensures counts { K.faults sink.old ≤ K.faults sink.new }
 {
+    let mut told = Stepped::none();
     'steps: while state.heap.has_call(client) {
-        step_once(alloc, sink, shelf, state, client, false)?;
+        step_once(alloc, sink, shelf, state, client, false, &mut told)?;
         state.heap.stands();
     }
     Ok(())

@@ -15,6 +15,7 @@ use crate::input::Stop;
 use crate::prints::print;
 use crate::state::State;
 use edge_io::Sink;
+use heap_core::Stepped;
 use hook_api::{ExtentHooks, HookShelf};
 use report_text::{counts_line, idle_line, no_arena_line};
 use space_model::Counts;
@@ -76,7 +77,8 @@ fn step_line<K: Sink, H: ExtentHooks>(
     ensures counts { K.faults sink.old ≤ K.faults sink.new }
 {
     if state.heap.has_call(client) {
-        step_once(alloc, sink, shelf, state, client, true)
+        let mut told = Stepped::none();
+        step_once(alloc, sink, shelf, state, client, true, &mut told)
     } else {
         print_idle(alloc, sink, client)
     }

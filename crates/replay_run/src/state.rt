@@ -149,18 +149,18 @@ impl State {
 
     /// Where a client's open call has its answer, it is open no more, and its name is bound. `NoMemory` where a new name finds
     /// none.
-    pub fn close(&mut self, client: u32, answer: Option<Answered>) -> Result<(), NoMemory>
+    pub fn close(&mut self, client: u32, answer: &Option<Answered>) -> Result<(), NoMemory>
         requires { client < 32 }
         ensures heap { self.new.heap ≡ self.old.heap }
         ensures moment { self.new.moment ≡ self.old.moment }
-        ensures verbs { OnOk result (self.new.verbs.items ≡ verbs_closed self.old.verbs.items client answer) }
-        ensures names { OnOk result (self.new.names ≡ names_closed self.old.names (verb_at self.old.verbs.items client) answer) }
+        ensures verbs { OnOk result (self.new.verbs.items ≡ verbs_closed self.old.verbs.items client answer.now) }
+        ensures names { OnOk result (self.new.names ≡ names_closed self.old.names (verb_at self.old.verbs.items client) answer.now) }
     {
         let Some(answer) = answer else {
             return Ok(());
         };
         match self.verbs[client as usize].take() {
-            Some(verb) => self.names.bind_answer(verb, answer),
+            Some(verb) => self.names.bind_answer(verb, *answer),
             None => Ok(()),
         }
     }

@@ -4,44 +4,40 @@ use Rattle.heap_core.proofs.Making.{starve_goes, starve_heap, starve_step}
 use Rattle.heap_core.proofs.Wanting.{starving_seen, starving_sure}
 use Rattle.heap_core.proofs.heaps.Heap.starve.Goals as goal
 
-pub feed-ended-requires : goal.feed-ended-requires
-feed-ended-requires c =
+pub feed-requires : goal.feed-requires
+feed-requires c =
     let client = c.args.client in
-    let inside = c.self.inside in
-    let seats = inside.clients.items in
+    let seats = c.self.inside.clients.items in
     let s = starving_seen _ _ client c.self.view_is (c.self.invariant.sound client c.requires.client) c.requires.starves in
     subst (λ (seat : Seat). IsSomeAnd seat.call (λ call. Goes (after (moment_of call seat.desk) Starved).stage.next))
     (sym (seat_is seats client c.index_mut.result.now c.self.invariant.number c.requires.client c.index_mut.ensures.value))
-    (starve_goes inside.arenas client (seat_at seats client) c.are_apart.ensures.arenas c.requires.client s)
+    (starve_goes c.self.inside.arenas client (seat_at seats client) c.are_apart.ensures.arenas c.requires.client s)
 
 pub invariant_of-self : goal.invariant_of-self
 invariant_of-self c =
     let client = c.args.client in
-    let inside = c.self.inside in
-    let seats = inside.clients.items in
+    let seats = c.self.inside.clients.items in
     let s = starving_seen _ _ client c.self.view_is (c.self.invariant.sound client c.requires.client) c.requires.starves in
-    let fed = subst (λ (seat : Seat). IfSome seat.call (λ call. FedTo call seat.desk Starved c.feed-ended.result c.feed-ended.new.self))
-    (seat_is seats client c.index_mut.result.now c.self.invariant.number c.requires.client c.index_mut.ensures.value) c.feed-ended.ensures in
-    starve_heap inside.arenas seats inside.log.owed client c.feed-ended.new.self c.feed-ended.result c.self.invariant c.are_apart.ensures.arenas c.requires.client s fed
+    let fed = subst (λ (seat : Seat). IfSome seat.call (λ call. FedTo call seat.desk Starved c.feed.new.ended c.feed.new.self))
+    (seat_is seats client c.index_mut.result.now c.self.invariant.number c.requires.client c.index_mut.ensures.value) c.feed.ensures in
+    starve_heap c.self.inside.arenas seats c.self.inside.log.owed client c.feed.new.self c.feed.new.ended c.self.invariant c.are_apart.ensures.arenas c.requires.client s fed
 
 pub returns-clause-step : goal.returns-clause-step
 returns-clause-step c =
     let client = c.args.client in
-    let inside = c.self.inside in
-    let seats = inside.clients.items in
+    let seats = c.self.inside.clients.items in
     let s = starving_seen _ _ client c.self.view_is (c.self.invariant.sound client c.requires.client) c.requires.starves in
-    let fed = subst (λ (seat : Seat). IfSome seat.call (λ call. FedTo call seat.desk Starved c.feed-ended.result c.feed-ended.new.self))
-    (seat_is seats client c.index_mut.result.now c.self.invariant.number c.requires.client c.index_mut.ensures.value) c.feed-ended.ensures in
-    λ shelf. subst (λ (h : HeapFacts). IsStep h shelf client (seat_at h.seats client).call (record { did = DidTurn; ended = c.feed-ended.result })
-    (record { records = inside.arenas; seats = slice_set seats client c.feed-ended.new.self; heard = inside.log.asks }) shelf) c.self.view_is
-    (starve_step (record { records = inside.arenas; seats = seats; heard = inside.log.asks }) client c.feed-ended.new.self c.feed-ended.result shelf s fed)
+    let fed = subst (λ (seat : Seat). IfSome seat.call (λ call. FedTo call seat.desk Starved c.feed.new.ended c.feed.new.self))
+    (seat_is seats client c.index_mut.result.now c.self.invariant.number c.requires.client c.index_mut.ensures.value) c.feed.ensures in
+    λ shelf. subst (λ (h : HeapFacts). IsStep h shelf client (seat_at h.seats client).call (record { did = DidTurn; ended = c.feed.new.ended })
+    (record { records = c.self.inside.arenas; seats = slice_set seats client c.feed.new.self; heard = c.self.inside.log.asks }) shelf) c.self.view_is
+    (starve_step (record { records = c.self.inside.arenas; seats = seats; heard = c.self.inside.log.asks }) client c.feed.new.self c.feed.new.ended shelf s fed)
 
 pub returns-clause-sure : goal.returns-clause-sure
 returns-clause-sure c =
     let client = c.args.client in
-    let inside = c.self.inside in
-    let seats = inside.clients.items in
-    let h : HeapFacts = record { records = inside.arenas; seats = seats; heard = inside.log.asks } in
+    let seats = c.self.inside.clients.items in
+    let h : HeapFacts = record { records = c.self.inside.arenas; seats = seats; heard = c.self.inside.log.asks } in
     let s = starving_seen _ _ client c.self.view_is (c.self.invariant.sound client c.requires.client) c.requires.starves in
-    let new : HeapFacts = record { records = inside.arenas; seats = slice_set seats client c.feed-ended.new.self; heard = inside.log.asks } in
+    let new : HeapFacts = record { records = c.self.inside.arenas; seats = slice_set seats client c.feed.new.self; heard = c.self.inside.log.asks } in
     subst (λ (h : HeapFacts). IsSure h client (seat_at h.seats client).call new) c.self.view_is (starving_sure h new client s)

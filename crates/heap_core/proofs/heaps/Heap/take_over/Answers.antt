@@ -23,13 +23,14 @@ starve-requires-clause-starves c =
 
 pub returns-in-Ok-clause-step : goal.returns-in-Ok-clause-step
 returns-in-Ok-clause-step c = λ shelf.
-    subst (λ new. IsStep c.args.self.now shelf c.args.client (seat_at c.args.self.now.seats c.args.client).call (record { did = DidTurn; ended = None }) new shelf) (sym c.aim.ensures)
+    subst (λ told. IsStep c.args.self.now shelf c.args.client (seat_at c.args.self.now.seats c.args.client).call told c.aim.new.self shelf) (sym c.go_on.ensures)
+    (subst (λ new. IsStep c.args.self.now shelf c.args.client (seat_at c.args.self.now.seats c.args.client).call (record { did = DidTurn; ended = None }) new shelf) (sym c.aim.ensures)
     (taken_step c.args.self.now c.publish.new.self c.args.client c.args.holder c.args.region shelf c.stands.ensures.clients
-    (found c.args.self.now c.args.client c.args.holder c.args.region c.stands.ensures.arenas c.stands.ensures.seats c.requires.holder) c.in-Ok.ensures.ok)
+    (found c.args.self.now c.args.client c.args.holder c.args.region c.stands.ensures.arenas c.stands.ensures.seats c.requires.holder) c.in-Ok.ensures.ok))
 
 pub returns-in-Err-clause-step : goal.returns-in-Err-clause-step
 returns-in-Err-clause-step c = λ shelf.
-    subst (λ (h : HeapFacts). IsStep h shelf c.args.client (seat_at h.seats c.args.client).call c.starve.result c.starve.new.self shelf) c.in-Err.ensures.err (c.starve.ensures.step shelf)
+    subst (λ (h : HeapFacts). IsStep h shelf c.args.client (seat_at h.seats c.args.client).call c.starve.new.told c.starve.new.self shelf) c.in-Err.ensures.err (c.starve.ensures.step shelf)
 
 pub returns-in-Ok-clause-sure : goal.returns-in-Ok-clause-sure
 returns-in-Ok-clause-sure c =

@@ -13,5 +13,5 @@ returns c =
     let call = c.next-named.new.self in
     let desk = c.next-named.new.desk in
     let was = ap (λ (k : Option CallFacts). record { desk = c.self.inside.desk.facts; call = k }) (sym c.in-Some.is) ∙ c.self.view_is in
-    fed_to c.args.self.now c.self.inside.desk.facts desk.facts c.in-Some.call call (lent c.args.item) c.next-named.result c.settle.new.place c.settle.result was c.next-named.ensures.client
+    fed_to c.args.self.now c.self.inside.desk.facts desk.facts c.in-Some.call call (lent c.args.item) c.next-named.result c.settle.new.place c.settle.new.ended was c.next-named.ensures.client
     c.next-named.ensures.moment c.next-named.ensures.err c.next-named.ensures.more (c.settle.ensures.open desk.facts) c.settle.ensures.answer
