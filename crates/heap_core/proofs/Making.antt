@@ -1,5 +1,5 @@
 -- What a turn, an ask or the want of memory leaves of a heap, and what a step then tells.
-use Rattle.heap_core.proofs.Words.{inl, inr, ◌≡◌, ◌≢◌, ◌⊎◌, ◌≤◌, ◌<◌, ℕ, ◌+◌, Bool, true, false, List, Option, None, Some, Result, Ok, Err, IfSome, IsOk, IsSomeAnd, slice_set, refl, sym, ap, subst, ◌∙◌, arith, ◌++◌, ◌∷◌, [], AskStep, Shelf, opens, Ask, Op, Reply, AskFacts, Replied, Told, Starved, Answered, NoMemory, Point, More, moment_of, Goes, Moment, after, starved_after, WantTurn, WantAsk, is_marked, step, want, IsArenas, record_at, reply_in, room_in, spaces_of, with_chunk_found, CanTurn, after_turn, FedTo, HeapFacts, IsStarved, IsStep, IsSure, answered_by, holder_for, starved_on, told_to, turned_for, turned_on, unnamed_on, DidTurn, DidAsk, owed_to, IsHeap, asks_at, asks_next, owing, Record, Seat, answer_of, seat_at, seat_of, Comes, SeatSound, TurnFacts, MadeTurn, item_of}
+use Rattle.heap_core.proofs.Words.{inl, inr, ◌≡◌, ◌≢◌, ◌⊎◌, ◌≤◌, ◌<◌, ℕ, ◌+◌, Bool, true, false, List, Option, None, Some, Result, Ok, Err, IfSome, IsOk, IsSomeAnd, slice_set, refl, sym, ap, subst, ◌∙◌, arith, ◌++◌, ◌∷◌, [], AskStep, Shelf, opens, Ask, Op, Reply, AskFacts, Replied, Told, Starved, Answered, NoMemory, Point, More, moment_of, Goes, Moment, after, starved_after, step_next, WantTurn, WantAsk, is_marked, step, want, IsArenas, record_at, reply_in, room_in, spaces_of, with_chunk_found, CanTurn, after_turn, FedTo, HeapFacts, IsStarved, IsStep, IsSure, answered_by, holder_for, replied, starved_on, told_to, turned_for, turned_on, unnamed_on, DidTurn, DidAsk, owed_to, IsHeap, asks_at, asks_next, owing, Record, Seat, answer_of, seat_at, seat_of, Comes, SeatSound, TurnFacts, MadeTurn, item_of}
 use Rattle.heap_core.proofs.Asking.{owed_after}
 use Rattle.heap_core.proofs.Changes.{heap_seated, heap_turned, room_used}
 use Rattle.heap_core.proofs.Sitting.{asks-sit, starves-sit, turns-sit}
@@ -149,7 +149,7 @@ turn_step h records' owed owed' turn (Err error) seat ended shelf arenas few w f
     let starved = starved_at h.records c old turn.op turn.asked turn.arena ended seat w marked fed in
     let new : HeapFacts = record { records = records'; seats = slice_set h.seats c seat; heard = h.heard } in
     let same : new ≡ starved_on h c w.call = (λ i. record { records = is.err i; seats = slice_set h.seats c (starved.0 i); heard = h.heard }) in
-    step_made h h.records shelf shelf c (WantTurn turn.op turn.asked) turn.arena (record { did = DidTurn; ended = ended }) new w (refl, refl, inr (inl same, starved.1))
+    step_made h h.records shelf shelf c (WantTurn turn.op turn.asked) turn.arena (record { did = DidTurn; ended = ended }) new w (refl, refl, inr (inl (marked, same), starved.1))
 turn_step h records' owed owed' turn (Ok told) seat ended shelf arenas few w free is fed =
     step_made h h.records shelf shelf c (WantTurn turn.op turn.asked) turn.arena (record { did = DidTurn; ended = ended }) new w
     (refl, refl, by (fed_at h.records c old (WantTurn turn.op turn.asked) turn.arena (Replied told) ended seat w fed))
@@ -186,7 +186,7 @@ turn_step h records' owed owed' turn (Ok told) seat ended shelf arenas few w fre
     by (inr (same, e, more)) =
         let seated : seat ≡ seat_of c (starved_after at' (Replied (reply_in h.records w.call.stage.arena c (with_chunk_found (spaces_of h.records) w.call.stage.arena turn.op)))) = same ∙ ap (λ r. seat_of c (starved_after at' (Replied r))) answer in
         let is_new : new ≡ unnamed_on h c w.call turn.op turn.asked = (λ i. record { records = moved i; seats = slice_set h.seats c (seated i); heard = h.heard }) in
-        inr (inr (free, is_new), e)
+        inr (inr (free, ap (λ next. step_next next (replied h c w.call turn.op)) w.goes ∙ (ap (λ r. step w.point (Replied r)) (sym answer) ∙ more), is_new), e)
 
 -- a turn that takes no memory is made
 pub turn_sure : {E : Type 0} (h now : HeapFacts) (records' : List Record) (seats' : List Seat) (heard' : List AskFacts) (owed owed' : List ℕ) (turn : TurnFacts) (made : Result Reply E) → h ≡ now →
@@ -224,7 +224,7 @@ starve_step h c seat ended shelf s fed =
     let starved = starved_at h.records c old s.op s.asked s.arena ended seat s.wants s.marked fed in
     let new : HeapFacts = record { records = h.records; seats = slice_set h.seats c seat; heard = h.heard } in
     let same : new ≡ starved_on h c s.wants.call = (λ i. record { records = h.records; seats = slice_set h.seats c (starved.0 i); heard = h.heard }) in
-    step_made h h.records shelf shelf c (WantTurn s.op s.asked) s.arena (record { did = DidTurn; ended = ended }) new s.wants (refl, refl, inr (inl same, starved.1))
+    step_made h h.records shelf shelf c (WantTurn s.op s.asked) s.arena (record { did = DidTurn; ended = ended }) new s.wants (refl, refl, inr (inl (s.marked, same), starved.1))
 
 -- ---- an ask
 

@@ -79,7 +79,7 @@ pub use Rattle.heap_core.specs.Arenas.{room_in, IsArenas, opening_records, no_re
 pub use Rattle.heap_core.specs.Chunks.{with_chunk_found, met_by_alloc, met_by_dalloc, others_of, Apart, met_in, owns_chunk, space_at}
 pub use Rattle.heap_core.specs.Clients.{IsIdle, mine_in, CanTurn, after_turn, AsksLeadOn, OthersStay, TurnsLeadOn, Waits, WaitsNext}
 pub use Rattle.heap_core.specs.Feeding.{FedTo, aimed_seat}
-pub use Rattle.heap_core.specs.Heaps.{HeapFacts, IsStarved, IsStep, IsSure, answered_by, holder_for, starved_on, told_to, turned_for, turned_on, unnamed_on, IsStepFor, SureAt, WantedAt, holding_client, parted, published_for, region_for, seated, SureFor, region_in_seat}
+pub use Rattle.heap_core.specs.Heaps.{HeapFacts, IsStarved, IsStep, IsSure, answered_by, holder_for, starved_on, told_to, turned_for, turned_on, unnamed_on, IsStepFor, SureAt, WantedAt, holding_client, parted, published_for, region_for, seated, SureFor, region_in_seat, replied}
 pub use Rattle.heap_core.specs.Logs.{owed_to, last_asked, LogFacts, all_owed}
 pub use Rattle.heap_core.specs.Owing.{asks_at, owing, IsHeap, asks_next}
 pub use Rattle.heap_core.specs.Records.{Record, opening_space, IsReplayed, most_room, entries_of, IsRecorded, shown}

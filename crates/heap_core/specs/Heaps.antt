@@ -1,13 +1,13 @@
 -- A heap, and what a step of a client does to it.
-use Rattle.std.specs.Prelude.{◌≡◌, ◌⊎◌, ℕ, false, List, [], ◌∷◌, ◌++◌, Option, None, Some, replicate, slice_set}
+use Rattle.std.specs.Prelude.{◌≡◌, ◌⊎◌, ℕ, true, false, List, [], ◌∷◌, ◌++◌, Option, None, Some, replicate, slice_set}
 use Rattle.space_model.specs.declared.entries.Op.TheVariants.{Publish}
 use Rattle.hook_api.specs.Shelf.{AskStep, Shelf}
 use Rattle.thread_cache.specs.Desks.{not_holding}
 use Rattle.call_table.specs.Words.{Op, AskFacts, Held, held_at}
-use Rattle.heap_core.specs.Words.{Request, Item, Replied, Told, Starved, Answered, NoMemory, Next, Go}
+use Rattle.heap_core.specs.Words.{Request, Item, Replied, Told, Starved, Answered, NoMemory, Next, Go, More}
 use Rattle.call_table.specs.Calls.{CallFacts, moment_of}
 use Rattle.call_table.specs.Reads.{aimed, taken_next}
-use Rattle.call_table.specs.Runs.{Moment, after, starved_after}
+use Rattle.call_table.specs.Runs.{Moment, after, starved_after, step_next}
 use Rattle.call_table.specs.Table.{Want, WantTurn, WantAsk, is_marked, want}
 use Rattle.heap_core.specs.declared.heaps.Did.TheVariants.{Idle, Turn, Ask}
 use Rattle.heap_core.specs.Arenas.{opening_records, record_at, reply_in, spaces_of, records_turned}
@@ -114,9 +114,10 @@ unnamed_on h c call op asked =
       records = records_after h c call op asked;
     }
 
--- memory was wanting in a turn for a call, or behind it
+-- Memory was wanting: for a turn that takes some, or behind the turn that a call wants, to name the regions that go back next.
 abbrev pub IsStarved : HeapFacts → ℕ → CallFacts → Op → Option AskFacts → HeapFacts → Type 0
-IsStarved h c call op asked new = (new ≡ starved_on h c call) ⊎ ((holder_for h call ≡ None) × (new ≡ unnamed_on h c call op asked))
+IsStarved h c call op asked new = ((is_marked op ≡ true) × (new ≡ starved_on h c call))
+    ⊎ ((holder_for h call ≡ None) × (step_next call.stage.next (replied h c call op) ≡ More) × (new ≡ unnamed_on h c call op asked))
 
 -- what a step told, and the heap and the shelf after it, where the call wants this: a turn was made, or memory was wanting,
 -- or the arena's box answered the ask

@@ -14,15 +14,12 @@ ghost use Rattle.heap_core.specs.Chunks.{Apart, met_by_alloc, met_by_dalloc, met
 use crate::records::Recorded;
 use arena_core::Arena;
 use hook_api::{Asked, Journals};
-use space_model::{Answer, Ask, Heard, Op, Reply, Span};
+use space_model::{Answer, Ask, CHUNK_PAGES, Heard, Op, Reply, Span};
 use std::alloc::{AllocError as NoMemory, Global};
 use std::marker::Model;
 
 /// How many arenas there are.
 pub const ARENAS: u32 = 32;
-
-/// How many pages a chunk has.
-const CHUNK_PAGES: u64 = 512;
 
 /// The 32 arenas of a heap, each with its journal. Contracts see them as their list.
 #[derive(Drop)]

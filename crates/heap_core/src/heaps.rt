@@ -1,8 +1,9 @@
 //! A heap.
 
-ghost use Rattle.std.specs.Prelude.{◌≡◌, ◌<◌, ◌/◌, ◌^◌, ℕ, None, length, map, is_some, IfOk, IfSome, OnOk, OnErr};
+ghost use Rattle.std.specs.Prelude.{◌≡◌, ◌<◌, ◌/◌, ◌^◌, ℕ, None, length, map, is_some, false, IfOk, IfSome, IsOk, OnOk, OnErr};
 ghost use Rattle.std.specs.List.{list_any, position};
 ghost use Rattle.space_model.specs.Span.{has_page};
+ghost use Rattle.call_table.specs.Calls.{takes_memory};
 ghost use Rattle.call_table.specs.Laws.{IsInRange};
 ghost use Rattle.thread_cache.specs.Desks.{held_at};
 ghost use Rattle.heap_core.specs.Arenas.{IsArenas, journal_of, record_at};
@@ -19,12 +20,10 @@ use arena_core::Arena;
 use call_table::{Answered, Request};
 use hook_api::{Asked, Askeds, Journals};
 use size_classes::PAGE_BYTES;
+use space_model::CLIENTS;
 use std::alloc::{AllocError as NoMemory, Global};
 use std::marker::Model;
 use thread_cache::{Desk, Held};
-
-/// How many clients there are.
-const CLIENTS: usize = 32;
 
 /// What a step of a client did.
 #[derive(Clone, Copy)]
@@ -144,7 +143,7 @@ impl Heap {
         ensures { IfOk result (λ heap. heap ≡ opening_heap) }
     {
         let mut clients = Vec::new(alloc);
-        while clients.len() < CLIENTS {
+        while clients.len() < CLIENTS as usize {
             clients.push(Client::new(alloc)?)?;
         }
         Ok(Heap {
@@ -218,6 +217,7 @@ impl Heap {
         requires range { IsInRange request }
         ensures heap { OnOk result (self.new ≡ started self.old client request) }
         ensures answer { IfOk result (λ ended. ended ≡ answer_of (begun self.old.seats client request)) }
+        ensures spare { takes_memory (asked_for self.old.seats client request) (seat_at self.old.seats client).desk ≡ false → IsOk result }
         ensures err { OnErr result (self.new ≡ self.old) }
     {
         let request = asked_for(&self.clients, client, request);

@@ -8,7 +8,7 @@ use std::alloc::{AllocError as NoMemory, Global};
 use std::marker::Model;
 
 /// How many clients there are.
-const CLIENTS: usize = 32;
+const CLIENTS: usize = space_model::CLIENTS as usize;
 
 /// The asks of a heap, in order, and how many places each client was promised for further ones. Only
 /// [`AskLog::promise`] takes memory.

@@ -1,9 +1,9 @@
 //! A client of a heap: what it has, and its call while one is open.
 
-ghost use Rattle.std.specs.Prelude.{◌≡◌, IfSome, IfNone, IfOk, IsSomeAnd, None, Some, OnOk, OnErr, true, is_some};
+ghost use Rattle.std.specs.Prelude.{◌≡◌, IfSome, IfNone, IfOk, IsOk, IsSomeAnd, None, Some, OnOk, OnErr, false, true, is_some};
 ghost use Rattle.std.specs.Option.{option_and_then};
 ghost use Rattle.thread_cache.specs.Desks.{DeskFacts, held_at, not_holding};
-ghost use Rattle.call_table.specs.Calls.{moment_of};
+ghost use Rattle.call_table.specs.Calls.{moment_of, takes_memory};
 ghost use Rattle.call_table.specs.Items.{lent};
 ghost use Rattle.call_table.specs.Needs.{Goes};
 ghost use Rattle.call_table.specs.Reads.{ended_by, taken_next};
@@ -139,6 +139,7 @@ impl Client {
         requires { self.old.call ≡ None }
         ensures seat { OnOk result (self.new ≡ seat_of client (begin request self.old.desk)) }
         ensures answer { IfOk result (λ ended. ended ≡ answer_of (begin request self.old.desk)) }
+        ensures spare { takes_memory request self.old.desk ≡ false → IsOk result }
         ensures err { OnErr result (self.new ≡ self.old) }
     {
         Call::start(&mut self.call, client, &mut self.desk, &request, alloc)

@@ -33,20 +33,20 @@ step_wanted w c shelf call told heap shelf' point (WantTurn op asked) awaited op
 }
 step_wanted w c shelf call told heap shelf' point (WantTurn op asked) awaited open_call at wants (did, same, inr (inl starved, ended)) = record {
   event = Starved c call;
-  next = (op, asked, record { awaited = awaited; open_call = open_call; point = point; at = at; wants = wants });
+  next = (op, asked, record { awaited = awaited; open_call = open_call; point = point; at = at; wants = wants }, starved.0);
   lines = refl;
   chain = same;
-  leads = sym starved;
+  leads = sym starved.1;
   more = [];
   text = sym (append-nil w.text);
   after = λ memory. absurd (memory ended);
 }
 step_wanted w c shelf call told heap shelf' point (WantTurn op asked) awaited open_call at wants (did, same, inr (inr unnamed, ended)) = record {
   event = Unnamed c call op asked;
-  next = (record { awaited = awaited; open_call = open_call; point = point; at = at; wants = wants }, unnamed.0);
+  next = (record { awaited = awaited; open_call = open_call; point = point; at = at; wants = wants }, unnamed.0, unnamed.1);
   lines = refl;
   chain = same;
-  leads = sym unnamed.1;
+  leads = sym unnamed.2;
   more = [];
   text = sym (append-nil w.text);
   after = λ memory. absurd (memory ended);

@@ -1,17 +1,18 @@
 -- Plays: what happens to a world, event by event.
-use Rattle.std.specs.Prelude.{◌≡◌, ℕ, ◌<◌, Bool, List, [], ◌∷◌, Option, None, Some, fold}
+use Rattle.std.specs.Prelude.{◌≡◌, ℕ, ◌<◌, Bool, true, List, [], ◌∷◌, Option, None, Some, fold}
 use Rattle.std.specs.List.{flat_map}
 use Rattle.space_model.specs.declared.Op.{Op}
 use Rattle.hook_api.specs.Asked.{AskFacts}
 use Rattle.hook_api.specs.Chain.{Made, PlanSet}
 use Rattle.hook_api.specs.Chain.{Event as ShelfEvent}
 use Rattle.hook_api.specs.Hooks.{Answers as AnswersTo}
-use Rattle.call_table.specs.Stages.{Go, Point}
+use Rattle.call_table.specs.Runs.{step_next}
+use Rattle.call_table.specs.Stages.{Go, More, Point}
 use Rattle.call_table.specs.Calls.{CallFacts}
 use Rattle.call_table.specs.Items.{Told as ToldItem}
-use Rattle.call_table.specs.Table.{Want, WantAsk, WantTurn, want}
+use Rattle.call_table.specs.Table.{Want, WantAsk, WantTurn, is_marked, want}
 use Rattle.heap_core.specs.Arenas.{IsArenas, record_at}
-use Rattle.heap_core.specs.Heaps.{HeapFacts, answered_by, holder_for, moment_after, starved_on, told_to, turned_for, unnamed_on}
+use Rattle.heap_core.specs.Heaps.{HeapFacts, answered_by, holder_for, moment_after, replied, starved_on, told_to, turned_for, unnamed_on}
 use Rattle.heap_core.specs.Seats.{answer_of, seat_at}
 use Rattle.heap_core.specs.Sitting.{SeatSound}
 use Rattle.report_text.specs.Lines.{ask_line, turn_line}
@@ -72,8 +73,9 @@ IsNext w (Read line) = (w.awaits ≡ Nothing) × (line_cause w.moment line ≡ N
 IsNext w (Began c verb whole) = w.awaits ≡ TheStart c verb whole
 IsNext w (Turned c call op asked) = IsWanted w c call (WantTurn op asked)
 IsNext w (Told c call asked) = IsWanted w c call (WantAsk asked.ask) × IsAskOf w call asked
-IsNext w (Starved c call) = (op : Op) × (asked : Option AskFacts) × IsWanted w c call (WantTurn op asked)
+IsNext w (Starved c call) = (op : Op) × (asked : Option AskFacts) × IsWanted w c call (WantTurn op asked) × (is_marked op ≡ true)
 IsNext w (Unnamed c call op asked) = IsWanted w c call (WantTurn op asked) × (holder_for w.heap call ≡ None)
+    × (step_next call.stage.next (replied w.heap c call op) ≡ More)
 
 -- the events of a play from a world on: each one can come next where it comes
 abbrev pub IsPlay : World → List WorldEvent → Type 0

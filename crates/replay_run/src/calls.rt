@@ -124,7 +124,8 @@ fn print_step<K: Sink>(
 
 /// Whether memory was wanting in a step.
 fn is_starved(told: &Stepped) -> bool
-    ensures { result ≡ false → told.now.ended ≢ Some WasStarved }
+    ensures fed { result ≡ false → told.now.ended ≢ Some WasStarved }
+    ensures starved { result ≡ true → told.now.ended ≡ Some WasStarved }
 {
     matches!(told.ended, Some(Answered::NoMemory))
 }

@@ -6,12 +6,9 @@ use crate::names::Names;
 use crate::requests::arena_request;
 use call_table::{Answered, Request};
 use heap_core::{ARENAS, Heap};
-use space_model::Counts;
+use space_model::{CLIENTS, Counts};
 use std::alloc::{AllocError as NoMemory, Global};
 use trace_text::{Ptr, Verb};
-
-/// How many clients a heap has.
-const CLIENTS: u32 = 32;
 
 /// How many bytes a line of a report has room for at first: few have more.
 const LINE_ROOM: usize = 96;
