@@ -146,6 +146,7 @@ abbrev pub SureFor : HeapFacts → ℕ → CallFacts → Want → HeapFacts → 
 SureFor h c call (WantTurn op asked) new = is_marked op ≡ false → new.records ≡ records_after h c call op asked
 SureFor h c call (WantAsk ask) new = Unit {0}
 
+-- the same by where a call stands
 abbrev pub SureAt : HeapFacts → ℕ → CallFacts → Next → HeapFacts → Type 0
 SureAt h c call (Go point) new = SureFor h c call (want point) new
 SureAt h c call next new = Unit {0}

@@ -21,6 +21,7 @@ last_asked asks = slice_get asks (length asks - 1)
 abbrev pub all_owed : List ℕ → ℕ
 all_owed owed = sum_by (λ n. n) owed
 
+-- what callers see of a log
 abbrev pub shown : Inside → LogFacts
 shown log = record { asks = log.asks.items; owed = log.owed }
 

@@ -18,6 +18,7 @@ asks_at room (Asks point None) = room + 1
 asks_at room (Asks point (Some asked)) = room
 asks_at room (Tells span is_committed) = 1
 
+-- the same by where a call stands
 abbrev pub asks_next : ℕ → Next → ℕ
 asks_next room (Go point) = asks_at room point
 asks_next room next = 0

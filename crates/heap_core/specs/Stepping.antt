@@ -24,6 +24,7 @@ pub record TurnFacts : Type 0 where
   pub op : Op
   pub asked : Option AskFacts
 
+-- a turn of a call beside the ask whose answer it carries
 abbrev pub with_ask : Turn → Option AskFacts → TurnFacts
 with_ask turn asked = record { arena = turn.arena; client = turn.client; op = turn.op; asked = asked }
 
@@ -46,6 +47,7 @@ abbrev pub IsMarked : Want → Type 0
 IsMarked (WantTurn op asked) = is_marked op ≡ true
 IsMarked (WantAsk ask) = ⊥
 
+-- a call stands where the turn that it wants may find no memory
 abbrev pub StarvesNext : Next → Type 0
 StarvesNext (Go point) = IsMarked (want point)
 StarvesNext next = ⊥

@@ -52,6 +52,7 @@ line_cause now line.Phase = Some Phase
 line_cause now line.Join = Some Phase
 line_cause now line = None
 
+-- why what a line was read as isn't carried out at a moment, if there is a cause
 abbrev pub said_cause : ℕ → Result Line LineFault → Option Cause
 said_cause now (Ok line) = line_cause now line
 said_cause now (Err fault) = fault_cause fault

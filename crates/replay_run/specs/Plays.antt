@@ -122,12 +122,14 @@ shelf_event (Read line) = plan_in line
 shelf_event (Told c call asked) = Made asked ∷ []
 shelf_event event = []
 
--- the lines, the asks, and what was done to the shelf, in order
+-- the lines that events read, in order
 abbrev pub lines_in : List WorldEvent → List Line
 lines_in events = flat_map line_in events
 
+-- the asks that they tell of, in order
 abbrev pub asks_among : List WorldEvent → List AskFacts
 asks_among events = flat_map ask_in events
 
+-- what they do to the shelf, in order
 abbrev pub shelf_events : List WorldEvent → List ShelfEvent
 shelf_events events = flat_map shelf_event events

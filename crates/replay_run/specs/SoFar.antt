@@ -45,6 +45,7 @@ pub record Reading : Type 0 where
   pub left : Option (List ℕ)
   pub met : Bool
 
+-- how far the input was read: what is pending, what is left, and whether its end was met
 abbrev pub reading : List ℕ → Option (List ℕ) → Bool → Reading
 reading pending left met = record { pending = pending; left = left; met = met }
 

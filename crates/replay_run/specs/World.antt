@@ -104,6 +104,7 @@ arena_request now (Cache on) = Some (request.Cache on)
 arena_request now Flush = Some request.Flush
 arena_request now verb = None
 
+-- the first of two requests, or else the second
 abbrev pub first_request : Option Request → Option Request → Option Request
 first_request (Some request) other = Some request
 first_request None other = other
@@ -155,11 +156,12 @@ abbrev pub ended_line : ℕ → Option Verb → Option Answered → List ℕ
 ended_line c (Some verb) (Some answer) = answer_line c verb answer
 ended_line c verb answer = []
 
--- the names behind a step, and what the open calls are
+-- the names behind a step
 abbrev pub names_closed : List (List ℕ × ℕ) → Option Verb → Option Answered → List (List ℕ × ℕ)
 names_closed names (Some verb) (Some answer) = names_ended names verb answer
 names_closed names verb answer = names
 
+-- what the open calls are once a client's call has its answer, if it has
 abbrev pub verbs_closed : List (Option Verb) → ℕ → Option Answered → List (Option Verb)
 verbs_closed verbs c (Some answer) = slice_set verbs c None
 verbs_closed verbs c None = verbs
