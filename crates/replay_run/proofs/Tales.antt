@@ -303,7 +303,7 @@ module _ (P : ℕ → Tale → Next → Type 0) where
   over w tales (Began c verb whole ∷ events) ends play = absurd (let next = play.0 in cc)
   over w tales (Turned c call op asked ∷ events) ends play = unwaited w c ends play.0.awaited
   over w tales (Told c call asked ∷ events) ends play = unwaited w c ends play.0.0.awaited
-  over w tales (Starved c call ∷ events) ends play = unwaited w c ends play.0.2.0.awaited
+  over w tales (Starved c call ∷ events) ends play = unwaited w c ends play.0.2.awaited
   over w tales (Unnamed c call op asked ∷ events) ends play = unwaited w c ends play.0.0.awaited
 
   plays : Kept → (w : World) (tales : List (Option Tale)) (events : List WorldEvent) → AllOpen w tales → IsPlay w events → AllWorlds HasSoundHeap w events → AllEvents IsEnded w tales events
