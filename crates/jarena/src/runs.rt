@@ -21,8 +21,7 @@ pub struct Outcome<H: ExtentHooks> {
     pub status: u8,
     /// The shelf that was handed in, after the asks of the run.
     pub shelf: HookShelf<H>,
-    /// The journals of the arenas, also after an early end; none where the words are in no list, or where memory for the
-    /// arenas or for that list was wanting.
+    /// The journals of the arenas; none where the words are in no list, or memory for the arenas or the list was wanting.
     pub journals: Journals,
     /// Every ask of the run, in order.
     pub heard: Askeds,

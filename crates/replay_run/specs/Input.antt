@@ -37,8 +37,7 @@ TakesSome failed pending before left = (bytes : List ℕ) × Consumes before lef
 abbrev pub TakesMore : List ℕ → List ℕ → Option (List ℕ) → Option (List ℕ) → Type 0
 TakesMore pending after before left = (bytes : List ℕ) × Consumes before left bytes × (after ≡ pending ++ bytes)
 
--- Some bytes were taken behind the pending ones: together they are some, or there is none, nothing is left, and the source
--- has met its end.
+-- Bytes were taken behind the pending ones: together they are some, or none is left, and the source has met its end.
 abbrev pub TakesAny : Bool → List ℕ → Option (List ℕ) → Option (List ℕ) → Bool → Type 0
 TakesAny more pending before left met = (bytes : List ℕ) × Consumes before left bytes × (more ≡ true → pending ++ bytes ≢ [])
     × (more ≢ true → (pending ++ bytes ≡ []) × IsAtEnd left × (met ≡ true))

@@ -3,8 +3,7 @@ use Rattle.std.specs.Prelude.{◌≡◌, ℕ, ◌<◌, Bool, true, List, [], ◌
 use Rattle.std.specs.List.{flat_map}
 use Rattle.space_model.specs.declared.Op.{Op}
 use Rattle.hook_api.specs.Asked.{AskFacts}
-use Rattle.hook_api.specs.Chain.{Made, PlanSet}
-use Rattle.hook_api.specs.Chain.{Event as ShelfEvent}
+use Rattle.hook_api.specs.Chain.{Event as ShelfEvent, Made, PlanSet}
 use Rattle.hook_api.specs.Hooks.{Answers as AnswersTo}
 use Rattle.call_table.specs.Runs.{step_next}
 use Rattle.call_table.specs.Stages.{Go, More, Point}

@@ -38,8 +38,7 @@ pub record Now : Type 0 where
   pub met : Bool
   pub held : Option (List ℕ)
 
--- Where the reading of a trace stands: the bytes that were read and not used yet, those that are left, and whether the end was
--- met.
+-- Where the reading of a trace stands: the bytes that were read and not used, those left, and whether the end was met.
 pub record Reading : Type 0 where
   pub pending : List ℕ
   pub left : Option (List ℕ)

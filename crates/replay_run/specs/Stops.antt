@@ -4,8 +4,7 @@ use Rattle.edge_io.specs.Bytes.{Rose}
 use Rattle.replay_run.specs.declared.input.Stop.{Stop}
 use Rattle.replay_run.specs.declared.input.Stop.TheVariants.{ReadFault, WriteFault, NoMemory}
 
--- a read failed, and the count of faults of the source rose; or a write failed, and that of the sink rose; or memory was
--- wanting
+-- a read failed, and the source's count of faults rose; or a write failed, and the sink's did; or memory was wanting
 abbrev pub HasStopCause : Stop → ℕ → ℕ → ℕ → ℕ → Type 0
 HasStopCause ReadFault source source_after sink sink_after = Rose source source_after
 HasStopCause WriteFault source source_after sink sink_after = Rose sink sink_after

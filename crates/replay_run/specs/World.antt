@@ -81,8 +81,7 @@ abbrev pub decay_list : Rest → Rest
 decay_list Dirty = Dirty
 decay_list rest = Muzzy
 
--- what a call asks for that is about regions, if it is one; nothing, where it takes one at an address at which no arena has an
--- extent
+-- what a call asks for that is about regions; nothing, for another one and where no arena has an extent at the address
 abbrev pub region_request : List Record → List (List ℕ × ℕ) → Verb → Option Request
 region_request records names (Malloc name size) = Some (request.Malloc size)
 region_request records names (Memalign name align size) = Some (request.Memalign align size)
@@ -109,8 +108,7 @@ abbrev pub first_request : Option Request → Option Request → Option Request
 first_request (Some request) other = Some request
 first_request None other = other
 
--- What a call of a line asks for at a moment. A take of what no arena has asks for nothing, nor does a call of `ctl`, which
--- isn't carried out.
+-- What a call of a line asks for at a moment: nothing, for a take of what no arena has and for a call of `ctl`.
 abbrev pub request_of : List Record → List (List ℕ × ℕ) → ℕ → Verb → Option Request
 request_of records names now verb = first_request (arena_request now verb) (region_request records names verb)
 

@@ -170,8 +170,7 @@ pub fn step_once<K: Sink, H: ExtentHooks>(
     Ok(())
 }
 
-/// Prints the answer of a call that has ended where it began, and binds its name. The line is written into a buffer, whatever
-/// that has.
+/// Prints the answer of a call that has ended where it began, and binds its name. A buffer is lent for the line.
 fn answer_call<K: Sink>(
     text: &mut Vec<u8>,
     sink: &mut K,
@@ -254,8 +253,7 @@ pub fn run_to_end<K: Sink, H: ExtentHooks>(
     Ok(())
 }
 
-/// Carries out the call of a line, behind the end of the one that its client has open: to its end, where it is to be carried out
-/// whole, or else its beginning alone.
+/// Carries out the call of a line, behind the end of its client's open one: whole, or else its beginning alone.
 pub fn carry_call<K: Sink, H: ExtentHooks>(
     alloc: Global,
     sink: &mut K,

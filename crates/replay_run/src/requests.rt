@@ -27,8 +27,7 @@ fn decay_list(rest: Rest) -> Rest
     }
 }
 
-/// What a call of a line asks for at a moment, in nanoseconds, that is about an arena, or about what its client keeps; nothing,
-/// where it is another one.
+/// What a call of a line asks for at a moment, in nanoseconds, if it is about an arena or what its client keeps.
 pub fn arena_request(verb: &Verb, now: u64) -> Option<Request>
     requires { IsVerbWithinLimits verb.now }
     ensures request { result ≡ arena_request now verb.now }

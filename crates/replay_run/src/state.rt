@@ -144,8 +144,7 @@ impl State {
         }
     }
 
-    /// Where a client's open call has its answer, it is open no more, and its name is bound. `NoMemory` where a new name finds
-    /// none.
+    /// Where a client's open call has its answer, it is open no more, and its name is bound, unless memory is wanting.
     pub fn close(&mut self, client: u32, answer: &Option<Answered>) -> Result<(), NoMemory>
         requires { client < 32 }
         ensures heap { self.new.heap ≡ self.old.heap }

@@ -47,23 +47,11 @@ fn first_fault(a: LineFault, b: LineFault) -> LineFault
     if a as u8 <= b as u8 { a } else { b }
 }
 
-/// Whether a word is this text. Each byte is compared, without a branch, so that it becomes one comparison or two where the text
-/// is a literal.
-#[inline(always)]
+/// Whether a word is this text.
 pub fn is(word: &[u8], text: &str) -> bool
     ensures { result ≡ bytes_eq word.now text.now }
 {
-    let text = text.as_bytes();
-    if word.len() != text.len() {
-        return false;
-    }
-    let mut same = true;
-    let mut place = text.len();
-    while place > 0 {
-        place -= 1;
-        same = (word[place] == text[place]) & same;
-    }
-    same
+    word == text.as_bytes()
 }
 
 /// The name of a region: a lower-case letter and up to 31 lower-case letters, digits or `_`.
