@@ -161,6 +161,7 @@ gave_for region arena desk =
     then record desk { cached = slice_set desk.cached region.class (gone_from arena (older_count region.class desk) (cached_in desk.cached region.class)) }
     else record desk { hand = None }
 
+-- after the batch of an arena went back, by what is in hand: where nothing is, all cached regions of the arena are gone
 abbrev pub gave_with : Option Held → ℕ → DeskFacts → DeskFacts
 gave_with (Some region) arena desk = gave_for region arena desk
 gave_with None arena desk = record desk { cached = map (filter (is_elsewhere arena)) desk.cached }
@@ -175,6 +176,7 @@ gave arena desk = gave_with desk.hand arena desk
 abbrev pub empty_handed : DeskFacts → DeskFacts
 empty_handed desk = record desk { hand = None }
 
+-- the region that is told to be in hand, if one is, is cached, and none is in hand then
 abbrev pub kept_with : Option Held → DeskFacts → DeskFacts
 kept_with None desk = desk
 kept_with (Some region) desk = empty_handed (caching region desk)
@@ -183,6 +185,7 @@ kept_with (Some region) desk = empty_handed (caching region desk)
 abbrev pub kept : DeskFacts → DeskFacts
 kept desk = kept_with desk.hand desk
 
+-- the region that is told to be in hand, if one is, is held again, and none is in hand then
 abbrev pub held_again_with : Option Held → DeskFacts → DeskFacts
 held_again_with None desk = desk
 held_again_with (Some region) desk = empty_handed (holding region desk)

@@ -1,13 +1,13 @@
 //! What goes back of the regions that a client has: one batch for each arena.
 
-ghost use Rattle.std.specs.Prelude.{◌≡◌, ◌<◌, ◌≤◌, [], ◌∷◌, fold, count_by, length, Some, IfOk, OnOk};
+ghost use Rattle.std.specs.Prelude.{◌≡◌, ◌<◌, ◌≤◌, [], ◌∷◌, false, fold, count_by, length, Some, IfOk, IfSome, IsOk, OnOk};
 ghost use Rattle.std.specs.List.{flat_map};
 ghost use Rattle.std.specs.Option.{option_map};
 ghost use Rattle.thread_cache.specs.Caches.{cached_in};
-ghost use Rattle.thread_cache.specs.Desks.{added, addrs_in, batch_facts, batch_of, cached_of, gave, going_with, is_in_arena, least_arena, lesser, older_count};
+ghost use Rattle.thread_cache.specs.Desks.{added, addrs_in, batch_facts, batch_of, cached_of, gave, going_with, is_cacheable, is_in_arena, least_arena, lesser, older_count};
 
-use crate::{CACHED_CLASSES, Desk, Held};
-use size_classes::{Addrs, slots};
+use crate::{Desk, Held};
+use size_classes::{Addrs, CACHED_CLASSES, slots};
 use std::alloc::{AllocError as NoMemory, Global};
 use std::collections::BTreeSet;
 
@@ -74,7 +74,8 @@ fn listed(set: &BTreeSet<u64>, alloc: Global) -> Result<Addrs, NoMemory>
 
 /// The regions of the least arena among some.
 fn batch_of(regions: &[Held], alloc: Global) -> Result<Option<Batch>, NoMemory>
-    ensures { IfOk result (λ batch. option_map batch_facts batch ≡ batch_of regions.now) }
+    ensures batch { IfOk result (λ batch. option_map batch_facts batch ≡ batch_of regions.now) }
+    ensures nothing { regions.now ≡ [] → IsOk result }
 {
     let Some(arena) = least_of(None, regions) else {
         return Ok(None);
@@ -132,7 +133,8 @@ impl Desk {
 
     /// All cached regions of the least arena of which there are some.
     fn batch_of_cached(&self, alloc: Global) -> Result<Option<Batch>, NoMemory>
-        ensures { IfOk result (λ batch. option_map batch_facts batch ≡ batch_of (flat_map (λ list. list) self.now.facts.cached)) }
+        ensures batch { IfOk result (λ batch. option_map batch_facts batch ≡ batch_of (flat_map (λ list. list) self.now.facts.cached)) }
+        ensures nothing { flat_map (λ list. list) self.now.facts.cached ≡ [] → IsOk result }
     {
         let Some(arena) = self.least_cached() else {
             return Ok(None);
@@ -149,7 +151,9 @@ impl Desk {
         all: bool,
         alloc: Global,
     ) -> Result<Option<Batch>, NoMemory>
-        ensures { IfOk result (λ batch. option_map batch_facts batch ≡ batch_of (going_with hand all self.now.facts)) }
+        ensures batch { IfOk result (λ batch. option_map batch_facts batch ≡ batch_of (going_with hand all self.now.facts)) }
+        ensures nothing { going_with hand all self.now.facts ≡ [] → IsOk result }
+        ensures one { IfSome hand (λ region. is_cacheable region.class self.now.facts ≡ false → IsOk result) }
     {
         match hand {
             Some(region) if self.is_cacheable(region.class) => {

@@ -1,13 +1,12 @@
 //! A client's cache: the cached regions of each class.
 
-ghost use Rattle.std.specs.Prelude.{◌≡◌, ℕ, ◌/◌, ◌<◌, ◌≤◌, [], ◌∷◌, ◌++◌, filter, length, map, replicate, take, slice_get, slice_set, true, IfOk, IfSome, IfNone};
-ghost use Rattle.std.specs.List.{position};
+ghost use Rattle.std.specs.Prelude.{◌≡◌, ◌<◌, ◌≤◌, [], ◌∷◌, ◌++◌, filter, length, map, replicate, slice_set, IfOk, IfSome, IfNone};
 ghost use Rattle.size_classes.specs.Classes.{slots_at};
-ghost use Rattle.thread_cache.specs.Caches.{Listed, addrs_of, cached_in, dropped, gone_from, has_at, is_cached, is_elsewhere, put_in, told_in};
+ghost use Rattle.thread_cache.specs.Caches.{cached_in, gone_from, is_elsewhere, put_in, told_in};
 
+use crate::Held;
 use crate::stacks::{Put, Stack};
-use crate::{CACHED_CLASSES, Held};
-use size_classes::Addrs;
+use size_classes::CACHED_CLASSES;
 use std::alloc::{AllocError as NoMemory, Global};
 use std::marker::Model;
 
@@ -16,7 +15,7 @@ use std::marker::Model;
 ///
 /// Only `new` takes memory, and no call waits.
 #[derive(Drop)]
-pub struct Cache {
+pub(crate) struct Cache {
     stacks: Vec<Stack>,
 }
 
@@ -32,16 +31,9 @@ impl Model for Cache {
     ghost invariant = { λ c. IsByClass c.stacks.items };
 }
 
-/// The least class of which a region at the address is cached.
-fn class_of(stacks: &[Stack], addr: u64) -> Option<usize>
-    ensures { result ≡ position (λ (stack : Listed). has_at addr stack.regions) stacks.now }
-{
-    stacks.iter().position(|stack| stack.has(addr))
-}
-
 impl Cache {
     /// An empty cache, with room for all its slots.
-    pub fn new(alloc: Global) -> Result<Cache, NoMemory>
+    pub(crate) fn new(alloc: Global) -> Result<Cache, NoMemory>
         ensures { IfOk result (λ cache. cache ≡ replicate 41 []) }
     {
         let mut stacks = Vec::with_capacity(alloc, CACHED_CLASSES as usize)?;
@@ -52,7 +44,7 @@ impl Cache {
     }
 
     /// Takes the region of the class that was put last. `None` exactly where none is cached, and the cache stays then.
-    pub fn take_cached(&mut self, class: u8) -> Option<Held>
+    pub(crate) fn take_cached(&mut self, class: u8) -> Option<Held>
         requires { class < 41 }
         ensures some { IfSome result (λ held. cached_in self.old class ≡ cached_in self.new class ++ held ∷ []) }
         ensures none { IfNone result ((cached_in self.old class ≡ []) × (self.new ≡ self.old)) }
@@ -63,7 +55,7 @@ impl Cache {
 
     /// Puts a region last among those of its class. It is `Full` exactly where the slots of the class are used, and the
     /// cache stays as it is then.
-    pub fn put_cached(&mut self, held: Held) -> Put
+    pub(crate) fn put_cached(&mut self, held: Held) -> Put
         requires { held.class < 41 }
         ensures told { result ≡ told_in held.class held (cached_in self.old held.class) }
         ensures lists { self.new ≡ slice_set self.old held.class (put_in held.class held (cached_in self.old held.class)) }
@@ -71,27 +63,8 @@ impl Cache {
         self.stacks[held.class as usize].push(held)
     }
 
-    /// Appends the addresses of the half of the class's slots that were put first. There has to be room for them.
-    pub fn older_half(&self, class: u8, out: &mut Addrs)
-        requires class { class < 41 }
-        requires half { slots_at class / 2 ≤ length (cached_in self.now class) }
-        requires room { slots_at class / 2 ≤ out.old.room }
-        ensures { out.new.items ≡ out.old.items ++ take (slots_at class / 2) (addrs_of (cached_in self.now class)) }
-    {
-        self.stacks[class as usize].older_half(out);
-    }
-
-    /// Takes the region at the address, which has to be cached, out of its list.
-    pub fn drop_cached(&mut self, addr: u64)
-        requires { is_cached addr self.old ≡ true }
-        ensures { self.new ≡ dropped addr self.old }
-    {
-        let class = class_of(self.stacks.as_slice(), addr).unwrap();
-        self.stacks[class].drop_at(addr);
-    }
-
     /// The regions of the class, in the order in which they were put.
-    pub fn of_class(&self, class: u8) -> &[Held]
+    pub(crate) fn of_class(&self, class: u8) -> &[Held]
         requires { class < 41 }
         ensures list { result.now ≡ cached_in self.now class }
         ensures within { length result.now ≤ 200 }
@@ -101,7 +74,7 @@ impl Cache {
     }
 
     /// Takes all regions of an arena out.
-    pub fn drop_of(&mut self, arena: u32)
+    pub(crate) fn drop_of(&mut self, arena: u32)
         ensures { self.new ≡ map (filter (is_elsewhere arena)) self.old }
     {
         for class in 0..CACHED_CLASSES {
@@ -110,7 +83,7 @@ impl Cache {
     }
 
     /// Of so many regions of the class that were put first, takes those of an arena out.
-    pub fn drop_first_of(&mut self, class: u8, count: u32, arena: u32)
+    pub(crate) fn drop_first_of(&mut self, class: u8, count: u32, arena: u32)
         requires class { class < 41 }
         requires within { count ≤ length (cached_in self.old class) }
         ensures { self.new ≡ slice_set self.old class (gone_from arena count (cached_in self.old class)) }
@@ -119,21 +92,11 @@ impl Cache {
     }
 
     /// How many regions of the class are cached, at most its slots.
-    pub fn len(&self, class: u8) -> u32
+    pub(crate) fn len(&self, class: u8) -> u32
         requires { class < 41 }
         ensures len { result ≡ length (cached_in self.now class) }
         ensures within { result ≤ slots_at class }
     {
         self.stacks[class as usize].len()
-    }
-
-    /// The region at a place of the class's list, counted from 0 at the one put first. `None` exactly where the place isn't
-    /// below the list's length.
-    pub fn cached(&self, class: u8, place: u32) -> Option<Held>
-        requires { class < 41 }
-        ensures place { result ≡ slice_get (cached_in self.now class) place }
-        ensures cached { IfSome result (λ held. is_cached held.addr self.now ≡ true) }
-    {
-        self.stacks[class as usize].at(place)
     }
 }

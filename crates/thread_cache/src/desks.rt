@@ -4,9 +4,10 @@ ghost use Rattle.std.specs.Prelude.{◌≡◌, ◌+◌, ◌&&◌, ◌<◌, ◌�
 ghost use Rattle.std.specs.Option.{option_map};
 ghost use Rattle.thread_cache.specs.Desks.{caching, discarding, empty_handed, freeing, has_slot, held_again, held_at, hit, hitting, holding, is_cacheable, kept, not_holding};
 
-use crate::{CACHED_CLASSES, Cache, Held};
+use crate::Held;
+use crate::caches::Cache;
 use indexmap::IndexMap;
-use size_classes::slots;
+use size_classes::{CACHED_CLASSES, slots};
 use std::alloc::{AllocError as NoMemory, Global};
 use std::marker::Model;
 

@@ -10,13 +10,8 @@ mod stacks;
 mod tests;
 
 pub use batches::Batch;
-pub use caches::Cache;
 pub use desks::Desk;
 pub use laws::{batches_end, batches_rise};
-pub use stacks::Put;
-
-/// How many size classes a cache has lists for: those below it. Regions of the others are never cached.
-pub const CACHED_CLASSES: u8 = 41;
 
 /// A region that a client has.
 #[derive(Clone, Copy, Debug, PartialEq, Eq)]
