@@ -31,6 +31,7 @@ impl Refusals {
     fn hear(&mut self, said: Said)
         ensures never_falls { self.old.count ≤ self.new.count }
         ensures rose { said ≡ Said.Refused → Rose self.old.count self.new.count }
+        ensures done { said ≡ Said.Done → self.new ≡ self.old }
     {
         if said == Said::Refused {
             self.add();

@@ -1,6 +1,6 @@
 //! The honest provider.
 
-ghost use Rattle.std.specs.Prelude.{◌≡◌, ℕ, ◌+◌, ◌≤◌, ◌↔◌, max, Some, None, true, SomeIff, IsSome, IfOk, IfSome, IfNone, IsTrue};
+ghost use Rattle.std.specs.Prelude.{◌≡◌, ℕ, ◌+◌, ◌<◌, ◌≤◌, ◌↔◌, max, Some, None, true, SomeIff, IsSome, IfOk, IfSome, IfNone, IsTrue};
 ghost use Rattle.hook_api.specs.Counts.{capped, Rose};
 ghost use Rattle.hook_api.specs.Hooks.{HookCall, placed_answer, said_answer};
 ghost use Rattle.space_model.specs.Span.{pages_end};
@@ -134,6 +134,7 @@ impl ExtentHooks for AddrSpace {
     fn destroy(&mut self, span: Span, _committed: bool)
         ensures hook { HookCall (placing_account self.old) (Ask.Destroy span _committed) Answer.Done (placing_account self.new) }
         ensures off { span.first + span.pages ≤ pages_end → IsOff self.old.placed span self.new.placed }
+        ensures stays { pages_end < span.first + span.pages → self.new.placed ≡ self.old.placed }
         ensures refusals { self.new.refusals ≡ self.old.refusals }
     {
         if ends_inside(span) {

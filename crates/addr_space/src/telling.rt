@@ -1,18 +1,19 @@
 //! A provider that tells what it was asked.
 
-ghost use Rattle.std.specs.Prelude.{◌≡◌, ◌↔◌, ℕ, [], true, max, None, Some, IsSome, IfOk, IfSome, IfNone};
+ghost use Rattle.std.specs.Prelude.{◌≡◌, ◌+◌, ◌<◌, ◌≤◌, ◌↔◌, ℕ, [], true, max, None, Some, IsSome, IfOk, IfSome, IfNone};
 ghost use Rattle.hook_api.specs.Hooks.{HookCall, placed_answer, said_answer};
+ghost use Rattle.space_model.specs.Span.{pages_end};
 ghost use Rattle.addr_space.specs.Chunks.{FitNowhere, IsFreeSpan, IsLowestFit, IsOff, IsOn, IsPlacedSpan};
 ghost use Rattle.addr_space.specs.Telling.{ToldOne, telling_account, told_after};
 
 use crate::space::AddrSpace;
-use hook_api::{ExtentHooks, Placed, Said};
+use hook_api::{ExtentHooks, Placed, Said, heard_placed, heard_said};
 use space_model::{Answer, Ask, Heard, Span};
 use std::alloc::{AllocError as NoMemory, Global};
 use std::marker::Model;
 
 /// The honest provider, which tells its asks with their answers as long as they are at most so many. From the next one on
-/// it tells nothing.
+/// it tells nothing. Only contracts see what it tells.
 #[derive(Drop)]
 pub struct TellingHooks {
     inner: AddrSpace,
@@ -60,11 +61,7 @@ impl TellingHooks {
         ensures same { result ≡ said }
         ensures noted { self.new ≡ told_after self.old (record { ask = ask; answer = said_answer said }) }
     {
-        let answer = match said {
-            Said::Done => Answer::Done,
-            Said::Refused => Answer::Refused,
-        };
-        self.note(ask, answer);
+        self.note(ask, heard_said(said));
         said
     }
 }
@@ -79,22 +76,9 @@ impl ExtentHooks for TellingHooks {
         ensures nowhere { at ≡ None → IfNone result (FitNowhere self.old.inner.placed pages (max align 1)) }
         ensures wished { (first : ℕ) → at ≡ Some first → IsSome result ↔ IsFreeSpan self.old.inner.placed (record { first = first; pages = pages }) }
         ensures placed { IfSome result (λ placed. IsOn self.old.inner.placed (record { first = placed.first; pages = pages }) self.new.inner.placed) }
+        ensures stays { IfNone result (self.new.inner.placed ≡ self.old.inner.placed) }
     {
         let placed = self.inner.alloc(at, pages, align, commit);
-        let answer = match placed {
-            None => Answer::Refused,
-            Some(
-                Placed {
-                    first,
-                    committed,
-                    zeroed,
-                },
-            ) => Answer::Placed {
-                first,
-                committed,
-                zeroed,
-            },
-        };
         self.note(
             Ask::Alloc {
                 at,
@@ -102,7 +86,7 @@ impl ExtentHooks for TellingHooks {
                 align,
                 commit,
             },
-            answer,
+            heard_placed(placed),
         );
         placed
     }
@@ -112,6 +96,7 @@ impl ExtentHooks for TellingHooks {
         ensures told { ToldOne self.old (record { ask = Ask.Dalloc span committed; answer = said_answer result }) self.new }
         ensures accepts { (result ≡ Said.Done) ↔ IsPlacedSpan self.old.inner.placed span }
         ensures off { result ≡ Said.Done → IsOff self.old.inner.placed span self.new.inner.placed }
+        ensures stays { result ≡ Said.Refused → self.new.inner.placed ≡ self.old.inner.placed }
     {
         let said = self.inner.dalloc(span, committed);
         self.said(Ask::Dalloc { span, committed }, said)
@@ -120,6 +105,8 @@ impl ExtentHooks for TellingHooks {
     fn destroy(&mut self, span: Span, committed: bool)
         ensures hook { HookCall (telling_account self.old) (Ask.Destroy span committed) Answer.Done (telling_account self.new) }
         ensures told { ToldOne self.old (record { ask = Ask.Destroy span committed; answer = Answer.Done }) self.new }
+        ensures off { span.first + span.pages ≤ pages_end → IsOff self.old.inner.placed span self.new.inner.placed }
+        ensures stays { pages_end < span.first + span.pages → self.new.inner.placed ≡ self.old.inner.placed }
     {
         self.inner.destroy(span, committed);
         self.note(Ask::Destroy { span, committed }, Answer::Done);
