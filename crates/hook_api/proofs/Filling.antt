@@ -1,5 +1,5 @@
 -- Lists whose members stand in part in a list of others.
-use Rattle.hook_api.proofs.Words.{◌≡◌, suc, ◌+◌, ◌-◌, ◌<◌, cond, subst, List, [], ◌∷◌, ◌++◌, length, take, count_by, Option, None, Some, IfSome, is_none, inl, inr, refl, sym, ap, ◌∙◌, arith, length-append, append-nil, sum_by-append, sum_by-cons, take-length, take_more, slice_get, slice_get_cases, slice_get-get_or, slice_get_within, get_or_from_slice_get, get_or-append_seam, FillsIn, filled_in, one_if}
+use Rattle.hook_api.proofs.Words.{◌≡◌, suc, ◌+◌, ◌<◌, cond, true, false, List, [], ◌∷◌, ◌++◌, length, Option, None, Some, IfSome, is_none, refl, sym, ap, ◌∙◌, arith, append-nil, sum_by-append, sum_by-cons, FillsIn, filled_in}
 
 -- behind a member there are as many others as places for them
 pub fits_some : {A : Type 0} (x : A) (xs : List (Option A)) (others : List A) → FillsIn (Some x ∷ xs) others → FillsIn xs others
@@ -28,25 +28,17 @@ filled_more (Some x ∷ xs) more others further fits = ap (λ zs. x ∷ zs) (fil
 filled_more (None ∷ xs) more [] further fits = let none = fits_first xs [] fits in absurd (omega (arith, none))
 filled_more (None ∷ xs) more (y ∷ others) further fits = ap (λ zs. y ∷ zs) (filled_more xs more others further (fits_none xs y others fits))
 
--- one alone is that one, as a member or in a place
-one_filled : {A : Type 0} (o : Option A) (x : A) → IfSome o (λ s. s ≡ x) → filled_in (o ∷ []) (one_if (is_none o) x) ≡ x ∷ []
-one_filled None x same = refl
-one_filled (Some s) x same = ap (λ z. z ∷ []) same
+-- a mark at the end comes last, with one more of the others
+pub filled_mark : {A : Type 0} (xs : List (Option A)) (others : List A) (o : Option A) (x : A) → FillsIn xs others → is_none o ≡ true → filled_in (xs ++ o ∷ []) (others ++ x ∷ []) ≡ filled_in xs others ++ x ∷ []
+filled_mark xs others None x fits none = filled_more xs (None ∷ []) others (x ∷ []) fits
+filled_mark xs others (Some s) x fits none = absurd (cc none)
 
--- one at the end comes last, as a member or in a place
-pub filled_push : {A : Type 0} (xs : List (Option A)) (others : List A) (o : Option A) (x : A) → FillsIn xs others → IfSome o (λ s. s ≡ x)
-    → filled_in (xs ++ o ∷ []) (others ++ (one_if (is_none o) x)) ≡ filled_in xs others ++ x ∷ []
-filled_push xs others o x fits same = filled_more xs (o ∷ []) others (one_if (is_none o) x) fits ∙ ap (λ zs. filled_in xs others ++ zs) (one_filled o x same)
+-- a member at the end comes last, with the others as they were
+pub filled_member : {A : Type 0} (xs : List (Option A)) (others : List A) (o : Option A) (x : A) → FillsIn xs others → IfSome o (λ s. s ≡ x) → is_none o ≡ false → filled_in (xs ++ o ∷ []) others ≡ filled_in xs others ++ x ∷ []
+filled_member xs others None x fits same some = absurd (cc some)
+filled_member xs others (Some s) x fits same some =
+    ap (λ zs. filled_in (xs ++ Some s ∷ []) zs) (sym (append-nil others)) ∙ filled_more xs (Some s ∷ []) others [] fits ∙ ap (λ z. filled_in xs others ++ z ∷ []) same
 
--- one at the end is one of the others where there is a place for it
-one_fits : {A : Type 0} (o : Option A) (x : A) → length (one_if (is_none o) x) ≡ cond (is_none o) 1 0
-one_fits None x = refl
-one_fits (Some s) x = refl
-
--- there are as many others as places, with one at the end too
-pub fits_push : {A : Type 0} (xs : List (Option A)) (others : List A) (o : Option A) (x : A) → FillsIn xs others → FillsIn (xs ++ o ∷ []) (others ++ (one_if (is_none o) x))
-fits_push {A} xs others o x fits =
-    let whole = sum_by-append (λ (o : Option A). cond (is_none o) 1 0) xs (o ∷ []) in
-    let last = one_fits o x in
-    let long = length-append others (one_if (is_none o) x) in
-    omega (arith, fits, whole, last, long)
+-- there are as many others as places, where there is one more of them for a mark
+pub fits_push : {A : Type 0} (xs : List (Option A)) (others more : List A) (o : Option A) → FillsIn xs others → length more ≡ length others + cond (is_none o) 1 0 → FillsIn (xs ++ o ∷ []) more
+fits_push {A} xs others more o fits long = let whole = sum_by-append (λ (o : Option A). cond (is_none o) 1 0) xs (o ∷ []) in omega (arith, fits, whole, long)

@@ -1,7 +1,6 @@
 //! Asks that were made, in order and in few bytes.
 
-ghost use Rattle.std.specs.Prelude.{◌≡◌, ◌+◌, ◌<◌, ◌≤◌, ◌^◌, None, [], ◌∷◌, ◌++◌, length, vec_capacity, vec_len, IfOk, IfSome, OnOk};
-ghost use Rattle.hook_api.specs.Filling.{one_if};
+ghost use Rattle.std.specs.Prelude.{◌≡◌, ◌+◌, ◌<◌, ◌≤◌, ◌^◌, None, [], ◌∷◌, ◌++◌, length, IfOk, IfSome, OnOk};
 
 use crate::Asked;
 use crate::narrow_asks::NarrowAsk;
@@ -64,17 +63,6 @@ impl<'a> AskReader<'a> {
     }
 }
 
-/// Puts what is marked behind the others that are whole. There is a place for it.
-pub(crate) fn push_whole<T: Drop>(whole: &mut Vec<T>, item: T, marked: bool)
-    requires { vec_len whole.old < vec_capacity whole.old }
-    ensures items { whole.new.items ≡ whole.old.items ++ one_if marked item }
-    ensures places { vec_capacity whole.old ≤ vec_capacity whole.new }
-{
-    if marked {
-        whole.push(item).unwrap();
-    }
-}
-
 impl AskList {
     /// No ask, and no place for one. Takes no memory.
     pub fn new(alloc: Global) -> AskList
@@ -98,7 +86,7 @@ impl AskList {
     }
 
     /// Puts an ask at the end. It takes a place, and no memory.
-    #[tactic(auto, using(crate::proofs::Filling::filled_push, crate::proofs::Filling::fits_push, crate::proofs::Filling::filled_length))]
+    #[tactic(auto, using(crate::proofs::Filling::filled_mark, crate::proofs::Filling::filled_member, crate::proofs::Filling::fits_push, crate::proofs::Filling::filled_length))]
     pub fn push(&mut self, asked: &Asked)
         requires room { 0 < self.old.spare }
         ensures items { self.new.items ≡ self.old.items ++ asked.now ∷ [] }
@@ -106,7 +94,9 @@ impl AskList {
         ensures few { length self.new.items < 2 ^ 64 }
     {
         let narrow = NarrowAsk::of(asked);
-        push_whole(&mut self.whole, *asked, narrow.is_mark());
+        if narrow.is_mark() {
+            self.whole.push(*asked).unwrap();
+        }
         self.narrow.push(narrow).unwrap();
     }
 

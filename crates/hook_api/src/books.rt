@@ -42,7 +42,7 @@ impl Book {
         place
     }
 
-    /// Whether a plan refuses an ask that is made now. The plans move on, and a refusal is counted.
+    /// Whether a plan refuses an ask that is made now. The plans move on.
     pub(crate) fn take_plan(&mut self, ask: Ask) -> bool
         ensures planned { result ≡ refuses self.old.plans (kind_of ask) }
         ensures plans { self.new ≡ record self.old { plans = plans_after self.old.plans (kind_of ask) } }

@@ -1,6 +1,6 @@
 //! What entries of a journal did, in few bytes.
 
-ghost use Rattle.std.specs.Prelude.{◌≡◌, false, true, cond, None, Some, is_some, IfOk, IsOk};
+ghost use Rattle.std.specs.Prelude.{◌≡◌, false, cond, None, Some, is_some, IfOk, IsOk};
 ghost use Rattle.space_model.specs.declared.entries.Op.{Op};
 ghost use Rattle.space_model.specs.declared.asks.Heard.{Heard};
 ghost use Rattle.hook_api.specs.Kept.{heard_of};
@@ -109,75 +109,35 @@ impl Deed {
         ensures carries { IfOk result (λ op. heard_of op ≡ cond (carries self.now) (Some (carried asked)) None) }
     {
         let heard = asked.map_or(NOTHING, |asked| asked.heard());
-        Ok(match self {
-            Deed::Looked(pages, align) => Op::Look {
-                pages: *pages,
-                align: *align,
-            },
-            Deed::Cut(keep_low) => Op::CutDone {
-                heard,
-                keep_low: *keep_low,
-            },
-            Deed::Grew(found) => Op::GrowDone {
-                heard,
-                found: *found,
-            },
+        Ok(match *self {
+            Deed::Looked(pages, align) => Op::Look { pages, align },
+            Deed::Cut(keep_low) => Op::CutDone { heard, keep_low },
+            Deed::Grew(found) => Op::GrowDone { heard, found },
             Deed::Committed => Op::CommitDone { heard },
-            Deed::Landed(class, count, span) => Op::Land {
-                span: *span,
-                class: *class,
-                count: *count,
-            },
-            Deed::GaveOne(addr) => back(&[*addr], alloc)?,
-            Deed::Gave(addrs) => back(addrs.as_slice(), alloc)?,
-            Deed::Sought(tries, span) => Op::PutLook {
-                span: *span,
-                tries: *tries,
-            },
-            Deed::Merged(own_low) => Op::MergeDone {
-                heard,
-                own_low: *own_low,
-            },
-            Deed::Filled(class, count) => Op::Fill {
-                class: *class,
-                count: *count,
-            },
-            Deed::Advanced(now) => Op::Advance { now: *now },
-            Deed::Took(rest, keep) => Op::PurgeTake {
-                rest: *rest,
-                keep: *keep,
-            },
+            Deed::Landed(class, count, span) => Op::Land { span, class, count },
+            Deed::GaveOne(addr) => back(&[addr], alloc)?,
+            Deed::Gave(ref addrs) => back(addrs.as_slice(), alloc)?,
+            Deed::Sought(tries, span) => Op::PutLook { span, tries },
+            Deed::Merged(own_low) => Op::MergeDone { heard, own_low },
+            Deed::Filled(class, count) => Op::Fill { class, count },
+            Deed::Advanced(now) => Op::Advance { now },
+            Deed::Took(rest, keep) => Op::PurgeTake { rest, keep },
             Deed::PurgedLazily => Op::LazyDone { heard },
-            Deed::Offered(span) => Op::Offer { span: *span },
-            Deed::Returned(found) => Op::OfferDone {
-                heard,
-                found: *found,
-            },
+            Deed::Offered(span) => Op::Offer { span },
+            Deed::Returned(found) => Op::OfferDone { heard, found },
             Deed::Decommitted => Op::DecommitDone { heard },
             Deed::PurgedForcibly => Op::ForcedDone { heard },
-            Deed::Published(addr) => Op::Publish { addr: *addr },
-            Deed::TookOver(addr) => Op::TakeOver { addr: *addr },
-            Deed::Emptied(cached) => Op::Reset { cached: *cached },
-            Deed::Ended(cached) => Op::Destroy { cached: *cached },
+            Deed::Published(addr) => Op::Publish { addr },
+            Deed::TookOver(addr) => Op::TakeOver { addr },
+            Deed::Emptied(cached) => Op::Reset { cached },
+            Deed::Ended(cached) => Op::Destroy { cached },
             Deed::Doomed => Op::DestroyTake,
             Deed::Counted => Op::Counts,
-            Deed::Widened(addr, pages) => Op::Widen {
-                addr: *addr,
-                pages: *pages,
-            },
-            Deed::Joined(class) => Op::JoinDone {
-                heard,
-                class: *class,
-            },
-            Deed::Trimmed(class, addr) => Op::Trim {
-                addr: *addr,
-                class: *class,
-            },
-            Deed::Shrunk(class) => Op::TrimDone {
-                heard,
-                class: *class,
-            },
-            Deed::Changed(setting) => Op::Set(*setting),
+            Deed::Changed(setting) => Op::Set(setting),
+            Deed::Widened(addr, pages) => Op::Widen { addr, pages },
+            Deed::Joined(class) => Op::JoinDone { heard, class },
+            Deed::Trimmed(class, addr) => Op::Trim { addr, class },
+            Deed::Shrunk(class) => Op::TrimDone { heard, class },
         })
     }
 }

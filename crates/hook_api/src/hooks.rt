@@ -73,5 +73,32 @@ pub trait ExtentHooks: Drop {
         ensures { result ≡ (account self.now).refusals };
 }
 
-/// Boxes of hooks, by number.
-pub type Boxes = Vec<Box<dyn ExtentHooks + Send>>;
+/// What `alloc` gave, as an answer.
+pub fn heard_placed(placed: Option<Placed>) -> Answer
+    ensures { result ≡ placed_answer placed }
+{
+    match placed {
+        None => Answer::Refused,
+        Some(
+            Placed {
+                first,
+                committed,
+                zeroed,
+            },
+        ) => Answer::Placed {
+            first,
+            committed,
+            zeroed,
+        },
+    }
+}
+
+/// What another hook said, as an answer.
+pub fn heard_said(said: Said) -> Answer
+    ensures { result ≡ said_answer said }
+{
+    match said {
+        Said::Done => Answer::Done,
+        Said::Refused => Answer::Refused,
+    }
+}

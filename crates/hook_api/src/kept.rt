@@ -44,7 +44,7 @@ impl Kept {
         &self.entry
     }
 
-    /// The ask that was made for the entry.
+    /// The ask that was made for the entry, if one was.
     pub fn asked(&self) -> Option<Asked>
         ensures { result ≡ self.now.asked }
     {
@@ -105,14 +105,5 @@ impl Journals {
         ensures by_index { IsByIndex result.now }
     {
         self.items.as_slice()
-    }
-
-    /// The journals as a vector. Takes no memory.
-    pub fn into_vec(self) -> Vec<Journal>
-        ensures journals { result.items ≡ self }
-        ensures by_index { IsByIndex result.items }
-    {
-        let Journals { items } = self;
-        items
     }
 }

@@ -4,7 +4,7 @@ ghost use Rattle.std.specs.Prelude.{◌≡◌, ◌+◌, ◌<◌, ◌≤◌, ◌^
 ghost use Rattle.hook_api.specs.Kepts.{ask_of, asks_after, kept_of};
 ghost use Rattle.hook_api.specs.Filling.{FillsIn, filled_in};
 
-use crate::ask_list::{AskReader, push_whole};
+use crate::ask_list::AskReader;
 use crate::slots::NarrowSlot;
 use crate::{AskList, Asked, Kept, Slot};
 use space_model::Seq;
@@ -130,7 +130,7 @@ fn next_ask(slot: &Slot, asks: &mut AskReader) -> Option<Asked>
 
 /// Puts an entry behind the others: in few bytes if its numbers fit there, and else whole, behind a mark. There is a place for
 /// it in both lists.
-#[tactic(auto, using(crate::proofs::Filling::filled_push, crate::proofs::Filling::fits_push))]
+#[tactic(auto, using(crate::proofs::Filling::filled_mark, crate::proofs::Filling::filled_member, crate::proofs::Filling::fits_push))]
 fn push_slot(few: &mut Vec<NarrowSlot>, whole: &mut Vec<Slot>, slot: Slot)
     requires few { vec_len few.old < vec_capacity few.old }
     requires whole { vec_len whole.old < vec_capacity whole.old }
@@ -143,7 +143,9 @@ fn push_slot(few: &mut Vec<NarrowSlot>, whole: &mut Vec<Slot>, slot: Slot)
     ensures whole_places { vec_capacity whole.old ≤ vec_capacity whole.new }
 {
     let narrow = NarrowSlot::of(&slot);
-    push_whole(whole, slot, narrow.is_mark());
+    if narrow.is_mark() {
+        whole.push(slot).unwrap();
+    }
     few.push(narrow).unwrap();
 }
 

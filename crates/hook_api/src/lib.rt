@@ -34,7 +34,7 @@ mod unshare;
 
 pub use ask_list::{AskList, Askeds};
 pub use asked::Asked;
-pub use hooks::{Boxes, ExtentHooks, Placed, Said};
+pub use hooks::{ExtentHooks, Placed, Said, heard_placed, heard_said};
 pub use kept::{Journal, Journals, Kept};
 pub use kepts::{Kepts, Writing};
 pub use laws::{

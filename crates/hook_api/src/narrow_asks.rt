@@ -4,6 +4,7 @@ ghost use Rattle.std.specs.Prelude.{◌≡◌, ◌<◌, ◌^◌, None, is_none, 
 
 use crate::Asked;
 use crate::briefs::{AnswerShape, AskShape};
+use crate::narrow_deeds::WIDE;
 use std::marker::Model;
 
 /// An ask with its answer in 32 bytes, or the mark of one whose numbers don't fit there. Of the last number of the ask and the
@@ -42,7 +43,7 @@ impl Model for NarrowAsk {
 fn is_small(number: u64) -> bool
     ensures { result ≡ true → number < 2 ^ 32 }
 {
-    number < 1 << 32
+    number < WIDE
 }
 
 /// The mark of an ask whose numbers don't fit.

@@ -1,13 +1,13 @@
 //! What entries of a journal did, in 16 bytes, where their numbers are small.
 
-ghost use Rattle.std.specs.Prelude.{◌≡◌, ◌<◌, ◌^◌, false, IfSome};
-ghost use Rattle.hook_api.specs.NarrowDeeds.{deed_by, deed_of, says_elsewhere, of_halves};
+ghost use Rattle.std.specs.Prelude.{◌≡◌, false, IfSome};
+ghost use Rattle.hook_api.specs.NarrowDeeds.{deed_of, says_elsewhere, of_halves};
 
 use crate::deeds::Deed;
 use space_model::{Rest, Span};
 
 /// The first number that 32 bits don't hold.
-const WIDE: u64 = 1 << 32;
+pub(crate) const WIDE: u64 = 1 << 32;
 
 /// What an entry did, with what is no number in it, or that the entry stands elsewhere.
 #[derive(Clone, Copy)]
@@ -129,8 +129,8 @@ impl NarrowDeed {
         ensures { result ≡ record { first = self.a; pages = self.b } }
     {
         Span {
-            first: self.a as u64,
-            pages: self.b as u64,
+            first: u64::from(self.a),
+            pages: u64::from(self.b),
         }
     }
 
@@ -138,7 +138,7 @@ impl NarrowDeed {
     fn number(self) -> u64
         ensures { result ≡ of_halves self.a self.b }
     {
-        self.a as u64 + self.b as u64 * WIDE
+        u64::from(self.a) + u64::from(self.b) * WIDE
     }
 
     /// What the entry did.
@@ -147,7 +147,7 @@ impl NarrowDeed {
     {
         let mark = self.mark;
         match self.shape {
-            NarrowShape::Looks => Deed::Looked(self.a as u64, self.b as u64),
+            NarrowShape::Looks => Deed::Looked(u64::from(self.a), u64::from(self.b)),
             NarrowShape::CutsLow => Deed::Cut(true),
             NarrowShape::CutsHigh => Deed::Cut(false),
             NarrowShape::Grows => Deed::Grew(None),

@@ -1,12 +1,12 @@
 //! The shelf of boxes.
 
 ghost use Rattle.std.specs.Prelude.{◌≡◌, ◌<◌, length, map, vec_len};
-ghost use Rattle.hook_api.specs.Hooks.{HookCall, placed_answer, said_answer};
+ghost use Rattle.hook_api.specs.Hooks.{HookCall};
 ghost use Rattle.hook_api.specs.Shelf.{count_of, BoxStep};
 
 use crate::asked::Asked;
 use crate::books::Book;
-use crate::hooks::{ExtentHooks, Placed, Said};
+use crate::hooks::{ExtentHooks, heard_placed, heard_said};
 use crate::plans::Kind;
 use space_model::{Answer, Ask};
 use std::marker::Model;
@@ -33,36 +33,6 @@ impl<H: ExtentHooks> Model for HookShelf<H> {
     ghost view = { λ s. record { accounts = map H.account s.boxes.items; books = s.books } };
 
     ghost invariant = { λ s. length s.boxes.items ≡ 32 };
-}
-
-/// What `alloc` gave, as an answer.
-fn heard_placed(placed: Option<Placed>) -> Answer
-    ensures { result ≡ placed_answer placed }
-{
-    match placed {
-        None => Answer::Refused,
-        Some(
-            Placed {
-                first,
-                committed,
-                zeroed,
-            },
-        ) => Answer::Placed {
-            first,
-            committed,
-            zeroed,
-        },
-    }
-}
-
-/// What another hook said, as an answer.
-fn heard_said(said: Said) -> Answer
-    ensures { result ≡ said_answer said }
-{
-    match said {
-        Said::Done => Answer::Done,
-        Said::Refused => Answer::Refused,
-    }
 }
 
 /// Calls the hook of an ask.

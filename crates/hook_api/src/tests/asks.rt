@@ -1,7 +1,8 @@
 //! Lists of asks, through their public calls.
 
-use super::{ALLOC, DALLOC, SPLIT, WIDE};
+use super::{ALLOC, DALLOC, SPLIT};
 use crate::narrow_asks::NarrowAsk;
+use crate::narrow_deeds::WIDE;
 use crate::{AskList, Asked, Askeds};
 use space_model::{Answer, Ask, Seq, Span};
 use std::mem::size_of;
@@ -74,6 +75,10 @@ fn asks_come_back_in_order(rt: HostRuntime) -> Result<(), Fail> {
         (said(DALLOC, Some(WIDE)), true),
         (said(SPLIT, None), true),
         (grown(3, SPLIT, 0), false),
+        (
+            Asked::new((2, 5), DALLOC, Answer::Refused, (3, 5), false),
+            true,
+        ),
     ];
     let mut list = AskList::new(alloc);
     for (asked, marked) in &rows {
