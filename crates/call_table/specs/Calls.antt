@@ -1,6 +1,6 @@
 -- A call as contracts see it.
 use Rattle.std.specs.Prelude.{◌≡◌, ◌≤◌, ℕ, Bool, true, false, ◌||◌, Option, Some, is_some}
-use Rattle.call_table.specs.Words.{Request, Malloc, Memalign, Free, FreeForeign, Publish, Take, Region, Finished, Ok, Then, Batches, Visiting, Visits, TurnPoint, Filling, Looking, Landing, Finding, Taking, Offering, Changing, Owning, AskPoint, Merging, Easing, Returning, Decommitting, Forcing, Point, Turns, Asks, Tells, Next, Go, Ends, Stage, Held, DeskFacts}
+use Rattle.call_table.specs.Words.{Request, Malloc, Memalign, Free, FreeForeign, Publish, Take, Region, Finished, Ok, TurnPoint, Filling, Looking, Landing, Owning, AskPoint, Merging, Easing, Returning, Decommitting, Forcing, Point, Turns, Asks, Tells, Next, Go, Ends, Stage, Held, DeskFacts}
 use Rattle.call_table.specs.Desks.{flushes}
 use Rattle.call_table.specs.Points.{IsSizedNext}
 use Rattle.call_table.specs.Needs.{IsPointOrEnd}
@@ -35,6 +35,7 @@ gets_turn (Landing wish span) = true
 gets_turn (Owning addr frees past) = true
 gets_turn point = false
 
+-- whether a region may come of a point of an ask: an extent is got there, and none is merged, purged or given back
 abbrev pub gets_ask : AskPoint → Bool
 gets_ask (Merging low high own_low fresh later) = false
 gets_ask (Easing span later) = false
@@ -43,6 +44,7 @@ gets_ask (Decommitting span later) = false
 gets_ask (Forcing span later) = false
 gets_ask point = true
 
+-- whether a region may come of a point
 abbrev pub gets_at : Point → Bool
 gets_at (Turns point) = gets_turn point
 gets_at (Asks point heard) = gets_ask point

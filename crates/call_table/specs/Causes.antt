@@ -26,6 +26,7 @@ pub record Extent : Type 0 where
   pub span : Span
   pub committed : Bool
 
+-- an extent in flight by its span, committed or not
 abbrev pub extent : Span → Bool → Extent
 extent span is_committed = record { span = span; committed = is_committed }
 
@@ -120,6 +121,7 @@ RegionCause desk (Memalign align size) items addr class = (class ≡ aligned_for
 RegionCause desk (Take at arena) items addr class = (addr ≡ at) × Contains items (Replied (Owned class))
 RegionCause desk request items addr class = ⊥
 
+-- what a call gave has its cause
 abbrev pub GivenCause : DeskFacts → Request → List Item → Given → Type 0
 GivenCause desk request items (Region addr class) = RegionCause desk request items addr class
 GivenCause desk request items Finished = Unit {0}
@@ -134,15 +136,18 @@ NotHeldCause desk (Take at arena) items addr = (addr ≡ at) × Contains items (
 NotHeldCause desk (FreeForeign at arena) items addr = (addr ≡ at) × Contains items (Replied Nothing)
 NotHeldCause desk request items addr = ⊥
 
+-- the size is above 2 ^ 35 bytes, at a good alignment
 abbrev pub TooLargeCause : Request → Type 0
 TooLargeCause (Malloc size) = 2 ^ 35 < size
 TooLargeCause (Memalign align size) = IsAlignment align × (2 ^ 35 < size)
 TooLargeCause request = ⊥
 
+-- the alignment is none
 abbrev pub BadAlignCause : Request → Type 0
 BadAlignCause (Memalign align size) = ¬ IsAlignment align
 BadAlignCause request = ⊥
 
+-- a reset or destroy names arena 0
 abbrev pub AutomaticCause : Request → Type 0
 AutomaticCause (Reset index) = index ≡ 0
 AutomaticCause (Destroy index) = index ≡ 0

@@ -107,6 +107,7 @@ abbrev pub IsThen : Then → Type 0
 IsThen Batches = Unit {0}
 IsThen (Visiting visit left) = IsVisit visit
 
+-- what follows once a setting is changed is in order
 abbrev pub IsChange : Change → Type 0
 IsChange (Visits visit) = IsVisit visit
 IsChange change = Unit {0}

@@ -39,22 +39,27 @@ abbrev pub stages_list : Rest → Option ℕ → ℕ
 stages_list ToMuzzy (Some dirty) = 2
 stages_list rest other = 0
 
+-- those of the list that is visited after the one of a visit, if one is
 abbrev pub stages_later : Visit → ℕ
 stages_later visit = stages_list visit.rest visit.other
 
+-- those of what follows once the client has nothing in flight
 abbrev pub stages_then : Then → ℕ
 stages_then Batches = 0
 stages_then (Visiting visit left) = stages_later visit
 
+-- those of what follows once a setting is changed
 abbrev pub stages_change : Change → ℕ
 stages_change Stops = 0
 stages_change (Visits visit) = 2 + stages_later visit
 stages_change (Leaves arena) = 1
 
+-- those of a visit, which learns at its first extent how many there are
 abbrev pub stages_visit : Visit → Option ℕ → ℕ
 stages_visit visit None = 1 + stages_later visit
 stages_visit visit (Some left) = stages_later visit
 
+-- those from a point of a turn on
 abbrev pub stages_turn : TurnPoint → ℕ
 stages_turn (Filling wish count) = 1
 stages_turn (Giving addrs) = 1
@@ -68,6 +73,7 @@ stages_turn (Resetting cached) = 2
 stages_turn (Destroying cached) = 1
 stages_turn point = 0
 
+-- those from a point of an ask on
 abbrev pub stages_ask : AskPoint → ℕ
 stages_ask (Merging low high own_low fresh later) = stages_then later
 stages_ask (Easing span later) = stages_then later
@@ -76,6 +82,7 @@ stages_ask (Decommitting span later) = stages_then later
 stages_ask (Forcing span later) = stages_then later
 stages_ask point = 0
 
+-- those from a point on
 abbrev pub stages : Point → ℕ
 stages (Turns point) = stages_turn point
 stages (Asks point heard) = stages_ask point
@@ -94,6 +101,7 @@ abbrev pub left_then : Then → ℕ
 left_then Batches = 0
 left_then (Visiting visit left) = 30 * left
 
+-- those of the extents of a visit, once it is known how many are left
 abbrev pub left_visit : Option ℕ → ℕ
 left_visit None = 0
 left_visit (Some left) = 30 * left

@@ -15,6 +15,7 @@ abbrev pub HasFewAddresses : TurnPoint → Type 0
 HasFewAddresses (Giving addrs) = length addrs ≤ 2
 HasFewAddresses point = Unit {0}
 
+-- where a call goes next, so few regions go back that no memory is wanted to name them
 abbrev pub IsFewAddresses : Next → Type 0
 IsFewAddresses (Go (Turns point)) = HasFewAddresses point
 IsFewAddresses next = Unit {0}

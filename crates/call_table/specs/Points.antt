@@ -6,12 +6,14 @@ use Rattle.call_table.specs.Words.{Wish, TurnPoint, Filling, Looking, Landing, A
 abbrev pub IsFew : Wish → Type 0
 IsFew wish = (wish.pages ≤ 2 ^ 32) × (wish.class < 121)
 
+-- the wish of a point of a turn is such, where it has one
 abbrev pub IsSizedTurn : TurnPoint → Type 0
 IsSizedTurn (Filling wish count) = IsFew wish
 IsSizedTurn (Looking wish) = IsFew wish
 IsSizedTurn (Landing wish span) = IsFew wish
 IsSizedTurn point = Unit {0}
 
+-- the wish of a point of an ask is such, where it has one, and the chunks that it asks for are few
 abbrev pub IsSized : AskPoint → Type 0
 IsSized (Skipping wish span is_committed skip) = IsFew wish
 IsSized (Trimming wish span is_committed) = IsFew wish
@@ -22,11 +24,13 @@ IsSized (Granting wish span is_committed) = IsFew wish
 IsSized (Committing wish span) = IsFew wish
 IsSized point = Unit {0}
 
+-- what a point asks for fits into a number
 abbrev pub IsSizedPoint : Point → Type 0
 IsSizedPoint (Turns point) = IsSizedTurn point
 IsSizedPoint (Asks point heard) = IsSized point
 IsSizedPoint (Tells span is_committed) = Unit {0}
 
+-- where a call goes next, what is asked for fits into a number
 abbrev pub IsSizedNext : Next → Type 0
 IsSizedNext (Go point) = IsSizedPoint point
 IsSizedNext (Over index point) = IsSizedPoint point

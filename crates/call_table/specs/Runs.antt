@@ -11,6 +11,7 @@ use Rattle.call_table.specs.Desks.{desk_closed, desk_fed, flushes}
 
 -- ---- where a request begins
 
+-- a call stands at this, in the arena with this index
 abbrev pub stage : ℕ → Next → Stage
 stage arena next = record { arena = arena; next = next }
 
@@ -42,6 +43,7 @@ abbrev pub begin_get : ℕ → ℕ → Option Held → DeskFacts → Stage
 begin_get class align (Some region) desk = stage region.arena (Ends (Ok (Region region.addr class)))
 begin_get class align None desk = stage desk.arena (get class align (share class desk))
 
+-- a malloc of too many bytes ends at once; for another one a region of its class is got
 abbrev pub begin_malloc : ℕ → DeskFacts → Stage
 begin_malloc size desk =
     if nat_lt (2 ^ 35) size then stage desk.arena (Ends TooLarge) else begin_get (class_for size) 1 (hit (class_for size) desk) desk
@@ -58,6 +60,7 @@ page_align align = max 1 (align / 4096)
 abbrev pub small_hit : ℕ → DeskFacts → Option Held
 small_hit class desk = if nat_lt class 36 then hit class desk else None
 
+-- a malloc at an alignment that is none, or of too many bytes, ends at once; for another one a region of the class for both is got
 abbrev pub begin_memalign : ℕ → ℕ → DeskFacts → Stage
 begin_memalign align size desk =
     if not (is_alignment align) then stage desk.arena (Ends BadAlign)
@@ -149,6 +152,7 @@ abbrev pub desk_published : ℕ → Option Held → DeskFacts → DeskFacts
 desk_published addr None desk = desk
 desk_published addr (Some region) desk = record (not_holding addr desk) { hand = Some region }
 
+-- what the client has where its request began
 abbrev pub begin_desk : Request → DeskFacts → DeskFacts
 begin_desk (Malloc size) desk = if nat_lt (2 ^ 35) size then desk else desk_got (class_for size) (hit (class_for size) desk) desk
 begin_desk (Memalign align size) desk =
@@ -165,6 +169,7 @@ pub record Moment : Type 0 where
   pub desk : DeskFacts
   pub stage : Stage
 
+-- the moment of a client whose call stands at this, in the arena with this index
 abbrev pub moment : Request → DeskFacts → ℕ → Next → Moment
 moment request desk arena next = record { request = request; desk = desk; stage = stage arena next }
 
@@ -187,6 +192,7 @@ settle request desk arena Gone = stage arena (Ends (NoArena arena))
 settle request desk arena (Ends answer) = stage arena (Ends answer)
 settle request desk arena Nowhere = stage arena Nowhere
 
+-- where an item leads from where a call stands: nowhere, if that is no point
 abbrev pub step_next : Next → Item → Next
 step_next (Go point) item = step point item
 step_next next item = Nowhere

@@ -47,6 +47,7 @@ abbrev pub hears : Point → Item → Bool
 hears (Asks point None) (Told asked) = true
 hears point item = false
 
+-- whether the item is the answer that is waited for where a call stands
 abbrev pub hears_next : Next → Item → Bool
 hears_next (Go point) item = hears point item
 hears_next next item = false

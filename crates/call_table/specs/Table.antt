@@ -138,6 +138,7 @@ abbrev pub visited_list : Rest → Option ℕ → ℕ → Bool → Next
 visited_list ToMuzzy (Some dirty) keep told = visit_all (dirty_visit dirty (Some keep) told)
 visited_list rest other keep told = Ends (Ok (visit_gives told rest keep other))
 
+-- what follows a visit
 abbrev pub visited : Visit → Next
 visited visit = visited_list visit.rest visit.other visit.keep visit.told
 

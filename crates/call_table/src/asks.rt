@@ -73,15 +73,12 @@ impl Wish {
                 span: answered_span(chunks * CHUNK_PAGES, answer),
                 why,
             }),
-            Reply::Grown { span, committed } => {
-                let wish = self;
-                AskPoint::Paring {
-                    wish,
-                    span,
-                    committed,
-                }
-                .first()
+            Reply::Grown { span, committed } => AskPoint::Paring {
+                wish: self,
+                span,
+                committed,
             }
+            .first(),
             _ => Lead::Nowhere,
         }
     }

@@ -255,10 +255,8 @@ impl Visit {
         ensures { result ≡ purge_visit }
     {
         Visit {
-            rest: Rest::Muzzy,
-            keep: 0,
             other: Some(0),
-            told: false,
+            ..Visit::whole(Rest::Muzzy)
         }
     }
 }
@@ -298,15 +296,25 @@ impl Stage {
     fn own(&mut self, index: u32, addr: u64, frees: bool)
         ensures { self.new ≡ first_turn index (TurnPoint.Owning addr frees false) }
     {
-        let published = false;
-        self.first(
-            index,
-            TurnPoint::Owning {
-                addr,
-                frees,
-                published,
-            },
-        );
+        let point = TurnPoint::Owning {
+            addr,
+            frees,
+            published: false,
+        };
+        self.first(index, point);
+    }
+
+    /// An arena comes to be at the first index from 1 on that has none, with this box of hooks and these decay times.
+    fn create(&mut self, box_no: u32, dirty_ms: i64, muzzy_ms: i64, now: u64)
+        ensures { self.new ≡ first_turn 1 (TurnPoint.Making 1 (Setting.Live box_no dirty_ms muzzy_ms now)) }
+    {
+        let setting = Setting::Live {
+            box_no,
+            dirty_ms,
+            muzzy_ms,
+            now,
+        };
+        self.first(1, TurnPoint::Making(1, setting));
     }
 
     /// Where a request begins that leaves what the client has as it is, and takes no memory.
@@ -339,15 +347,7 @@ impl Stage {
                 dirty_ms,
                 muzzy_ms,
                 now,
-            } => {
-                let setting = Setting::Live {
-                    box_no,
-                    dirty_ms,
-                    muzzy_ms,
-                    now,
-                };
-                self.first(1, TurnPoint::Making(1, setting));
-            }
+            } => self.create(box_no, dirty_ms, muzzy_ms, now),
             Request::Bind { arena } => self.bind(desk.arena(), arena),
             Request::HookBox { arena, box_no } => self.set(arena, Setting::HookBox(box_no)),
             Request::GrowLimit { arena, chunks } => {

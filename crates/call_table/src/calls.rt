@@ -154,7 +154,9 @@ impl Request {
 
 impl Stage {
     /// It stands nowhere yet.
-    pub(crate) fn new() -> Stage {
+    pub(crate) fn new() -> Stage
+        ensures { result ≡ stage 0 (led Lead.Nowhere None) }
+    {
         Stage {
             arena: 0,
             lead: Lead::Nowhere,
@@ -352,21 +354,13 @@ impl Call {
         if let Some(answer) = stage.answer() {
             return Ok(Some(*answer));
         }
-        let request = *request;
         let call = Call {
             client,
-            request,
+            request: *request,
             stage,
         };
         *place = Some(call);
         Ok(None)
-    }
-
-    /// The client whose call it is.
-    pub fn client(&self) -> u32
-        ensures { result ≡ self.now.client }
-    {
-        self.client
     }
 
     /// What the call needs next, or its answer. It is starved only where several regions go back: that turn then finds no

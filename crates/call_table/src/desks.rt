@@ -101,6 +101,7 @@ impl Request {
     }
 
     /// What the client has once its call has ended.
+    #[inline(never)]
     fn end(&self, desk: &mut Desk, arena: u32, answer: &Answered)
         requires { wants_place desk.old.facts.hand (Ends answer.now) ≡ true → 1 ≤ desk.old.room }
         ensures { desk.new.facts ≡ desk_ended self.now arena answer.now desk.old.facts }
@@ -119,6 +120,7 @@ impl Request {
 
 impl Stage {
     /// What the client has where its call stands now.
+    #[inline(always)]
     pub(crate) fn close(&self, request: &Request, desk: &mut Desk)
         requires { wants_place desk.old.facts.hand self.now.next ≡ true → 1 ≤ desk.old.room }
         ensures facts { desk.new.facts ≡ desk_closed request.now self.now.arena self.now.next desk.old.facts }

@@ -1,6 +1,6 @@
 //! How a call goes on that gets an extent.
 
-ghost use Rattle.std.specs.Prelude.{◌≡◌, None};
+ghost use Rattle.std.specs.Prelude.{◌≡◌, ℕ, None};
 ghost use Rattle.call_table.specs.Table.{ask_at, chunks_for, commit, grant, grow, need_chunks, skip_to, trim, turn_replied};
 ghost use Rattle.call_table.specs.Points.{IsSized};
 ghost use Rattle.call_table.specs.Stages.{Asks, Ends, Go, led};
@@ -133,15 +133,13 @@ impl Wish {
     fn region(self, addr: u64) -> Lead
         ensures { led result None ≡ Ends (Answered.Ok (Given.Region addr self.class)) }
     {
-        Lead::Ends(Answered::Ok(Given::Region {
-            addr,
-            class: self.class,
-        }))
+        let class = self.class;
+        Lead::Ends(Answered::Ok(Given::Region { addr, class }))
     }
 
     /// After the landing.
-    pub(crate) fn landed(self, span: Span, reply: &Reply) -> Lead
-        ensures { led result None ≡ turn_replied (TurnPoint.Landing self span) reply.now }
+    pub(crate) fn landed(self, reply: &Reply) -> Lead
+        ensures { (span : Span) → led result None ≡ turn_replied (TurnPoint.Landing self span) reply.now }
     {
         match *reply {
             Reply::Landed { first, .. } => self.region(first),
@@ -150,8 +148,8 @@ impl Wish {
     }
 
     /// After free regions of a small class were looked for.
-    pub(crate) fn filled(self, count: u32, reply: &Reply) -> Lead
-        ensures { led result None ≡ turn_replied (TurnPoint.Filling self count) reply.now }
+    pub(crate) fn filled(self, reply: &Reply) -> Lead
+        ensures { (count : ℕ) → led result None ≡ turn_replied (TurnPoint.Filling self count) reply.now }
     {
         match *reply {
             Reply::Regions(ref addrs) => match addrs.as_slice().first() {

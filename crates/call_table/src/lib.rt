@@ -20,7 +20,8 @@ mod turns;
 pub use calls::{Call, Stage};
 pub use laws::{
     answers_have_causes, asks_are_few, batches_know, begins_know, frees_are_few, knowledge_is_own,
-    mallocs_are_short, refusals_stand, rooms_suffice, runs_end_once, steps_keep, wants_stand,
+    mallocs_are_short, memaligns_are_aligned, purges_are_few, refusals_stand, rooms_suffice,
+    runs_end_once, steps_keep, wants_stand,
 };
 pub use needs::{Answered, Given, Item, Need, Request, Turn};
 pub use points::{AskPoint, Change, Lead, Then, TurnPoint, Visit, Wish};

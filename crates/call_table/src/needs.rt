@@ -208,7 +208,7 @@ pub enum Answered {
         /// How many clients are bound to the arena, where that matters.
         threads: u64,
     },
-    /// A turn found no memory.
+    /// A turn found no memory, or there was none to name the regions that go back next.
     NoMemory,
     /// Every index has an arena.
     ArenasFull,

@@ -1,19 +1,11 @@
 //! How a call goes on that puts extents down, or purges them.
 
 ghost use Rattle.std.specs.Prelude.{◌≡◌, None};
-ghost use Rattle.space_model.specs.Span.{end_of};
 ghost use Rattle.call_table.specs.Table.{beside, decommitted, dirty_visit, drop, eased, forced, visit_gives, look_on, merged, onward, put_next, put_purged, returned, turn_replied, visit_all, visited};
 ghost use Rattle.call_table.specs.Stages.{Asks, Go, Turns, led};
 
 use crate::{Answered, AskPoint, Given, Lead, Then, TurnPoint, Visit};
 use space_model::{Reply, Rest, Span};
-
-/// The page after a span's last one. In 128 bits, so that no span wraps.
-fn end_of(span: Span) -> u128
-    ensures { result ≡ end_of span }
-{
-    u128::from(span.first) + u128::from(span.pages)
-}
 
 impl TurnPoint {
     /// The turn comes next.
@@ -128,7 +120,7 @@ impl Then {
     fn beside(&self, own: Span, tries: u8, fresh: bool, other: Span) -> Lead
         ensures { led result None ≡ beside own tries fresh other self.now }
     {
-        if tries == 0 && u128::from(other.first) == end_of(own) {
+        if tries == 0 && u128::from(other.first) == own.end() {
             self.merge(own, other, true, fresh)
         } else if tries < 2 {
             self.merge(other, own, false, fresh)

@@ -1,6 +1,6 @@
 //! How a call goes on that asks for one thing of an arena as a whole.
 
-ghost use Rattle.std.specs.Prelude.{◌≡◌, ◌<◌, Bool, None};
+ghost use Rattle.std.specs.Prelude.{◌≡◌, ℕ, Bool, true, false, None};
 ghost use Rattle.call_table.specs.Table.{setting_changed, limited, make_next, turn_replied};
 ghost use Rattle.call_table.specs.Stages.{Go, Turns, led};
 
@@ -42,8 +42,8 @@ impl Change {
     }
 
     /// After the setting.
-    pub(crate) fn was_set(self, setting: Setting, reply: &Reply) -> Lead
-        ensures { led result None ≡ turn_replied (TurnPoint.Changing setting self) reply.now }
+    pub(crate) fn was_set(self, reply: &Reply) -> Lead
+        ensures { (setting : Setting) → led result None ≡ turn_replied (TurnPoint.Changing setting self) reply.now }
     {
         match *reply {
             Reply::Noted => self.changed(),
@@ -76,8 +76,8 @@ pub(crate) fn made(index: u32, setting: Setting, reply: &Reply) -> Lead
 }
 
 /// After the decays were told a moment.
-pub(crate) fn advanced(now: u64, reply: &Reply) -> Lead
-    ensures { led result None ≡ turn_replied (TurnPoint.Advancing now) reply.now }
+pub(crate) fn advanced(reply: &Reply) -> Lead
+    ensures { (now : ℕ) → led result None ≡ turn_replied (TurnPoint.Advancing now) reply.now }
 {
     match *reply {
         Reply::Limits { dirty, muzzy } => limited(dirty, muzzy),
@@ -86,9 +86,10 @@ pub(crate) fn advanced(now: u64, reply: &Reply) -> Lead
     }
 }
 
-/// After all regions were to be discarded.
-pub(crate) fn was_reset(cached: u64, reply: &Reply) -> Lead
-    ensures { led result None ≡ turn_replied (TurnPoint.Resetting cached) reply.now }
+/// After all regions were to be discarded, or the arena was to end.
+pub(crate) fn emptied(ends: bool, reply: &Reply) -> Lead
+    ensures resets { ends ≡ false → (cached : ℕ) → led result None ≡ turn_replied (TurnPoint.Resetting cached) reply.now }
+    ensures ends { ends ≡ true → (cached : ℕ) → led result None ≡ turn_replied (TurnPoint.Destroying cached) reply.now }
 {
     match *reply {
         Reply::Busy {
@@ -100,28 +101,9 @@ pub(crate) fn was_reset(cached: u64, reply: &Reply) -> Lead
             flights,
             threads,
         }),
+        Reply::Noted if ends => TurnPoint::Dooming.next(),
         Reply::Noted => Lead::Ends(Answered::Ok(Given::Done)),
-        Reply::Purge { .. } => Visit::dirty(0, None, false).first(),
-        Reply::NoArena => Lead::Gone,
-        _ => Lead::Nowhere,
-    }
-}
-
-/// After the arena was to end.
-pub(crate) fn ended(cached: u64, reply: &Reply) -> Lead
-    ensures { led result None ≡ turn_replied (TurnPoint.Destroying cached) reply.now }
-{
-    match *reply {
-        Reply::Busy {
-            held,
-            flights,
-            threads,
-        } => Lead::Ends(Answered::Busy {
-            held,
-            flights,
-            threads,
-        }),
-        Reply::Noted => TurnPoint::Dooming.next(),
+        Reply::Purge { .. } if !ends => Visit::dirty(0, None, false).first(),
         Reply::NoArena => Lead::Gone,
         _ => Lead::Nowhere,
     }
@@ -139,8 +121,8 @@ pub(crate) fn doomed(reply: &Reply) -> Lead
 }
 
 /// After a region was published.
-pub(crate) fn published(addr: u64, reply: &Reply) -> Lead
-    ensures { led result None ≡ turn_replied (TurnPoint.Publishing addr) reply.now }
+pub(crate) fn published(reply: &Reply) -> Lead
+    ensures { (addr : ℕ) → led result None ≡ turn_replied (TurnPoint.Publishing addr) reply.now }
 {
     match *reply {
         Reply::Noted => Lead::Ends(Answered::Ok(Given::Done)),

@@ -53,12 +53,11 @@ impl Play {
         let mut stage = Stage::new();
         stage.begin(&request, &mut desk, alloc)?;
         stage.close(&request, &mut desk);
-        let as_told = true;
         Ok(Play {
             request,
             desk,
             stage,
-            as_told,
+            as_told: true,
             alloc,
         })
     }

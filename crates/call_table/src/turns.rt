@@ -1,16 +1,16 @@
 //! Where the reply to a turn leads that takes in no answer of a hook.
 
-ghost use Rattle.std.specs.Prelude.{◌≡◌, None};
+ghost use Rattle.std.specs.Prelude.{◌≡◌, ℕ, List, None};
 ghost use Rattle.call_table.specs.Table.{is_marked, op_at, starved, turn_replied};
 ghost use Rattle.call_table.specs.Stages.{led};
 
-use crate::settings::{advanced, doomed, ended, made, owned, published, was_reset};
+use crate::settings::{advanced, doomed, emptied, made, owned, published};
 use crate::{Answered, Lead, Then, TurnPoint};
-use space_model::{Addresses, Reply};
+use space_model::Reply;
 
 /// After regions went back.
-fn gave(addrs: &Addresses, reply: &Reply) -> Lead
-    ensures { led result None ≡ turn_replied (TurnPoint.Giving addrs.now) reply.now }
+fn gave(reply: &Reply) -> Lead
+    ensures { (addrs : List ℕ) → led result None ≡ turn_replied (TurnPoint.Giving addrs) reply.now }
 {
     match *reply {
         Reply::Next(next) => Then::Batches.put_next(next),
@@ -24,10 +24,10 @@ impl TurnPoint {
         ensures { led result None ≡ turn_replied self.now reply.now }
     {
         match self {
-            TurnPoint::Filling(wish, count) => wish.filled(*count, reply),
+            TurnPoint::Filling(wish, _) => wish.filled(reply),
             TurnPoint::Looking(wish) => wish.looked(reply),
-            TurnPoint::Landing(wish, span) => wish.landed(*span, reply),
-            TurnPoint::Giving(addrs) => gave(addrs, reply),
+            TurnPoint::Landing(wish, _) => wish.landed(reply),
+            TurnPoint::Giving(_) => gave(reply),
             TurnPoint::Finding {
                 own,
                 tries,
@@ -36,13 +36,13 @@ impl TurnPoint {
             } => then.found(*own, *tries, *fresh, reply),
             TurnPoint::Taking(visit, left) => visit.took(*left, reply),
             TurnPoint::Offering(span, then) => then.offered(*span, reply),
-            TurnPoint::Advancing(now) => advanced(*now, reply),
-            TurnPoint::Changing(setting, change) => change.was_set(*setting, reply),
+            TurnPoint::Advancing(_) => advanced(reply),
+            TurnPoint::Changing(_, change) => change.was_set(reply),
             TurnPoint::Making(index, setting) => made(*index, *setting, reply),
-            TurnPoint::Resetting(cached) => was_reset(*cached, reply),
-            TurnPoint::Destroying(cached) => ended(*cached, reply),
+            TurnPoint::Resetting(_) => emptied(false, reply),
+            TurnPoint::Destroying(_) => emptied(true, reply),
             TurnPoint::Dooming => doomed(reply),
-            TurnPoint::Publishing(addr) => published(*addr, reply),
+            TurnPoint::Publishing(_) => published(reply),
             TurnPoint::Owning { addr, frees, .. } => owned(*addr, *frees, reply),
         }
     }
