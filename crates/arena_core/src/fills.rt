@@ -15,7 +15,7 @@ use space_model::{Addresses, Reply};
 use std::alloc::AllocError as NoMemory;
 
 /// The client takes the lowest free regions of a class that has some, so many or as many as there are. Where memory is
-/// wanting for them, or for the list of their addresses, nothing changes.
+/// wanting for the list of their addresses, nothing changes.
 fn take(indexes: &mut Indexes, client: u32, class: u8, count: u32) -> Result<Reply, NoMemory>
     requires client { client < 32 }
     requires class { class < 36 }

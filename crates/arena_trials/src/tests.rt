@@ -1,8 +1,11 @@
 //! An arena beside a space that is moved by scans: scripts, random operations, and what is read of it.
 
+mod bins;
 mod draws;
 mod entries;
 mod ops;
+mod parts;
+mod regions;
 mod rows;
 mod scripts;
 mod texts;

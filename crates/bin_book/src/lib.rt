@@ -19,8 +19,6 @@ mod chart;
 mod class_set;
 mod holders;
 mod table;
-#[cfg(test)]
-mod tests;
 
 /// The slabs of an arena, in order of first page, with the free regions of each and the holders of the others.
 ///

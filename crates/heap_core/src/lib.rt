@@ -15,6 +15,3 @@ pub use laws::{
     aims_sit, asks_lead_on, asks_sit, holders_publish, opening_sits, others_sit, others_stay,
     starts_sit, starves_sit, turns_lead_on, turns_sit,
 };
-
-#[cfg(test)]
-mod tests;

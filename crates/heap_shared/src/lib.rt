@@ -3,8 +3,6 @@
 
 mod claims;
 mod machine;
-#[cfg(test)]
-mod tests;
 mod turns;
 
 pub use machine::{ArenaTurns, OwnedBy, SharedArena};

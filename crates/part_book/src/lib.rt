@@ -20,8 +20,6 @@ mod changes;
 mod finds;
 mod rows;
 mod table;
-#[cfg(test)]
-mod tests;
 
 /// The extents of an arena, in the order in which each took its present span, state and commit
 /// state.

@@ -1,8 +1,6 @@
 //! The regions of an arena where they stand: a large one at its first page, a small one in its slab.
 #![tactic(auto)]
 
-#[cfg(test)]
-mod tests;
 mod totals;
 
 ghost use Rattle.std.specs.Prelude.{◌≡◌, ◌==◌, ◌&&◌, ◌+◌, ◌-◌, ◌*◌, ◌<◌, ◌≤◌, ◌^◌, ℕ, false, true, not, [], ◌∷◌, ◌++◌, filter, find, length, map, nat_le, nat_lt, option_map, slice_index_or, take, IfOk, IfSome, IsTrue, ◌↔◌, OnOk, Some, count_by, if◌then◌else◌};

@@ -16,6 +16,3 @@ pub use heads::Head;
 pub use lines::{
     ask_line, bad_line, call_line, counts_line, idle_line, no_arena_line, turn_line, usage_line,
 };
-
-#[cfg(test)]
-mod tests;

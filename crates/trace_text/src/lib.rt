@@ -14,6 +14,3 @@ pub use faults::LineFault;
 pub use lines::{Line, Ptr, Verb};
 pub use names::Name;
 pub use reading::read;
-
-#[cfg(test)]
-mod tests;

@@ -5,6 +5,7 @@ use crate::narrow_asks::NarrowAsk;
 use crate::narrow_deeds::WIDE;
 use crate::{AskList, Asked, Askeds};
 use space_model::{Answer, Ask, Seq, Span};
+use std::alloc::AllocError as NoMemory;
 use std::mem::size_of;
 use std::process::Abort;
 use std::test::Fail;
@@ -40,30 +41,25 @@ fn said(ask: Ask, refused: Option<u64>) -> Asked {
     }
 }
 
-/// Checks that two asks are the same.
-fn same(rt: &impl Abort, asked: &Asked, other: &Asked) {
-    assert_eq!(rt; asked.ask(), other.ask());
-    assert_eq!(rt; asked.answer(), other.answer());
-    assert_eq!(rt; asked.planned(), other.planned());
-    assert_eq!(rt; asked.box_no(), other.box_no());
-    assert_eq!(rt;
-        [asked.place(), asked.before(), asked.after()],
-        [other.place(), other.before(), other.after()]
-    );
+/// Whether two asks are the same.
+fn same(asked: &Asked, other: &Asked) -> bool {
+    (asked.ask(), asked.answer()) == (other.ask(), other.answer())
+        && (asked.box_no(), asked.planned()) == (other.box_no(), other.planned())
+        && [asked.place(), asked.before(), asked.after()]
+            == [other.place(), other.before(), other.after()]
 }
 
 /// Checks that the asks of a list are these.
 fn are(rt: &impl Abort, list: &Seq<Asked>, rows: &[(Asked, bool)]) {
     assert_eq!(rt; list.len(), rows.len());
     for (asked, (row, _)) in list.as_slice().iter().zip(rows) {
-        same(rt, asked, row);
+        assert!(rt; same(asked, row));
     }
 }
 
-#[test]
-fn asks_come_back_in_order(rt: HostRuntime) -> Result<(), Fail> {
-    let alloc = rt.alloc();
-    let rows = [
+/// Asks, and whether each takes the place of a mark and stands whole elsewhere.
+fn rows() -> [(Asked, bool); 12] {
+    [
         (grown(0, ALLOC, 512), false),
         (grown(WIDE, ALLOC, 512), true),
         (grown(1, ALLOC, WIDE), true),
@@ -79,13 +75,25 @@ fn asks_come_back_in_order(rt: HostRuntime) -> Result<(), Fail> {
             Asked::new((2, 5), DALLOC, Answer::Refused, (3, 5), false),
             true,
         ),
-    ];
-    let mut list = AskList::new(alloc);
-    for (asked, marked) in &rows {
+    ]
+}
+
+/// Puts the asks at the end of a list.
+fn push_all(rt: &impl Abort, list: &mut AskList, rows: &[(Asked, bool)]) -> Result<(), NoMemory> {
+    for (asked, marked) in rows {
         assert_eq!(rt; NarrowAsk::of(asked).is_mark(), *marked);
         list.reserve(1)?;
         list.push(asked);
     }
+    Ok(())
+}
+
+#[test]
+fn asks_come_back_in_order(rt: HostRuntime) -> Result<(), Fail> {
+    let alloc = rt.alloc();
+    let rows = rows();
+    let mut list = AskList::new(alloc);
+    push_all(&rt, &mut list, &rows)?;
     assert_eq!(rt; list.len(), rows.len());
     are(&rt, &list.to_list(alloc)?, &rows);
     let asks = Askeds::from_list(list);

@@ -1,5 +1,5 @@
 use Rattle.heap_shared.proofs.Words.{◌≡◌, ◌<◌, ◌&&◌, Bool, IsTrue, true, nat_lt, arith, refl, sym, subst, nat_tests, number}
-use Rattle.heap_shared.proofs.tests.look_often.Goals as goal
+use Rattle.heap_trials.proofs.tests.turns.look_often.Goals as goal
 
 pub turn-requires-clause-may : goal.turn-requires-clause-may
 unfolding lib.Count.ones

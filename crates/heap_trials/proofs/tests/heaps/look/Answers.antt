@@ -1,4 +1,4 @@
-use Rattle.heap_core.proofs.tests.look.Goals as goal
+use Rattle.heap_trials.proofs.tests.heaps.look.Goals as goal
 use Rattle.heap_core.proofs.Words.{refl}
 
 pub turn-requires-clause-stands : goal.turn-requires-clause-stands

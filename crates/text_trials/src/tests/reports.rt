@@ -1,10 +1,10 @@
 //! The lines of reports, compared with what they have to say.
 
-use crate::{
+use call_table::{Answered, Given};
+use report_text::{
     Cause, Head, ask_line, bad_line, call_line, counts_line, idle_line, no_arena_line, turn_line,
     usage_line,
 };
-use call_table::{Answered, Given};
 use space_model::{Answer, Ask, Counts, Span, Why};
 use std::alloc::Global;
 use std::process::Abort;

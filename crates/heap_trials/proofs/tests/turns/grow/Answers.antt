@@ -1,6 +1,6 @@
 use Rattle.heap_shared.proofs.Words.{◌≡◌, ◌<◌, ◌∙◌, ℕ, IsTrue, true, false, [], None, nat_lt, arith, refl, sym, ap, subst, cond, nat_tests, entry_of, Alloc, Placed, Counts, GrowDone, Counted, NoArena, Life, Absent, Dying, Live, Space, counts_of, Mine, mine, IsQuiet, Sound, is_live, space_after, stands, stays, number, seen, space_of_history}
 use Rattle.space_model.specs.Clients.{is_in}
-use Rattle.heap_shared.proofs.tests.grow.Goals as goal
+use Rattle.heap_trials.proofs.tests.turns.grow.Goals as goal
 
 -- an arena with a client is live
 bound_live : (s : Space) (client : ℕ) → Sound s → is_in client s.bound ≡ true → is_live s.life ≡ true

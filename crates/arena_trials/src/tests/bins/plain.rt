@@ -1,7 +1,7 @@
 //! A book beside a plain list of all regions of its slabs.
 ghost use Rattle.std.specs.Prelude.{◌<◌};
 
-use crate::BinBook;
+use bin_book::BinBook;
 use size_classes::{Addrs, size_of, slab_regions};
 use std::alloc::AllocError as NoMemory;
 use std::test::Fail;

@@ -1,5 +1,5 @@
 //! A book with places and no region.
-use super::RegionBook;
+use region_book::RegionBook;
 use std::test::Fail;
 
 #[test]

@@ -1,5 +1,5 @@
 use Rattle.heap_core.proofs.Words.{◌-◌, ◌≤◌, vec_len}
-use Rattle.heap_core.proofs.tests.rising.Given as goal
+use Rattle.heap_trials.proofs.tests.heaps.rising.Given as goal
 
 abbrev pub invariant-loop-boxes : goal.invariant-loop-boxes
 invariant-loop-boxes l = vec_len l.boxes ≤ 32

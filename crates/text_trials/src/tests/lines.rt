@@ -1,10 +1,10 @@
 //! Lines and what they say, and lines with each cause.
 
-use crate::{LineFault, Name, read};
 use std::alloc::Global;
 use std::collections::HashMap;
 use std::process::Abort;
 use std::test::Fail;
+use trace_text::{LineFault, Name, read};
 
 /// Checks what a line says, by the text of that.
 fn says(rt: &impl Abort, alloc: Global, line: &[u8], text: &str) -> Result<(), Fail> {

@@ -5,8 +5,8 @@ ghost use Rattle.chunk_table.specs.Tables.{arena_count, owned, IsSeatOf};
 ghost use Rattle.turn_lock.specs.Locks.{first, held, number, own_known, seat_count, spare, IsPassOf};
 ghost use Rattle.heap_shared.specs.Shared.{after_entry, owned_by};
 
-use crate::{ArenaTurns, SharedArena, turn};
 use chunk_table::{ChunkSeat, ChunkTable};
+use heap_shared::{ArenaTurns, SharedArena, turn};
 use space_model::{Answer, Ask, Heard, Op, Reply, Space, Span, Why};
 use std::alloc::{AllocError as NoMemory, Global};
 use std::process::Abort;

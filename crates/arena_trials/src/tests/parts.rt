@@ -1,7 +1,7 @@
 //! A large book, in which each call is made.
 ghost use Rattle.std.specs.Prelude.{◌≡◌};
 
-use super::PartBook;
+use part_book::PartBook;
 use space_model::{Part, Rest, Span, State};
 use std::test::Fail;
 

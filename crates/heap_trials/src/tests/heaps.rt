@@ -3,8 +3,8 @@
 ghost use Rattle.std.specs.Prelude.{◌<◌};
 ghost use Rattle.call_table.specs.Laws.{IsInRange};
 
-use crate::{Arenas, Heap};
 use call_table::{Answered, Given, Request};
+use heap_core::{Arenas, Heap};
 use hook_api::{HookShelf, Kind, RisingHooks};
 use space_model::{Life, Op, Reply, Setting};
 use std::alloc::{AllocError as NoMemory, Global};
@@ -173,8 +173,8 @@ fn calls_of_two_clients_interleave(rt: HostRuntime) -> Result<(), Fail> {
     assert!(rt; first.is_some() && second.is_some() && first != second);
     assert_eq!(rt; heap.arena(0).counts().allocated, 20480 + 16);
     let (journals, asks) = heap.finish(alloc)?;
-    assert!(rt; journals.as_slice()[0].kept.len() > 0);
-    assert!(rt; !asks.to_list(alloc)?.is_empty());
+    assert_eq!(rt; journals.as_slice()[0].kept.len(), 9);
+    assert_eq!(rt; asks.to_list(alloc)?.len(), 4);
     Ok(())
 }
 
