@@ -1,5 +1,7 @@
 -- The reasons of each point to which a call comes, and of its answer.
-use Rattle.call_table.proofs.Words.{rules, ◌≡◌, ℕ, ◌*◌, ◌^◌, ◌⊎◌, inl, inr, Bool, true, false, not, min, max, List, [], ◌∷◌, ◌++◌, Option, None, Some, refl, sym, ◌∙◌, ap, subst, arith, nat_lt, append_assoc, Contains, cond_both, ltb-true, not-true, not-false, nat_tests, step_of, after_cut, after_commit, after_grow, Request, Malloc, Memalign, Free, FreeForeign, Publish, Take, Item, Replied, Told, Starved, Given, Refused, BadAnswer, NotHeld, aligned_for, class_for, most_regions, BatchFacts, held_at, hit, Wish, Then, Batches, Visiting, Change, Visits, TurnPoint, Filling, Looking, Landing, Finding, Taking, Offering, Changing, Owning, AskPoint, Skipping, Trimming, Growing, Paring, Needing, Granting, Committing, Merging, Easing, Returning, Decommitting, Forcing, Point, Turns, Asks, Tells, Next, Go, Over, Gone, Ends, Stage, Refuses, Reply, NoArena, Nothing, Took, Cut, Whole, Refuse, Bad, Grown, Landed, Regions, Owned, Space, Span, Why, AskFacts, Held, DeskFacts, answered_span, alloc_of, ask_at, done_at, op_at, is_marked, starved, whole_chunks, step, turn_replied, told, commit, trim, put_next, took_over, batch_goes, begin, begin_free, begin_get, begin_malloc, begin_memalign, begin_publish, begin_stage, get, is_alignment, page_align, settle, share, small_hit, step_next, wish_for, with_found, extent, extent_of, NothingFits, WasGranted, IsNeeded, IsWishOf, RegionCause, GivenCause, CauseOf, Came, AllCame, AnswersHaveCauses, Visit, visit_gives, visited}
+use Rattle.call_table.proofs.Words.{rules, ◌≡◌, ℕ, ◌+◌, ◌-◌, ◌<◌, ◌≤◌, ◌*◌, ◌^◌, ◌⊎◌, inl, inr, Bool, true, false, not, min, max, List, [], ◌∷◌, ◌++◌, Option, None, Some, refl, sym, ◌∙◌, ap, subst, arith, nat_lt, append_assoc, Contains, cond_both, ltb-true, not-true, not-false, nat_tests, step_of, after_cut, after_commit, after_grow, Request, Malloc, Memalign, Free, FreeForeign, Publish, Take, Create, Item, Replied, Told, Starved, Given, Refused, BadAnswer, NotHeld, aligned_for, class_for, most_regions, BatchFacts, held_at, hit, Wish, Then, Batches, Visiting, Change, Stops, Visits, Leaves, TurnPoint, Filling, Looking, Landing, Finding, Taking, Offering, Changing, Making, Owning, AskPoint, Skipping, Trimming, Growing, Paring, Needing, Granting, Committing, Merging, Easing, Returning, Decommitting, Forcing, Point, Turns, Asks, Tells, Next, Go, Over, Gone, More, Ends, Stage, Refuses, Reply, NoArena, Nothing, Noted, Taken, Took, Cut, Whole, Refuse, Bad, Grown, Landed, Regions, Owned, Space, Span, Why, AskFacts, Held, DeskFacts, answered_span, alloc_of, ask_at, done_at, op_at, is_marked, starved, whole_chunks, step, turn_replied, told, commit, trim, put_next, took_over, batch_goes, begin, begin_free, begin_get, begin_malloc, begin_memalign, begin_publish, begin_stage, get, is_alignment, page_align, settle, share, small_hit, step_next, wish_for, with_found, extent, extent_of, NothingFits, WasGranted, IsNeeded, IsWishOf, RegionCause, GivenCause, CauseOf, Came, AllCame, AnswersHaveCauses, Visit, visit_gives, visited, ToDirty, ToMuzzy, ToRetained, Rest, DoneCause, TakenBelow, FullCause}
+use Rattle.std.specs.Prelude.{replicate}
+use Rattle.std.proofs.lemmas.List.{replicate-append-replicate}
 use Rattle.call_table.proofs.Aligned.{failing_is_not, passing_is}
 use Rattle.call_table.proofs.Bounds.{Settles, run_keeps, settle_keeps}
 use Rattle.call_table.proofs.Causes.{cut_whole, commit_whole, grow_refused, grow_bad, grow_grown, last_in, more_in, extent_next, fits_more}
@@ -13,12 +15,12 @@ module _ (desk : DeskFacts) where
   VisitWhy request items visit = GivenCause desk request items (visit_gives visit.told visit.rest visit.keep visit.other)
 
   abbrev pub ThenWhy : Request → List Item → Then → Type 0
-  ThenWhy request items Batches = Unit {0}
+  ThenWhy request items Batches = DoneCause request
   ThenWhy request items (Visiting visit left) = VisitWhy request items visit
 
   abbrev pub ChangeWhy : Request → List Item → Change → Type 0
   ChangeWhy request items (Visits visit) = VisitWhy request items visit
-  ChangeWhy request items change = Unit {0}
+  ChangeWhy request items change = DoneCause request
 
   -- the region that is taken over is that of the request, and goes back where it is to be freed
   abbrev pub OwnWhy : Request → ℕ → Bool → Type 0
@@ -35,7 +37,8 @@ module _ (desk : DeskFacts) where
   TurnWhy request items (Offering span later) = ThenWhy request items later
   TurnWhy request items (Changing setting change) = ChangeWhy request items change
   TurnWhy request items (Owning addr frees past) = OwnWhy request addr frees
-  TurnWhy request items point = Unit {0}
+  TurnWhy request items (Making index setting) = TakenBelow request items index
+  TurnWhy request items point = DoneCause request
 
   -- the extent of a malloc is as the point says
   abbrev pub Had : Request → List Item → Wish → Span → Bool → Type 0
@@ -66,28 +69,32 @@ module _ (desk : DeskFacts) where
   PointWhy request items (Turns point) = TurnWhy request items point
   PointWhy request items (Asks point None) = AskWhy request items point
   PointWhy request items (Asks point (Some asked)) = HeardWhy request items point asked
-  PointWhy request items (Tells span b) = Unit {0}
+  PointWhy request items (Tells span b) = DoneCause request
 
   abbrev pub NextWhy : Request → List Item → Next → Type 0
   NextWhy request items (Go point) = PointWhy request items point
   NextWhy request items (Over index point) = PointWhy request items point
   NextWhy request items Gone = Contains items (Replied NoArena)
   NextWhy request items (Ends answer) = CauseOf desk request items answer
+  NextWhy request items More = DoneCause request
   NextWhy request items next = Unit {0}
 
   -- ---- reasons last
 
-  given_more : (request : Request) (items : List Item) (item : Item) (given : Given) → GivenCause desk request items given → GivenCause desk request (items ++ item ∷ []) given
-  given_more request items item given why = first_of (grind (arith, more_in), search (rules, more_in))
-
   visit_more : (request : Request) (items : List Item) (item : Item) (visit : Visit) → VisitWhy request items visit → VisitWhy request (items ++ item ∷ []) visit
-  visit_more request items item visit why = given_more request items item _ why
+  visit_more request items item visit why = by visit.told visit.rest why
+    where
+      by : (told : Bool) (rest : Rest) → GivenCause desk request items (visit_gives told rest visit.keep visit.other) → GivenCause desk request (items ++ item ∷ []) (visit_gives told rest visit.keep visit.other)
+      by false rest why = why
+      by true ToDirty why = more_in items item _ why
+      by true ToMuzzy why = more_in items item _ why
+      by true ToRetained why = more_in items item _ why
 
   visited_why : (request : Request) (items : List Item) (visit : Visit) → VisitWhy request items visit → NextWhy request items (visited visit)
   visited_why request items visit why = grind arith
 
   then_more : (request : Request) (items : List Item) (item : Item) (later : Then) → ThenWhy request items later → ThenWhy request (items ++ item ∷ []) later
-  then_more request items item Batches why = tt
+  then_more request items item Batches why = why
   then_more request items item (Visiting visit left) why = visit_more request items item visit why
 
   -- ---- where a point leads
@@ -112,6 +119,20 @@ module _ (desk : DeskFacts) where
   unowned_why : (request : Request) (items : List Item) (addr : ℕ) (frees : Bool) → OwnWhy request addr frees → Contains items (Replied Nothing) → CauseOf desk request items (NotHeld addr)
   unowned_why request items addr frees is has = grind arith
 
+  -- the next index is tried where one is taken, and the last one is 31
+  below_more : (request : Request) (items : List Item) (index : ℕ) → TakenBelow request items index → index < 31 → TakenBelow request (items ++ Replied Nothing ∷ []) (index + 1)
+  below_more request items index (creates, one, low, e) less =
+      let more : index - 1 + 1 ≡ index + 1 - 1 = omega (arith, one) in (
+        creates,
+        omega arith,
+        omega (arith, less),
+        ap (λ xs. xs ++ Replied Nothing ∷ []) e ∙ replicate-append-replicate (index - 1) 1 (Replied Nothing) ∙ ap (λ n. replicate n (Replied Nothing)) more,
+      )
+
+  full_why : (request : Request) (items : List Item) (index : ℕ) → TakenBelow request items index → nat_lt index 31 ≡ false → FullCause request (items ++ Replied Nothing ∷ [])
+  full_why request items index (creates, one, low, e) last =
+      let is : index ≡ 31 = grind (arith, nat_tests) in (creates, rw e (rw is refl))
+
   turned_why : (request : Request) (items : List Item) (point : TurnPoint) (reply : Reply) → TurnWhy request items point →
       NextWhy request (items ++ Replied reply ∷ []) (turn_replied point reply)
   turned_why request items (Filling wish count) (Regions []) why = tt
@@ -122,10 +143,17 @@ module _ (desk : DeskFacts) where
   turned_why request items (Landing wish span) (Landed first count) why = landed_why request _ wish first why (inl (count, last_in items (Replied (Landed first count))))
   turned_why request items (Owning addr frees past) (Owned class) why = owned_why request _ addr class frees why (last_in items (Replied (Owned class)))
   turned_why request items (Owning addr frees past) Nothing why = unowned_why request _ addr frees why (last_in items (Replied Nothing))
+  turned_why request items (Making index setting) Noted why = (items, why, refl)
+  turned_why request items (Making index setting) Nothing why = cond_both (nat_lt index 31) _ _ (NextWhy request _) (λ h. below_more request items index why (ltb-true _ _ h)) (λ h. full_why request items index why h)
+  turned_why request items (Changing setting Stops) Noted why = why
+  turned_why request items (Changing setting (Visits visit)) Noted why = visit_more request items (Replied Noted) visit why
+  turned_why request items (Changing setting (Leaves arena)) Noted why = why
+  turned_why request items (Taking visit left) (Taken span true listed) why = visit_more request items (Replied (Taken span true listed)) visit why
+  turned_why request items (Taking visit left) (Taken span false listed) why = visit_more request items (Replied (Taken span false listed)) visit why
   turned_why request items point Whole why = tt
   turned_why request items point reply why =
       let last = last_in items (Replied reply) in
-      first_of (search (rules, given_more, visit_more, visited_why, then_more, put_why), grind (arith, nat_tests, given_more, visit_more, visited_why, then_more))
+      first_of (search (rules, visit_more, visited_why, then_more, put_why), grind (arith, nat_tests, visit_more, visited_why, then_more))
 
   -- ---- after an answer was taken in
 
@@ -220,7 +248,7 @@ module _ (desk : DeskFacts) where
   -- ---- the fold
 
   settles_why : (request : Request) (items : List Item) → Settles (NextWhy request items)
-  settles_why request items = record { over = λ index point why. why; gone = λ arena why. inr why; batch = λ addrs why. tt; done = λ why. tt }
+  settles_why request items = record { over = λ index point why. why; gone = λ arena why. inr why; batch = λ addrs why. why; done = λ why. why }
 
   pub settle_why : (request : Request) (items : List Item) (now : DeskFacts) (arena : ℕ) (next : Next) → NextWhy request items next → NextWhy request items (settle request now arena next).next
   settle_why request items = settle_keeps (NextWhy request items) (settles_why request items) request
@@ -234,6 +262,7 @@ module _ (desk : DeskFacts) where
   step_why request items c (Turns point) Starved why came = starved_why request items (is_marked (op_at point))
   step_why request items c (Asks point None) (Told asked) why (s, t, sound, (is, kind, same)) = record { earlier = items; told = refl; why = why; is = is }
   step_why request items c (Asks point (Some asked)) (Replied reply) why (s, t, sound, (found, left, replied)) = told_why request items c point asked reply why (s, found, replied)
+  step_why request items c (Tells span b) (Told asked) why came = why
   step_why request items c (Tells span b) Starved why came = tt
   step_why request items c point item why came = tt
 
@@ -263,8 +292,8 @@ module _ (desk : DeskFacts) where
       got_why (Some region) e = (refl, inl (region, e, refl))
       got_why None e = get_why (Memalign align size) (aligned_for size align) (page_align align) (share (aligned_for size align) desk) refl
 
-  batch_why : (request : Request) (arena : ℕ) (batch : Option BatchFacts) → NextWhy request [] (batch_goes arena batch).next
-  batch_why request arena batch = grind arith
+  batch_why : (request : Request) (arena : ℕ) (batch : Option BatchFacts) → DoneCause request → NextWhy request [] (batch_goes arena batch).next
+  batch_why request arena batch may = grind arith
 
   free_why : (addr : ℕ) (held : Option Held) → held_at addr desk ≡ held → NextWhy (Free addr) [] (begin_free addr held desk).next
   free_why addr held e = grind (arith, batch_why)

@@ -1,7 +1,7 @@
 -- Why each answer of a call comes, by what the call was fed.
-use Rattle.std.specs.Prelude.{◌≡◌, ℕ, ◌<◌, ◌≤◌, ◌^◌, ◌⊎◌, max, Bool, true, false, List, [], ◌∷◌, ◌++◌, fold, Contains, Option, None, Some, option_map}
+use Rattle.std.specs.Prelude.{◌≡◌, ℕ, ◌-◌, ◌<◌, ◌≤◌, ◌^◌, ◌⊎◌, max, replicate, Bool, true, false, List, [], ◌∷◌, ◌++◌, fold, Contains, Option, None, Some, option_map}
 use Rattle.space_model.specs.Step.{why_not}
-use Rattle.call_table.specs.Words.{Request, Malloc, Memalign, Free, FreeForeign, Publish, Take, Reset, Destroy, Item, Replied, Told, Starved, Given, Region, Finished, Arena, Limits, Answered, Ok, Refused, BadAnswer, TooLarge, BadAlign, NotHeld, NoSuchArena, Busy, NoMemory, ArenasFull, Automatic, Wish, Next, Go, Ends}
+use Rattle.call_table.specs.Words.{Request, Malloc, Memalign, Free, FreeForeign, Publish, Take, PurgeAll, Decay, Time, Reset, Destroy, Create, Bind, HookBox, GrowLimit, Item, Replied, Told, Starved, Given, Region, Finished, Arena, Limits, Answered, Ok, Refused, BadAnswer, TooLarge, BadAlign, NotHeld, NoSuchArena, Busy, NoMemory, ArenasFull, Automatic, Wish, Next, Go, Ends}
 use Rattle.call_table.specs.Words.{Ask, Alloc, Commit, Split, Placed, Refuses, NoArena, Nothing, Noted, Took, Grow, Cut, Whole, Grown, Landed, Regions, LimitsAre, Owned, InUse, Space, Part, Span, Why, Sound, AskFacts, Held, DeskFacts, IsAlignment, aligned_for, class_for, held_at, hit}
 use Rattle.call_table.specs.Table.{alloc_of, want, whole_chunks}
 use Rattle.call_table.specs.Runs.{Moment, after, begin, page_align, run, small_hit, wish_for}
@@ -121,11 +121,36 @@ RegionCause desk (Memalign align size) items addr class = (class ≡ aligned_for
 RegionCause desk (Take at arena) items addr class = (addr ≡ at) × Contains items (Replied (Owned class))
 RegionCause desk request items addr class = ⊥
 
+-- the request is one that is done without giving anything: no region and no arena is wanted
+abbrev pub DoneCause : Request → Type 0
+DoneCause (Malloc size) = ⊥
+DoneCause (Memalign align size) = ⊥
+DoneCause (Take at arena) = ⊥
+DoneCause (Create box_no dirty_ms muzzy_ms now) = ⊥
+DoneCause request = Unit {0}
+
+-- the request makes an arena
+abbrev pub IsCreate : Request → Type 0
+IsCreate (Create box_no dirty_ms muzzy_ms now) = Unit {0}
+IsCreate request = ⊥
+
+-- a create was told of each index from 1 on below this one that an arena is there, and nothing else came
+abbrev pub TakenBelow : Request → List Item → ℕ → Type 0
+TakenBelow request items index = IsCreate request × (1 ≤ index) × (index ≤ 31) × (items ≡ replicate (index - 1) (Replied Nothing))
+
+-- a create made the arena at the first index from 1 on that had none
+abbrev pub ArenaCause : Request → List Item → ℕ → Type 0
+ArenaCause request items index = (earlier : List Item) × TakenBelow request earlier index × (items ≡ earlier ++ Replied Noted ∷ [])
+
+-- a create was told of each index from 1 to 31 that an arena is there
+abbrev pub FullCause : Request → List Item → Type 0
+FullCause request items = IsCreate request × (items ≡ replicate 31 (Replied Nothing))
+
 -- what a call gave has its cause
 abbrev pub GivenCause : DeskFacts → Request → List Item → Given → Type 0
 GivenCause desk request items (Region addr class) = RegionCause desk request items addr class
-GivenCause desk request items Finished = Unit {0}
-GivenCause desk request items (Arena index) = Contains items (Replied Noted)
+GivenCause desk request items Finished = DoneCause request
+GivenCause desk request items (Arena index) = ArenaCause request items index
 GivenCause desk request items (Limits dirty muzzy) = Contains items (Replied (LimitsAre dirty muzzy))
 
 -- the client held no region at the address of the request, or none was published there
@@ -153,6 +178,20 @@ AutomaticCause (Reset index) = index ≡ 0
 AutomaticCause (Destroy index) = index ≡ 0
 AutomaticCause request = ⊥
 
+-- the request names the arena with this index
+abbrev pub Names : Request → ℕ → Type 0
+Names (FreeForeign at arena) index = index ≡ arena
+Names (Take at arena) index = index ≡ arena
+Names (PurgeAll arena) index = index ≡ arena
+Names (Decay arena now) index = index ≡ arena
+Names (Time arena rest ms now) index = index ≡ arena
+Names (Reset arena) index = index ≡ arena
+Names (Destroy arena) index = index ≡ arena
+Names (Bind arena) index = index ≡ arena
+Names (HookBox arena box_no) index = index ≡ arena
+Names (GrowLimit arena chunks) index = index ≡ arena
+Names request index = ⊥
+
 -- why a request of a client that had this at its start had its answer after these items
 abbrev pub CauseOf : DeskFacts → Request → List Item → Answered → Type 0
 CauseOf desk request items (Ok given) = GivenCause desk request items given
@@ -161,10 +200,10 @@ CauseOf desk request items (BadAnswer span why) = BadCause request items span wh
 CauseOf desk request items TooLarge = TooLargeCause request
 CauseOf desk request items BadAlign = BadAlignCause request
 CauseOf desk request items (NotHeld addr) = NotHeldCause desk request items addr
-CauseOf desk request items (NoSuchArena index) = (32 ≤ index) ⊎ Contains items (Replied NoArena)
+CauseOf desk request items (NoSuchArena index) = (Names request index × (32 ≤ index)) ⊎ Contains items (Replied NoArena)
 CauseOf desk request items (Busy others flights threads) = Contains items (Replied (InUse others flights threads))
 CauseOf desk request items NoMemory = Contains items Starved
-CauseOf desk request items ArenasFull = Contains items (Replied Nothing)
+CauseOf desk request items ArenasFull = FullCause request items
 CauseOf desk request items Automatic = AutomaticCause request
 
 -- every answer has its cause among what this very call was fed

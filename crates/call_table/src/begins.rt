@@ -181,10 +181,10 @@ impl Stage {
             return Ok(());
         };
         let batch = desk.batch(desk.hand_for(region), false, alloc)?;
-        desk.lose(addr);
-        desk.free(region);
         self.arena = region.arena;
         self.go_back(batch);
+        desk.lose(addr);
+        desk.free(region);
         Ok(())
     }
 

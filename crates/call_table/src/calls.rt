@@ -331,7 +331,7 @@ impl Call {
     /// A call begins that carries out a request of a client. It stands in the place where it is open, and else gives its answer.
     /// The desk is from now on as the call leaves it, with room for the region that it may come to hold. `NoMemory` where there
     /// is none for that, or to name several regions that go back first: the client has what it had. A request by which no region
-    /// is got, given away or flushed takes no memory.
+    /// is got, given away or flushed takes no memory, where none is in hand.
     pub fn start(
         place: &mut Option<Call>,
         client: u32,

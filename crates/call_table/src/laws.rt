@@ -41,12 +41,12 @@ pub fn runs_end_once()
     ensures { RunsEndOnce }
 {}
 
-/// A malloc ends after at most 5 asks and 8 turns.
+/// A malloc that has ended made at most 5 asks and 8 turns.
 pub fn mallocs_are_short()
     ensures { MallocsAreShort }
 {}
 
-/// A call that ends has made few asks: a malloc 5, and any call 2 for each extent that is put down, and 6 for each one that is
+/// A call that has ended made few asks: a malloc 5, and any call 2 for each extent that is put down, and 6 for each one that is
 /// purged.
 pub fn asks_are_few()
     ensures { AsksAreFew }
@@ -76,7 +76,8 @@ pub fn answers_have_causes()
 {}
 
 /// A memalign that answers a region gives one of the class for its size and alignment, at an address that is a multiple of the
-/// alignment asked, wherever the region comes from: the cache, a slab, or an extent that landed.
+/// alignment asked, wherever the region comes from: a slab, an extent that landed, or the client's cache, where the small
+/// regions in that are aligned.
 pub fn memaligns_are_aligned()
     ensures { MemalignsAreAligned }
 {}
