@@ -76,6 +76,7 @@ abbrev pub region_in_seat : List Seat → Option ℕ → ℕ → Option Held
 region_in_seat seats None holder = None
 region_in_seat seats (Some addr) holder = held_at addr (seat_at seats holder).desk
 
+-- the region that its next turn takes over, as its holder has it
 abbrev pub region_for : HeapFacts → CallFacts → ℕ → Option Held
 region_for h call holder = region_in_seat h.seats (taken_next call.stage.next) holder
 

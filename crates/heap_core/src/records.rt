@@ -123,8 +123,9 @@ impl Recorded {
     {
         make_places(&mut self.journal, &self.arena, op)?;
         let slot = Slot::of(client, op, asked, self.alloc)?;
-        *reply = self.arena.step(client, op)?;
+        let told = self.arena.step(client, op)?;
         self.journal.push(slot, asked);
+        *reply = told;
         Ok(())
     }
 

@@ -60,10 +60,11 @@ has_open_call h c = is_some (seat_at h.seats c).call
 
 -- ---- what a line asks for
 
--- the decay times of an arena that comes to be, in milliseconds: of dirty extents and of muzzy ones
+-- the decay time of the dirty extents of an arena that comes to be, in milliseconds
 abbrev pub dirty_default : ℤ
 dirty_default = pos 10000
 
+-- the same of the muzzy ones
 abbrev pub muzzy_default : ℤ
 muzzy_default = pos 0
 

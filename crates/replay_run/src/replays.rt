@@ -278,7 +278,8 @@ fn books_of(alloc: Global, heap: Heap, ended: Result<u8, Stop>) -> Books
 ///
 /// The first bad line is answered by its number and its cause, and ends the replay: with status 7 where it is behind the
 /// 1,048,576 lines that a trace may have, has more than 256 bytes or names a client above 31, and else with status 3. After a
-/// read that failed the status is 4, after a write that failed 5, and 6 where memory was wanting; the journals and the asks stay.
+/// read that failed the status is 4, after a write that failed 5, and 6 where memory was wanting. The journals and the asks are
+/// those up to there; at status 6 it may be that none are handed back.
 pub fn replay<S: Source, K: Sink, H: ExtentHooks>(
     alloc: Global,
     source: &mut S,

@@ -24,7 +24,7 @@ pub struct State {
     pub names: Names,
     /// The moment in nanoseconds.
     pub moment: u64,
-    /// A buffer for the next line that is printed, which keeps its room from line to line.
+    /// A buffer for the lines of calls and of their steps, which keeps its room from line to line.
     pub text: Vec<u8>,
     ghost full: { length verbs.items ≡ 32 },
 }
