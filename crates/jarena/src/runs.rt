@@ -23,7 +23,7 @@ pub struct Outcome<H: ExtentHooks> {
     pub shelf: HookShelf<H>,
     /// The journals of the arenas; none where the words are in no list, or memory for the arenas or the list was wanting.
     pub journals: Journals,
-    /// Every ask of the run, in order.
+    /// Every ask of the run, in order; none where the words are in no list, or at status 6 perhaps.
     pub heard: Askeds,
 }
 

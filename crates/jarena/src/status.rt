@@ -1,4 +1,4 @@
-//! The statuses that the program itself gives. All others are those of a replay.
+//! The statuses that the program gives beside a replay's own; 5 and 6 mean there what they mean here.
 
 /// The words are in no list.
 pub(crate) const BAD_WORDS: u8 = 2;

@@ -26,8 +26,11 @@ struct Given<'a> {
     writes: &'a [u64],
 }
 
-/// Runs the program, and gives its status and its output.
-fn outcome(alloc: Global, given: Given<'_>) -> Result<(u8, String), NoMemory> {
+/// What came of a run: its status, its output, and how many journals and asks it handed out.
+type Outcome = (u8, String, [usize; 2]);
+
+/// Runs the program, and gives what came of that.
+fn outcome(alloc: Global, given: Given<'_>) -> Result<Outcome, NoMemory> {
     let mut words = Vec::new(alloc);
     for word in given.words {
         words.push(String::from_str(alloc, word)?)?;
@@ -40,8 +43,10 @@ fn outcome(alloc: Global, given: Given<'_>) -> Result<(u8, String), NoMemory> {
     let input = given.input.as_bytes().to_vec(alloc)?;
     let mut source = MemSource::new(input, given.reads.to_vec(alloc)?);
     let mut sink = MemSink::new(alloc, given.writes.to_vec(alloc)?);
-    let status = run(alloc, &words, &mut source, &mut sink, shelf).status;
-    Ok((status, String::from_utf8_lossy(alloc, sink.held())?))
+    let run = run(alloc, &words, &mut source, &mut sink, shelf);
+    let handed = [run.journals.as_slice().len(), run.heard.len()];
+    let output = String::from_utf8_lossy(alloc, sink.held())?;
+    Ok((run.status, output, handed))
 }
 
 #[test]
@@ -54,36 +59,36 @@ fn words_in_no_list_get_the_usage_line(rt: HostRuntime) -> Result<(), Fail> {
             reads: &[],
             writes: &[],
         };
-        let (status, output) = outcome(rt.alloc(), given)?;
-        assert_eq!(rt; (status, output.as_str()), (2, USAGE));
+        let (status, output, handed) = outcome(rt.alloc(), given)?;
+        assert_eq!(rt; (status, output.as_str(), handed), (2, USAGE, [0, 0]));
         let failing = Given {
             writes: &[1],
             ..given
         };
-        let (status, output) = outcome(rt.alloc(), failing)?;
-        assert_eq!(rt; (status, output.as_str()), (5, ""));
+        let (status, output, handed) = outcome(rt.alloc(), failing)?;
+        assert_eq!(rt; (status, output.as_str(), handed), (5, "", [0, 0]));
     }
     Ok(())
 }
 
 #[test]
-fn a_malloc_is_replayed(rt: HostRuntime) -> Result<(), Fail> {
-    // The input, the reads and writes that fail; then the status and the output's parts.
-    let rows: [(&str, &[u64], &[u64], u8, [&str; 2]); 4] = [
-        (LINE, &[], &[], 0, [MALLOC, MAPPED]),
-        ("", &[], &[], 0, ["", EMPTY]),
-        (LINE, &[2], &[], 4, [MALLOC, ""]),
-        (LINE, &[], &[1], 5, ["", ""]),
+fn a_replay_hands_out_what_it_did(rt: HostRuntime) -> Result<(), Fail> {
+    // The input, the reads and writes that fail; then the status, the output's parts, and how many asks were heard.
+    let rows: [(&str, &[u64], &[u64], u8, [&str; 2], usize); 4] = [
+        (LINE, &[], &[], 0, [MALLOC, MAPPED], 2),
+        ("", &[], &[], 0, ["", EMPTY], 0),
+        (LINE, &[2], &[], 4, [MALLOC, ""], 2),
+        (LINE, &[], &[1], 5, ["", ""], 2),
     ];
-    for (input, reads, writes, status, [answer, counts]) in rows {
+    for (input, reads, writes, status, [answer, counts], asks) in rows {
         let given = Given {
             words: &["replay"],
             input,
             reads,
             writes,
         };
-        let (seen, output) = outcome(rt.alloc(), given)?;
-        assert_eq!(rt; seen, status);
+        let (seen, output, handed) = outcome(rt.alloc(), given)?;
+        assert_eq!(rt; (seen, handed), (status, [32, asks]));
         let expected = format!(in rt.alloc(); "{answer}{counts}")?;
         assert_eq!(rt; output.as_str(), expected.as_str());
     }

@@ -4,9 +4,9 @@ ghost use Rattle.std.specs.Prelude.{◌<◌};
 ghost use Rattle.call_table.specs.Laws.{IsInRange};
 
 use call_table::{Answered, Given, Request};
-use heap_core::{Arenas, Heap};
+use heap_core::{Arenas, Did, Heap};
 use hook_api::{HookShelf, Kind, RisingHooks};
-use space_model::{Life, Op, Reply, Setting};
+use space_model::{Answer, Entry, Life, Op, Reply, Setting};
 use std::alloc::{AllocError as NoMemory, Global};
 use std::process::Abort;
 use std::test::Fail;
@@ -63,9 +63,20 @@ fn journals_have_the_entries_of_their_arena(rt: HostRuntime) -> Result<(), Fail>
     look(&rt, &mut arenas, 0, Reply::Grow { series: 1 })?;
     let journals = arenas.into_journals(alloc)?;
     let journals = journals.as_slice();
-    assert_eq!(rt; journals[0].kept.len(), 2);
-    assert_eq!(rt; journals[1].kept.len(), 1);
-    assert_eq!(rt; journals[31].kept.len(), 0);
+    let lens = [
+        journals[0].kept.len(),
+        journals[1].kept.len(),
+        journals[31].kept.len(),
+    ];
+    assert_eq!(rt; lens, [2, 1, 0]);
+    let op = Op::Look { pages: 5, align: 1 };
+    let look = Entry { client: CLIENT, op };
+    for kept in journals[0].kept.to_list(alloc)?.as_slice() {
+        assert_eq!(rt; *kept.entry(), look);
+    }
+    for kept in journals[1].kept.to_list(alloc)?.as_slice() {
+        assert!(rt; kept.entry().client == CLIENT && matches!(kept.entry().op, Op::Set(_)));
+    }
     Ok(())
 }
 
@@ -187,7 +198,22 @@ fn a_refused_alloc_ends_a_malloc(rt: HostRuntime) -> Result<(), Fail> {
     let size = 20000;
     let refused = carry_out(&mut heap, &mut shelf, 0, Request::Malloc { size }, alloc)?;
     assert!(rt; matches!(refused, Some(Answered::Refused(_))));
+    assert!(rt;
+        heap.last_ask()
+            .is_some_and(|asked| asked.answer() == Answer::Refused)
+    );
     let got = carry_out(&mut heap, &mut shelf, 0, Request::Malloc { size }, alloc)?;
     assert!(rt; region(got).is_some());
+    Ok(())
+}
+
+#[test]
+fn a_step_without_a_call_is_idle(rt: HostRuntime) -> Result<(), Fail> {
+    let alloc = rt.alloc();
+    let mut shelf = rising(alloc)?;
+    let mut heap = Heap::new(alloc)?;
+    let told = heap.step_client(5, &mut shelf, alloc);
+    assert!(rt; matches!(told.did, Did::Idle) && told.ended.is_none());
+    assert!(rt; heap.last_ask().is_none());
     Ok(())
 }

@@ -15,7 +15,7 @@ fn says(rt: &impl Abort, alloc: Global, line: &[u8], text: &str) -> Result<(), F
 
 #[test]
 fn lines_say_what_is_written(rt: HostRuntime) -> Result<(), Fail> {
-    let table: [(&[u8], &str); 19] = [
+    let table: [(&[u8], &str); 27] = [
         (
             b"t31 malloc z_9 18446744073709551615",
             "Ok(Call { client: 31, verb: Malloc { name: \"z_9\", size: 18446744073709551615 } })",
@@ -29,6 +29,16 @@ fn lines_say_what_is_written(rt: HostRuntime) -> Result<(), Fail> {
             b"t2 publish a",
             "Ok(Call { client: 2, verb: Publish(Name(\"a\")) })",
         ),
+        (
+            b"t9 take @200000",
+            "Ok(Call { client: 9, verb: Take(At(2097152)) })",
+        ),
+        (b"t0 decay 3", "Ok(Call { client: 0, verb: Decay(3) })"),
+        (b"t0 reset 4", "Ok(Call { client: 0, verb: Reset(4) })"),
+        (b"t0 destroy 5", "Ok(Call { client: 0, verb: Destroy(5) })"),
+        (b"t0 create 31", "Ok(Call { client: 0, verb: Create(31) })"),
+        (b"t0 arena 6", "Ok(Call { client: 0, verb: Bind(6) })"),
+        (b"t0 cache on", "Ok(Call { client: 0, verb: Cache(true) })"),
         (
             b"t0 purge 4294967295",
             "Ok(Call { client: 0, verb: Purge(4294967295) })",
@@ -67,6 +77,7 @@ fn lines_say_what_is_written(rt: HostRuntime) -> Result<(), Fail> {
         (b"t5 step", "Ok(Step(5))"),
         (b"t31 end", "Ok(End(31))"),
         (b"phase", "Ok(Phase)"),
+        (b"join", "Ok(Join)"),
         (b"#  t0 free  a ", "Ok(Blank)"),
     ];
     for (line, text) in table {
@@ -84,7 +95,7 @@ fn all_have(rt: &impl Abort, alloc: Global, text: &[u8], fault: LineFault) -> Re
 }
 
 #[test]
-fn lines_have_bytes_and_ranges(rt: HostRuntime) -> Result<(), Fail> {
+fn bad_bytes_clients_and_ranges_are_told(rt: HostRuntime) -> Result<(), Fail> {
     let alloc = rt.alloc();
     let bytes = b"t0\tfree a\n# \x7f\nt32 malloc A 01\x7f";
     all_have(&rt, alloc, bytes, LineFault::Bytes)?;
@@ -96,7 +107,7 @@ fn lines_have_bytes_and_ranges(rt: HostRuntime) -> Result<(), Fail> {
 }
 
 #[test]
-fn lines_have_words_and_numbers(rt: HostRuntime) -> Result<(), Fail> {
+fn bad_shapes_and_numbers_are_told(rt: HostRuntime) -> Result<(), Fail> {
     let alloc = rt.alloc();
     let shapes =
         b" \n #\nt0  free a\nt0 free a \nt0\nt0 call step\nt0 ctl a = 1 2\nrefuse 0 destroy 1\nphase background 01";

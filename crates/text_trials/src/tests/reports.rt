@@ -61,11 +61,37 @@ fn prints_regions(rt: HostRuntime) -> Result<(), Fail> {
 }
 
 #[test]
+fn prints_the_first_word_of_each_call(rt: HostRuntime) -> Result<(), Fail> {
+    let heads = [
+        (Head::Free, "t7 free ok\n"),
+        (Head::Publish, "t7 publish ok\n"),
+        (Head::Take, "t7 take ok\n"),
+        (Head::Purge, "t7 purge ok\n"),
+        (Head::Decay, "t7 decay ok\n"),
+        (Head::Dirty, "t7 dirty ok\n"),
+        (Head::Muzzy, "t7 muzzy ok\n"),
+        (Head::Reset, "t7 reset ok\n"),
+        (Head::Destroy, "t7 destroy ok\n"),
+        (Head::Create, "t7 create ok\n"),
+        (Head::Arena, "t7 arena ok\n"),
+        (Head::Cache, "t7 cache ok\n"),
+        (Head::Flush, "t7 flush ok\n"),
+    ];
+    for (head, want) in heads {
+        prints(&rt, rt.alloc(), head, Answered::Ok(Given::Done), want)?;
+    }
+    Ok(())
+}
+
+#[test]
 fn prints_bad_answers(rt: HostRuntime) -> Result<(), Fail> {
     let alloc = rt.alloc();
     let off = bad(u64::MAX, Why::OffSpace);
     let far = "t7 memalign b bad answer @ffffffffffffffff000+512 off space\n";
     prints(&rt, alloc, Head::Memalign(b"b"), off, far)?;
+    let crooked = bad(513, Why::Unaligned);
+    let between = "t7 malloc a bad answer @201000+512 unaligned\n";
+    prints(&rt, alloc, Head::Malloc(b"a"), crooked, between)?;
     let met = bad(512, Why::Meets(CHUNK));
     let meets = "t7 malloc a bad answer @200000+512 meets @200000+512\n";
     prints(&rt, alloc, Head::Malloc(b"a"), met, meets)
@@ -104,6 +130,21 @@ fn prints_other_answers(rt: HostRuntime) -> Result<(), Fail> {
         Answered::NotHeld(0x20_5008),
         "t7 free not held @205008\n",
     )
+}
+
+#[test]
+fn prints_why_nothing_was_done(rt: HostRuntime) -> Result<(), Fail> {
+    let alloc = rt.alloc();
+    let memalign = Head::Memalign(b"a");
+    let (large, align) = (Answered::TooLarge, Answered::BadAlign);
+    prints(&rt, alloc, memalign, large, "t7 memalign a too large\n")?;
+    prints(&rt, alloc, memalign, align, "t7 memalign a bad alignment\n")?;
+    let (gone, full) = (Answered::NoArena(40), Answered::ArenasFull);
+    prints(&rt, alloc, Head::Purge, gone, "t7 purge no arena 40\n")?;
+    prints(&rt, alloc, Head::Create, full, "t7 create arenas full\n")?;
+    let (first, made) = (Answered::Automatic, Answered::Ok(Given::Arena(31)));
+    prints(&rt, alloc, Head::Reset, first, "t7 reset automatic arena\n")?;
+    prints(&rt, alloc, Head::Create, made, "t7 create 31\n")
 }
 
 #[test]
@@ -156,10 +197,27 @@ fn prints_counts(rt: HostRuntime) -> Result<(), Fail> {
 
 #[test]
 fn prints_causes(rt: HostRuntime) -> Result<(), Fail> {
-    let alloc = rt.alloc();
-    prints_cause(&rt, alloc, Cause::LimitLines, "line 2: limit lines\n")?;
-    prints_cause(&rt, alloc, Cause::Cut, "line 2: cut\n")?;
-    prints_cause(&rt, alloc, Cause::Unbuilt, "line 2: unbuilt\n")?;
+    let causes = [
+        (Cause::LimitLines, "line 2: limit lines\n"),
+        (Cause::LimitBytes, "line 2: limit bytes\n"),
+        (Cause::Cut, "line 2: cut\n"),
+        (Cause::Bytes, "line 2: bytes\n"),
+        (Cause::Words, "line 2: words\n"),
+        (Cause::Number, "line 2: number\n"),
+        (Cause::LimitThreads, "line 2: limit threads\n"),
+        (Cause::Range, "line 2: range\n"),
+        (Cause::Clock, "line 2: clock\n"),
+        (Cause::Phase, "line 2: phase\n"),
+        (Cause::Unbuilt, "line 2: unbuilt\n"),
+    ];
+    for (cause, want) in causes {
+        prints_cause(&rt, rt.alloc(), cause, want)?;
+    }
+    Ok(())
+}
+
+#[test]
+fn the_usage_line_names_the_lists_of_words(rt: HostRuntime) -> Result<(), Fail> {
     let want = "usage: jarena replay [--json] | threads [--journal] | soak START CALLS\n";
     assert_eq!(rt; usage_line(), want);
     Ok(())
