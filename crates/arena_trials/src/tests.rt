@@ -11,6 +11,7 @@ mod scripts;
 mod texts;
 mod trials;
 
+use arena_core::Arena;
 use space_model::Life;
 use std::alloc::Global;
 use std::process::Abort;
@@ -30,22 +31,28 @@ fn scripts_are_followed(rt: HostRuntime) {
     }
 }
 
+/// Checks what an arena holds that was granted a chunk, of which client 0 has a piece in flight.
+fn holds_a_chunk(rt: &impl Abort, arena: &Arena) {
+    assert!(rt; arena.owns_chunk(1) && !arena.owns_chunk(2));
+    assert!(rt; arena.holds_page(1023) && !arena.holds_page(1024));
+    assert!(rt; arena.next_flight(0).is_some() && arena.next_flight(1).is_none());
+}
+
 #[test]
 fn an_arena_tells_what_it_holds(rt: HostRuntime) {
-    let trial = after(&rt, rt.alloc(), rows::GRANTED);
-    let arena = trial.arena();
-    assert!(&rt; arena.owns_chunk(1) && !arena.owns_chunk(2));
-    assert!(&rt; arena.holds_page(1023) && !arena.holds_page(1024));
-    assert!(&rt; arena.next_flight(0).is_some() && arena.next_flight(1).is_none());
+    holds_a_chunk(&rt, after(&rt, rt.alloc(), rows::GRANTED).arena());
+}
+
+/// Checks the box, the limit and the times of an arena as a script made it.
+fn was_made(rt: &impl Abort, arena: &Arena) {
+    assert_eq!(rt; arena.life(), Life::Live);
+    assert_eq!(rt; (arena.box_no(), arena.grow_limit()), (7, 16384));
+    assert_eq!(rt; arena.times(), (-1, 5000));
 }
 
 #[test]
 fn an_arena_tells_how_it_was_made(rt: HostRuntime) {
-    let trial = after(&rt, rt.alloc(), rows::MADE);
-    let arena = trial.arena();
-    assert_eq!(&rt; arena.life(), Life::Live);
-    assert_eq!(&rt; (arena.box_no(), arena.grow_limit()), (7, 16384));
-    assert_eq!(&rt; arena.times(), (-1, 5000));
+    was_made(&rt, after(&rt, rt.alloc(), rows::MADE).arena());
 }
 
 #[test]

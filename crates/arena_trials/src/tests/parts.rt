@@ -1,8 +1,9 @@
-//! A large book, in which each call is made.
+//! A book of many extents, and one in which extents come and go.
 ghost use Rattle.std.specs.Prelude.{◌≡◌};
 
 use part_book::PartBook;
 use space_model::{Part, Rest, Span, State};
+use std::process::Abort;
 use std::test::Fail;
 
 // `rt try`, which checks each access, takes far longer for so many than its minute.
@@ -75,16 +76,21 @@ fn flies_off(book: &mut PartBook, first: u64) -> bool {
     flown && book.next_flight(1).is_none()
 }
 
+// Adds many extents of one page, and finds each.
+fn fill(rt: &impl Abort, book: &mut PartBook) {
+    for page in 512..512 + MANY {
+        assert!(rt; add_page(book, page));
+    }
+    for page in 512..512 + MANY {
+        assert!(rt; has_page(book, page) && lists_all(book));
+    }
+}
+
 #[test]
 fn a_large_book_is_not_scanned(rt: HostRuntime) -> Result<(), Fail> {
     let mut book = PartBook::new(rt.alloc())?;
     book.reserve(MANY)?;
-    for page in 512..512 + MANY {
-        assert!(rt; add_page(&mut book, page));
-    }
-    for page in 512..512 + MANY {
-        assert!(rt; has_page(&book, page) && lists_all(&book));
-    }
+    fill(&rt, &mut book);
     Ok(())
 }
 
@@ -114,12 +120,17 @@ fn come_and_go(book: &mut PartBook, half: u64) -> bool {
     added && joined && apart && flies_off(book, page)
 }
 
+// A hundred pairs of extents come and go.
+fn all_come_and_go(rt: &impl Abort, book: &mut PartBook) {
+    for half in 512..612 {
+        assert!(rt; come_and_go(book, half));
+    }
+}
+
 #[test]
 fn extents_come_and_go(rt: HostRuntime) -> Result<(), Fail> {
     let mut book = PartBook::new(rt.alloc())?;
     book.reserve(MANY)?;
-    for half in 512..612 {
-        assert!(rt; come_and_go(&mut book, half));
-    }
+    all_come_and_go(&rt, &mut book);
     Ok(())
 }
