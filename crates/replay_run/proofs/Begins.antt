@@ -1,5 +1,5 @@
 -- The beginning of a call is an event.
-use Rattle.replay_run.proofs.Words.{◌≡◌, ◌≢◌, ℕ, Bool, true, false, List, [], ◌++◌, Option, None, Some, is_some, Result, Ok, Err, IfErr, OnOk, OnErr, refl, ap, Appends-trans, slice_set, Appends, AppendsPrefix, Answered, NotHeld, Request, HeapFacts, started, answer_of, begun, seat_at, Verb, Stop, answer_line, Began, IsSound, Reached, EndsHere, GoesOn, Here, Now, Outset, is_one_step, world_at, HasStopCause, status_for, Awaits, Memory, Nothing, OneStep, TheEnd, TheEndBefore, TheStart, awaits_after, awaits_begun, awaits_call, begins, has_open_call, names_ended, request_of, target_of}
+use Rattle.replay_run.proofs.Words.{◌≡◌, ◌≢◌, ℕ, Bool, true, false, List, [], ◌++◌, Option, None, Some, is_some, Result, Ok, Err, IfErr, OnOk, OnErr, refl, ap, Appends-trans, slice_set, Appends, AppendsPrefix, Answered, NotHeld, Request, HeapFacts, started, answer_of, begun, seat_at, Verb, Stop, answer_line, Began, IsSound, Reached, EndsHere, GoesOn, Here, Now, Outset, is_one_step, world_at, HasStopCause, status_for, Awaits, Memory, Nothing, OneStep, TheEnd, TheEndBefore, TheStart, awaits_after, awaits_begun, awaits_call, begins, after_event, has_open_call, names_ended, request_of, target_of}
 use Rattle.replay_run.proofs.Came.{Leads, came_next, came_sound}
 use Rattle.replay_run.proofs.Endings.{all_of, behind, sink_fault}
 use Rattle.replay_run.proofs.Stops.{stops_after}
@@ -41,69 +41,29 @@ awaits_begun_only c false = refl
 abbrev pub now_answered : Now → Verb → Answered → HeapFacts → Option (List ℕ) → Now
 now_answered now verb answer heap held = record now { heap = heap; names = names_ended now.names verb answer; held = held }
 
+-- a play goes on by the beginning of a call, to where that leads
+begun_came : {from : Outset} {count : ℕ} {now : Now} (c : ℕ) (verb : Verb) (whole : Bool) (so : Here from count (TheStart c verb whole) [] now) (awaits : Awaits) (more : List ℕ) (heap : HeapFacts)
+    (verbs : List (Option Verb)) (names : List (List ℕ × ℕ)) (held : Option (List ℕ)) →
+    after_event (world_at now so.text (TheStart c verb whole)) (Began c verb whole) ≡ world_at (record now { heap = heap; verbs = verbs; names = names; held = held }) (so.text ++ more) awaits → IsSound heap →
+    Reached from count awaits [] (so.text ++ more) (record now { heap = heap; verbs = verbs; names = names; held = held })
+begun_came {from} {count} {now} c verb whole so awaits more heap verbs names held after sound =
+    let now' : Now = record now { heap = heap; verbs = verbs; names = names; held = held } in
+    let leads : Leads (Began c verb whole) (TheStart c verb whole) [] so.text now awaits [] (so.text ++ more) now' = record { next = refl; after = after; sound = sound; lines = refl; chain = refl; pending = refl; left = refl } in
+    came_next so.came leads
+
 -- a call that asks for nothing: no region is there
 refused_came : {from : Outset} {count : ℕ} {now : Now} (c : ℕ) (verb : Verb) (whole : Bool) (so : Here from count (TheStart c verb whole) [] now) (held : Option (List ℕ)) →
     request_of now.heap.records now.names now.moment verb ≡ None →
     Reached from count Nothing [] (so.text ++ answer_line c verb (NotHeld (target_of now.names verb))) (now_answered now verb (NotHeld (target_of now.names verb)) now.heap held)
 refused_came {from} {count} {now} c verb whole so held none =
-    let answer : Answered = NotHeld (target_of now.names verb) in
-    let leads : Leads (Began c verb whole) (TheStart c verb whole) [] so.text now Nothing [] (so.text ++ answer_line c verb answer) (now_answered now verb answer now.heap held) = record {
-      next = refl;
-      after = ap (begins (world_at now so.text (TheStart c verb whole)) c verb whole) none;
-      sound = came_sound so.came;
-      lines = refl;
-      chain = refl;
-      pending = refl;
-      left = refl;
-    } in
-    came_next so.came leads
-
-pub refused_goes : {from : Outset} {count : ℕ} {now : Now} (c : ℕ) (verb : Verb) (whole : Bool) (so : Here from count (TheStart c verb whole) [] now) (held : Option (List ℕ)) →
-    request_of now.heap.records now.names now.moment verb ≡ None → Appends now.held held (answer_line c verb (NotHeld (target_of now.names verb))) →
-    Here from count Nothing [] (now_answered now verb (NotHeld (target_of now.names verb)) now.heap held)
-refused_goes {from} {count} {now} c verb whole so held none printed = record {
-  text = so.text ++ answer_line c verb (NotHeld (target_of now.names verb));
-  came = refused_came c verb whole so held none;
-  prints = Appends-trans from.held now.held held so.text _ so.prints printed;
-}
-
-pub refused_stops : {from : Outset} {count : ℕ} {now : Now} (c : ℕ) (verb : Verb) (whole : Bool) (so : Here from count (TheStart c verb whole) [] now) (held : Option (List ℕ)) (stop : Stop) →
-    request_of now.heap.records now.names now.moment verb ≡ None → status_for stop ≢ 4 → AppendsPrefix now.held held (answer_line c verb (NotHeld (target_of now.names verb))) →
-    EndsHere from (status_for stop) (record now { held = held })
-refused_stops {from} {count} {now} c verb whole so held stop none other printed =
-    stops_after (refused_came c verb whole so held none) stop other (behind from.held now.held held so.text _ so.prints printed)
+    begun_came c verb whole so Nothing _ now.heap now.verbs _ held (ap (begins (world_at now so.text (TheStart c verb whole)) c verb whole) none) (came_sound so.came)
 
 -- a call that has its answer where it begins
 answered_came : {from : Outset} {count : ℕ} {now : Now} (c : ℕ) (verb : Verb) (whole : Bool) (so : Here from count (TheStart c verb whole) [] now) (request : Request) (answer : Answered) (heap : HeapFacts) (held : Option (List ℕ)) →
     request_of now.heap.records now.names now.moment verb ≡ Some request → heap ≡ started now.heap c request → Some answer ≡ answer_of (begun now.heap.seats c request) → IsSound heap →
     Reached from count Nothing [] (so.text ++ answer_line c verb answer) (now_answered now verb answer heap held)
 answered_came {from} {count} {now} c verb whole so request answer heap held some begins_so ends sound =
-    let leads : Leads (Began c verb whole) (TheStart c verb whole) [] so.text now Nothing [] (so.text ++ answer_line c verb answer) (now_answered now verb answer heap held) = record {
-      next = refl;
-      after = rw (some, begins_so, ← ends) refl;
-      sound = sound;
-      lines = refl;
-      chain = refl;
-      pending = refl;
-      left = refl;
-    } in
-    came_next so.came leads
-
-pub answered_goes : {from : Outset} {count : ℕ} {now : Now} (c : ℕ) (verb : Verb) (whole : Bool) (so : Here from count (TheStart c verb whole) [] now) (request : Request) (answer : Answered) (heap : HeapFacts) (held : Option (List ℕ)) →
-    request_of now.heap.records now.names now.moment verb ≡ Some request → heap ≡ started now.heap c request → Some answer ≡ answer_of (begun now.heap.seats c request) → IsSound heap →
-    Appends now.held held (answer_line c verb answer) → Here from count Nothing [] (now_answered now verb answer heap held)
-answered_goes {from} {count} {now} c verb whole so request answer heap held some begins_so ends sound printed = record {
-  text = so.text ++ answer_line c verb answer;
-  came = answered_came c verb whole so request answer heap held some begins_so ends sound;
-  prints = Appends-trans from.held now.held held so.text (answer_line c verb answer) so.prints printed;
-}
-
-pub answered_stops : {from : Outset} {count : ℕ} {now : Now} (c : ℕ) (verb : Verb) (whole : Bool) (so : Here from count (TheStart c verb whole) [] now) (request : Request) (answer : Answered) (heap : HeapFacts) (held : Option (List ℕ)) (stop : Stop) →
-    request_of now.heap.records now.names now.moment verb ≡ Some request → heap ≡ started now.heap c request → Some answer ≡ answer_of (begun now.heap.seats c request) → IsSound heap → status_for stop ≢ 4 →
-    AppendsPrefix now.held held (answer_line c verb answer) → EndsHere from (status_for stop) (record now { heap = heap; held = held })
-answered_stops {from} {count} {now} c verb whole so request answer heap held stop some begins_so ends sound other printed =
-    stops_after (answered_came c verb whole so request answer heap held some begins_so ends sound) stop other
-    (behind from.held now.held held so.text (answer_line c verb answer) so.prints printed)
+    begun_came c verb whole so Nothing (answer_line c verb answer) heap now.verbs (names_ended now.names verb answer) held (rw (some, begins_so, ← ends) refl) sound
 
 -- a call that is open behind its beginning
 pub opened_goes : {from : Outset} {count : ℕ} {now : Now} (c : ℕ) (verb : Verb) (whole : Bool) (so : Here from count (TheStart c verb whole) [] now) (request : Request) (heap : HeapFacts) →
@@ -128,14 +88,22 @@ unbegun_stops {from} {count} {now} {awaits} so stop other = stops_after so.came 
 
 -- ---- by what printing the answer gave
 
+-- where a text was printed, or a beginning of it
+printed_result : {from : Outset} {count : ℕ} {awaits : Awaits} (text more : List ℕ) {now : Now} (had : Option (List ℕ)) (came : Reached from count awaits [] (text ++ more) now) (prints : Appends from.held had text)
+    (k k' : ℕ) (r : Result (Unit {0}) Stop) → OnOk r (Appends had now.held more) → OnErr r (AppendsPrefix had now.held more) → IfErr r (λ stop. HasStopCause stop 0 0 k k') → GoesOn from count awaits r now
+printed_result {from} {count} {awaits} text more {now} had came prints k k' (Ok done) ok err cause =
+    record { text = text ++ more; came = came; prints = Appends-trans from.held had now.held text more prints ok }
+printed_result {from} {count} {awaits} text more {now} had came prints k k' (Err stop) ok err cause =
+    stops_after came stop (sink_fault stop k k' cause) (behind from.held had now.held text more prints err)
+
 pub refused_result : {from : Outset} {count : ℕ} {now : Now} (c : ℕ) (verb : Verb) (whole : Bool) (so : Here from count (TheStart c verb whole) [] now) (answer : Answered) (names : List (List ℕ × ℕ)) (held : Option (List ℕ)) (k k' : ℕ)
     (r : Result (Unit {0}) Stop) → request_of now.heap.records now.names now.moment verb ≡ None → answer ≡ NotHeld (target_of now.names verb) → has_open_call now.heap c ≡ false →
     OnOk r (names ≡ names_ended now.names verb answer) → OnOk r (Appends now.held held (answer_line c verb answer)) → OnErr r (AppendsPrefix now.held held (answer_line c verb answer)) →
     IfErr r (λ stop. HasStopCause stop 0 0 k k') → GoesOn from count (awaits_after (awaits_begun c whole) (has_open_call now.heap c)) r (record now { names = names; held = held })
 refused_result {from} {count} {now} c verb whole so answer names held k k' (Ok done) none is rests named ok err cause =
-    rw (rests, awaits_ended c whole, named, is) (refused_goes c verb whole so held none (rw is at ok))
+    rw (rests, awaits_ended c whole, named, is) (printed_result _ _ _ (refused_came c verb whole so held none) so.prints k k' (Ok done) (rw is at ok) tt tt)
 refused_result {from} {count} {now} c verb whole so answer names held k k' (Err stop) none is rests named ok err cause =
-    refused_stops c verb whole so held stop none (sink_fault stop k k' cause) (rw is at err)
+    printed_result _ _ _ (refused_came c verb whole so held none) so.prints k k' (Err stop) tt (rw is at err) cause
 
 pub answered_result : {from : Outset} {count : ℕ} {now : Now} (c : ℕ) (verb : Verb) (whole : Bool) (so : Here from count (TheStart c verb whole) [] now) (request : Request) (answer : Answered) (heap : HeapFacts)
     (names : List (List ℕ × ℕ)) (held : Option (List ℕ)) (k k' : ℕ) (r : Result (Unit {0}) Stop) → request_of now.heap.records now.names now.moment verb ≡ Some request → heap ≡ started now.heap c request →
@@ -143,6 +111,6 @@ pub answered_result : {from : Outset} {count : ℕ} {now : Now} (c : ℕ) (verb 
     OnOk r (names ≡ names_ended now.names verb answer) → OnOk r (Appends now.held held (answer_line c verb answer)) → OnErr r (AppendsPrefix now.held held (answer_line c verb answer)) →
     IfErr r (λ stop. HasStopCause stop 0 0 k k') → GoesOn from count (awaits_after (awaits_begun c whole) (has_open_call heap c)) r (record now { heap = heap; names = names; held = held })
 answered_result {from} {count} {now} c verb whole so request answer heap names held k k' (Ok done) some begins_so ends sound rests named ok err cause =
-    rw (rests, awaits_ended c whole, named) (answered_goes c verb whole so request answer heap held some begins_so ends sound ok)
+    rw (rests, awaits_ended c whole, named) (printed_result _ _ _ (answered_came c verb whole so request answer heap held some begins_so ends sound) so.prints k k' (Ok done) ok tt tt)
 answered_result {from} {count} {now} c verb whole so request answer heap names held k k' (Err stop) some begins_so ends sound rests named ok err cause =
-    answered_stops c verb whole so request answer heap held stop some begins_so ends sound (sink_fault stop k k' cause) err
+    printed_result _ _ _ (answered_came c verb whole so request answer heap held some begins_so ends sound) so.prints k k' (Err stop) tt err cause

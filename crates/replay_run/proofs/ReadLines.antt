@@ -55,51 +55,30 @@ line_stops {from} {count} {line} {now} {awaits} {more} {now'} so stop reads othe
 silent : (now : Now) (text : List ℕ) (awaits : Awaits) → world_at now text awaits ≡ world_at now (text ++ []) awaits
 silent now text awaits = ap (λ (t : List ℕ). world_at now t awaits) (sym (append-nil text))
 
+-- a line that changes nothing but what is waited for and what is held
+reads_so : (line : Line) (now : Now) (awaits : Awaits) (more : List ℕ) (held : Option (List ℕ)) → plan_in line ≡ [] → line_cause now.moment line ≡ None →
+    ((text : List ℕ) → line_read (world_at now text Nothing) line ≡ world_at (record now { held = held }) (text ++ more) awaits) → Reads line now awaits more (record now { held = held })
+reads_so line now awaits more held plans free after = record { free = free; after = after; heap = refl; chain = rw plans refl; pending = refl; left = refl }
+
 pub reads_call : (now : Now) (c : ℕ) (verb : Verb) → line_cause now.moment (Call c verb) ≡ None → Reads (Call c verb) now (awaits_call (has_open_call now.heap c) c verb true) [] now
-reads_call now c verb free = record { free = free; after = λ text. silent now text (awaits_call (has_open_call now.heap c) c verb true); heap = refl; chain = refl; pending = refl; left = refl }
+reads_call now c verb free = reads_so (Call c verb) now _ [] now.held refl free (λ text. silent now text (awaits_call (has_open_call now.heap c) c verb true))
 
 pub reads_start : (now : Now) (c : ℕ) (verb : Verb) → line_cause now.moment (Start c verb) ≡ None → Reads (Start c verb) now (awaits_call (has_open_call now.heap c) c verb false) [] now
-reads_start now c verb free = record { free = free; after = λ text. silent now text (awaits_call (has_open_call now.heap c) c verb false); heap = refl; chain = refl; pending = refl; left = refl }
+reads_start now c verb free = reads_so (Start c verb) now _ [] now.held refl free (λ text. silent now text (awaits_call (has_open_call now.heap c) c verb false))
 
 pub reads_step : (now : Now) (c : ℕ) → has_open_call now.heap c ≡ true → Reads (Step c) now (OneStep c) [] now
-reads_step now c is = record {
-  free = refl;
-  after = λ text. ap (λ (b : Bool). awaits_or_idle (world_at now text Nothing) c b (OneStep c)) is ∙ silent now text (OneStep c);
-  heap = refl;
-  chain = refl;
-  pending = refl;
-  left = refl;
-}
+reads_step now c is =
+    reads_so (Step c) now (OneStep c) [] now.held refl refl (λ text. ap (λ (b : Bool). awaits_or_idle (world_at now text Nothing) c b (OneStep c)) is ∙ silent now text (OneStep c))
 
 pub reads_end : (now : Now) (c : ℕ) → has_open_call now.heap c ≡ true → Reads (End c) now (TheEnd c) [] now
-reads_end now c is = record {
-  free = refl;
-  after = λ text. ap (λ (b : Bool). awaits_or_idle (world_at now text Nothing) c b (TheEnd c)) is ∙ silent now text (TheEnd c);
-  heap = refl;
-  chain = refl;
-  pending = refl;
-  left = refl;
-}
+reads_end now c is =
+    reads_so (End c) now (TheEnd c) [] now.held refl refl (λ text. ap (λ (b : Bool). awaits_or_idle (world_at now text Nothing) c b (TheEnd c)) is ∙ silent now text (TheEnd c))
 
 pub reads_step_idle : (now : Now) (c : ℕ) (held : Option (List ℕ)) → has_open_call now.heap c ≡ false → Reads (Step c) now Nothing (idle_line c) (record now { held = held })
-reads_step_idle now c held is = record {
-  free = refl;
-  after = λ text. ap (λ (b : Bool). awaits_or_idle (world_at now text Nothing) c b (OneStep c)) is;
-  heap = refl;
-  chain = refl;
-  pending = refl;
-  left = refl;
-}
+reads_step_idle now c held is = reads_so (Step c) now Nothing (idle_line c) held refl refl (λ text. ap (λ (b : Bool). awaits_or_idle (world_at now text Nothing) c b (OneStep c)) is)
 
 pub reads_end_idle : (now : Now) (c : ℕ) (held : Option (List ℕ)) → has_open_call now.heap c ≡ false → Reads (End c) now Nothing (idle_line c) (record now { held = held })
-reads_end_idle now c held is = record {
-  free = refl;
-  after = λ text. ap (λ (b : Bool). awaits_or_idle (world_at now text Nothing) c b (TheEnd c)) is;
-  heap = refl;
-  chain = refl;
-  pending = refl;
-  left = refl;
-}
+reads_end_idle now c held is = reads_so (End c) now Nothing (idle_line c) held refl refl (λ text. ap (λ (b : Bool). awaits_or_idle (world_at now text Nothing) c b (TheEnd c)) is)
 
 pub reads_at : (now : Now) (moment : ℕ) → line_cause now.moment (At moment) ≡ None → Reads (At moment) now Nothing [] (record now { moment = moment })
 reads_at now moment free = record { free = free; after = λ text. silent (record now { moment = moment }) text Nothing; heap = refl; chain = refl; pending = refl; left = refl }
@@ -109,10 +88,10 @@ reads_refuse now box_no kind nth shelf step = record { free = refl; after = λ t
 
 pub reads_counts : (now : Now) (index : ℕ) (counts : Option Counts) (held : Option (List ℕ)) → counts ≡ live_counts (record_at now.heap.records index).space →
     Reads (CountsOf index) now Nothing (counts_text index counts) (record now { held = held })
-reads_counts now index counts held is = record { free = refl; after = λ text. rw is refl; heap = refl; chain = refl; pending = refl; left = refl }
+reads_counts now index counts held is = reads_so (CountsOf index) now Nothing (counts_text index counts) held refl refl (λ text. rw is refl)
 
 pub reads_blank : (now : Now) → Reads Blank now Nothing [] now
-reads_blank now = record { free = refl; after = λ text. silent now text Nothing; heap = refl; chain = refl; pending = refl; left = refl }
+reads_blank now = reads_so Blank now Nothing [] now.held refl refl (λ text. silent now text Nothing)
 
 -- by what printing gave
 pub line_result : {from : Outset} {count : ℕ} {line : Line} {now : Now} {more : List ℕ} (so : Here from count Nothing (line ∷ []) now) (held : Option (List ℕ)) (k k' : ℕ) (r : Result (Unit {0}) Stop) →
