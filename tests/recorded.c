@@ -1,12 +1,47 @@
-/* Three threads that begin together and make known calls; tests/recording compares their trace with tests/recorded.calls. */
+/* Three threads that begin together and make known calls, and each of them a fork in between; tests/recording compares their
+ * trace with tests/recorded.calls. With the word `many` instead: more regions alive at once than the recorder has places for at
+ * first, of which every other one is freed then. */
 #define _GNU_SOURCE
 #include <malloc.h>
 #include <pthread.h>
+#include <signal.h>
 #include <stdlib.h>
+#include <sys/syscall.h>
+#include <sys/wait.h>
+#include <unistd.h>
 
-enum { THREADS = 3 };
+enum { THREADS = 3, MANY = 40000 };
 
 static pthread_barrier_t begins, ends;
+static void *kept[MANY];
+
+/* A handler that takes memory, and stands before those of any library: at a fork it runs behind theirs. */
+static void at_fork(void) { free(malloc(999)); }
+static void register_early(void) { pthread_atfork(at_fork, NULL, at_fork); }
+__attribute__((section(".preinit_array"), used)) static void (*const early)(void) = register_early;
+
+/* What a child does isn't the program's. */
+static void forks(void) {
+    pid_t child = fork();
+    if (child == 0) {
+        void *taken = realloc(malloc(12345), 12345);
+        if (fork() == 0)
+            _exit(0);
+        free(taken);
+        _exit(0);
+    }
+    waitpid(child, NULL, 0);
+}
+
+/* A child of which no fork handler hears. (There is one thread then: no other holds a lock of the C library.) */
+static void clones(void) {
+    pid_t child = (pid_t)syscall(SYS_clone, SIGCHLD, 0, 0, 0, 0);
+    if (child == 0) {
+        free(malloc(12345));
+        _exit(0);
+    }
+    waitpid(child, NULL, 0);
+}
 
 static void *calls(void *argument) {
     size_t n = (size_t)argument;
@@ -19,18 +54,32 @@ static void *calls(void *argument) {
         return NULL;
     free(second);
     void *third = aligned_alloc(64, 640);
+    forks();
     void *fourth = memalign(128, 70000 + n);
+    void *fifth = memalign(48, 300 + n);
     free(first);
     free(NULL);
     free(third);
     free(fourth);
-    void *last = realloc(NULL, 7 + n);
+    fifth = realloc(fifth, 0);
+    void *last = realloc(fifth, 7 + n);
     free(aligned);
     pthread_barrier_wait(&ends);
     return last;
 }
 
-int main(void) {
+static int many(void) {
+    for (int i = 0; i < MANY; i++)
+        kept[i] = malloc(24);
+    for (int i = 0; i < MANY; i += 2)
+        free(kept[i]);
+    return 0;
+}
+
+int main(int count, char **words) {
+    (void)words;
+    if (count > 1)
+        return many();
     pthread_t threads[THREADS];
     pthread_barrier_init(&begins, NULL, THREADS);
     pthread_barrier_init(&ends, NULL, THREADS);
@@ -38,5 +87,6 @@ int main(void) {
         pthread_create(&threads[i], NULL, calls, (void *)i);
     for (size_t i = 0; i < THREADS; i++)
         pthread_join(threads[i], NULL);
+    clones();
     return 0;
 }

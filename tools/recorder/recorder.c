@@ -4,6 +4,7 @@
  * It stands on glibc, whose own functions do the work under the names __libc_malloc and so on. Lines go straight into a file that
  * is mapped, so they are there however the program ends. It takes no memory from the program's heap. */
 #define _GNU_SOURCE
+#include <dlfcn.h>
 #include <errno.h>
 #include <fcntl.h>
 #include <pthread.h>
@@ -36,6 +37,7 @@ struct tally {
     uint64_t alive;     /* regions that were not freed */
     uint64_t clients;
     uint64_t unlisted;  /* calls behind the last line */
+    uint64_t started;   /* 1 where the recorder had room for all that it needs */
 };
 
 /* A region that is alive, by its address; 0 is a free place. Names are numbers from 0 on. */
@@ -51,17 +53,32 @@ static size_t places;
 static uint32_t *names;        /* a stack of names that may be used again */
 static size_t names_left, names_room;
 static uint32_t next_name;
-static bool records;
+static bool *records;          /* alone on its page, which a child of a fork finds empty: it records nothing */
 static int lock;
+static int kept;               /* errno of the thread that holds the lock */
+static void *(*libc_aligned_alloc)(size_t alignment, size_t size);
 
 static __thread int client __attribute__((tls_model("initial-exec"))) = -1;
 
-static void acquire(void) {
-    while (__atomic_exchange_n(&lock, 1, __ATOMIC_ACQUIRE))
+static bool is_recorded(void) { return records != NULL && *records; }
+
+/* False, and nothing is held, where nothing is recorded. A child of a fork may find the lock held by a thread that it hasn't. */
+static bool acquire(void) {
+    int error = errno;
+    while (is_recorded()) {
+        if (!__atomic_exchange_n(&lock, 1, __ATOMIC_ACQUIRE)) {
+            kept = error;
+            return true;
+        }
         sched_yield();
+    }
+    return false;
 }
 
-static void release(void) { __atomic_store_n(&lock, 0, __ATOMIC_RELEASE); }
+static void release(void) {
+    errno = kept;
+    __atomic_store_n(&lock, 0, __ATOMIC_RELEASE);
+}
 
 static void *pages(size_t bytes) {
     void *start = mmap(NULL, bytes, PROT_READ | PROT_WRITE, MAP_PRIVATE | MAP_ANONYMOUS, -1, 0);
@@ -70,7 +87,8 @@ static void *pages(size_t bytes) {
 
 /* ---- the table of regions */
 
-static size_t home(uintptr_t address) { return (size_t)((address >> 4) * 0x9e3779b97f4a7c15u) & (places - 1); }
+/* (the low bits of the product are those of the address: alike where regions are aligned alike) */
+static size_t home(uintptr_t address) { return (size_t)((address * 0x9e3779b97f4a7c15u) >> 32) & (places - 1); }
 
 static struct region *place_of(uintptr_t address) {
     size_t at = home(address);
@@ -164,8 +182,6 @@ static void end_line(char *at) {
 
 /* The lock is held, and this thread has its client. False where the call is left out. */
 static bool begins(void) {
-    if (!records)
-        return false;
     if (tally->lines >= LINES) {
         tally->unlisted++;
         return false;
@@ -181,10 +197,8 @@ static bool begins(void) {
 /* ---- calls */
 
 static void got(void *address, size_t alignment, size_t size) {
-    if (address == NULL || !records)
+    if (address == NULL || !acquire())
         return;
-    int error = errno;
-    acquire();
     if (begins() && (2 * (tally->alive + 1) <= places || grow_table())) {
         struct region *region = place_of((uintptr_t)address);
         if (region->address == 0) {
@@ -202,65 +216,65 @@ static void got(void *address, size_t alignment, size_t size) {
         end_line(put_number(put_text(at, " "), size));
     }
     release();
-    errno = error;
 }
 
-static void write_free(uint32_t name) {
+/* The lock is held. */
+static void write_free(bool known, uint32_t name) {
+    if (!known) {
+        tally->unknown++;
+        return;
+    }
     end_line(begin_line(" free m", name));
     give_name(name);
     tally->alive--;
 }
 
+/* Takes a region out of the table; the lock is held. False where it isn't there. */
+static bool forgets(void *address, uint32_t *name) {
+    struct region *region = place_of((uintptr_t)address);
+    if (region->address == 0)
+        return false;
+    *name = region->name;
+    clear_place(region);
+    return true;
+}
+
 static void gone(void *address) {
-    if (address == NULL || !records)
+    uint32_t name = 0;
+    if (address == NULL || !acquire())
         return;
-    int error = errno;
-    acquire();
     if (begins()) {
-        struct region *region = place_of((uintptr_t)address);
-        if (region->address == 0) {
-            tally->unknown++;
-        } else {
-            uint32_t name = region->name;
-            clear_place(region);
-            write_free(name);
-        }
+        bool known = forgets(address, &name);
+        write_free(known, name);
     }
     release();
-    errno = error;
 }
 
 /* Takes the region out of the table before another thread may get its address. */
 static bool parts(void *address, uint32_t *name) {
-    bool known = false;
-    acquire();
-    if (records && tally->lines < LINES) {
-        struct region *region = place_of((uintptr_t)address);
-        known = region->address != 0;
-        if (known) {
-            *name = region->name;
-            clear_place(region);
-        } else {
-            tally->unknown++;
-        }
-    }
+    if (!acquire())
+        return false;
+    bool known = tally->lines < LINES && forgets(address, name);
     release();
     return known;
 }
 
 /* Puts a region back into the table whose address did not change hands. */
 static void stays(void *address, uint32_t name) {
-    acquire();
+    if (!acquire())
+        return;
     struct region *region = place_of((uintptr_t)address);
     region->address = (uintptr_t)address;
     region->name = name;
     release();
 }
 
-static void frees_name(uint32_t name) {
-    acquire();
+/* What parts began, once the realloc has succeeded. */
+static void has_parted(bool known, uint32_t name) {
+    if (!acquire())
+        return;
     if (begins())
-        write_free(name);
+        write_free(known, name);
     release();
 }
 
@@ -283,7 +297,7 @@ void free(void *address) {
 
 /* A malloc and a free, in this order. */
 void *realloc(void *old, size_t size) {
-    uint32_t name;
+    uint32_t name = 0;
     if (old == NULL)
         return malloc(size);
     bool known = parts(old, &name);
@@ -294,22 +308,32 @@ void *realloc(void *old, size_t size) {
         return NULL;
     }
     got(address, 0, size);
-    if (known)
-        frees_name(name);
+    has_parted(known, name);
     return address;
 }
 
 /* glibc takes the next power of two for an alignment that is none. */
-void *memalign(size_t alignment, size_t size) {
+static void got_aligned(void *address, size_t alignment, size_t size) {
     size_t power = 1;
     while (power < alignment && power << 1 != 0)
         power <<= 1;
-    void *address = __libc_memalign(power, size);
     got(address, power, size);
+}
+
+void *memalign(size_t alignment, size_t size) {
+    void *address = __libc_memalign(alignment, size);
+    got_aligned(address, alignment, size);
     return address;
 }
 
-void *aligned_alloc(size_t alignment, size_t size) { return memalign(alignment, size); }
+/* From 2.38 on glibc refuses an alignment here that is no power of two, so its own function is asked. */
+void *aligned_alloc(size_t alignment, size_t size) {
+    if (libc_aligned_alloc == NULL)
+        return memalign(alignment, size);
+    void *address = libc_aligned_alloc(alignment, size);
+    got_aligned(address, alignment, size);
+    return address;
+}
 
 int posix_memalign(void **result, size_t alignment, size_t size) {
     if (alignment % sizeof(void *) != 0 || (alignment & (alignment - 1)) != 0 || alignment == 0)
@@ -325,24 +349,19 @@ int posix_memalign(void **result, size_t alignment, size_t size) {
 
 /* ---- beginning and forks */
 
-static void before_fork(void) { acquire(); }
-
+/* The lock isn't held over a fork: handlers of others may call malloc there. */
 static void after_fork(void) {
-    tally->forks++;
-    release();
+    if (is_recorded())
+        __atomic_add_fetch(&tally->forks, 1, __ATOMIC_RELAXED);
 }
 
-static void in_child(void) {
-    records = false;
-    release();
-}
-
+/* A file of so many bytes. It gets its room at once: a page without would be a SIGBUS in the program. */
 static void *mapped(const char *path, size_t bytes) {
     int file = open(path, O_RDWR | O_CREAT | O_TRUNC | O_CLOEXEC, 0600);
     if (file < 0)
         return NULL;
     void *start = MAP_FAILED;
-    if (ftruncate(file, (off_t)bytes) == 0)
+    if (posix_fallocate(file, 0, (off_t)bytes) == 0)
         start = mmap(NULL, bytes, PROT_READ | PROT_WRITE, MAP_SHARED, file, 0);
     close(file);
     return start == MAP_FAILED ? NULL : start;
@@ -370,8 +389,15 @@ __attribute__((constructor)) static void start(void) {
     places = 1 << 16;
     regions = pages(places * sizeof *regions);
     restore_environment();
-    if (lines == NULL || tally == NULL || regions == NULL)
+    size_t page = (size_t)sysconf(_SC_PAGESIZE);
+    bool *flag = pages(page);
+    if (lines == NULL || tally == NULL || regions == NULL || flag == NULL || madvise(flag, page, MADV_WIPEONFORK) != 0 ||
+        pthread_atfork(NULL, after_fork, NULL) != 0)
         return;
-    pthread_atfork(before_fork, after_fork, in_child);
-    records = true;
+    void *libc = dlopen("libc.so.6", RTLD_LAZY | RTLD_NOLOAD);
+    if (libc != NULL)
+        *(void **)&libc_aligned_alloc = dlsym(libc, "aligned_alloc");
+    tally->started = 1;
+    *flag = true;
+    records = flag;
 }
