@@ -1,19 +1,12 @@
 -- A request begins, and so does a heap.
-use Rattle.heap_core.proofs.Words.{◌≡◌, ◌≤◌, ◌<◌, ℕ, ◌+◌, List, Option, None, Some, Result, Ok, Err, OnOk, OnErr, length, replicate, slice_set, [], ◌∷◌, ◌++◌, length-append, refl, sym, ap, subst, ◌∙◌, arith, get_or-replicate, length-replicate, replicate-append-replicate, set-get_or, Held, held_at, Request, Malloc, Free, IsInRange, begin, IsArenas, opening_records, owed_to, IsHeap, owing, Record, Seat, asked_for, first_seat, free_request, held_by, holder_of, seat_at, seat_of, IsSeated, SeatSound}
+use Rattle.heap_core.proofs.Words.{◌≡◌, ◌≤◌, ◌<◌, ℕ, ◌+◌, List, None, Result, Ok, Err, OnOk, OnErr, length, replicate, slice_set, [], ◌∷◌, ◌++◌, length-append, refl, sym, ap, subst, ◌∙◌, arith, get_or-replicate, length-replicate, replicate-append-replicate, set-get_or, Request, IsInRange, begin, IsArenas, opening_records, owed_to, IsHeap, owing, Record, Seat, asked_for, first_seat, seat_at, seat_of, IsSeated, SeatSound}
 use Rattle.heap_core.proofs.Asking.{owed_begun}
 use Rattle.heap_core.proofs.Changes.{heap_seated}
 use Rattle.heap_core.proofs.Sitting.{opening-sits, starts-sit}
 
 -- a free of a region of another client is in range too
-free_in_range : (addr : ℕ) (own other : Option Held) → IsInRange (free_request addr own other)
-free_in_range addr None (Some region) = tt
-free_in_range addr None None = tt
-free_in_range addr (Some own) other = tt
-
 asked_in_range : (seats : List Seat) (c : ℕ) (request : Request) → IsInRange request → IsInRange (asked_for seats c request)
-asked_in_range seats c (Free addr) is = free_in_range addr (held_at addr (seat_at seats c).desk) (held_by addr seats (holder_of addr seats))
-asked_in_range seats c (Malloc size) is = is
-asked_in_range seats c request is = is
+asked_in_range seats c request is = grind arith
 
 -- the heap is as it has to be after a request began, or where memory was wanting for it
 pub start_heap : {A E : Type 0} (records : List Record) (seats : List Seat) (owed : List ℕ) (c : ℕ) (request asked : Request) (told : Result A E) (old seat : Seat) → IsHeap records seats owed → IsArenas records → c < 32 → (seat_at seats c).call ≡ None →

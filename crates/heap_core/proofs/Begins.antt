@@ -4,8 +4,8 @@ use Rattle.heap_core.specs.Words.{Publish, Bind, Region, Ok}
 use Rattle.heap_core.proofs.Hands.{had_counts}
 use Rattle.heap_core.proofs.Having.{cache_hand, drop_over, drop_shaped, free_gains, hit_is, miss_is, of_hand}
 use Rattle.heap_core.proofs.Regions.{one_in}
-use Rattle.heap_core.proofs.Settling.{Owns, comes_more, counts_low, ends_rest, first_waits, has_owns, is_ready, owns_has}
-use Rattle.heap_core.proofs.Suiting.{SuitsAnswer, can_keep}
+use Rattle.heap_core.proofs.Settling.{Owns, comes_more, counts_low, ends_rest, first_sits, has_owns, is_ready}
+use Rattle.heap_core.proofs.Suiting.{SuitsAnswer, can_keep, fewer_slots}
 
 -- what a client has suits where its request begins
 abbrev Begun : List Held → DeskFacts → Request → ℕ → Next → Type 0
@@ -16,17 +16,8 @@ Begun extra desk request arena next = Unit {0}
 module _ (records : List Record) (c : ℕ) (is : IsArenas records) (idle : IsIdle records c) where
   begins_at : (request : Request) (desk : DeskFacts) (extra : List Held) (arena : ℕ) (next : Next) → Owns records c extra desk → KnowsNext (mine_in records c arena) next →
       Begun extra desk request arena next → Comes records c (closed request desk (stage arena next))
-  begins_at request desk extra arena (Go point) owns knows begun = (
-    tt,
-    (
-      refl,
-      record {
-        has = owns_has records c desk (subst (λ extra. Owns records c extra desk) begun.0 owns);
-        waits = first_waits records c arena point begun.1 idle knows begun.3;
-        suits = begun.2;
-      },
-    ),
-  )
+  begins_at request desk extra arena (Go point) owns knows begun =
+      (tt, (refl, first_sits records c arena point request desk begun.1 (subst (λ extra. Owns records c extra desk) begun.0 owns) idle knows begun.2 begun.3))
   begins_at request desk extra arena (Ends answer) owns knows begun = (tt, ends_rest records c arena request desk extra answer is owns idle begun)
   begins_at request desk extra arena next owns knows begun = absurd knows
 
@@ -66,12 +57,6 @@ module _ (records : List Record) (c : ℕ) (is : IsArenas records) (idle : IsIdl
           | false ↦ λ e some. absurd (omega (arith, some))
         ] refl many
 
-    lesser : (a b : ℕ) → min a b ≤ a
-    lesser a b = grind arith
-
-    few_slots : (class few many : ℕ) → few ≤ many → HasSlots desk class many → HasSlots desk class few
-    few_slots class few many le slots more = let room = slots (omega (arith, le, more)) in (room.0, omega (arith, le, room.1))
-
     got_comes : (request : Request) (class align : ℕ) (found : Option Held) → ((r : Held) → found ≡ Some r → hit class desk ≡ Some r) → (nat_lt class 36 ≡ true → found ≡ None → hit class desk ≡ None) →
         KnowsAt (begin_get class align found desk) → Comes records c (closed request (desk_got class found desk) (begin_get class align found desk))
     got_comes request class align (Some r) was missed knows =
@@ -87,12 +72,13 @@ module _ (records : List Record) (c : ℕ) (is : IsArenas records) (idle : IsIdl
     got_comes request class align None was missed knows =
         let count : ℕ = share class desk in
         let least : ℕ = min count (most_regions class) in
+        let fewer : min count (most_regions class) ≤ count = omega arith in
         elim (nat_lt class 36) as (λ v. nat_lt class 36 ≡ v → KnowsNext (mine_in records c desk.arena) (cond v (Go (Turns (Filling (wish_for class align least) count))) (Go (Turns (Looking (wish_for class align least))))) →
         Comes records c (closed request desk (stage desk.arena (cond v (Go (Turns (Filling (wish_for class align least) count))) (Go (Turns (Looking (wish_for class align least)))))))) [
           | true ↦ λ e knows. begins_at request desk [] desk.arena (Go (Turns (Filling (wish_for class align least) count))) owns knows
-              (refl, owns.low, (record { empty = empty; own = refl; slots = share_slots class (λ small. missed small refl) }, lesser count (most_regions class)), refl)
+              (refl, owns.low, (record { empty = empty; own = refl; slots = share_slots class (λ small. missed small refl) }, fewer), refl)
           | false ↦ λ e knows. begins_at request desk [] desk.arena (Go (Turns (Looking (wish_for class align least)))) owns knows
-              (refl, owns.low, record { empty = empty; own = refl; slots = few_slots class least count (lesser count (most_regions class)) (share_slots class (λ small. missed small refl)) }, refl)
+              (refl, owns.low, record { empty = empty; own = refl; slots = fewer_slots desk class least count fewer (share_slots class (λ small. missed small refl)) }, refl)
         ] refl knows
 
     malloc_comes : (size : ℕ) → KnowsAt (begin_malloc size desk) → Comes records c (begin (Malloc size) desk)

@@ -1,6 +1,6 @@
 -- What a turn of a client does to the regions that it holds, and to those that it has.
-use Rattle.heap_core.proofs.Words.{◌≡◌, ◌≢◌, ℕ, ◌+◌, ◌-◌, ◌*◌, ◌<◌, ◌≤◌, ◌==◌, ◌&&◌, ◌||◌, Bool, true, false, cond, List, [], ◌∷◌, Option, None, Some, length, map, refl, sym, ◌∙◌, ap, subst, arith, suc, zero, filter, find, min, nat_lt, count_by, list_any, range_with_len, eqb-true, ltb-true, length-map, length-take, All-cons, All-nil, All-weaker, filter_passes, length-range_with_len, sum_by-cons, regions_at, size_at, Region, emptied, ended, flight_count, held_count, if_free, is_published_at, take_over_at, is_flight_at, address_of, is_held_by_other, landing, region_of, regions_from, IsPlaced, is_live, stays, step_of, Stepped, is_dirty_time_over, is_lazy, find_has, both_true, discarding, empty_handed, gave, is_in_arena, Request, Wish, Change, Stops, Visits, Leaves, TurnPoint, Filling, Landing, Giving, Changing, Making, Resetting, Destroying, Publishing, Owning, Reply, Noted, Purge, Busy, Setting, Space, Part, Span, Sound, mine, Held, DeskFacts, cached_of, freeing, going, most_regions, fill_at, land_at, lowest_free, address_behind, desk_turned, flushes, landed_behind, held_region, sharing, KnowsTurn, op_at, HasSlots, IsTheHand, SuitsTurn}
-use Rattle.call_table.specs.Words.{NoArena}
+use Rattle.heap_core.proofs.Words.{◌≡◌, ◌≢◌, ℕ, ◌+◌, ◌-◌, ◌*◌, ◌<◌, ◌≤◌, ◌==◌, ◌&&◌, Bool, true, false, cond, List, [], ◌∷◌, Option, None, Some, length, map, refl, sym, ◌∙◌, ap, subst, arith, suc, zero, filter, find, nat_lt, count_by, list_any, range_with_len, eqb-true, ltb-true, length-map, length-take, All-cons, All-nil, All-weaker, filter_passes, length-range_with_len, sum_by-cons, regions_at, size_at, Region, emptied, ended, flight_count, held_count, if_free, is_published_at, take_over_at, is_flight_at, address_of, is_held_by_other, landing, region_of, regions_from, IsPlaced, is_live, stays, step_of, Stepped, is_dirty_time_over, is_lazy, find_has, both_true, discarding, empty_handed, gave, is_in_arena, Request, Wish, Change, Stops, Visits, Leaves, TurnPoint, Filling, Landing, Giving, Changing, Making, Resetting, Destroying, Publishing, Owning, Reply, Noted, Purge, Busy, Setting, Space, Part, Span, Sound, mine, Held, DeskFacts, cached_of, freeing, going, most_regions, fill_at, land_at, lowest_free, address_behind, desk_turned, flushes, landed_behind, held_region, sharing, KnowsTurn, op_at, HasSlots, IsTheHand, SuitsTurn, or-false}
+use Rattle.call_plan.specs.Words.{NoArena}
 use Rattle.heap_core.proofs.Hands.{Count, Hands, Single, hands_come, hands_discard, hands_part}
 use Rattle.heap_core.proofs.Having.{Shaped, discard_shaped, free_gains, of_hand, over, share_all}
 use Rattle.heap_core.proofs.Parting.{Parts, addrs_any, batch_addrs, gave_parts}
@@ -80,12 +80,9 @@ module _ (n m : Count) (c arena : ℕ) (s : Space) (desk : DeskFacts) (request :
   filling : (wish : Wish) (count : ℕ) → HasSlots desk wish.class count → Carries (Filling wish count) (step_of s c (op_at (Filling wish count)))
   filling wish count slots =
       elim (is_live s.life) as (λ v. Carries (Filling wish count) (cond v (fill_at s c wish.class (lowest_free wish.class count s)) (stays s NoArena))) [
-        | true ↦ fill wish count slots (lowest_free wish.class count s) (most count _ (length-take count _))
+        | true ↦ fill wish count slots (lowest_free wish.class count s) (omega (arith, length-take {A = ℕ}))
         | false ↦ λ now. stay s refl now
       ]
-    where
-      most : {k : ℕ} (a b : ℕ) → k ≡ min a b → k ≤ a
-      most a b e = grind arith
 
   landing_in : (wish : Wish) (span : Span) (o : Option Part) → find (is_flight_at c span) s.parts ≡ o → 0 < wish.count → wish.count ≤ most_regions wish.class → HasSlots desk wish.class wish.count →
       Carries (Landing wish span) (land_at s c wish.class wish.count o)
@@ -146,13 +143,9 @@ module _ (n m : Count) (c arena : ℕ) (s : Space) (desk : DeskFacts) (request :
             arena = refl;
           } in record {
             hands = hands_part n m arena (r ∷ []) desk (empty_handed desk) single hands parts (All-cons (λ (q : Held). q.arena ≡ arena) r [] is.1 (All-nil (λ (q : Held). q.arena ≡ arena)))
-                (λ a k. now a k ∙ published_counts c addr a k s.regions ∙ ap (λ v. cond v 0 (count_at c a k s.regions)) (ap (λ x. x == a) (sym is.0) ∙ or_none (r.addr == a)) ∙ ap (cond (any_at a (r ∷ [])) 0) (sym (counted a k))) others;
+                (λ a k. now a k ∙ published_counts c addr a k s.regions ∙ ap (λ v. cond v 0 (count_at c a k s.regions)) (ap (λ x. x == a) (sym is.0) ∙ sym (or-false (r.addr == a))) ∙ ap (cond (any_at a (r ∷ [])) 0) (sym (counted a k))) others;
             shaped = parts.shaped;
           }
-        where
-          or_none : (v : Bool) → v ≡ (v || false)
-          or_none true = refl
-          or_none false = refl
 
   -- ---- all regions go
 

@@ -1,5 +1,5 @@
 -- What a change of one client leaves of a heap.
-use Rattle.heap_core.proofs.Words.{◌≡◌, ◌≢◌, ◌≤◌, ◌<◌, ℕ, ◌-◌, ◌==◌, Bool, true, false, List, Option, None, Some, length, slice_set, get_or, refl, sym, ap, subst, ◌∙◌, arith, nat_tests, get_or_default, get_or-set_other, get_or-set_same, length-set, opens, room_after, room_of, Op, AskFacts, CallFacts, IsArenas, no_record, record_after, record_at, room_in, spaces_of, with_chunk_found, CanTurn, after_turn, owed_to, IsHeap, asks_next, owing, Record, Seat, first_seat, seat_at, SeatSound}
+use Rattle.heap_core.proofs.Words.{◌≡◌, ◌≢◌, ◌≤◌, ◌<◌, ℕ, ◌-◌, false, List, Option, length, slice_set, get_or, refl, sym, ap, subst, ◌∙◌, arith, get_or_default, get_or-set_other, get_or-set_same, length-set, opens, room_after, room_of, Op, AskFacts, CallFacts, IsArenas, no_record, record_after, record_at, room_in, spaces_of, with_chunk_found, CanTurn, after_turn, owed_to, IsHeap, owing, Record, Seat, first_seat, seat_at, SeatSound}
 use Rattle.heap_core.proofs.Clients.{at_or_else, elsewhere_is, opens_settled, there_is}
 use Rattle.heap_core.proofs.Sitting.{others-sit}
 
@@ -28,8 +28,7 @@ room_used records arena c op asked is there few uses =
 
 -- what a call may ask is told by the rooms of its client
 owing_same : (records records' : List Record) (c : ℕ) (call : Option CallFacts) → ((i : ℕ) → room_in records' i c ≡ room_in records i c) → owing records' c call ≡ owing records c call
-owing_same records records' c None same = refl
-owing_same records records' c (Some call) same = ap (λ room. asks_next room call.stage.next) (same call.stage.arena)
+owing_same records records' c call same = grind (arith, same)
 
 -- ---- a change of one client
 
@@ -45,15 +44,9 @@ heap_changed records records' seats owed owed' c seat is few stays rooms owes so
 }
   where
     at : (o : ℕ) (P : Seat → Type 0) → (c ≡ o → P seat) → (o ≢ c → P (seat_at seats o)) → P (seat_at (slice_set seats c seat) o)
-    at o P here there = by (c == o) refl
-      where
-        by : (v : Bool) → (c == o) ≡ v → P (seat_at (slice_set seats c seat) o)
-        by true e =
-            let same : c ≡ o = grind (arith, nat_tests) in
-            subst P (sym (subst (λ k. seat_at (slice_set seats c seat) k ≡ seat) same (get_or-set_same seats c seat first_seat (omega (arith, few, is.number))))) (here same)
-        by false e =
-            let far : o ≢ c = λ same. grind (arith, nat_tests) in
-            subst P (sym (get_or-set_other seats c o seat first_seat far)) (there far)
+    at o P here there =
+        at_or_else (λ k. P (seat_at (slice_set seats c seat) k)) o c (λ same. subst P (sym (get_or-set_same seats c seat first_seat (omega (arith, few, is.number)))) (here (sym same)))
+        (λ far. subst P (sym (get_or-set_other seats c o seat first_seat far)) (there far))
 
 -- a turn of a client, after which it is as it has to be
 pub heap_turned : (records : List Record) (seats : List Seat) (owed owed' : List ℕ) (c arena : ℕ) (op : Op) (asked : Option AskFacts) (seat : Seat) → IsHeap records seats owed → IsArenas records → c < 32 → arena < 32 →

@@ -1,29 +1,7 @@
 -- What a turn leaves of the calls of all clients.
-use Rattle.heap_core.proofs.Words.{◌≡◌, ◌≢◌, ℕ, ◌<◌, ◌≤◌, ◌==◌, ◌&&◌, Bool, true, false, List, Option, None, Some, slice_set, refl, sym, ◌∙◌, ap, subst, arith, IsTrue, IfSome, IsSomeAnd, lt-ltb, nat_lt, eqb-true, nat_tests, get_or-set_other, get_or-set_same, Look, Back, GrowDone, OfferDone, Heard, op_stands, stands, step_of, both_true, op_keeps, heard_in, IsKept, heard_of, entry_of, opens, room_after, room_of, Replied, TurnPoint, Filling, AskPoint, Skipping, Point, Turns, Asks, Tells, Next, Go, Over, More, Gone, Ends, Nowhere, Op, Reply, Space, Sound, mine, AskFacts, AnswersTo, WantTurn, ask_at, done_at, is_marked, op_at, step, want, Idle, Knows, Keeps, Moves, Stands, left, stages, with_found, Suffices, flying, needed_at, needed_next, room_then, rooms-suffice, wants-stand, steps-keep, IsArenas, no_record, record_after, record_at, room_in, spaces_of, met_by_alloc, met_by_dalloc, others_of, with_chunk_found, AsksLeadOn, CanTurn, IsIdle, OthersStay, TurnsLeadOn, Waits, WaitsNext, after_turn, mine_in, Record}
-use Rattle.heap_core.proofs.Turned.{replayed_sound}
-
--- ---- the arena of a turn, and the others
-
-pub there_is : (records : List Record) (arena : ℕ) (new : Record) → IsArenas records → arena < 32 → record_at (slice_set records arena new) arena ≡ new
-there_is records arena new is there = get_or-set_same records arena new no_record (omega (arith, there, is.number))
-
-pub elsewhere_is : (records : List Record) (arena i : ℕ) (new : Record) → i ≢ arena → record_at (slice_set records arena new) i ≡ record_at records i
-elsewhere_is records arena i new other = get_or-set_other records arena i new no_record other
-
--- what is so at one index, and at each other one, is so at any
-pub at_or_else : (P : ℕ → Type 0) (i here : ℕ) → (i ≡ here → P here) → (i ≢ here → P i) → P i
-at_or_else P i here own other = by (i == here) refl
-  where
-    by : (v : Bool) → (i == here) ≡ v → P i
-    by true e = let same = eqb-true i here e in subst P (sym same) (own same)
-    by false e = other (λ same. grind (arith, nat_tests))
-
--- what is so of a value in each arena that a turn leaves alone, and of the one that it leaves in its own
-pub by_arena : (records : List Record) (arena : ℕ) (new : Record) (P : ℕ → Record → Type 0) → IsArenas records → arena < 32 → P arena new → ((i : ℕ) → i ≢ arena → P i (record_at records i)) →
-    (i : ℕ) → P i (record_at (slice_set records arena new) i)
-by_arena records arena new P is there own others i =
-    at_or_else (λ k. P k (record_at (slice_set records arena new) k)) i arena (λ same. subst (P arena) (sym (there_is records arena new is there)) own)
-    (λ other. subst (P i) (sym (elsewhere_is records arena i new other)) (others i other))
+use Rattle.heap_core.proofs.Words.{◌≡◌, ◌≢◌, ℕ, ◌<◌, ◌≤◌, ◌&&◌, true, false, List, Option, None, refl, sym, ◌∙◌, ap, subst, arith, IsTrue, lt-ltb, nat_lt, get_or-set_other, get_or-set_same, Look, GrowDone, OfferDone, op_stands, stands, step_of, both_true, op_keeps, IsKept, entry_of, opens, room_after, room_of, Replied, Point, Asks, Tells, Next, Go, Over, Op, Reply, Space, Sound, mine, AskFacts, AnswersTo, WantTurn, ask_at, is_marked, step, want, Idle, Knows, Keeps, Moves, Stands, left, stages, with_found, Suffices, flying, needed_at, needed_next, room_then, rooms-suffice, wants-stand, steps-keep, IsArenas, record_after, record_at, room_in, spaces_of, met_by_alloc, met_by_dalloc, others_of, with_chunk_found, AsksLeadOn, CanTurn, IsIdle, OthersStay, TurnsLeadOn, Waits, WaitsNext, after_turn, mine_in, Record, rules}
+pub use Rattle.heap_core.proofs.Owning.{at_or_else}
+pub use Rattle.heap_core.proofs.Turned.{by_arena, elsewhere_is, replayed_sound, there_is}
 
 -- ---- other clients
 
@@ -72,32 +50,11 @@ found_for spaces arena (OfferDone heard found) = met_by_dalloc (others_of arena 
 found_for spaces arena op = None
 
 pub settled_is : (spaces : List Space) (arena : ℕ) (op : Op) → with_chunk_found spaces arena op ≡ with_found (found_for spaces arena op) op
-settled_is spaces arena (GrowDone heard found) = refl
-settled_is spaces arena (OfferDone heard found) = refl
-settled_is spaces arena op = refl
+settled_is spaces arena op = grind arith
 
 -- the ask that an operation of a point carries is at hand
-carries_none : (point : TurnPoint) → heard_of (op_at point) ≡ None
-carries_none (Filling wish count) = refl
-carries_none point = refl
-
-carries_one : (point : AskPoint) (asked : AskFacts) → heard_of (done_at point asked) ≡ Some (heard_in asked)
-carries_one (Skipping wish span b skip) asked = refl
-carries_one point asked = refl
-
-kept_of : (c : ℕ) (op : Op) (asked : Option AskFacts) (o : Option Heard) → heard_of op ≡ o → IfSome o (λ heard. IsSomeAnd asked (λ made. heard_in made ≡ heard)) → IsKept (entry_of c op) asked
-kept_of c op asked o e is = subst (λ o. IfSome o (λ heard. IsSomeAnd asked (λ made. heard_in made ≡ heard))) (sym e) is
-
 kept_at : (c : ℕ) (point : Point) (op : Op) (asked : Option AskFacts) → want point ≡ WantTurn op asked → IsKept (entry_of c op) asked
-kept_at c (Turns point) op asked e =
-    let same : op_at point ≡ op = cc in
-    kept_of c op asked None (ap heard_of (sym same) ∙ carries_none point) tt
-kept_at c (Asks point (Some told)) op asked e =
-    let same : done_at point told ≡ op = cc in
-    let with : Some told ≡ asked = cc in
-    kept_of c op asked (Some (heard_in told)) (ap heard_of (sym same) ∙ carries_one point told) (subst (λ a. IsSomeAnd a (λ made. heard_in made ≡ heard_in told)) with refl)
-kept_at c (Asks point None) op asked e = absurd (cc)
-kept_at c (Tells span b) op asked e = absurd (cc)
+kept_at c point op asked e = grind arith
 
 -- what opens no unit takes no memory
 opens_less : (op : Op) → opens op ≡ false → is_marked op ≡ false
@@ -106,14 +63,11 @@ opens_less op e = first_of (cc, grind arith)
 
 -- an arena leaves its client at least the room that the table reckons with
 room_enough : (s : Space) (c room : ℕ) (spaces : List Space) (arena : ℕ) (op : Op) → room_then c s room op ≤ room_after s room c (with_chunk_found spaces arena op)
-room_enough s c room spaces arena (Back addrs) = omega arith
-room_enough s c room spaces arena op = omega arith
+room_enough s c room spaces arena op = grind arith
 
 -- an operation opens a unit with the chunk that was found or without
 pub opens_settled : (spaces : List Space) (arena : ℕ) (op : Op) → opens (with_chunk_found spaces arena op) ≡ opens op
-opens_settled spaces arena (GrowDone heard found) = refl
-opens_settled spaces arena (OfferDone heard found) = refl
-opens_settled spaces arena op = refl
+opens_settled spaces arena op = grind arith
 
 module _ (records : List Record) (c arena : ℕ) (point : Point) (op : Op) (asked : Option AskFacts) (is : IsArenas records) (few : c < 32) (waits : Waits records c arena point) (wants : want point ≡ WantTurn op asked) where
   abbrev s : Space
@@ -177,10 +131,7 @@ module _ (records : List Record) (c arena : ℕ) (point : Point) (op : Op) (aske
     room = subst (λ (x : Record). needed_at (flying (mine c x.space)) p ≤ room_of c x.rooms) (sym (there_is records arena new is waits.there)) room;
   }
   leads (Over index p) stage bound known room = (idle_then known.0, known.1)
-  leads More stage bound known room = idle_then known
-  leads Gone stage bound known room = idle_then known
-  leads (Ends answer) stage bound known room = idle_then known
-  leads Nowhere stage bound known room = absurd known
+  leads next stage bound known room = search (rules, idle_then)
 
 pub turns-lead_on : TurnsLeadOn
 turns-lead_on records c arena point op asked is few waits wants = (
@@ -204,5 +155,4 @@ asks-lead_on records c arena (Tells span b) asked is waits wants kind = record {
   elsewhere = waits.elsewhere;
   room = omega arith;
 }
-asks-lead_on records c arena (Turns point) asked is waits wants kind = absurd (cc)
-asks-lead_on records c arena (Asks point (Some told)) asked is waits wants kind = absurd (cc)
+asks-lead_on records c arena point asked is waits wants kind = absurd (cc)

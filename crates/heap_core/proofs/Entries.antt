@@ -71,18 +71,5 @@ none_found k es free = elim (lookup (nat_eq k) es) as (λ o. lookup (nat_eq k) e
 pub sum_set : (f : Held → ℕ) (lists : List (List Held)) (k : ℕ) (list : List Held) → k < length lists →
     sum_by f (flat_map (λ l. l) (slice_set lists k list)) + sum_by f (get_or lists k []) ≡ sum_by f (flat_map (λ l. l) lists) + sum_by f list
 sum_set f [] k list within = absurd (omega (arith, within))
-sum_set f (l ∷ ls) zero list within = omega (
-  arith,
-  ap (sum_by f) (flat_map-cons (λ l. l) list ls),
-  ap (sum_by f) (flat_map-cons (λ l. l) l ls),
-  sum_by-append f list (flat_map (λ l. l) ls),
-  sum_by-append f l (flat_map (λ l. l) ls),
-)
-sum_set f (l ∷ ls) (suc k) list within = omega (
-  arith,
-  ap (sum_by f) (flat_map-cons (λ l. l) l (slice_set ls k list)),
-  ap (sum_by f) (flat_map-cons (λ l. l) l ls),
-  sum_by-append f l (flat_map (λ l. l) (slice_set ls k list)),
-  sum_by-append f l (flat_map (λ l. l) ls),
-  sum_set f ls k list (omega (arith, within)),
-)
+sum_set f (l ∷ ls) zero list within = simp (flat_map-cons, sum_by-append) (omega arith)
+sum_set f (l ∷ ls) (suc k) list within = simp (flat_map-cons, sum_by-append) (omega (arith, sum_set f ls k list (omega (arith, within))))

@@ -1,26 +1,19 @@
 -- What is kept of a call that was fed.
-use Rattle.heap_core.proofs.Words.{inl, inr, ◌≡◌, ℕ, Option, None, Some, Result, Ok, Err, OnOk, OnErr, IfSome, refl, sym, subst, ◌∙◌, ap, Held, DeskFacts, Item, Answered, Next, Go, More, CallFacts, HasRoomToHold, moment_of, started, ended_by, Moment, after, starved_after, step_next, FedTo, Seat, answer_of, open_call, seat_of}
+use Rattle.heap_core.proofs.Words.{arith, inl, inr, ◌≡◌, ℕ, Option, None, Some, Result, Ok, Err, OnOk, OnErr, IfSome, subst, ◌∙◌, ap, Held, DeskFacts, Item, Answered, Next, More, CallFacts, HasRoomToHold, moment_of, started, ended_by, Moment, after, starved_after, step_next, FedTo, Seat, answer_of, open_call, seat_of}
 
 -- a call that is kept has room for the region that it may get
-room_at : (c room : ℕ) (hand : Option Held) (at : Moment) (next : Next) → HasRoomToHold hand room at.stage.next → IfSome (open_call c at next) (λ call. HasRoomToHold hand room call.stage.next)
-room_at c room hand at (Go point) has = has
-room_at c room hand at next has = tt
-
 pub room_kept : (c room : ℕ) (hand : Option Held) (at : Moment) (next : Next) (kept : Option CallFacts) → kept ≡ open_call c at next → HasRoomToHold hand room at.stage.next →
     IfSome kept (λ call. HasRoomToHold hand room call.stage.next)
-room_kept c room hand at next kept is has = subst (λ k. IfSome k (λ call. HasRoomToHold hand room call.stage.next)) (sym is) (room_at c room hand at next has)
+room_kept c room hand at next kept is has = grind arith
 
 -- a call that began in a free place is kept there while it is open
 pub started_open : (c : ℕ) (at : Moment) (next : Next) → started c at None next ≡ open_call c at next
-started_open c at (Go point) = refl
-started_open c at next = refl
+started_open c at next = grind arith
 
 -- and has room for the region that it may get
 pub room_started : {A E : Type 0} (begun : Result A E) (c room : ℕ) (hand : Option Held) (at : Moment) (was kept : Option CallFacts) → was ≡ None → OnOk begun (kept ≡ started c at was at.stage.next) →
     OnErr begun (kept ≡ was) → OnOk begun (HasRoomToHold hand room at.stage.next) → IfSome kept (λ call. HasRoomToHold hand room call.stage.next)
-room_started (Ok a) c room hand at was kept none ok err has =
-    room_kept c room hand at at.stage.next kept (ok ∙ ap (λ k. started c at k at.stage.next) none ∙ started_open c at at.stage.next) has
-room_started (Err e) c room hand at was kept none ok err has = subst (λ k. IfSome k (λ call. HasRoomToHold hand room call.stage.next)) (sym (err ∙ none)) tt
+room_started begun c room hand at was kept none ok err has = grind (arith, room_kept, started_open)
 
 -- What the call and its client's desk are after an item is what the client is then.
 pub fed_to : {A E : Type 0} (seat : Seat) (desk desk' : DeskFacts) (call call' : CallFacts) (item : Item) (named : Result A E) (place : Option CallFacts) (ended : Option Answered) →

@@ -1,5 +1,5 @@
 -- What changes of what a client has do to its regions.
-use Rattle.heap_core.proofs.Words.{◌≡◌, ℕ, ◌+◌, ◌-◌, ◌<◌, ◌≤◌, ◌==◌, ◌&&◌, ◌≢◌, Bool, true, false, cond, List, [], ◌∷◌, ◌++◌, All, Option, None, Some, length, map, get_or, take, drop, slice_set, refl, sym, ◌∙◌, ap, subst, arith, suc, nat_lt, lt-ltb, flat_map, sum_by, ltb-true, nat_tests, get_or_from_slice_get, slice_get-get_or, slice_get_within, drop_more, length-drop, nil_from_length, get_or-set_other, get_or-set_same, length-set, All-append, All-cons, All-filter, All-nil, All-take, sum_by-cons, sum_by-take-drop, sum_by_push, both_true, is_elsewhere, put_in, before_last, discarding, has_slot, held_again, held_again_with, holding, kept, kept_with, not_holding, Held, DeskFacts, caching, freeing, held_at, hit, hitting, is_cacheable, slots_at, cached_in, held_region, sharing}
+use Rattle.heap_core.proofs.Words.{◌≡◌, ℕ, ◌+◌, ◌-◌, ◌<◌, ◌≤◌, ◌==◌, ◌&&◌, ◌≢◌, Bool, true, false, cond, List, [], ◌∷◌, ◌++◌, All, Option, None, Some, length, map, get_or, take, drop, slice_set, refl, sym, ◌∙◌, ap, subst, arith, nat_lt, lt-ltb, flat_map, sum_by, ltb-true, nat_tests, get_or_from_slice_get, slice_get-get_or, slice_get_within, drop_more, length-drop, nil_from_length, get_or-set_other, get_or-set_same, length-set, All-append, All-cons, All-filter, All-nil, All-take, sum_by-cons, sum_by-take-drop, sum_by_push, both_true, is_elsewhere, put_in, before_last, discarding, has_slot, held_again, held_again_with, holding, kept, kept_with, not_holding, Held, DeskFacts, caching, freeing, held_at, hit, hitting, is_cacheable, slots_at, cached_in, held_region, sharing, length-map}
 use Rattle.std.proofs.Common.{slice_get}
 use Rattle.std.proofs.lemmas.List.{length-append}
 use Rattle.heap_core.proofs.Entries.{IsKeyed, keyed_insert, keyed_remove, of_entry, sum_insert, sum_remove, sum_set}
@@ -65,26 +65,17 @@ cached_as r desk small slot =
     ap (λ v. cond v (record desk { cached = slice_set desk.cached r.class (put_in r.class r (cached_in desk.cached r.class)) }) desk) (lt-ltb r.class 41 small)
     ∙ ap (λ v. record desk { cached = slice_set desk.cached r.class (cond v (cached_in desk.cached r.class ++ r ∷ []) (cached_in desk.cached r.class)) }) slot
 
-abbrev cached_with : Held → DeskFacts → DeskFacts
-cached_with r desk = record desk { cached = slice_set desk.cached r.class (cached_in desk.cached r.class ++ r ∷ []) }
-
-with_over : (f : Held → ℕ) (r : Held) (desk : DeskFacts) → r.class < 41 → Shaped desk → over f (cached_with r desk) ≡ over f desk + f r
-with_over f r desk small is = omega (
+pub cache_over : (f : Held → ℕ) (r : Held) (desk : DeskFacts) → r.class < 41 → has_slot r.class desk ≡ true → Shaped desk → over f (caching r desk) ≡ over f desk + f r
+cache_over f r desk small slot is = ap (over f) (cached_as r desk small slot) ∙ omega (
   arith,
   sum_set f desk.cached r.class (cached_in desk.cached r.class ++ r ∷ []) (omega (arith, small, is.lists)),
   sum_by_push f (cached_in desk.cached r.class) r,
 )
 
-with_shaped : (r : Held) (desk : DeskFacts) → r.class < 41 → Shaped desk → Shaped (cached_with r desk)
-with_shaped r desk small is =
-    set_classed desk r.class (cached_in desk.cached r.class ++ r ∷ []) is
-    (All-append (λ (q : Held). q.class ≡ r.class) (cached_in desk.cached r.class) (r ∷ []) (is.classed r.class) (All-cons (λ (q : Held). q.class ≡ r.class) r [] refl (All-nil (λ (q : Held). q.class ≡ r.class)))) small
-
-pub cache_over : (f : Held → ℕ) (r : Held) (desk : DeskFacts) → r.class < 41 → has_slot r.class desk ≡ true → Shaped desk → over f (caching r desk) ≡ over f desk + f r
-cache_over f r desk small slot is = ap (over f) (cached_as r desk small slot) ∙ with_over f r desk small is
-
 pub cache_shaped : (r : Held) (desk : DeskFacts) → r.class < 41 → has_slot r.class desk ≡ true → Shaped desk → Shaped (caching r desk)
-cache_shaped r desk small slot is = subst Shaped (sym (cached_as r desk small slot)) (with_shaped r desk small is)
+cache_shaped r desk small slot is =
+    subst Shaped (sym (cached_as r desk small slot)) (set_classed desk r.class (cached_in desk.cached r.class ++ r ∷ []) is
+    (All-append (λ (q : Held). q.class ≡ r.class) (cached_in desk.cached r.class) (r ∷ []) (is.classed r.class) (All-cons (λ (q : Held). q.class ≡ r.class) r [] refl (All-nil (λ (q : Held). q.class ≡ r.class)))) small)
 
 pub cache_hand : (r : Held) (desk : DeskFacts) → (caching r desk).hand ≡ desk.hand
 cache_hand r desk = grind arith
@@ -98,36 +89,32 @@ cache_arena r desk = grind arith
 pub record Shares (desk after : DeskFacts) (class : ℕ) (regions : List Held) : Type 0 where
   pub more : (f : Held → ℕ) → over f after ≡ over f desk + sum_by f regions
   pub shaped : Shaped after
-  pub hand : after.hand ≡ desk.hand
-  pub arena : after.arena ≡ desk.arena
   pub long : length (cached_in after.cached class) ≡ length (cached_in desk.cached class) + length regions
-
-slot_left : (n most : ℕ) → n < most → nat_lt n most ≡ true
-slot_left n most below = lt-ltb n most below
 
 pub share_all : (arena class : ℕ) (addrs : List ℕ) (desk : DeskFacts) → Shaped desk → (0 < length addrs → (class < 41) × (length (cached_in desk.cached class) + length addrs ≤ slots_at class)) →
     Shares desk (sharing arena class addrs desk) class (map (held_region arena class) addrs)
-share_all arena class [] desk is slots = record { more = λ f. omega arith; shaped = is; hand = refl; arena = refl; long = omega arith }
+share_all arena class [] desk is slots = record { more = λ f. omega arith; shaped = is; long = omega arith }
 share_all arena class (addr ∷ addrs) desk is slots =
     let room = slots (omega arith) in
     let rest = share_all arena class addrs desk is (λ some. (room.0, omega (arith, room.1))) in
     let shared : DeskFacts = sharing arena class addrs desk in
-    let n : length (map (held_region arena class) addrs) ≡ length addrs = map_length addrs in
-    let slot : has_slot class shared ≡ true = slot_left _ _ (omega (arith, rest.long, n, room.1)) in
+    let n : length (map (held_region arena class) addrs) ≡ length addrs = length-map addrs (held_region arena class) in
+    let slot : has_slot class shared ≡ true = lt-ltb _ _ (omega (arith, rest.long, n, room.1)) in
     let r : Held = held_region arena class addr in
     let same = cached_as r shared room.0 slot in record {
       more = λ f. omega (arith, cache_over f r shared room.0 slot rest.shaped, rest.more f, sum_by-cons f r (map (held_region arena class) addrs));
       shaped = cache_shaped r shared room.0 slot rest.shaped;
-      hand = cache_hand r shared ∙ rest.hand;
-      arena = cache_arena r shared ∙ rest.arena;
       long = ap (λ (d : DeskFacts). length (cached_in d.cached class)) same
           ∙ ap length (get_or-set_same shared.cached class (cached_in shared.cached class ++ r ∷ []) [] (omega (arith, room.0, rest.shaped.lists)))
           ∙ omega (arith, length-append (cached_in shared.cached class) (r ∷ []), rest.long);
     }
-  where
-    map_length : (xs : List ℕ) → length (map (held_region arena class) xs) ≡ length xs
-    map_length [] = refl
-    map_length (x ∷ xs) = ap suc (map_length xs)
+
+-- what is in hand stays, and the arena from which the client allocates
+pub share_stays : (arena class : ℕ) (addrs : List ℕ) (desk : DeskFacts) → ((sharing arena class addrs desk).hand ≡ desk.hand) × ((sharing arena class addrs desk).arena ≡ desk.arena)
+share_stays arena class [] desk = (refl, refl)
+share_stays arena class (addr ∷ addrs) desk =
+    let shared : DeskFacts = sharing arena class addrs desk in
+    let rest = share_stays arena class addrs desk in (cache_hand (held_region arena class addr) shared ∙ rest.0, cache_arena (held_region arena class addr) shared ∙ rest.1)
 
 -- ---- a region that is freed
 
@@ -221,15 +208,12 @@ hit_is class desk r is found =
               sum_by-take-drop f list (length list - 1),
               ap (sum_by f) (drop_more list (length list - 1) r within),
               sum_by-cons f (get_or list (length list - 1) r) (drop (length list - 1 + 1) list),
-              ap (sum_by f) (none_behind list within),
+              ap (sum_by f) (nil_from_length (drop (length list - 1 + 1) list) (length-drop (length list - 1 + 1) list ∙ omega (arith, within))),
             ),
             set_classed desk class (take (length list - 1) list) is (All-take (λ (q : Held). q.class ≡ class) (length list - 1) list (is.classed class)) small,
           )
       | false ↦ λ e is_it. absurd (cc)
     ] refl found
-  where
-    none_behind : (list : List Held) → length list - 1 < length list → drop (length list - 1 + 1) list ≡ []
-    none_behind list within = nil_from_length (drop (length list - 1 + 1) list) (length-drop (length list - 1 + 1) list ∙ omega (arith, within))
 
 -- where none was hit of a class that is cached, there is none
 pub miss_is : (class : ℕ) (desk : DeskFacts) → is_cacheable class desk ≡ true → hit class desk ≡ None → cached_in desk.cached class ≡ []

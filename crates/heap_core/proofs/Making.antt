@@ -1,5 +1,5 @@
 -- What a turn, an ask or the want of memory leaves of a heap, and what a step then tells.
-use Rattle.heap_core.proofs.Words.{inl, inr, ◌≡◌, ◌≢◌, ◌⊎◌, ◌≤◌, ◌<◌, ℕ, ◌+◌, Bool, true, false, List, Option, None, Some, Result, Ok, Err, IfSome, IsOk, IsSomeAnd, slice_set, refl, sym, ap, subst, ◌∙◌, arith, ◌++◌, ◌∷◌, [], AskStep, Shelf, opens, Ask, Op, Reply, AskFacts, Replied, Told, Starved, Answered, NoMemory, Point, More, moment_of, Goes, Moment, after, starved_after, step_next, WantTurn, WantAsk, is_marked, step, want, IsArenas, record_at, reply_in, room_in, spaces_of, with_chunk_found, CanTurn, after_turn, FedTo, HeapFacts, IsStarved, IsStep, IsSure, answered_by, holder_for, replied, starved_on, told_to, turned_for, turned_on, unnamed_on, DidTurn, DidAsk, owed_to, IsHeap, asks_at, asks_next, owing, Record, Seat, answer_of, seat_at, seat_of, Comes, SeatSound, TurnFacts, MadeTurn, item_of}
+use Rattle.heap_core.proofs.Words.{inl, inr, ◌≡◌, ◌≢◌, ◌⊎◌, ◌≤◌, ◌<◌, ℕ, ◌+◌, Bool, true, false, List, Option, None, Some, Result, Ok, Err, IfSome, IsOk, IsSomeAnd, slice_set, refl, sym, ap, subst, ◌∙◌, arith, ◌++◌, ◌∷◌, [], AskStep, Shelf, opens, Ask, Op, Reply, AskFacts, Replied, Told, Starved, Answered, NoMemory, More, moment_of, Goes, Moment, after, starved_after, step_next, WantTurn, WantAsk, is_marked, step, IsArenas, record_at, reply_in, room_in, spaces_of, with_chunk_found, CanTurn, after_turn, FedTo, HeapFacts, IsStarved, IsStep, IsSure, answered_by, holder_for, replied, starved_on, told_to, turned_for, turned_on, unnamed_on, DidTurn, DidAsk, owed_to, IsHeap, asks_at, asks_next, owing, Record, Seat, answer_of, seat_at, seat_of, Comes, SeatSound, TurnFacts, MadeTurn, item_of}
 use Rattle.heap_core.proofs.Asking.{owed_after}
 use Rattle.heap_core.proofs.Changes.{heap_seated, heap_turned, room_used}
 use Rattle.heap_core.proofs.Sitting.{asks-sit, starves-sit, turns-sit}
@@ -46,25 +46,47 @@ module _ (records : List Record) (c : ℕ) (seat : Seat) (op : Op) (asked : Opti
       here : asks_at (room_in records there c) w.point ≤ owed_to owed c
       here = subst (λ next. asks_next (room_in records there c) next ≤ owed_to owed c) w.goes (subst (λ call. owing records c call ≤ owed_to owed c) w.is promised)
 
-      room_has : (point : Point) → want point ≡ WantTurn op asked → opens op ≡ false → room_in records there c ≤ asks_at (room_in records there c) point
-      room_has point wants uses = room_asked (room_in records there c) point op asked wants uses
-
       by : (o : Bool) → opens op ≡ o → room_in then there c + 1 ≤ owed_to owed' c
       by true e = made e
       by false e =
           let some : 0 < room_in records there c = led.0.room e in
           let less = room_used records there c op asked arenas w.sits.waits.there few e in
-          let has = room_has w.point w.want_is e in
+          let has = room_asked (room_in records there c) w.point op asked w.want_is e in
           omega (arith, some, less, has, here, kept)
 
+-- ---- the want of memory
+
+pub starve_goes : (records : List Record) (c : ℕ) (seat : Seat) → IsArenas records → c < 32 → (s : Starving records c seat) →
+    IsSomeAnd seat.call (λ call. Goes (after (moment_of call seat.desk) Starved).stage.next)
+starve_goes records c seat arenas few s =
+    subst (λ k. IsSomeAnd k (λ call. Goes (after (moment_of call seat.desk) Starved).stage.next)) (sym s.wants.is) (ends_starved records c seat s.op s.asked s.arena arenas few s.wants s.marked).0
+
+pub starve_heap : (records : List Record) (seats : List Seat) (owed owed' : List ℕ) (c : ℕ) (seat : Seat) (ended : Option Answered) → IsHeap records seats owed → IsArenas records → c < 32 → ((o : ℕ) → o ≢ c → owed_to owed' o ≡ owed_to owed o) →
+    (s : Starving records c (seat_at seats c)) → IfSome (seat_at seats c).call (λ call. FedTo call (seat_at seats c).desk Starved ended seat) → IsHeap records (slice_set seats c seat) owed'
+starve_heap records seats owed owed' c seat ended heap arenas few others s fed =
+    let old : Seat = seat_at seats c in
+    let starved = starved_at records c old s.op s.asked s.arena ended seat s.wants s.marked fed in
+    heap_seated records seats owed owed' c seat heap few others
+    (subst (SeatSound records c) (sym starved.0) (ends_starved records c old s.op s.asked s.arena arenas few s.wants s.marked).1)
+    (subst (λ (s : Seat). owing records c s.call ≤ owed_to owed' c) (sym starved.0) (none_owed records c old s.op s.asked s.arena arenas few s.wants (owed_to owed' c) s.marked))
+
+pub starve_step : (h : HeapFacts) (c : ℕ) (seat : Seat) (ended : Option Answered) (shelf : Shelf) → (s : Starving h.records c (seat_at h.seats c)) →
+    IfSome (seat_at h.seats c).call (λ call. FedTo call (seat_at h.seats c).desk Starved ended seat) →
+    IsStep h shelf c (seat_at h.seats c).call (record { did = DidTurn; ended = ended }) (record { records = h.records; seats = slice_set h.seats c seat; heard = h.heard }) shelf
+starve_step h c seat ended shelf s fed =
+    let old : Seat = seat_at h.seats c in
+    let starved = starved_at h.records c old s.op s.asked s.arena ended seat s.wants s.marked fed in
+    let new : HeapFacts = record { records = h.records; seats = slice_set h.seats c seat; heard = h.heard } in
+    let same : new ≡ starved_on h c s.wants.call = (λ i. record { records = h.records; seats = slice_set h.seats c (starved.0 i); heard = h.heard }) in
+    step_made h h.records shelf shelf c (WantTurn s.op s.asked) s.arena (record { did = DidTurn; ended = ended }) new s.wants (refl, refl, inr (inl (s.marked, same), starved.1))
+
+-- ---- a turn that was made, or found no memory
+
 -- memory is wanting only for a turn that takes some
-marked_err : {E : Type 0} (records records' : List Record) (owed owed' : List ℕ) (seat : Seat) (turn : TurnFacts) (error : E) (w : Wanted records turn.client seat (WantTurn turn.op turn.asked) turn.arena) →
-    MadeTurn records owed turn (Err error) records' owed' → is_marked turn.op ≡ true
-marked_err records records' owed owed' seat turn error w is = opens_marked w.point turn.op turn.asked w.want_is (by (opens turn.op) refl)
-  where
-    by : (o : Bool) → opens turn.op ≡ o → opens turn.op ≡ true
-    by true e = e
-    by false e = let sure = is.sure e in absurd (cc)
+abbrev starving_for : {E : Type 0} (records records' : List Record) (owed owed' : List ℕ) (seat : Seat) (turn : TurnFacts) (error : E) → Wanted records turn.client seat (WantTurn turn.op turn.asked) turn.arena →
+    MadeTurn records owed turn (Err error) records' owed' → Starving records turn.client seat
+starving_for records records' owed owed' seat turn error w is =
+    record { op = turn.op; asked = turn.asked; arena = turn.arena; marked = opens_marked w.point turn.op turn.asked w.want_is (grind (arith, is.sure)); wants = w }
 
 -- where a turn was made, or found no memory, the client may be fed what came of it
 pub turn_goes : {E : Type 0} (records records' : List Record) (owed owed' : List ℕ) (seat : Seat) (turn : TurnFacts) (made : Result Reply E) → IsArenas records → turn.client < 32 →
@@ -76,7 +98,7 @@ turn_goes records records' owed owed' seat turn made arenas few w is = subst (λ
     by (Ok told) is =
         let same : told ≡ reply records turn.client seat turn.op turn.asked turn.arena arenas few w = is.reply ∙ ap (λ a. reply_in records a turn.client (with_chunk_found (spaces_of records) a turn.op)) w.arena_is in
         subst (λ r. Goes (after (moment_of w.call seat.desk) (Replied r)).stage.next) (sym same) (led records turn.client seat turn.op turn.asked turn.arena arenas few w).1.0
-    by (Err error) is = (ends_starved records turn.client seat turn.op turn.asked turn.arena arenas few w (marked_err records records' owed owed' seat turn error w is)).0
+    by (Err error) is = (ends_starved records turn.client seat turn.op turn.asked turn.arena arenas few w (starving_for records records' owed owed' seat turn error w is).marked).0
 
 -- a turn of a client in the arenas, by the place where its call stands
 turned_there : {E : Type 0} (records records' : List Record) (owed owed' : List ℕ) (seat : Seat) (turn : TurnFacts) (told : Reply) (w : Wanted records turn.client seat (WantTurn turn.op turn.asked) turn.arena) →
@@ -92,17 +114,14 @@ pub turn_heap : {E : Type 0} (records records' : List Record) (seats : List Seat
     turn.client < 32 → (w : Wanted records turn.client (seat_at seats turn.client) (WantTurn turn.op turn.asked) turn.arena) → MadeTurn records owed turn made records' owed' →
     IfSome (seat_at seats turn.client).call (λ call. FedTo call (seat_at seats turn.client).desk (item_of made) ended seat) → IsHeap records' (slice_set seats turn.client seat) owed'
 turn_heap records records' seats owed owed' turn (Err error) seat ended heap arenas few w is fed =
-    let c = turn.client in
-    let old : Seat = seat_at seats c in
-    let marked = marked_err records records' owed owed' old turn error w is in
-    let starved = starved_at records c old turn.op turn.asked turn.arena ended seat w marked fed in
-    subst (λ rs. IsHeap rs (slice_set seats c seat) owed') (sym is.err)
-    (heap_seated records seats owed owed' c seat heap few is.others
-    (subst (SeatSound records c) (sym starved.0) (ends_starved records c old turn.op turn.asked turn.arena arenas few w marked).1)
-    (subst (λ (s : Seat). owing records c s.call ≤ owed_to owed' c) (sym starved.0) (none_owed records c old turn.op turn.asked turn.arena arenas few w (owed_to owed' c) marked)))
+    let s = starving_for records records' owed owed' (seat_at seats turn.client) turn error w is in
+    subst (λ rs. IsHeap rs (slice_set seats turn.client seat) owed') (sym is.err) (starve_heap records seats owed owed' turn.client seat ended heap arenas few is.others s fed)
 turn_heap records records' seats owed owed' turn (Ok told) seat ended heap arenas few w is fed =
     subst (λ rs. IsHeap rs (slice_set seats c seat) owed') (sym (turned_there records records' owed owed' old turn told w is))
-    (by (fed_at records c old (WantTurn turn.op turn.asked) turn.arena (Replied told) ended seat w fed))
+    (elim (fed_at records c old (WantTurn turn.op turn.asked) turn.arena (Replied told) ended seat w fed) [
+      | inl went ↦ sat (after at' (Replied told)) went.0 leads.1.1 (owed_after then' c (owed_to owed' c) at' (Replied told) enough)
+      | inr off ↦ sat (starved_after at' (Replied told)) off.0 (leads.2 off.2) (omega arith)
+    ])
   where
     c : ℕ
     c = turn.client
@@ -132,24 +151,15 @@ turn_heap records records' seats owed owed' turn (Ok told) seat ended heap arena
     sat m same sound owes = heap_turned records seats owed owed' c w.call.stage.arena turn.op turn.asked seat heap arenas few w.sits.waits.there leads.0 is.others
         (subst (SeatSound then' c) (sym same) sound) (subst (λ (s : Seat). owing then' c s.call ≤ owed_to owed' c) (sym same) owes)
 
-    by : ((seat ≡ seat_of c (after at' (Replied told))) × (ended ≡ answer_of (after at' (Replied told))))
-        ⊎ ((seat ≡ seat_of c (starved_after at' (Replied told))) × (ended ≡ Some NoMemory) × (step w.point (Replied told) ≡ More)) → IsHeap then' (slice_set seats c seat) owed'
-    by (inl (same, e)) = sat (after at' (Replied told)) same leads.1.1 (owed_after then' c (owed_to owed' c) at' (Replied told) enough)
-    by (inr (same, e, more)) = sat (starved_after at' (Replied told)) same (leads.2 more) (omega arith)
-
 -- and what the step tells is what it did
 pub turn_step : {E : Type 0} (h : HeapFacts) (records' : List Record) (owed owed' : List ℕ) (turn : TurnFacts) (made : Result Reply E) (seat : Seat) (ended : Option Answered) (shelf : Shelf) → IsArenas h.records → turn.client < 32 →
     (w : Wanted h.records turn.client (seat_at h.seats turn.client) (WantTurn turn.op turn.asked) turn.arena) → holder_for h w.call ≡ None → MadeTurn h.records owed turn made records' owed' →
     IfSome (seat_at h.seats turn.client).call (λ call. FedTo call (seat_at h.seats turn.client).desk (item_of made) ended seat) →
     IsStep h shelf turn.client (seat_at h.seats turn.client).call (record { did = DidTurn; ended = ended }) (record { records = records'; seats = slice_set h.seats turn.client seat; heard = h.heard }) shelf
 turn_step h records' owed owed' turn (Err error) seat ended shelf arenas few w free is fed =
-    let c = turn.client in
-    let old : Seat = seat_at h.seats c in
-    let marked = marked_err h.records records' owed owed' old turn error w is in
-    let starved = starved_at h.records c old turn.op turn.asked turn.arena ended seat w marked fed in
-    let new : HeapFacts = record { records = records'; seats = slice_set h.seats c seat; heard = h.heard } in
-    let same : new ≡ starved_on h c w.call = (λ i. record { records = is.err i; seats = slice_set h.seats c (starved.0 i); heard = h.heard }) in
-    step_made h h.records shelf shelf c (WantTurn turn.op turn.asked) turn.arena (record { did = DidTurn; ended = ended }) new w (refl, refl, inr (inl (marked, same), starved.1))
+    let s = starving_for h.records records' owed owed' (seat_at h.seats turn.client) turn error w is in
+    subst (λ rs. IsStep h shelf turn.client (seat_at h.seats turn.client).call (record { did = DidTurn; ended = ended }) (record { records = rs; seats = slice_set h.seats turn.client seat; heard = h.heard }) shelf) (sym is.err)
+    (starve_step h turn.client seat ended shelf s fed)
 turn_step h records' owed owed' turn (Ok told) seat ended shelf arenas few w free is fed =
     step_made h h.records shelf shelf c (WantTurn turn.op turn.asked) turn.arena (record { did = DidTurn; ended = ended }) new w
     (refl, refl, by (fed_at h.records c old (WantTurn turn.op turn.asked) turn.arena (Replied told) ended seat w fed))
@@ -200,32 +210,6 @@ turn_sure h now records' seats' heard' owed owed' turn made view w is =
     by (Ok told) is sure = turned_there h.records records' owed owed' (seat_at h.seats turn.client) turn told w is
     by (Err error) is sure = absurd (cc)
 
--- ---- the want of memory
-
-pub starve_goes : (records : List Record) (c : ℕ) (seat : Seat) → IsArenas records → c < 32 → (s : Starving records c seat) →
-    IsSomeAnd seat.call (λ call. Goes (after (moment_of call seat.desk) Starved).stage.next)
-starve_goes records c seat arenas few s =
-    subst (λ k. IsSomeAnd k (λ call. Goes (after (moment_of call seat.desk) Starved).stage.next)) (sym s.wants.is) (ends_starved records c seat s.op s.asked s.arena arenas few s.wants s.marked).0
-
-pub starve_heap : (records : List Record) (seats : List Seat) (owed : List ℕ) (c : ℕ) (seat : Seat) (ended : Option Answered) → IsHeap records seats owed → IsArenas records → c < 32 → (s : Starving records c (seat_at seats c)) →
-    IfSome (seat_at seats c).call (λ call. FedTo call (seat_at seats c).desk Starved ended seat) → IsHeap records (slice_set seats c seat) owed
-starve_heap records seats owed c seat ended heap arenas few s fed =
-    let old : Seat = seat_at seats c in
-    let starved = starved_at records c old s.op s.asked s.arena ended seat s.wants s.marked fed in
-    heap_seated records seats owed owed c seat heap few (λ o differ. refl)
-    (subst (SeatSound records c) (sym starved.0) (ends_starved records c old s.op s.asked s.arena arenas few s.wants s.marked).1)
-    (subst (λ (s : Seat). owing records c s.call ≤ owed_to owed c) (sym starved.0) (none_owed records c old s.op s.asked s.arena arenas few s.wants (owed_to owed c) s.marked))
-
-pub starve_step : (h : HeapFacts) (c : ℕ) (seat : Seat) (ended : Option Answered) (shelf : Shelf) → (s : Starving h.records c (seat_at h.seats c)) →
-    IfSome (seat_at h.seats c).call (λ call. FedTo call (seat_at h.seats c).desk Starved ended seat) →
-    IsStep h shelf c (seat_at h.seats c).call (record { did = DidTurn; ended = ended }) (record { records = h.records; seats = slice_set h.seats c seat; heard = h.heard }) shelf
-starve_step h c seat ended shelf s fed =
-    let old : Seat = seat_at h.seats c in
-    let starved = starved_at h.records c old s.op s.asked s.arena ended seat s.wants s.marked fed in
-    let new : HeapFacts = record { records = h.records; seats = slice_set h.seats c seat; heard = h.heard } in
-    let same : new ≡ starved_on h c s.wants.call = (λ i. record { records = h.records; seats = slice_set h.seats c (starved.0 i); heard = h.heard }) in
-    step_made h h.records shelf shelf c (WantTurn s.op s.asked) s.arena (record { did = DidTurn; ended = ended }) new s.wants (refl, refl, inr (inl (s.marked, same), starved.1))
-
 -- ---- an ask
 
 -- a place is promised for it
@@ -251,13 +235,11 @@ module _ (records : List Record) (seats : List Seat) (owed : List ℕ) (c arena 
   -- it always leads on
   heard : (ended : Option Answered) (seat : Seat) → IfSome (seat_at seats c).call (λ call. FedTo call (seat_at seats c).desk (Told asked) ended seat) →
       (seat ≡ seat_of c (after asking (Told asked))) × (ended ≡ answer_of (after asking (Told asked)))
-  heard ended seat fed = by (fed_at records c (seat_at seats c) (WantAsk ask) arena (Told asked) ended seat w fed)
-    where
-      by : ((seat ≡ seat_of c (after asking (Told asked))) × (ended ≡ answer_of (after asking (Told asked))))
-          ⊎ ((seat ≡ seat_of c (starved_after asking (Told asked))) × (ended ≡ Some NoMemory) × (step w.point (Told asked) ≡ More)) →
-          (seat ≡ seat_of c (after asking (Told asked))) × (ended ≡ answer_of (after asking (Told asked)))
-      by (inl both) = both
-      by (inr (is, e, more)) = absurd (told_on w.point ask asked w.want_is more)
+  heard ended seat fed =
+      elim (fed_at records c (seat_at seats c) (WantAsk ask) arena (Told asked) ended seat w fed) [
+        | inl both ↦ both
+        | inr off ↦ absurd (told_on w.point ask asked w.want_is off.2)
+      ]
 
   pub ask_heap : (owed' : List ℕ) (ended : Option Answered) (seat : Seat) → asked.ask ≡ ask → AskStep shelf asked shelf' → ((o : ℕ) → o ≢ c → owed_to owed' o ≡ owed_to owed o) → owed_to owed c ≤ owed_to owed' c + 1 →
       IfSome (seat_at seats c).call (λ call. FedTo call (seat_at seats c).desk (Told asked) ended seat) → IsHeap records (slice_set seats c seat) owed'
@@ -267,24 +249,15 @@ module _ (records : List Record) (seats : List Seat) (owed : List ℕ) (c arena 
       heap_seated records seats owed owed' c seat heap few others (subst (SeatSound records c) (sym told.0) (come is step).1)
       (subst (λ (s : Seat). owing records c s.call ≤ owed_to owed' c) (sym told.0) (owed_asked records c (owed_to owed' c) (seat_at seats c) ask asked arena w (omega (arith, promised, one))))
 
--- and what the step tells is what was asked and answered
-pub ask_step : (h : HeapFacts) (c arena : ℕ) (ask : Ask) (asked : AskFacts) (seat : Seat) (ended : Option Answered) (shelf shelf' : Shelf) (owed : List ℕ) → IsHeap h.records h.seats owed → IsArenas h.records → c < 32 →
-    (w : Wanted h.records c (seat_at h.seats c) (WantAsk ask) arena) → asked.ask ≡ ask → AskStep shelf asked shelf' → asked.box_no ≡ (record_at h.records arena).space.box_no →
-    IfSome (seat_at h.seats c).call (λ call. FedTo call (seat_at h.seats c).desk (Told asked) ended seat) →
-    IsStep h shelf c (seat_at h.seats c).call (record { did = DidAsk; ended = ended }) (record { records = h.records; seats = slice_set h.seats c seat; heard = h.heard ++ asked ∷ [] }) shelf'
-ask_step h c arena ask asked seat ended shelf shelf' owed heap arenas few w is step box fed =
-    let told = heard h.records h.seats owed c arena ask shelf shelf' asked heap arenas few w ended seat fed in
-    let new : HeapFacts = record { records = h.records; seats = slice_set h.seats c seat; heard = h.heard ++ asked ∷ [] } in
-    let same : new ≡ told_to h c w.call asked = (λ i. record { records = h.records; seats = slice_set h.seats c (told.0 i); heard = h.heard ++ asked ∷ [] }) in
-    let of_box : asked.box_no ≡ (record_at h.records w.call.stage.arena).space.box_no = box ∙ ap (λ a. (record_at h.records a).space.box_no) w.arena_is in
-    step_made h h.records shelf shelf' c (WantAsk ask) arena (record { did = DidAsk; ended = ended }) new w (asked, refl, is, of_box, step, same, told.1)
-
--- the same of a heap that is seen so, and of the asks with that one behind them
+-- and what the step tells is what was asked and answered, by a heap that is seen so and the asks with that one behind them
 pub ask_step_at : (h now : HeapFacts) (heard' : List AskFacts) (c arena : ℕ) (ask : Ask) (asked : AskFacts) (seat : Seat) (ended : Option Answered) (shelf shelf' : Shelf) (owed : List ℕ) → h ≡ now → heard' ≡ h.heard ++ asked ∷ [] →
     IsHeap h.records h.seats owed → IsArenas h.records → c < 32 → (w : Wanted h.records c (seat_at h.seats c) (WantAsk ask) arena) → asked.ask ≡ ask → AskStep shelf asked shelf' →
     asked.box_no ≡ (record_at h.records arena).space.box_no → IfSome (seat_at h.seats c).call (λ call. FedTo call (seat_at h.seats c).desk (Told asked) ended seat) →
     IsStep now shelf c (seat_at now.seats c).call (record { did = DidAsk; ended = ended }) (record { records = h.records; seats = slice_set h.seats c seat; heard = heard' }) shelf'
 ask_step_at h now heard' c arena ask asked seat ended shelf shelf' owed view joins heap arenas few w is step box fed =
-    subst (λ heard. IsStep now shelf c (seat_at now.seats c).call (record { did = DidAsk; ended = ended }) (record { records = h.records; seats = slice_set h.seats c seat; heard = heard }) shelf') (sym joins)
-    (subst (λ (n : HeapFacts). IsStep n shelf c (seat_at n.seats c).call (record { did = DidAsk; ended = ended }) (record { records = h.records; seats = slice_set h.seats c seat; heard = h.heard ++ asked ∷ [] }) shelf') view
-    (ask_step h c arena ask asked seat ended shelf shelf' owed heap arenas few w is step box fed))
+    let told = heard h.records h.seats owed c arena ask shelf shelf' asked heap arenas few w ended seat fed in
+    let new : HeapFacts = record { records = h.records; seats = slice_set h.seats c seat; heard = heard' } in
+    let same : new ≡ told_to h c w.call asked = (λ i. record { records = h.records; seats = slice_set h.seats c (told.0 i); heard = joins i }) in
+    let of_box : asked.box_no ≡ (record_at h.records w.call.stage.arena).space.box_no = box ∙ ap (λ a. (record_at h.records a).space.box_no) w.arena_is in
+    subst (λ (n : HeapFacts). IsStep n shelf c (seat_at n.seats c).call (record { did = DidAsk; ended = ended }) new shelf') view
+    (step_made h h.records shelf shelf' c (WantAsk ask) arena (record { did = DidAsk; ended = ended }) new w (asked, refl, is, of_box, step, same, told.1))

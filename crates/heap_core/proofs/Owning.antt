@@ -1,6 +1,14 @@
 -- No chunk comes to have two owners.
-use Rattle.heap_core.proofs.Words.{◌≡◌, ◌≢◌, ◌⊎◌, inl, inr, ℕ, ◌+◌, ◌*◌, ◌/◌, ◌%◌, ◌<◌, ◌≤◌, ◌==◌, ◌&&◌, ◌||◌, Bool, true, false, not, cond, List, [], ◌∷◌, Option, None, Some, find, max, length, get_or, refl, sym, ◌∙◌, ap, subst, arith, All, suc, zero, ◌-◌, slice_set, option_map, All-head, All-tail, sum_by-cons, list_any, range_with_len, ltb-true, nat_tests, get_or-set_other, get_or-set_same, GrowDone, Offer, OfferDone, DestroyTake, absent_space, holders, IsPlaced, chunk_span, chunks_of, has_page, meets, OffSpace, Unaligned, Meets, after_offer, keep_offer, without_offer, after_grow, grow_unless, is_in_space, is_owned, op_stands, step_of, granted_by, is_in_dalloc, ones, both_true, op_keeps, Ask, Alloc, Dalloc, Answer, Placed, Refuses, Op, Reply, Grown, Kept, Doomed, Space, Part, Span, Sound, end_of, Apart, met_by_alloc, met_by_dalloc, met_in, others_of, owns_chunk, with_chunk_found, space_at}
+use Rattle.heap_core.proofs.Words.{◌≡◌, ◌≢◌, ◌⊎◌, inl, inr, ℕ, ◌+◌, ◌*◌, ◌/◌, ◌%◌, ◌<◌, ◌≤◌, ◌==◌, ◌&&◌, ◌||◌, Bool, true, false, not, cond, List, [], ◌∷◌, Option, None, Some, find, max, length, get_or, refl, sym, ◌∙◌, ap, subst, arith, All, suc, zero, ◌-◌, slice_set, option_map, All-head, All-tail, sum_by-cons, list_any, range_with_len, ltb-true, nat_tests, get_or-set_other, get_or-set_same, GrowDone, Offer, OfferDone, DestroyTake, absent_space, holders, IsPlaced, chunk_span, chunks_of, has_page, meets, OffSpace, Unaligned, Meets, after_offer, keep_offer, without_offer, after_grow, grow_unless, is_in_space, is_owned, op_stands, step_of, granted_by, is_in_dalloc, ones, both_true, op_keeps, Ask, Alloc, Dalloc, Answer, Placed, Refuses, Op, Reply, Grown, Kept, Doomed, Space, Part, Span, Sound, end_of, Apart, met_by_alloc, met_by_dalloc, met_in, others_of, owns_chunk, with_chunk_found, space_at, eqb-true}
 use Rattle.std.proofs.Common.{ltb as nat_lt}
+
+-- what is so at one index, and at each other one, is so at any
+pub at_or_else : (P : ℕ → Type 0) (i here : ℕ) → (i ≡ here → P here) → (i ≢ here → P i) → P i
+at_or_else P i here own other = by (i == here) refl
+  where
+    by : (v : Bool) → (i == here) ≡ v → P i
+    by true e = let same = eqb-true i here e in subst P (sym same) (own same)
+    by false e = other (λ same. grind (arith, nat_tests))
 
 -- ---- tests over lists
 
@@ -39,15 +47,10 @@ owned_page chunk (p ∷ ps) placed h =
     (page : ℕ) × (has_page page (chunk_span chunk) ≡ true) × (0 < holders page (p ∷ ps))) [
       | true ↦ λ here any.
           let page = shared_page p.span (chunk_span chunk) (All-head (λ q. IsPlaced q.span) p ps placed).0 (omega arith) here in
-          (max p.span.first (512 * chunk), page.1, some_first (max p.span.first (512 * chunk)) page.0)
-      | false ↦ λ away any. let rest = owned_page chunk ps (All-tail (λ q. IsPlaced q.span) p ps placed) any in (rest.0, rest.1, some_later rest.0 rest.2)
+          let has : has_page (max p.span.first (512 * chunk)) p.span ≡ true = page.0 in
+          (max p.span.first (512 * chunk), page.1, omega (arith, sum_by-cons (λ q. ones (has_page (max p.span.first (512 * chunk)) q.span)) p ps, ap ones has))
+      | false ↦ λ away any. let rest = owned_page chunk ps (All-tail (λ q. IsPlaced q.span) p ps placed) any in (rest.0, rest.1, omega (arith, sum_by-cons (λ q. ones (has_page rest.0 q.span)) p ps, rest.2))
     ] refl h
-  where
-    some_first : (page : ℕ) → has_page page p.span ≡ true → 0 < holders page (p ∷ ps)
-    some_first page has = omega (arith, sum_by-cons (λ q. ones (has_page page q.span)) p ps, ap ones has)
-
-    some_later : (page : ℕ) → 0 < holders page ps → 0 < holders page (p ∷ ps)
-    some_later page some = omega (arith, sum_by-cons (λ q. ones (has_page page q.span)) p ps, some)
 
 -- an arena with a page of a chunk owns it
 pub page_owned : (chunk page : ℕ) (parts : List Part) → has_page page (chunk_span chunk) ≡ true → 0 < holders page parts → list_any (λ p. meets p.span (chunk_span chunk)) parts ≡ true
@@ -91,11 +94,7 @@ pub page_comes : (c : ℕ) (s : Space) (op : Op) (page : ℕ) → Sound s → op
 page_comes c s op page sound stands some =
     let before : Bool = nat_lt 0 (holders page s.parts) in
     let after = (op_keeps c s op sound stands).pages page before (one_or_none (holders page s.parts) (sound.owners page)) in
-    told (granted_or page before op (step_of s c op).reply (some_then _ (omega (arith, after, some))))
-  where
-    told : (nat_lt 0 (holders page s.parts) ≡ true) ⊎ Comes page op (step_of s c op).reply → (0 < holders page s.parts) ⊎ Comes page op (step_of s c op).reply
-    told (inl was) = inl (ltb-true _ _ was)
-    told (inr comes) = inr comes
+    elim (granted_or page before op (step_of s c op).reply (some_then _ (omega (arith, after, some)))) [ inl was ↦ inl (ltb-true _ _ was) | inr comes ↦ inr comes ]
 
 -- ---- what speaks against it
 
@@ -165,38 +164,26 @@ comes_alone spaces arena c op reply page chunk j told comes in_chunk other = abs
 -- after a turn of an arena still no chunk has two owners
 pub apart_turn : (spaces : List Space) (arena c : ℕ) (op : Op) → arena < length spaces → Apart spaces → Sound (space_at spaces arena) →
     op_stands (space_at spaces arena) c (with_chunk_found spaces arena op) ≡ true → Apart (slice_set spaces arena (step_of (space_at spaces arena) c (with_chunk_found spaces arena op)).after)
-apart_turn spaces arena c op within apart sound stands chunk i j first second = by (arena == i) (arena == j) refl refl
+apart_turn spaces arena c op within apart sound stands chunk i j first second =
+    at_or_else (λ k. owns_chunk chunk (at k) ≡ true → k ≡ j) i arena (λ _ mine. at_or_else (λ k. owns_chunk chunk (at k) ≡ true → arena ≡ k) j arena (λ _ _. refl) (λ far theirs. alone j far mine theirs) second)
+    (λ far theirs. at_or_else (λ k. owns_chunk chunk (at k) ≡ true → i ≡ k) j arena (λ _ mine. sym (alone i far mine theirs)) (λ off others. apart chunk i j (was i far theirs) (was j off others)) second) first
   where
     t : Space
     t = (step_of (space_at spaces arena) c (with_chunk_found spaces arena op)).after
 
-    here : (k : ℕ) → (arena == k) ≡ true → space_at (slice_set spaces arena t) k ≡ t
-    here k e = let same : arena ≡ k = grind (arith, nat_tests) in subst (λ x. space_at (slice_set spaces arena t) x ≡ t) same (get_or-set_same spaces arena t absent_space within)
+    at : ℕ → Space
+    at k = space_at (slice_set spaces arena t) k
 
-    differ : (k : ℕ) → (arena == k) ≡ false → k ≢ arena
-    differ k e = λ same. grind (arith, nat_tests)
-
-    there : (k : ℕ) → (arena == k) ≡ false → space_at (slice_set spaces arena t) k ≡ space_at spaces k
-    there k e = get_or-set_other spaces arena k t absent_space (differ k e)
+    was : (k : ℕ) → k ≢ arena → owns_chunk chunk (at k) ≡ true → owns_chunk chunk (space_at spaces k) ≡ true
+    was k far owns = ap (owns_chunk chunk) (sym (get_or-set_other spaces arena k t absent_space far)) ∙ owns
 
     keeps : Sound t
     keeps = (op_keeps c (space_at spaces arena) (with_chunk_found spaces arena op) sound stands).sound
 
-    alone : (k : ℕ) → (arena == k) ≡ false → owns_chunk chunk t ≡ true → owns_chunk chunk (space_at spaces k) ≡ true → arena ≡ k
-    alone k e mine theirs =
-        let page = owned_page chunk t.parts keeps.placed mine in
-        was page.0 (page_comes c (space_at spaces arena) (with_chunk_found spaces arena op) page.0 sound stands page.2) page.1
-      where
-        was : (page : ℕ) → (0 < holders page (space_at spaces arena).parts) ⊎ Comes page (with_chunk_found spaces arena op) (step_of (space_at spaces arena) c (with_chunk_found spaces arena op)).reply → has_page page (chunk_span chunk) ≡ true → arena ≡ k
-        was page (inl before) in_chunk = apart chunk arena k (page_owned chunk page (space_at spaces arena).parts in_chunk before) theirs
-        was page (inr comes) in_chunk = absurd (let not_theirs = comes_alone spaces arena c op _ page chunk k refl comes in_chunk (differ k e) in cc)
-
-    by : (v w : Bool) → (arena == i) ≡ v → (arena == j) ≡ w → i ≡ j
-    by true true e f = grind (arith, nat_tests)
-    by true false e f =
-        let same : arena ≡ i = grind (arith, nat_tests) in
-        sym same ∙ alone j f (ap (owns_chunk chunk) (sym (here i e)) ∙ first) (ap (owns_chunk chunk) (sym (there j f)) ∙ second)
-    by false true e f =
-        let same : arena ≡ j = grind (arith, nat_tests) in
-        sym (sym same ∙ alone i e (ap (owns_chunk chunk) (sym (here j f)) ∙ second) (ap (owns_chunk chunk) (sym (there i e)) ∙ first))
-    by false false e f = apart chunk i j (ap (owns_chunk chunk) (sym (there i e)) ∙ first) (ap (owns_chunk chunk) (sym (there j f)) ∙ second)
+    alone : (k : ℕ) → k ≢ arena → owns_chunk chunk (at arena) ≡ true → owns_chunk chunk (at k) ≡ true → arena ≡ k
+    alone k far mine theirs =
+        let page = owned_page chunk t.parts keeps.placed (ap (owns_chunk chunk) (sym (get_or-set_same spaces arena t absent_space within)) ∙ mine) in
+        elim (page_comes c (space_at spaces arena) (with_chunk_found spaces arena op) page.0 sound stands page.2) [
+          | inl before ↦ apart chunk arena k (page_owned chunk page.0 (space_at spaces arena).parts page.1 before) (was k far theirs)
+          | inr comes ↦ absurd (let mine_only = comes_alone spaces arena c op _ page.0 chunk k refl comes page.1 far in let owned = was k far theirs in cc)
+        ]

@@ -1,5 +1,5 @@
 -- The regions that go back of those that a client has.
-use Rattle.heap_core.proofs.Words.{◌≡◌, ℕ, ◌+◌, ◌<◌, ◌==◌, ◌&&◌, ◌||◌, Bool, true, false, cond, List, [], ◌∷◌, ◌++◌, All, Option, None, Some, map, take, drop, slice_set, refl, sym, ◌∙◌, ap, subst, arith, nat_lt, filter, fold, insert_key, flat_map, list_any, sum_by, option_map, nat_cmp, ltb-true, nat_tests, length-map, get_or-map, flat_map-cons, All-append, All-drop, All-filter, All-take, filter-append, sum_by-filter_both, sum_by-append, sum_by-cons, sum_by-take-drop, gone_from, is_elsewhere, added, addrs_in, gave, gave_with, is_in_arena, least_arena, lesser, older_count, Held, DeskFacts, BatchFacts, batch_of, going, going_with, is_cacheable, cached_in}
+use Rattle.heap_core.proofs.Words.{◌≡◌, ℕ, ◌+◌, ◌<◌, ◌==◌, ◌&&◌, ◌||◌, Bool, true, false, cond, List, [], ◌∷◌, ◌++◌, All, Option, None, Some, map, take, drop, slice_set, refl, sym, ◌∙◌, ap, subst, arith, nat_lt, filter, fold, insert_key, flat_map, list_any, sum_by, nat_cmp, ltb-true, nat_tests, length-map, get_or-map, flat_map-cons, All-append, All-drop, All-filter, All-take, filter-append, sum_by-filter_both, sum_by-append, sum_by-cons, sum_by-take-drop, gone_from, is_elsewhere, added, addrs_in, gave, gave_with, is_in_arena, lesser, older_count, Held, DeskFacts, BatchFacts, batch_of, going, going_with, is_cacheable, cached_in, both_true, eq-eqb}
 use Rattle.heap_core.proofs.Entries.{sum_set}
 use Rattle.heap_core.proofs.Having.{Shaped, of_hand, over, set_classed}
 
@@ -25,14 +25,7 @@ addrs_any arena a regions = added_any arena a [] regions ∙ kept_any regions
 
 -- what a batch is of
 pub batch_addrs : (regions : List Held) (arena : ℕ) (addrs : List ℕ) → batch_of regions ≡ Some (record { arena = arena; addrs = addrs }) → addrs ≡ addrs_in arena regions
-batch_addrs regions arena addrs e = by (least_arena regions) e
-  where
-    by : (least : Option ℕ) → option_map {U = BatchFacts} (λ a. record { arena = a; addrs = addrs_in a regions }) least ≡ Some (record { arena = arena; addrs = addrs }) → addrs ≡ addrs_in arena regions
-    by None h = absurd (cc)
-    by (Some a) h =
-        let same : record { arena = a; addrs = addrs_in a regions } ≡ (let b : BatchFacts = record { arena = arena; addrs = addrs } in b) = cc in
-        let home : a ≡ arena = ap (λ (b : BatchFacts). b.arena) same in
-        sym (ap (λ (b : BatchFacts). b.addrs) same) ∙ ap (λ n. addrs_in n regions) home
+batch_addrs regions arena addrs e = grind arith
 
 -- ---- what is left
 
@@ -98,10 +91,10 @@ gave_parts desk all arena addrs is e = by desk.hand refl e
         elim (is_cacheable r.class desk) as (λ v. is_cacheable r.class desk ≡ v → batch_of (cond v (take (older_count r.class desk) (cached_in desk.cached r.class)) (r ∷ [])) ≡ Some (record { arena = arena; addrs = addrs }) →
         Parts desk (cond v (record desk { cached = slice_set desk.cached r.class (gone_from arena (older_count r.class desk) (cached_in desk.cached r.class)) }) (record desk { hand = None }))
         (filter (is_in_arena arena) (cond v (take (older_count r.class desk) (cached_in desk.cached r.class)) (r ∷ [])))) [
-          | true ↦ λ k b. older_part desk r.class (older_count r.class desk) arena is (small desk.caches (nat_lt r.class 41) k (λ h. ltb-true r.class 41 h))
+          | true ↦ λ k b. older_part desk r.class (older_count r.class desk) arena is (ltb-true r.class 41 (both_true desk.caches (nat_lt r.class 41) k).1)
           | false ↦ λ k b.
               let home : r.arena ≡ arena = ap (λ (o : Option BatchFacts). arena_of o) b in
-              let here : is_in_arena arena r ≡ true = at_home r.arena arena home in
+              let here : is_in_arena arena r ≡ true = eq-eqb r.arena arena home in
               subst (Parts desk (record desk { hand = None })) (ap (λ v. cond v (r ∷ []) []) (sym here)) (record {
                 less = λ f. let had : of_hand f desk.hand ≡ f r = ap (of_hand f) h in omega (arith, had, sum_by-cons f r []);
                 shaped = record { keyed = is.keyed; lists = is.lists; classed = is.classed };
@@ -109,16 +102,9 @@ gave_parts desk all arena addrs is e = by desk.hand refl e
               })
         ] refl e
       where
-        small : (a b : Bool) → (a && b) ≡ true → (b ≡ true → r.class < 41) → r.class < 41
-        small true b k then = then k
-        small false b k then = absurd (cc)
-
         arena_of : Option BatchFacts → ℕ
         arena_of None = r.arena
         arena_of (Some b) = b.arena
-
-        at_home : (a b : ℕ) → a ≡ b → (a == b) ≡ true
-        at_home a b e = grind (arith, nat_tests)
 
 -- ---- once nothing more goes back
 
@@ -127,8 +113,4 @@ some_arena least [] e = (e, refl)
 some_arena least (r ∷ rs) e = let rest = some_arena (lesser least r) rs e in absurd (cc)
 
 pub no_batch : (regions : List Held) → batch_of regions ≡ None → regions ≡ []
-no_batch regions e = (some_arena None regions (by (least_arena regions) e)).1
-  where
-    by : (least : Option ℕ) → option_map {U = BatchFacts} (λ a. record { arena = a; addrs = addrs_in a regions }) least ≡ None → least ≡ None
-    by None h = refl
-    by (Some a) h = absurd (cc)
+no_batch regions e = (some_arena None regions (grind arith)).1

@@ -1,6 +1,6 @@
 -- A client may publish a region that it holds at any moment.
-use Rattle.heap_core.proofs.Words.{rules, ◌≡◌, ◌≢◌, inl, inr, ℕ, ◌*◌, ◌<◌, ◌≤◌, ◌==◌, ◌&&◌, ◌||◌, Bool, true, false, cond, IsTrue, List, [], ◌∷◌, Option, None, Some, length, max, refl, sym, ◌∙◌, ap, subst, arith, lt-ltb, count_by, list_any, get_or-set_same, All-cons, All-nil, sum_by-cons, Publish, holds_at, is_live, emptied_by_op, room_after, room_of, not_holding, Request, Flush, Wish, Then, Batches, Visiting, Change, Stops, Leaves, TurnPoint, Filling, Looking, Landing, Giving, Finding, Changing, Resetting, Destroying, Dooming, Publishing, AskPoint, Skipping, Merging, Point, Turns, Asks, Tells, Next, Go, Op, Setting, Unbind, Bind, Space, Part, Span, Mine, mine, Held, DeskFacts, BatchFacts, batch_of, going_with, held_at, CallFacts, flushes, Alone, Flies, Settled, in_flight, Gets, GivesBack, HasOffered, Idle, Knows, KnowsAsk, KnowsTurn, HasPair, is_held, KnowsNext, Ready, flying, needed_at, batch_goes, stage, batches-know, live_where, region_found, IsArenas, record_after, record_at, room_in, CanTurn, IsIdle, after_turn, mine_in, Record, AimsSit, HasRegions, HoldersPublish, IsSeated, IsTheHand, Sits, SitsAt, Suits, SuitsAsk, SuitsChange, SuitsGet, SuitsThen, SuitsTurn, is_region}
-use Rattle.call_table.proofs.Own.{Nothing}
+use Rattle.heap_core.proofs.Words.{rules, ◌≡◌, ◌≢◌, inl, inr, ℕ, ◌*◌, ◌<◌, ◌≤◌, ◌==◌, ◌&&◌, ◌||◌, Bool, true, cond, IsTrue, List, [], ◌∷◌, Option, None, Some, length, max, refl, sym, ◌∙◌, ap, subst, arith, lt-ltb, count_by, list_any, get_or-set_same, All-cons, All-nil, sum_by-cons, Publish, holds_at, is_live, emptied_by_op, room_after, room_of, not_holding, Request, Flush, Wish, Then, Change, TurnPoint, Filling, Looking, Landing, Giving, Finding, Resetting, Destroying, Dooming, Publishing, AskPoint, Skipping, Point, Turns, Asks, Tells, Next, Go, Op, Setting, Space, Part, Span, Mine, mine, Held, DeskFacts, BatchFacts, held_at, CallFacts, Alone, Flies, Settled, in_flight, Gets, GivesBack, HasOffered, Idle, Knows, KnowsAsk, KnowsTurn, HasPair, is_held, KnowsNext, Ready, flying, needed_at, batch_goes, stage, batches-know, live_where, region_found, IsArenas, record_after, record_at, room_in, CanTurn, IsIdle, after_turn, mine_in, Record, AimsSit, HasRegions, HoldersPublish, IsSeated, IsTheHand, Sits, SitsAt, Suits, SuitsAsk, SuitsChange, SuitsGet, SuitsThen, SuitsTurn, is_region, or-false}
+use Rattle.call_plan.proofs.Own.{Nothing}
 use Rattle.heap_core.proofs.Clients.{at_or_else, by_arena, sound_at}
 use Rattle.heap_core.proofs.Hands.{had_counts, hands_part, held_is}
 use Rattle.heap_core.proofs.Having.{drop_over, drop_shaped}
@@ -18,36 +18,19 @@ get_held : (held : List (ℕ × Held)) (desk : DeskFacts) (arena class count : �
 get_held held desk arena class count suits = record { empty = suits.empty; own = suits.own; slots = suits.slots }
 
 later_held : (held : List (ℕ × Held)) (desk : DeskFacts) (later : Then) → SuitsThen desk later → SuitsThen (held_as held desk) later
-later_held held desk Batches suits = suits
-later_held held desk (Visiting visit left) suits = suits
+later_held held desk later suits = grind arith
 
 change_held : (held : List (ℕ × Held)) (desk : DeskFacts) (arena : ℕ) (setting : Setting) (change : Change) → SuitsChange desk arena setting change → SuitsChange (held_as held desk) arena setting change
-change_held held desk arena Bind (Leaves old) suits = suits
-change_held held desk arena Unbind Stops suits = suits
-change_held held desk arena setting change suits = first_of (search rules, cc)
+change_held held desk arena setting change suits = grind arith
 
 ask_held : (held : List (ℕ × Held)) (desk : DeskFacts) (arena : ℕ) (point : AskPoint) → SuitsAsk desk arena point → SuitsAsk (held_as held desk) arena point
-ask_held held desk arena (Merging low high own_low fresh later) suits = later_held held desk later suits
-ask_held held desk arena point suits = search (rules, get_held, later_held)
+ask_held held desk arena point suits = grind (arith, get_held, later_held)
 
 turn_held : (held : List (ℕ × Held)) (desk : DeskFacts) (request : Request) (arena : ℕ) (point : TurnPoint) → SuitsTurn desk request arena point → SuitsTurn (held_as held desk) request arena point
-turn_held held desk request arena (Filling wish count) suits = (get_held held desk arena wish.class count suits.0, suits.1)
-turn_held held desk request arena (Giving addrs) suits = by desk.hand suits
-  where
-    by : (hand : Option Held) → batch_of (going_with hand (flushes request) desk) ≡ Some (record { arena = arena; addrs = addrs }) → batch_of (going_with hand (flushes request) (held_as held desk)) ≡ Some (record { arena = arena; addrs = addrs })
-    by None e = all (flushes request) e
-      where
-        all : (v : Bool) → batch_of (going_with None v desk) ≡ Some (record { arena = arena; addrs = addrs }) → batch_of (going_with None v (held_as held desk)) ≡ Some (record { arena = arena; addrs = addrs })
-        all true e = e
-        all false e = e
-    by (Some r) e = e
-turn_held held desk request arena (Changing setting change) suits = (suits.0, change_held held desk arena setting change suits.1)
-turn_held held desk request arena point suits = search (rules, get_held, later_held)
+turn_held held desk request arena point suits = grind (arith, get_held, later_held, change_held)
 
 suits_held : (held : List (ℕ × Held)) (desk : DeskFacts) (request : Request) (arena : ℕ) (point : Point) → Suits desk request arena point → Suits (held_as held desk) request arena point
-suits_held held desk request arena (Turns point) suits = turn_held held desk request arena point suits
-suits_held held desk request arena (Asks point heard) suits = ask_held held desk arena point suits
-suits_held held desk request arena (Tells span b) suits = suits
+suits_held held desk request arena point suits = grind (arith, turn_held, ask_held)
 
 -- ---- what is known again
 
@@ -177,7 +160,7 @@ module _ (records : List Record) (c : ℕ) (region : Held) (desk : DeskFacts) (i
       } in
       let bound = still_bound records c region.arena desk empty_request None is low owns op less (inl (refl, λ home. was_bound records c region.arena desk empty_request None is low owns home)) in record {
         hands = hands_part (count_in records c) (count_in rest c) region.arena (region ∷ []) desk less (single_in records c is) owns.hands parts (All-cons (λ (q : Held). q.arena ≡ region.arena) region [] refl (All-nil (λ (q : Held). q.arena ≡ region.arena)))
-            (λ a k. count_here records c region.arena desk empty_request None is low owns op a k ∙ published_counts c region.addr a k s.regions ∙ ap (λ v. cond v 0 (count_at c a k s.regions)) (or_none (region.addr == a)))
+            (λ a k. count_here records c region.arena desk empty_request None is low owns op a k ∙ published_counts c region.addr a k s.regions ∙ ap (λ v. cond v 0 (count_at c a k s.regions)) (sym (or-false (region.addr == a))))
             (λ i a k differ. count_else records c region.arena desk empty_request None is low owns op i a k differ);
         shaped = parts.shaped;
         low = bound.0;
@@ -186,10 +169,6 @@ module _ (records : List Record) (c : ℕ) (region : Held) (desk : DeskFacts) (i
     where
       empty_request : Request
       empty_request = Flush
-
-      or_none : (v : Bool) → v ≡ (v || false)
-      or_none true = refl
-      or_none false = refl
 
   -- what the client owns in any arena but for its regions
   alike : (i : ℕ) → Alike (mine_in records c i) (mine_in rest c i)
@@ -202,14 +181,11 @@ module _ (records : List Record) (c : ℕ) (region : Held) (desk : DeskFacts) (i
       new : Record
       new = record_after (record_at records region.arena) c op None
 
-      grows : (room emptied : ℕ) → room ≤ max (max room 16) (16 * emptied)
-      grows room emptied = grind arith
-
       here : room_in records region.arena c ≤ room_of c new.rooms
       here =
           let set : room_of c new.rooms ≡ max (max (room_in records region.arena c) 16) (16 * emptied_by_op c op s) =
           get_or-set_same (record_at records region.arena).rooms c (room_after s (room_in records region.arena c) c op) 0 (omega (arith, few, is.clients region.arena low)) in
-          omega (arith, set, grows (room_in records region.arena c) (emptied_by_op c op s))
+          omega (arith, set)
 
   sits_less : (request : Request) (arena : ℕ) (point : Point) → Sits records c desk request arena point → Sits rest c less request arena point
   sits_less request arena point sits =

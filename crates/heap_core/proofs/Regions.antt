@@ -84,9 +84,6 @@ left_counts c a k keep rs gone is = count_sum c a k (filter keep rs) ∙ sums rs
         let kept = sum_by-cons (one_at c a k) x (filter keep xs) in
         let all = sum_by-cons (one_at c a k) x xs in grind (arith, sums xs)
 
-same_test : (x y : ℕ) → (x == y) ≡ (y == x)
-same_test x y = grind (arith, nat_tests)
-
 -- regions that went back
 pub back_counts : (c a k : ℕ) (addrs : List ℕ) (rs : List Region) → count_at c a k (staying c addrs rs) ≡ cond (list_any (λ x. x == a) addrs) 0 (count_at c a k rs)
 back_counts c a k addrs rs =
@@ -96,8 +93,11 @@ back_counts c a k addrs rs =
 -- a region that was published
 pub published_counts : (c addr a k : ℕ) (rs : List Region) → count_at c a k (held_anew (is_held_at c addr) None rs) ≡ cond (addr == a) 0 (count_at c a k rs)
 published_counts c addr a k rs = ap (count_by (is_region a k)) (as_filter rs) ∙ left_counts c a k (λ r. not (is_held_at c addr r)) rs (addr == a)
-    (λ r held at. ap (λ v. not (v && r.addr == addr)) held ∙ ap (λ n. not (n == addr)) at ∙ ap not (same_test a addr))
+    (λ r held at. ap (λ v. not (v && r.addr == addr)) held ∙ ap (λ n. not (n == addr)) at ∙ ap not same_test)
   where
+    same_test : (a == addr) ≡ (addr == a)
+    same_test = grind (arith, nat_tests)
+
     as_filter : (xs : List Region) → filter (is_held_by c) (held_anew (is_held_at c addr) None xs) ≡ filter (is_held_by c) (filter (λ r. not (is_held_at c addr r)) xs)
     as_filter [] = refl
     as_filter (x ∷ xs) = grind (arith, as_filter xs)

@@ -1,7 +1,7 @@
 -- Where a call came, its client is as it has to be.
-use Rattle.heap_core.proofs.Words.{◌≡◌, ℕ, ◌+◌, ◌-◌, ◌/◌, ◌<◌, ◌≤◌, ◌==◌, ◌&&◌, ◌||◌, ◌++◌, Bool, true, false, cond, List, [], ◌∷◌, Option, None, Some, length, map, take, refl, sym, ◌∙◌, ap, subst, arith, min, nat_lt, count_by, flat_map, list_all, list_any, sum_by, eqb-true, ltb-true, nat_tests, length-take, sum_by-append, sum_by-cons, SpaceRegion, has_page, counted_any, map_terms, ones, held_again, holding, kept, older_count, Request, Cache, Finished, Arena, Limits, Answered, NoArena, Giving, Point, Turns, Next, Go, Over, More, Gone, Ends, Nowhere, Stage, Mine, mine, Held, DeskFacts, BatchFacts, batch_of, going, going_with, is_cacheable, slots_at, cached_in, desk_ended, flushes, held_region, switched, GivesBack, Idle, Knows, is_held, is_served, KnowsNext, Ready, flying, needed_at, batch_goes, closed, moved, settle, batches-know, both_true, IsArenas, no_record, record_at, room_in, IsIdle, Waits, WaitsNext, mine_in, Record, Comes, HasRegions, IsAtRest, in_hand, is_region, is_region_in, regions_of_desk}
+use Rattle.heap_core.proofs.Words.{◌≡◌, ℕ, ◌+◌, ◌-◌, ◌/◌, ◌<◌, ◌≤◌, ◌==◌, ◌||◌, ◌++◌, Bool, true, false, cond, List, [], ◌∷◌, Option, None, Some, length, map, take, refl, sym, ◌∙◌, ap, subst, arith, min, nat_lt, count_by, flat_map, list_all, list_any, sum_by, ltb-true, nat_tests, length-take, sum_by-append, sum_by-cons, SpaceRegion, has_page, counted_any, map_terms, ones, held_again, holding, kept, older_count, Request, Cache, Finished, Answered, NoArena, Giving, Point, Turns, Next, Go, Over, More, Gone, Ends, Nowhere, Stage, Mine, mine, Held, DeskFacts, BatchFacts, batch_of, going, going_with, is_cacheable, slots_at, cached_in, desk_ended, flushes, held_region, switched, GivesBack, Knows, is_held, is_served, KnowsNext, Ready, flying, needed_at, batch_goes, closed, moved, settle, batches-know, both_true, IsArenas, no_record, record_at, room_in, IsIdle, WaitsNext, mine_in, Record, Comes, HasRegions, IsAtRest, in_hand, is_region, is_region_in, regions_of_desk, cases_lt, inl, inr, Sound, Sits, Suits}
 use Rattle.heap_core.specs.Words.{Region, Ok}
-use Rattle.heap_core.proofs.Clients.{sound_at}
+use Rattle.heap_core.proofs.Clients.{sound_at, at_or_else}
 use Rattle.heap_core.proofs.Hands.{Count, Hands, Single, had_counts, hand_alone, hands_held, no_more}
 use Rattle.heap_core.proofs.Having.{CanKeep, Settles, Shaped, hold_settles, hold_shaped, keep_settles, of_hand, over}
 use Rattle.heap_core.proofs.Parting.{no_batch}
@@ -21,28 +21,25 @@ none_past : (records : List Record) (c i : ℕ) → IsArenas records → 32 ≤ 
 none_past records c i is far = ap (λ (r : Record). (mine c r.space).regions) (past records i no_record (omega (arith, far, is.number)))
 
 pub counts_low : (records : List Record) (c i a k : ℕ) → IsArenas records → 0 < count_in records c i a k → i < 32
-counts_low records c i a k is some = by (nat_lt i 32) refl
-  where
-    by : (v : Bool) → nat_lt i 32 ≡ v → i < 32
-    by true e = ltb-true i 32 e
-    by false e =
-        let far : 32 ≤ i = grind (arith, nat_tests) in
-        let none : count_in records c i a k ≡ 0 = ap (count_by (is_region a k)) (none_past records c i is far) in
-        absurd (omega (arith, some, none))
+counts_low records c i a k is some =
+    elim (cases_lt i 32) [
+      | inl low ↦ low
+      | inr far ↦ let none : count_in records c i a k ≡ 0 = ap (count_by (is_region a k)) (none_past records c i is far) in absurd (omega (arith, some, none))
+    ]
 
 -- each region is held once, and no two at one address
 pub single_in : (records : List Record) (c : ℕ) → IsArenas records → Single (count_in records c)
 single_in records c is = record {
-  once = λ i a k. once i a k (nat_lt i 32) refl;
+  once = λ i a k. once i a k;
   alone = λ i j a k l first second. alone i j a k l first second;
 }
   where
-    once : (i a k : ℕ) (v : Bool) → nat_lt i 32 ≡ v → count_in records c i a k ≤ 1
-    once i a k true e = most_one c a k (record_at records i).space (sound_at records i is (ltb-true i 32 e))
-    once i a k false e =
-        let far : 32 ≤ i = grind (arith, nat_tests) in
-        let none : count_in records c i a k ≡ 0 = ap (count_by (is_region a k)) (none_past records c i is far) in
-        omega (arith, none)
+    once : (i a k : ℕ) → count_in records c i a k ≤ 1
+    once i a k =
+        elim (cases_lt i 32) [
+          | inl low ↦ most_one c a k (record_at records i).space (sound_at records i is low)
+          | inr far ↦ let none : count_in records c i a k ≡ 0 = ap (count_by (is_region a k)) (none_past records c i is far) in omega (arith, none)
+        ]
 
     page_at : (i a k : ℕ) → 0 < count_in records c i a k → list_any (λ p. has_page (a / 4096) p.span) (record_at records i).space.parts ≡ true
     page_at i a k some = counted_any (λ p. has_page (a / 4096) p.span) (record_at records i).space.parts (held_page c a k (record_at records i).space (sound_at records i is (counts_low records c i a k is some)) some)
@@ -51,13 +48,8 @@ single_in records c is = record {
     alone i j a k l first second =
         let same : i ≡ j = one_owner records is (a / 4096) i j (page_at i a k first) (page_at j a l second) in
         let here : 0 < count_in records c i a l = subst (λ n. 0 < count_in records c n a l) (sym same) second in
-        (same, class_of (k == l) refl here)
-      where
-        class_of : (v : Bool) → (k == l) ≡ v → 0 < count_in records c i a l → k ≡ l
-        class_of true e here = eqb-true k l e
-        class_of false e here =
-            let two = two_classes c a k l (record_at records i).space (sound_at records i is (counts_low records c i a k is first)) (λ same. grind (arith, nat_tests)) in
-            absurd (omega (arith, two, first, here))
+        let sound : Sound (record_at records i).space = sound_at records i is (counts_low records c i a k is first) in
+        (same, at_or_else (λ _. k ≡ l) k l (λ is_l. is_l) (λ differ. absurd (let two = two_classes c a k l (record_at records i).space sound differ in omega (arith, two, first, here))))
 
 -- ---- what a client has
 
@@ -119,20 +111,9 @@ pub at_rest : (records : List Record) (c : ℕ) (desk after : DeskFacts) → Own
 at_rest records c desk after owns idle same = record { has = owns_has records c after (settles_owns records c desk after owns same); idle = idle; empty = same.hand }
 
 -- a cache that was to be on or off is so
-switch_rests : (records : List Record) (c : ℕ) (request : Request) (desk : DeskFacts) → IsAtRest records c desk → IsAtRest records c (switched request desk)
-switch_rests records c (Cache on) desk rests = record {
-  has = record {
-    hands = rests.has.hands;
-    keyed = rests.has.keyed;
-    lists = rests.has.lists;
-    classed = rests.has.classed;
-    arena = rests.has.arena;
-    bound = rests.has.bound;
-  };
-  idle = rests.idle;
-  empty = rests.empty;
-}
-switch_rests records c request desk rests = rests
+switch_settles : (request : Request) (desk after : DeskFacts) → Settles desk after → Settles desk (switched request after)
+switch_settles (Cache on) desk after is = record { same = is.same; shaped = record { keyed = is.shaped.keyed; lists = is.shaped.lists; classed = is.shaped.classed }; arena = is.arena; hand = is.hand }
+switch_settles request desk after is = is
 
 pub ends_rest : (records : List Record) (c arena : ℕ) (request : Request) (desk : DeskFacts) (extra : List Held) (answer : Answered) → IsArenas records → Owns records c extra desk → IsIdle records c →
     SuitsAnswer extra desk arena answer → IsAtRest records c (desk_ended request arena answer desk)
@@ -145,11 +126,8 @@ ends_rest records c arena request desk extra (Ok (Region addr class)) is owns id
     }
 ends_rest records c arena request desk extra (Ok Finished) is owns idle suits =
     let mine : Owns records c [] desk = subst (λ extra. Owns records c extra desk) suits.0 owns in
-    switch_rests records c request (kept desk) (at_rest records c desk (kept desk) mine idle (keep_settles desk mine.shaped suits.1))
-ends_rest records c arena request desk extra (Ok (Arena index)) is owns idle suits =
-    let mine : Owns records c [] desk = subst (λ extra. Owns records c extra desk) suits.0 owns in
-    at_rest records c desk (held_again desk) mine idle (again_settles records c desk is mine)
-ends_rest records c arena request desk extra (Ok (Limits dirty muzzy)) is owns idle suits =
+    at_rest records c desk (switched request (kept desk)) mine idle (switch_settles request desk (kept desk) (keep_settles desk mine.shaped suits.1))
+ends_rest records c arena request desk extra (Ok given) is owns idle suits =
     let mine : Owns records c [] desk = subst (λ extra. Owns records c extra desk) suits.0 owns in
     at_rest records c desk (held_again desk) mine idle (again_settles records c desk is mine)
 ends_rest records c arena request desk extra answer is owns idle suits =
@@ -161,10 +139,7 @@ ends_rest records c arena request desk extra answer is owns idle suits =
 pub any_region : (a k : ℕ) (rs : List SpaceRegion) → 0 < count_by (is_region a k) rs → list_any (λ (r : SpaceRegion). r.addr == a) rs ≡ true
 any_region a k [] some = absurd (omega (arith, some))
 any_region a k (r ∷ rs) some =
-    elim (r.addr == a) as (λ v. ones (is_region a k r) ≡ ones (v && r.class == k) → (v || list_any (λ (q : SpaceRegion). q.addr == a) rs) ≡ true) [
-      | true ↦ λ e. refl
-      | false ↦ λ e. any_region a k rs (omega (arith, e, some, sum_by-cons (λ (q : SpaceRegion). ones (is_region a k q)) r rs))
-    ] refl
+    let sum = sum_by-cons (λ (q : SpaceRegion). ones (is_region a k q)) r rs in grind (arith, any_region a k rs)
 
 pub is_ready : (records : List Record) (c : ℕ) (desk : DeskFacts) (at : Stage) → Owns records c [] desk → IsIdle records c → Ready (mine_in records c at.arena) desk at
 is_ready records c desk at owns idle = record {
@@ -181,17 +156,15 @@ is_ready records c desk at owns idle = record {
 
 -- regions that go back are those of an arena that there is
 gives_low : (records : List Record) (c i : ℕ) (addrs : List ℕ) → IsArenas records → GivesBack (mine_in records c i) addrs → i < 32
-gives_low records c i addrs is gives = by (nat_lt i 32) refl
+gives_low records c i addrs is gives =
+    elim (cases_lt i 32) [
+      | inl low ↦ low
+      | inr far ↦ absurd (none_held addrs gives.some (subst (λ (rs : List SpaceRegion). list_all (λ a. list_any (λ (r : SpaceRegion). r.addr == a) rs) addrs ≡ true) (none_past records c i is far) gives.held))
+    ]
   where
     none_held : (addrs : List ℕ) → 0 < length addrs → list_all (λ (a : ℕ). false) addrs ≡ true → ⊥
     none_held [] some all = absurd (omega (arith, some))
     none_held (a ∷ addrs) some all = absurd (cc)
-
-    by : (v : Bool) → nat_lt i 32 ≡ v → i < 32
-    by true e = ltb-true i 32 e
-    by false e =
-        let far : 32 ≤ i = grind (arith, nat_tests) in
-        absurd (none_held addrs gives.some (subst (λ (rs : List SpaceRegion). list_all (λ a. list_any (λ (r : SpaceRegion). r.addr == a) rs) addrs ≡ true) (none_past records c i is far) gives.held))
 
 -- where no more is to go back, the region in hand has a slot
 no_more_keeps : (desk : DeskFacts) (all : Bool) → batch_of (going all desk) ≡ None → CanKeep desk desk.hand
@@ -218,16 +191,18 @@ no_more_keeps desk all none = by desk.hand none
 
 -- ---- where a call goes
 
-nothing_flies : (m : Mine) → Idle m → flying m ≡ 0
-nothing_flies m idle = ap length idle.flights
-
 -- a call with nothing in flight may wait at a first point of an arena
-pub first_waits : (records : List Record) (c arena : ℕ) (point : Point) → arena < 32 → IsIdle records c → Knows (mine_in records c arena) point → needed_at 0 point ≡ 0 → Waits records c arena point
-first_waits records c arena point low idle knows none = record {
-  there = low;
-  knows = knows;
-  elsewhere = λ i ne. idle i;
-  room = subst (λ n. needed_at n point ≤ room_in records arena c) (sym (nothing_flies (mine_in records c arena) (idle arena))) (omega (arith, none));
+pub first_sits : (records : List Record) (c arena : ℕ) (point : Point) (request : Request) (desk : DeskFacts) → arena < 32 → Owns records c [] desk → IsIdle records c → Knows (mine_in records c arena) point →
+    Suits desk request arena point → needed_at 0 point ≡ 0 → Sits records c desk request arena point
+first_sits records c arena point request desk low owns idle knows suits none = record {
+  has = owns_has records c desk owns;
+  waits = record {
+    there = low;
+    knows = knows;
+    elsewhere = λ i ne. idle i;
+    room = let none_fly : flying (mine_in records c arena) ≡ 0 = ap length (idle arena).flights in subst (λ n. needed_at n point ≤ room_in records arena c) (sym none_fly) (omega (arith, none));
+  };
+  suits = suits;
 }
 
 pub comes_more : (records : List Record) (c arena : ℕ) (request : Request) (desk : DeskFacts) → IsArenas records → Owns records c [] desk → IsIdle records c → Comes records c (moved request desk arena More)
@@ -236,33 +211,15 @@ comes_more records c arena request desk is owns idle =
   where
     by : (batch : Option BatchFacts) → batch_of (going (flushes request) desk) ≡ batch → KnowsNext (mine_in records c (batch_goes arena batch).arena) (batch_goes arena batch).next → Comes records c (closed request desk (batch_goes arena batch))
     by None e knows = (tt, ends_rest records c arena request desk [] (Ok Finished) is owns idle (refl, no_more_keeps desk (flushes request) e))
-    by (Some batch) e knows = (
-      tt,
-      (
-        refl,
-        record {
-          has = owns_has records c desk owns;
-          waits = first_waits records c batch.arena (Turns (Giving batch.addrs)) (gives_low records c batch.arena batch.addrs is knows) idle knows refl;
-          suits = e;
-        },
-      ),
-    )
+    by (Some batch) e knows = (tt, (refl, first_sits records c batch.arena (Turns (Giving batch.addrs)) request desk (gives_low records c batch.arena batch.addrs is knows) owns idle knows e refl))
 
 pub comes_on : (records : List Record) (c arena : ℕ) (request : Request) (desk : DeskFacts) (extra : List Held) (next : Next) → IsArenas records → Owns records c extra desk → WaitsNext records c arena next →
     Suited extra desk request arena next → Comes records c (moved request desk arena next)
 comes_on records c arena request desk extra (Go point) is owns waits suits =
     (tt, (refl, record { has = owns_has records c desk (subst (λ extra. Owns records c extra desk) suits.0 owns); waits = waits; suits = suits.1 }))
-comes_on records c arena request desk extra (Over index point) is owns waits suits = (
-  tt,
-  (
-    refl,
-    record {
-      has = owns_has records c desk (subst (λ extra. Owns records c extra desk) suits.0 owns);
-      waits = first_waits records c index point suits.1 waits.0 (waits.1 (mine_in records c index) (waits.0 index)) suits.3;
-      suits = suits.2;
-    },
-  ),
-)
+comes_on records c arena request desk extra (Over index point) is owns waits suits =
+    let mine : Owns records c [] desk = subst (λ extra. Owns records c extra desk) suits.0 owns in
+    (tt, (refl, first_sits records c index point request desk suits.1 mine waits.0 (waits.1 (mine_in records c index) (waits.0 index)) suits.2 suits.3))
 comes_on records c arena request desk extra More is owns waits suits = comes_more records c arena request desk is (subst (λ extra. Owns records c extra desk) suits owns) waits
 comes_on records c arena request desk extra Gone is owns waits suits = (tt, ends_rest records c arena request desk extra (NoArena arena) is owns waits suits)
 comes_on records c arena request desk extra (Ends answer) is owns waits suits = (tt, ends_rest records c arena request desk extra answer is owns waits suits)

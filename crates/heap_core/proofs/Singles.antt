@@ -1,16 +1,12 @@
 -- At each address a client holds at most one region, and what it comes to hold is at none of them.
-use Rattle.heap_core.proofs.Words.{◌≡◌, ◌≢◌, ℕ, ◌+◌, ◌-◌, ◌*◌, ◌/◌, ◌^◌, ◌<◌, ◌≤◌, ◌==◌, ◌&&◌, Bool, true, false, cond, List, [], ◌∷◌, All, Option, None, Some, refl, sym, ◌∙◌, ap, arith, suc, zero, filter, find, min, count_by, sum_by, is_none, eqb-true, nat_tests, All-weaker, sum_by-cons, regions_at, size_at, pages_bounds, size_bounds, slab_filled, Region, is_published_at, holders, covers, held_anew, homes, is_held_by, is_published, sharers, eqb_itself, all_sum_le, find_passes, nothing_sum, ones, only_one, sum_add, both_true, covered, homes-le-holders, Space, Part, Sound, pages_at, held_region, is_region}
+use Rattle.heap_core.proofs.Words.{◌≡◌, ◌≢◌, ℕ, ◌+◌, ◌-◌, ◌*◌, ◌/◌, ◌^◌, ◌<◌, ◌≤◌, ◌==◌, ◌&&◌, true, false, cond, List, [], ◌∷◌, All, Some, refl, sym, ◌∙◌, ap, arith, suc, zero, filter, find, min, count_by, sum_by, eqb-true, nat_tests, All-weaker, sum_by-cons, regions_at, size_at, pages_bounds, size_bounds, slab_filled, Region, is_published_at, holders, covers, held_anew, homes, is_held_by, is_published, sharers, eqb_itself, all_sum_le, find_passes, nothing_sum, ones, only_one, sum_add, both_true, covered, homes-le-holders, Space, Part, Sound, pages_at, held_region, is_region}
 use Rattle.heap_core.proofs.Regions.{count_at, count_sum, one_at, one_in}
 
 -- ---- one at each address
 
 -- a region at an address has its byte, and is of one class
 one_covers : (c a k l : ℕ) (r : Region) → k ≢ l → r.class < 121 → one_at c a k r + one_at c a l r ≤ ones (covers a r)
-one_covers c a k l r differ below = by (is_held_by c r) (size_bounds r.class below).0
-  where
-    by : (v : Bool) → 8 ≤ size_at r.class → cond v (ones (is_region a k r)) 0 + cond v (ones (is_region a l r)) 0 ≤ ones (covers a r)
-    by true some = grind (arith, nat_tests)
-    by false some = omega arith
+one_covers c a k l r differ below = grind (arith, nat_tests, (size_bounds r.class below).0)
 
 pub two_classes : (c a k l : ℕ) (s : Space) → Sound s → k ≢ l → count_at c a k s.regions + count_at c a l s.regions ≤ 1
 two_classes c a k l s sound differ = omega (
@@ -52,11 +48,7 @@ held_page c a k s sound some = by (holders (a / 4096) s.parts) refl
 
 -- a published region at an address has its byte
 published_covers : (addr : ℕ) (r : Region) → r.class < 121 → ones (is_published_at addr r) ≤ ones (covers addr r)
-published_covers addr r below = by (is_published r) (size_bounds r.class below).0
-  where
-    by : (v : Bool) → 8 ≤ size_at r.class → ones (v && r.addr == addr) ≤ ones (covers addr r)
-    by true some = grind (arith, nat_tests)
-    by false some = omega arith
+published_covers addr r below = grind (arith, nat_tests, (size_bounds r.class below).0)
 
 one_published : (addr : ℕ) (s : Space) → Sound s → count_by (is_published_at addr) s.regions ≤ 1
 one_published addr s sound = omega (
@@ -67,11 +59,7 @@ one_published addr s sound = omega (
 
 -- nobody holds a published region
 published_apart : (c : ℕ) (r : Region) → is_published r ≡ true → is_held_by c r ≡ false
-published_apart c r h = apart r.holder h
-  where
-    apart : (holder : Option ℕ) → is_none holder ≡ true → is_held_by c (record r { holder = holder }) ≡ false
-    apart None h = refl
-    apart (Some e) h = absurd (cc)
+published_apart c r h = grind arith
 
 -- the client holds what it held, and what was published there
 anew_counts : (c addr a k : ℕ) (rs : List Region) →
@@ -122,10 +110,7 @@ taken_counts c arena addr a k s r sound found =
 -- an address in the space of a region of a slab is a number of 64 bits
 pub behind_is : (page place class : ℕ) → class < 36 → place < regions_at class → page ≤ 536870912 →
     min (4096 * page + size_at class * place) (2 ^ 64 - 1) ≡ 4096 * page + place * size_at class
-behind_is page place class small within low = by (size_at class) (regions_at class) (slab_filled class small).0 (pages_few class small) within
+behind_is page place class small within low = by (size_at class) (regions_at class) (slab_filled class small).0 (pages_bounds class (omega (arith, small))).1 within
   where
-    pages_few : (k : ℕ) → k < 36 → pages_at k ≤ 2 ^ 23
-    pages_few k small = (pages_bounds k (omega (arith, small))).1
-
     by : (size many : ℕ) → many * size ≡ 4096 * pages_at class → pages_at class ≤ 2 ^ 23 → place < many → min (4096 * page + size * place) (2 ^ 64 - 1) ≡ 4096 * page + place * size
     by size many fills few below = grind arith

@@ -1,5 +1,5 @@
 -- The laws of the clients of a heap, and that the clients of a new one rest.
-use Rattle.heap_core.proofs.Words.{◌≡◌, ℕ, ◌+◌, ◌<◌, ◌≤◌, ◌==◌, ◌||◌, Bool, true, false, cond, List, [], All, refl, sym, ap, subst, arith, suc, zero, nat_lt, get_or, replicate, count_by, range_with_len, ltb-true, nat_tests, All-nil, absent_space, first_space, Mine, mine, Held, no_record, opening_records, mine_in, Record, opening_space, OpeningSits, is_region, is_in}
+use Rattle.heap_core.proofs.Words.{◌≡◌, ℕ, ◌+◌, ◌<◌, ◌≤◌, ◌==◌, true, false, cond, List, [], All, refl, sym, ap, subst, arith, suc, zero, get_or, replicate, count_by, range_with_len, nat_tests, All-nil, absent_space, first_space, Mine, mine, Held, no_record, opening_records, mine_in, Record, opening_space, OpeningSits, is_region, is_in, cases_lt, inl, inr}
 use Rattle.heap_core.proofs.Entries.{IsKeyed}
 use Rattle.heap_core.proofs.Turned.{opening_at, past}
 pub use Rattle.heap_core.proofs.Begins.{starts-sit}
@@ -14,25 +14,19 @@ pub record IsEmpty (m : Mine) : Type 0 where
 
 -- a new heap has nothing
 opening_empty : (c i : ℕ) → IsEmpty (mine_in opening_records c i)
-opening_empty c i = by (nat_lt i 32) refl
+opening_empty c i =
+    elim (cases_lt i 32) [
+      | inl low ↦ subst (λ (r : Record). IsEmpty (mine c r.space)) (sym (opening_at i low)) (at i)
+      | inr far ↦ subst (λ (r : Record). IsEmpty (mine c r.space)) (sym (past opening_records i no_record far)) (at 32)
+    ]
   where
     at : (j : ℕ) → IsEmpty (mine c (opening_space j))
     at j = elim (j == 0) as (λ v. IsEmpty (mine c (cond v first_space absent_space))) [ true ↦ record { flights = refl; offers = refl; regions = refl } | false ↦ record { flights = refl; offers = refl; regions = refl } ]
 
-    by : (v : Bool) → nat_lt i 32 ≡ v → IsEmpty (mine_in opening_records c i)
-    by true e = subst (λ (r : Record). IsEmpty (mine c r.space)) (sym (opening_at i (ltb-true i 32 e))) (at i)
-    by false e =
-        let far : 32 ≤ i = grind (arith, nat_tests) in
-        subst (λ (r : Record). IsEmpty (mine c r.space)) (sym (past opening_records i no_record far)) (at 32)
-
 -- each of the clients is bound to arena 0
 is_among : (low n c : ℕ) → low ≤ c → c < low + n → is_in c (range_with_len low n) ≡ true
 is_among low zero c least most = absurd (omega (arith, least, most))
-is_among low (suc n) c least most =
-    elim (low == c) as (λ v. (low == c) ≡ v → (v || is_in c (range_with_len (low + 1) n)) ≡ true) [
-      | true ↦ λ e. refl
-      | false ↦ λ e. is_among (low + 1) n c (grind (arith, nat_tests)) (omega (arith, most))
-    ] refl
+is_among low (suc n) c least most = grind (arith, nat_tests, is_among (low + 1) n c)
 
 none_cached : (n k : ℕ) → get_or (replicate n (let none : List Held = [] in none)) k [] ≡ []
 none_cached zero k = refl

@@ -1,7 +1,7 @@
 -- What a client has suits each point to which its call comes.
-use Rattle.heap_core.proofs.Words.{rules, ◌≡◌, ℕ, ◌<◌, ◌≤◌, true, false, List, [], ◌∷◌, None, refl, sym, ◌∙◌, subst, arith, nat_lt, cond_both, ltb-true, nat_tests, discarding, Request, Given, Answered, Change, Stops, Visits, Leaves, TurnPoint, Filling, Looking, Landing, Changing, Making, Resetting, Owning, AskPoint, Skipping, Next, Go, Over, Ends, Reply, Nothing, Noted, Took, Grow, Refuse, Landed, Regions, Owned, Setting, Bind, AskFacts, Held, DeskFacts, desk_turned, landed_behind, held_region, sharing, needed_at, make_next, told, turn_replied, HasSlots, Suits, SuitsChange, SuitsAsk, SuitsTurn, visited, Visit}
+use Rattle.heap_core.proofs.Words.{rules, ◌≡◌, ℕ, ◌<◌, ◌≤◌, true, false, List, [], ◌∷◌, None, refl, sym, ◌∙◌, subst, arith, nat_lt, cond_both, ltb-true, nat_tests, discarding, Request, Answered, Change, Stops, Visits, Leaves, TurnPoint, Filling, Looking, Landing, Changing, Making, Resetting, Owning, AskPoint, Next, Go, Over, Ends, Reply, Nothing, Noted, Took, Grow, Refuse, Landed, Regions, Owned, Setting, Bind, AskFacts, Held, DeskFacts, desk_turned, landed_behind, held_region, needed_at, make_next, told, turn_replied, HasSlots, Suits, SuitsChange, SuitsAsk, SuitsTurn, visited, Visit}
 use Rattle.heap_core.specs.Words.{Region, Ok}
-use Rattle.heap_core.proofs.Having.{CanKeep, cache_hand}
+use Rattle.heap_core.proofs.Having.{CanKeep, share_stays}
 
 -- a region that came by a turn and is handed out
 abbrev pub came : ℕ → TurnPoint → Reply → List Held
@@ -40,18 +40,11 @@ module _ (desk : DeskFacts) (request : Request) (arena : ℕ) where
   -- ---- where the reply to a turn leads that took an answer in
 
   pub told_suits : (point : AskPoint) (asked : AskFacts) (reply : Reply) → SuitsAsk desk arena point → Suited [] desk request arena (told point asked reply)
-  told_suits (Skipping wish span b skip) asked Nothing suits = refl
-  told_suits point asked Nothing suits = refl
-  told_suits point asked reply suits = first_of (search rules, grind (arith, nat_tests, visited_suits))
+  told_suits point asked reply suits = grind (arith, nat_tests, visited_suits)
 
 -- ---- where the reply to a turn leads that took no answer in
 
--- regions that are cached leave the hand as it is
-share_hand : (arena class : ℕ) (addrs : List ℕ) (desk : DeskFacts) → (sharing arena class addrs desk).hand ≡ desk.hand
-share_hand arena class [] desk = refl
-share_hand arena class (addr ∷ addrs) desk = cache_hand (held_region arena class addr) (sharing arena class addrs desk) ∙ share_hand arena class addrs desk
-
-fewer_slots : (desk : DeskFacts) (class few many : ℕ) → few ≤ many → HasSlots desk class many → HasSlots desk class few
+pub fewer_slots : (desk : DeskFacts) (class few many : ℕ) → few ≤ many → HasSlots desk class many → HasSlots desk class few
 fewer_slots desk class few many le slots more = let room = slots (omega (arith, le, more)) in (room.0, omega (arith, le, room.1))
 
 change_suits : (desk : DeskFacts) (request : Request) (arena : ℕ) (setting : Setting) (change : Change) → desk.arena < 32 → desk.hand ≡ None → SuitsChange desk arena setting change →
@@ -64,13 +57,13 @@ change_suits desk request arena setting (Leaves old) low empty suits = absurd su
 
 pub turned_suits : (desk : DeskFacts) (request : Request) (arena : ℕ) (point : TurnPoint) (reply : Reply) → desk.arena < 32 → SuitsTurn desk request arena point →
     Suited (came arena point reply) (desk_turned desk arena point reply) request arena (turn_replied point reply)
-turned_suits desk request arena (Filling wish count) (Regions (addr ∷ others)) low suits = (refl, share_hand arena wish.class others desk ∙ suits.0.empty)
+turned_suits desk request arena (Filling wish count) (Regions (addr ∷ others)) low suits = (refl, (share_stays arena wish.class others desk).0 ∙ suits.0.empty)
 turned_suits desk request arena (Filling wish count) (Regions []) low suits = refl
 turned_suits desk request arena (Filling wish count) Nothing low suits =
     (refl, record { empty = suits.0.empty; own = suits.0.own; slots = fewer_slots desk wish.class wish.count count suits.1 suits.0.slots })
 turned_suits desk request arena (Looking wish) (Took span b skip) low suits = grind (arith, nat_tests)
 turned_suits desk request arena (Looking wish) (Grow series) low suits = grind (arith, nat_tests)
-turned_suits desk request arena (Landing wish span) (Landed first count) low suits = (refl, share_hand arena wish.class (landed_behind first wish.class count) desk ∙ suits.empty)
+turned_suits desk request arena (Landing wish span) (Landed first count) low suits = (refl, (share_stays arena wish.class (landed_behind first wish.class count) desk).0 ∙ suits.empty)
 turned_suits desk request arena (Changing setting change) Noted low suits = change_suits desk request arena setting change low suits.0 suits.1
 turned_suits desk request arena (Changing setting (Leaves old)) reply low suits = refl
 turned_suits desk request arena (Making index setting) Nothing low suits = make_suits desk request arena index setting suits

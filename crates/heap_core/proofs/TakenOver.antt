@@ -5,7 +5,7 @@ use Rattle.heap_core.proofs.Asking.{few_asks}
 use Rattle.heap_core.proofs.Clients.{at_or_else}
 use Rattle.heap_core.proofs.Changes.{heap_seated, heap_turned, room_elsewhere}
 use Rattle.heap_core.proofs.Sitting.{aims-sit, holders-publish}
-use Rattle.heap_core.proofs.Wanting.{some_call, taken_is}
+use Rattle.heap_core.proofs.Wanting.{some_has, taken_is}
 
 -- ---- the holder
 
@@ -25,8 +25,7 @@ abbrev pub publishing : ℕ → Held → TurnFacts
 publishing holder region = record { arena = region.arena; client = holder; op = Publish region.addr; asked = None }
 
 few_next : (room : ℕ) (next : Next) → asks_next room next ≤ room + 1
-few_next room (Go point) = few_asks room point
-few_next room next = omega arith
+few_next room next = grind (arith, few_asks)
 
 -- the asks of its own call still have places, wherever that stands
 owes_then : (records records' : List Record) (arena c n n' : ℕ) (call : Option CallFacts) → owing records c call ≤ n → n ≤ n' → room_in records' arena c + 1 ≤ n' →
@@ -85,14 +84,10 @@ record Taking (records : List Record) (c : ℕ) (seat : Seat) : Type 0 where
   pub goes : call.stage.next ≡ Go (Turns (Owning addr true false))
   pub sits : Sits records c seat.desk call.request call.stage.arena (Turns (Owning addr true false))
 
-some_addr : (o : Option ℕ) → IsSomeAnd o (λ addr. Unit {0}) → (addr : ℕ) × (o ≡ Some addr)
-some_addr (Some addr) is = (addr, refl)
-some_addr None is = absurd is
-
 taking : (records : List Record) (c : ℕ) (seat : Seat) → SeatSound records c seat → TakesAt seat.call → Taking records c seat
 taking records c seat sound takes =
-    let k = some_call seat.call (λ call. IsSomeAnd (taken_next call.stage.next) (λ addr. Unit {0})) takes in
-    let a = some_addr (taken_next k.0.stage.next) k.2 in
+    let k = some_has seat.call (λ call. IsSomeAnd (taken_next call.stage.next) (λ addr. Unit {0})) takes in
+    let a = some_has (taken_next k.0.stage.next) (λ addr. Unit {0}) k.2 in
     let goes = taken_is k.0.stage.next a.0 a.1 in
     let s : IsSeated records c seat.desk (Some k.0) = subst (IsSeated records c seat.desk) k.1 sound in
     record { call = k.0; addr = a.0; is = k.1; client = s.0; goes = goes; sits = subst (SitsAt records c seat.desk k.0) goes s.1 }
@@ -129,7 +124,7 @@ pub record Found (h : HeapFacts) (c holder : ℕ) (region : Held) : Type 0 where
 pub found : (h : HeapFacts) (c holder : ℕ) (region : Held) → IsArenas h.records → ((c : ℕ) → c < 32 → SeatSound h.records c (seat_at h.seats c)) →
     IsSomeAnd (seat_at h.seats c).call (λ call. HolderIs h call (Some (holder, region))) → Found h c holder region
 found h c holder region arenas sound some =
-    let k = some_call (seat_at h.seats c).call (λ call. HolderIs h call (Some (holder, region))) some in
+    let k = some_has (seat_at h.seats c).call (λ call. HolderIs h call (Some (holder, region))) some in
     let a = taken k.0 (taken_next k.0.stage.next) refl k.2.1 in
     let held : held_at a.0 (seat_at h.seats holder).desk ≡ Some region = subst (λ taken. region_in_seat h.seats taken holder ≡ Some region) a.1 k.2.2 in
     let led = holders-publish h.records holder a.0 (seat_at h.seats holder) region arenas k.2.0 (sound holder k.2.0) held in

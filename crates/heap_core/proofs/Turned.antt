@@ -1,6 +1,7 @@
 -- What a turn in one of the arenas leaves of all of them.
-use Rattle.heap_core.proofs.Words.{inr, ◌≡◌, ℕ, ◌+◌, ◌/◌, ◌<◌, ◌≤◌, ◌^◌, ◌==◌, Bool, true, false, cond, suc, zero, List, [], ◌∷◌, Option, Result, Ok, Err, OnOk, OnErr, IfSome, IsSomeAnd, length, nat_lt, map, slice_set, get_or, refl, sym, ◌∙◌, ap, subst, arith, IsTrue, list_any, range_with_len, ltb-true, nat_tests, same_number_lists, get_or-map-range_with_len, get_or-range_with_len, Journal, IsByIndex, get_or_default, get_or-set_other, get_or-set_same, length-map, length-set, map-set, set-get_or, get_or-map, GrowDone, OfferDone, any_counts, chunk_span, has_page, meets, op_stands, stands, step_of, all_stand, replay, absent_space, first_space, first_replays_are_good, absent_replays_are_good, both_true, heard_in, IsKept, KeptFacts, heard_of, all_rooms, room_of, entry_of, Op, Reply, Space, Sound, AskFacts, AreRecorded, room_in, IsArenas, journal_of, no_record, opening_record, opening_records, record_after, record_at, spaces_of, Apart, owns_chunk, with_chunk_found, space_at, IsReplayed, most_room, Record, entries_of, opening_space}
-use Rattle.heap_core.proofs.Owning.{apart_turn, page_owned}
+use Rattle.heap_core.proofs.Words.{inr, ◌≡◌, ℕ, ◌+◌, ◌/◌, ◌<◌, ◌≤◌, ◌^◌, ◌==◌, Bool, true, false, cond, List, [], Option, Result, Ok, Err, OnOk, OnErr, IfSome, IsSomeAnd, length, nat_lt, map, slice_set, get_or, refl, sym, ◌∙◌, ap, subst, arith, IsTrue, list_any, range_with_len, nat_tests, same_number_lists, get_or-map-range_with_len, get_or-range_with_len, Journal, IsByIndex, get_or_default, get_or-set_other, get_or-set_same, length-map, length-set, map-set, set-get_or, get_or-map, any_counts, chunk_span, has_page, meets, op_stands, stands, step_of, all_stand, replay, absent_space, first_space, first_replays_are_good, absent_replays_are_good, both_true, heard_in, IsKept, KeptFacts, heard_of, all_rooms, room_of, entry_of, Op, Space, Sound, AskFacts, AreRecorded, room_in, IsArenas, journal_of, no_record, opening_record, opening_records, record_after, record_at, spaces_of, Apart, owns_chunk, with_chunk_found, space_at, IsReplayed, most_room, Record, entries_of, opening_space, ◌≢◌, zero-add, cases_lt, inl}
+pub use Rattle.std.proofs.lemmas.List.{get_or_past as past}
+use Rattle.heap_core.proofs.Owning.{apart_turn, page_owned, at_or_else}
 
 -- what a journal leaves is sound
 pub replayed_sound : (i : ℕ) (kept : List KeptFacts) (s : Space) → IsReplayed i kept s → Sound s
@@ -20,33 +21,37 @@ space_of_record records i = get_or-map (λ (r : Record). r.space) records i no_r
 
 -- an operation with the chunk that was found carries the same answer
 heard_settled : (spaces : List Space) (arena : ℕ) (op : Op) → heard_of (with_chunk_found spaces arena op) ≡ heard_of op
-heard_settled spaces arena (GrowDone heard found) = refl
-heard_settled spaces arena (OfferDone heard found) = refl
-heard_settled spaces arena op = refl
+heard_settled spaces arena op = grind arith
 
 pub kept_settled : (spaces : List Space) (arena client : ℕ) (op settled_op : Op) (asked : Option AskFacts) → settled_op ≡ with_chunk_found spaces arena op → IsKept (entry_of client op) asked → IsKept (entry_of client settled_op) asked
 kept_settled spaces arena client op settled_op asked is kept =
     subst (λ o. IfSome o (λ heard. IsSomeAnd asked (λ made. heard_in made ≡ heard))) (sym (ap heard_of is ∙ heard_settled spaces arena op)) kept
+
+-- ---- the arena of a turn, and the others
+
+pub there_is : (records : List Record) (arena : ℕ) (new : Record) → IsArenas records → arena < 32 → record_at (slice_set records arena new) arena ≡ new
+there_is records arena new is there = get_or-set_same records arena new no_record (omega (arith, there, is.number))
+
+pub elsewhere_is : (records : List Record) (arena i : ℕ) (new : Record) → i ≢ arena → record_at (slice_set records arena new) i ≡ record_at records i
+elsewhere_is records arena i new other = get_or-set_other records arena i new no_record other
+
+-- what is so of a value in each arena that a turn leaves alone, and of the one that it leaves in its own
+pub by_arena : (records : List Record) (arena : ℕ) (new : Record) (P : ℕ → Record → Type 0) → IsArenas records → arena < 32 → P arena new → ((i : ℕ) → i ≢ arena → P i (record_at records i)) →
+    (i : ℕ) → P i (record_at (slice_set records arena new) i)
+by_arena records arena new P is there own others i =
+    at_or_else (λ k. P k (record_at (slice_set records arena new) k)) i arena (λ same. subst (P arena) (sym (there_is records arena new is there)) own)
+    (λ other. subst (P i) (sym (elsewhere_is records arena i new other)) (others i other))
 
 -- an arena that may stand there leaves the arenas as they have to be
 pub arenas_set : (records : List Record) (arena : ℕ) (new : Record) → IsArenas records → arena < 32 → new.index ≡ (record_at records arena).index → length new.rooms ≡ 32 → IsReplayed new.index new.kept new.space →
     Apart (slice_set (spaces_of records) arena new.space) → IsArenas (slice_set records arena new)
 arenas_set records arena new is there index clients replayed apart = record {
   number = length-set records arena new ∙ is.number;
-  replayed = λ i few. at (λ r. IsReplayed i r.kept r.space) i (λ same. subst (λ (k : ℕ). IsReplayed k new.kept new.space) (index ∙ is.indexes arena there ∙ same) replayed) (is.replayed i few);
-  indexes = λ i few. at (λ r. r.index ≡ i) i (λ same. index ∙ is.indexes arena there ∙ same) (is.indexes i few);
-  clients = λ i few. at (λ r. length r.rooms ≡ 32) i (λ same. clients) (is.clients i few);
+  replayed = by_arena records arena new (λ i (r : Record). i < 32 → IsReplayed i r.kept r.space) is there (λ _. subst (λ (k : ℕ). IsReplayed k new.kept new.space) (index ∙ is.indexes arena there) replayed) (λ i _. is.replayed i);
+  indexes = by_arena records arena new (λ i (r : Record). i < 32 → r.index ≡ i) is there (λ _. index ∙ is.indexes arena there) (λ i _. is.indexes i);
+  clients = by_arena records arena new (λ i (r : Record). i < 32 → length r.rooms ≡ 32) is there (λ _. clients) (λ i _. is.clients i);
   apart = subst Apart (sym (map-set (λ (r : Record). r.space) records arena new)) apart;
 }
-  where
-    at : (P : Record → Type 0) (i : ℕ) → (arena ≡ i → P new) → P (record_at records i) → P (record_at (slice_set records arena new) i)
-    at P i here there_too = by (arena == i) refl
-      where
-        by : (v : Bool) → (arena == i) ≡ v → P (record_at (slice_set records arena new) i)
-        by true e =
-            let same : arena ≡ i = grind (arith, nat_tests) in
-            subst P (sym (subst (λ k. record_at (slice_set records arena new) k ≡ new) same (get_or-set_same records arena new no_record (omega (arith, there, is.number))))) (here same)
-        by false e = subst P (sym (get_or-set_other records arena i new no_record (λ same. grind (arith, nat_tests)))) there_too
 
 -- after a turn of a client, or where memory was wanting for it, still no chunk has two owners
 pub arenas_turned : {A E : Type 0} (records : List Record) (arena client : ℕ) (op settled_op : Op) (asked : Option AskFacts) (r : Result A E) (new : Record) → IsArenas records → arena < 32 →
@@ -77,9 +82,7 @@ arenas_turned_from records arena client op settled_op asked r old new at is ther
 
 -- the room of a client after a turn, where it is bounded by those that there were
 given_settled : (spaces : List Space) (arena : ℕ) (op : Op) → most_room (with_chunk_found spaces arena op) ≡ most_room op
-given_settled spaces arena (GrowDone heard found) = refl
-given_settled spaces arena (OfferDone heard found) = refl
-given_settled spaces arena op = refl
+given_settled spaces arena op = grind arith
 
 pub room_turned : {A E : Type 0} (records now : List Record) (arena client : ℕ) (op settled_op : Op) (r : Result A E) (old new : Record) → records ≡ now → old ≡ record_at records arena → IsArenas records → arena < 32 →
     settled_op ≡ with_chunk_found (spaces_of records) arena op → OnOk r (room_of client new.rooms ≤ all_rooms old.rooms + most_room settled_op) →
@@ -100,21 +103,16 @@ opening_empty i = elim (i == 0) as (λ v. (cond v first_space absent_space).part
 pub opening_at : (i : ℕ) → i < 32 → record_at opening_records i ≡ opening_record i
 opening_at i few = get_or-map-range_with_len opening_record 0 32 i i no_record few (omega arith)
 
-pub past : {X : Type 0} (xs : List X) (i : ℕ) (d : X) → length xs ≤ i → get_or xs i d ≡ d
-past [] i d far = refl
-past (x ∷ xs) zero d far = absurd (omega (arith, far))
-past (x ∷ xs) (suc i) d far = past xs i d (omega (arith, far))
-
 -- an arena of a new heap has no extent
 none_owned : (chunk i : ℕ) → owns_chunk chunk (space_at (spaces_of opening_records) i) ≡ false
-none_owned chunk i = by (nat_lt i 32) refl
+none_owned chunk i =
+    elim (cases_lt i 32) [
+      | inl low ↦ at (space_at (spaces_of opening_records) i) (ap (λ (s : Space). s.parts) (space_of_record opening_records i ∙ ap (λ (r : Record). r.space) (opening_at i low)) ∙ opening_empty i)
+      | inr far ↦ at (space_at (spaces_of opening_records) i) (ap (λ (s : Space). s.parts) (past (spaces_of opening_records) i absent_space far))
+    ]
   where
     at : (s : Space) → s.parts ≡ [] → owns_chunk chunk s ≡ false
     at s e = ap (list_any (λ p. meets p.span (chunk_span chunk))) e
-
-    by : (v : Bool) → nat_lt i 32 ≡ v → owns_chunk chunk (space_at (spaces_of opening_records) i) ≡ false
-    by true e = at (space_at (spaces_of opening_records) i) (ap (λ (s : Space). s.parts) (space_of_record opening_records i ∙ ap (λ (r : Record). r.space) (opening_at i (ltb-true i 32 e))) ∙ opening_empty i)
-    by false e = let beyond : 32 ≤ i = grind (arith, nat_tests) in at (space_at (spaces_of opening_records) i) (ap (λ (s : Space). s.parts) (past (spaces_of opening_records) i absent_space beyond))
 
 -- a new heap's arenas are as they have to be
 pub opening_is : IsArenas opening_records
@@ -128,9 +126,6 @@ opening_is = record {
 
 -- ---- the end
 
-zero_more : (k : ℕ) → 0 + k ≡ k
-zero_more k = omega arith
-
 -- the journals stand by the indexes of their arenas
 pub by_index : (records : List Record) → IsArenas records → map (λ (j : Journal). j.index) (map journal_of records) ≡ range_with_len 0 32
 by_index records is =
@@ -139,7 +134,7 @@ by_index records is =
     let low : k < 32 = omega (arith, few, long) in
     past_default k few
     ∙ ap (λ (j : Journal). j.index) (get_or-map journal_of records k no_record)
-    ∙ is.indexes k low ∙ sym (get_or-range_with_len 0 32 k 0 low ∙ zero_more k))
+    ∙ is.indexes k low ∙ sym (get_or-range_with_len 0 32 k 0 low ∙ zero-add k))
   where
     past_default : (k : ℕ) → k < length (map (λ (j : Journal). j.index) (map journal_of records)) →
         get_or (map (λ (j : Journal). j.index) (map journal_of records)) k 0 ≡ (get_or (map journal_of records) k (journal_of no_record)).index
@@ -174,19 +169,11 @@ opening_recorded = record { arenas = opening_is; few = λ i few. subst (λ (r : 
 -- after a turn, or where memory was wanting for it
 pub recorded_turned : {A E : Type 0} (records : List Record) (arena : ℕ) (r : Result A E) (old new : Record) → AreRecorded records → arena < 32 → old ≡ record_at records arena → OnOk r (length new.kept < 2 ^ 64) → OnErr r (new ≡ old) →
     IsArenas (slice_set records arena new) → AreRecorded (slice_set records arena new)
-recorded_turned records arena r old new is there at few same arenas = record { arenas = arenas; few = at_each }
+recorded_turned records arena r old new is there at few same arenas = record {
+  arenas = arenas;
+  few = by_arena records arena new (λ i (x : Record). i < 32 → length x.kept < 2 ^ 64) is.arenas there (λ _. here r few same) (λ i _. is.few i);
+}
   where
     here : {A E : Type 0} (r : Result A E) → OnOk r (length new.kept < 2 ^ 64) → OnErr r (new ≡ old) → length new.kept < 2 ^ 64
     here (Ok told) few same = few
     here (Err error) few same = subst (λ (x : Record). length x.kept < 2 ^ 64) (sym (same ∙ at)) (is.few arena there)
-
-    at_each : (i : ℕ) → i < 32 → length (record_at (slice_set records arena new) i).kept < 2 ^ 64
-    at_each i low = by (arena == i) refl
-      where
-        by : (v : Bool) → (arena == i) ≡ v → length (record_at (slice_set records arena new) i).kept < 2 ^ 64
-        by true e =
-            let equal : arena ≡ i = grind (arith, nat_tests) in
-            subst (λ k. length (record_at (slice_set records arena new) k).kept < 2 ^ 64) equal
-            (subst (λ (x : Record). length x.kept < 2 ^ 64) (sym (get_or-set_same records arena new no_record (omega (arith, there, is.arenas.number)))) (here r few same))
-        by false e =
-            subst (λ (x : Record). length x.kept < 2 ^ 64) (sym (get_or-set_other records arena i new no_record (λ equal. grind (arith, nat_tests)))) (is.few i low)

@@ -1,16 +1,13 @@
 -- What a turn does to a journal and to the places behind it.
-use Rattle.heap_core.proofs.Words.{◌≡◌, ℕ, ◌+◌, ◌-◌, ◌*◌, ◌<◌, ◌≤◌, ◌&&◌, Bool, true, false, List, [], ◌∷◌, ◌++◌, length, max, cond, refl, sym, ◌∙◌, ap, subst, arith, nat_lt, IsTrue, ltb-true, length-set, get_or-le-sum_by, Entry, op_stands, space_after, stands, all_stand, replay, KeptFacts, all_rooms, emptied_by_op, entry_of, given_by, opens, room_after, room_of, rooms_after, both_true, rooms_with, Op, Space, IsRecorded, IsReplayed, Record, entries_of, most_room, opening_space, shown, Inside}
+use Rattle.heap_core.proofs.Words.{◌≡◌, ℕ, ◌+◌, ◌-◌, ◌*◌, ◌<◌, ◌≤◌, Bool, true, false, List, [], ◌∷◌, ◌++◌, length, max, cond, refl, sym, ◌∙◌, ap, subst, arith, nat_lt, IsTrue, ltb-true, length-set, get_or-le-sum_by, Entry, op_stands, space_after, stands, all_stand, replay, KeptFacts, all_rooms, emptied_by_op, entry_of, given_by, opens, room_after, room_of, rooms_after, both_true, rooms_with, Op, Space, IsRecorded, IsReplayed, Record, entries_of, most_room, opening_space, shown, Inside}
 
 -- a journal with one more entry that may stand leaves what that entry leaves
 one_more : (s : Space) (es : List Entry) (e : Entry) → all_stand s es ≡ true → stands (replay s es) e ≡ true →
     (all_stand s (es ++ e ∷ []) ≡ true) × (replay s (es ++ e ∷ []) ≡ space_after (replay s es) e)
 one_more s [] e all one = (rw one refl, refl)
-one_more s (x ∷ xs) e all one = both (stands s x) (all_stand (space_after s x) xs) all (λ first rest. let more = one_more (space_after s x) xs e rest one in (rw (first, more.0) refl, more.1))
-  where
-    both : {P : Type 0} (a b : Bool) → (a && b) ≡ true → (a ≡ true → b ≡ true → P) → P
-    both true true h f = f refl refl
-    both true false h f = absurd (cc)
-    both false b h f = absurd (cc)
+one_more s (x ∷ xs) e all one =
+    let both = both_true (stands s x) (all_stand (space_after s x) xs) all in
+    let more = one_more (space_after s x) xs e both.1 one in (rw (both.0, more.0) refl, more.1)
 
 entries_more : (kept : List KeptFacts) (k : KeptFacts) → entries_of (kept ++ k ∷ []) ≡ entries_of kept ++ k.entry ∷ []
 entries_more [] k = refl

@@ -1,9 +1,9 @@
 -- The turn that a call wants leads on, with all that its client has.
-use Rattle.heap_core.proofs.Words.{rules, ◌≡◌, ◌≢◌, ◌⊎◌, inl, inr, ℕ, ◌<◌, true, false, cond, IsTrue, List, [], ◌∷◌, Option, None, Some, Ok, Result, slice_set, refl, sym, ◌∙◌, ap, subst, arith, count_by, Set, with_setting, is_live, stands, stays, step_of, Stepped, entry_of, gave, Request, Item, Replied, Told, Starved, NoMemory, Change, Stops, Visits, Leaves, TurnPoint, Filling, Landing, Giving, Changing, Making, Resetting, Destroying, Publishing, Owning, AskPoint, Skipping, Point, Turns, Asks, Tells, Next, Go, More, Ends, Op, Reply, Noted, Landed, NextFlight, Regions, Owned, Setting, Unbind, Bind, MakeLive, Space, Mine, mine, AskFacts, Held, DeskFacts, freeing, CallFacts, desk_fed, desk_turned, landed_behind, held_region, sharing, Idle, KnowsTurn, is_of_arena, after, closed, moved, stage, step_next, WantTurn, WantAsk, done_at, is_marked, op_at, starved, step, want, IsArenas, record_after, record_at, reply_in, spaces_of, with_chunk_found, CanTurn, IsIdle, Waits, WaitsNext, after_turn, mine_in, IsReplayed, Record, seat_of, AsksSit, Comes, HasRegions, IsSeated, OthersSit, SeatSound, Sits, SitsAt, StarvesSit, Suits, SuitsChange, SuitsTurn, TurnsSit, is_region, never_starves, is_in}
-use Rattle.call_table.specs.Words.{NoArena}
+use Rattle.heap_core.proofs.Words.{rules, ◌≡◌, ◌≢◌, ◌⊎◌, inl, inr, ℕ, ◌<◌, true, false, cond, IsTrue, List, [], ◌∷◌, Option, None, Some, Ok, Result, slice_set, refl, sym, ◌∙◌, ap, subst, arith, count_by, Set, with_setting, is_live, stands, stays, step_of, Stepped, entry_of, gave, Request, Item, Replied, Told, Starved, NoMemory, Change, Stops, Visits, Leaves, TurnPoint, Filling, Landing, Giving, Changing, Making, Resetting, Destroying, Publishing, Owning, AskPoint, Skipping, Point, Turns, Asks, Next, Go, More, Ends, Op, Reply, Noted, Landed, NextFlight, Regions, Owned, Setting, Unbind, Bind, MakeLive, Space, Mine, mine, AskFacts, Held, DeskFacts, freeing, CallFacts, desk_fed, desk_turned, landed_behind, held_region, Idle, KnowsTurn, is_of_arena, after, closed, moved, stage, step_next, WantTurn, WantAsk, done_at, is_marked, op_at, starved, step, want, IsArenas, record_after, record_at, reply_in, spaces_of, with_chunk_found, CanTurn, IsIdle, Waits, WaitsNext, after_turn, mine_in, IsReplayed, Record, seat_of, AsksSit, Comes, HasRegions, IsSeated, OthersSit, SeatSound, Sits, SitsAt, StarvesSit, Suits, SuitsChange, SuitsTurn, TurnsSit, is_region, never_starves, is_in}
+use Rattle.call_plan.specs.Words.{NoArena}
 use Rattle.heap_core.proofs.Carrying.{carries}
 use Rattle.heap_core.proofs.Clients.{asks-lead_on, at_or_else, elsewhere_is, others-stay, others_own, sound_at, there_is, turns-lead_on}
-use Rattle.heap_core.proofs.Having.{cache_arena}
+use Rattle.heap_core.proofs.Having.{cache_arena, share_stays}
 use Rattle.heap_core.proofs.Regions.{count_at}
 use Rattle.heap_core.proofs.Settling.{Owns, comes_on, count_in, ends_rest, has_owns, single_in}
 use Rattle.heap_core.proofs.Steady.{IsSteady, added_in, bind_keeps, moves_bound, op_steady, set_steady}
@@ -26,10 +26,6 @@ turned_is records arena c op asked is there may =
 
 -- ---- the arena from which the client allocates
 
-share_arena : (arena class : ℕ) (addrs : List ℕ) (desk : DeskFacts) → (sharing arena class addrs desk).arena ≡ desk.arena
-share_arena arena class [] desk = refl
-share_arena arena class (addr ∷ addrs) desk = cache_arena (held_region arena class addr) (sharing arena class addrs desk) ∙ share_arena arena class addrs desk
-
 gave_arena : (arena : ℕ) (desk : DeskFacts) → (gave arena desk).arena ≡ desk.arena
 gave_arena arena desk = grind arith
 
@@ -38,8 +34,8 @@ free_arena r desk = grind (arith, cache_arena)
 
 -- the client allocates from the same arena after a turn that changes no setting
 pub turned_arena : (desk : DeskFacts) (arena : ℕ) (point : TurnPoint) (reply : Reply) → ((setting : Setting) (change : Change) → point ≡ Changing setting change → ⊥) → (desk_turned desk arena point reply).arena ≡ desk.arena
-turned_arena desk arena (Filling wish count) (Regions (addr ∷ others)) else = share_arena arena wish.class others desk
-turned_arena desk arena (Landing wish span) (Landed first count) else = share_arena arena wish.class (landed_behind first wish.class count) desk
+turned_arena desk arena (Filling wish count) (Regions (addr ∷ others)) else = (share_stays arena wish.class others desk).1
+turned_arena desk arena (Landing wish span) (Landed first count) else = (share_stays arena wish.class (landed_behind first wish.class count) desk).1
 turned_arena desk arena (Giving addrs) (NextFlight next) else = gave_arena arena desk
 turned_arena desk arena (Changing setting change) reply else = absurd (else setting change refl)
 turned_arena desk arena (Owning addr true past) (Owned class) else = free_arena (held_region arena class addr) desk
@@ -89,8 +85,7 @@ module _ (s : Space) (c arena : ℕ) (desk : DeskFacts) (request : Request) (was
 
 -- the operation of a point enters a journal as it is
 settled_of : (spaces : List Space) (arena : ℕ) (point : TurnPoint) → with_chunk_found spaces arena (op_at point) ≡ op_at point
-settled_of spaces arena (Filling wish count) = refl
-settled_of spaces arena point = refl
+settled_of spaces arena point = grind arith
 
 -- an answer that is taken in moves no region
 steady_done : (spaces : List Space) (arena : ℕ) (point : AskPoint) (asked : AskFacts) → IsSteady (with_chunk_found spaces arena (done_at point asked))
@@ -199,8 +194,7 @@ module _ (records : List Record) (c : ℕ) (desk : DeskFacts) (call : CallFacts)
       let steady = op_steady (record_at records arena).space c done (subst (λ (o : Op). IsSteady (with_chunk_found (spaces_of records) arena o)) same (steady_done (spaces_of records) arena point told_so)) in
       turned_from (Asks point (Some told_so)) [] (steady_owns records c arena desk call.request asked is sits.waits.there (has_owns records c desk sits.has) done steady.regions steady.bound)
       can sits.waits.there waits (told_suits desk call.request arena point told_so reply sits.suits)
-  turn_at (Asks point None) sits wants can waits = absurd (cc)
-  turn_at (Tells span b) sits wants can waits = absurd (cc)
+  turn_at point sits wants can waits = absurd (cc)
 
 pub turns-sit : TurnsSit
 turns-sit records c desk call point op asked is few at sits wants =
@@ -214,14 +208,10 @@ turns-sit records c desk call point op asked is few at sits wants =
 
 -- an answer to an ask leaves what the client has
 ask_suits : (desk : DeskFacts) (request : Request) (arena : ℕ) (point : Point) (asked : AskFacts) → want point ≡ WantAsk asked.ask → Suits desk request arena point → Suited [] desk request arena (step point (Told asked))
-ask_suits desk request arena (Asks point None) asked wants suits = (refl, suits)
-ask_suits desk request arena (Tells span b) asked wants suits = (refl, suits)
-ask_suits desk request arena (Turns point) asked wants suits = absurd (cc)
-ask_suits desk request arena (Asks point (Some told_so)) asked wants suits = absurd (cc)
+ask_suits desk request arena point asked wants suits = grind arith
 
 told_desk : (desk : DeskFacts) (index : ℕ) (point : Point) (asked : AskFacts) → desk_fed desk index (Go point) (Told asked) ≡ desk
-told_desk desk index (Turns point) asked = refl
-told_desk desk index point asked = refl
+told_desk desk index point asked = grind arith
 
 pub asks-sit : AsksSit
 asks-sit records c desk call point asked is few at sits wants kind =

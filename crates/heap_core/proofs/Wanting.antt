@@ -1,5 +1,5 @@
 -- What a client's open call wants, and where a step for it leads.
-use Rattle.heap_core.proofs.Words.{inl, inr, ◌≡◌, ◌⊎◌, ◌≤◌, ◌<◌, ℕ, ◌+◌, true, false, List, Option, None, Some, Result, Ok, IfSome, IsSomeAnd, is_some, refl, sym, ap, subst, ◌∙◌, arith, Shelf, opens, Item, Told, Starved, Answered, NoMemory, TurnPoint, Dooming, Owning, AskPoint, Needing, Point, Turns, Asks, Tells, Next, Go, More, Ends, Ask, Op, AskFacts, DeskFacts, Need, NeedsTurn, NeedsAsk, Turn, CallFacts, moment_of, desk_fed, NeedIs, NeedsWant, heard_next, taken_next, Moment, after, moved, starved_after, step_next, Want, WantTurn, WantAsk, done_at, is_marked, op_at, starved, step, want, room_in, FedTo, never_starves, HeapFacts, IsStepFor, IsStep, IsSure, SureAt, SureFor, WantedAt, asks_at, asks_next, owing, Record, Seat, answer_of, heard_by, seat_at, seat_of, IsSeated, SeatSound, Sits, SitsAt, IsMarked, Needs, StarvesAt, StarvesNext}
+use Rattle.heap_core.proofs.Words.{inl, inr, ◌≡◌, ◌⊎◌, ◌≤◌, ◌<◌, ℕ, ◌+◌, true, false, List, Option, None, Some, IfSome, IsSomeAnd, is_some, refl, sym, ap, subst, ◌∙◌, arith, Shelf, opens, Item, Told, Starved, Answered, NoMemory, Owning, Point, Turns, Next, Go, More, Ends, Ask, Op, AskFacts, DeskFacts, Need, NeedsTurn, NeedsAsk, Turn, CallFacts, moment_of, desk_fed, NeedIs, NeedsWant, heard_next, taken_next, Moment, after, moved, starved_after, step_next, Want, WantTurn, WantAsk, is_marked, step, want, room_in, FedTo, never_starves, HeapFacts, IsStepFor, IsStep, IsSure, SureAt, SureFor, WantedAt, asks_at, asks_next, owing, Record, Seat, answer_of, heard_by, seat_at, seat_of, IsSeated, SeatSound, Sits, SitsAt, IsMarked, Needs, StarvesAt, StarvesNext}
 use Rattle.heap_core.specs.declared.heaps.Stepped.{Stepped}
 
 -- ---- the point of an open call
@@ -15,9 +15,9 @@ pub record Wanted (records : List Record) (c : ℕ) (seat : Seat) (wants : Want)
   pub want_is : want point ≡ wants
   pub arena_is : arena ≡ call.stage.arena
 
-pub some_call : (call : Option CallFacts) (P : CallFacts → Type 0) → IsSomeAnd call P → (k : CallFacts) × (call ≡ Some k) × P k
-some_call (Some k) P p = (k, refl, p)
-some_call None P p = absurd p
+pub some_has : {X : Type 0} (o : Option X) (P : X → Type 0) → IsSomeAnd o P → (x : X) × (o ≡ Some x) × P x
+some_has (Some x) P p = (x, refl, p)
+some_has None P p = absurd p
 
 goes_on : (records : List Record) (c : ℕ) (desk : DeskFacts) (call : CallFacts) (next : Next) → SitsAt records c desk call next →
     (point : Point) × (next ≡ Go point) × Sits records c desk call.request call.stage.arena point
@@ -27,29 +27,22 @@ goes_on records c desk call next sits = absurd sits
 wanted : (records : List Record) (c : ℕ) (seat : Seat) (wants : Want) (arena : ℕ) (P : CallFacts → Type 0) → SeatSound records c seat → IsSomeAnd seat.call P →
     ((call : CallFacts) (point : Point) → call.stage.next ≡ Go point → P call → (want point ≡ wants) × (arena ≡ call.stage.arena)) → Wanted records c seat wants arena
 wanted records c seat wants arena P sound some tells =
-    let k = some_call seat.call P some in
+    let k = some_has seat.call P some in
     let s : IsSeated records c seat.desk (Some k.0) = subst (IsSeated records c seat.desk) k.1 sound in
     let g = goes_on records c seat.desk k.0 k.0.stage.next s.1 in
     let t = tells k.0 g.0 g.1 k.2 in
     record { call = k.0; point = g.0; is = k.1; client = s.0; goes = g.1; sits = g.2; want_is = t.0; arena_is = t.1 }
 
 -- what it needs is what it wants
-turn_needed : (client at : ℕ) (point : Point) (turn : Turn) → NeedsWant client at (want point) (NeedsTurn turn) → (want point ≡ WantTurn turn.op (heard_next (Go point))) × (turn.arena ≡ at)
-turn_needed client at (Turns point) turn is =
-    let same : turn ≡ record { arena = at; client = client; op = op_at point } = cc in
-    (ap (λ (t : Turn). WantTurn t.op None) (sym same), ap (λ (t : Turn). t.arena) same)
-turn_needed client at (Asks point (Some asked)) turn is =
-    let same : turn ≡ record { arena = at; client = client; op = done_at point asked } = cc in
-    (ap (λ (t : Turn). WantTurn t.op (Some asked)) (sym same), ap (λ (t : Turn). t.arena) same)
-turn_needed client at point turn is = absurd (cc)
+turn_needed : (client at : ℕ) (point : Point) (turn : Turn) → NeedsWant client at (want point) (NeedsTurn turn) → (want point ≡ WantTurn turn.op (heard_next (Go point))) × (turn.arena ≡ at) × (turn.client ≡ client)
+turn_needed client at point turn is = grind arith
 
 ask_needed : (client at : ℕ) (w : Want) (arena : ℕ) (ask : Ask) → NeedsWant client at w (NeedsAsk arena ask) → (w ≡ WantAsk ask) × (arena ≡ at)
-ask_needed client at (WantAsk ask') arena ask is = (cc, cc)
-ask_needed client at (WantTurn op asked) arena ask is = absurd (cc)
+ask_needed client at w arena ask is = grind arith
 
 pub turn_wanted : (records : List Record) (c : ℕ) (seat : Seat) (turn : Turn) → SeatSound records c seat → Needs seat.call (NeedsTurn turn) → Wanted records c seat (WantTurn turn.op (heard_by seat.call)) turn.arena
 turn_wanted records c seat turn sound needs =
-    let k = some_call seat.call (λ call. NeedIs call.client call.stage.arena call.stage.next (NeedsTurn turn)) needs in
+    let k = some_has seat.call (λ call. NeedIs call.client call.stage.arena call.stage.next (NeedsTurn turn)) needs in
     subst (λ heard. Wanted records c seat (WantTurn turn.op heard) turn.arena) (ap heard_by (sym k.1))
     (wanted records c seat (WantTurn turn.op (heard_next k.0.stage.next)) turn.arena (λ call. (call ≡ k.0) × NeedIs call.client call.stage.arena call.stage.next (NeedsTurn turn)) sound
     (subst (λ call. IsSomeAnd call (λ call. (call ≡ k.0) × NeedIs call.client call.stage.arena call.stage.next (NeedsTurn turn))) (sym k.1) (refl, k.2))
@@ -74,7 +67,7 @@ turn_seen h now turn seat asked view sound needs same heard =
 pub turn_calls : (h now : HeapFacts) (turn : Turn) (seat : Seat) → h ≡ now → Needs (seat_at now.seats turn.client).call (NeedsTurn turn) → seat ≡ seat_at h.seats turn.client → is_some seat.call ≡ true
 turn_calls h now turn seat view needs same =
     let is : seat ≡ seat_at now.seats turn.client = same ∙ ap (λ (n : HeapFacts). seat_at n.seats turn.client) view in
-    let k = some_call (seat_at now.seats turn.client).call (λ call. NeedIs call.client call.stage.arena call.stage.next (NeedsTurn turn)) needs in
+    let k = some_has (seat_at now.seats turn.client).call (λ call. NeedIs call.client call.stage.arena call.stage.next (NeedsTurn turn)) needs in
     ap (λ (s : Seat). is_some s.call) is ∙ ap is_some k.1
 
 pub ask_seen : (h now : HeapFacts) (c arena : ℕ) (ask : Ask) → h ≡ now → SeatSound h.records c (seat_at h.seats c) → Needs (seat_at now.seats c).call (NeedsAsk arena ask) → Wanted h.records c (seat_at h.seats c) (WantAsk ask) arena
@@ -94,7 +87,7 @@ turn_marked (WantAsk ask) is = absurd is
 
 pub starving : (records : List Record) (c : ℕ) (seat : Seat) → SeatSound records c seat → StarvesAt seat.call → Starving records c seat
 starving records c seat sound some =
-    let k = some_call seat.call (λ call. StarvesNext call.stage.next) some in
+    let k = some_has seat.call (λ call. StarvesNext call.stage.next) some in
     let s : IsSeated records c seat.desk (Some k.0) = subst (IsSeated records c seat.desk) k.1 sound in
     let g = goes_on records c seat.desk k.0 k.0.stage.next s.1 in
     let m = turn_marked (want g.0) (subst StarvesNext g.1 k.2) in
@@ -138,36 +131,15 @@ fed_at records c seat wants arena item ended new w fed =
 -- ---- a turn that finds no memory
 
 -- an operation of a call is the first of a unit just where it may find no memory
-opens_marked_turn : (point : TurnPoint) → opens (op_at point) ≡ is_marked (op_at point)
-opens_marked_turn Dooming = refl
-opens_marked_turn point = refl
-
-opens_not_ask : (point : AskPoint) (asked : AskFacts) → opens (done_at point asked) ≡ false
-opens_not_ask (Needing wish) asked = refl
-opens_not_ask point asked = refl
-
 pub opens_marked : (point : Point) (op : Op) (asked : Option AskFacts) → want point ≡ WantTurn op asked → opens op ≡ true → is_marked op ≡ true
-opens_marked (Turns point) op asked wants is =
-    let same : op_at point ≡ op = cc in
-    subst (λ o. is_marked o ≡ true) same (sym (opens_marked_turn point) ∙ subst (λ o. opens o ≡ true) (sym same) is)
-opens_marked (Asks point (Some told)) op asked wants is = let same : done_at point told ≡ op = cc in let none = opens_not_ask point told in absurd (cc)
-opens_marked point op asked wants is = absurd (cc)
+opens_marked point op asked wants is = grind arith
 
 -- a turn without memory comes only where places are promised for all the room
 pub room_asked : (room : ℕ) (point : Point) (op : Op) (asked : Option AskFacts) → want point ≡ WantTurn op asked → opens op ≡ false → room ≤ asks_at room point
-room_asked room (Turns point) op asked wants uses =
-    let same : op_at point ≡ op = cc in
-    let is : opens (op_at point) ≡ false = ap opens same ∙ uses in
-    rw is (omega arith)
-room_asked room (Asks point (Some told)) op asked wants uses = omega arith
-room_asked room point op asked wants uses = absurd (cc)
+room_asked room point op asked wants uses = grind arith
 
 starves_to : (point : Point) (op : Op) (asked : Option AskFacts) → want point ≡ WantTurn op asked → is_marked op ≡ true → step point Starved ≡ Ends NoMemory
-starves_to (Turns point) op asked wants marked =
-    let same : op_at point ≡ op = cc in
-    ap (λ (o : Op). starved (is_marked o)) same ∙ ap starved marked
-starves_to (Asks point (Some told)) op asked wants marked = let same : done_at point told ≡ op = cc in let none = never_starves point told in absurd (cc)
-starves_to point op asked wants marked = absurd (cc)
+starves_to point op asked wants marked = grind (arith, never_starves)
 
 -- the call has ended
 pub starved_ends : (records : List Record) (c : ℕ) (seat : Seat) (op : Op) (asked : Option AskFacts) (arena : ℕ) (w : Wanted records c seat (WantTurn op asked) arena) → is_marked op ≡ true →
@@ -180,31 +152,23 @@ starved_ends records c seat op asked arena w marked =
 -- what it leaves of its client
 pub starved_at : (records : List Record) (c : ℕ) (seat : Seat) (op : Op) (asked : Option AskFacts) (arena : ℕ) (ended : Option Answered) (new : Seat) (w : Wanted records c seat (WantTurn op asked) arena) →
     is_marked op ≡ true → IfSome seat.call (λ call. FedTo call seat.desk Starved ended new) → (new ≡ seat_of c (after (moment_of w.call seat.desk) Starved)) × (ended ≡ Some NoMemory)
-starved_at records c seat op asked arena ended new w marked fed = by (fed_at records c seat (WantTurn op asked) arena Starved ended new w fed)
-  where
-    ends : after (moment_of w.call seat.desk) Starved ≡ starved_after (moment_of w.call seat.desk) Starved
-    ends = starved_ends records c seat op asked arena w marked
-
-    by : ((new ≡ seat_of c (after (moment_of w.call seat.desk) Starved)) × (ended ≡ answer_of (after (moment_of w.call seat.desk) Starved)))
-        ⊎ ((new ≡ seat_of c (starved_after (moment_of w.call seat.desk) Starved)) × (ended ≡ Some NoMemory) × (step w.point Starved ≡ More)) →
-        (new ≡ seat_of c (after (moment_of w.call seat.desk) Starved)) × (ended ≡ Some NoMemory)
-    by (inl (is, told)) = (is, told ∙ ap answer_of ends)
-    by (inr (is, told, more)) = (is ∙ ap (seat_of c) (sym ends), told)
+starved_at records c seat op asked arena ended new w marked fed =
+    let ends : after (moment_of w.call seat.desk) Starved ≡ starved_after (moment_of w.call seat.desk) Starved = starved_ends records c seat op asked arena w marked in
+    elim (fed_at records c seat (WantTurn op asked) arena Starved ended new w fed) [
+      | inl told ↦ (told.0, told.1 ∙ ap answer_of ends)
+      | inr off ↦ (off.0 ∙ ap (seat_of c) (sym ends), off.1)
+    ]
 
 -- ---- an ask
 
 -- a place is promised for it
 pub ask_some : (room : ℕ) (point : Point) (ask : Ask) → want point ≡ WantAsk ask → 0 < asks_at room point
-ask_some room (Asks point None) ask wants = omega arith
-ask_some room (Tells span b) ask wants = omega arith
-ask_some room point ask wants = absurd (cc)
+ask_some room point ask wants = grind arith
 
 -- which it takes
 owed_told : (records : List Record) (c n : ℕ) (at : Moment) (point : Point) (ask : Ask) (asked : AskFacts) → want point ≡ WantAsk ask → asks_at (room_in records at.stage.arena c) point ≤ n + 1 →
     owing records c (seat_of c (moved at.request (desk_fed at.desk at.stage.arena at.stage.next (Told asked)) at.stage.arena (step point (Told asked)))).call ≤ n
-owed_told records c n at (Asks point None) ask asked wants few = omega (arith, few)
-owed_told records c n at (Tells span b) ask asked wants few = omega arith
-owed_told records c n at point ask asked wants few = absurd (cc)
+owed_told records c n at point ask asked wants few = grind arith
 
 pub owed_asked : (records : List Record) (c n : ℕ) (seat : Seat) (ask : Ask) (asked : AskFacts) (arena : ℕ) (w : Wanted records c seat (WantAsk ask) arena) → owing records c seat.call ≤ n + 1 →
     owing records c (seat_of c (after (moment_of w.call seat.desk) (Told asked))).call ≤ n
@@ -217,8 +181,7 @@ owed_asked records c n seat ask asked arena w few =
 
 -- no more goes back next
 pub told_on : (point : Point) (ask : Ask) (asked : AskFacts) → want point ≡ WantAsk ask → step point (Told asked) ≡ More → ⊥
-told_on (Asks point None) ask asked wants more = absurd (cc)
-told_on point ask asked wants more = absurd (cc)
+told_on point ask asked wants more = grind arith
 
 -- ---- a region that is taken over
 
@@ -228,18 +191,12 @@ taken_is next addr is = absurd (cc)
 
 -- ---- whose turn it is
 
-turn_client_of : (client at : ℕ) (w : Want) (turn : Turn) → NeedsWant client at w (NeedsTurn turn) → turn.client ≡ client
-turn_client_of client at (WantTurn op asked) turn is =
-    let same : turn ≡ record { arena = at; client = client; op = op } = cc in
-    ap (λ (t : Turn). t.client) same
-turn_client_of client at (WantAsk ask) turn is = absurd (cc)
-
 pub turn_client : (records : List Record) (c : ℕ) (seat : Seat) (turn : Turn) → SeatSound records c seat → Needs seat.call (NeedsTurn turn) → turn.client ≡ c
 turn_client records c seat turn sound needs =
-    let k = some_call seat.call (λ call. NeedIs call.client call.stage.arena call.stage.next (NeedsTurn turn)) needs in
+    let k = some_has seat.call (λ call. NeedIs call.client call.stage.arena call.stage.next (NeedsTurn turn)) needs in
     let s : IsSeated records c seat.desk (Some k.0) = subst (IsSeated records c seat.desk) k.1 sound in
     let g = goes_on records c seat.desk k.0 k.0.stage.next s.1 in
-    turn_client_of k.0.client k.0.stage.arena (want g.0) turn (subst (λ next. NeedIs k.0.client k.0.stage.arena next (NeedsTurn turn)) g.1 k.2) ∙ s.0
+    (turn_needed k.0.client k.0.stage.arena g.0 turn (subst (λ next. NeedIs k.0.client k.0.stage.arena next (NeedsTurn turn)) g.1 k.2)).2 ∙ s.0
 
 -- What a client's call told, seen of the heap: whose turn it is, and that the call needs it.
 pub record TurnTold (now : HeapFacts) (c : ℕ) (turn : Turn) : Type 0 where
@@ -270,8 +227,4 @@ starving_sure h new c s = sure_made h new c (WantTurn s.op s.asked) s.arena s.wa
 
 -- an operation of a call that takes no memory is not the first of a unit
 pub unmarked_opens : (point : Point) (op : Op) (asked : Option AskFacts) → want point ≡ WantTurn op asked → is_marked op ≡ false → opens op ≡ false
-unmarked_opens (Turns point) op asked wants is =
-    let same : op_at point ≡ op = cc in
-    subst (λ o. opens o ≡ false) same (opens_marked_turn point ∙ subst (λ o. is_marked o ≡ false) (sym same) is)
-unmarked_opens (Asks point (Some told)) op asked wants is = let same : done_at point told ≡ op = cc in subst (λ o. opens o ≡ false) same (opens_not_ask point told)
-unmarked_opens point op asked wants is = absurd (cc)
+unmarked_opens point op asked wants is = grind (arith, opens_marked point op asked wants)

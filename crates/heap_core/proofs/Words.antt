@@ -2,11 +2,12 @@
 pub use Rattle.std.specs.BTreeSet.{insert_key}
 pub use Rattle.std.specs.List.{count_by, list_any, range_with_len, flat_map, position, sum_by, swap_remove, slice_get, position_or_len, list_all}
 pub use Rattle.std.specs.Map.{keys_of, lookup}
-pub use Rattle.std.specs.Option.{option_map_or, option_map, is_none}
+pub use Rattle.std.specs.Option.{option_map_or, option_map}
 pub use Rattle.std.specs.Ordering.{nat_cmp}
-pub use Rattle.std.proofs.Common.{◌≡◌, ◌≤◌, ℕ, ◌+◌, ◌^◌, ◌==◌, Bool, true, false, cond, not, List, Option, None, Some, refl, arith, nat_lt, ◌<◌, Result, Ok, Err, OnOk, OnErr, length, replicate, slice_set, [], ◌∷◌, ◌++◌, length-append, sym, ap, subst, ◌∙◌, ◌/◌, ◌&&◌, inl, lt-ltb, min, ℤ, ◌≢◌, ◌-◌, ◌*◌, ◌||◌, map, suc, zero, filter, find, get_or, IsTrue, IfSome, IsSomeAnd, All, nat_eq, inr, take, drop, ◌⊎◌, IsOk, ◌%◌, max, fold, rules, is_some, vec_len, slice_index_or}
+pub use Rattle.std.proofs.Common.{◌≡◌, vec_capacity, ◌≤◌, ℕ, ◌+◌, ◌^◌, ◌==◌, Bool, true, false, cond, not, List, Option, None, Some, refl, arith, nat_lt, ◌<◌, Result, Ok, Err, OnOk, OnErr, length, replicate, slice_set, [], ◌∷◌, ◌++◌, length-append, sym, ap, subst, ◌∙◌, ◌/◌, ◌&&◌, inl, lt-ltb, min, ℤ, ◌≢◌, ◌-◌, ◌*◌, ◌||◌, map, suc, zero, filter, find, get_or, IsTrue, IfSome, IsSomeAnd, All, nat_eq, inr, take, drop, ◌⊎◌, IsOk, ◌%◌, max, fold, rules, is_some, vec_len, eq-eqb, zero-add}
+pub use Rattle.std.proofs.Math.Bool.{or_assoc, or-false}
 pub use Rattle.std.proofs.Math.ListN.{get_or-map}
-pub use Rattle.std.proofs.lemmas.Bool.{cond_both, ltb-true, eqb-true}
+pub use Rattle.std.proofs.lemmas.Bool.{cond_both, ltb-true, eqb-true, cases_lt}
 pub use Rattle.std.proofs.lemmas.Bool.Decides.{nat_tests}
 pub use Rattle.std.proofs.lemmas.Grind.{same_number_lists}
 pub use Rattle.std.proofs.lemmas.List.{get_or-replicate, length-replicate, replicate-append-replicate, set-get_or, length-map, length-take, get_or_default, get_or-set_other, get_or-set_same, length-set, drop_more, length-drop, nil_from_length, map-set, take_all}
@@ -20,26 +21,25 @@ pub use Rattle.std.proofs.lemmas.Option.{get_or_from_slice_get, slice_get-get_or
 pub use Rattle.arena_core.proofs.Emptying.{any_counts}
 pub use Rattle.arena_core.proofs.RoomSums.{rooms_with}
 pub use Rattle.arena_core.specs.Arenas.{opens, room_after, room_of, entry_of, emptied_by_op, all_rooms, given_by, rooms_after}
-pub use Rattle.call_table.proofs.Beginning.{begins-know, batches-know}
-pub use Rattle.call_table.proofs.Bounds.{chosen_stage}
-pub use Rattle.call_table.proofs.Own.{live_where, region_found}
-pub use Rattle.call_table.proofs.Rooms.{rooms-suffice}
-pub use Rattle.call_table.proofs.Standing.{wants-stand}
-pub use Rattle.call_table.proofs.Steps.{steps-keep, never_starves}
-pub use Rattle.call_table.specs.Calls.{CallFacts, HasRoomToHold, moment_of, started}
-pub use Rattle.call_table.specs.Desks.{desk_fed, flushes, held_region, address_behind, desk_turned, landed_behind, sharing, desk_ended, switched}
-pub use Rattle.call_table.specs.Items.{lent}
-pub use Rattle.call_table.specs.Knows.{KnowsTurn, Idle, Knows, Alone, Flies, Settled, in_flight, Gets, GivesBack, HasOffered, KnowsAsk, HasPair, is_held, is_served, is_of_arena}
-pub use Rattle.call_table.specs.Laws.{IsInRange, KnowsNext, Keeps, Moves, Stands, left, stages, with_found, Ready, Has}
-pub use Rattle.call_table.specs.Needs.{Goes, NeedIs, NeedsWant}
-pub use Rattle.call_table.specs.Reads.{ended_by, aimed, heard_next, published_next, taken_next}
-pub use Rattle.call_table.specs.Rooms.{needed_at, Suffices, flying, needed_next, room_then}
-pub use Rattle.call_table.specs.Runs.{Moment, after, batch_goes, begin, begin_desk, begin_free, begin_get, begin_publish, begin_stage, closed, first_turn, is_alignment, moved, page_align, small_hit, stage, step_next, after_time, begin_bind, begin_malloc, begin_memalign, desk_freed, desk_got, desk_published, first_turn_but_0, purge_visit, share, decay_setting, wish_for, starved_after, settle}
-pub use Rattle.call_table.specs.Table.{op_at, WantTurn, ask_at, done_at, is_marked, step, want, WantAsk, make_next, told, turn_replied, starved, Want, visited}
-pub use Rattle.call_table.specs.Words.{Nothing, Held, DeskFacts, BatchFacts, batch_of, freeing, going, going_with, held_at, hit, aligned_for, class_for, Rest, SetBox, SetBound, SetLimit, MakeLive, cached_of, caching, hitting, is_cacheable, slots_at, most_regions, cached_in, Reply, Noted, Purge, InUse as Busy, Setting, Space, Part, Span, Sound, mine, fill_at, land_at, lowest_free, Op, AskFacts, AnswersTo, Ask, Alloc, Dalloc, Answer, Placed, Refuses, Grown, Kept, Doomed, end_of, Unbind, SetBound as Bind, Mine, pages_at, DirtyMs, Took, Grow, Refuse, Landed, Regions, Owned, NextFlight}
-pub use Rattle.call_table.specs.declared.needs.Need.{Need}
-pub use Rattle.call_table.specs.declared.needs.Need.TheVariants.{Turn as NeedsTurn, Ask as NeedsAsk}
-pub use Rattle.call_table.specs.declared.needs.Turn.{Turn}
+pub use Rattle.call_plan.proofs.Beginning.{begins-know, batches-know}
+pub use Rattle.call_plan.proofs.Own.{live_where, region_found}
+pub use Rattle.call_plan.proofs.Rooms.{rooms-suffice}
+pub use Rattle.call_plan.proofs.Standing.{wants-stand}
+pub use Rattle.call_plan.proofs.Steps.{steps-keep, never_starves}
+pub use Rattle.call_plan.specs.Calls.{CallFacts, HasRoomToHold, moment_of, started}
+pub use Rattle.call_plan.specs.Desks.{desk_fed, flushes, held_region, address_behind, desk_turned, landed_behind, sharing, desk_ended, switched}
+pub use Rattle.call_plan.specs.Items.{lent}
+pub use Rattle.call_plan.specs.Knows.{KnowsTurn, Idle, Knows, Alone, Flies, Settled, in_flight, Gets, GivesBack, HasOffered, KnowsAsk, HasPair, is_held, is_served, is_of_arena}
+pub use Rattle.call_plan.specs.Laws.{IsInRange, KnowsNext, Keeps, Moves, Stands, left, stages, with_found, Ready, Has}
+pub use Rattle.call_plan.specs.Needs.{Goes, NeedIs, NeedsWant}
+pub use Rattle.call_plan.specs.Reads.{ended_by, aimed, heard_next, published_next, taken_next}
+pub use Rattle.call_plan.specs.Rooms.{needed_at, Suffices, flying, needed_next, room_then}
+pub use Rattle.call_plan.specs.Runs.{Moment, after, batch_goes, begin, begin_desk, begin_free, begin_get, begin_publish, begin_stage, closed, first_turn, is_alignment, moved, page_align, small_hit, stage, step_next, after_time, begin_bind, begin_malloc, begin_memalign, desk_freed, desk_got, desk_published, first_turn_but_0, purge_visit, share, decay_setting, wish_for, starved_after, settle}
+pub use Rattle.call_plan.specs.Table.{op_at, WantTurn, ask_at, done_at, is_marked, step, want, WantAsk, make_next, told, turn_replied, starved, Want, visited}
+pub use Rattle.call_plan.specs.Words.{Nothing, Held, DeskFacts, BatchFacts, batch_of, freeing, going, going_with, held_at, hit, aligned_for, class_for, Rest, SetBox, SetBound, SetLimit, MakeLive, cached_of, caching, hitting, is_cacheable, slots_at, most_regions, cached_in, Reply, Noted, Purge, InUse as Busy, Setting, Space, Part, Span, Sound, mine, fill_at, land_at, lowest_free, Op, AskFacts, AnswersTo, Ask, Alloc, Dalloc, Answer, Placed, Refuses, Grown, Kept, Doomed, end_of, Unbind, SetBound as Bind, Mine, pages_at, DirtyMs, Took, Grow, Refuse, Landed, Regions, Owned, NextFlight}
+pub use Rattle.call_plan.specs.declared.needs.Need.{Need}
+pub use Rattle.call_plan.specs.declared.needs.Need.TheVariants.{Turn as NeedsTurn, Ask as NeedsAsk}
+pub use Rattle.call_plan.specs.declared.needs.Turn.{Turn}
 pub use Rattle.hook_api.specs.Asked.{heard_in}
 pub use Rattle.hook_api.specs.Journals.{IsByIndex}
 pub use Rattle.hook_api.specs.Kept.{IsKept, heard_of, KeptFacts}
@@ -66,28 +66,28 @@ pub use Rattle.space_model.specs.Purging.{after_offer, keep_offer, without_offer
 pub use Rattle.space_model.specs.Region.{address_of, is_held_by_other, landing, region_of, regions_from, held_anew, inserted, is_held_by, covers, homes, is_published, sharers}
 pub use Rattle.space_model.specs.Settings.{after_set, with_setting}
 pub use Rattle.space_model.specs.Span.{IsPlaced, chunk_span, chunks_of, has_page, meets}
+pub use Rattle.space_model.specs.Counts.{counts_of}
 pub use Rattle.space_model.specs.Step.{is_live, stays, step_of, op_stands, stands, after_grow, grow_unless, is_in_space, is_owned, holds_at, is_given_back, staying, space_after}
 pub use Rattle.space_model.specs.Stepped.{Stepped, is_dirty_time_over, is_lazy}
-pub use Rattle.space_model.specs.declared.asks.Heard.{Heard}
 pub use Rattle.space_model.specs.declared.entries.Entry.{Entry}
 pub use Rattle.space_model.specs.declared.entries.Op.TheVariants.{Look, Back, GrowDone, OfferDone, Offer, DestroyTake, Publish, CutDone, CommitDone, Land, PutLook, MergeDone, Fill, Advance, PurgeTake, LazyDone, DecommitDone, ForcedDone, TakeOver, Set}
 pub use Rattle.space_model.specs.declared.entries.Why.TheVariants.{OffSpace, Unaligned, Meets}
 pub use Rattle.space_model.specs.declared.parts.Region.{Region, Region as SpaceRegion}
 pub use Rattle.thread_cache.specs.Caches.{is_elsewhere, put_in, gone_from}
-pub use Rattle.thread_cache.specs.Desks.{has_slot, not_holding, discarding, empty_handed, gave, is_in_arena, holding, before_last, held_again, held_again_with, kept, kept_with, added, addrs_in, gave_with, least_arena, lesser, older_count}
+pub use Rattle.thread_cache.specs.Desks.{has_slot, not_holding, discarding, empty_handed, gave, is_in_arena, holding, before_last, held_again, held_again_with, kept, kept_with, added, addrs_in, gave_with, lesser, older_count}
 pub use Rattle.heap_core.specs.Arenas.{room_in, IsArenas, opening_records, no_record, record_after, record_at, spaces_of, reply_in, AreRecorded, journal_of, opening_record, records_turned}
 pub use Rattle.heap_core.specs.Chunks.{with_chunk_found, met_by_alloc, met_by_dalloc, others_of, Apart, met_in, owns_chunk, space_at}
 pub use Rattle.heap_core.specs.Clients.{IsIdle, mine_in, CanTurn, after_turn, AsksLeadOn, OthersStay, TurnsLeadOn, Waits, WaitsNext}
 pub use Rattle.heap_core.specs.Feeding.{FedTo, aimed_seat}
 pub use Rattle.heap_core.specs.Heaps.{HeapFacts, IsStarved, IsStep, IsSure, answered_by, holder_for, starved_on, told_to, turned_for, turned_on, unnamed_on, IsStepFor, SureAt, WantedAt, holding_client, parted, published_for, region_for, seated, SureFor, region_in_seat, replied}
-pub use Rattle.heap_core.specs.Logs.{owed_to, last_asked, LogFacts, all_owed}
+pub use Rattle.heap_core.specs.Logs.{owed_to, last_asked, LogFacts}
 pub use Rattle.heap_core.specs.Owing.{asks_at, owing, IsHeap, asks_next}
 pub use Rattle.heap_core.specs.Records.{Record, opening_space, IsReplayed, most_room, entries_of, IsRecorded, shown}
-pub use Rattle.heap_core.specs.Seats.{seat_of, Seat, asked_for, first_seat, free_request, heard_by, held_by, holder_of, seat_at, answer_of, open_call}
+pub use Rattle.heap_core.specs.Seats.{seat_of, Seat, asked_for, first_seat, heard_by, holder_of, seat_at, answer_of, open_call}
 pub use Rattle.heap_core.specs.Sitting.{IsSeated, SeatSound, Comes, HasSlots, StartsSit, Suits, SuitsChange, SuitsTurn, IsTheHand, is_region, AimsSit, HasRegions, HoldersPublish, Sits, SitsAt, SuitsAsk, SuitsGet, SuitsThen, is_region_in, IsAtRest, in_hand, regions_of_desk, OpeningSits, AsksSit, OthersSit, StarvesSit, TurnsSit}
 pub use Rattle.heap_core.specs.Stepping.{TurnFacts, with_ask, MadeTurn, item_of, replied_by, HolderIs, IsPublished, StarvesAt, StarvesNext, TakesAt, IsMarked, Needs}
-pub use Rattle.heap_core.specs.Words.{Request, Malloc, Memalign, Free, Flush, Cache, Reset, Destroy, Create, Item, Replied, TurnPoint, Filling, Skipping, Point, Turns, Asks, Tells, Next, Go, Over, More, FreeForeign, Take, PurgeAll, Decay, Time, HookBox, GrowLimit, Finished, TooLarge, BadAlign, NotHeld, NoSuchArena as NoArena, Automatic, Stops, Leaves, Looking, Taking, Advancing, Changing, Making, Resetting, Destroying, Publishing, Owning, Ends, Stage, Wish, Change, Visits, Landing, Giving, AskPoint, Gone, Nowhere, Answered, Told, Starved, NoMemory, Then, Batches, Visiting, Finding, Dooming, Merging, Arena, Limits, Given, Needing}
+pub use Rattle.heap_core.specs.Words.{Request, Malloc, Memalign, Free, Flush, Cache, Reset, Destroy, Create, Item, Replied, TurnPoint, Filling, Skipping, Point, Turns, Asks, Tells, Next, Go, Over, More, FreeForeign, Take, PurgeAll, Decay, Time, HookBox, GrowLimit, Finished, TooLarge, BadAlign, NotHeld, NoSuchArena as NoArena, Automatic, Stops, Leaves, Looking, Taking, Advancing, Changing, Making, Resetting, Destroying, Publishing, Owning, Ends, Stage, Wish, Change, Visits, Landing, Giving, AskPoint, Gone, Nowhere, Answered, Told, Starved, NoMemory, Then, Finding, Dooming}
 pub use Rattle.heap_core.specs.declared.heaps.Did.TheVariants.{Turn as DidTurn, Ask as DidAsk}
 pub use Rattle.heap_core.specs.declared.records.Recorded.TheInside.{Inside}
-pub use Rattle.call_table.specs.declared.points.Visit.{Visit}
+pub use Rattle.call_plan.specs.declared.points.Visit.{Visit}
 pub use Rattle.std.proofs.Math.Seq.{get_or-append_seam}

@@ -1,10 +1,11 @@
 -- The arenas of a heap, each with its journal.
-use Rattle.std.specs.Prelude.{◌≡◌, ℕ, ◌<◌, ◌^◌, ◌++◌, ◌∷◌, [], List, Option, length, map, replicate, slice_index_or, slice_set}
+use Rattle.std.specs.Prelude.{◌≡◌, ℕ, ℤ, ◌<◌, ◌^◌, ◌++◌, ◌∷◌, [], List, Option, None, Some, if◌then◌else◌, length, map, replicate, slice_index_or, slice_set}
 use Rattle.std.specs.List.{range_with_len}
 use Rattle.space_model.specs.Step.{reply_to, space_after}
+use Rattle.space_model.specs.Stepped.{is_live}
 use Rattle.hook_api.specs.declared.kept.Journal.{Journal}
 use Rattle.arena_core.specs.Arenas.{entry_of, room_of, rooms_after}
-use Rattle.call_table.specs.Words.{Op, Reply, Space, AskFacts}
+use Rattle.call_plan.specs.Words.{Op, Reply, Space, AskFacts}
 use Rattle.heap_core.specs.Chunks.{Apart}
 use Rattle.heap_core.specs.Records.{IsReplayed, Record, opening_space}
 
@@ -62,6 +63,14 @@ opening_record i = record { index = i; space = opening_space i; rooms = replicat
 -- the arenas of a new heap
 abbrev pub opening_records : List Record
 opening_records = map opening_record (range_with_len 0 32)
+
+-- what is told of an arena that is live, and nothing of another one
+abbrev pub where_live : {X : Type 0} → (Space → X) → Space → Option X
+where_live told s = if is_live s.life then Some (told s) else None
+
+-- the box of hooks of an arena and its decay times
+abbrev pub setting_of : Space → ℕ × ℤ × ℤ
+setting_of s = (s.box_no, s.dirty.ms, s.muzzy.ms)
 
 -- the journal of an arena
 abbrev pub journal_of : Record → Journal

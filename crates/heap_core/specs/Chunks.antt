@@ -5,7 +5,7 @@ use Rattle.space_model.specs.declared.entries.Op.TheVariants.{GrowDone, OfferDon
 use Rattle.space_model.specs.Opening.{absent_space}
 use Rattle.space_model.specs.Span.{chunk_span, chunks_of, meets}
 use Rattle.space_model.specs.Step.{is_in_space}
-use Rattle.call_table.specs.Words.{Ask, Alloc, Dalloc, Answer, Placed, Refuses as Refused, Op, Space, Span}
+use Rattle.call_plan.specs.Words.{Ask, Alloc, Dalloc, Answer, Placed, Refuses as Refused, Op, Space, Span}
 
 -- the space of the arena with an index; where there is none, it is that of an index without an arena
 abbrev pub space_at : List Space → ℕ → Space

@@ -5,7 +5,7 @@ use Rattle.space_model.specs.Opening.{absent_space, first_space}
 use Rattle.space_model.specs.Journal.{all_stand, replay}
 use Rattle.hook_api.specs.Kept.{KeptFacts}
 use Rattle.arena_core.specs.Arenas.{all_rooms, given_by}
-use Rattle.call_table.specs.Words.{Op, Space}
+use Rattle.call_plan.specs.Words.{Op, Space}
 use Rattle.heap_core.specs.declared.records.Recorded.TheInside.{Inside}
 
 -- what callers see of an arena with its journal: its index, its space, the rooms of its clients, and the entries of its

@@ -1,6 +1,6 @@
 //! The arenas of a heap.
 
-ghost use Rattle.std.specs.Prelude.{◌≡◌, ◌≢◌, ◌+◌, ◌<◌, ◌≤◌, ◌^◌, ℕ, false, true, length, map, IsTrue, IsOk, IfOk, IfSome, OnOk, OnErr};
+ghost use Rattle.std.specs.Prelude.{[], ◌≡◌, ◌≢◌, ◌+◌, ◌<◌, ◌≤◌, ◌^◌, ℕ, false, true, length, map, vec_capacity, IsTrue, IsOk, IfOk, IfSome, OnOk, OnErr};
 ghost use Rattle.std.specs.List.{list_any, position};
 ghost use Rattle.space_model.specs.Span.{has_page};
 ghost use Rattle.space_model.specs.Step.{stands};
@@ -13,7 +13,7 @@ ghost use Rattle.heap_core.specs.Chunks.{Apart, met_by_alloc, met_by_dalloc, met
 
 use crate::records::Recorded;
 use arena_core::Arena;
-use hook_api::{Asked, Journals};
+use hook_api::{Asked, Journal, Journals};
 use space_model::{Answer, Ask, CHUNK_PAGES, Heard, Op, Reply, Span};
 use std::alloc::{AllocError as NoMemory, Global};
 use std::marker::Model;
@@ -21,10 +21,13 @@ use std::marker::Model;
 /// How many arenas there are.
 pub const ARENAS: u32 = 32;
 
-/// The 32 arenas of a heap, each with its journal. Contracts see them as their list.
+/// The 32 arenas of a heap, each with its journal, and a list with places for the journals, which are put there at the end.
+/// Contracts see the arenas as their list.
 #[derive(Drop)]
 pub struct Arenas {
     records: Vec<Recorded>,
+    journals: Vec<Journal>,
+    ghost places: { (journals.items ≡ []) × (32 ≤ vec_capacity journals) },
 }
 
 impl Model for Arenas {
@@ -137,11 +140,12 @@ impl Arenas {
     pub fn new(alloc: Global) -> Result<Arenas, NoMemory>
         ensures { IfOk result (λ arenas. arenas ≡ opening_records) }
     {
+        let journals = Vec::with_capacity(alloc, ARENAS as usize)?;
         let mut records = Vec::new(alloc);
         for index in 0..ARENAS {
             records.push(Recorded::new(alloc, index)?)?;
         }
-        Ok(Arenas { records })
+        Ok(Arenas { records, journals })
     }
 
     /// A turn of a client in an arena, whose entry joins the journal beside the ask that it carries. The chunk that speaks
@@ -202,17 +206,19 @@ impl Arenas {
         self.records[arena as usize].arena()
     }
 
-    /// The journals of all arenas, once no turn is to come: each leaves the space of its arena. `NoMemory` only where there
-    /// is none for the list of the 32.
+    /// The journals of all arenas, once no turn is to come: each leaves the space of its arena. Takes no memory.
     #[tactic(auto, using(crate::proofs::Turned::stand_by_index))]
-    pub fn into_journals(self, alloc: Global) -> Result<Journals, NoMemory>
-        ensures journals { IfOk result (λ journals. journals ≡ map journal_of self) }
+    pub fn into_journals(self) -> Journals
+        ensures journals { result ≡ map journal_of self }
         ensures replayed { (i : ℕ) → i < 32 → IsReplayed i (record_at self i).kept (record_at self i).space }
     {
-        let mut journals = Vec::new(alloc);
-        for record in self.records {
-            journals.push(record.into_journal())?;
+        let Arenas {
+            records,
+            mut journals,
+        } = self;
+        for record in records {
+            journals.push_reserved(record.into_journal());
         }
-        Ok(Journals::from_vec(journals))
+        Journals::from_vec(journals)
     }
 }

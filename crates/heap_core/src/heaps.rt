@@ -2,11 +2,13 @@
 
 ghost use Rattle.std.specs.Prelude.{◌≡◌, ◌<◌, ◌/◌, ◌^◌, ℕ, None, length, map, is_some, false, IfOk, IfSome, IsOk, OnOk, OnErr};
 ghost use Rattle.std.specs.List.{list_any, position};
+ghost use Rattle.space_model.specs.Counts.{counts_of};
 ghost use Rattle.space_model.specs.Span.{has_page};
-ghost use Rattle.call_table.specs.Calls.{takes_memory};
-ghost use Rattle.call_table.specs.Laws.{IsInRange};
+ghost use Rattle.space_model.specs.Stepped.{is_live};
+ghost use Rattle.call_plan.specs.Calls.{takes_memory};
+ghost use Rattle.call_plan.specs.Laws.{IsInRange};
 ghost use Rattle.thread_cache.specs.Desks.{held_at};
-ghost use Rattle.heap_core.specs.Arenas.{IsArenas, journal_of, record_at};
+ghost use Rattle.heap_core.specs.Arenas.{IsArenas, journal_of, record_at, setting_of, where_live};
 ghost use Rattle.heap_core.specs.Heaps.{opening_heap, started};
 ghost use Rattle.heap_core.specs.Logs.{last_asked};
 ghost use Rattle.heap_core.specs.Seats.{answer_of, asked_for, begun, free_request, held_by, holder_of, seat_at};
@@ -17,10 +19,10 @@ use crate::arenas::ARENAS;
 use crate::logs::AskLog;
 use crate::seats::Client;
 use arena_core::Arena;
-use call_table::{Answered, Request};
+use call_plan::{Answered, Request};
 use hook_api::{Asked, Askeds, Journals};
 use size_classes::PAGE_BYTES;
-use space_model::CLIENTS;
+use space_model::{CLIENTS, Counts};
 use std::alloc::{AllocError as NoMemory, Global};
 use std::marker::Model;
 use thread_cache::{Desk, Held};
@@ -182,12 +184,54 @@ impl Heap {
         self.clients[client as usize].desk()
     }
 
-    /// The arena with an index, from which its counts and settings are read.
-    pub fn arena(&self, arena: u32) -> &Arena
-        requires { arena < 32 }
-        ensures { result.now.space ≡ (record_at self.now.records arena).space }
+    /// The arena with an index, where it is live.
+    fn live_arena(&self, index: u32) -> Option<&Arena>
+        ensures space { IfSome result (λ arena. arena.now.space ≡ (record_at self.now.records index).space) }
+        ensures live { is_some result ≡ is_live (record_at self.now.records index).space.life }
     {
-        self.arenas.at(arena)
+        self.arenas.are_apart();
+        if index >= ARENAS {
+            return None;
+        }
+        let arena = self.arenas.at(index);
+        if arena.life().is_live() {
+            Some(arena)
+        } else {
+            None
+        }
+    }
+
+    /// Whether the arena with an index is live.
+    pub fn live(&self, arena: u32) -> bool
+        ensures { result ≡ is_live (record_at self.now.records arena).space.life }
+    {
+        self.live_arena(arena).is_some()
+    }
+
+    /// The counts of the arena with an index, where it is live (`stats.arenas.<i>` in the manual).
+    pub fn counts(&self, arena: u32) -> Option<Counts>
+        ensures { result ≡ where_live counts_of (record_at self.now.records arena).space }
+    {
+        Some(self.live_arena(arena)?.counts())
+    }
+
+    /// The box of hooks that the arena with an index asks, and its decay times of dirty and of muzzy extents in milliseconds, -1
+    /// for never, where it is live (`arena.<i>` in the manual).
+    pub fn setting(&self, arena: u32) -> Option<(u32, i64, i64)>
+        ensures { result ≡ where_live setting_of (record_at self.now.records arena).space }
+    {
+        let arena = self.live_arena(arena)?;
+        let (dirty_ms, muzzy_ms) = arena.times();
+        Some((arena.box_no(), dirty_ms, muzzy_ms))
+    }
+
+    /// The client that holds a region at an address, if one does. One that is cached or in hand is held by nobody in this sense.
+    pub fn holder_of(&self, addr: u64) -> Option<u32>
+        ensures { result ≡ holder_of addr self.now.seats }
+    {
+        self.arenas.are_apart();
+        let holder = holder_of(&self.clients, addr)?;
+        Some(holder as u32)
     }
 
     /// The index of the arena of which an extent has the page of an address, if there is one.
@@ -208,9 +252,9 @@ impl Heap {
     /// another client holds takes it over first. Where memory is wanting nothing changes.
     pub fn start(
         &mut self,
+        alloc: Global,
         client: u32,
         request: Request,
-        alloc: Global,
     ) -> Result<Option<Answered>, NoMemory>
         requires client { client < 32 }
         requires rests { (seat_at self.old.seats client).call ≡ None }
@@ -222,17 +266,15 @@ impl Heap {
     {
         let request = asked_for(&self.clients, client, request);
         self.arenas.are_apart();
-        self.clients[client as usize].start(client, request, alloc)
+        self.clients[client as usize].start(alloc, client, request)
     }
 
-    /// The journals of all arenas, which leave the spaces that these have, and every ask, in order. `NoMemory` only where there
-    /// is none for the list of the journals.
-    pub fn finish(self, alloc: Global) -> Result<(Journals, Askeds), NoMemory>
-        ensures journals { IfOk result (λ books. books.0 ≡ map journal_of self.records) }
-        ensures asks { IfOk result (λ books. books.1 ≡ self.heard) }
+    /// The journals of all arenas, which leave the spaces that these have, and every ask, in order. Takes no memory.
+    pub fn finish(self) -> (Journals, Askeds)
+        ensures journals { result.0 ≡ map journal_of self.records }
+        ensures asks { result.1 ≡ self.heard }
     {
         let Heap { arenas, log, .. } = self;
-        let journals = arenas.into_journals(alloc)?;
-        Ok((journals, log.into_asks()))
+        (arenas.into_journals(), log.into_asks())
     }
 }

@@ -3,15 +3,15 @@
 ghost use Rattle.std.specs.Prelude.{◌≡◌, IfSome, IfNone, IfOk, IsOk, IsSomeAnd, None, Some, OnOk, OnErr, false, true, is_some};
 ghost use Rattle.std.specs.Option.{option_and_then};
 ghost use Rattle.thread_cache.specs.Desks.{DeskFacts, held_at, not_holding};
-ghost use Rattle.call_table.specs.Calls.{moment_of, takes_memory};
-ghost use Rattle.call_table.specs.Items.{lent};
-ghost use Rattle.call_table.specs.Needs.{Goes};
-ghost use Rattle.call_table.specs.Reads.{ended_by, taken_next};
-ghost use Rattle.call_table.specs.Runs.{after, begin};
+ghost use Rattle.call_plan.specs.Calls.{moment_of, takes_memory};
+ghost use Rattle.call_plan.specs.Items.{lent};
+ghost use Rattle.call_plan.specs.Needs.{Goes};
+ghost use Rattle.call_plan.specs.Reads.{ended_by, taken_next};
+ghost use Rattle.call_plan.specs.Runs.{after, begin};
 ghost use Rattle.heap_core.specs.Seats.{answer_of, first_seat, heard_by, open_call, seat_of};
 ghost use Rattle.heap_core.specs.Feeding.{FedTo, aimed_seat};
 
-use call_table::{Answered, Call, Item, Request};
+use call_plan::{Answered, Call, Item, Request};
 use hook_api::Asked;
 use std::alloc::{AllocError as NoMemory, Global};
 use std::marker::Model;
@@ -132,9 +132,9 @@ impl Client {
     #[tactic(auto, using(crate::proofs::Feeding::started_open))]
     pub fn start(
         &mut self,
+        alloc: Global,
         client: u32,
         request: Request,
-        alloc: Global,
     ) -> Result<Option<Answered>, NoMemory>
         requires { self.old.call ≡ None }
         ensures seat { OnOk result (self.new ≡ seat_of client (begin request self.old.desk)) }
@@ -142,19 +142,19 @@ impl Client {
         ensures spare { takes_memory request self.old.desk ≡ false → IsOk result }
         ensures err { OnErr result (self.new ≡ self.old) }
     {
-        Call::start(&mut self.call, client, &mut self.desk, &request, alloc)
+        Call::start(alloc, &mut self.call, client, &mut self.desk, &request)
     }
 
     /// Feeds an item to its open call. The answer is told, where the call has ended by it: that is `NoMemory` where there is
     /// none to name the regions that go back next.
-    pub fn feed(&mut self, item: Item<'_>, alloc: Global, ended: &mut Option<Answered>)
+    pub fn feed(&mut self, alloc: Global, item: Item<'_>, ended: &mut Option<Answered>)
         requires { IsSomeAnd self.old.call (λ call. Goes (after (moment_of call self.old.desk) (lent item)).stage.next) }
         ensures { IfSome self.old.call (λ call. FedTo call self.old.desk (lent item.entry) ended.new self.new) }
     {
         let Some(call) = &mut self.call else {
             unreachable!()
         };
-        let _named = call.next(&mut self.desk, item, alloc);
+        let _named = call.next(alloc, &mut self.desk, item);
         settle(&mut self.call, ended);
     }
 }

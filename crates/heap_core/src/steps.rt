@@ -5,8 +5,8 @@ ghost use Rattle.hook_api.specs.Shelf.{Shelf};
 ghost use Rattle.space_model.specs.declared.entries.Op.TheVariants.{Publish};
 ghost use Rattle.arena_core.specs.Arenas.{all_rooms, opens};
 ghost use Rattle.thread_cache.specs.Desks.{held_at};
-ghost use Rattle.call_table.specs.Items.{lent};
-ghost use Rattle.call_table.specs.Needs.{NeedIs};
+ghost use Rattle.call_plan.specs.Items.{lent};
+ghost use Rattle.call_plan.specs.Needs.{NeedIs};
 ghost use Rattle.heap_core.specs.Arenas.{reply_in, room_in, record_at, spaces_of};
 ghost use Rattle.heap_core.specs.Clients.{CanTurn, after_turn};
 ghost use Rattle.heap_core.specs.Feeding.{aimed_seat};
@@ -21,7 +21,7 @@ use crate::heaps::{Did, Heap, Stepped, holder_of};
 use crate::logs::AskLog;
 use crate::records::places_for;
 use arena_core::Arena;
-use call_table::{Answered, Item, Need, Turn};
+use call_plan::{Answered, Item, Need, Turn};
 use hook_api::{Asked, ExtentHooks, HookShelf};
 use space_model::{Ask, Op, Reply};
 use std::alloc::{AllocError as NoMemory, Global};
@@ -122,7 +122,7 @@ impl Heap {
     }
 
     /// The call of a client has ended, since the turn that it wants found no memory.
-    fn starve(&mut self, client: u32, alloc: Global, told: &mut Stepped)
+    fn starve(&mut self, alloc: Global, client: u32, told: &mut Stepped)
         requires client { client < 32 }
         requires starves { StarvesAt (seat_at self.old.seats client).call }
         ensures step { (shelf : Shelf) → IsStep self.old shelf client (seat_at self.old.seats client).call told.new self.new shelf }
@@ -130,11 +130,11 @@ impl Heap {
     {
         self.arenas.are_apart();
         told.did = Did::Turn;
-        self.clients[client as usize].feed(Item::Starved, alloc, &mut told.ended);
+        self.clients[client as usize].feed(alloc, Item::Starved, &mut told.ended);
     }
 
     /// The turn that a client's call wants.
-    fn turn(&mut self, turn: &mut Turn, alloc: Global, told: &mut Stepped)
+    fn turn(&mut self, alloc: Global, turn: &mut Turn, told: &mut Stepped)
         requires client { turn.old.client < 32 }
         requires needs { Needs (seat_at self.old.seats turn.old.client).call (Need.Turn turn.old) }
         requires free { IfSome (seat_at self.old.seats turn.old.client).call (λ call. HolderIs self.old call None) }
@@ -147,16 +147,16 @@ impl Heap {
         let mut reply = Reply::Noted;
         let made = make_turn(&mut self.arenas, &mut self.log, turn, asked, &mut reply);
         told.did = Did::Turn;
-        self.clients[client].feed(item_of(made, &reply), alloc, &mut told.ended);
+        self.clients[client].feed(alloc, item_of(made, &reply), &mut told.ended);
     }
 
     /// The turn by which a holder publishes the region that a client's call takes over next.
     fn take_over(
         &mut self,
+        alloc: Global,
         client: u32,
         holder: u32,
         region: Held,
-        alloc: Global,
         told: &mut Stepped,
     )
         requires client { client < 32 }
@@ -170,12 +170,12 @@ impl Heap {
                 self.aim(client, region.arena);
                 told.go_on(Did::Turn);
             }
-            Err(_) => self.starve(client, alloc, told),
+            Err(_) => self.starve(alloc, client, told),
         }
     }
 
     /// A turn for a client's call: the one by which a holder publishes, if there is one, and else the one that the call wants.
-    fn turn_for(&mut self, turn: &mut Turn, alloc: Global, told: &mut Stepped)
+    fn turn_for(&mut self, alloc: Global, turn: &mut Turn, told: &mut Stepped)
         requires client { turn.old.client < 32 }
         requires needs { Needs (seat_at self.old.seats turn.old.client).call (Need.Turn turn.old) }
         ensures step { (shelf : Shelf) → IsStep self.old shelf turn.old.client (seat_at self.old.seats turn.old.client).call told.new self.new shelf }
@@ -183,20 +183,20 @@ impl Heap {
     {
         match self.holder_for(turn.client) {
             Some((holder, region)) => {
-                self.take_over(turn.client, holder as u32, region, alloc, told);
+                self.take_over(alloc, turn.client, holder as u32, region, told);
             }
-            None => self.turn(turn, alloc, told),
+            None => self.turn(alloc, turn, told),
         }
     }
 
     /// The ask that a client's call wants, of the box of its arena.
     fn ask<H: ExtentHooks>(
         &mut self,
+        alloc: Global,
         client: u32,
         arena: u32,
         ask: Ask,
         shelf: &mut HookShelf<H>,
-        alloc: Global,
         told: &mut Stepped,
     )
         requires client { client < 32 }
@@ -208,7 +208,7 @@ impl Heap {
         let asked = shelf.ask(self.arenas.at(arena).box_no(), ask);
         self.log.push(client, asked);
         told.did = Did::Ask;
-        self.clients[client as usize].feed(Item::Told(&asked), alloc, &mut told.ended);
+        self.clients[client as usize].feed(alloc, Item::Told(&asked), &mut told.ended);
     }
 
     /// Carries the open call of a client on, if it has one, by one turn or one ask. Where the call has ended by it, its answer
@@ -216,25 +216,25 @@ impl Heap {
     /// takes no memory is always made, and so is an ask.
     pub fn step_client<H: ExtentHooks>(
         &mut self,
+        alloc: Global,
         client: u32,
         shelf: &mut HookShelf<H>,
-        alloc: Global,
     ) -> Stepped
         requires { client < 32 }
         ensures step { IsStep self.old shelf.old client (seat_at self.old.seats client).call result self.new shelf.new }
         ensures sure { IsSure self.old client (seat_at self.old.seats client).call self.new }
     {
         let mut told = Stepped::none();
-        self.step_into(client, shelf, alloc, &mut told);
+        self.step_into(alloc, client, shelf, &mut told);
         told
     }
 
     /// The same, for a caller that has a place for what is told.
     pub fn step_into<H: ExtentHooks>(
         &mut self,
+        alloc: Global,
         client: u32,
         shelf: &mut HookShelf<H>,
-        alloc: Global,
         told: &mut Stepped,
     )
         requires { client < 32 }
@@ -246,9 +246,9 @@ impl Heap {
             return;
         };
         match call.need(alloc) {
-            Need::Ask { arena, ask } => self.ask(client, arena, ask, shelf, alloc, told),
-            Need::Turn(mut turn) => self.turn_for(&mut turn, alloc, told),
-            Need::Starved => self.starve(client, alloc, told),
+            Need::Ask { arena, ask } => self.ask(alloc, client, arena, ask, shelf, told),
+            Need::Turn(mut turn) => self.turn_for(alloc, &mut turn, told),
+            Need::Starved => self.starve(alloc, client, told),
             Need::Done(_) => unreachable!(),
         }
     }

@@ -1,7 +1,6 @@
 //! The top call: all that the program does, over a source, a sink and a shelf of hooks.
 
 ghost use Rattle.std.specs.Prelude.{◌≡◌, true, List, [], map, string_bytes};
-ghost use Rattle.hook_api.specs.Asked.{AskFacts};
 ghost use Rattle.hook_api.specs.declared.kept.Journal.{Journal};
 ghost use Rattle.jarena.specs.Words.{TellsUsage, IsReplay, IsInNoList};
 ghost use Rattle.edge_io.specs.Bytes.{Rose};
@@ -21,9 +20,9 @@ pub struct Outcome<H: ExtentHooks> {
     pub status: u8,
     /// The shelf that was handed in, after the asks of the run.
     pub shelf: HookShelf<H>,
-    /// The journals of the arenas; none where the words are in no list, or memory for the arenas or the list was wanting.
+    /// The journals of the arenas; none where the words are in no list, or memory for the arenas was wanting.
     pub journals: Journals,
-    /// Every ask of the run, in order; none where the words are in no list, or at status 6 perhaps.
+    /// Every ask of the run, in order; none where the words are in no list.
     pub heard: Askeds,
 }
 
@@ -43,9 +42,9 @@ pub fn run<S: Source, K: Sink, H: ExtentHooks>(
     ensures unread { IsInNoList (map string_bytes words.now) → source.new ≡ source.old }
     ensures unasked { IsInNoList (map string_bytes words.now) → result.heard ≡ [] }
     ensures no_journals { IsInNoList (map string_bytes words.now) → result.journals ≡ [] }
-    ensures replay { IsReplay (map string_bytes words.now) → (journals : List Journal) × (heard : List AskFacts) × ReplayOf result.status journals heard shelf
+    ensures replay { IsReplay (map string_bytes words.now) → (journals : List Journal) × ReplayOf result.status journals result.heard shelf
         result.shelf (S.ended source.new) (S.left source.old) (S.left source.new) (K.held sink.old) (K.held sink.new)
-        × HandsOut result.status journals heard result.journals result.heard }
+        × HandsOut result.status journals result.journals }
     ensures known { IsReplay (map string_bytes words.now) → IsReplayStatus result.status }
     ensures read_fault { IsReplay (map string_bytes words.now) → result.status ≡ 4 → Rose (S.faults source.old) (S.faults source.new) }
     ensures write_fault { IsReplay (map string_bytes words.now) → result.status ≡ 5 → Rose (K.faults sink.old) (K.faults sink.new) }

@@ -1,8 +1,8 @@
 -- The region that a memalign is given is aligned: each step of the call keeps what is so of its place.
-use Rattle.replay_run.proofs.Words.{◌≡◌, ℕ, ◌%◌, ◌<◌, ◌==◌, Bool, true, false, All, inl, inr, List, [], ◌∷◌, ◌++◌, Option, None, Some, IfSome, length, get_or, refl, sym, ◌∙◌, ap, subst, arith, nat_lt, Contains, count_by, eqb-true, ltb-true, nat_tests, get_or_default, All-filter, All-head, All-tail, sum_by-cons, ones, align_at, SpaceRegion, Space, is_held_by, Sound, both_true, Held, cached_in, DeskFacts, cached_is_flat, Answered, Region, Item, Request, Memalign, Owning, Point, Turns, Next, Go, Over, More, Gone, Ends, Nowhere, IsCacheAligned, CallFacts, AllCame, desk_fed, Moment, after, begin, begin_memalign, begin_stage, run, settle, step_next, step, memaligns-are_aligned, IsArenas, opening_records, record_at, HeapFacts, Record, Seat, asked_for, first_desk, first_seat, seat_at, HasRegions, IsSeated, SitsAt, is_region, sound_at, had_counts, Owns, count_in, counts_low, has_owns, opening-sits, opening_is, past, IsAligned, IsAlignedFor, MemalignsAreAligned, Tale, answer_in, tale_fed, tale_in, WorldEvent, IsSound, World, Came}
-use Rattle.call_table.specs.declared.needs.Answered.TheVariants.{Ok}
+use Rattle.replay_run.proofs.Words.{◌≡◌, ℕ, ◌%◌, ◌<◌, ◌==◌, Bool, true, false, All, inl, inr, List, [], ◌∷◌, ◌++◌, Option, Some, IfSome, length, get_or, refl, sym, ◌∙◌, ap, subst, arith, nat_lt, Contains, count_by, eqb-true, ltb-true, nat_tests, get_or_default, All-filter, All-head, All-tail, sum_by-cons, ones, align_at, SpaceRegion, Space, is_held_by, Sound, both_true, Held, cached_in, DeskFacts, cached_is_flat, Answered, Region, Item, Request, Memalign, Owning, Point, Turns, Next, Go, Ends, IsCacheAligned, CallFacts, AllCame, desk_fed, Moment, after, begin, begin_memalign, begin_stage, run, settle, step_next, step, memaligns-are_aligned, IsArenas, opening_records, record_at, HeapFacts, Record, Seat, asked_for, first_desk, first_seat, seat_at, HasRegions, IsSeated, is_region, sound_at, had_counts, Owns, count_in, counts_low, has_owns, opening-sits, opening_is, past, IsAligned, IsAlignedFor, MemalignsAreAligned, Tale, answer_in, tale_fed, tale_in, WorldEvent, IsSound, World, Came}
+use Rattle.call_plan.specs.declared.needs.Answered.TheVariants.{Ok}
 use Rattle.replay_run.proofs.Getting.{Gets, begin_gets, step_gets}
-use Rattle.replay_run.proofs.Tales.{EndsWith, IsEnded, Kept, each_event}
+use Rattle.replay_run.proofs.Tales.{EndsHere, EndsWith, Kept, each_event}
 
 -- a region stands at a multiple of the alignment of its class
 abbrev IsRegionAligned : SpaceRegion → Type 0
@@ -25,12 +25,7 @@ counted_aligned a k (r ∷ rs) all some =
 
 -- a client that is as it has to be has what it has among the arenas
 sound_has : (records : List Record) (c : ℕ) (desk : DeskFacts) (call : Option CallFacts) → IsSeated records c desk call → HasRegions records c desk
-sound_has records c desk None rests = rests.has
-sound_has records c desk (Some call) seated = by call.stage.next seated.1
-  where
-    by : (next : Next) → SitsAt records c desk call next → HasRegions records c desk
-    by (Go point) sits = sits.has
-    by next sits = absurd sits
+sound_has records c desk call seated = grind arith
 
 -- each region that it has cached is aligned
 has_aligned : (records : List Record) (c : ℕ) (desk : DeskFacts) → IsArenas records → HasRegions records c desk → IsCacheAligned desk
@@ -69,14 +64,10 @@ Follows c start items next = Unit {0}
 
 settled_follows : (c : ℕ) (start : Moment) (items : List Item) (request : Request) (desk : DeskFacts) (arena : ℕ) (next : Next) → AllCame c start items →
     (run start items).stage.next ≡ (settle request desk arena next).next → Follows c start items next
-settled_follows c start items request desk arena (Go point) all is = (all, is)
-settled_follows c start items request desk arena (Ends (Ok (Region addr class))) all is = (all, is)
-settled_follows c start items request desk arena next all is = tt
+settled_follows c start items request desk arena next all is = grind arith
 
 begun_follows : (c : ℕ) (start : Moment) (next : Next) → start.stage.next ≡ next → Follows c start [] next
-begun_follows c start (Go point) is = (tt, is)
-begun_follows c start (Ends (Ok (Region addr class))) is = (tt, is)
-begun_follows c start next is = tt
+begun_follows c start next is = grind arith
 
 -- a memalign began with an aligned cache, gets a region, and is where the run of what it was fed is
 abbrev AlignsAt : ℕ → Request → Tale → Next → Type 0
@@ -102,13 +93,7 @@ steps_aligned c (Memalign align size) tale point item (cached, gets, (all, is)) 
 steps_aligned c request tale point item so came = tt
 
 settles_aligned : (c : ℕ) (request : Request) (tale : Tale) (now : DeskFacts) (arena : ℕ) (next : Next) → AlignsAt c request tale next → AlignsAt c request tale (settle request now arena next).next
-settles_aligned c (Memalign align size) tale now arena (Go point) so = so
-settles_aligned c (Memalign align size) tale now arena (Over index point) so = absurd so.1
-settles_aligned c (Memalign align size) tale now arena More so = absurd so.1
-settles_aligned c (Memalign align size) tale now arena Gone so = (so.0, tt, tt)
-settles_aligned c (Memalign align size) tale now arena (Ends answer) so = so
-settles_aligned c (Memalign align size) tale now arena Nowhere so = so
-settles_aligned c request tale now arena next so = tt
+settles_aligned c request tale now arena next so = grind arith
 
 published_aligned : (c : ℕ) (request : Request) (tale : Tale) (addr : ℕ) → AlignsAt c request tale (Go (Turns (Owning addr true false))) → AlignsAt c request tale (Go (Turns (Owning addr true true)))
 published_aligned c (Memalign align size) tale addr so = absurd so.1
@@ -128,12 +113,11 @@ answer_aligned c request tale answer so = tt
 
 given_aligned : (w : World) (event : WorldEvent) (answer : Option Answered) (tale : Option Tale) → IfSome answer (EndsWith Aligns w event tale) →
     IfSome answer (λ given. IfSome tale (λ told. IsAlignedFor told.request given))
-given_aligned w event None tale ends = tt
-given_aligned w event (Some answer) None ends = tt
 given_aligned w event (Some answer) (Some tale) ends = answer_aligned ends.0 tale.request tale answer ends.1
+given_aligned w event answer tale ends = tt
 
-event_aligned : (w : World) (tales : List (Option Tale)) (event : WorldEvent) → IsEnded Aligns w tales event → IsAligned w tales event
-event_aligned w tales event ends = given_aligned w event (answer_in w event) (tale_in w tales event) ends
+event_aligned : (w : World) (tales : List (Option Tale)) (event : WorldEvent) → EndsHere Aligns w tales event → IsAligned w tales event
+event_aligned w tales event (ends, here) = given_aligned w event (answer_in w event) (tale_in w tales event) ends
 
 pub plays-are_aligned : MemalignsAreAligned
 plays-are_aligned events play sound = each_event Aligns IsAligned event_aligned aligns_kept events play sound

@@ -1,15 +1,9 @@
 -- The asks of a play are those that its heap has heard.
-use Rattle.replay_run.proofs.Words.{◌≡◌, ℕ, Bool, true, false, List, [], ◌∷◌, ◌++◌, Option, None, Some, refl, sym, ◌∙◌, ap, append-nil, append_assoc, Op, Held, AskFacts, Answered, Request, CallFacts, HeapFacts, holder_for, published_for, region_for, started, turned_for, answer_of, begun, Line, Step, End, Verb, WorldEvent, Read, Began, Turned, Told, Starved, Unnamed, after_event, ask_in, asks_among, world_after, Reached, Now, Outset, Awaits, World, awaits_or_idle, begins, begun_as, has_open_call, line_read, opening_world, request_of}
+use Rattle.replay_run.proofs.Words.{arith, ◌≡◌, ℕ, Bool, List, [], ◌∷◌, ◌++◌, Option, None, Some, refl, sym, ◌∙◌, ap, append-nil, append_assoc, Op, Held, AskFacts, Answered, Request, CallFacts, HeapFacts, holder_for, published_for, region_for, started, turned_for, answer_of, begun, Line, Verb, WorldEvent, Read, Began, Turned, Told, Starved, Unnamed, after_event, ask_in, asks_among, world_after, Reached, Now, Outset, Awaits, World, begins, begun_as, line_read, opening_world, request_of}
 
 -- no line asks anything
-idle_hears : (w : World) (c : ℕ) (open_call : Bool) (awaits : Awaits) → (awaits_or_idle w c open_call awaits).heap.heard ≡ w.heap.heard
-idle_hears w c true awaits = refl
-idle_hears w c false awaits = refl
-
 line_hears : (w : World) (line : Line) → (line_read w line).heap.heard ≡ w.heap.heard
-line_hears w (Step c) = idle_hears w c (has_open_call w.heap c) _
-line_hears w (End c) = idle_hears w c (has_open_call w.heap c) _
-line_hears w line = refl
+line_hears w line = grind arith
 
 -- no call asks anything where it begins
 begun_hears : (w : World) (c : ℕ) (verb : Verb) (whole : Bool) (answer : Option Answered) → (begun_as w c verb whole answer).heap.heard ≡ w.heap.heard

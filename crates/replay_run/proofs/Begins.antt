@@ -1,86 +1,66 @@
 -- The beginning of a call is an event.
-use Rattle.replay_run.proofs.Words.{◌≡◌, ◌≢◌, ℕ, Bool, true, false, List, [], ◌++◌, Option, None, Some, is_some, Result, Ok, Err, IfErr, OnOk, OnErr, refl, ap, Appends-trans, slice_set, Appends, AppendsPrefix, Answered, NotHeld, Request, HeapFacts, started, answer_of, begun, seat_at, Verb, Stop, answer_line, Began, IsSound, Reached, EndsHere, GoesOn, Here, Now, Outset, is_one_step, world_at, HasStopCause, status_for, Awaits, Memory, Nothing, OneStep, TheEnd, TheEndBefore, TheStart, awaits_after, awaits_begun, awaits_call, begins, after_event, has_open_call, names_ended, request_of, target_of}
+use Rattle.replay_run.proofs.Words.{arith, ◌≡◌, ◌≢◌, ℕ, Bool, true, false, List, [], ◌++◌, Option, None, Some, Result, Ok, Err, IfErr, OnOk, OnErr, refl, Appends-trans, slice_set, Appends, AppendsPrefix, Answered, NotHeld, Request, HeapFacts, started, answer_of, begun, Verb, Stop, answer_line, Began, IsSound, Reached, EndsHere, GoesOn, Here, Now, Outset, is_one_step, world_at, HasStopCause, status_for, Awaits, Nothing, OneStep, TheEndBefore, TheStart, awaits_after, awaits_begun, awaits_call, after_event, has_open_call, names_ended, request_of, target_of}
 use Rattle.replay_run.proofs.Came.{Leads, came_next, came_sound}
 use Rattle.replay_run.proofs.Endings.{all_of, behind, sink_fault}
 use Rattle.replay_run.proofs.Stops.{stops_after}
 
--- a client without an open call has none
-pub none_open : (h : HeapFacts) (c : ℕ) → has_open_call h c ≡ false → (seat_at h.seats c).call ≡ None
-none_open h c is =
-    elim (seat_at h.seats c).call as (λ call. is_some call ≡ false → call ≡ None) [ None ↦ λ _. refl | Some call ↦ λ open_call. absurd (cc (open_call)) ] is
-
 -- what is waited for behind a call that has ended, or that goes on
 pub awaits_ended : (c : ℕ) (whole : Bool) → awaits_after (awaits_begun c whole) false ≡ Nothing
-awaits_ended c true = refl
-awaits_ended c false = refl
+awaits_ended c whole = grind arith
 
 pub awaits_open : (c : ℕ) (whole : Bool) → awaits_after (awaits_begun c whole) true ≡ awaits_begun c whole
-awaits_open c true = refl
-awaits_open c false = refl
+awaits_open c whole = grind arith
 
 -- an end that is waited for is so while the call goes on
 pub awaits_going : (awaits : Awaits) → is_one_step awaits ≡ false → awaits_after awaits true ≡ awaits
-awaits_going Nothing shown = refl
 awaits_going (OneStep client) shown = absurd (cc (shown))
-awaits_going (TheEnd client) shown = refl
-awaits_going (TheEndBefore client verb whole) shown = refl
-awaits_going (TheStart client verb whole) shown = refl
-awaits_going Memory shown = refl
+awaits_going awaits shown = refl
 
 -- a call that is to begin waits for the end of the one that is open
 pub awaits_before : (open_call : Bool) (c : ℕ) (verb : Verb) (whole : Bool) → awaits_call open_call c verb whole ≡ awaits_after (TheEndBefore c verb whole) open_call
-awaits_before true c verb whole = refl
-awaits_before false c verb whole = refl
+awaits_before open_call c verb whole = grind arith
 
 -- nothing is waited for behind a call that is only begun
 pub awaits_begun_only : (c : ℕ) (goes : Bool) → awaits_after (awaits_begun c false) goes ≡ Nothing
-awaits_begun_only c true = refl
-awaits_begun_only c false = refl
+awaits_begun_only c goes = grind arith
 
 -- the moment behind a call that had its answer where it began
 abbrev pub now_answered : Now → Verb → Answered → HeapFacts → Option (List ℕ) → Now
 now_answered now verb answer heap held = record now { heap = heap; names = names_ended now.names verb answer; held = held }
 
 -- a play goes on by the beginning of a call, to where that leads
-begun_came : {from : Outset} {count : ℕ} {now : Now} (c : ℕ) (verb : Verb) (whole : Bool) (so : Here from count (TheStart c verb whole) [] now) (awaits : Awaits) (more : List ℕ) (heap : HeapFacts)
+begun_came : {from : Outset} {count : ℕ} {now : Now} (c : ℕ) (verb : Verb) (whole : Bool) (so : Here from count (TheStart c verb whole) [] now) (awaits : Awaits) (text : List ℕ) (heap : HeapFacts)
     (verbs : List (Option Verb)) (names : List (List ℕ × ℕ)) (held : Option (List ℕ)) →
-    after_event (world_at now so.text (TheStart c verb whole)) (Began c verb whole) ≡ world_at (record now { heap = heap; verbs = verbs; names = names; held = held }) (so.text ++ more) awaits → IsSound heap →
-    Reached from count awaits [] (so.text ++ more) (record now { heap = heap; verbs = verbs; names = names; held = held })
-begun_came {from} {count} {now} c verb whole so awaits more heap verbs names held after sound =
+    after_event (world_at now so.text (TheStart c verb whole)) (Began c verb whole) ≡ world_at (record now { heap = heap; verbs = verbs; names = names; held = held }) text awaits → IsSound heap →
+    Reached from count awaits [] text (record now { heap = heap; verbs = verbs; names = names; held = held })
+begun_came {from} {count} {now} c verb whole so awaits text heap verbs names held after sound =
     let now' : Now = record now { heap = heap; verbs = verbs; names = names; held = held } in
-    let leads : Leads (Began c verb whole) (TheStart c verb whole) [] so.text now awaits [] (so.text ++ more) now' = record { next = refl; after = after; sound = sound; lines = refl; chain = refl; pending = refl; left = refl } in
+    let leads : Leads (Began c verb whole) (TheStart c verb whole) [] so.text now awaits [] text now' = record { next = refl; after = after; sound = sound; lines = refl; chain = refl; pending = refl; left = refl } in
     came_next so.came leads
 
 -- a call that asks for nothing: no region is there
-refused_came : {from : Outset} {count : ℕ} {now : Now} (c : ℕ) (verb : Verb) (whole : Bool) (so : Here from count (TheStart c verb whole) [] now) (held : Option (List ℕ)) →
-    request_of now.heap.records now.names now.moment verb ≡ None →
-    Reached from count Nothing [] (so.text ++ answer_line c verb (NotHeld (target_of now.names verb))) (now_answered now verb (NotHeld (target_of now.names verb)) now.heap held)
-refused_came {from} {count} {now} c verb whole so held none =
-    begun_came c verb whole so Nothing _ now.heap now.verbs _ held (ap (begins (world_at now so.text (TheStart c verb whole)) c verb whole) none) (came_sound so.came)
+pub refused_came : {from : Outset} {count : ℕ} {now : Now} (c : ℕ) (verb : Verb) (whole : Bool) (so : Here from count (TheStart c verb whole) [] now) (answer : Answered) (held : Option (List ℕ)) →
+    request_of now.heap.records now.names now.moment verb ≡ None → answer ≡ NotHeld (target_of now.names verb) →
+    Reached from count Nothing [] (so.text ++ answer_line c verb answer) (now_answered now verb answer now.heap held)
+refused_came {from} {count} {now} c verb whole so answer held none is =
+    begun_came c verb whole so Nothing (so.text ++ answer_line c verb answer) now.heap now.verbs (names_ended now.names verb answer) held (rw (none, is) refl) (came_sound so.came)
 
 -- a call that has its answer where it begins
-answered_came : {from : Outset} {count : ℕ} {now : Now} (c : ℕ) (verb : Verb) (whole : Bool) (so : Here from count (TheStart c verb whole) [] now) (request : Request) (answer : Answered) (heap : HeapFacts) (held : Option (List ℕ)) →
+pub answered_came : {from : Outset} {count : ℕ} {now : Now} (c : ℕ) (verb : Verb) (whole : Bool) (so : Here from count (TheStart c verb whole) [] now) (request : Request) (answer : Answered) (heap : HeapFacts) (held : Option (List ℕ)) →
     request_of now.heap.records now.names now.moment verb ≡ Some request → heap ≡ started now.heap c request → Some answer ≡ answer_of (begun now.heap.seats c request) → IsSound heap →
     Reached from count Nothing [] (so.text ++ answer_line c verb answer) (now_answered now verb answer heap held)
 answered_came {from} {count} {now} c verb whole so request answer heap held some begins_so ends sound =
-    begun_came c verb whole so Nothing (answer_line c verb answer) heap now.verbs (names_ended now.names verb answer) held (rw (some, begins_so, ← ends) refl) sound
+    begun_came c verb whole so Nothing (so.text ++ answer_line c verb answer) heap now.verbs (names_ended now.names verb answer) held (rw (some, begins_so, ← ends) refl) sound
 
 -- a call that is open behind its beginning
 pub opened_goes : {from : Outset} {count : ℕ} {now : Now} (c : ℕ) (verb : Verb) (whole : Bool) (so : Here from count (TheStart c verb whole) [] now) (request : Request) (heap : HeapFacts) →
     request_of now.heap.records now.names now.moment verb ≡ Some request → heap ≡ started now.heap c request → None ≡ answer_of (begun now.heap.seats c request) → IsSound heap →
     Here from count (awaits_begun c whole) [] (record now { heap = heap; verbs = slice_set now.verbs c (Some verb) })
-opened_goes {from} {count} {now} c verb whole so request heap some begins_so goes_on sound =
-    let now' : Now = record now { heap = heap; verbs = slice_set now.verbs c (Some verb) } in
-    let leads : Leads (Began c verb whole) (TheStart c verb whole) [] so.text now (awaits_begun c whole) [] so.text now' = record {
-      next = refl;
-      after = rw (some, begins_so, ← goes_on) refl;
-      sound = sound;
-      lines = refl;
-      chain = refl;
-      pending = refl;
-      left = refl;
-    } in
-    record { text = so.text; came = came_next so.came leads; prints = so.prints }
+opened_goes {from} {count} {now} c verb whole so request heap some begins_so goes_on sound = record {
+  text = so.text;
+  came = begun_came c verb whole so (awaits_begun c whole) so.text heap (slice_set now.verbs c (Some verb)) now.names now.held (rw (some, begins_so, ← goes_on) refl) sound;
+  prints = so.prints;
+}
 
 -- memory for the beginning was wanting
 pub unbegun_stops : {from : Outset} {count : ℕ} {now : Now} {awaits : Awaits} (so : Here from count awaits [] now) (stop : Stop) → status_for stop ≢ 4 → EndsHere from (status_for stop) now
@@ -96,21 +76,11 @@ printed_result {from} {count} {awaits} text more {now} had came prints k k' (Ok 
 printed_result {from} {count} {awaits} text more {now} had came prints k k' (Err stop) ok err cause =
     stops_after came stop (sink_fault stop k k' cause) (behind from.held had now.held text more prints err)
 
-pub refused_result : {from : Outset} {count : ℕ} {now : Now} (c : ℕ) (verb : Verb) (whole : Bool) (so : Here from count (TheStart c verb whole) [] now) (answer : Answered) (names : List (List ℕ × ℕ)) (held : Option (List ℕ)) (k k' : ℕ)
-    (r : Result (Unit {0}) Stop) → request_of now.heap.records now.names now.moment verb ≡ None → answer ≡ NotHeld (target_of now.names verb) → has_open_call now.heap c ≡ false →
-    OnOk r (names ≡ names_ended now.names verb answer) → OnOk r (Appends now.held held (answer_line c verb answer)) → OnErr r (AppendsPrefix now.held held (answer_line c verb answer)) →
-    IfErr r (λ stop. HasStopCause stop 0 0 k k') → GoesOn from count (awaits_after (awaits_begun c whole) (has_open_call now.heap c)) r (record now { names = names; held = held })
-refused_result {from} {count} {now} c verb whole so answer names held k k' (Ok done) none is rests named ok err cause =
-    rw (rests, awaits_ended c whole, named, is) (printed_result _ _ _ (refused_came c verb whole so held none) so.prints k k' (Ok done) (rw is at ok) tt tt)
-refused_result {from} {count} {now} c verb whole so answer names held k k' (Err stop) none is rests named ok err cause =
-    printed_result _ _ _ (refused_came c verb whole so held none) so.prints k k' (Err stop) tt (rw is at err) cause
-
-pub answered_result : {from : Outset} {count : ℕ} {now : Now} (c : ℕ) (verb : Verb) (whole : Bool) (so : Here from count (TheStart c verb whole) [] now) (request : Request) (answer : Answered) (heap : HeapFacts)
-    (names : List (List ℕ × ℕ)) (held : Option (List ℕ)) (k k' : ℕ) (r : Result (Unit {0}) Stop) → request_of now.heap.records now.names now.moment verb ≡ Some request → heap ≡ started now.heap c request →
-    Some answer ≡ answer_of (begun now.heap.seats c request) → IsSound heap → has_open_call heap c ≡ false →
-    OnOk r (names ≡ names_ended now.names verb answer) → OnOk r (Appends now.held held (answer_line c verb answer)) → OnErr r (AppendsPrefix now.held held (answer_line c verb answer)) →
+pub answer_result : {from : Outset} {count : ℕ} {now : Now} (c : ℕ) (verb : Verb) (whole : Bool) (so : Here from count (TheStart c verb whole) [] now) (answer : Answered) (heap : HeapFacts)
+    (names : List (List ℕ × ℕ)) (held : Option (List ℕ)) (k k' : ℕ) (r : Result (Unit {0}) Stop) → Reached from count Nothing [] (so.text ++ answer_line c verb answer) (now_answered now verb answer heap held) →
+    has_open_call heap c ≡ false → OnOk r (names ≡ names_ended now.names verb answer) → OnOk r (Appends now.held held (answer_line c verb answer)) → OnErr r (AppendsPrefix now.held held (answer_line c verb answer)) →
     IfErr r (λ stop. HasStopCause stop 0 0 k k') → GoesOn from count (awaits_after (awaits_begun c whole) (has_open_call heap c)) r (record now { heap = heap; names = names; held = held })
-answered_result {from} {count} {now} c verb whole so request answer heap names held k k' (Ok done) some begins_so ends sound rests named ok err cause =
-    rw (rests, awaits_ended c whole, named) (printed_result _ _ _ (answered_came c verb whole so request answer heap held some begins_so ends sound) so.prints k k' (Ok done) ok tt tt)
-answered_result {from} {count} {now} c verb whole so request answer heap names held k k' (Err stop) some begins_so ends sound rests named ok err cause =
-    printed_result _ _ _ (answered_came c verb whole so request answer heap held some begins_so ends sound) so.prints k k' (Err stop) tt err cause
+answer_result {from} {count} {now} c verb whole so answer heap names held k k' (Ok done) came rests named ok err cause =
+    rw (rests, awaits_ended c whole, named) (printed_result _ _ _ came so.prints k k' (Ok done) ok tt tt)
+answer_result {from} {count} {now} c verb whole so answer heap names held k k' (Err stop) came rests named ok err cause =
+    printed_result _ _ _ came so.prints k k' (Err stop) tt err cause

@@ -1,30 +1,22 @@
 -- What a replay printed, by its status.
-use Rattle.replay_run.proofs.Words.{arith, length, length-append, take, ◌+◌, ◌≡◌, ◌≢◌, ◌≤◌, inl, inr, ℕ, List, ◌++◌, Option, None, Some, ◌∙◌, Result, Ok, Err, IfErr, refl, sym, subst, Appends-trans, take-append-add, take-length, common_steps, IsErrAnd, Appends, AppendsPrefix, Consumes, Keeps, Rose, Stop, ReadFault, WriteFault, NoMemory, HasStopCause, status_for, TakesSome}
+use Rattle.replay_run.proofs.Words.{arith, length, length-append, take, ◌+◌, ◌≡◌, ◌≢◌, ◌≤◌, ℕ, List, ◌++◌, Option, Result, Ok, Err, IfErr, refl, sym, subst, Appends-trans, take-append-add, take-length, common_steps, IsErrAnd, Appends, AppendsPrefix, Consumes, Keeps, Stop, ReadFault, NoMemory, HasStopCause, status_for, TakesSome}
 
 -- ---- stops
 
--- a count that stays at 0 didn't rise
-none_rose : Rose 0 0 → ⊥
-none_rose (inl below) = omega (arith, below)
-none_rose (inr greatest) = omega (arith, greatest)
-
 -- what used only the sink isn't a fault of the source
 pub sink_fault : (stop : Stop) (k k' : ℕ) → HasStopCause stop 0 0 k k' → status_for stop ≢ 4
-sink_fault ReadFault k k' rose = absurd (none_rose rose)
-sink_fault WriteFault k k' rose = λ four. absurd (cc (four))
-sink_fault NoMemory k k' rose = λ four. absurd (cc (four))
+sink_fault ReadFault k k' rose = absurd (omega (arith, rose))
+sink_fault stop k k' rose = λ four. absurd (cc (four))
 
 -- only a fault of the source gives status 4
 pub read_fault : (stop : Stop) → status_for stop ≡ 4 → stop ≡ ReadFault
 read_fault ReadFault four = refl
-read_fault WriteFault four = absurd (cc (four))
-read_fault NoMemory four = absurd (cc (four))
+read_fault stop four = absurd (cc (four))
 
 -- the status of a stop
 pub stop_bounds : (stop : Stop) → (4 ≤ status_for stop) × (status_for stop ≤ 6)
 stop_bounds ReadFault = (omega arith, omega arith)
-stop_bounds WriteFault = (omega arith, omega arith)
-stop_bounds NoMemory = (omega arith, omega arith)
+stop_bounds stop = (omega arith, omega arith)
 
 -- what was taken where memory for it was wanting
 pub takes_unread : {T : Type 0} (r : Result T Stop) (bytes pending : List ℕ) (before left : Option (List ℕ)) → IsErrAnd r (λ stop. stop ≡ NoMemory) → Consumes before left bytes →
@@ -54,10 +46,7 @@ all_of before after text printed = (length text, omega (arith), subst (Appends b
 
 -- what was written stays where the sink keeps what it holds
 pub kept_after : (before mid after : Option (List ℕ)) (text : List ℕ) → Appends before mid text → Keeps mid after → Appends before after text
-kept_after None mid after text first kept = tt
-kept_after (Some xs) None after text first kept = absurd first
-kept_after (Some xs) (Some ys) None text first kept = absurd kept
-kept_after (Some xs) (Some ys) (Some zs) text first kept = kept ∙ first
+kept_after before mid after text first kept = grind arith
 
 pub kept_begun : (before mid after : Option (List ℕ)) (text : List ℕ) → AppendsPrefix before mid text → Keeps mid after → AppendsPrefix before after text
 kept_begun before mid after text begun kept = (begun.0, begun.1, kept_after before mid after (take begun.0 text) begun.2 kept)

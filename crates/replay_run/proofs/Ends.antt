@@ -1,7 +1,7 @@
 -- Replays at their beginning and at their end.
-use Rattle.replay_run.proofs.Words.{arith, length, map, true, IfErr, IfOk, replicate, ◌≡◌, ◌≤◌, ◌⊎◌, inl, inr, ℕ, Bool, List, [], ◌++◌, eqb, false, Option, None, Result, Ok, Err, refl, sym, ◌∙◌, subst, IsErrAnd, Appends-nil, Consumes-nil, All-nil, Consumes, Keeps, Rose, AskFacts, Shelf, Journal, journal_of, opening_heap, Stop, NoMemory, ReadFault, WriteFault, Cause, status_of, TakesSome, IsSound, lines_in, world_after, Ending, IsEnding, Open, Prints, ReplayOf, ending_text, Here, Now, Outset, HasStopCause, status_for, status_in, Nothing, World, opening_world}
-use Rattle.replay_run.proofs.Endings.{kept_after, kept_begun, sink_fault}
-use Rattle.replay_run.proofs.Stops.{status_cause}
+use Rattle.replay_run.proofs.Words.{arith, length, map, true, IfErr, IfOk, replicate, ◌≡◌, ◌≤◌, ◌⊎◌, inl, inr, ℕ, Bool, List, [], ◌++◌, eqb, false, Option, None, Result, Ok, Err, refl, sym, subst, IsErrAnd, Appends-nil, Consumes-nil, All-nil, Consumes, Keeps, Rose, AskFacts, Shelf, Journal, journal_of, opening_heap, Stop, WriteFault, TakesSome, IsSound, lines_in, world_after, Ending, IsEnding, Open, Prints, ReplayOf, ending_text, Here, Now, Outset, HasStopCause, status_for, status_in, Nothing, World, opening_world}
+use Rattle.replay_run.proofs.Endings.{kept_after, kept_begun}
+use Rattle.replay_run.proofs.Stops.{prints_begun}
 
 -- ---- the beginning
 
@@ -38,10 +38,6 @@ replay_passed (Err passed) stop is replay = rw is replay
 pub takes_none : (failed : Type 0) (pending : List ℕ) (before left : Option (List ℕ)) → pending ≡ [] → Consumes before left [] → TakesSome failed pending before left
 takes_none failed pending before left none takes = ([], takes, λ fault. rw none (All-nil (λ (b : ℕ). eqb b 10 ≡ false)))
 
--- a status without a whole text
-abbrev pub IsPartial : ℕ → Type 0
-IsPartial status = (status ≡ 5) ⊎ (status ≡ 6)
-
 -- what was printed, where the sink keeps what it holds
 prints_kept : {status : ℕ} {w : World} {count : ℕ} {rest : List ℕ} {ending : Ending} {before held after : Option (List ℕ)} → Prints status w count rest ending before held → Keeps held after →
     Prints status w count rest ending before after
@@ -54,24 +50,16 @@ prints_kept {status} {w} {count} {rest} {ending} {before} {held} {after} prints 
       cut_off = λ is. let p = prints.cut_off is in (p.0, p.1, p.2, kept_after before held after w.text p.3 kept);
     }
 
-prints_partly : {status : ℕ} {w : World} {count : ℕ} {rest : List ℕ} {ending : Ending} {before held after : Option (List ℕ)} (other : ℕ) → IsPartial other → Prints status w count rest ending before held → Keeps held after →
-    Prints other w count rest ending before after
-prints_partly {status} {w} {count} {rest} {ending} {before} {held} {after} other part prints kept = record {
-  beginning = kept_begun before held after (w.text ++ ending_text w count ending) prints.beginning kept;
-  whole = λ is. absurd (omega (arith, part, is));
-  refused = λ is. absurd (omega (arith, part, is));
-  limited = λ is. absurd (omega (arith, part, is));
-  cut_off = λ is. absurd (omega (arith, part, is));
-}
-
-prints_or : {status : ℕ} {w : World} {count : ℕ} {rest : List ℕ} {ending : Ending} {before held after : Option (List ℕ)} (other : ℕ) → (other ≡ status) ⊎ IsPartial other → Prints status w count rest ending before held → Keeps held after →
+-- where the last flush fails, what was printed is the beginning of a report at least
+prints_or : {status : ℕ} {w : World} {count : ℕ} {rest : List ℕ} {ending : Ending} {before held after : Option (List ℕ)} (other : ℕ) → (other ≡ status) ⊎ (other ≡ 5) → Prints status w count rest ending before held → Keeps held after →
     Prints other w count rest ending before after
 prints_or other (inl same) prints kept = rw same (prints_kept prints kept)
-prints_or other (inr part) prints kept = prints_partly other part prints kept
+prints_or {status} {w} {count} {rest} {ending} {before} {held} {after} other (inr five) prints kept =
+    rw five (prints_begun (omega arith) (omega arith) (kept_begun before held after (w.text ++ ending_text w count ending) prints.beginning kept))
 
 -- a replay ends with another status, which says less, and its sink keeps what it holds
 pub replay_or : {status : ℕ} {journals : List Journal} {heard : List AskFacts} {shelf_before shelf_after : Shelf} {met : Bool} {left_before left before held after : Option (List ℕ)} (other : ℕ) →
-    (other ≡ status) ⊎ IsPartial other → Keeps held after → ReplayOf status journals heard shelf_before shelf_after met left_before left before held →
+    (other ≡ status) ⊎ (other ≡ 5) → Keeps held after → ReplayOf status journals heard shelf_before shelf_after met left_before left before held →
     ReplayOf other journals heard shelf_before shelf_after met left_before left before after
 replay_or other which kept replay = record {
   events = replay.events;
@@ -90,11 +78,10 @@ replay_or other which kept replay = record {
   prints = prints_or other which replay.prints kept;
 }
 
--- the status after the last flush, and where memory for the lists was wanting
-pub last_status : (ended flushed : Result ℕ Stop) (status : ℕ) {T : Type 0} → (flushed ≡ ended) ⊎ ((flushed ≡ Err WriteFault) × T) → (status ≡ status_in flushed) ⊎ (status ≡ 6) → (status ≡ status_in ended) ⊎ IsPartial status
-last_status ended flushed status {T} which (inr memory) = inr (inr memory)
-last_status ended flushed status {T} (inl same) (inl is) = inl (rw same at is)
-last_status ended flushed status {T} (inr fault) (inl is) = inr (inl (rw fault.0 at is))
+-- the status after the last flush
+pub last_status : (ended flushed : Result ℕ Stop) (status : ℕ) {T : Type 0} → (flushed ≡ ended) ⊎ ((flushed ≡ Err WriteFault) × T) → status ≡ status_in flushed → (status ≡ status_in ended) ⊎ (status ≡ 5)
+last_status ended flushed status {T} (inl same) is = inl (rw same at is)
+last_status ended flushed status {T} (inr fault) is = inr (rw fault.0 at is)
 
 -- without memory for a heap nothing happens
 pub replay_none : (shelf : Shelf) (met : Bool) (left held : Option (List ℕ)) → IsSound opening_heap → ReplayOf 6 (map journal_of opening_heap.records) [] shelf shelf met left left held held
@@ -112,13 +99,7 @@ replay_none shelf met left held sound = record {
   few = omega arith;
   ending = Open;
   ends = tt;
-  prints = record {
-    beginning = (0, omega arith, Appends-nil held);
-    whole = λ is. absurd (omega (arith, is));
-    refused = λ is. absurd (omega (arith, is));
-    limited = λ is. absurd (omega (arith, is));
-    cut_off = λ is. absurd (omega (arith, is));
-  };
+  prints = prints_begun (omega arith) (omega arith) (0, omega arith, Appends-nil held);
 }
 
 -- ---- statuses and causes
@@ -140,15 +121,9 @@ rose_wider : (low old new high : ℕ) → low ≤ old → new ≤ high → Rose 
 rose_wider low old new high below above (inl rose) = inl (omega (arith, below, above, rose))
 rose_wider low old new high below above (inr greatest) = inr (omega (arith, above, greatest))
 
-stop_wider : (stop : Stop) (s s' low old new : ℕ) → low ≤ old → HasStopCause stop 0 0 old new → HasStopCause stop s s' low new
-stop_wider ReadFault s s' low old new below rose = absurd (sink_fault ReadFault old new rose refl)
-stop_wider WriteFault s s' low old new below rose = rose_wider low old new new below (omega arith) rose
-stop_wider NoMemory s s' low old new below rose = tt
-
 -- the cause of a stop that used only the sink
 pub cause_wider : {T : Type 0} (r : Result T Stop) (s s' low old new : ℕ) → low ≤ old → IfErr r (λ stop. HasStopCause stop 0 0 old new) → IfErr r (λ stop. HasStopCause stop s s' low new)
-cause_wider (Ok done) s s' low old new below cause = tt
-cause_wider (Err stop) s s' low old new below cause = stop_wider stop s s' low old new below cause
+cause_wider r s s' low old new below cause = grind (arith, rose_wider)
 
 -- at status 0 the source has met its end
 pub replay_ended : {status : ℕ} {journals : List Journal} {heard : List AskFacts} {shelf_before shelf_after : Shelf} {met : Bool} {left_before left before after : Option (List ℕ)} →

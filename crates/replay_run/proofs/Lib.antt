@@ -15,6 +15,7 @@ pub mod Opens
 pub mod NewHeaps
 pub mod Ends
 pub mod Tales
+pub mod Truths
 pub mod Reasons
 pub mod Getting
 pub mod Aligned

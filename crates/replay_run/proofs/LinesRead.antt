@@ -1,5 +1,5 @@
 -- The lines of the bytes that a source had.
-use Rattle.replay_run.proofs.Words.{arith, Bool, cond, eqb, true, false, get_or, take, drop, length, ◌+◌, ◌≡◌, ◌≢◌, ◌<◌, ◌≤◌, ◌||◌, ℕ, suc, zero, List, [], ◌∷◌, ◌++◌, Some, None, Ok, refl, sym, ◌∙◌, ap, append_assoc, SaidLine, line_of, HasNoNewline, common_steps, eqb-true, drop_more, take-append-drop, All-head, All-tail, take-length, nat_tests, PassesNowhere, NoneBefore, Passes, is_byte, byte_limit, first_line, has_newline, ReadsTo}
+use Rattle.replay_run.proofs.Words.{arith, eqb, true, false, get_or, take, drop, length, ◌+◌, ◌≡◌, ◌<◌, ◌≤◌, ℕ, suc, zero, List, [], ◌∷◌, ◌++◌, Ok, refl, sym, ◌∙◌, ap, append_assoc, SaidLine, line_of, HasNoNewline, common_steps, eqb-true, drop_more, take-append-drop, All-head, All-tail, take-length, nat_tests, PassesNowhere, NoneBefore, Passes, is_byte, byte_limit, first_line, has_newline, ReadsTo}
 
 -- ---- where a newline stands
 
@@ -31,16 +31,12 @@ IsPlain b = eqb b 10 ≡ false
 -- what stands before the first newline is the first line
 pub first_line-whole : (text behind : List ℕ) → HasNoNewline text → first_line (text ++ 10 ∷ behind) ≡ text
 first_line-whole [] behind plain = refl
-first_line-whole (b ∷ text) behind plain =
-    ap (λ (t : Bool). cond t [] (b ∷ first_line (text ++ 10 ∷ behind))) (All-head IsPlain b text plain)
-    ∙ ap (λ (xs : List ℕ). b ∷ xs) (first_line-whole text behind (All-tail IsPlain b text plain))
+first_line-whole (b ∷ text) behind plain = rw (All-head IsPlain b text plain, first_line-whole text behind (All-tail IsPlain b text plain)) refl
 
 -- without a newline all bytes are the first line
 pub first_line-none : (bytes : List ℕ) → HasNoNewline bytes → first_line bytes ≡ bytes
 first_line-none [] plain = refl
-first_line-none (b ∷ bytes) plain =
-    ap (λ (t : Bool). cond t [] (b ∷ first_line bytes)) (All-head IsPlain b bytes plain)
-    ∙ ap (λ (xs : List ℕ). b ∷ xs) (first_line-none bytes (All-tail IsPlain b bytes plain))
+first_line-none (b ∷ bytes) plain = rw (All-head IsPlain b bytes plain, first_line-none bytes (All-tail IsPlain b bytes plain)) refl
 
 -- where so many bytes are no newline, the first line has as many
 pub first_line-long : (bytes : List ℕ) (n : ℕ) → HasNoNewline (take n bytes) → n ≤ length bytes → n ≤ length (first_line bytes)
@@ -48,19 +44,16 @@ first_line-long bytes zero plain few = omega (arith)
 first_line-long [] (suc n) plain few = absurd (omega (arith, few))
 first_line-long (b ∷ bytes) (suc n) plain few =
     let later : n ≤ length (first_line bytes) = first_line-long bytes n (All-tail IsPlain b (take n bytes) plain) (omega (arith, few)) in
-    let is : first_line (b ∷ bytes) ≡ b ∷ first_line bytes = ap (λ (t : Bool). cond t [] (b ∷ first_line bytes)) (All-head IsPlain b (take n bytes) plain) in
-    rw is (omega (arith, later))
+    rw (All-head IsPlain b (take n bytes) plain) (omega (arith, later))
 
 -- whether there is a newline
 pub has_newline-whole : (text behind : List ℕ) → has_newline (text ++ 10 ∷ behind) ≡ true
 has_newline-whole [] behind = refl
-has_newline-whole (b ∷ text) behind =
-    elim (eqb b 10) as (λ t. (t || has_newline (text ++ 10 ∷ behind)) ≡ true) [ true ↦ refl | false ↦ has_newline-whole text behind ]
+has_newline-whole (b ∷ text) behind = grind (arith, has_newline-whole text behind)
 
 pub has_newline-none : (bytes : List ℕ) → HasNoNewline bytes → has_newline bytes ≡ false
 has_newline-none [] plain = refl
-has_newline-none (b ∷ bytes) plain =
-    ap (λ (t : Bool). t || has_newline bytes) (All-head IsPlain b bytes plain) ∙ has_newline-none bytes (All-tail IsPlain b bytes plain)
+has_newline-none (b ∷ bytes) plain = rw (All-head IsPlain b bytes plain) (has_newline-none bytes (All-tail IsPlain b bytes plain))
 
 -- ---- the lines so far
 

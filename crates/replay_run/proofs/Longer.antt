@@ -1,6 +1,7 @@
 -- Each step that doesn't end for want of memory adds an entry to a journal, or an ask.
-use Rattle.replay_run.proofs.Words.{arith, length, length-append, All, ◌+◌, ◌^◌, ◌≤◌, ◌≡◌, ◌≢◌, ◌<◌, inl, inr, ℕ, true, List, [], ◌∷◌, Option, None, Some, is_some, refl, ap, sum_by, get_or_default, position-Some, sum_by-le, sum_by-set, Op, Publish, AskFacts, Shelf, Held, held_at, Next, Go, Point, CallFacts, taken_next, Want, WantAsk, WantTurn, want, Stepped, no_record, record_after, record_at, Record, HeapFacts, IsStepFor, IsStep, WantedAt, holding_client, holder_for, op_for, region_in_seat, turned_for, Seat, first_seat, seat_at, HoldersPublish, IsSeated, SitsAt, IsSound, entry_count, step_limit, steps_of, has_open_call, records_turned}
-use Rattle.call_table.specs.declared.needs.Answered.TheVariants.{NoMemory}
+use Rattle.replay_run.proofs.Words.{arith, length, length-append, All, ◌+◌, ◌^◌, ◌≤◌, ◌≡◌, ◌≢◌, ◌<◌, inl, inr, ℕ, true, List, [], ◌∷◌, Option, None, Some, is_some, refl, ap, sum_by, get_or_default, position-Some, sum_by-le, sum_by-set, Op, Publish, AskFacts, Shelf, Held, held_at, CallFacts, taken_next, Want, WantAsk, WantTurn, want, Stepped, no_record, record_after, record_at, Record, HeapFacts, IsStepFor, IsStep, holding_client, holder_for, op_for, region_in_seat, turned_for, Seat, first_seat, seat_at, HoldersPublish, IsSound, entry_count, step_limit, steps_of, has_open_call, records_turned}
+use Rattle.call_plan.specs.declared.needs.Answered.TheVariants.{NoMemory}
+use Rattle.replay_run.proofs.NewHeaps.{sits_there, step_made}
 
 -- a turn in an arena adds an entry to its journal
 turn_longer : (records : List Record) (arena c : ℕ) (op : Op) (asked : Option AskFacts) → arena < length records →
@@ -10,14 +11,6 @@ turn_longer records arena c op asked there =
     let after : Record = record_after r c op asked in
     let one : entry_count after ≡ entry_count r + 1 = length-append r.kept (_ ∷ []) in
     omega (arith, one, sum_by-set entry_count records arena after no_record there)
-
--- the arena of an open call is there
-call_there : (h : HeapFacts) (c : ℕ) (call : CallFacts) (point : Point) → IsSound h → c < 32 → (seat_at h.seats c).call ≡ Some call → call.stage.next ≡ Go point →
-    call.stage.arena < length h.records
-call_there h c call point sound below open_call at =
-    let seated : IsSeated h.records c (seat_at h.seats c).desk (Some call) = rw open_call at (sound.seats c below) in
-    let sits : SitsAt h.records c (seat_at h.seats c).desk call (Go point) = rw at at seated.1 in
-    omega (arith, sits.waits.there, sound.arenas.number)
 
 -- the region that a holder publishes is there, and so is its arena
 pub holder_region : HoldersPublish → (h : HeapFacts) (call : CallFacts) (holder : ℕ) (addr : Option ℕ) → IsSound h → length h.seats ≡ 32 → holding_client h.seats addr ≡ Some holder →
@@ -48,23 +41,13 @@ made_longer law h shelf c call (WantTurn op asked) told new shelf' sound number 
 made_longer law h shelf c call (WantAsk ask) told new shelf' sound number there memory made =
     rw made.5 (omega (arith, length-append h.heard (made.0 ∷ [])))
 
-wanted_longer : HoldersPublish → (h : HeapFacts) (shelf : Shelf) (c : ℕ) (call : CallFacts) (next : Next) (told : Stepped) (new : HeapFacts) (shelf' : Shelf) → IsSound h → length h.seats ≡ 32 → c < 32 →
-    (seat_at h.seats c).call ≡ Some call → call.stage.next ≡ next → told.ended ≢ Some NoMemory → WantedAt next (λ wanted. IsStepFor h shelf c call wanted told new shelf') → steps_of h < steps_of new
-wanted_longer law h shelf c call (Go point) told new shelf' sound number below open_call at memory made =
-    made_longer law h shelf c call (want point) told new shelf' sound number (call_there h c call point sound below open_call at) memory made
-wanted_longer law h shelf c call next told new shelf' sound number below open_call at memory made = absurd made
-
-call_longer : HoldersPublish → (h : HeapFacts) (shelf : Shelf) (c : ℕ) (call : Option CallFacts) (told : Stepped) (new : HeapFacts) (shelf' : Shelf) → IsSound h → length h.seats ≡ 32 → c < 32 →
-    (seat_at h.seats c).call ≡ call → is_some call ≡ true → told.ended ≢ Some NoMemory → IsStep h shelf c call told new shelf' → steps_of h < steps_of new
-call_longer law h shelf c None told new shelf' sound number below open_call some memory step = absurd (cc (some))
-call_longer law h shelf c (Some call) told new shelf' sound number below open_call some memory step =
-    wanted_longer law h shelf c call call.stage.next told new shelf' sound number below open_call refl memory step
-
 -- a step that doesn't end for want of memory
 pub step_longer : HoldersPublish → (h : HeapFacts) (shelf : Shelf) (c : ℕ) (told : Stepped) (new : HeapFacts) (shelf' : Shelf) → IsSound h → length h.seats ≡ 32 → c < 32 →
     has_open_call h c ≡ true → told.ended ≢ Some NoMemory → IsStep h shelf c (seat_at h.seats c).call told new shelf' → steps_of h < steps_of new
 step_longer law h shelf c told new shelf' sound number below some memory step =
-    call_longer law h shelf c (seat_at h.seats c).call told new shelf' sound number below refl some memory step
+    let (call, point, open_call, at, made) = step_made h shelf c (seat_at h.seats c).call told new shelf' some step in
+    let sits = sits_there h c call point sound below open_call at in
+    made_longer law h shelf c call (want point) told new shelf' sound number (omega (arith, sits.waits.there, sound.arenas.number)) memory made
 
 -- ---- how many steps there can be
 

@@ -4,9 +4,8 @@ use Rattle.replay_run.specs.declared.input.Found.TheVariants.{End}
 use Rattle.replay_run.specs.declared.replays.Next.{Next}
 use Rattle.replay_run.specs.declared.replays.Next.TheVariants.{Bad, Over}
 use Rattle.replay_run.proofs.BadLines.{bad_cut, bad_long, bad_said}
-use Rattle.replay_run.proofs.Came.{here_ahead, here_read}
+use Rattle.replay_run.proofs.Came.{came_held, here_ahead, here_read}
 use Rattle.replay_run.proofs.Endings.{kept_after}
-use Rattle.replay_run.proofs.Stops.{came_held}
 
 -- a sink that keeps what it holds
 pub here_kept : {from : Outset} {count : ℕ} {awaits : Awaits} {ahead : List Line} {now : Now} → Here from count awaits ahead now → (held : Option (List ℕ)) → Keeps now.held held →

@@ -1,16 +1,14 @@
 -- A call that has no answer is open.
-use Rattle.replay_run.proofs.Words.{arith, length, length-set, ◌≡◌, ◌≢◌, ◌<◌, inl, inr, ℕ, true, Option, None, Some, is_none, is_some, set, refl, sym, ◌∙◌, ap, get_or-set_same, Op, AskFacts, Shelf, Item, Request, Next, Go, Over, More, Gone, Ends, Nowhere, Point, CallFacts, desk_fed, IsPointOrEnd, ended_by, taken_next, Moment, step_next, Want, WantAsk, WantTurn, want, begin-is_call, settle_place, Stepped, HeapFacts, IsStepFor, IsStep, WantedAt, answered_by, holder_for, moment_after, parted, started, turned_for, Seat, answer_of, asked_for, begun, first_seat, open_call, seat_at, seat_of, AsksSit, HoldersPublish, IsSeated, SitsAt, TurnsSit, IsSound, has_open_call, Goes}
-use Rattle.call_table.specs.declared.needs.Answered.TheVariants.{NoMemory}
+use Rattle.replay_run.proofs.Words.{arith, length, length-set, ◌≡◌, ◌≢◌, ◌<◌, inl, inr, ℕ, true, Option, None, Some, is_none, is_some, set, refl, sym, ◌∙◌, ap, get_or-set_same, Op, AskFacts, Shelf, Item, Request, Next, Go, Ends, Point, CallFacts, desk_fed, IsPointOrEnd, ended_by, taken_next, Moment, step_next, Want, WantAsk, WantTurn, want, begin-is_call, settle_place, Stepped, HeapFacts, IsStepFor, IsStep, answered_by, holder_for, moment_after, parted, started, turned_for, Seat, answer_of, asked_for, begun, first_seat, open_call, seat_at, seat_of, AsksSit, HoldersPublish, TurnsSit, IsSound, has_open_call, Goes}
+use Rattle.call_plan.specs.declared.needs.Answered.TheVariants.{NoMemory}
 use Rattle.replay_run.proofs.Longer.{holder_region}
+use Rattle.replay_run.proofs.NewHeaps.{sits_there, step_made}
 
 -- a call that came to a place is open there, or has its answer
 open_by : (c : ℕ) (at : Moment) (next : Next) → IsPointOrEnd next → is_some (open_call c at next) ≡ is_none (ended_by next)
 open_by c at (Go point) place = refl
-open_by c at (Over index point) place = absurd place
-open_by c at More place = absurd place
-open_by c at Gone place = absurd place
 open_by c at (Ends answer) place = refl
-open_by c at Nowhere place = absurd place
+open_by c at next place = absurd place
 
 -- so is it for its client
 seated_open : (h : HeapFacts) (c : ℕ) (at : Moment) → length h.seats ≡ 32 → c < 32 → IsPointOrEnd at.stage.next → is_some (seat_at (set h.seats c (seat_of c at)) c).call ≡ is_none (answer_of at)
@@ -29,12 +27,6 @@ after_open : (h : HeapFacts) (c : ℕ) (call : CallFacts) (item : Item) → leng
 after_open h c call item number below goes =
     seated_open h c (moment_after h c call item) number below
     (settle_place call.request (desk_fed (seat_at h.seats c).desk call.stage.arena call.stage.next item) call.stage.arena (step_next call.stage.next item) goes)
-
--- what is so of a client whose call waits at a point
-sits_there : (h : HeapFacts) (c : ℕ) (call : CallFacts) (point : Point) → IsSound h → c < 32 → (seat_at h.seats c).call ≡ Some call → call.stage.next ≡ Go point →
-    SitsAt h.records c (seat_at h.seats c).desk call (Go point)
-sits_there h c call point sound below is at =
-    let seated : IsSeated h.records c (seat_at h.seats c).desk (Some call) = rw is at (sound.seats c below) in rw at at seated.1
 
 -- a turn that was made
 turn_open : TurnsSit → HoldersPublish → (h : HeapFacts) (c : ℕ) (call : CallFacts) (point : Point) (op : Op) (asked : Option AskFacts) (holder : Option ℕ) → IsSound h → length h.seats ≡ 32 → c < 32 →
@@ -59,20 +51,9 @@ made_open turns asks holders h shelf c call point (WantAsk ask) told new shelf' 
     rw (made.5, made.6) (after_open h c call _ number below
     (asks h.records c (seat_at h.seats c).desk call point made.0 sound.arenas below at sits (wants ∙ ap WantAsk (sym made.2)) made.4.box.answers).0)
 
-placed_open : TurnsSit → AsksSit → HoldersPublish → (h : HeapFacts) (shelf : Shelf) (c : ℕ) (call : CallFacts) (next : Next) (told : Stepped) (new : HeapFacts) (shelf' : Shelf) → IsSound h → length h.seats ≡ 32 → c < 32 →
-    (seat_at h.seats c).call ≡ Some call → call.stage.next ≡ next → told.ended ≢ Some NoMemory → WantedAt next (λ wanted. IsStepFor h shelf c call wanted told new shelf') → has_open_call new c ≡ is_none told.ended
-placed_open turns asks holders h shelf c call (Go point) told new shelf' sound number below is at memory made =
-    made_open turns asks holders h shelf c call point (want point) told new shelf' sound number below is at refl memory made
-placed_open turns asks holders h shelf c call next told new shelf' sound number below is at memory made = absurd made
-
-call_open : TurnsSit → AsksSit → HoldersPublish → (h : HeapFacts) (shelf : Shelf) (c : ℕ) (call : Option CallFacts) (told : Stepped) (new : HeapFacts) (shelf' : Shelf) → IsSound h → length h.seats ≡ 32 → c < 32 →
-    (seat_at h.seats c).call ≡ call → is_some call ≡ true → told.ended ≢ Some NoMemory → IsStep h shelf c call told new shelf' → has_open_call new c ≡ is_none told.ended
-call_open turns asks holders h shelf c None told new shelf' sound number below is some memory step = absurd (cc (some))
-call_open turns asks holders h shelf c (Some call) told new shelf' sound number below is some memory step =
-    placed_open turns asks holders h shelf c call call.stage.next told new shelf' sound number below is refl memory step
-
 -- where a step leads that didn't end for want of memory
 pub step_open : TurnsSit → AsksSit → HoldersPublish → (h : HeapFacts) (shelf : Shelf) (c : ℕ) (told : Stepped) (new : HeapFacts) (shelf' : Shelf) → IsSound h → length h.seats ≡ 32 → c < 32 →
     has_open_call h c ≡ true → told.ended ≢ Some NoMemory → IsStep h shelf c (seat_at h.seats c).call told new shelf' → has_open_call new c ≡ is_none told.ended
 step_open turns asks holders h shelf c told new shelf' sound number below some memory step =
-    call_open turns asks holders h shelf c (seat_at h.seats c).call told new shelf' sound number below refl some memory step
+    let (call, point, is, at, made) = step_made h shelf c (seat_at h.seats c).call told new shelf' some step in
+    made_open turns asks holders h shelf c call point (want point) told new shelf' sound number below is at refl memory made

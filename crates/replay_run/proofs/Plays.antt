@@ -1,9 +1,5 @@
 -- Plays that grow by an event.
-use Rattle.replay_run.proofs.Words.{◌≡◌, List, [], ◌∷◌, ◌++◌, subst, fold_push, Chain, ShelfEvent, Shelf, AllWorlds, WorldEvent, IsNext, IsPlay, after_event, world_after, World}
-
--- the world after one more event
-pub world_push : (w : World) (events : List WorldEvent) (event : WorldEvent) → world_after w (events ++ event ∷ []) ≡ after_event (world_after w events) event
-world_push w events event = fold_push after_event w events event
+use Rattle.replay_run.proofs.Words.{List, [], ◌∷◌, ◌++◌, subst, Chain, ShelfEvent, Shelf, AllWorlds, WorldEvent, IsNext, IsPlay, after_event, world_after, World}
 
 -- an event that can come next goes on with the play
 pub play_push : (w : World) (events : List WorldEvent) (event : WorldEvent) → IsPlay w events → IsNext (world_after w events) event → IsPlay w (events ++ event ∷ [])

@@ -1,5 +1,5 @@
 -- A line that is read is an event.
-use Rattle.replay_run.proofs.Words.{◌≡◌, ◌≢◌, ℕ, Bool, true, false, List, [], ◌∷◌, ◌++◌, Option, None, Result, Ok, Err, IfErr, OnOk, OnErr, refl, sym, ◌∙◌, ap, subst, append-nil, Appends-nil, Appends-trans, Appends, AppendsPrefix, Chain, PlanStep, Shelf, Kind, Counts, record_at, idle_line, Line, Blank, Call, Start, Step, End, At, CountsOf, Verb, Stop, line_cause, IsSound, Read, plan_in, Reached, EndsHere, GoesOn, Here, Now, Outset, world_at, HasStopCause, status_for, Awaits, Nothing, OneStep, TheEnd, awaits_call, awaits_or_idle, counts_text, has_open_call, line_read, live_counts}
+use Rattle.replay_run.proofs.Words.{◌≡◌, ◌≢◌, ℕ, Bool, true, false, List, [], ◌∷◌, ◌++◌, Option, None, Result, Ok, Err, IfErr, OnOk, OnErr, refl, sym, ap, subst, append-nil, Appends-nil, Appends-trans, Appends, AppendsPrefix, Chain, PlanStep, Shelf, Kind, Counts, record_at, idle_line, Line, Blank, Call, Start, Step, End, At, CountsOf, Verb, Stop, line_cause, IsSound, Read, plan_in, Reached, EndsHere, GoesOn, Here, Now, Outset, world_at, HasStopCause, status_for, Awaits, Nothing, OneStep, TheEnd, awaits_call, awaits_or_idle, counts_text, has_open_call, line_read, live_counts}
 use Rattle.trace_text.specs.declared.lines.Line.TheVariants.{Refuse}
 use Rattle.replay_run.proofs.Came.{Leads, came_next, came_sound}
 use Rattle.replay_run.proofs.Endings.{behind, sink_fault}
@@ -67,12 +67,10 @@ pub reads_start : (now : Now) (c : ℕ) (verb : Verb) → line_cause now.moment 
 reads_start now c verb free = reads_so (Start c verb) now _ [] now.held refl free (λ text. silent now text (awaits_call (has_open_call now.heap c) c verb false))
 
 pub reads_step : (now : Now) (c : ℕ) → has_open_call now.heap c ≡ true → Reads (Step c) now (OneStep c) [] now
-reads_step now c is =
-    reads_so (Step c) now (OneStep c) [] now.held refl refl (λ text. ap (λ (b : Bool). awaits_or_idle (world_at now text Nothing) c b (OneStep c)) is ∙ silent now text (OneStep c))
+reads_step now c is = reads_so (Step c) now (OneStep c) [] now.held refl refl (λ text. rw is (silent now text (OneStep c)))
 
 pub reads_end : (now : Now) (c : ℕ) → has_open_call now.heap c ≡ true → Reads (End c) now (TheEnd c) [] now
-reads_end now c is =
-    reads_so (End c) now (TheEnd c) [] now.held refl refl (λ text. ap (λ (b : Bool). awaits_or_idle (world_at now text Nothing) c b (TheEnd c)) is ∙ silent now text (TheEnd c))
+reads_end now c is = reads_so (End c) now (TheEnd c) [] now.held refl refl (λ text. rw is (silent now text (TheEnd c)))
 
 pub reads_step_idle : (now : Now) (c : ℕ) (held : Option (List ℕ)) → has_open_call now.heap c ≡ false → Reads (Step c) now Nothing (idle_line c) (record now { held = held })
 reads_step_idle now c held is = reads_so (Step c) now Nothing (idle_line c) held refl refl (λ text. ap (λ (b : Bool). awaits_or_idle (world_at now text Nothing) c b (OneStep c)) is)

@@ -1,6 +1,7 @@
 -- Every answer of a play has its cause: the reasons of a call are kept by each step.
 use Rattle.replay_run.proofs.Words.{ℕ, List, Option, None, Some, IfSome, Answered, Next, asked_for, seat_at, NextWhy, begin_why, settle_why, step_why, AnswerCause, AnswersHaveCauses, IsCaused, Tale, answer_in, tale_in, WorldEvent, World}
-use Rattle.replay_run.proofs.Tales.{EndsWith, IsEnded, Kept, each_event}
+use Rattle.replay_run.proofs.Tales.{EndsHere, EndsWith, Kept, each_event}
+use Rattle.replay_run.proofs.Truths.{event_true}
 
 -- the reasons of a place of a call, by its tale
 abbrev Why : ℕ → Tale → Next → Type 0
@@ -16,12 +17,17 @@ why_kept = record {
 
 -- those of its end are the cause of its answer
 answer_caused : (w : World) (event : WorldEvent) (answer : Option Answered) (tale : Option Tale) → IfSome answer (EndsWith Why w event tale) → IfSome answer (AnswerCause w event tale)
-answer_caused w event None tale ends = tt
-answer_caused w event (Some answer) None ends = ends
 answer_caused w event (Some answer) (Some tale) ends = ends.1
+answer_caused w event answer tale ends = ends
 
-event_caused : (w : World) (tales : List (Option Tale)) (event : WorldEvent) → IsEnded Why w tales event → IsCaused w tales event
-event_caused w tales event ends = answer_caused w event (answer_in w event) (tale_in w tales event) ends
+both : (P Q : Answered → Type 0) (answer : Option Answered) → IfSome answer P → IfSome answer Q → IfSome answer (λ a. P a × Q a)
+both P Q None p q = tt
+both P Q (Some answer) p q = (p, q)
+
+event_caused : (w : World) (tales : List (Option Tale)) (event : WorldEvent) → EndsHere Why w tales event → IsCaused w tales event
+event_caused w tales event (ends, here) =
+    let caused = answer_caused w event (answer_in w event) (tale_in w tales event) ends in
+    both _ _ (answer_in w event) caused (event_true w tales event here caused)
 
 pub answers-have_causes : AnswersHaveCauses
 answers-have_causes events play sound = each_event Why IsCaused event_caused why_kept events play sound

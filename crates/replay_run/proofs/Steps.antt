@@ -1,8 +1,9 @@
 -- A step of a client's open call is an event.
-use Rattle.replay_run.proofs.Words.{◌≡◌, ◌≢◌, inl, inr, ℕ, ◌+◌, Bool, true, List, [], ◌∷◌, ◌++◌, Option, None, Some, is_none, is_some, refl, sym, subst, arith, ◌∙◌, ap, append-nil, Appends-trans, Appends, AppendsPrefix, Chain, Shelf, Next, Go, Point, CallFacts, Want, WantAsk, WantTurn, want, Did, Stepped, ToldItem, HeapFacts, IsStepFor, IsStep, WantedAt, answered_by, holder_for, moment_after, answer_of, seat_at, ask_line, turn_line, Line, Verb, WorldEvent, IsNext, Starved, Told, Turned, Unnamed, after_event, client_awaited, line_in, shelf_event, Stop, IsSound, Reached, EndsHere, Here, Now, Outset, did_line, is_one_step, shown_line, world_at, status_for, Awaits, OneStep, World, awaits_after, ended_line, has_open_call, names_closed, step_text, stepped, verb_at, verbs_closed, AskFacts, last_asked, last_pushed}
-use Rattle.call_table.specs.declared.needs.Answered.TheVariants.{NoMemory}
+use Rattle.replay_run.proofs.Words.{◌≡◌, ◌≢◌, inl, inr, ℕ, Bool, true, List, [], ◌++◌, Option, Some, is_none, refl, sym, subst, ◌∙◌, ap, append-nil, Appends-trans, Appends, AppendsPrefix, Chain, Shelf, CallFacts, Want, WantAsk, WantTurn, want, Did, Stepped, ToldItem, HeapFacts, IsStepFor, IsStep, answered_by, holder_for, moment_after, answer_of, seat_at, ask_line, turn_line, Line, Verb, WorldEvent, IsNext, IsWanted, Ask, Starved, Told, Turned, Unnamed, after_event, client_awaited, line_in, shelf_event, Stop, IsSound, Reached, EndsHere, Here, Now, Outset, did_line, is_one_step, shown_line, world_at, status_for, Awaits, OneStep, World, awaits_after, ended_line, has_open_call, names_closed, step_text, stepped, verb_at, verbs_closed, AskFacts, last_asked, last_pushed}
+use Rattle.call_plan.specs.declared.needs.Answered.TheVariants.{NoMemory}
 use Rattle.replay_run.proofs.Came.{Leads, came_next}
 use Rattle.replay_run.proofs.Endings.{all_of, behind, longer}
+use Rattle.replay_run.proofs.NewHeaps.{step_made}
 use Rattle.replay_run.proofs.Stops.{stops_after}
 
 -- What a step of a client is: an event that can come next, after which the heap is this one, and which does this to the shelf.
@@ -18,12 +19,11 @@ pub record StepEvent (w : World) (c : ℕ) (shelf : Shelf) (told : Stepped) (hea
   pub after : told.ended ≢ Some NoMemory → after_event w event ≡ stepped w c heap (did_line c told.did (last_asked heap.heard)) told.ended
 
 -- a step by what its call wants
-step_wanted : (w : World) (c : ℕ) (shelf : Shelf) (call : CallFacts) (told : Stepped) (heap : HeapFacts) (shelf' : Shelf) (point : Point) (wanted : Want) →
-    client_awaited w.awaits ≡ Some c → (seat_at w.heap.seats c).call ≡ Some call → call.stage.next ≡ Go point → want point ≡ wanted →
+step_wanted : (w : World) (c : ℕ) (shelf : Shelf) (call : CallFacts) (told : Stepped) (heap : HeapFacts) (shelf' : Shelf) (wanted : Want) → IsWanted w c call wanted →
     IsStepFor w.heap shelf c call wanted told heap shelf' → StepEvent w c shelf told heap shelf'
-step_wanted w c shelf call told heap shelf' point (WantTurn op asked) awaited open_call at wants (did, same, inl made) = record {
+step_wanted w c shelf call told heap shelf' (WantTurn op asked) wants (did, same, inl made) = record {
   event = Turned c call op asked;
-  next = record { awaited = awaited; open_call = open_call; point = point; at = at; wants = wants };
+  next = wants;
   lines = refl;
   chain = same;
   leads = sym made.0;
@@ -31,9 +31,9 @@ step_wanted w c shelf call told heap shelf' point (WantTurn op asked) awaited op
   text = refl;
   after = λ memory. rw (did, made.0, made.1) refl;
 }
-step_wanted w c shelf call told heap shelf' point (WantTurn op asked) awaited open_call at wants (did, same, inr (inl starved, ended)) = record {
+step_wanted w c shelf call told heap shelf' (WantTurn op asked) wants (did, same, inr (inl starved, ended)) = record {
   event = Starved c call;
-  next = (op, asked, record { awaited = awaited; open_call = open_call; point = point; at = at; wants = wants }, starved.0);
+  next = (op, asked, wants, starved.0);
   lines = refl;
   chain = same;
   leads = sym starved.1;
@@ -41,9 +41,9 @@ step_wanted w c shelf call told heap shelf' point (WantTurn op asked) awaited op
   text = sym (append-nil w.text);
   after = λ memory. absurd (memory ended);
 }
-step_wanted w c shelf call told heap shelf' point (WantTurn op asked) awaited open_call at wants (did, same, inr (inr unnamed, ended)) = record {
+step_wanted w c shelf call told heap shelf' (WantTurn op asked) wants (did, same, inr (inr unnamed, ended)) = record {
   event = Unnamed c call op asked;
-  next = (record { awaited = awaited; open_call = open_call; point = point; at = at; wants = wants }, unnamed.0, unnamed.1);
+  next = (wants, unnamed.0, unnamed.1);
   lines = refl;
   chain = same;
   leads = sym unnamed.2;
@@ -51,9 +51,9 @@ step_wanted w c shelf call told heap shelf' point (WantTurn op asked) awaited op
   text = sym (append-nil w.text);
   after = λ memory. absurd (memory ended);
 }
-step_wanted w c shelf call told heap shelf' point (WantAsk ask) awaited open_call at wants made = record {
+step_wanted w c shelf call told heap shelf' (WantAsk ask) wants made = record {
   event = Told c call made.0;
-  next = (record { awaited = awaited; open_call = open_call; point = point; at = at; wants = wants ∙ ap WantAsk (sym made.2) }, record { box_no = made.3; answers = made.4.box.answers });
+  next = (subst (λ (a : Ask). IsWanted w c call (WantAsk a)) (sym made.2) wants, record { box_no = made.3; answers = made.4.box.answers });
   lines = refl;
   chain = (shelf', made.4, refl);
   leads = sym made.5;
@@ -62,29 +62,14 @@ step_wanted w c shelf call told heap shelf' point (WantAsk ask) awaited open_cal
   after = λ memory. rw (made.1, made.5, made.6, last_pushed w.heap.heard made.0) refl;
 }
 
--- a step by where its call stands
-step_placed : (w : World) (c : ℕ) (shelf : Shelf) (call : CallFacts) (told : Stepped) (heap : HeapFacts) (shelf' : Shelf) (next : Next) →
-    client_awaited w.awaits ≡ Some c → (seat_at w.heap.seats c).call ≡ Some call → call.stage.next ≡ next →
-    WantedAt next (λ wanted. IsStepFor w.heap shelf c call wanted told heap shelf') → StepEvent w c shelf told heap shelf'
-step_placed w c shelf call told heap shelf' (Go point) awaited open_call at made =
-    step_wanted w c shelf call told heap shelf' point (want point) awaited open_call at refl made
-step_placed w c shelf call told heap shelf' next awaited open_call at made = absurd made
-
 -- a step of the client that is waited for
-step_of_call : (w : World) (c : ℕ) (shelf : Shelf) (call : Option CallFacts) (told : Stepped) (heap : HeapFacts) (shelf' : Shelf) →
-    client_awaited w.awaits ≡ Some c → (seat_at w.heap.seats c).call ≡ call → call ≢ None → IsStep w.heap shelf c call told heap shelf' → StepEvent w c shelf told heap shelf'
-step_of_call w c shelf None told heap shelf' awaited open_call some step = absurd (some refl)
-step_of_call w c shelf (Some call) told heap shelf' awaited open_call some step = step_placed w c shelf call told heap shelf' call.stage.next awaited open_call refl step
-
 pub step_event : (w : World) (c : ℕ) (shelf : Shelf) (told : Stepped) (heap : HeapFacts) (shelf' : Shelf) → client_awaited w.awaits ≡ Some c →
-    (seat_at w.heap.seats c).call ≢ None → IsStep w.heap shelf c (seat_at w.heap.seats c).call told heap shelf' → StepEvent w c shelf told heap shelf'
-step_event w c shelf told heap shelf' awaited some step = step_of_call w c shelf (seat_at w.heap.seats c).call told heap shelf' awaited refl some step
+    has_open_call w.heap c ≡ true → IsStep w.heap shelf c (seat_at w.heap.seats c).call told heap shelf' → StepEvent w c shelf told heap shelf'
+step_event w c shelf told heap shelf' awaited some step =
+    let (call, point, open_call, at, made) = step_made w.heap shelf c (seat_at w.heap.seats c).call told heap shelf' some step in
+    step_wanted w c shelf call told heap shelf' (want point) (record { awaited = awaited; open_call = open_call; point = point; at = at; wants = refl }) made
 
 -- ---- a replay that makes a step
-
--- an open call is there
-open_there : (h : HeapFacts) (c : ℕ) → has_open_call h c ≡ true → (seat_at h.seats c).call ≢ None
-open_there h c is none = absurd (cc (is, ap is_some none))
 
 -- the line of a step is shown where one step is waited for
 shown_where : (awaits : Awaits) (c : ℕ) (did : Did) (last : Option AskFacts) → step_text awaits (did_line c did last) ≡ shown_line (is_one_step awaits) c did last
@@ -110,7 +95,7 @@ step_came : {from : Outset} {count : ℕ} {awaits : Awaits} {now : Now} (so : He
     client_awaited awaits ≡ Some c → has_open_call now.heap c ≡ true → IsStep now.heap now.shelf c (seat_at now.heap.seats c).call told heap shelf → IsSound heap → told.ended ≢ Some NoMemory →
     Reached from count (awaits_after awaits (is_none told.ended)) [] (so.text ++ step_line (is_one_step awaits) c now.verbs told heap) (now_stepped now c told heap shelf held)
 step_came {from} {count} {awaits} {now} so c told heap shelf held awaited is step sound memory =
-    let event = step_event (world_at now so.text awaits) c now.shelf told heap shelf awaited (open_there now.heap c is) step in
+    let event = step_event (world_at now so.text awaits) c now.shelf told heap shelf awaited is step in
     let leads : Leads event.event awaits [] so.text now (awaits_after awaits (is_none told.ended)) [] (so.text ++ step_line (is_one_step awaits) c now.verbs told heap) (now_stepped now c told heap shelf held) = record {
       next = event.next;
       after = event.after memory
@@ -129,7 +114,7 @@ pub step_stops : {from : Outset} {count : ℕ} {awaits : Awaits} {now : Now} (so
     EndsHere from (status_for stop) (record now { heap = heap; shelf = shelf })
 step_stops {from} {count} {awaits} {now} so c told heap shelf stop awaited is step sound other =
     let w : World = world_at now so.text awaits in
-    let event = step_event w c now.shelf told heap shelf awaited (open_there now.heap c is) step in
+    let event = step_event w c now.shelf told heap shelf awaited is step in
     let last : World = after_event w event.event in
     let now' : Now = record now { heap = heap; shelf = shelf; verbs = last.verbs; names = last.names; moment = last.moment } in
     let leads : Leads event.event awaits [] so.text now last.awaits [] last.text now' = record {

@@ -1,7 +1,7 @@
 -- Replays that end.
-use Rattle.replay_run.proofs.Words.{arith, length, map, ◌≡◌, ◌≢◌, ◌⊎◌, inl, inr, ℕ, Bool, List, [], ◌++◌, Option, Result, Ok, Err, IfOk, IfErr, OnOk, OnErr, refl, sym, ◌∙◌, ap, subst, append-nil, Appends-trans, IsErrAnd, Appends, AppendsPrefix, journal_of, Cause, LimitBytes, LimitLines, LimitThreads, Line, HasNoNewline, Stop, ReadFault, status_of, ReadsTo, TakesSome, lines_in, world_after, Bad, Ending, IsEnding, Open, Prints, Whole, ending_text, Reached, EndsHere, GoesOn, Here, Now, Outset, world_at, HasStopCause, status_for, status_in, Awaits, Nothing, World, opening_world}
+use Rattle.replay_run.proofs.Words.{arith, length, map, ◌≡◌, ◌≤◌, ◌≢◌, ◌⊎◌, ℕ, Bool, List, [], ◌++◌, Option, Result, Ok, Err, IfOk, IfErr, OnOk, OnErr, refl, sym, ◌∙◌, ap, subst, append-nil, Appends-trans, IsErrAnd, Appends, AppendsPrefix, journal_of, Cause, Line, HasNoNewline, Stop, ReadFault, status_of, ReadsTo, TakesSome, lines_in, world_after, Bad, Ending, IsEnding, Open, Prints, Whole, ending_text, Reached, EndsHere, GoesOn, Here, Now, Outset, world_at, HasStopCause, status_for, status_in, Awaits, Nothing, World, opening_world}
 use Rattle.replay_run.proofs.Asks.{came_asks}
-use Rattle.replay_run.proofs.Came.{here_read}
+use Rattle.replay_run.proofs.Came.{came_held, here_read}
 use Rattle.replay_run.proofs.Endings.{all_of, behind, longer, read_fault, sink_fault, stop_bounds}
 
 -- ---- where a replay ends
@@ -30,36 +30,25 @@ ends_here {from} {count} {awaits} {text} {now} came status ending ends prints =
       prints = rw (last, number) prints;
     }
 
--- what the sink holds is no part of how a play came here
-pub came_held : {from : Outset} {count : ℕ} {awaits : Awaits} {ahead : List Line} {text : List ℕ} {now : Now} → Reached from count awaits ahead text now → (held : Option (List ℕ)) →
-    Reached from count awaits ahead text (record now { held = held })
-came_held came held = record {
-  events = came.events;
-  play = came.play;
-  here = came.here;
-  sound = came.sound;
-  chain = came.chain;
-  taken = came.taken;
-  takes = came.takes;
-  reads = came.reads;
-  number = came.number;
-  few = came.few;
-}
-
 -- ---- stops in the middle
+
+-- the beginning of a report was printed at least, where the status says no more
+pub prints_begun : {status : ℕ} {w : World} {count : ℕ} {rest : List ℕ} {ending : Ending} {before after : Option (List ℕ)} → 5 ≤ status → status ≤ 6 →
+    AppendsPrefix before after (w.text ++ ending_text w count ending) → Prints status w count rest ending before after
+prints_begun low high begun = record {
+  beginning = begun;
+  whole = λ is. absurd (omega (arith, is, low));
+  refused = λ is. absurd (omega (arith, is, low));
+  limited = λ is. absurd (omega (arith, is, high));
+  cut_off = λ is. absurd (omega (arith, is, low));
+}
 
 -- the beginning of a text was printed where something other than the source stopped the replay
 pub stops_after : {from : Outset} {count : ℕ} {awaits : Awaits} {text : List ℕ} {now : Now} → Reached from count awaits [] text now → (stop : Stop) → status_for stop ≢ 4 →
     AppendsPrefix from.held now.held text → EndsHere from (status_for stop) now
 stops_after {from} {count} {awaits} {text} {now} came stop other begun =
     let bounds = stop_bounds stop in
-    ends_here came (status_for stop) Open tt (record {
-      beginning = longer from.held now.held text [] begun;
-      whole = λ is. absurd (omega (arith, is, bounds.0));
-      refused = λ is. absurd (omega (arith, is, bounds.0));
-      limited = λ is. absurd (omega (arith, is, bounds.1));
-      cut_off = λ is. absurd (other is);
-    })
+    ends_here came (status_for stop) Open tt (prints_begun (omega (arith, bounds.0, other)) bounds.1 (longer from.held now.held text [] begun))
 
 -- all so far was printed where something stopped the replay between two lines
 pub stops_between : {from : Outset} {count : ℕ} {now : Now} → Here from count Nothing [] now → (stop : Stop) → (status_for stop ≡ 4 → HasNoNewline now.pending) →
@@ -90,22 +79,9 @@ IsLast status Open = ⊥
 
 -- a cause has one of two statuses
 pub status_cause : (cause : Cause) → (status_of cause ≡ 3) ⊎ (status_of cause ≡ 7)
-status_cause LimitLines = inr refl
-status_cause LimitBytes = inr refl
-status_cause LimitThreads = inr refl
-status_cause cause = inl refl
+status_cause cause = grind arith
 
 -- what is printed where the whole report was
-prints_bad : (n status : ℕ) (w : World) (count : ℕ) (rest : List ℕ) (cause : Cause) (before after : Option (List ℕ)) → (n ≡ 3) ⊎ (n ≡ 7) → status ≡ n → n ≡ status_of cause →
-    Appends before after (w.text ++ ending_text w count (Bad cause)) → Prints status w count rest (Bad cause) before after
-prints_bad n status w count rest cause before after which is same all = record {
-  beginning = all_of before after (w.text ++ ending_text w count (Bad cause)) all;
-  whole = λ zero. absurd (omega (arith, which, is, zero));
-  refused = λ three. (cause, refl, sym same ∙ sym is ∙ three, all);
-  limited = λ seven. (cause, refl, sym same ∙ sym is ∙ seven, all);
-  cut_off = λ four. absurd (omega (arith, which, is, four));
-}
-
 prints_last : (status : ℕ) (w : World) (count : ℕ) (rest : List ℕ) (ending : Ending) (before after : Option (List ℕ)) → IsLast status ending →
     Appends before after (w.text ++ ending_text w count ending) → Prints status w count rest ending before after
 prints_last status w count rest Whole before after is all = record {
@@ -115,7 +91,13 @@ prints_last status w count rest Whole before after is all = record {
   limited = λ seven. absurd (omega (arith, is, seven));
   cut_off = λ four. absurd (omega (arith, is, four));
 }
-prints_last status w count rest (Bad cause) before after is all = prints_bad (status_of cause) status w count rest cause before after (status_cause cause) is refl all
+prints_last status w count rest (Bad cause) before after is all = let which = status_cause cause in record {
+  beginning = all_of before after (w.text ++ ending_text w count (Bad cause)) all;
+  whole = λ zero. absurd (omega (arith, which, is, zero));
+  refused = λ three. (cause, refl, sym is ∙ three, all);
+  limited = λ seven. (cause, refl, sym is ∙ seven, all);
+  cut_off = λ four. absurd (omega (arith, which, is, four));
+}
 prints_last status w count rest Open before after is all = absurd is
 
 -- the last text of a report was printed, or something stopped the replay there
@@ -130,13 +112,9 @@ ends_last {from} {count} {now} so (Ok n) status ending k k' held last ends is ok
 ends_last {from} {count} {now} so (Err stop) status ending k k' held last ends is ok err cause =
     let w : World = world_at now so.text Nothing in
     let bounds = stop_bounds stop in
-    ends_here (came_held so.came held) (status_for stop) ending ends (record {
-      beginning = behind from.held now.held held so.text (ending_text w count ending) so.prints err;
-      whole = λ zero. absurd (omega (arith, zero, bounds.0));
-      refused = λ three. absurd (omega (arith, three, bounds.0));
-      limited = λ seven. absurd (omega (arith, seven, bounds.1));
-      cut_off = λ four. absurd (sink_fault stop k k' cause four);
-    })
+    let other = sink_fault stop k k' cause in
+    ends_here (came_held so.came held) (status_for stop) ending ends
+    (prints_begun (omega (arith, bounds.0, other)) bounds.1 (behind from.held now.held held so.text (ending_text w count ending) so.prints err))
 
 -- ---- what stops passes on
 

@@ -1,5 +1,6 @@
 -- What is kept by each step of a call is so of each open call of a play by its tale, and of each answer.
-use Rattle.replay_run.proofs.Words.{◌≡◌, ◌≢◌, ℕ, ◌<◌, ◌≤◌, ◌==◌, Bool, true, false, List, [], ◌∷◌, Option, None, Some, IfSome, is_none, length, refl, sym, ◌∙◌, ap, subst, arith, nat_lt, option_map, ltb-true, nat_tests, get_or-replicate, get_or-set_other, length-replicate, set-get_or, Op, Space, Sound, step_of, AskFacts, Held, DeskFacts, not_holding, Answered, NotHeld, Item, Replied, ToldItem, Request, Owning, Point, Turns, Next, Go, Over, More, Gone, Ends, Nowhere, CallFacts, moment_of, desk_fed, Moves, aimed, ended_by, published_next, Moment, after, begin_stage, settle, step_next, Want, WantAsk, WantTurn, step, record_at, spaces_of, with_chunk_found, HeapFacts, answered_by, holder_for, moment_after, parted, published_for, region_for, replied, started, told_to, turned_for, Seat, answer_of, asked_for, begun, first_seat, open_call, seat_at, seat_of, IsSeated, SitsAt, found_for, settled_is, sound_at, past, ask_line, turn_line, Line, Call, Start, Step, End, Verb, Take, CtlPlain, CtlWrite, AllEvents, NowhereCause, Tale, answer_begun, answer_in, no_tales, tale_at, tale_begun, tale_fed, tale_in, tale_turned, tale_until, tales_after, tales_begun, line_cause, verb_cause, address_at, AllWorlds, WorldEvent, HasSoundHeap, IsAskOf, IsPlay, IsSound, IsWanted, client_awaited, Read, Began, Turned, Told, Starved, Unnamed, after_event, Awaits, Memory, Nothing, OneStep, TheEnd, TheEndBefore, TheStart, World, arena_with, awaits_after, awaits_call, awaits_or_idle, begins, begun_as, has_open_call, line_read, opening_world, request_of, stepped, take_in, target_of, Came}
+use Rattle.replay_run.proofs.Words.{◌≡◌, ◌≢◌, ℕ, ◌<◌, ◌≤◌, ◌==◌, Bool, true, false, List, [], ◌∷◌, ◌++◌, Record, Option, None, Some, IfSome, is_none, length, refl, sym, ◌∙◌, ap, subst, arith, nat_lt, option_map, ltb-true, nat_tests, get_or-replicate, get_or-set_other, length-replicate, set-get_or, Op, Space, Sound, step_of, AskFacts, Held, DeskFacts, not_holding, Answered, NotHeld, Item, Replied, ToldItem, Request, Owning, Point, Turns, Next, Go, Ends, CallFacts, moment_of, desk_fed, Moves, aimed, ended_by, published_next, Moment, after, begin_stage, settle, step_next, Want, WantAsk, WantTurn, step, record_at, spaces_of, with_chunk_found, HeapFacts, answered_by, holder_for, moment_after, parted, published_for, region_for, replied, started, turned_for, Seat, answer_of, asked_for, begun, first_seat, open_call, seat_at, seat_of, found_for, settled_is, sound_at, past, ask_line, turn_line, Line, Verb, AllEvents, NowhereCause, Tale, answer_begun, answer_in, no_tales, tale_at, tale_begun, tale_fed, tale_in, tale_turned, tale_until, tales_after, tales_begun, line_cause, verb_cause, AllWorlds, WorldEvent, HasSoundHeap, IsAskOf, IsNext, IsPlay, IsSound, IsWanted, client_awaited, Read, Began, Turned, Told, Starved, Unnamed, after_event, Awaits, Memory, TheEndBefore, TheStart, World, awaits_after, awaits_call, begins, begun_as, line_read, opening_world, request_of, stepped, target_of, Came}
+use Rattle.replay_run.proofs.NewHeaps.{sits_there}
 use Rattle.std.proofs.Common.{slice_set}
 use Rattle.std.proofs.lemmas.List.{get_or-set_same}
 use Rattle.std.proofs.Math.ListN.{length-set}
@@ -11,71 +12,32 @@ IsBuilt (TheStart c verb whole) = verb_cause verb ≡ None
 IsBuilt awaits = Unit {0}
 
 after_built : (awaits : Awaits) (goes : Bool) → IsBuilt awaits → IsBuilt (awaits_after awaits goes)
-after_built Nothing true built = tt
-after_built Nothing false built = tt
-after_built (OneStep c) goes built = tt
-after_built (TheEnd c) true built = tt
-after_built (TheEnd c) false built = tt
-after_built (TheEndBefore c verb whole) true built = built
-after_built (TheEndBefore c verb whole) false built = built
-after_built (TheStart c verb whole) true built = built
-after_built (TheStart c verb whole) false built = tt
-after_built Memory true built = tt
-after_built Memory false built = tt
+after_built awaits goes built = grind arith
 
 call_built : (waits : Bool) (c : ℕ) (verb : Verb) (whole : Bool) → verb_cause verb ≡ None → IsBuilt (awaits_call waits c verb whole)
 call_built true c verb whole built = built
 call_built false c verb whole built = built
 
 begun_built : (w : World) (c : ℕ) (verb : Verb) (whole : Bool) (answer : Option Answered) → IsBuilt (begun_as w c verb whole answer).awaits
-begun_built w c verb true None = tt
-begun_built w c verb false None = tt
-begun_built w c verb whole (Some answer) = tt
+begun_built w c verb whole answer = grind arith
 
 -- a line leaves the heap as it is
-record Reads (w w' : World) : Type 0 where
-  heap : w'.heap ≡ w.heap
-  built : IsBuilt w'.awaits
+line_heap : (w : World) (line : Line) → (line_read w line).heap ≡ w.heap
+line_heap w line = grind arith
 
-idle_reads : (w : World) (c : ℕ) (waits : Bool) (awaits : Awaits) → IsBuilt w.awaits → IsBuilt awaits → Reads w (awaits_or_idle w c waits awaits)
-idle_reads w c true awaits was built = record { heap = refl; built = built }
-idle_reads w c false awaits was built = record { heap = refl; built = was }
-
-line_reads : (w : World) (line : Line) → IsBuilt w.awaits → line_cause w.moment line ≡ None → Reads w (line_read w line)
-line_reads w (Call c verb) was cause = record { heap = refl; built = call_built (has_open_call w.heap c) c verb true cause }
-line_reads w (Start c verb) was cause = record { heap = refl; built = call_built (has_open_call w.heap c) c verb false cause }
-line_reads w (Step c) was cause = idle_reads w c (has_open_call w.heap c) (OneStep c) was tt
-line_reads w (End c) was cause = idle_reads w c (has_open_call w.heap c) (TheEnd c) was tt
-line_reads w line was cause = record { heap = refl; built = was }
+line_built : (w : World) (line : Line) → IsBuilt w.awaits → line_cause w.moment line ≡ None → IsBuilt (line_read w line).awaits
+line_built w line was cause = grind (arith, call_built)
 
 -- a call that is carried out and asks for nothing was to take a region over
 nowhere : (w : World) (c : ℕ) (verb : Verb) (whole : Bool) → verb_cause verb ≡ None → request_of w.heap.records w.names w.moment verb ≡ None →
     NowhereCause w (Began c verb whole) (NotHeld (target_of w.names verb))
-nowhere w c (Take target) whole built none = (refl, by (arena_with w.heap.records (address_at w.names target)) none)
-  where
-    by : (found : Option ℕ) → take_in (address_at w.names target) found ≡ None → found ≡ None
-    by None e = refl
-    by (Some arena) e = absurd (cc)
-nowhere w c (CtlPlain name) whole built none = absurd (cc)
-nowhere w c (CtlWrite name value) whole built none = absurd (cc)
-nowhere w c verb whole built none = absurd (cc)
+nowhere w c verb whole built none = grind arith
 
 -- a client with an open call is one of those that there are
-seat_there : (seats : List Seat) (c : ℕ) (call : CallFacts) → length seats ≡ 32 → (seat_at seats c).call ≡ Some call → c < 32
-seat_there seats c call all opened = by (nat_lt c 32) refl
-  where
-    by : (v : Bool) → nat_lt c 32 ≡ v → c < 32
-    by true e = ltb-true c 32 e
-    by false e =
-        let none : (seat_at seats c).call ≡ None = ap (λ (s : Seat). s.call) (past seats c first_seat (grind (arith, nat_tests))) in
-        absurd (cc)
-
--- its call stands in an arena that there is
-arena_there : (w : World) (c : ℕ) (call : CallFacts) (wanted : Want) → IsSound w.heap → c < 32 → IsWanted w c call wanted → call.stage.arena < 32
-arena_there w c call wanted sound there wants =
-    let seated : IsSeated w.heap.records c (seat_at w.heap.seats c).desk (Some call) = subst (IsSeated w.heap.records c (seat_at w.heap.seats c).desk) wants.open_call (sound.seats c there) in
-    let sits : SitsAt w.heap.records c (seat_at w.heap.seats c).desk call (Go wants.point) = subst (SitsAt w.heap.records c (seat_at w.heap.seats c).desk call) wants.at seated.1 in
-    sits.waits.there
+pub seat_there : (seats : List Seat) (c : ℕ) (call : CallFacts) → length seats ≡ 32 → (seat_at seats c).call ≡ Some call → c < 32
+seat_there seats c call all opened =
+    let none : 32 ≤ c → (seat_at seats c).call ≡ None = λ far. ap (λ (s : Seat). s.call) (past seats c first_seat (omega (arith, far, all))) in
+    grind (arith, none)
 
 -- the reply to a turn came of what was wanted
 reply_came : (w : World) (c : ℕ) (call : CallFacts) (op : Op) (asked : Option AskFacts) → IsSound w.heap → c < 32 → (wants : IsWanted w c call (WantTurn op asked)) →
@@ -85,7 +47,7 @@ reply_came w c call op asked sound there wants =
     let s : Space = (record_at w.heap.records arena).space in
     let found = settled_is (spaces_of w.heap.records) arena op in
     let done : Op = with_chunk_found (spaces_of w.heap.records) arena op in
-    let sound_space : Sound s = sound_at w.heap.records arena sound.arenas (arena_there w c call (WantTurn op asked) sound there wants) in (
+    let sound_space : Sound s = sound_at w.heap.records arena sound.arenas (sits_there w.heap c call wants.point sound there wants.open_call wants.at).waits.there in (
       s,
       (step_of s c done).after,
       sound_space,
@@ -98,12 +60,18 @@ answer_came : (w : World) (c : ℕ) (call : CallFacts) (asked : AskFacts) → Is
     Came c (Go wants.point) (ToldItem asked)
 answer_came w c call asked sound there wants asks =
     let s : Space = (record_at w.heap.records call.stage.arena).space in
-    let sound_space : Sound s = sound_at w.heap.records call.stage.arena sound.arenas (arena_there w c call (WantAsk asked.ask) sound there wants) in
+    let sound_space : Sound s = sound_at w.heap.records call.stage.arena sound.arenas (sits_there w.heap c call wants.point sound there wants.open_call wants.at).waits.there in
     (s, s, sound_space, subst (λ x. Moves c s x (ToldItem asked) s) (sym wants.wants) (refl, asks.answers, refl))
 
+-- An event can come next in a sound world of 32 clients.
+pub record IsHere (w : World) (event : WorldEvent) : Type 0 where
+  pub next : IsNext w event
+  pub sound : IsSound w.heap
+  pub clients : length w.heap.seats ≡ 32
+
 -- where memory was wanting, no call is waited for
-unwaited : {X : Type 0} (w : World) (c : ℕ) → w.awaits ≡ Memory → client_awaited w.awaits ≡ Some c → X
-unwaited w c ends awaited = let none : client_awaited w.awaits ≡ None = ap client_awaited ends in absurd (cc)
+never : (w : World) (event : WorldEvent) → w.awaits ≡ Memory → IsNext w event → ⊥
+never w event ends next = let none : client_awaited w.awaits ≡ None = ap client_awaited ends in grind arith
 
 -- what each step of a call keeps
 module _ (P : ℕ → Tale → Next → Type 0) where
@@ -129,6 +97,9 @@ module _ (P : ℕ → Tale → Next → Type 0) where
   abbrev pub IsEnded : World → List (Option Tale) → WorldEvent → Type 0
   IsEnded w tales event = IfSome (answer_in w event) (EndsWith w event (tale_in w tales event))
 
+  abbrev pub EndsHere : World → List (Option Tale) → WorldEvent → Type 0
+  EndsHere w tales event = IsEnded w tales event × IsHere w event
+
   -- It is so of all open calls of a world, and the call that is to begin is carried out.
   pub record AllOpen (w : World) (tales : List (Option Tale)) : Type 0 where
     pub clients : length w.heap.seats ≡ 32
@@ -139,19 +110,11 @@ module _ (P : ℕ → Tale → Next → Type 0) where
   -- the call is open with its tale, or has ended
   opens_with : (c : ℕ) (at : Moment) (tale : Tale) (next : Next) → at.request ≡ tale.request → P c tale at.stage.next → OfCall c (open_call c at next) (tale_until (ended_by next) (Some tale))
   opens_with c at tale (Go point) same why = (same, why)
-  opens_with c at tale (Over index point) same why = tt
-  opens_with c at tale More same why = tt
-  opens_with c at tale Gone same why = tt
-  opens_with c at tale (Ends answer) same why = tt
-  opens_with c at tale Nowhere same why = tt
+  opens_with c at tale next same why = tt
 
   ends_with : (w : World) (event : WorldEvent) (c : ℕ) (tale : Tale) (next : Next) → P c tale next → IfSome (ended_by next) (EndsWith w event (Some tale))
-  ends_with w event c tale (Go point) why = tt
-  ends_with w event c tale (Over index point) why = tt
-  ends_with w event c tale More why = tt
-  ends_with w event c tale Gone why = tt
   ends_with w event c tale (Ends answer) why = (c, why)
-  ends_with w event c tale Nowhere why = tt
+  ends_with w event c tale next why = tt
 
   -- What a step leaves of a call and its tale: the call is open, or the answer ends it.
   record Left (w : World) (event : WorldEvent) (c : ℕ) (call : Option CallFacts) (answer : Option Answered) (tale : Option Tale) : Type 0 where
@@ -224,11 +187,6 @@ module _ (P : ℕ → Tale → Next → Type 0) where
       let others = calls_kept h.seats tales holder (record (seat_at h.seats holder) { desk = not_holding region.addr (seat_at h.seats holder).desk }) all number so (so holder) in
       (length-set gone.seats c last ∙ still, calls_kept gone.seats tales c last still number others (aimed_still keeps c call region.arena (tale_at tales c) own))
 
-  -- What an event leaves: its answer ends its call, and it is so of all open calls then.
-  record Goes (w : World) (tales : List (Option Tale)) (event : WorldEvent) : Type 0 where
-    answer : IsEnded w tales event
-    opens : AllOpen (after_event w event) (tales_after w event tales)
-
   -- a step of a call leads to a heap with these clients
   stepped_open : (w : World) (tales : List (Option Tale)) (c : ℕ) (heap : HeapFacts) (line : List ℕ) (answer : Option Answered) → IsBuilt w.awaits → length heap.seats ≡ 32 → length tales ≡ 32 →
       ((k : ℕ) → OfCall k (seat_at heap.seats k).call (tale_at tales k)) → AllOpen (stepped w c heap line answer) tales
@@ -255,83 +213,64 @@ module _ (P : ℕ → Tale → Next → Type 0) where
             (calls_set w.heap.seats tales c (seat_of c at) (tale_until (answer_of at) (Some tale)) so.clients so.number so.calls (λ there. left.goes)),
       )
 
-  -- the tale of a call that is waited for
-  own_call : (w : World) (tales : List (Option Tale)) (c : ℕ) (call : CallFacts) → AllOpen w tales → (seat_at w.heap.seats c).call ≡ Some call → OfCall c (Some call) (tale_at tales c)
-  own_call w tales c call so opened = subst (λ (o : Option CallFacts). OfCall c o (tale_at tales c)) opened (so.calls c)
+  -- a call is fed what came of what it wanted
+  fed_open : Kept → (w : World) (tales : List (Option Tale)) (event : WorldEvent) (c : ℕ) (call : CallFacts) (wanted : Want) (item : Item) (records : List Record) (heard : List AskFacts) (line : List ℕ) → AllOpen w tales →
+      (wants : IsWanted w c call wanted) → Came c (Go wants.point) item → IfSome (answer_of (moment_after w.heap c call item)) (EndsWith w event (option_map (tale_fed item) (tale_at tales c)))
+      × AllOpen (stepped w c (record { records = records; seats = slice_set w.heap.seats c (seat_of c (moment_after w.heap c call item)); heard = heard }) line (answer_of (moment_after w.heap c call item)))
+      (slice_set tales c (tale_until (answer_of (moment_after w.heap c call item)) (option_map (tale_fed item) (tale_at tales c))))
+  fed_open keeps w tales event c call wanted item records heard line so wants came =
+      let at : Moment = moment_after w.heap c call item in
+      let tale : Option Tale = option_map (tale_fed item) (tale_at tales c) in
+      let own : OfCall c (Some call) (tale_at tales c) = subst (λ (o : Option CallFacts). OfCall c o (tale_at tales c)) wants.open_call (so.calls c) in
+      let left : Left w event c (seat_of c at).call (answer_of at) tale = fed keeps w event c call (seat_at w.heap.seats c).desk wants.point item (tale_at tales c) wants.at own came in (
+        left.ends,
+        stepped_open w (slice_set tales c (tale_until (answer_of at) tale)) c (record { records = records; seats = slice_set w.heap.seats c (seat_of c at); heard = heard }) line (answer_of at) so.built
+            (length-set w.heap.seats c (seat_of c at) ∙ so.clients) (length-set tales c (tale_until (answer_of at) tale) ∙ so.number)
+            (calls_set w.heap.seats tales c (seat_of c at) (tale_until (answer_of at) tale) so.clients so.number so.calls (λ there. left.goes)),
+      )
 
   turned : Kept → (w : World) (tales : List (Option Tale)) (c : ℕ) (call : CallFacts) (op : Op) (asked : Option AskFacts) (holder : Option ℕ) → IsSound w.heap → AllOpen w tales → IsWanted w c call (WantTurn op asked) →
       IfSome (answered_by w.heap c call op holder) (EndsWith w (Turned c call op asked) (tale_turned w.heap c call op holder (tale_at tales c)))
       × AllOpen (stepped w c (turned_for w.heap c call op asked holder) (turn_line c) (answered_by w.heap c call op holder))
       (slice_set tales c (tale_until (answered_by w.heap c call op holder) (tale_turned w.heap c call op holder (tale_at tales c))))
   turned keeps w tales c call op asked None sound so wants =
-      let event : WorldEvent = Turned c call op asked in
-      let item : Item = replied w.heap c call op in
-      let at : Moment = moment_after w.heap c call item in
-      let tale : Option Tale = option_map (tale_fed item) (tale_at tales c) in
-      let came = reply_came w c call op asked sound (seat_there w.heap.seats c call so.clients wants.open_call) wants in
-      let left : Left w event c (seat_of c at).call (answer_of at) tale =
-      fed keeps w event c call (seat_at w.heap.seats c).desk wants.point item (tale_at tales c) wants.at (own_call w tales c call so wants.open_call) came in (
-        left.ends,
-        stepped_open w (slice_set tales c (tale_until (answer_of at) tale)) c (turned_for w.heap c call op asked None) (turn_line c) (answer_of at) so.built
-            (length-set w.heap.seats c (seat_of c at) ∙ so.clients) (length-set tales c (tale_until (answer_of at) tale) ∙ so.number)
-            (calls_set w.heap.seats tales c (seat_of c at) (tale_until (answer_of at) tale) so.clients so.number so.calls (λ there. left.goes)),
-      )
+      fed_open keeps w tales (Turned c call op asked) c call (WantTurn op asked) (replied w.heap c call op) (turned_for w.heap c call op asked None).records w.heap.heard (turn_line c) so wants
+      (reply_came w c call op asked sound (seat_there w.heap.seats c call so.clients wants.open_call) wants)
   turned keeps w tales c call op asked (Some holder) sound so wants =
       let heap : HeapFacts = published_for w.heap c call holder (region_for w.heap call holder) in
       let goes = published_calls keeps w.heap tales c call holder (region_for w.heap call holder) so.clients so.number wants.open_call so.calls in
       (tt, subst (AllOpen (stepped w c heap (turn_line c) None)) (sym (set-get_or tales c None)) (stepped_open w tales c heap (turn_line c) None so.built goes.0 so.number goes.1))
 
-  told : Kept → (w : World) (tales : List (Option Tale)) (c : ℕ) (call : CallFacts) (asked : AskFacts) → IsSound w.heap → AllOpen w tales → IsWanted w c call (WantAsk asked.ask) → IsAskOf w call asked → Goes w tales (Told c call asked)
-  told keeps w tales c call asked sound so wants asks =
-      let event : WorldEvent = Told c call asked in
-      let item : Item = ToldItem asked in
-      let at : Moment = moment_after w.heap c call item in
-      let tale : Option Tale = option_map (tale_fed item) (tale_at tales c) in
-      let came = answer_came w c call asked sound (seat_there w.heap.seats c call so.clients wants.open_call) wants asks in
-      let left : Left w event c (seat_of c at).call (answer_of at) tale =
-      fed keeps w event c call (seat_at w.heap.seats c).desk wants.point item (tale_at tales c) wants.at (own_call w tales c call so wants.open_call) came in record {
-        answer = left.ends;
-        opens = stepped_open w (slice_set tales c (tale_until (answer_of at) tale)) c (told_to w.heap c call asked) (ask_line c asked.ask asked.answer) (answer_of at) so.built
-            (length-set w.heap.seats c (seat_of c at) ∙ so.clients) (length-set tales c (tale_until (answer_of at) tale) ∙ so.number)
-            (calls_set w.heap.seats tales c (seat_of c at) (tale_until (answer_of at) tale) so.clients so.number so.calls (λ there. left.goes));
-      }
-
   -- nothing comes where memory was wanting
-  over : (w : World) (tales : List (Option Tale)) (events : List WorldEvent) → w.awaits ≡ Memory → IsPlay w events → AllEvents IsEnded w tales events
+  over : (w : World) (tales : List (Option Tale)) (events : List WorldEvent) → w.awaits ≡ Memory → IsPlay w events → AllEvents EndsHere w tales events
   over w tales [] ends play = tt
-  over w tales (Read line ∷ events) ends play = absurd (let next = play.0.0 in cc)
-  over w tales (Began c verb whole ∷ events) ends play = absurd (let next = play.0 in cc)
-  over w tales (Turned c call op asked ∷ events) ends play = unwaited w c ends play.0.awaited
-  over w tales (Told c call asked ∷ events) ends play = unwaited w c ends play.0.0.awaited
-  over w tales (Starved c call ∷ events) ends play = unwaited w c ends play.0.2.awaited
-  over w tales (Unnamed c call op asked ∷ events) ends play = unwaited w c ends play.0.0.awaited
+  over w tales (event ∷ events) ends play = absurd (never w event ends play.0)
 
-  plays : Kept → (w : World) (tales : List (Option Tale)) (events : List WorldEvent) → AllOpen w tales → IsPlay w events → AllWorlds HasSoundHeap w events → AllEvents IsEnded w tales events
+  line_open : (w : World) (tales : List (Option Tale)) (line : Line) → AllOpen w tales → line_cause w.moment line ≡ None → AllOpen (line_read w line) tales
+  line_open w tales line so free = record {
+    clients = ap (λ (h : HeapFacts). length h.seats) (line_heap w line) ∙ so.clients;
+    number = so.number;
+    built = line_built w line so.built free;
+    calls = λ c. subst (λ (h : HeapFacts). OfCall c (seat_at h.seats c).call (tale_at tales c)) (sym (line_heap w line)) (so.calls c);
+  }
+
+  plays : Kept → (w : World) (tales : List (Option Tale)) (events : List WorldEvent) → AllOpen w tales → IsPlay w events → AllWorlds HasSoundHeap w events → AllEvents EndsHere w tales events
   plays keeps w tales [] so play sound = tt
   plays keeps w tales (Read line ∷ events) so (next, more) (here, sound) =
-      let reads : Reads w (line_read w line) = line_reads w line so.built next.1 in
-      let still : AllOpen (line_read w line) tales = line_open w (line_read w line) tales so reads in
-      (tt, plays keeps (line_read w line) tales events still more sound)
-    where
-      line_open : (w w' : World) (tales : List (Option Tale)) → AllOpen w tales → Reads w w' → AllOpen w' tales
-      line_open w w' tales so reads = record {
-        clients = ap (λ (h : HeapFacts). length h.seats) reads.heap ∙ so.clients;
-        number = so.number;
-        built = reads.built;
-        calls = λ c. subst (λ (h : HeapFacts). OfCall c (seat_at h.seats c).call (tale_at tales c)) (sym reads.heap) (so.calls c);
-      }
+      ((tt, record { next = next; sound = here; clients = so.clients }), plays keeps (line_read w line) tales events (line_open w tales line so next.1) more sound)
   plays keeps w tales (Began c verb whole ∷ events) so (next, more) (here, sound) =
       let built : verb_cause verb ≡ None = subst IsBuilt next so.built in
       let goes = began keeps w tales c verb whole (request_of w.heap.records w.names w.moment verb) here so built refl in
-      (goes.0, plays keeps _ _ events goes.1 more sound)
+      ((goes.0, record { next = next; sound = here; clients = so.clients }), plays keeps _ _ events goes.1 more sound)
   plays keeps w tales (Turned c call op asked ∷ events) so (next, more) (here, sound) =
       let goes = turned keeps w tales c call op asked (holder_for w.heap call) here so next in
-      (goes.0, plays keeps _ _ events goes.1 more sound)
+      ((goes.0, record { next = next; sound = here; clients = so.clients }), plays keeps _ _ events goes.1 more sound)
   plays keeps w tales (Told c call asked ∷ events) so (next, more) (here, sound) =
-      let goes = told keeps w tales c call asked here so next.0 next.1 in
-      (goes.answer, plays keeps _ _ events goes.opens more sound)
-  plays keeps w tales (Starved c call ∷ events) so (next, more) (here, sound) = (tt, over (after_event w (Starved c call)) tales events refl more)
-  plays keeps w tales (Unnamed c call op asked ∷ events) so (next, more) (here, sound) = (tt, over (after_event w (Unnamed c call op asked)) tales events refl more)
+      let goes = fed_open keeps w tales (Told c call asked) c call (WantAsk asked.ask) (ToldItem asked) w.heap.records (w.heap.heard ++ asked ∷ []) (ask_line c asked.ask asked.answer) so next.0
+      (answer_came w c call asked here (seat_there w.heap.seats c call so.clients next.0.open_call) next.0 next.1) in
+      ((goes.0, record { next = next; sound = here; clients = so.clients }), plays keeps _ _ events goes.1 more sound)
+  plays keeps w tales (Starved c call ∷ events) so (next, more) (here, sound) = ((tt, record { next = next; sound = here; clients = so.clients }), over (after_event w (Starved c call)) tales events refl more)
+  plays keeps w tales (Unnamed c call op asked ∷ events) so (next, more) (here, sound) = ((tt, record { next = next; sound = here; clients = so.clients }), over (after_event w (Unnamed c call op asked)) tales events refl more)
 
   -- no call is open in the opening world
   none_open : AllOpen opening_world no_tales
@@ -347,12 +286,12 @@ module _ (P : ℕ → Tale → Next → Type 0) where
       rests c false e = let far : 32 ≤ c = grind (arith, nat_tests) in past opening_world.heap.seats c first_seat (omega (arith, far, length-replicate 32 first_seat))
 
   -- what each answer shows is so of all events of a play
-  shown : (Q : World → List (Option Tale) → WorldEvent → Type 0) → ((w : World) (tales : List (Option Tale)) (event : WorldEvent) → IsEnded w tales event → Q w tales event) →
-      (w : World) (tales : List (Option Tale)) (events : List WorldEvent) → AllEvents IsEnded w tales events → AllEvents Q w tales events
+  shown : (Q : World → List (Option Tale) → WorldEvent → Type 0) → ((w : World) (tales : List (Option Tale)) (event : WorldEvent) → EndsHere w tales event → Q w tales event) →
+      (w : World) (tales : List (Option Tale)) (events : List WorldEvent) → AllEvents EndsHere w tales events → AllEvents Q w tales events
   shown Q show w tales [] all = tt
   shown Q show w tales (event ∷ events) all = (show w tales event all.0, shown Q show (after_event w event) (tales_after w event tales) events all.1)
 
   -- and so it is in each play from the opening world on
-  pub each_event : (Q : World → List (Option Tale) → WorldEvent → Type 0) → ((w : World) (tales : List (Option Tale)) (event : WorldEvent) → IsEnded w tales event → Q w tales event) →
+  pub each_event : (Q : World → List (Option Tale) → WorldEvent → Type 0) → ((w : World) (tales : List (Option Tale)) (event : WorldEvent) → EndsHere w tales event → Q w tales event) →
       Kept → (events : List WorldEvent) → IsPlay opening_world events → AllWorlds HasSoundHeap opening_world events → AllEvents Q opening_world no_tales events
   each_event Q show keeps events play sound = shown Q show opening_world no_tales events (plays keeps opening_world no_tales events none_open play sound)

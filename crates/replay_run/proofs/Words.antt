@@ -4,7 +4,7 @@ pub use Rattle.std.specs.List.{Contains, count_by, sum_by, flat_map, range_with_
 pub use Rattle.std.specs.Option.{option_map}
 pub use Rattle.std.specs.Prelude.{slice_set}
 pub use Rattle.std.specs.Result.{IsErrAnd}
-pub use Rattle.std.proofs.Common.{◌≡◌, ℕ, ◌%◌, ◌<◌, ◌==◌, Bool, true, false, All, inl, inr, List, [], ◌∷◌, ◌++◌, Option, None, Some, IfSome, length, get_or, refl, sym, ◌∙◌, ap, subst, arith, nat_lt, append-nil, append_assoc, cond, ltb, take, ◌≢◌, ◌≤◌, Result, Ok, Err, is_some, IfErr, OnOk, OnErr, length-append, ◌+◌, map, IfOk, replicate, ◌⊎◌, eqb, ◌^◌, not, min, drop, ◌||◌, suc, zero, length-set, is_none, set, get_or-set_same, ◌-◌}
+pub use Rattle.std.proofs.Common.{◌≡◌, ◌*◌, max, rules, ℕ, ◌%◌, ◌<◌, ◌==◌, Bool, true, false, All, inl, inr, List, [], ◌∷◌, ◌++◌, Option, None, Some, IfSome, length, get_or, refl, sym, ◌∙◌, ap, subst, arith, nat_lt, append-nil, append_assoc, cond, ltb, take, ◌≢◌, ◌≤◌, Result, Ok, Err, is_some, IfErr, OnOk, OnErr, length-append, ◌+◌, map, IfOk, replicate, ◌⊎◌, eqb, ◌^◌, not, min, drop, ◌||◌, suc, zero, length-set, is_none, set, get_or-set_same, ◌-◌}
 pub use Rattle.std.proofs.KnownBytes.{Appends-trans, Consumes-trans, Appends-nil, Consumes-nil}
 pub use Rattle.std.proofs.Math.Seq.{take-append-add, take-length}
 pub use Rattle.std.proofs.lemmas.Bool.{eqb-true, ltb-true}
@@ -15,31 +15,31 @@ pub use Rattle.std.proofs.lemmas.List.Elements.{All-filter, All-head, All-tail, 
 pub use Rattle.std.proofs.lemmas.List.Quantifiers.{position-Some}
 pub use Rattle.std.proofs.lemmas.List.Sums.{sum_by-cons, sum_by-le, sum_by-set, fold_push}
 pub use Rattle.memchr.specs.Find.{NoneBefore, Nowhere as PassesNowhere, Passes, is_byte}
-pub use Rattle.call_table.proofs.Bounds.{chosen_stage}
-pub use Rattle.call_table.proofs.Credits.{begin-is_call, settle_place}
-pub use Rattle.call_table.proofs.Memaligns.{memaligns-are_aligned}
-pub use Rattle.call_table.proofs.Reasons.{NextWhy, begin_why, settle_why, step_why}
-pub use Rattle.call_table.specs.Aligned.{IsCacheAligned}
-pub use Rattle.call_table.specs.Calls.{CallFacts, moment_of}
-pub use Rattle.call_table.specs.Causes.{AllCame, Came}
-pub use Rattle.call_table.specs.Desks.{desk_fed}
-pub use Rattle.call_table.specs.Laws.{Moves}
-pub use Rattle.call_table.specs.Needs.{IsPointOrEnd, Goes}
-pub use Rattle.call_table.specs.Reads.{taken_next, ended_by, aimed, published_next}
-pub use Rattle.call_table.specs.Runs.{Moment, after, begin, begin_memalign, begin_stage, run, settle, step_next, begin_get, is_alignment, page_align, small_hit}
-pub use Rattle.call_table.specs.Stages.{Point, Turns, Next, Go, Over, More, Gone, Ends, Nowhere, Asks, Tells}
-pub use Rattle.call_table.specs.Table.{step, chunks_for, commit, is_marked, op_at, starved, told, trim, turn_replied, Want, WantAsk, WantTurn, want}
-pub use Rattle.call_table.specs.declared.needs.Answered.{Answered}
-pub use Rattle.call_table.specs.declared.needs.Answered.TheVariants.{NotHeld}
-pub use Rattle.call_table.specs.declared.needs.Given.TheVariants.{Region}
-pub use Rattle.call_table.specs.Items.{Item, Replied, Told as ToldItem}
-pub use Rattle.call_table.specs.declared.needs.Request.{Request}
-pub use Rattle.call_table.specs.declared.needs.Request.TheVariants.{Memalign}
-pub use Rattle.call_table.specs.declared.points.AskPoint.{AskPoint}
-pub use Rattle.call_table.specs.declared.points.AskPoint.TheVariants.{Skipping, Trimming, Growing, Paring, Needing, Granting, Committing}
-pub use Rattle.call_table.specs.declared.points.TurnPoint.{TurnPoint}
-pub use Rattle.call_table.specs.declared.points.TurnPoint.TheVariants.{Owning, Filling, Looking, Landing}
-pub use Rattle.call_table.specs.declared.points.Wish.{Wish}
+pub use Rattle.call_plan.proofs.Bounds.{chosen_stage}
+pub use Rattle.call_plan.proofs.Credits.{begin-is_call, settle_place}
+pub use Rattle.call_plan.proofs.Memaligns.{memaligns-are_aligned}
+pub use Rattle.call_plan.proofs.Reasons.{NextWhy, begin_why, settle_why, step_why}
+pub use Rattle.call_plan.specs.Aligned.{IsCacheAligned}
+pub use Rattle.call_plan.specs.Calls.{CallFacts, moment_of}
+pub use Rattle.call_plan.specs.Causes.{AllCame, Came}
+pub use Rattle.call_plan.specs.Desks.{desk_fed}
+pub use Rattle.call_plan.specs.Laws.{Moves}
+pub use Rattle.call_plan.specs.Needs.{IsPointOrEnd, Goes}
+pub use Rattle.call_plan.specs.Reads.{taken_next, ended_by, aimed, published_next}
+pub use Rattle.call_plan.specs.Runs.{Moment, after, begin, begin_memalign, begin_stage, run, settle, step_next, begin_get, is_alignment, page_align, small_hit}
+pub use Rattle.call_plan.specs.Stages.{Point, Turns, Next, Go, Over, More, Gone, Ends, Nowhere, Asks, Tells}
+pub use Rattle.call_plan.specs.Table.{step, chunks_for, commit, is_marked, op_at, starved, told, trim, turn_replied, Want, WantAsk, WantTurn, want}
+pub use Rattle.call_plan.specs.declared.needs.Answered.{Answered}
+pub use Rattle.call_plan.specs.declared.needs.Answered.TheVariants.{NotHeld}
+pub use Rattle.call_plan.specs.declared.needs.Given.TheVariants.{Region}
+pub use Rattle.call_plan.specs.Items.{Item, Replied, Told as ToldItem}
+pub use Rattle.call_plan.specs.declared.needs.Request.{Request}
+pub use Rattle.call_plan.specs.declared.needs.Request.TheVariants.{Memalign}
+pub use Rattle.call_plan.specs.declared.points.AskPoint.{AskPoint}
+pub use Rattle.call_plan.specs.declared.points.AskPoint.TheVariants.{Skipping, Trimming, Growing, Paring, Needing, Granting, Committing}
+pub use Rattle.call_plan.specs.declared.points.TurnPoint.{TurnPoint}
+pub use Rattle.call_plan.specs.declared.points.TurnPoint.TheVariants.{Owning, Filling, Looking, Landing}
+pub use Rattle.call_plan.specs.declared.points.Wish.{Wish}
 pub use Rattle.edge_io.specs.Bytes.{Appends, AppendsPrefix, Consumes, Keeps, Rose, IsAtEnd}
 pub use Rattle.heap_core.proofs.Clients.{sound_at, found_for, settled_is}
 pub use Rattle.heap_core.proofs.Hands.{had_counts}
@@ -107,3 +107,19 @@ pub use Rattle.replay_run.specs.declared.input.Stop.{Stop}
 pub use Rattle.replay_run.specs.declared.input.Stop.TheVariants.{ReadFault, WriteFault, NoMemory}
 pub use Rattle.heap_core.specs.Logs.{last_asked}
 pub use Rattle.heap_core.proofs.LastAsk.{last_pushed}
+pub use Rattle.call_plan.specs.Desks.{flushes}
+pub use Rattle.call_plan.specs.Runs.{batch_goes}
+pub use Rattle.call_plan.specs.declared.needs.Answered.TheVariants.{NoArena as NoSuchArena}
+pub use Rattle.thread_cache.specs.Desks.{BatchFacts, batch_of, going}
+pub use Rattle.space_model.proofs.Steps.{op_goes}
+pub use Rattle.call_plan.proofs.Causes.{grow_bad}
+pub use Rattle.call_plan.specs.Knows.{Heard, Knows}
+pub use Rattle.call_plan.specs.Table.{answered_span, ask_at, done_at, whole_chunks}
+pub use Rattle.call_plan.specs.Words.{Mine, Ask, Alloc, Answer, Placed, Why}
+pub use Rattle.call_plan.specs.declared.needs.Answered.TheVariants.{BadAnswer}
+pub use Rattle.heap_core.specs.Arenas.{reply_in}
+pub use Rattle.heap_core.specs.Chunks.{met_by_alloc}
+pub use Rattle.heap_core.specs.Clients.{mine_in}
+pub use Rattle.space_model.specs.Step.{after_grow}
+pub use Rattle.space_model.specs.declared.Reply.TheVariants.{Bad as BadReply}
+pub use Rattle.replay_run.specs.Answers.{IsTrueIn, SpeaksAgainst}

@@ -1,17 +1,21 @@
 -- What each open call of a play was fed, and what the answers of a play have to be.
-use Rattle.std.specs.Prelude.{◌≡◌, ℕ, ◌%◌, List, [], ◌∷◌, ◌++◌, Option, None, Some, IfSome, replicate, slice_index_or, slice_set}
+use Rattle.std.specs.Prelude.{◌≡◌, ℕ, false, ◌%◌, List, [], ◌∷◌, ◌++◌, Option, None, Some, IfSome, replicate, slice_index_or, slice_set}
 use Rattle.std.specs.Option.{option_map}
 use Rattle.size_classes.specs.Classes.{aligned_for}
 use Rattle.space_model.specs.declared.Op.{Op}
+use Rattle.space_model.specs.Step.{is_live, why_not}
 use Rattle.thread_cache.specs.Desks.{DeskFacts}
-use Rattle.call_table.specs.declared.needs.Answered.{Answered}
-use Rattle.call_table.specs.declared.needs.Answered.TheVariants.{Ok, NotHeld}
-use Rattle.call_table.specs.declared.needs.Given.TheVariants.{Region}
-use Rattle.call_table.specs.Items.{Item, Told as ToldItem}
-use Rattle.call_table.specs.declared.needs.Request.{Request}
-use Rattle.call_table.specs.declared.needs.Request.TheVariants.{Memalign}
-use Rattle.call_table.specs.Calls.{CallFacts}
-use Rattle.call_table.specs.Causes.{CauseOf}
+use Rattle.call_plan.specs.declared.needs.Answered.{Answered}
+use Rattle.call_plan.specs.declared.needs.Answered.TheVariants.{Ok, NotHeld, BadAnswer, NoArena}
+use Rattle.call_plan.specs.declared.needs.Given.TheVariants.{Region}
+use Rattle.call_plan.specs.Items.{Item, Told as ToldItem}
+use Rattle.call_plan.specs.declared.needs.Request.{Request}
+use Rattle.call_plan.specs.declared.needs.Request.TheVariants.{Memalign}
+use Rattle.call_plan.specs.Calls.{CallFacts}
+use Rattle.call_plan.specs.Causes.{CauseOf}
+use Rattle.call_plan.specs.Words.{Ask, Alloc, Answer, Placed, Part, Space, Span, Why}
+use Rattle.heap_core.specs.Arenas.{record_at, spaces_of}
+use Rattle.heap_core.specs.Chunks.{met_by_alloc}
 use Rattle.heap_core.specs.Heaps.{HeapFacts, answered_by, holder_for, moment_after, replied}
 use Rattle.heap_core.specs.Seats.{Seat, answer_of, asked_for, begun, seat_at}
 use Rattle.trace_text.specs.declared.lines.Verb.{Verb}
@@ -106,9 +110,33 @@ abbrev pub AnswerCause : World → WorldEvent → Option Tale → Answered → T
 AnswerCause w event (Some tale) answer = CauseOf tale.began tale.request tale.items answer
 AnswerCause w event None answer = NowhereCause w event answer
 
--- the answer that an event gives has its cause
+-- what is told against the range that an alloc placed is the first thing that speaks against it: by the extents of its arena, and
+-- by the least chunk that an extent of any arena meets
+abbrev pub SpeaksAgainst : List Space → List Part → Ask → Answer → Span → Why → Type 0
+SpeaksAgainst spaces parts (Alloc commit at pages align) (Placed committed zeroed first) span why = (span ≡ record { first = first; pages = pages })
+    × (why_not (met_by_alloc spaces (Alloc commit at pages align) (Placed committed zeroed first)) align parts span ≡ Some why)
+SpeaksAgainst spaces parts ask answer span why = ⊥
+
+-- a bad answer comes of the turn that takes in what the hook answered, and that is a wrong answer in the world of the turn
+abbrev pub IsWrongIn : HeapFacts → WorldEvent → Span → Why → Type 0
+IsWrongIn h (Turned c call op (Some asked)) span why =
+    SpeaksAgainst (spaces_of h.records) (record_at h.records call.stage.arena).space.parts asked.ask asked.answer span why
+IsWrongIn h event span why = ⊥
+
+-- an arena that a turn says isn't there is the one in which it is made, and isn't live
+abbrev pub IsGoneIn : HeapFacts → WorldEvent → ℕ → Type 0
+IsGoneIn h (Turned c call op asked) index = (index ≡ call.stage.arena) × (is_live (record_at h.records index).space.life ≡ false)
+IsGoneIn h event index = Unit {0}
+
+-- what an answer says of the world is so
+abbrev pub IsTrueIn : World → WorldEvent → Answered → Type 0
+IsTrueIn w event (BadAnswer span why) = IsWrongIn w.heap event span why
+IsTrueIn w event (NoArena index) = IsGoneIn w.heap event index
+IsTrueIn w event answer = Unit {0}
+
+-- the answer that an event gives has its cause, and what it says of the world is so
 abbrev pub IsCaused : World → List (Option Tale) → WorldEvent → Type 0
-IsCaused w tales event = IfSome (answer_in w event) (AnswerCause w event (tale_in w tales event))
+IsCaused w tales event = IfSome (answer_in w event) (λ answer. AnswerCause w event (tale_in w tales event) answer × IsTrueIn w event answer)
 
 -- each answer of a play with sound heaps has its cause in what that very call was fed
 abbrev pub AnswersHaveCauses : Type 0

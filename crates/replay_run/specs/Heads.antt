@@ -3,7 +3,7 @@ use Rattle.std.specs.Prelude.{ℕ, List}
 use Rattle.std.specs.Borrow.{Bor}
 use Rattle.space_model.specs.declared.Rest.{Rest}
 use Rattle.space_model.specs.declared.Rest.TheVariants.{Dirty, Muzzy, Retained}
-use Rattle.call_table.specs.declared.needs.Answered.{Answered}
+use Rattle.call_plan.specs.declared.needs.Answered.{Answered}
 use Rattle.report_text.specs.declared.heads.Head.{Head}
 use Rattle.report_text.specs.declared.heads.Head.TheVariants as head
 use Rattle.report_text.specs.Lines.{call_line}

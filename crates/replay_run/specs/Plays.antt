@@ -5,11 +5,11 @@ use Rattle.space_model.specs.declared.Op.{Op}
 use Rattle.hook_api.specs.Asked.{AskFacts}
 use Rattle.hook_api.specs.Chain.{Event as ShelfEvent, Made, PlanSet}
 use Rattle.hook_api.specs.Hooks.{Answers as AnswersTo}
-use Rattle.call_table.specs.Runs.{step_next}
-use Rattle.call_table.specs.Stages.{Go, More, Point}
-use Rattle.call_table.specs.Calls.{CallFacts}
-use Rattle.call_table.specs.Items.{Told as ToldItem}
-use Rattle.call_table.specs.Table.{Want, WantAsk, WantTurn, is_marked, want}
+use Rattle.call_plan.specs.Runs.{step_next}
+use Rattle.call_plan.specs.Stages.{Go, More, Point}
+use Rattle.call_plan.specs.Calls.{CallFacts}
+use Rattle.call_plan.specs.Items.{Told as ToldItem}
+use Rattle.call_plan.specs.Table.{Want, WantAsk, WantTurn, is_marked, want}
 use Rattle.heap_core.specs.Arenas.{IsArenas, record_at}
 use Rattle.heap_core.specs.Heaps.{HeapFacts, answered_by, holder_for, moment_after, replied, starved_on, told_to, turned_for, unnamed_on}
 use Rattle.heap_core.specs.Seats.{answer_of, seat_at}

@@ -6,6 +6,7 @@ use Rattle.hook_api.specs.Chain.{Chain}
 use Rattle.hook_api.specs.Shelf.{Shelf}
 use Rattle.hook_api.specs.declared.kept.Journal.{Journal}
 use Rattle.heap_core.specs.Arenas.{journal_of}
+use Rattle.heap_core.specs.Heaps.{opening_heap}
 use Rattle.report_text.specs.declared.causes.Cause.{Cause}
 use Rattle.report_text.specs.declared.causes.Cause.TheVariants.{Cut}
 use Rattle.report_text.specs.Lines.{bad_line}
@@ -75,7 +76,7 @@ pub record ReplayOf (status : ℕ) (journals : List Journal) (heard : List AskFa
   pub ends : IsEnding (world_after opening_world events) (length (lines_in events)) rest left met ending
   pub prints : Prints status (world_after opening_world events) (length (lines_in events)) rest ending before after
 
--- the journals and the asks are handed out; without memory for the list of them, or for a heap, none is
-abbrev pub HandsOut : ℕ → List Journal → List AskFacts → List Journal → List AskFacts → Type 0
-HandsOut status journals heard journals' heard' =
-    ((journals' ≡ journals) × (heard' ≡ heard)) ⊎ ((status ≡ 6) × (journals' ≡ []) × (heard' ≡ []))
+-- the journals of the run are handed out; only where memory for a heap was wanting, so that nothing was done, none is
+abbrev pub HandsOut : ℕ → List Journal → List Journal → Type 0
+HandsOut status journals journals' =
+    (journals' ≡ journals) ⊎ ((status ≡ 6) × (journals ≡ map journal_of opening_heap.records) × (journals' ≡ []))

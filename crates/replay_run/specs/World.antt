@@ -1,5 +1,5 @@
 -- Worlds: everything that the rest of a replay can depend on, and how a line, a turn or an ask leads from one to the next.
-use Rattle.std.specs.Prelude.{ℕ, ◌/◌, ℤ, pos, Bool, true, false, List, [], ◌++◌, Option, None, Some, is_none, is_some, replicate, slice_index_or, slice_set, if◌then◌else◌}
+use Rattle.std.specs.Prelude.{ℕ, ◌/◌, ℤ, pos, Bool, true, false, List, [], ◌++◌, Option, None, Some, is_none, is_some, replicate, slice_index_or, slice_set}
 use Rattle.std.specs.List.{flat_map, list_any, position, range_with_len}
 use Rattle.space_model.specs.declared.Counts.{Counts}
 use Rattle.space_model.specs.declared.Rest.{Rest}
@@ -7,13 +7,12 @@ use Rattle.space_model.specs.declared.Rest.TheVariants.{Dirty, Muzzy}
 use Rattle.space_model.specs.declared.Space.{Space}
 use Rattle.space_model.specs.Counts.{counts_of}
 use Rattle.space_model.specs.Span.{has_page}
-use Rattle.space_model.specs.Step.{is_live}
-use Rattle.call_table.specs.declared.needs.Answered.{Answered}
-use Rattle.call_table.specs.declared.needs.Answered.TheVariants.{Ok, NotHeld}
-use Rattle.call_table.specs.declared.needs.Given.TheVariants.{Region}
-use Rattle.call_table.specs.declared.needs.Request.{Request}
-use Rattle.call_table.specs.declared.needs.Request.TheVariants as request
-use Rattle.heap_core.specs.Arenas.{record_at}
+use Rattle.call_plan.specs.declared.needs.Answered.{Answered}
+use Rattle.call_plan.specs.declared.needs.Answered.TheVariants.{Ok, NotHeld}
+use Rattle.call_plan.specs.declared.needs.Given.TheVariants.{Region}
+use Rattle.call_plan.specs.declared.needs.Request.{Request}
+use Rattle.call_plan.specs.declared.needs.Request.TheVariants as request
+use Rattle.heap_core.specs.Arenas.{record_at, where_live}
 use Rattle.heap_core.specs.Records.{Record}
 use Rattle.heap_core.specs.Heaps.{HeapFacts, opening_heap, started}
 use Rattle.heap_core.specs.Seats.{answer_of, begun, seat_at}
@@ -190,7 +189,7 @@ awaits_call false c verb whole = TheStart c verb whole
 
 -- the counts of an arena that is live
 abbrev pub live_counts : Space → Option Counts
-live_counts s = if is_live s.life then Some (counts_of s) else None
+live_counts s = where_live counts_of s
 
 -- the counts of an arena, or that it isn't live
 abbrev pub counts_text : ℕ → Option Counts → List ℕ

@@ -3,8 +3,8 @@
 ghost use Rattle.std.specs.Prelude.{◌≡◌, ◌≢◌, ◌++◌, ◌<◌, ◌≤◌, ℕ, Bool, true, false, [], Some, IfErr, OnErr, OnOk};
 ghost use Rattle.edge_io.specs.Bytes.{Appends, AppendsPrefix};
 ghost use Rattle.hook_api.specs.Shelf.{Shelf};
-ghost use Rattle.call_table.specs.declared.needs.Answered.{Answered};
-ghost use Rattle.call_table.specs.declared.needs.Answered.TheVariants.{NoMemory as WasStarved};
+ghost use Rattle.call_plan.specs.declared.needs.Answered.{Answered};
+ghost use Rattle.call_plan.specs.declared.needs.Answered.TheVariants.{NoMemory as WasStarved};
 ghost use Rattle.trace_text.specs.declared.lines.Verb.{Verb};
 ghost use Rattle.trace_text.specs.Grammar.{IsVerbWithinLimits};
 ghost use Rattle.report_text.specs.Lines.{call_line};
@@ -20,7 +20,7 @@ use crate::input::Stop;
 use crate::names::Names;
 use crate::prints::print;
 use crate::state::State;
-use call_table::Answered;
+use call_plan::Answered;
 use edge_io::Sink;
 use heap_core::{Did, Heap, Stepped};
 use hook_api::{Asked, ExtentHooks, HookShelf};
@@ -151,7 +151,7 @@ pub fn step_once<K: Sink, H: ExtentHooks>(
     ensures counts { K.faults sink.old ≤ K.faults sink.new }
 {
     state.heap.stands();
-    state.heap.step_into(client, shelf, alloc, told);
+    state.heap.step_into(alloc, client, shelf, told);
     state.heap.stands();
     if is_starved(told) {
         return Err(Stop::NoMemory);
@@ -215,7 +215,7 @@ fn begin_call<K: Sink>(
         return answer_call(text, sink, names, client, verb, answer);
     };
     state.heap.stands();
-    let ended = state.heap.start(client, request, alloc)?;
+    let ended = state.heap.start(alloc, client, request)?;
     state.heap.stands();
     match ended {
         Some(answer) => {

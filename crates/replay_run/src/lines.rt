@@ -127,7 +127,7 @@ pub fn carry_line<K: Sink, H: ExtentHooks>(
         Line::Start { client, verb } => carry_call(alloc, sink, shelf, state, client, verb, false),
         Line::Step(client) => step_line(alloc, sink, shelf, state, client),
         Line::End(client) => end_line(alloc, sink, shelf, state, client),
-        Line::Counts(index) => print_counts(alloc, sink, index, state.counts(index)),
+        Line::Counts(index) => print_counts(alloc, sink, index, state.heap.counts(index)),
         Line::At(moment) => {
             state.moment = moment;
             Ok(())

@@ -4,7 +4,7 @@ ghost use Rattle.std.specs.Prelude.{◌≡◌, [], OnOk, OnErr};
 ghost use Rattle.replay_run.specs.Names.{address_at, address_in, named};
 ghost use Rattle.replay_run.specs.World.{names_ended};
 
-use call_table::{Answered, Given};
+use call_plan::{Answered, Given};
 use indexmap::IndexMap;
 use std::alloc::{AllocError as NoMemory, Global};
 use std::marker::Model;

@@ -2,7 +2,6 @@
 
 ghost use Rattle.std.specs.Prelude.{◌≡◌, ◌≢◌, ◌+◌, ◌<◌, ◌≤◌, ◌⊎◌, ◌++◌, ℕ, true, List, [], Result, Err, map, replicate, None, IfErr, IfOk, OnErr, OnOk};
 ghost use Rattle.edge_io.specs.Bytes.{Appends, AppendsPrefix, Keeps, Rose};
-ghost use Rattle.hook_api.specs.Asked.{AskFacts};
 ghost use Rattle.hook_api.specs.declared.kept.Journal.{Journal};
 ghost use Rattle.heap_core.specs.Arenas.{journal_of};
 ghost use Rattle.heap_core.specs.Heaps.{opening_heap};
@@ -10,7 +9,7 @@ ghost use Rattle.report_text.specs.Lines.{bad_line};
 ghost use Rattle.replay_run.specs.Causes.{line_limit, status_of};
 ghost use Rattle.replay_run.specs.Replays.{HandsOut, ReplayOf};
 ghost use Rattle.replay_run.specs.SoFar.{GoesNext, Here, IsUnread, Outset, now_of, reading};
-ghost use Rattle.replay_run.specs.Stops.{HasStopCause, IsReplayStatus, status_for, status_in};
+ghost use Rattle.replay_run.specs.Stops.{HasStopCause, IsReplayStatus, status_in};
 ghost use Rattle.replay_run.specs.declared.input.Stop.TheVariants.{ReadFault, WriteFault};
 ghost use Rattle.replay_run.specs.World.{Nothing, closing, closing_line, live_counts};
 
@@ -19,7 +18,7 @@ use crate::lines::carry_line;
 use crate::prints::{flush, print};
 use crate::state::State;
 use edge_io::{Sink, Source};
-use heap_core::{ARENAS, Heap};
+use heap_core::ARENAS;
 use hook_api::{Askeds, ExtentHooks, HookShelf, Journals};
 use report_text::{Cause, bad_line, counts_line};
 use space_model::Counts;
@@ -54,9 +53,9 @@ pub struct Replayed<H: ExtentHooks> {
     pub status: u8,
     /// The shelf that was handed in, after the asks of the run and the plans of its lines.
     pub shelf: HookShelf<H>,
-    /// The journals of the 32 arenas, or none where memory for the arenas or for the list was wanting.
+    /// The journals of the 32 arenas, or none where memory for a heap was wanting.
     pub journals: Journals,
-    /// Every ask of the run, in order, or none in those two cases.
+    /// Every ask of the run, in order.
     pub heard: Askeds,
 }
 
@@ -152,7 +151,7 @@ fn closing_text(alloc: Global, state: &State) -> Result<Vec<u8>, NoMemory>
 {
     let mut text = Vec::new(alloc);
     for index in 0..ARENAS {
-        write_closing(&mut text, index, state.counts(index))?;
+        write_closing(&mut text, index, state.heap.counts(index))?;
     }
     Ok(text)
 }
@@ -215,14 +214,19 @@ fn run_lines<S: Source, K: Sink, H: ExtentHooks>(
     close(alloc, sink, state)
 }
 
-/// The status that a replay gives where it stopped.
-fn status_for(stop: Stop) -> u8
-    ensures { result ≡ status_for stop }
+/// The status of a replay whose lines ended so.
+fn status_in(ended: Result<u8, Stop>) -> u8
+    requires { IfOk ended (λ status. (status ≡ 0) ⊎ (status ≡ 3) ⊎ (status ≡ 7)) }
+    ensures status { result ≡ status_in ended }
+    ensures read_fault { result ≡ 4 → ended ≡ Err ReadFault }
+    ensures write_fault { result ≡ 5 → ended ≡ Err WriteFault }
+    ensures known { IsReplayStatus result }
 {
-    match stop {
-        Stop::ReadFault => SOURCE_FAILED,
-        Stop::WriteFault => SINK_FAILED,
-        Stop::NoMemory => NO_MEMORY,
+    match ended {
+        Ok(status) => status,
+        Err(Stop::ReadFault) => SOURCE_FAILED,
+        Err(Stop::WriteFault) => SINK_FAILED,
+        Err(Stop::NoMemory) => NO_MEMORY,
     }
 }
 
@@ -238,57 +242,22 @@ fn flush_last<K: Sink>(sink: &mut K, ended: Result<u8, Stop>) -> Result<u8, Stop
     }
 }
 
-/// What a replay hands out beside the shelf.
-#[derive(Drop)]
-struct Books {
-    status: u8,
-    journals: Journals,
-    heard: Askeds,
-}
-
-/// The status, the journals and the asks after the lines: without memory for the list of the journals, none and status 6.
-fn books_of(alloc: Global, heap: Heap, ended: Result<u8, Stop>) -> Books
-    requires { IfOk ended (λ status. (status ≡ 0) ⊎ (status ≡ 3) ⊎ (status ≡ 7)) }
-    ensures of_lines { (result.status ≡ status_in ended) ⊎ (result.status ≡ 6) }
-    ensures books { HandsOut result.status (map journal_of heap.records) heap.heard result.journals result.heard }
-    ensures read_fault { result.status ≡ 4 → ended ≡ Err ReadFault }
-    ensures write_fault { result.status ≡ 5 → ended ≡ Err WriteFault }
-    ensures known { IsReplayStatus result.status }
-{
-    let Ok((journals, heard)) = heap.finish(alloc) else {
-        return Books {
-            status: NO_MEMORY,
-            journals: Journals::none(alloc),
-            heard: Askeds::new(alloc),
-        };
-    };
-    let status = match ended {
-        Ok(status) => status,
-        Err(stop) => status_for(stop),
-    };
-    Books {
-        status,
-        journals,
-        heard,
-    }
-}
-
 /// Carries out the lines of a source over a new heap, asks the hooks of the shelf, and prints what the calls answer and the
 /// counts of the arenas that are live at the end.
 ///
 /// The first bad line is answered by its number and its cause, and ends the replay: with status 7 where it is behind the
 /// 1,048,576 lines that a trace may have, has more than 256 bytes or names a client above 31, and else with status 3. After a
 /// read that failed the status is 4, after a write that failed 5, and 6 where memory was wanting. The journals and the asks are
-/// those up to there; at status 6 it may be that none are handed back.
+/// those up to there. Only where memory for the heap itself was wanting, and nothing was done, no journals are handed back.
 pub fn replay<S: Source, K: Sink, H: ExtentHooks>(
     alloc: Global,
     source: &mut S,
     sink: &mut K,
     shelf: HookShelf<H>,
 ) -> Replayed<H>
-    ensures replay { (journals : List Journal) × (heard : List AskFacts) × ReplayOf result.status journals heard shelf
-        result.shelf (S.ended source.new) (S.left source.old) (S.left source.new) (K.held sink.old) (K.held sink.new)
-        × HandsOut result.status journals heard result.journals result.heard }
+    ensures replay { (journals : List Journal) × ReplayOf result.status journals result.heard shelf result.shelf
+        (S.ended source.new) (S.left source.old) (S.left source.new) (K.held sink.old) (K.held sink.new)
+        × HandsOut result.status journals result.journals }
     ensures ended { result.status ≡ 0 → S.ended source.new ≡ true }
     ensures read_fault { result.status ≡ 4 → Rose (S.faults source.old) (S.faults source.new) }
     ensures write_fault { result.status ≡ 5 → Rose (K.faults sink.old) (K.faults sink.new) }
@@ -305,13 +274,9 @@ pub fn replay<S: Source, K: Sink, H: ExtentHooks>(
     };
     let ended = run_lines(alloc, source, sink, &mut shelf, &mut state);
     let ended = flush_last(sink, ended);
-    let Books {
-        status,
-        journals,
-        heard,
-    } = books_of(alloc, state.into_heap(), ended);
+    let (journals, heard) = state.into_heap().finish();
     Replayed {
-        status,
+        status: status_in(ended),
         shelf,
         journals,
         heard,

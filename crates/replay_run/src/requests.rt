@@ -1,12 +1,12 @@
 //! What the calls of a trace ask for.
 
 ghost use Rattle.std.specs.Prelude.{◌≡◌, true, IfSome};
-ghost use Rattle.call_table.specs.Laws.{IsInRange};
+ghost use Rattle.call_plan.specs.Laws.{IsInRange};
 ghost use Rattle.space_model.specs.Purging.{is_purgeable};
 ghost use Rattle.trace_text.specs.Grammar.{IsVerbWithinLimits};
 ghost use Rattle.replay_run.specs.World.{arena_request, decay_list};
 
-use call_table::Request;
+use call_plan::Request;
 use space_model::Rest;
 use trace_text::Verb;
 
@@ -51,7 +51,7 @@ pub fn arena_request(verb: &Verb, now: u64) -> Option<Request>
             now,
         },
         Verb::Bind(arena) => Request::Bind { arena: *arena },
-        Verb::Cache(on) => Request::Cache { on: *on },
+        Verb::Cache(on) => Request::Cache(*on),
         Verb::Flush => Request::Flush,
         _ => return None,
     })

@@ -4,9 +4,9 @@ ghost use Rattle.std.specs.Prelude.{◌≡◌, length, None, replicate, IfOk};
 
 use crate::names::Names;
 use crate::requests::arena_request;
-use call_table::{Answered, Request};
-use heap_core::{ARENAS, Heap};
-use space_model::{CLIENTS, Counts};
+use call_plan::{Answered, Request};
+use heap_core::Heap;
+use space_model::CLIENTS;
 use std::alloc::{AllocError as NoMemory, Global};
 use trace_text::{Ptr, Verb};
 
@@ -31,12 +31,12 @@ pub struct State {
 
 impl State {
     ghost use Rattle.std.specs.Prelude.{◌<◌, [], None, Some, replicate, slice_set, IfOk, IfSome, OnOk};
-    ghost use Rattle.call_table.specs.Laws.{IsInRange};
+    ghost use Rattle.call_plan.specs.Laws.{IsInRange};
     ghost use Rattle.heap_core.specs.Arenas.{record_at};
     ghost use Rattle.trace_text.specs.Grammar.{IsVerbWithinLimits};
     ghost use Rattle.replay_run.specs.Names.{address_at};
     ghost use Rattle.heap_core.specs.Heaps.{opening_heap};
-    ghost use Rattle.replay_run.specs.World.{arena_with, live_counts, names_closed, region_request, request_of, take_in, target_of, verb_at, verbs_closed};
+    ghost use Rattle.replay_run.specs.World.{arena_with, names_closed, region_request, request_of, take_in, target_of, verb_at, verbs_closed};
 
     /// The opening state of a replay.
     pub fn new(alloc: Global) -> Result<State, NoMemory>
@@ -125,22 +125,6 @@ impl State {
         match verb {
             Verb::Take(target) => self.names.address_at(target),
             _ => 0,
-        }
-    }
-
-    /// The counts of an arena, where it is live.
-    pub fn counts(&self, index: u32) -> Option<Counts>
-        ensures { result ≡ live_counts (record_at self.now.heap.records index).space }
-    {
-        if index >= ARENAS {
-            self.heap.stands();
-            return None;
-        }
-        let arena = self.heap.arena(index);
-        if arena.life().is_live() {
-            Some(arena.counts())
-        } else {
-            None
         }
     }
 

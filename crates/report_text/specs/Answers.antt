@@ -8,10 +8,10 @@ use Rattle.space_model.specs.declared.asks.Answer.{Answer}
 use Rattle.space_model.specs.declared.asks.Answer.TheVariants.{Refused as HookRefused, Done as HookDone, Placed}
 use Rattle.space_model.specs.declared.entries.Why.{Why}
 use Rattle.space_model.specs.declared.entries.Why.TheVariants.{OffSpace, Unaligned, Meets}
-use Rattle.call_table.specs.declared.needs.Answered.{Answered}
-use Rattle.call_table.specs.declared.needs.Answered.TheVariants.{Ok, Refused, BadAnswer, TooLarge, BadAlign, NotHeld, NoArena, Busy, NoMemory, ArenasFull, Automatic}
-use Rattle.call_table.specs.declared.needs.Given.{Given}
-use Rattle.call_table.specs.declared.needs.Given.TheVariants.{Region, Done, Arena, Limits}
+use Rattle.call_plan.specs.declared.needs.Answered.{Answered}
+use Rattle.call_plan.specs.declared.needs.Answered.TheVariants.{Ok, Refused, BadAnswer, TooLarge, BadAlign, NotHeld, NoArena, Busy, NoMemory, ArenasFull, Automatic}
+use Rattle.call_plan.specs.declared.needs.Given.{Given}
+use Rattle.call_plan.specs.declared.needs.Given.TheVariants.{Region, Done, Arena, Limits}
 use Rattle.report_text.specs.declared.heads.Head.{Head}
 use Rattle.report_text.specs.declared.heads.Head.TheVariants.{Take}
 use Rattle.report_text.specs.Places.{address_text, page_text, span_text}

@@ -4,7 +4,7 @@ use Rattle.std.specs.Fmt.{decimal}
 use Rattle.space_model.specs.declared.counts.Counts.{Counts}
 use Rattle.space_model.specs.declared.asks.Ask.{Ask}
 use Rattle.space_model.specs.declared.asks.Answer.{Answer}
-use Rattle.call_table.specs.declared.needs.Answered.{Answered}
+use Rattle.call_plan.specs.declared.needs.Answered.{Answered}
 use Rattle.report_text.specs.declared.heads.Head.{Head}
 use Rattle.report_text.specs.declared.causes.Cause.{Cause}
 use Rattle.report_text.specs.Heads.{head_word, head_name}

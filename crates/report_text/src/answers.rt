@@ -5,7 +5,7 @@ ghost use Rattle.size_classes.specs.Classes.{size_at};
 ghost use Rattle.report_text.specs.Answers.{kind_text, why_text, limit_text, given_text, answer_text, said_text};
 
 use crate::places::{PageText, SpanText};
-use call_table::{Answered, Given};
+use call_plan::{Answered, Given};
 use size_classes::{CLASSES, size_of};
 use space_model::{Answer, Ask, Why};
 use std::fmt;

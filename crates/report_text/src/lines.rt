@@ -2,7 +2,7 @@
 
 ghost use Rattle.std.specs.Prelude.{◌≡◌, ◌<◌, ◌++◌, false, drop, OnOk};
 ghost use Rattle.std.specs.Fmt.{decimal, digit_glyph};
-ghost use Rattle.call_table.specs.declared.needs.Given.{Given};
+ghost use Rattle.call_plan.specs.declared.needs.Given.{Given};
 ghost use Rattle.report_text.specs.Heads.{head_name};
 ghost use Rattle.report_text.specs.Answers.{ended_text, given_text};
 ghost use Rattle.report_text.specs.Places.{hexadecimal};
@@ -12,7 +12,7 @@ use crate::answers::{AnswerText, SaidText, kind, size};
 use crate::counts::{MappedText, UnusedText, UsedText};
 use crate::heads::word;
 use crate::{Cause, Head};
-use call_table::{Answered, Given};
+use call_plan::{Answered, Given};
 use itoa::Buffer;
 use space_model::{Answer, Ask, Counts};
 use std::alloc::AllocError as NoMemory;

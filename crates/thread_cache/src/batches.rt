@@ -61,7 +61,7 @@ fn count_of(regions: &[Held], arena: u32) -> u64
 }
 
 /// The addresses of a set as a list.
-fn listed(set: &BTreeSet<u64>, alloc: Global) -> Result<Addrs, NoMemory>
+fn listed(alloc: Global, set: &BTreeSet<u64>) -> Result<Addrs, NoMemory>
     ensures { IfOk result (λ addrs. addrs.items ≡ set.now.keys) }
 {
     let mut addrs = Addrs::new(alloc);
@@ -73,7 +73,7 @@ fn listed(set: &BTreeSet<u64>, alloc: Global) -> Result<Addrs, NoMemory>
 }
 
 /// The regions of the least arena among some.
-fn batch_of(regions: &[Held], alloc: Global) -> Result<Option<Batch>, NoMemory>
+fn batch_of(alloc: Global, regions: &[Held]) -> Result<Option<Batch>, NoMemory>
     ensures batch { IfOk result (λ batch. option_map batch_facts batch ≡ batch_of regions.now) }
     ensures nothing { regions.now ≡ [] → IsOk result }
 {
@@ -82,12 +82,12 @@ fn batch_of(regions: &[Held], alloc: Global) -> Result<Option<Batch>, NoMemory>
     };
     let mut set = BTreeSet::new(alloc);
     add_of(&mut set, regions, arena)?;
-    let addrs = listed(&set, alloc)?;
+    let addrs = listed(alloc, &set)?;
     Ok(Some(Batch { arena, addrs }))
 }
 
 /// One region alone. Takes no memory.
-fn batch_of_one(region: Held, alloc: Global) -> Batch
+fn batch_of_one(alloc: Global, region: Held) -> Batch
     ensures { Some (batch_facts result) ≡ batch_of (region ∷ []) }
 {
     let mut addrs = Addrs::new(alloc);
@@ -121,14 +121,14 @@ impl Desk {
     }
 
     /// The addresses of the cached regions of an arena.
-    fn cached_in(&self, arena: u32, alloc: Global) -> Result<Addrs, NoMemory>
+    fn cached_in(&self, alloc: Global, arena: u32) -> Result<Addrs, NoMemory>
         ensures { IfOk result (λ addrs. addrs.items ≡ addrs_in arena (flat_map (λ list. list) self.now.facts.cached)) }
     {
         let mut set = BTreeSet::new(alloc);
         for class in 0..CACHED_CLASSES {
             add_of(&mut set, self.cache.of_class(class), arena)?;
         }
-        listed(&set, alloc)
+        listed(alloc, &set)
     }
 
     /// All cached regions of the least arena of which there are some.
@@ -139,7 +139,7 @@ impl Desk {
         let Some(arena) = self.least_cached() else {
             return Ok(None);
         };
-        let addrs = self.cached_in(arena, alloc)?;
+        let addrs = self.cached_in(alloc, arena)?;
         Ok(Some(Batch { arena, addrs }))
     }
 
@@ -147,9 +147,9 @@ impl Desk {
     /// are to go. Takes no memory where nothing goes, or a region that isn't to be cached.
     pub fn batch(
         &self,
+        alloc: Global,
         hand: Option<Held>,
         all: bool,
-        alloc: Global,
     ) -> Result<Option<Batch>, NoMemory>
         ensures batch { IfOk result (λ batch. option_map batch_facts batch ≡ batch_of (going_with hand all self.now.facts)) }
         ensures nothing { going_with hand all self.now.facts ≡ [] → IsOk result }
@@ -158,9 +158,9 @@ impl Desk {
         match hand {
             Some(region) if self.is_cacheable(region.class) => {
                 let count = self.older_count(region.class) as usize;
-                batch_of(&self.cache.of_class(region.class)[..count], alloc)
+                batch_of(alloc, &self.cache.of_class(region.class)[..count])
             }
-            Some(region) => Ok(Some(batch_of_one(region, alloc))),
+            Some(region) => Ok(Some(batch_of_one(alloc, region))),
             None if all => self.batch_of_cached(alloc),
             None => Ok(None),
         }

@@ -1,12 +1,13 @@
 //! A client's cache: the cached regions of each class.
 
-ghost use Rattle.std.specs.Prelude.{◌≡◌, ◌<◌, ◌≤◌, [], ◌∷◌, ◌++◌, filter, length, map, replicate, slice_set, IfOk, IfSome, IfNone};
+ghost use Rattle.std.specs.Prelude.{◌≡◌, ℕ, ◌/◌, ◌<◌, ◌≤◌, [], ◌∷◌, ◌++◌, filter, length, map, replicate, take, slice_get, slice_set, true, IfOk, IfSome, IfNone};
+ghost use Rattle.std.specs.List.{position};
 ghost use Rattle.size_classes.specs.Classes.{slots_at};
-ghost use Rattle.thread_cache.specs.Caches.{cached_in, gone_from, is_elsewhere, put_in, told_in};
+ghost use Rattle.thread_cache.specs.Caches.{Listed, addrs_of, cached_in, dropped, gone_from, has_at, is_cached, is_elsewhere, put_in, told_in};
 
 use crate::Held;
 use crate::stacks::{Put, Stack};
-use size_classes::CACHED_CLASSES;
+use size_classes::{Addrs, CACHED_CLASSES};
 use std::alloc::{AllocError as NoMemory, Global};
 use std::marker::Model;
 
@@ -15,7 +16,7 @@ use std::marker::Model;
 ///
 /// Only `new` takes memory, and no call waits.
 #[derive(Drop)]
-pub(crate) struct Cache {
+pub struct Cache {
     stacks: Vec<Stack>,
 }
 
@@ -31,9 +32,16 @@ impl Model for Cache {
     ghost invariant = { λ c. IsByClass c.stacks.items };
 }
 
+/// The least class of which a region at the address is cached.
+fn class_of(stacks: &[Stack], addr: u64) -> Option<usize>
+    ensures { result ≡ position (λ (stack : Listed). has_at addr stack.regions) stacks.now }
+{
+    stacks.iter().position(|stack| stack.has(addr))
+}
+
 impl Cache {
     /// An empty cache, with room for all its slots.
-    pub(crate) fn new(alloc: Global) -> Result<Cache, NoMemory>
+    pub fn new(alloc: Global) -> Result<Cache, NoMemory>
         ensures { IfOk result (λ cache. cache ≡ replicate 41 []) }
     {
         let mut stacks = Vec::with_capacity(alloc, CACHED_CLASSES as usize)?;
@@ -44,7 +52,7 @@ impl Cache {
     }
 
     /// Takes the region of the class that was put last. `None` exactly where none is cached, and the cache stays then.
-    pub(crate) fn take_cached(&mut self, class: u8) -> Option<Held>
+    pub fn take_cached(&mut self, class: u8) -> Option<Held>
         requires { class < 41 }
         ensures some { IfSome result (λ held. cached_in self.old class ≡ cached_in self.new class ++ held ∷ []) }
         ensures none { IfNone result ((cached_in self.old class ≡ []) × (self.new ≡ self.old)) }
@@ -55,12 +63,31 @@ impl Cache {
 
     /// Puts a region last among those of its class. It is `Full` exactly where the slots of the class are used, and the
     /// cache stays as it is then.
-    pub(crate) fn put_cached(&mut self, held: Held) -> Put
+    pub fn put_cached(&mut self, held: Held) -> Put
         requires { held.class < 41 }
         ensures told { result ≡ told_in held.class held (cached_in self.old held.class) }
         ensures lists { self.new ≡ slice_set self.old held.class (put_in held.class held (cached_in self.old held.class)) }
     {
         self.stacks[held.class as usize].push(held)
+    }
+
+    /// Appends the addresses of the half of the class's slots that were put first. There has to be room for them.
+    pub fn older_half(&self, class: u8, out: &mut Addrs)
+        requires class { class < 41 }
+        requires half { slots_at class / 2 ≤ length (cached_in self.now class) }
+        requires room { slots_at class / 2 ≤ out.old.room }
+        ensures { out.new.items ≡ out.old.items ++ take (slots_at class / 2) (addrs_of (cached_in self.now class)) }
+    {
+        self.stacks[class as usize].older_half(out);
+    }
+
+    /// Takes the region at the address, which has to be cached, out of its list.
+    pub fn drop_cached(&mut self, addr: u64)
+        requires { is_cached addr self.old ≡ true }
+        ensures { self.new ≡ dropped addr self.old }
+    {
+        let class = class_of(self.stacks.as_slice(), addr).unwrap();
+        self.stacks[class].drop_at(addr);
     }
 
     /// The regions of the class, in the order in which they were put.
@@ -92,11 +119,21 @@ impl Cache {
     }
 
     /// How many regions of the class are cached, at most its slots.
-    pub(crate) fn len(&self, class: u8) -> u32
+    pub fn len(&self, class: u8) -> u32
         requires { class < 41 }
         ensures len { result ≡ length (cached_in self.now class) }
         ensures within { result ≤ slots_at class }
     {
         self.stacks[class as usize].len()
+    }
+
+    /// The region at a place of the class's list, counted from 0 at the one put first. `None` exactly where the place isn't
+    /// below the list's length.
+    pub fn cached(&self, class: u8, place: u32) -> Option<Held>
+        requires { class < 41 }
+        ensures place { result ≡ slice_get (cached_in self.now class) place }
+        ensures cached { IfSome result (λ held. is_cached held.addr self.now ≡ true) }
+    {
+        self.stacks[class as usize].at(place)
     }
 }

@@ -10,8 +10,10 @@ mod stacks;
 mod tests;
 
 pub use batches::Batch;
+pub use caches::Cache;
 pub use desks::Desk;
 pub use laws::{batches_end, batches_rise};
+pub use stacks::Put;
 
 /// A region that a client has.
 #[derive(Clone, Copy, Debug, PartialEq, Eq)]

@@ -1,17 +1,18 @@
 //! The cached regions of one class.
 
-ghost use Rattle.std.specs.Prelude.{◌≡◌, ◌<◌, ◌≤◌, [], ◌∷◌, ◌++◌, filter, length, IfOk, IfSome, IfNone};
+ghost use Rattle.std.specs.Prelude.{◌≡◌, ℕ, ◌+◌, ◌/◌, ◌<◌, ◌≤◌, [], ◌∷◌, ◌++◌, filter, length, map, take, true, IfOk, IfSome, IfNone, Some, None, slice_get};
+ghost use Rattle.std.specs.List.{list_any, position};
 ghost use Rattle.size_classes.specs.Classes.{slots_at};
-ghost use Rattle.thread_cache.specs.Caches.{gone_from, is_elsewhere, put_in, told_in};
+ghost use Rattle.thread_cache.specs.Caches.{addrs_of, gone_from, is_at, is_elsewhere, put_in, told_in, without};
 
 use crate::Held;
-use size_classes::slots;
+use size_classes::{Addrs, slots};
 use std::alloc::{AllocError as NoMemory, Global};
 use std::marker::Model;
 
 /// What became of a region that was put into a cache.
 #[derive(Clone, Copy, Debug, PartialEq, Eq)]
-pub(crate) enum Put {
+pub enum Put {
     /// It is cached.
     Kept,
     /// The slots of its class are all used, and it is not.
@@ -78,6 +79,42 @@ impl Stack {
         }
     }
 
+    /// Appends the addresses of the older half of the slots.
+    pub(crate) fn older_half(&self, out: &mut Addrs)
+        requires half { slots_at self.now.class / 2 ≤ length self.now.regions }
+        requires room { slots_at self.now.class / 2 ≤ out.old.room }
+        ensures { out.new.items ≡ out.old.items ++ take (slots_at self.now.class / 2) (addrs_of self.now.regions) }
+    {
+        let half = slots(self.class) as usize / 2;
+        for i in 0..half {
+            out.push(self.regions[i].addr);
+        }
+    }
+
+    /// Whether a region begins at the address.
+    pub(crate) fn has(&self, addr: u64) -> bool
+        ensures { result ≡ list_any (is_at addr) self.now.regions }
+    {
+        self.regions.iter().any(|held| held.addr == addr)
+    }
+
+    /// The place of the first region that begins at the address.
+    fn place_of(&self, addr: u64) -> Option<usize>
+        ensures { result ≡ position (is_at addr) self.now.regions }
+    {
+        self.regions.iter().position(|held| held.addr == addr)
+    }
+
+    /// Takes the first region that begins at the address out.
+    pub(crate) fn drop_at(&mut self, addr: u64)
+        requires { list_any (is_at addr) self.old.regions ≡ true }
+        ensures class { self.new.class ≡ self.old.class }
+        ensures regions { self.new.regions ≡ without addr self.old.regions }
+    {
+        let place = self.place_of(addr).unwrap();
+        self.regions.remove(place);
+    }
+
     /// The regions, in the order in which they were put.
     pub(crate) fn as_slice(&self) -> &[Held]
         ensures regions { result.now ≡ self.now.regions }
@@ -105,5 +142,12 @@ impl Stack {
                 self.regions.remove(place);
             }
         }
+    }
+
+    /// The region at a place, counted from 0 at the one put first.
+    pub(crate) fn at(&self, place: u32) -> Option<Held>
+        ensures { result ≡ slice_get self.now.regions place }
+    {
+        self.regions.get(place as usize).copied()
     }
 }

@@ -1,9 +1,9 @@
 //! Turns in several arenas, what their journals have then, and calls of several clients.
 
 ghost use Rattle.std.specs.Prelude.{◌<◌};
-ghost use Rattle.call_table.specs.Laws.{IsInRange};
+ghost use Rattle.call_plan.specs.Laws.{IsInRange};
 
-use call_table::{Answered, Given, Request};
+use call_plan::{Answered, Given, Request};
 use heap_core::{Arenas, Did, Heap};
 use hook_api::{HookShelf, Kind, RisingHooks};
 use space_model::{Answer, Entry, Life, Op, Reply, Setting};
@@ -61,7 +61,7 @@ fn journals_have_the_entries_of_their_arena(rt: HostRuntime) -> Result<(), Fail>
     make(&rt, &mut arenas)?;
     look(&rt, &mut arenas, 0, Reply::Grow { series: 1 })?;
     look(&rt, &mut arenas, 0, Reply::Grow { series: 1 })?;
-    let journals = arenas.into_journals(alloc)?;
+    let journals = arenas.into_journals();
     let journals = journals.as_slice();
     let lens = [
         journals[0].kept.len(),
@@ -102,7 +102,7 @@ fn start(
     if heap.has_call(client) {
         return Ok(None);
     }
-    heap.start(client, request, alloc)
+    heap.start(alloc, client, request)
 }
 
 /// Carries a call of a client out, to its answer.
@@ -121,7 +121,7 @@ fn carry_out(
         return Ok(ended);
     }
     for _ in 0..1000 {
-        let told = heap.step_client(client, shelf, alloc);
+        let told = heap.step_client(alloc, client, shelf);
         if told.ended.is_some() {
             return Ok(told.ended);
         }
@@ -137,6 +137,22 @@ fn region(answer: Option<Answered>) -> Option<u64> {
     }
 }
 
+/// How many bytes of arena 0 are allocated.
+fn allocated(heap: &Heap) -> Option<u64> {
+    Some(heap.counts(0)?.allocated)
+}
+
+#[test]
+fn a_heap_begins_with_arena_0(rt: HostRuntime) -> Result<(), Fail> {
+    let heap = Heap::new(rt.alloc())?;
+    assert!(rt; heap.live(0) && !heap.live(1) && !heap.live(32));
+    assert_eq!(rt; heap.setting(0), Some((0, 10000, 0)));
+    assert_eq!(rt; heap.setting(1), None);
+    assert_eq!(rt; allocated(&heap), Some(0));
+    assert!(rt; heap.counts(32).is_none());
+    Ok(())
+}
+
 #[test]
 fn a_region_is_freed_by_another_client(rt: HostRuntime) -> Result<(), Fail> {
     let alloc = rt.alloc();
@@ -146,11 +162,11 @@ fn a_region_is_freed_by_another_client(rt: HostRuntime) -> Result<(), Fail> {
     let got = carry_out(&mut heap, &mut shelf, 0, Request::Malloc { size }, alloc)?;
     let addr = region(got).unwrap_or(0);
     assert_eq!(rt; heap.arena_of(addr), Some(0));
-    assert!(rt; heap.desk(0).held_at(addr).is_some());
+    assert_eq!(rt; heap.holder_of(addr), Some(0));
     let freed = carry_out(&mut heap, &mut shelf, 1, Request::Free { addr }, alloc)?;
     assert!(rt; matches!(freed, Some(Answered::Ok(Given::Done))));
-    assert!(rt; heap.desk(0).held_at(addr).is_none());
-    assert_eq!(rt; heap.arena(0).counts().allocated, 0);
+    assert_eq!(rt; heap.holder_of(addr), None);
+    assert_eq!(rt; allocated(&heap), Some(0));
     Ok(())
 }
 
@@ -162,10 +178,10 @@ fn by_turns(
 ) -> (Option<u64>, Option<u64>) {
     let mut got = (None, None);
     for _ in 0..1000 {
-        if let Some(addr) = region(heap.step_client(0, shelf, alloc).ended) {
+        if let Some(addr) = region(heap.step_client(alloc, 0, shelf).ended) {
             got.0 = Some(addr);
         }
-        if let Some(addr) = region(heap.step_client(1, shelf, alloc).ended) {
+        if let Some(addr) = region(heap.step_client(alloc, 1, shelf).ended) {
             got.1 = Some(addr);
         }
     }
@@ -182,9 +198,13 @@ fn calls_of_two_clients_interleave(rt: HostRuntime) -> Result<(), Fail> {
     start(&mut heap, 1, Request::Malloc { size: 9 }, alloc)?;
     let (first, second) = by_turns(&mut heap, &mut shelf, alloc);
     assert!(rt; first.is_some() && second.is_some() && first != second);
-    assert_eq!(rt; heap.arena(0).counts().allocated, 20480 + 16);
-    let (journals, asks) = heap.finish(alloc)?;
-    assert_eq!(rt; journals.as_slice()[0].kept.len(), 9);
+    assert_eq!(rt; allocated(&heap), Some(20480 + 16));
+    let (journals, asks) = heap.finish();
+    let entries = journals
+        .as_slice()
+        .first()
+        .map(|journal| journal.kept.len());
+    assert_eq!(rt; entries, Some(9));
     assert_eq!(rt; asks.to_list(alloc)?.len(), 4);
     Ok(())
 }
@@ -212,7 +232,7 @@ fn a_step_without_a_call_is_idle(rt: HostRuntime) -> Result<(), Fail> {
     let alloc = rt.alloc();
     let mut shelf = rising(alloc)?;
     let mut heap = Heap::new(alloc)?;
-    let told = heap.step_client(5, &mut shelf, alloc);
+    let told = heap.step_client(alloc, 5, &mut shelf);
     assert!(rt; matches!(told.did, Did::Idle) && told.ended.is_none());
     assert!(rt; heap.last_ask().is_none());
     Ok(())

@@ -1,6 +1,6 @@
 //! The lines of reports, compared with what they have to say.
 
-use call_table::{Answered, Given};
+use call_plan::{Answered, Given};
 use report_text::{
     Cause, Head, ask_line, bad_line, call_line, counts_line, idle_line, no_arena_line, turn_line,
     usage_line,

@@ -33,9 +33,3 @@ returns-in-Refuse-clause-goes g c = λ from count at so. line_silent (rw c.in-Re
 
 pub returns-in-Blank-clause-goes : goal.returns-in-Blank-clause-goes
 returns-in-Blank-clause-goes g c = λ from count at so. line_silent (rw c.in-Blank.is at so) (reads_blank _) refl
-
-pub returns-in-Phase-clause-goes : goal.returns-in-Phase-clause-goes
-returns-in-Phase-clause-goes g c = λ from count at so. let none = rw c.in-Phase.is at c.requires.cause in absurd (cc (none))
-
-pub returns-in-Join-clause-goes : goal.returns-in-Join-clause-goes
-returns-in-Join-clause-goes g c = λ from count at so. let none = rw c.in-Join.is at c.requires.cause in absurd (cc (none))

@@ -8,15 +8,10 @@ returns-in_err-found-clause-goes g c = λ from count below so.
     next_stop from count c.from_residual.result c.in_err-found.field-0.0 _ c.from_residual.ensures.1
     (stops_reading (here_kept so (g.K.Sink.held c.find_line.new.sink) c.find_line.ensures.kept) c.in_err-found.field-0.0 (g.S.Source.left c.find_line.new.source) (g.S.Source.ended c.find_line.new.source) c.in_err-found.ensures.stopped)
 
-pub returns-in_default : goal.returns-in_default
-returns-in_default g c = record {
-  goes = λ from count below so.
-      unread_goes (here_found so c.find_line.new.pending (g.S.Source.left c.find_line.new.source) (g.S.Source.ended c.find_line.new.source) (g.K.Sink.held c.find_line.new.sink) c.in_ok-found.ensures.moved c.find_line.ensures.kept)
-      c.in_ok-found.found c.unread.result below c.in_default.not-Line c.in_ok-found.ensures.bounds c.in_ok-found.ensures.first c.in_ok-found.ensures.end c.unread.ensures;
-  cause = tt;
-  source_counts = c.find_line.ensures.counts;
-  sink_counts = c.find_line.ensures.sink_counts;
-}
+pub returns-in_default-clause-goes : goal.returns-in_default-clause-goes
+returns-in_default-clause-goes g c = λ from count below so.
+    unread_goes (here_found so c.find_line.new.pending (g.S.Source.left c.find_line.new.source) (g.S.Source.ended c.find_line.new.source) (g.K.Sink.held c.find_line.new.sink) c.in_ok-found.ensures.moved c.find_line.ensures.kept)
+    c.in_ok-found.found c.unread.result below c.in_default.not-Line c.in_ok-found.ensures.bounds c.in_ok-found.ensures.first c.in_ok-found.ensures.end c.unread.ensures
 
 pub returns-in_err-cause-clause-goes : goal.returns-in_err-cause-clause-goes
 returns-in_err-cause-clause-goes g c = λ from count below so.

@@ -1,4 +1,4 @@
-use Rattle.replay_run.proofs.Words.{arith, ◌≡◌, ◌<◌, ◌++◌, refl, LimitLines, ReadFault, line_limit, status_of, Bad, Whole}
+use Rattle.replay_run.proofs.Words.{arith, ◌≡◌, ◌++◌, refl, LimitLines, ReadFault, line_limit, status_of, Bad, Whole}
 use Rattle.replay_run.proofs.BadLines.{bad_many}
 use Rattle.replay_run.proofs.Ends.{cause_wider, here_none, replay_passed, status_closed, takes_none}
 use Rattle.replay_run.proofs.NextLines.{here_found, here_kept}
@@ -14,32 +14,28 @@ loop-count-init g c = record {
 
 pub returns-in_err-next_line-clause-replay : goal.returns-in_err-next_line-clause-replay
 returns-in_err-next_line-clause-replay g c =
-    let below : c.loop-count.count < line_limit = omega (arith, c.loop-count-test.true) in
-    replay_passed c.from_residual.result c.in_err-next_line.field-0.0 c.from_residual.ensures.1 (c.in_err-next_line.ensures.goes _ c.loop-count.count below c.loop-count.invariant.here)
+    replay_passed c.from_residual.result c.in_err-next_line.field-0.0 c.from_residual.ensures.1 (c.in_err-next_line.ensures.goes _ c.loop-count.count c.loop-count-test.true c.loop-count.invariant.here)
 
 pub returns-in-Bad-clause-replay : goal.returns-in-Bad-clause-replay
 returns-in-Bad-clause-replay g c =
-    let below : c.loop-count.count < line_limit = omega (arith, c.loop-count-test.true) in
-    let went = rw c.in-Bad.is at (c.in_ok-next_line.ensures.goes _ c.loop-count.count below c.loop-count.invariant.here) in
+    let went = rw c.in-Bad.is at (c.in_ok-next_line.ensures.goes _ c.loop-count.count c.loop-count-test.true c.loop-count.invariant.here) in
     let told = c.refuse_line.ensures in
     ends_last went.0 c.refuse_line.result (status_of c.in-Bad.cause) (Bad c.in-Bad.cause) (g.K.Sink.faults c.next_line.new.sink) (g.K.Sink.faults c.refuse_line.new.sink) (g.K.Sink.held c.refuse_line.new.sink)
     refl (refl, went.1) told.status told.text told.beginning told.cause
 
 pub returns-in-Over-clause-replay : goal.returns-in-Over-clause-replay
 returns-in-Over-clause-replay g c =
-    let below : c.loop-count.count < line_limit = omega (arith, c.loop-count-test.true) in
-    let went = rw c.in-Over.is at (c.in_ok-next_line.ensures.goes _ c.loop-count.count below c.loop-count.invariant.here) in
+    let went = rw c.in-Over.is at (c.in_ok-next_line.ensures.goes _ c.loop-count.count c.loop-count-test.true c.loop-count.invariant.here) in
     let told = c.close.ensures in
     ends_last went.0 c.close.result 0 Whole (g.K.Sink.faults c.next_line.new.sink) (g.K.Sink.faults c.close.new.sink) (g.K.Sink.held c.close.new.sink)
     refl (refl, went.1, went.2, went.3) told.status told.text told.beginning told.cause
 
 pub loop-count-preserved : goal.loop-count-preserved
-loop-count-preserved g c =
-    let below : c.loop-count.count < line_limit = omega (arith, c.loop-count-test.true) in record {
-      here = rw c.in-Carried.is at (c.in_ok-next_line.ensures.goes _ c.loop-count.count below c.loop-count.invariant.here);
-      source_faults = omega (arith, c.loop-count.invariant.source_faults, c.next_line.ensures.source_counts);
-      sink_faults = omega (arith, c.loop-count.invariant.sink_faults, c.next_line.ensures.sink_counts);
-    }
+loop-count-preserved g c = record {
+  here = rw c.in-Carried.is at (c.in_ok-next_line.ensures.goes _ c.loop-count.count c.loop-count-test.true c.loop-count.invariant.here);
+  source_faults = omega (arith, c.loop-count.invariant.source_faults, c.next_line.ensures.source_counts);
+  sink_faults = omega (arith, c.loop-count.invariant.sink_faults, c.next_line.ensures.sink_counts);
+}
 
 pub returns-in_err-has_more-clause-replay : goal.returns-in_err-has_more-clause-replay
 returns-in_err-has_more-clause-replay g c =
@@ -66,14 +62,14 @@ returns-clause-replay g c =
     ends_last here c.close-2.result 0 Whole (g.K.Sink.faults c.has_more.new.sink) (g.K.Sink.faults c.close-2.new.sink) (g.K.Sink.held c.close-2.new.sink)
     refl (refl, none.0, none.1, none.2) told.status told.text told.beginning told.cause
 
-pub returns-in-Over-clause-status : goal.returns-in-Over-clause-status
-returns-in-Over-clause-status g c = status_closed c.close.result c.close.ensures.status
-
 pub returns-in-Over-clause-cause : goal.returns-in-Over-clause-cause
 returns-in-Over-clause-cause g c = cause_wider c.close.result _ _ _ _ _ (omega (arith, c.loop-count.invariant.sink_faults, c.next_line.ensures.sink_counts)) c.close.ensures.cause
 
-pub returns-clause-status : goal.returns-clause-status
-returns-clause-status g c = status_closed c.close-2.result c.close-2.ensures.status
-
 pub returns-clause-cause : goal.returns-clause-cause
 returns-clause-cause g c = cause_wider c.close-2.result _ _ _ _ _ (omega (arith, c.loop-count.invariant.sink_faults, c.has_more.ensures.sink_counts)) c.close-2.ensures.cause
+
+pub returns-in-Over-clause-status : goal.returns-in-Over-clause-status
+returns-in-Over-clause-status g c = status_closed c.close.result c.close.ensures.status
+
+pub returns-clause-status : goal.returns-clause-status
+returns-clause-status g c = status_closed c.close-2.result c.close-2.ensures.status

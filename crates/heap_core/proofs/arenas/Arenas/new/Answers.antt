@@ -7,7 +7,7 @@ loop-index-preserved c =
     c.in_ok-push.ensures.items ∙ (λ i. c.loop-index.invariant i ++ c.in_ok-new.ensures i ∷ [])
     ∙ sym (map-range_with_len_more opening_record 0 c.loop-index.index c.loop-index.index (omega arith))
 
-pub invariant_of-result : goal.invariant_of-result
-invariant_of-result c =
+pub invariant_of-result-2 : goal.invariant_of-result-2
+invariant_of-result-2 c =
     let end : c.loop-index.index ≡ 32 = omega (arith, c.loop-index.auto.index-end, c.loop-index-test.false) in
     subst AreRecorded (sym (c.loop-index.invariant ∙ ap (λ n. map opening_record (range_with_len 0 n)) end)) opening_recorded

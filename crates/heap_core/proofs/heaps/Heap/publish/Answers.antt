@@ -3,17 +3,12 @@ use Rattle.heap_core.proofs.Changes.{seat_is}
 use Rattle.heap_core.proofs.TakenOver.{holder_led, publish_heap, publish_kept, published_is, publishing}
 use Rattle.heap_core.proofs.heaps.Heap.publish.Goals as goal
 
-pub make_turn-requires-clause-arena : goal.make_turn-requires-clause-arena
-make_turn-requires-clause-arena c =
+pub make_turn-requires : goal.make_turn-requires
+make_turn-requires c =
     let region = c.args.region in
     let held = subst (λ (h : HeapFacts). held_at region.addr (seat_at h.seats c.args.holder).desk ≡ Some region) (sym c.self.view_is) c.requires.held in
-    (holder_led c.self.inside.arenas c.self.inside.clients.items c.self.inside.log.owed c.args.holder region c.self.invariant c.are_apart.ensures.arenas c.requires.holder held).1
-
-pub make_turn-requires-clause-can : goal.make_turn-requires-clause-can
-make_turn-requires-clause-can c =
-    let region = c.args.region in
-    let held = subst (λ (h : HeapFacts). held_at region.addr (seat_at h.seats c.args.holder).desk ≡ Some region) (sym c.self.view_is) c.requires.held in
-    (holder_led c.self.inside.arenas c.self.inside.clients.items c.self.inside.log.owed c.args.holder region c.self.invariant c.are_apart.ensures.arenas c.requires.holder held).2
+    let led = holder_led c.self.inside.arenas c.self.inside.clients.items c.self.inside.log.owed c.args.holder region c.self.invariant c.are_apart.ensures.arenas c.requires.holder held in
+    record { arena = led.1; client = c.requires.holder; can = led.2 }
 
 pub invariant_of-self : goal.invariant_of-self
 invariant_of-self c =

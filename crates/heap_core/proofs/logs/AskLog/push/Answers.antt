@@ -1,4 +1,4 @@
-use Rattle.heap_core.proofs.Words.{◌∙◌, ◌+◌, ◌-◌, ◌≡◌, ◌<◌, sym, subst, ap, arith, slice_set, slice_index_or, sum_by-set, LogFacts, all_owed, last_asked, owed_to}
+use Rattle.heap_core.proofs.Words.{◌∙◌, ◌-◌, ◌<◌, sym, subst, ap, arith, sum_by-set, LogFacts, last_asked, owed_to}
 use Rattle.heap_core.proofs.LastAsk.{last_pushed}
 use Rattle.heap_core.proofs.logs.AskLog.push.Goals as goal
 

@@ -1,0 +1,92 @@
+-- Whoever has the room that is needed at a point has it wherever the call goes.
+use Rattle.call_plan.proofs.Words.{◌≡◌, ℕ, ◌+◌, ◌-◌, ◌*◌, ◌<◌, ◌≤◌, Bool, true, false, cond, max, Option, None, Some, refl, sym, ap, subst, arith, length, sum_by, nat_tests, length-filter, is_flight, flight, lost, won, op_stands, step_of, op_keeps, Replied, Told, Starved, Op, Reply, Space, Sound, Mine, mine, AskFacts, same_span, TurnPoint, Giving, Finding, AskPoint, Turns, Asks, Tells, Next, Go, is_marked, op_at, done_at, starved, turn_replied, told, Idle, KnowsTurn, Keeps, left, stages, with_found, empties, flying, needed_ask, needed_next, needed_turn, room_then, RoomsSuffice}
+use Rattle.call_plan.proofs.Lists.{filter-fewer}
+use Rattle.call_plan.proofs.Standing.{wants-stand}
+use Rattle.call_plan.proofs.Steps.{never_starves, starved_keeps, steps-keep}
+
+-- ---- a turn that takes memory
+
+-- behind a turn that takes memory come at most 16 turns without by each extent in flight, and 16 where there is none
+marked_most : (g : ℕ) (point : TurnPoint) (reply : Reply) → is_marked (op_at point) ≡ true → needed_next g (turn_replied point reply) ≤ 16 * max 1 g
+marked_most g point reply may = first_of (grind (arith, nat_tests), cc)
+
+-- ---- a turn that takes none
+
+-- where the next extent of the client's is put down, it has one in flight, and none where regions go back
+abbrev pub HasNext : ℕ → Next → Type 0
+HasNext g (Go (Turns (Finding own tries fresh later))) = 0 < g
+HasNext g (Go (Turns (Giving addrs))) = g ≡ 0
+HasNext g next = Unit {0}
+
+turned_spends : (f g : ℕ) (point : TurnPoint) (found : Option ℕ) (c : ℕ) (s : Space) (reply : Reply) → is_marked (op_at point) ≡ false →
+    g + lost (with_found found (op_at point)) reply ≡ f + won c s (with_found found (op_at point)) reply →
+    HasNext g (turn_replied point reply) → HasNext f (Go (Turns point)) → needed_next g (turn_replied point reply) + 1 ≤ needed_turn f point
+turned_spends f g point found c s reply may e has some = first_of (grind (arith, nat_tests), cc)
+
+told_spends : (f g : ℕ) (point : AskPoint) (asked : AskFacts) (found : Option ℕ) (c : ℕ) (s : Space) (reply : Reply) →
+    g + lost (with_found found (done_at point asked)) reply ≡ f + won c s (with_found found (done_at point asked)) reply →
+    HasNext g (told point asked reply) → needed_next g (told point asked reply) + 1 ≤ needed_ask f point
+told_spends f g point asked found c s reply e has = grind (arith, nat_tests)
+
+-- ---- the room
+
+-- that is so wherever a call knows what it has to
+pub turn_flies : (m : Mine) (point : TurnPoint) → KnowsTurn m point → HasNext (flying m) (Go (Turns point))
+turn_flies m (Finding own tries fresh later) knows = let flies = knows.1 in omega (arith, filter-fewer (λ q. same_span q.span own) (λ _. true) m.flights flies.part flies.found refl)
+turn_flies m (Giving addrs) knows = ap length knows.idle.flights
+turn_flies m point knows = tt
+
+pub keeps_next : (c : ℕ) (t : Space) (stage bound : ℕ) (next : Next) → Keeps c t stage bound next → HasNext (flying (mine c t)) next
+keeps_next c t stage bound (Go (Turns point)) (knows, near) = turn_flies (mine c t) point knows
+keeps_next c t stage bound next keeps = tt
+
+-- a turn that takes memory wins one extent at most, or as many as it empties
+won_few : (c : ℕ) (s : Space) (point : TurnPoint) (found : Option ℕ) (reply : Reply) → is_marked (op_at point) ≡ true → won c s (with_found found (op_at point)) reply ≤ max 1 (empties c (op_at point) s)
+won_few c s point found reply may = first_of (omega arith, grind arith)
+
+-- ---- the law
+
+-- so many extents are in flight after what came of a turn
+pub flown : (c : ℕ) (s t : Space) (op : Op) (reply : Reply) → Sound s → op_stands s c op ≡ true → t ≡ (step_of s c op).after → reply ≡ (step_of s c op).reply →
+    flying (mine c t) + lost op reply ≡ flying (mine c s) + won c s op reply
+flown c s t op reply sound stands after replied =
+    let left : Space = (step_of s c op).after in
+    let now : flying (mine c s) ≡ sum_by (flight c) s.parts = length-filter (λ p. is_flight c p.state) s.parts in
+    let then : flying (mine c left) ≡ sum_by (flight c) left.parts = length-filter (λ p. is_flight c p.state) left.parts in
+    rw (after, replied) (omega (arith, now, then, (op_keeps c s op sound stands).flew))
+
+turn_suffices : (c : ℕ) (s t : Space) (point : TurnPoint) (found : Option ℕ) (reply : Reply) (room : ℕ) → KnowsTurn (mine c s) point →
+    flying (mine c t) + lost (with_found found (op_at point)) reply ≡ flying (mine c s) + won c s (with_found found (op_at point)) reply →
+    HasNext (flying (mine c t)) (turn_replied point reply) → needed_turn (flying (mine c s)) point ≤ room →
+    (may : Bool) → is_marked (op_at point) ≡ may →
+    (may ≡ false → 0 < room) × (needed_next (flying (mine c t)) (turn_replied point reply) ≤ cond may (max (max room 16) (16 * empties c (op_at point) s)) (room - 1))
+turn_suffices c s t point found reply room knows e has enough true may =
+    let idle : Idle (mine c s) = subst (λ v. Keeps c s 0 0 (starved v)) may (starved_keeps c s point 0 0 knows may) in
+    let none : flying (mine c s) ≡ 0 = ap length idle.flights in
+    ((λ no. absurd (cc)), omega (arith, none, e, won_few c s point found reply may, marked_most (flying (mine c t)) point reply may))
+turn_suffices c s t point found reply room knows e has enough false may =
+    let spends = turned_spends (flying (mine c s)) (flying (mine c t)) point found c s reply may e has (turn_flies (mine c s) point knows) in
+    ((λ no. omega (arith, spends, enough)), omega (arith, spends, enough))
+
+pub rooms-suffice : RoomsSuffice
+rooms-suffice c s t (Turns point) (Replied reply) room sound knows (found, after, replied) enough =
+    let stands = wants-stand c s (Turns point) sound knows found in
+    let keeps = steps-keep c s t (Turns point) (Replied reply) sound knows (found, after, replied) in
+    turn_suffices c s t point found reply room knows (flown c s t (with_found found (op_at point)) reply sound stands after replied)
+    (keeps_next c t (stages (Turns point)) (left c s (Turns point)) (turn_replied point reply) keeps) enough (is_marked (op_at point)) refl
+rooms-suffice c s t (Turns point) Starved room sound knows (may, same) enough =
+    ((λ no. absurd (cc)), subst (λ v. needed_next (flying (mine c t)) (starved v) ≤ room_then c s room (op_at point)) (sym may) (omega arith))
+rooms-suffice c s t (Asks point None) (Told asked) room sound knows (is, kind, same) enough =
+    subst (λ u. needed_ask (flying (mine c u)) point ≤ room) (sym same) enough
+rooms-suffice c s t (Asks point (Some asked)) (Replied reply) room sound knows (found, after, replied) enough =
+    let stands = wants-stand c s (Asks point (Some asked)) sound knows found in
+    let keeps = steps-keep c s t (Asks point (Some asked)) (Replied reply) sound knows (found, after, replied) in
+    let e = flown c s t (with_found found (done_at point asked)) reply sound stands after replied in
+    let spends = told_spends (flying (mine c s)) (flying (mine c t)) point asked found c s reply e
+    (keeps_next c t (stages (Asks point (Some asked))) (left c s (Asks point (Some asked))) (told point asked reply) keeps) in (
+      (λ no. omega (arith, spends, enough)),
+      subst (λ v. needed_next (flying (mine c t)) (told point asked reply) ≤ cond v (max (max room 16) (16 * empties c (done_at point asked) s)) (room - 1)) (sym (never_starves point asked)) (omega (arith, spends, enough)),
+    )
+rooms-suffice c s t (Asks point (Some asked)) Starved room sound knows (may, same) enough = absurd (let no = never_starves point asked in cc)
+rooms-suffice c s t (Tells span b) (Told asked) room sound knows moves enough = omega arith
+rooms-suffice c s t point item room sound knows moves enough = absurd moves

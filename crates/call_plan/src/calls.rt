@@ -1,0 +1,444 @@
+//! The automaton of a call.
+
+ghost use Rattle.std.specs.Prelude.{◌≡◌, List, ◌∷◌, None, Some, IfNone, IfOk, IfSome, IsOk, OnOk, OnErr, ◌≤◌, ◌||◌, true, false, is_some, length};
+ghost use Rattle.call_plan.specs.Calls.{HasRoomToHold, may_hold, moment_of, started, takes_memory};
+ghost use Rattle.call_plan.specs.Desks.{flushes};
+ghost use Rattle.call_plan.specs.Items.{Item as Fed, lent};
+ghost use Rattle.call_plan.specs.Points.{IsSizedNext};
+ghost use Rattle.call_plan.specs.Needs.{Goes, HasFewAddresses, IsPointOrEnd, NeedIs};
+ghost use Rattle.call_plan.specs.Reads.{aimed, ended_by, heard_next, taken_next};
+ghost use Rattle.call_plan.specs.Runs.{after, begin, run, settle, stage, starved_after, step_next};
+ghost use Rattle.call_plan.specs.Table.{op_at};
+ghost use Rattle.call_plan.specs.Stages.{Ends, Go, More, hears_next, led};
+ghost use Rattle.thread_cache.specs.Desks.{DeskFacts};
+
+use crate::{Answered, Item, Lead, Need, Request, Turn, TurnPoint};
+use hook_api::Asked;
+use size_classes::Addrs;
+use space_model::{Addresses, Ask, Op};
+use std::alloc::{AllocError as NoMemory, Global};
+use std::marker::Model;
+use thread_cache::Desk;
+
+/// Where a call stands: the arena whose turn or ask it waits for, and the place, or its answer. What a hook answered stands
+/// beside the place until a turn takes it in. Contracts see the arena, and the point or the answer.
+#[derive(Drop)]
+pub struct Stage {
+    pub(crate) arena: u32,
+    pub(crate) lead: Lead,
+    pub(crate) heard: Option<Asked>,
+}
+
+impl Model for Stage {
+    ghost use Rattle.call_plan.specs.Stages.{IsHeardAt, Stage as StageFacts, led};
+
+    ghost Value = { StageFacts };
+
+    ghost view = { λ s. record { arena = s.arena; next = led s.lead s.heard } };
+
+    ghost invariant = { λ s. IsHeardAt s.lead s.heard };
+}
+
+/// The same addresses again.
+fn copied(alloc: Global, addrs: &Addresses) -> Result<Addresses, NoMemory>
+    ensures copy { IfOk result (λ copy. copy ≡ addrs.now) }
+    ensures few { length addrs.now ≤ 2 → IsOk result }
+{
+    let mut list = Addrs::new(alloc);
+    list.reserve(addrs.as_slice().len() as u64)?;
+    for addr in addrs.as_slice() {
+        list.push(*addr);
+    }
+    Ok(Addresses::new(list))
+}
+
+impl TurnPoint {
+    /// The operation of the turn. `NoMemory` where there is none to name the regions that go back.
+    fn op(&self, alloc: Global) -> Result<Op, NoMemory>
+        ensures op { IfOk result (λ op. op ≡ op_at self.now) }
+        ensures few { HasFewAddresses self.now → IsOk result }
+    {
+        Ok(match self {
+            TurnPoint::Filling(wish, count) => Op::Fill {
+                class: wish.class,
+                count: *count,
+            },
+            TurnPoint::Looking(wish) => Op::Look {
+                pages: wish.pages,
+                align: wish.align,
+            },
+            TurnPoint::Landing(wish, span) => Op::Land {
+                span: *span,
+                class: wish.class,
+                count: wish.count,
+            },
+            TurnPoint::Giving(addrs) => {
+                let addrs = copied(alloc, addrs)?;
+                Op::Back { addrs }
+            }
+            TurnPoint::Finding { own, tries, .. } => Op::PutLook {
+                span: *own,
+                tries: *tries,
+            },
+            TurnPoint::Taking(visit, _) => Op::PurgeTake {
+                rest: visit.rest,
+                keep: visit.keep,
+            },
+            TurnPoint::Offering(span, _) => Op::Offer { span: *span },
+            TurnPoint::Advancing(now) => Op::Advance { now: *now },
+            TurnPoint::Changing(setting, _) | TurnPoint::Making(_, setting) => Op::Set(*setting),
+            TurnPoint::Resetting(cached) => Op::Reset { cached: *cached },
+            TurnPoint::Destroying(cached) => Op::Destroy { cached: *cached },
+            TurnPoint::Dooming => Op::DestroyTake,
+            TurnPoint::Publishing(addr) => Op::Publish { addr: *addr },
+            TurnPoint::Owning { addr, .. } => Op::TakeOver { addr: *addr },
+        })
+    }
+}
+
+/// A turn of an arena.
+fn turn(arena: u32, client: u32, op: Op) -> Need
+    ensures { result ≡ Need.Turn (record { arena = arena; client = client; op = op }) }
+{
+    Need::Turn(Turn { arena, client, op })
+}
+
+/// An ask of an arena's box of hooks.
+fn ask(arena: u32, ask: Ask) -> Need
+    ensures { result ≡ Need.Ask arena ask }
+{
+    Need::Ask { arena, ask }
+}
+
+impl Request {
+    /// Whether all cached regions go back.
+    fn flushes(&self) -> bool
+        ensures { result ≡ flushes self.now }
+    {
+        match *self {
+            Request::Flush => true,
+            Request::Cache(on) => !on,
+            _ => false,
+        }
+    }
+
+    /// Whether its client may come to hold a region by it.
+    fn may_hold(&self) -> bool
+        ensures { result ≡ may_hold self.now }
+    {
+        match *self {
+            Request::Malloc { .. }
+            | Request::Memalign { .. }
+            | Request::Free { .. }
+            | Request::FreeForeign { .. }
+            | Request::Publish { .. }
+            | Request::Take { .. } => true,
+            _ => false,
+        }
+    }
+
+    /// Makes room for a region that its client may come to hold by it, or has in hand. Takes no memory where neither is.
+    fn make_room(&self, desk: &mut Desk) -> Result<(), NoMemory>
+        ensures facts { desk.new.facts ≡ desk.old.facts }
+        ensures room { OnOk result ((may_hold self.now || is_some desk.old.facts.hand) ≡ true → 1 ≤ desk.new.room) }
+        ensures spare { (may_hold self.now || is_some desk.old.facts.hand) ≡ false → IsOk result }
+    {
+        if self.may_hold() || desk.hand().is_some() {
+            desk.reserve()
+        } else {
+            Ok(())
+        }
+    }
+}
+
+impl Stage {
+    /// It stands nowhere yet.
+    pub(crate) fn new() -> Stage
+        ensures { result ≡ stage 0 (led Lead.Nowhere None) }
+    {
+        Stage {
+            arena: 0,
+            lead: Lead::Nowhere,
+            heard: None,
+        }
+    }
+
+    /// It stands in the arena with this index, where this leads.
+    pub(crate) fn stand(&mut self, arena: u32, lead: Lead)
+        ensures { self.new ≡ stage arena (led lead None) }
+    {
+        self.arena = arena;
+        self.go(lead);
+    }
+
+    /// It stands at the next batch of regions that go back, or at the end.
+    fn go_on(&mut self, alloc: Global, request: &Request, desk: &Desk) -> Result<(), NoMemory>
+        ensures stage { OnOk result (self.new ≡ settle request.now desk.now.facts self.old.arena More) }
+        ensures err { OnErr result (self.new ≡ stage self.old.arena (Ends Answered.NoMemory)) }
+    {
+        match desk.batch(alloc, desk.hand(), request.flushes()) {
+            Ok(batch) => self.go_back(batch),
+            Err(error) => {
+                self.go(Lead::Ends(Answered::NoMemory));
+                return Err(error);
+            }
+        }
+        Ok(())
+    }
+
+    /// It stands where this leads.
+    pub(crate) fn go(&mut self, lead: Lead)
+        ensures { self.new ≡ stage self.old.arena (led lead None) }
+    {
+        if self.heard.is_some() {
+            self.heard = None;
+        }
+        self.lead = lead;
+    }
+
+    /// It stands where a step leads, by what the client has then. `NoMemory` only where there is none to name several regions
+    /// that go back: the call has ended with that answer.
+    fn settle(
+        &mut self,
+        alloc: Global,
+        request: &Request,
+        desk: &Desk,
+        lead: Lead,
+    ) -> Result<(), NoMemory>
+        ensures stage { OnOk result (self.new ≡ settle request.now desk.now.facts self.old.arena (led lead None)) }
+        ensures more { OnErr result (led lead None ≡ More) }
+        ensures err { OnErr result (self.new ≡ stage self.old.arena (Ends Answered.NoMemory)) }
+    {
+        match lead {
+            Lead::Over(arena, point) => {
+                self.arena = arena;
+                self.go(Lead::Turns(point));
+            }
+            Lead::More => return self.go_on(alloc, request, desk),
+            Lead::Gone => self.go(Lead::Ends(Answered::NoArena(self.arena))),
+            lead => self.go(lead),
+        }
+        Ok(())
+    }
+
+    /// The answer to its ask stands beside the place, if the item is that.
+    fn hear(&mut self, item: Item<'_>) -> bool
+        ensures hears { result ≡ hears_next self.old.next (lent item.entry) }
+        ensures heard { (request : Request) (desk : DeskFacts) → result ≡ true
+            → self.new ≡ settle request desk self.old.arena (step_next self.old.next (lent item.entry)) }
+        ensures sized { IsSizedNext self.old.next → IsSizedNext self.new.next }
+        ensures other { result ≡ false → self.new ≡ self.old }
+    {
+        match (&self.lead, &self.heard, item) {
+            (Lead::Asks(_), None, Item::Told(asked)) => {
+                self.heard = Some(*asked);
+                true
+            }
+            _ => false,
+        }
+    }
+
+    /// Where an item leads that isn't the answer to an ask.
+    fn step(&self, item: Item<'_>) -> Lead
+        requires sized { IsSizedNext self.now.next }
+        requires item { hears_next self.now.next (lent item) ≡ false }
+        ensures { led result None ≡ step_next self.now.next (lent item.entry) }
+    {
+        match (&self.lead, &self.heard, item) {
+            (Lead::Turns(point), _, Item::Replied(reply)) => point.turned(reply),
+            (Lead::Turns(point), _, Item::Starved) => point.starved(),
+            (Lead::Asks(point), Some(asked), Item::Replied(reply)) => point.told(asked, reply),
+            (Lead::Tells(..), _, Item::Told(_)) => TurnPoint::Dooming.next(),
+            _ => Lead::Nowhere,
+        }
+    }
+
+    /// Its answer, where the call has ended.
+    fn answer(&self) -> Option<&Answered>
+        ensures some { IfSome result (λ answer. ended_by self.now.next ≡ Some answer.now) }
+        ensures none { IfNone result (ended_by self.now.next ≡ None) }
+    {
+        match &self.lead {
+            Lead::Ends(answer) => Some(answer),
+            _ => None,
+        }
+    }
+
+    /// What a client needs there, or the answer of its call. It is starved only where several regions go back.
+    #[inline(always)]
+    pub(crate) fn need(&self, alloc: Global, client: u32) -> Need
+        requires place { IsPointOrEnd self.now.next }
+        requires sized { IsSizedNext self.now.next }
+        ensures { NeedIs client self.now.arena self.now.next result }
+    {
+        match (&self.lead, &self.heard) {
+            (Lead::Turns(point), _) => match point.op(alloc) {
+                Ok(op) => turn(self.arena, client, op),
+                Err(_) => Need::Starved,
+            },
+            (Lead::Asks(point), None) => ask(self.arena, point.ask()),
+            (Lead::Asks(point), Some(asked)) => turn(self.arena, client, point.done(asked)),
+            (Lead::Tells(span, committed), _) => {
+                let (span, committed) = (*span, *committed);
+                ask(self.arena, Ask::Destroy { span, committed })
+            }
+            (Lead::Ends(answer), _) => Need::Done(*answer),
+            _ => unreachable!(),
+        }
+    }
+
+    /// It takes in an item, by what the client has after it.
+    pub(crate) fn feed(
+        &mut self,
+        alloc: Global,
+        request: &Request,
+        desk: &Desk,
+        item: Item<'_>,
+    ) -> Result<(), NoMemory>
+        requires { IsSizedNext self.old.next }
+        ensures stage { OnOk result (self.new ≡ settle request.now desk.now.facts self.old.arena (step_next self.old.next (lent item.entry))) }
+        ensures sized { IsSizedNext self.new.next }
+        ensures more { OnErr result (step_next self.old.next (lent item.entry) ≡ More) }
+        ensures err { OnErr result (self.new ≡ stage self.old.arena (Ends Answered.NoMemory)) }
+    {
+        if self.hear(item) {
+            return Ok(());
+        }
+        let lead = self.step(item);
+        self.settle(alloc, request, desk, lead)
+    }
+}
+
+/// A call of a client: one automaton for all requests. Contracts see its client, what that wants, and where it stands.
+#[derive(Drop)]
+pub struct Call {
+    client: u32,
+    request: Request,
+    stage: Stage,
+}
+
+impl Model for Call {
+    ghost use Rattle.call_plan.specs.Calls.{CallFacts, IsCall};
+
+    ghost Value = { CallFacts };
+
+    ghost view = { λ c. record { client = c.client; request = c.request; stage = c.stage } };
+
+    ghost invariant = { λ c. IsCall c.stage };
+
+    ghost inverse = { λ f. record { client = f.client; request = f.request; stage = f.stage } };
+}
+
+impl Call {
+    /// A call begins that carries out a request of a client. It stands in the place where it is open, and else gives its answer.
+    /// The desk is from now on as the call leaves it, with room for the region that it may come to hold. `NoMemory` where there
+    /// is none for that, or to name several regions that go back first: the client has what it had. A request by which no region
+    /// is got, given away or flushed takes no memory, where none is in hand.
+    pub fn start(
+        alloc: Global,
+        place: &mut Option<Call>,
+        client: u32,
+        desk: &mut Desk,
+        request: &Request,
+    ) -> Result<Option<Answered>, NoMemory>
+        ensures place { OnOk result (place.new ≡ started client (begin request.now desk.old.facts) place.old (begin request.now desk.old.facts).stage.next) }
+        ensures desk { OnOk result (desk.new.facts ≡ (begin request.now desk.old.facts).desk) }
+        ensures answer { IfOk result (λ ended. ended ≡ ended_by (begin request.now desk.old.facts).stage.next) }
+        ensures room { OnOk result (HasRoomToHold desk.new.facts.hand desk.new.room (begin request.now desk.old.facts).stage.next) }
+        ensures spare { takes_memory request.now desk.old.facts ≡ false → IsOk result }
+        ensures err { OnErr result (desk.new.facts ≡ desk.old.facts) }
+        ensures free { OnErr result (place.new ≡ place.old) }
+    {
+        request.make_room(desk)?;
+        let mut stage = Stage::new();
+        stage.begin(alloc, request, desk)?;
+        stage.close(request, desk);
+        if let Some(answer) = stage.answer() {
+            return Ok(Some(*answer));
+        }
+        let call = Call {
+            client,
+            request: *request,
+            stage,
+        };
+        *place = Some(call);
+        Ok(None)
+    }
+
+    /// What the call needs next, or its answer. It is starved only where several regions go back: that turn then finds no
+    /// memory.
+    pub fn need(&self, alloc: Global) -> Need
+        ensures { NeedIs self.now.client self.now.stage.arena self.now.stage.next result }
+    {
+        self.stage.need(alloc, self.client)
+    }
+
+    /// The ask whose answer the turn carries that it needs next, where it carries one.
+    pub fn heard(&self) -> &Option<Asked>
+        ensures { result.now ≡ heard_next self.now.stage.next }
+    {
+        &self.stage.heard
+    }
+
+    /// Its answer, where it has ended.
+    pub fn answer(&self) -> Option<&Answered>
+        ensures some { IfSome result (λ answer. ended_by self.now.stage.next ≡ Some answer.now) }
+        ensures none { IfNone result (ended_by self.now.stage.next ≡ None) }
+        ensures place { IsPointOrEnd self.now.stage.next }
+    {
+        self.stage.answer()
+    }
+
+    /// The address of a region of another client, where the call takes that over next to free it, and it wasn't published for
+    /// the call yet.
+    pub fn takes(&self) -> Option<u64>
+        ensures { result ≡ taken_next self.now.stage.next }
+    {
+        match &self.stage.lead {
+            Lead::Turns(
+                TurnPoint::Owning {
+                    addr,
+                    frees: true,
+                    published: false,
+                },
+            ) => Some(*addr),
+            _ => None,
+        }
+    }
+
+    /// Takes that region over in the arena with this index, in which it is published.
+    pub fn aim(&mut self, arena: u32)
+        ensures { self.new ≡ aimed self.old arena }
+    {
+        self.stage.arena = arena;
+        if let Some(addr) = self.takes() {
+            let point = TurnPoint::Owning {
+                addr,
+                frees: true,
+                published: true,
+            };
+            self.stage.lead = Lead::Turns(point);
+        }
+    }
+
+    /// Takes in what came of its need, with its client's desk, which is as the call left it but for held regions that others
+    /// were given since. The item is one that could come there.
+    ///
+    /// The run of the call goes on as from here. `NoMemory` only where there is none to name the regions that go back next: the
+    /// call has ended with that answer.
+    pub fn next(&mut self, alloc: Global, desk: &mut Desk, item: Item<'_>) -> Result<(), NoMemory>
+        requires goes { Goes (after (moment_of self.old desk.old.facts) (lent item)).stage.next }
+        requires room { HasRoomToHold desk.old.facts.hand desk.old.room self.old.stage.next }
+        ensures client { self.new.client ≡ self.old.client }
+        ensures moment { OnOk result (moment_of self.new desk.new.facts ≡ after (moment_of self.old desk.old.facts) (lent item.entry)) }
+        ensures reads { OnOk result ((items : List Fed) → run (moment_of self.old desk.old.facts) (lent item.entry ∷ items) ≡ run (moment_of self.new desk.new.facts) items) }
+        ensures err { OnErr result (moment_of self.new desk.new.facts ≡ starved_after (moment_of self.old desk.old.facts) (lent item.entry)) }
+        ensures more { OnErr result (step_next self.old.stage.next (lent item.entry) ≡ More) }
+        ensures room { HasRoomToHold desk.new.facts.hand desk.new.room self.new.stage.next }
+    {
+        self.stage.tell(desk, item);
+        let fed = self.stage.feed(alloc, &self.request, desk, item);
+        self.stage.close(&self.request, desk);
+        fed
+    }
+}

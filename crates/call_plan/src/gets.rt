@@ -1,0 +1,154 @@
+//! How a call goes on that gets an extent.
+
+ghost use Rattle.std.specs.Prelude.{◌≡◌, ℕ, None};
+ghost use Rattle.call_plan.specs.Table.{chunks_for, commit, grant, grow, need_chunks, skip_to, trim, turn_replied};
+ghost use Rattle.call_plan.specs.Stages.{Asks, Ends, Go, led};
+
+use crate::{Answered, AskPoint, Given, Lead, TurnPoint, Wish};
+use space_model::{CHUNK_PAGES, MAX_SERIES, Reply, Span};
+
+impl AskPoint {
+    /// The ask comes next.
+    pub(crate) fn first(self) -> Lead
+        ensures { led result None ≡ Go (Asks self None) }
+    {
+        Lead::Asks(self)
+    }
+}
+
+impl Wish {
+    /// How many chunks hold the pages.
+    pub(crate) fn chunks(self) -> u64
+        ensures { result ≡ chunks_for self.pages }
+    {
+        self.pages.div_ceil(CHUNK_PAGES)
+    }
+
+    /// The extent has the pages: it is committed, or the regions land in it.
+    pub(crate) fn commit(self, span: Span, committed: bool) -> Lead
+        ensures { led result None ≡ commit self span committed }
+    {
+        if committed {
+            Lead::Turns(TurnPoint::Landing(self, span))
+        } else {
+            AskPoint::Committing(self, span).first()
+        }
+    }
+
+    /// A grant: what is too much of it is cut off.
+    pub(crate) fn grant(self, span: Span, committed: bool) -> Lead
+        ensures { led result None ≡ grant self span committed }
+    {
+        if self.pages < span.pages {
+            AskPoint::Granting {
+                wish: self,
+                span,
+                committed,
+            }
+            .first()
+        } else {
+            self.commit(span, committed)
+        }
+    }
+
+    /// An unused extent: what stands behind the run is cut off.
+    pub(crate) fn trim(self, span: Span, committed: bool) -> Lead
+        ensures { led result None ≡ trim self span committed }
+    {
+        if self.pages < span.pages {
+            AskPoint::Trimming {
+                wish: self,
+                span,
+                committed,
+            }
+            .first()
+        } else {
+            self.commit(span, committed)
+        }
+    }
+
+    /// An unused extent: what stands before the run is cut off.
+    fn skip_to(self, span: Span, committed: bool, skip: u64) -> Lead
+        ensures { led result None ≡ skip_to self span committed skip }
+    {
+        if 0 < skip {
+            AskPoint::Skipping {
+                wish: self,
+                span,
+                committed,
+                skip,
+            }
+            .first()
+        } else {
+            self.trim(span, committed)
+        }
+    }
+
+    /// Just as many chunks as are needed are asked for.
+    pub(crate) fn need_chunks(self) -> Lead
+        ensures { led result None ≡ need_chunks self }
+    {
+        AskPoint::Needing(self).first()
+    }
+
+    /// The arena grows by the chunks of the series, if these are more than are needed.
+    fn grow(self, series: u64) -> Lead
+        ensures { led result None ≡ grow self series }
+    {
+        let chunks = series.min(MAX_SERIES);
+        if self.chunks() < chunks {
+            AskPoint::Growing(self, chunks).first()
+        } else {
+            self.need_chunks()
+        }
+    }
+
+    /// After the reply to the look for an unused extent.
+    pub(crate) fn looked(self, reply: &Reply) -> Lead
+        ensures { led result None ≡ turn_replied (TurnPoint.Looking self) reply.now }
+    {
+        match *reply {
+            Reply::Took {
+                span,
+                committed,
+                skip,
+            } => self.skip_to(span, committed, skip),
+            Reply::Grow { series } => self.grow(series),
+            Reply::NoArena => Lead::Gone,
+            _ => Lead::Nowhere,
+        }
+    }
+
+    /// The answer is the region at the address.
+    fn region(self, addr: u64) -> Lead
+        ensures { led result None ≡ Ends (Answered.Ok (Given.Region addr self.class)) }
+    {
+        let class = self.class;
+        Lead::Ends(Answered::Ok(Given::Region { addr, class }))
+    }
+
+    /// After the landing.
+    pub(crate) fn landed(self, reply: &Reply) -> Lead
+        ensures { (span : Span) → led result None ≡ turn_replied (TurnPoint.Landing self span) reply.now }
+    {
+        match *reply {
+            Reply::Landed { first, .. } => self.region(first),
+            _ => Lead::Nowhere,
+        }
+    }
+
+    /// After free regions of a small class were looked for.
+    pub(crate) fn filled(self, reply: &Reply) -> Lead
+        ensures { (count : ℕ) → led result None ≡ turn_replied (TurnPoint.Filling self count) reply.now }
+    {
+        match *reply {
+            Reply::Regions(ref addrs) => match addrs.as_slice().first() {
+                Some(addr) => self.region(*addr),
+                None => Lead::Nowhere,
+            },
+            Reply::Nothing => Lead::Turns(TurnPoint::Looking(self)),
+            Reply::NoArena => Lead::Gone,
+            _ => Lead::Nowhere,
+        }
+    }
+}

@@ -1,6 +1,0 @@
-use Rattle.call_table.proofs.Words.{◌≡◌, ◌≤◌, drop, sharing}
-use Rattle.call_table.proofs.desks.share.Given as goal
-
--- those from the place on are cached
-abbrev pub invariant-loop-place : goal.invariant-loop-place
-invariant-loop-place l = (l.desk.facts ≡ sharing l.arena l.class (drop l.place l.addrs) l.fn.desk.facts) × (l.fn.desk.room ≤ l.desk.room)

@@ -1,5 +1,0 @@
-use Rattle.call_table.proofs.Credits.{mallocs-are_short}
-use Rattle.call_table.proofs.laws.mallocs_are_short.Goals as goal
-
-pub returns : goal.returns
-returns c = mallocs-are_short
