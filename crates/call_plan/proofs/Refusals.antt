@@ -1,5 +1,5 @@
 -- What stands after each refused ask.
-use Rattle.call_plan.proofs.Words.{◌≡◌, ℕ, ◌+◌, Bool, true, false, cond, Option, Some, inl, inr, ◌∙◌, ap, subst, arith, find, lost, won, is_flight_at, Stepped, whole_at, apart_at, next_flight, step_of, is_regranted, Replied, Refused, AskPoint, Skipping, Trimming, Growing, Paring, Needing, Granting, Committing, Merging, Easing, Returning, Decommitting, Forcing, Asks, Next, Ends, Refuses, Reply, Whole, Joined, Kept, Abandoned, Part, Space, Span, Sound, mine, AskFacts, ask_at, done_at, need_chunks, told, Alone, Flies, Idle, KnowsAsk, Keeps, flights_of, left_ask, stages_ask, with_found, AfterRefusal, HoldsExtent, Rests, RefusalsStand}
+use Rattle.call_plan.proofs.Words.{◌≡◌, ℕ, ◌+◌, Bool, true, false, cond, Option, Some, ◌∙◌, ap, subst, arith, find, lost, won, is_flight_at, Stepped, whole_at, apart_at, next_flight, step_of, is_regranted, Replied, Refused, AskPoint, Skipping, Trimming, Growing, Paring, Needing, Granting, Committing, Merging, Easing, Returning, Decommitting, Forcing, Asks, Next, Ends, Refuses, Reply, Whole, Joined, Kept, Abandoned, Part, Space, Span, Sound, mine, AskFacts, ask_at, done_at, need_chunks, told, Alone, Flies, Idle, KnowsAsk, Keeps, flights_of, left_ask, stages_ask, with_found, AfterDalloc, AfterRefusal, HoldsExtent, Rests, RefusalsStand}
 use Rattle.call_plan.proofs.Getting.{alone_found}
 use Rattle.call_plan.proofs.Putting.{found_at}
 use Rattle.call_plan.proofs.Rooms.{flown}
@@ -32,7 +32,7 @@ module _ (c : ℕ) (s t : Space) (asked : AskFacts) (reply : Reply) (found : Opt
   Flew point r = flights_of c t + lost (with_found found (done_at point asked)) r ≡ flights_of c s + won c s (with_found found (done_at point asked)) r
 
   stands_at : (point : AskPoint) → KnowsAsk (mine c s) point → reply ≡ (step_of s c (with_found found (done_at point (refused_at point)))).reply → Flew point reply →
-      Keeps c t (stages_ask point) (left_ask (flights_of c s) point + 0) (told point asked reply) → AfterRefusal c s t point asked (told point asked reply)
+      Keeps c t (stages_ask point) (left_ask (flights_of c s) point + 0) (told point asked reply) → AfterRefusal c s t found point asked (told point asked reply)
   stands_at (Skipping wish span b skip) (gets, alone, some, holds) r flew keeps = rests c t _ _ _ (need_chunks wish) (ap (told (Skipping wish span b skip) asked) (r ∙ whole_told c s span b alone)) keeps (λ k. k.0.0.1)
   stands_at (Trimming wish span b) (gets, alone, more) r flew keeps = rests c t _ _ _ (need_chunks wish) (ap (told (Trimming wish span b) asked) (r ∙ whole_told c s span b alone)) keeps (λ k. k.0.0.1)
   stands_at (Growing wish chunks) knows r flew keeps = rests c t _ _ _ (need_chunks wish) (ap (told (Growing wish chunks) asked) r) keeps (λ k. k.0.0.1)
@@ -54,9 +54,9 @@ module _ (c : ℕ) (s t : Space) (asked : AskFacts) (reply : Reply) (found : Opt
       holds c t _ _ _ span _ _ _ (ap (told (Easing span later) asked) r) (omega (arith, subst (Flew (Easing span later)) r flew)) keeps (λ k. k.0.0)
   stands_at (Returning span later) knows r flew keeps = by (is_regranted found span s.parts) (r ∙ chosen_reply (is_regranted found span s.parts) _ _)
     where
-      by : (v : Bool) → reply ≡ cond v (Abandoned (next_flight c s.parts)) Kept → AfterRefusal c s t (Returning span later) asked (told (Returning span later) asked reply)
-      by true e = inr (ap (told (Returning span later) asked) e, omega (arith, subst (Flew (Returning span later)) e flew))
-      by false e = inl (holds c t _ _ _ span _ _ _ (ap (told (Returning span later) asked) e) (omega (arith, subst (Flew (Returning span later)) e flew)) keeps (λ k. k.0.0.0))
+      by : (v : Bool) → reply ≡ cond v (Abandoned (next_flight c s.parts)) Kept → AfterDalloc c s t v span later (told (Returning span later) asked reply)
+      by true e = (ap (told (Returning span later) asked) e, omega (arith, subst (Flew (Returning span later)) e flew))
+      by false e = holds c t _ _ _ span _ _ _ (ap (told (Returning span later) asked) e) (omega (arith, subst (Flew (Returning span later)) e flew)) keeps (λ k. k.0.0.0)
   stands_at (Decommitting span later) knows r flew keeps =
       holds c t _ _ _ span _ _ _ (ap (told (Decommitting span later) asked) r) (omega (arith, subst (Flew (Decommitting span later)) r flew)) keeps (λ k. k.0.0.0)
   stands_at (Forcing span later) knows r flew keeps =

@@ -65,7 +65,7 @@ pub use Rattle.call_plan.specs.Laws.{Ready, KnowsNext, BatchesKnow, BeginsKnow, 
 pub use Rattle.call_plan.specs.Reads.{ended_by}
 pub use Rattle.call_plan.specs.Needs.{Goes, IsPointOrEnd}
 pub use Rattle.call_plan.specs.Points.{IsSizedPoint, IsSizedNext}
-pub use Rattle.call_plan.specs.Refusals.{AfterRefusal, HoldsExtent, Rests, RefusalsStand}
+pub use Rattle.call_plan.specs.Refusals.{AfterDalloc, AfterRefusal, HoldsExtent, Rests, RefusalsStand}
 pub use Rattle.call_plan.specs.Rooms.{flying, empties, needed_ask, needed_next, needed_turn, room_then, RoomsSuffice}
 pub use Rattle.call_plan.specs.Runs.{page_align, batch_goes, begin_flush, begin_free, begin_get, begin_malloc, begin_memalign, begin_publish, get, share, wish_for, IsRun, begin, Moment, after, run, settle, step_next, begin_stage, small_hit, stage, begin_desk}
 unfoldable pub use Rattle.call_plan.specs.Runs.{is_alignment}
