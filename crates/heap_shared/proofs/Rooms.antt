@@ -1,5 +1,5 @@
 -- The rooms of the clients, and what an entry does to what a client owns.
-use Rattle.heap_shared.proofs.Words.{◌≡◌, ◌≢◌, ℕ, ◌<◌, ◌++◌, false, IsTrue, List, [], ◌∷◌, Option, length, sym, refl, ap, ◌∙◌, subst, get_or-set_other, get_or-set_same, length-set, Snapshot, Entry, Op, Reply, mine, Sound, GrowDone, OfferDone, Space, space_after, reply_to, stands, Standing, entry_of, opens, room_after, room_of, rooms_after, Turn, replay_turns, ChunkTable, with_found, Facts, Logs, MayStand, after_entry, facts_of, owned_by}
+use Rattle.heap_shared.proofs.Words.{◌≡◌, ◌≢◌, ℕ, ◌<◌, ◌++◌, false, IsTrue, List, [], ◌∷◌, Option, length, sym, refl, ap, ◌∙◌, subst, get_or-set_other, get_or-set_same, length-set, Snapshot, Entry, Op, Reply, mine, Sound, GrowDone, OfferDone, Space, space_after, reply_to, stands, Standing, entry_of, opens, room_after, room_of, rooms_after, Turn, replay_turns, ChunkTable, IsElsewhere, wanted, with_found, Facts, Logs, MayStand, after_entry, facts_of, owned_by}
 
 -- whether an operation may stand, and whether it is the first of a unit, has nothing to do with what is found
 found_stands : (s : Space) (client : ℕ) (op : Op) (chunk : Option ℕ) → stands s (entry_of client (with_found op chunk)) ≡ stands s (entry_of client op)
@@ -22,10 +22,10 @@ found_may arena journal table client op chunk made is sound may = (
 )
 
 -- an entry that changes nothing that another client owns is logged
-pub logs_entry : (arena : Standing) (journal : List Entry) (table : ChunkTable) (client : ℕ) (op : Op) (chunk : Option ℕ) (made : Op) (e : Snapshot Entry) → made ≡ with_found op chunk → e.value ≡ entry_of client made
+pub logs_entry : (arena : Standing) (journal : List Entry) (table : ChunkTable) (client : ℕ) (op : Op) (chunk : Option ℕ) (made : Op) (e : Snapshot Entry) → made ≡ with_found op chunk → IsElsewhere (wanted op) arena.space chunk → e.value ≡ entry_of client made
     → ((k : ℕ) → k ≢ client → mine k (space_after arena.space (entry_of client made)) ≡ mine k arena.space) → Logs (facts_of arena journal table) client op e
-logs_entry arena journal table client op chunk made e settled is others = (
-  (chunk, is ∙ ap (entry_of client) settled),
+logs_entry arena journal table client op chunk made e settled elsewhere is others = (
+  (chunk, is ∙ ap (entry_of client) settled, elsewhere),
   λ k ne.
       let has : mine k (space_after arena.space e.value) ≡ mine k arena.space = ap (λ n. mine k (space_after arena.space n)) is ∙ others k ne in
       let other : k ≢ e.value.client = λ same. ne (same ∙ ap (λ (n : Entry). n.client) is) in

@@ -13,6 +13,7 @@ module _ {M : Type 0} {g : Ghosts M Facts Op (Snapshot Entry) Reply Owned} (lock
   told r same t = record {
     before = t.before;
     chunk = t.logged.0.0;
+    elsewhere = t.logged.0.2;
     found = ap (λ (w : Owned). w.has) t.met;
     reply = t.reply ∙ ap (reply_to (space_of_history lock t.before)) t.logged.0.1;
     left = subst (λ n. mine n (space_of_history lock (seen new)) ≡ mine (number old) (space_after (space_of_history lock t.before) (entry_of (number old) (with_found op t.logged.0.0)))) same

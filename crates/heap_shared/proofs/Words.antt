@@ -49,7 +49,7 @@ pub use Rattle.turn_lock.specs.declared.machine.Machine.{Ghosts}
 pub use Rattle.turn_lock.specs.declared.view.Turn.{Turn}
 pub use mathlib.Core.Logic.{dite}
 pub use native.Mathlib.Decide.{ℕ_discrete}
-pub use Rattle.heap_shared.specs.Claims.{Claimed, IsBefore, Released, found_in, granted_span, is_met_by, is_met, refused_span, touched, wanted, with_found}
+pub use Rattle.heap_shared.specs.Claims.{Claimed, IsElsewhere, IsBefore, Released, found_in, granted_span, is_met_by, is_met, refused_span, touched, wanted, with_found}
 pub use Rattle.heap_shared.specs.Shared.{Facts, Logs, MayStand, after_entry, facts_of, owned_by, Owned}
 pub use Rattle.heap_shared.specs.Turns.{Turned, space_of_history}
 pub use Rattle.heap_shared.specs.declared.claims.Claims.{Claims}

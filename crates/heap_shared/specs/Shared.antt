@@ -11,7 +11,7 @@ use Rattle.space_model.specs.Sound.{Sound}
 use Rattle.space_model.specs.Step.{space_after, reply_to, stands}
 use Rattle.arena_core.specs.Arenas.{Standing, entry_of, opens, room_of, rooms_after}
 use Rattle.chunk_table.specs.declared.table.ChunkTable.{ChunkTable}
-use Rattle.heap_shared.specs.Claims.{with_found}
+use Rattle.heap_shared.specs.Claims.{IsElsewhere, wanted, with_found}
 
 -- what contracts see under the lock: the space, the room of each of the 32 clients, the entries so far, and the table that
 -- all arenas share
@@ -57,10 +57,11 @@ MayStand w op =
     (opens op ≡ false → 0 < w.room)
     × ((s : Space) → Sound s → mine w.client s ≡ w.has → IsTrue (stands s (entry_of w.client op)))
 
--- an operation leaves its entry, in which a chunk may be found, and what belongs to every other client as it was
+-- an operation leaves its entry, in which a chunk of the range that it takes may be found that the arena itself hasn't, and
+-- what belongs to every other client as it was
 abbrev pub Logs : Facts → ℕ → Op → Snapshot Entry → Type 0
 Logs s c op e =
-    ((chunk : Option ℕ) × (e.value ≡ entry_of c (with_found op chunk))) × ((k : ℕ) → k ≢ c → owned_by (after_entry s e).0 k ≡ owned_by s k)
+    ((chunk : Option ℕ) × (e.value ≡ entry_of c (with_found op chunk)) × IsElsewhere (wanted op) s.space chunk) × ((k : ℕ) → k ≢ c → owned_by (after_entry s e).0 k ≡ owned_by s k)
 
 -- no arena, of which nobody owns anything
 abbrev pub nothing_owned : Owned

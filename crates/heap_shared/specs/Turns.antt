@@ -14,7 +14,7 @@ use Rattle.turn_lock.specs.declared.lock.Pass.{Pass}
 use Rattle.turn_lock.specs.declared.view.Turn.{Turn}
 use Rattle.turn_lock.specs.History.{replay_turns}
 use Rattle.turn_lock.specs.Locks.{first, number, own_known, seen}
-use Rattle.heap_shared.specs.Claims.{with_found}
+use Rattle.heap_shared.specs.Claims.{IsElsewhere, wanted, with_found}
 use Rattle.heap_shared.specs.Shared.{Facts, MayStand, Owned, after_entry, owned_by}
 
 module _ {M : Type 0} where
@@ -30,8 +30,10 @@ module _ {M : Type 0} where
   -- a turn of a client, whose pass is `old` before it and `new` after it
   pub record Turned {g : Ghosts M Facts Op (Snapshot Entry) Reply Owned} (lock : TurnLock M Facts Op (Snapshot Entry) Reply Owned) (old new : Pass M Facts Op (Snapshot Entry) Reply Owned g) (op : Op) (r : Reply) : Type 0 where
     pub before : List (Turn (Snapshot Entry))
-    -- the entry made is the operation given, with the chunk that was found in another arena, if one was
+    -- the entry made is the operation given, with the chunk that was found in another arena, if one was: one of the range that
+    -- the operation takes, which no extent of this arena meets
     pub chunk : Option ℕ
+    pub elsewhere : IsElsewhere (wanted op) (space_of_history lock before) chunk
     -- the client owns what it owned after its last turn, whatever others did since
     pub found : mine (number old) (space_of_history lock before) ≡ mine (number old) (space_of_history lock (seen old))
     -- the reply is that of the step of one arena, and the pass knows what the client owns then

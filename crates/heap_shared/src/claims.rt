@@ -2,7 +2,7 @@
 ghost use Rattle.std.specs.Prelude.{◌≡◌, ℕ, Option, Some};
 ghost use Rattle.std.specs.Arc.{arc_value};
 ghost use Rattle.chunk_table.specs.Tables.{share_of, IsSeatOf};
-ghost use Rattle.heap_shared.specs.Claims.{Claimed, OwnsMet, Released, found_in, granted_span, high_chunk, low_chunk, refused_span, touched, wanted, with_found};
+ghost use Rattle.heap_shared.specs.Claims.{Claimed, IsElsewhere, OwnsMet, Released, found_in, granted_span, high_chunk, low_chunk, refused_span, touched, wanted, with_found};
 
 use arena_core::Arena;
 use chunk_table::{ChunkSeat, ChunkTable, Claim};
@@ -93,6 +93,7 @@ impl Claims {
         requires owned { OwnsMet self.old.seat arena.now.space }
         ensures table { arc_value self.new.table ≡ arc_value self.old.table }
         ensures claimed { Claimed (Some span) result (share_of self.old.seat) (share_of self.new.seat) }
+        ensures elsewhere { IsElsewhere (Some span) arena.now.space result }
     {
         let (low, high) = chunks_of(span);
         for chunk in low..high {
@@ -123,7 +124,7 @@ impl Claims {
     pub fn settle(&mut self, arena: &Arena, op: Op) -> Op
         requires owned { OwnsMet self.old.seat arena.now.space }
         ensures table { arc_value self.new.table ≡ arc_value self.old.table }
-        ensures op { (chunk : Option ℕ) × (result ≡ with_found op chunk) }
+        ensures op { (chunk : Option ℕ) × (result ≡ with_found op chunk) × IsElsewhere (wanted op) arena.now.space chunk }
         ensures claimed { Claimed (wanted result) (found_in result) (share_of self.old.seat) (share_of self.new.seat) }
     {
         let found = match wanted(&op) {

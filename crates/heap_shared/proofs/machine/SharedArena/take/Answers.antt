@@ -17,7 +17,7 @@ pub returns-clause-entry : goal.returns-clause-entry
 returns-clause-entry c =
     subst (λ (s : Facts). Logs s c.args.client c.args.op c.of-made.result) c.self.view_is
     (logs_entry c.self.inside.arena c.self.inside.journal.items (arc_value c.self.inside.claims.table) c.args.client c.args.op c.settle-op.ensures.op.0 c.settle-op.result c.of-made.result
-    c.settle-op.ensures.op.1 c.of-made.ensures (λ k ne. ap (mine k) (sym c.in_ok-reply.ensures.after) ∙ c.in_ok-reply.ensures.others k ne))
+    c.settle-op.ensures.op.1 c.settle-op.ensures.op.2 c.of-made.ensures (λ k ne. ap (mine k) (sym c.in_ok-reply.ensures.after) ∙ c.in_ok-reply.ensures.others k ne))
 
 pub returns-clause-after : goal.returns-clause-after
 returns-clause-after c =
