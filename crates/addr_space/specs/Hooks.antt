@@ -1,4 +1,4 @@
--- What contracts see of the providers.
+-- What contracts see of the boxes.
 use Rattle.std.specs.Prelude.{ℕ, List, None}
 use Rattle.hook_api.specs.Hooks.{Account}
 use Rattle.addr_space.specs.declared.lying.LyingHooks.{LyingHooks}

@@ -1,11 +1,11 @@
--- What a provider that tells has told.
+-- What a box that tells has told.
 use Rattle.std.specs.Prelude.{◌≡◌, ℕ, ◌≤◌, ◌&&◌, Bool, false, nat_lt, if◌then◌else◌, List, ◌∷◌, [], ◌++◌, length, Some, None, vec_capacity}
 use Rattle.space_model.specs.declared.Heard.{Heard}
 use Rattle.hook_api.specs.Hooks.{Account}
 use Rattle.addr_space.specs.Hooks.{Placing}
 use Rattle.addr_space.specs.declared.telling.TellingHooks.TheInside.{Inside}
 
--- the provider behind, what was asked so far, whether that is all, and how much of it can be told
+-- the box behind, what was asked so far, whether that is all, and how much of it can be told
 pub record Told : Type 0 where
   pub inner : Placing
   pub heard : List Heard
@@ -26,7 +26,7 @@ abbrev pub told_after : Told → Heard → Told
 told_after old heard =
     if nat_lt (length old.heard) old.room && old.tells then record old { heard = old.heard ++ heard ∷ [] } else record old { tells = false }
 
--- the hooks tell what they heard, while that is all, and refuse what the provider behind refuses
+-- the hooks tell what they heard, while that is all, and refuse what the box behind refuses
 abbrev pub telling_account : Told → Account
 telling_account old = record { told = if old.tells then Some old.heard else None; refusals = old.inner.refusals }
 

@@ -1,4 +1,4 @@
-//! Boxes of hooks over a space of addresses: an honest provider, and one that answers what it is given.
+//! Boxes of hooks over a space of addresses: an honest box, and one that answers what it is given.
 #![tactic(auto)]
 
 mod chunks;

@@ -1,4 +1,4 @@
-//! Providers that share one space.
+//! Boxes that share one space.
 
 ghost use Rattle.std.specs.Prelude.{◌≡◌, ◌+◌, ◌≤◌, IfOk};
 ghost use Rattle.hook_api.specs.Counts.{capped, Rose};
@@ -39,9 +39,9 @@ impl Refusals {
     }
 }
 
-/// A provider over a space that several share, under a lock. Each has a count of refusals of its own, and tells nothing.
+/// A box over a space that several share, under a lock. Each has a count of refusals of its own, and tells nothing.
 ///
-/// A hook waits for the lock, by the handle that the provider keeps.
+/// A hook waits for the lock, by the handle that the box keeps.
 #[derive(Drop)]
 pub struct SharedSpace<R: Drop> {
     rt: R,
@@ -50,7 +50,7 @@ pub struct SharedSpace<R: Drop> {
 }
 
 impl<R: Wait + Clone + Send + Drop> SharedSpace<R> {
-    /// A provider over this space. It has refused nothing.
+    /// A box over this space. It has refused nothing.
     pub fn new(rt: R, alloc: Global, inner: AddrSpace) -> Result<SharedSpace<R>, NoMemory>
         ensures { IfOk result (λ shared. shared.refusals.count ≡ 0) }
     {
@@ -61,7 +61,7 @@ impl<R: Wait + Clone + Send + Drop> SharedSpace<R> {
         })
     }
 
-    /// One more provider over the same space. It has refused nothing.
+    /// One more box over the same space. It has refused nothing.
     pub fn again(&self) -> Result<SharedSpace<R>, NoMemory>
         ensures { IfOk result (λ shared. shared.refusals.count ≡ 0) }
     {

@@ -1,4 +1,4 @@
-//! The honest provider.
+//! The honest box.
 
 ghost use Rattle.std.specs.Prelude.{◌≡◌, ℕ, ◌+◌, ◌<◌, ◌≤◌, ◌↔◌, max, Some, None, true, SomeIff, IsSome, IfOk, IfSome, IfNone, IsTrue};
 ghost use Rattle.hook_api.specs.Counts.{capped, Rose};
@@ -16,7 +16,7 @@ use std::marker::Model;
 /// The first page above the last chunk.
 const END: u64 = (CHUNKS + 1) * CHUNK_PAGES;
 
-/// An honest provider of the pages of the space. It places a range in the lowest chunks that are free, committed and
+/// An honest box over the pages of the space. It places a range in the lowest chunks that are free, committed and
 /// zeroed, or at the page that is wished. It takes ranges back, accepts everything else, and tells nothing.
 ///
 /// Only `new` takes memory: one number for each chunk.
@@ -45,7 +45,7 @@ fn ends_inside(span: Span) -> bool
 }
 
 impl AddrSpace {
-    /// A provider that has placed nothing.
+    /// A box that has placed nothing.
     pub fn new(alloc: Global) -> Result<AddrSpace, NoMemory>
         ensures placed { IfOk result (λ space. IsBlank space.placed) }
         ensures refusals { IfOk result (λ space. space.refusals ≡ 0) }

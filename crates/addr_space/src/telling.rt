@@ -1,4 +1,4 @@
-//! A provider that tells what it was asked.
+//! A box that tells what it was asked.
 
 ghost use Rattle.std.specs.Prelude.{◌≡◌, ◌+◌, ◌<◌, ◌≤◌, ◌↔◌, ℕ, [], true, max, None, Some, IsSome, IfOk, IfSome, IfNone};
 ghost use Rattle.hook_api.specs.Hooks.{HookCall, placed_answer, said_answer};
@@ -12,7 +12,7 @@ use space_model::{Answer, Ask, Heard, Span};
 use std::alloc::{AllocError as NoMemory, Global};
 use std::marker::Model;
 
-/// The honest provider, which tells its asks with their answers as long as they are at most so many. From the next one on
+/// The honest box, which tells its asks with their answers as long as they are at most so many. From the next one on
 /// it tells nothing. Only contracts see what it tells.
 #[derive(Drop)]
 pub struct TellingHooks {
