@@ -1,5 +1,5 @@
--- An ask and its answer in few numbers, and back.
-use Rattle.std.specs.Prelude.{◌≡◌, ℕ, Bool, true, false, None, Some}
+-- An ask and its answer in few numbers.
+use Rattle.std.specs.Prelude.{ℕ, Bool, true, false, None, Some}
 use Rattle.space_model.specs.declared.Span.{Span}
 use Rattle.space_model.specs.declared.Ask.{Ask}
 use Rattle.space_model.specs.declared.Ask.TheVariants.{Alloc, Dalloc, Destroy, Commit, Decommit, PurgeLazy, PurgeForced, Split, Merge}
@@ -37,19 +37,6 @@ read_ask brief = ask_by brief.shape brief.flag brief.a brief.b brief.c brief.d
 abbrev pub brief : AskShape → Bool → Span → ℕ → ℕ → BriefAsk
 brief shape flag span c d = record { shape = shape; flag = flag; a = span.first; b = span.pages; c = c; d = d }
 
--- an ask in few numbers: what it doesn't have is false or 0
-abbrev pub write_ask : Ask → BriefAsk
-write_ask (Alloc commit None pages align) = record { shape = Anywhere; flag = commit; a = pages; b = align; c = 0; d = 0 }
-write_ask (Alloc commit (Some first) pages align) = record { shape = At; flag = commit; a = pages; b = align; c = first; d = 0 }
-write_ask (Dalloc span committed) = brief Dallocs committed span 0 0
-write_ask (Destroy span committed) = brief Destroys committed span 0 0
-write_ask (Commit span) = brief Commits false span 0 0
-write_ask (Decommit span) = brief Decommits false span 0 0
-write_ask (PurgeLazy span) = brief Eases false span 0 0
-write_ask (PurgeForced span) = brief Forces false span 0 0
-write_ask (Split span left) = brief Splits false span left 0
-write_ask (Merge low high) = brief Merges false low high.first high.pages
-
 -- an answer of a shape, with the first page of its range, if it has one
 abbrev pub answer_by : AnswerShape → ℕ → Answer
 answer_by No first = Refused
@@ -62,20 +49,3 @@ answer_by Ready first = Placed true true first
 -- the answer that few numbers tell
 abbrev pub read_answer : BriefAnswer → Answer
 read_answer brief = answer_by brief.shape brief.first
-
--- an answer in few numbers: one that has no range has 0 for its first page
-abbrev pub write_answer : Answer → BriefAnswer
-write_answer Refused = record { shape = No; first = 0 }
-write_answer Done = record { shape = Yes; first = 0 }
-write_answer (Placed false false first) = record { shape = Range; first = first }
-write_answer (Placed true false first) = record { shape = Committed; first = first }
-write_answer (Placed false true first) = record { shape = Zeroed; first = first }
-write_answer (Placed true true first) = record { shape = Ready; first = first }
-
--- these numbers tell an ask, and are the only ones that tell it
-abbrev pub IsBrief : BriefAsk → Type 0
-IsBrief brief = write_ask (read_ask brief) ≡ brief
-
--- these numbers tell an answer, and are the only ones that tell it
-abbrev pub IsBriefAnswer : BriefAnswer → Type 0
-IsBriefAnswer brief = write_answer (read_answer brief) ≡ brief

@@ -1,7 +1,6 @@
 pub mod Asked
 pub mod AskLists
 pub mod Briefs
-pub mod Numbers
 pub mod Chain
 pub mod Counts
 pub mod Deeds

@@ -3,43 +3,32 @@
 ghost use Rattle.std.specs.Prelude.{◌≡◌};
 ghost use Rattle.hook_api.specs.Asked.{by_box, heard_in, RefusalCounts};
 
-use crate::briefs::{AnswerShape, AskShape, BriefAnswer, BriefAsk};
 use space_model::{Answer, Ask, Heard};
 use std::marker::Model;
 
 /// An ask that was made, with its answer. Only a shelf makes one. `Refused` means that the count of refusals of its box
-/// number rose from `before` to `after`, or stands at the greatest `u64`. The ask and the answer are kept in few numbers, since
-/// a journal has many of them: contracts see them whole.
+/// number rose from `before` to `after`, or stands at the greatest `u64`.
 #[derive(Clone, Copy)]
 pub struct Asked {
     pub(crate) box_no: u32,
     pub(crate) planned: bool,
-    pub(crate) ask_shape: AskShape,
-    pub(crate) flag: bool,
-    pub(crate) answer_shape: AnswerShape,
-    pub(crate) a: u64,
-    pub(crate) b: u64,
-    pub(crate) c: u64,
-    pub(crate) d: u64,
-    pub(crate) first: u64,
+    pub(crate) ask: Ask,
+    pub(crate) answer: Answer,
     pub(crate) place: u64,
     pub(crate) before: u64,
     pub(crate) after: u64,
 }
 
 impl Model for Asked {
-    ghost use Rattle.hook_api.specs.Asked.{AskFacts};
-    ghost use Rattle.hook_api.specs.Numbers.{IsAsked, fields_are, fields_of, shown};
+    ghost use Rattle.hook_api.specs.Asked.{AskFacts, RefusalCounts};
 
     ghost Value = { AskFacts };
 
-    ghost view = { shown };
+    ghost view = { λ a. record { box_no = a.box_no; place = a.place; ask = a.ask; answer = a.answer; before = a.before; after = a.after; planned = a.planned } };
 
-    ghost invariant = { IsAsked };
+    ghost invariant = { λ a. RefusalCounts a.answer a.before a.after };
 
-    ghost inverse = { fields_of };
-
-    ghost inverse_ok = { fields_are };
+    ghost inverse = { λ f. record { box_no = f.box_no; planned = f.planned; ask = f.ask; answer = f.answer; place = f.place; before = f.before; after = f.after } };
 }
 
 impl Asked {
@@ -56,19 +45,11 @@ impl Asked {
         ensures { result ≡ record { box_no = at.0; place = at.1; ask = ask; answer = answer; before = counts.0; after = counts.1; planned = planned } }
     {
         let ((box_no, place), (before, after)) = (at, counts);
-        let brief = BriefAsk::of(ask);
-        let said = BriefAnswer::of(answer);
         Asked {
             box_no,
             planned,
-            ask_shape: brief.shape,
-            flag: brief.flag,
-            answer_shape: said.shape,
-            a: brief.a,
-            b: brief.b,
-            c: brief.c,
-            d: brief.d,
-            first: said.first,
+            ask,
+            answer,
             place,
             before,
             after,
@@ -94,15 +75,7 @@ impl Asked {
     pub fn ask(&self) -> Ask
         ensures { result ≡ self.now.ask }
     {
-        let brief = BriefAsk {
-            shape: self.ask_shape,
-            flag: self.flag,
-            a: self.a,
-            b: self.b,
-            c: self.c,
-            d: self.d,
-        };
-        brief.ask()
+        self.ask
     }
 
     /// The answer.
@@ -110,11 +83,7 @@ impl Asked {
         ensures answer { result ≡ self.now.answer }
         ensures counted { RefusalCounts result self.now.before self.now.after }
     {
-        let brief = BriefAnswer {
-            shape: self.answer_shape,
-            first: self.first,
-        };
-        brief.answer()
+        self.answer
     }
 
     /// The count of refusals of the box number before the ask.
@@ -149,7 +118,7 @@ impl Asked {
     pub(crate) fn by_box(&self) -> bool
         ensures { result ≡ by_box self.now }
     {
-        matches!(self.answer_shape, AnswerShape::No) && !self.planned
+        matches!(self.answer, Answer::Refused) && !self.planned
     }
 
     /// The ask with its answer.

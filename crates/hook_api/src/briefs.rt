@@ -1,7 +1,7 @@
 //! An ask and its answer in few numbers, so that many of them take little room.
 
 ghost use Rattle.std.specs.Prelude.{◌≡◌};
-ghost use Rattle.hook_api.specs.Briefs.{IsBrief, IsBriefAnswer, read_answer, read_ask, brief};
+ghost use Rattle.hook_api.specs.Briefs.{brief, read_answer, read_ask};
 
 use space_model::{Answer, Ask, Span};
 
@@ -81,8 +81,7 @@ fn brief(shape: AskShape, flag: bool, span: Span, c: u64, d: u64) -> BriefAsk
 
 /// An alloc.
 fn alloc(at: Option<u64>, pages: u64, align: u64, commit: bool) -> BriefAsk
-    ensures ask { read_ask result ≡ Ask.Alloc commit at pages align }
-    ensures brief { IsBrief result }
+    ensures { read_ask result ≡ Ask.Alloc commit at pages align }
 {
     let (shape, c) = match at {
         None => (AskShape::Anywhere, 0),
@@ -101,8 +100,7 @@ fn alloc(at: Option<u64>, pages: u64, align: u64, commit: bool) -> BriefAsk
 impl BriefAsk {
     /// An ask in few numbers.
     pub(crate) fn of(ask: Ask) -> BriefAsk
-        ensures ask { read_ask result ≡ ask }
-        ensures brief { IsBrief result }
+        ensures { read_ask result ≡ ask }
     {
         match ask {
             Ask::Alloc {
@@ -167,8 +165,7 @@ impl BriefAsk {
 impl BriefAnswer {
     /// An answer in few numbers.
     pub(crate) fn of(answer: Answer) -> BriefAnswer
-        ensures answer { read_answer result ≡ answer }
-        ensures brief { IsBriefAnswer result }
+        ensures { read_answer result ≡ answer }
     {
         let (shape, first) = match answer {
             Answer::Refused => (AnswerShape::No, 0),

@@ -3,7 +3,7 @@
 ghost use Rattle.std.specs.Prelude.{◌≡◌, ◌<◌, ◌^◌, None, is_none, true, IfSome};
 
 use crate::Asked;
-use crate::briefs::{AnswerShape, AskShape};
+use crate::briefs::{AnswerShape, AskShape, BriefAnswer, BriefAsk};
 use crate::narrow_deeds::WIDE;
 use std::marker::Model;
 
@@ -73,7 +73,9 @@ impl NarrowAsk {
     pub(crate) fn of(asked: &Asked) -> NarrowAsk
         ensures { IfSome result (λ small. small ≡ asked.now) }
     {
-        let (ranged, number) = match (asked.d, asked.first) {
+        let brief = BriefAsk::of(asked.ask);
+        let said = BriefAnswer::of(asked.answer);
+        let (ranged, number) = match (brief.d, said.first) {
             (0, first) => (true, first),
             (d, 0) => (false, d),
             _ => return mark(),
@@ -83,7 +85,7 @@ impl NarrowAsk {
             Some(1) => true,
             _ => return mark(),
         };
-        let is_called = is_small(asked.a) && is_small(asked.b) && is_small(asked.c);
+        let is_called = is_small(brief.a) && is_small(brief.b) && is_small(brief.c);
         let is_counted = asked.box_no < 256 && is_small(asked.place) && is_small(asked.before);
         if !(is_called && is_counted && is_small(number)) {
             return mark();
@@ -92,14 +94,14 @@ impl NarrowAsk {
             whole: false,
             box_no: asked.box_no as u8,
             planned: asked.planned,
-            ask_shape: asked.ask_shape,
-            flag: asked.flag,
-            answer_shape: asked.answer_shape,
+            ask_shape: brief.shape,
+            flag: brief.flag,
+            answer_shape: said.shape,
             ranged,
             rose,
-            a: asked.a as u32,
-            b: asked.b as u32,
-            c: asked.c as u32,
+            a: brief.a as u32,
+            b: brief.b as u32,
+            c: brief.c as u32,
             number: number as u32,
             place: asked.place as u32,
             before: asked.before as u32,
@@ -127,17 +129,23 @@ impl NarrowAsk {
             (number, 0)
         };
         let before = u64::from(self.before);
-        Some(Asked {
-            box_no: u32::from(self.box_no),
-            planned: self.planned,
-            ask_shape: self.ask_shape,
+        let brief = BriefAsk {
+            shape: self.ask_shape,
             flag: self.flag,
-            answer_shape: self.answer_shape,
             a: u64::from(self.a),
             b: u64::from(self.b),
             c: u64::from(self.c),
             d,
+        };
+        let said = BriefAnswer {
+            shape: self.answer_shape,
             first,
+        };
+        Some(Asked {
+            box_no: u32::from(self.box_no),
+            planned: self.planned,
+            ask: brief.ask(),
+            answer: said.answer(),
             place: u64::from(self.place),
             before,
             after: if self.rose { before + 1 } else { before },

@@ -104,7 +104,7 @@ fn asks_come_back_in_order(rt: HostRuntime) -> Result<(), Fail> {
 
 #[test]
 fn asks_take_few_bytes(rt: HostRuntime) -> Result<(), Fail> {
-    assert_eq!(rt; size_of::<Asked>(), 72);
+    assert_eq!(rt; size_of::<Asked>(), 88);
     assert_eq!(rt; size_of::<NarrowAsk>(), 32);
     assert_eq!(rt; Askeds::new(rt.alloc()).len(), 0);
     Ok(())
