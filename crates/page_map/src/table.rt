@@ -1,6 +1,6 @@
 //! A root with a place for each chunk of pages up to the highest one that was asked for, and leaves, one behind
 //! another, with a place for each page of a chunk. A place has a number, and a bit that marks the number as present.
-ghost use Rattle.std.specs.Prelude.{true, ◌≡◌, ◌+◌, ◌-◌, ◌*◌, ◌/◌, ◌%◌, ◌<◌, ◌≤◌, ℕ, false, None, ◌++◌, replicate, if◌then◌else◌, slice_index_or, vec_capacity, vec_len, EachIndex, IsOkAnd, IsSome, OnOk, OnErr, max};
+ghost use Rattle.std.specs.Prelude.{true, ◌≡◌, ◌+◌, ◌-◌, ◌*◌, ◌/◌, ◌%◌, ◌<◌, ◌≤◌, false, None, ◌++◌, replicate, if◌then◌else◌, slice_index_or, vec_capacity, vec_len, IsOkAnd, IsSome, OnOk, OnErr, max};
 ghost use Rattle.std.specs.FinMap as map;
 ghost use Rattle.std.specs.FinSet as set;
 
