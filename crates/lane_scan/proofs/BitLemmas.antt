@@ -1,13 +1,16 @@
 -- Lemmas on the bits of words.
-use Rattle.std.proofs.Common.{◌≡◌, ℕ, ◌+◌, ◌-◌, ◌*◌, ◌/◌, ◌%◌, ◌^◌, ◌<◌, ◌≤◌, inl, inr, Bool, false, cond, eqb, List, [], ◌∷◌, length, get_or, map, take, drop, refl, sym, ◌∙◌, arith, take-add, count_by, position, Some, None, Fits, w64}
+use Rattle.std.proofs.Common.{◌≡◌, ℕ, ◌+◌, ◌-◌, ◌*◌, ◌/◌, ◌%◌, ◌^◌, ◌<◌, ◌≤◌, ◌≢◌, inl, inr, Bool, true, false, cond, eqb, List, [], ◌∷◌, length, length-set, get_or, set, map, take, drop, refl, sym, ap, ◌∙◌, arith, take-add, count_by, position, Some, None, Fits, w64}
+use mathlib.Core.Logic.{dite}
+use native.Mathlib.Decide.{ℕ_discrete}
 use Rattle.std.specs.Int.{bit_at}
+use Rattle.std.specs.Prelude.{bit_and, bit_or}
 use Rattle.std.specs.Int.RustNames.{count_ones}
 use Rattle.std.specs.List.{position_or_len}
 use Rattle.std.proofs.lemmas.Grind.{get_or_head, get_or_tail}
-use Rattle.std.proofs.lemmas.List.{append-nil, length-take, length-append, get_or-append_right, get_or_append_left, map-id, drop_more}
+use Rattle.std.proofs.lemmas.List.{append-nil, length-take, length-append, get_or-append_right, get_or_append_left, get_or-set_same, get_or-set_other, ext_get_or, map-id, drop_more}
 use Rattle.std.proofs.lemmas.List.FromFn.{length-map-range_with_len, get_or-map-range_with_len}
 use Rattle.std.proofs.lemmas.List.Concat.{flat_map-append}
-use Rattle.std.proofs.lemmas.Nat.Bits.{same_from_bits_below, bit_at-lt, bit_at-zero, bit_at-trailing_zeros}
+use Rattle.std.proofs.lemmas.Nat.Bits.{same_from_bits_below, bit_at-lt, bit_at-zero, bit_at-trailing_zeros, bit_at_set_same, bit_at_set_other, bit_at_clear_same, bit_at_clear_other}
 use Rattle.std.proofs.lemmas.Simd.{mask_l-lt, bit_mask_l, ones-mask_l}
 use Rattle.std.proofs.lemmas.Bool.Decides.{nat_tests}
 use Rattle.std.proofs.lemmas.List.Sums.{sum_by-append, passes_at_first, position_or_len_is, count_by-le-length}
@@ -99,3 +102,34 @@ ones_more ws at n = (simp (take-add, flat_map-append, sum_by-append), omega (ari
 pub ones_word : (ws : List ℕ) (at : ℕ) → at < length ws → get_or ws at 0 < 2 ^ 64 → count_ones (get_or ws at 0) ≡ ones (take 1 (drop at ws))
 unfolding bits_of
 ones_word ws at lt fits = rw (drop_more ws at 0 lt, append-nil) (sym (count-word_bits (get_or ws at 0) fits))
+
+-- a bit at another place reads as before
+elsewhere : (ws : List ℕ) (i new : ℕ) → i < 64 * length ws → ((k : ℕ) → k < 64 → k ≢ i % 64 → bit_at new k ≡ bit_at (get_or ws (i / 64) 0) k)
+    → (m : ℕ) → m ≢ i → eqb (bit_at (get_or (set ws (i / 64) new) (m / 64) 0) (m % 64)) 1 ≡ eqb (bit_at (get_or ws (m / 64) 0) (m % 64)) 1
+elsewhere ws i new inside others m other = dite (ℕ_discrete (m / 64) (i / 64))
+    (λ same. let there : get_or (set ws (i / 64) new) (m / 64) 0 ≡ new = ap (λ j. get_or (set ws (i / 64) new) j 0) same ∙ get_or-set_same ws (i / 64) new 0 (omega arith) in
+    let bit = others (m % 64) (omega arith) (λ e. other (omega arith)) in
+    ap (λ x. eqb (bit_at x (m % 64)) 1) there ∙ (ap (λ x. eqb x 1) bit ∙ ap (λ j. eqb (bit_at (get_or ws j 0) (m % 64)) 1) (sym same)))
+    (λ apart. ap (λ x. eqb (bit_at x (m % 64)) 1) (get_or-set_other ws (i / 64) (m / 64) new 0 apart))
+
+-- one bit of one word is written, and each other bit stays
+pub bit_written : (ws : List ℕ) (i new : ℕ) (b : Bool) → i < 64 * length ws → eqb (bit_at new (i % 64)) 1 ≡ b
+    → ((k : ℕ) → k < 64 → k ≢ i % 64 → bit_at new k ≡ bit_at (get_or ws (i / 64) 0) k) → bits_of (set ws (i / 64) new) ≡ set (bits_of ws) i b
+bit_written ws i new b inside here others =
+    ext_get_or false (bits_of (set ws (i / 64) new)) (set (bits_of ws) i b) (omega (arith, length-bits_of (set ws (i / 64) new), length-bits_of ws, length-set ws (i / 64) new, length-set (bits_of ws) i b))
+    (λ m lt. dite (ℕ_discrete m i)
+    (λ is. get_or-bits_of (set ws (i / 64) new) m ∙ (ap (λ k. eqb (bit_at (get_or (set ws (i / 64) new) (k / 64) 0) (k % 64)) 1) is ∙ (ap (λ x. eqb (bit_at x (i % 64)) 1) (get_or-set_same ws (i / 64) new 0 (omega arith)) ∙ (here ∙ sym (ap (λ k. get_or (set (bits_of ws) i b) k false) is ∙ get_or-set_same (bits_of ws) i b false (omega (arith, length-bits_of ws)))))))
+    (λ other. get_or-bits_of (set ws (i / 64) new) m ∙ (elsewhere ws i new inside others m other ∙ sym (get_or-set_other (bits_of ws) i m b false other ∙ get_or-bits_of ws m))))
+
+-- a bit is cleared
+pub cleared : (ws : List ℕ) (i : ℕ) → i < 64 * length ws
+    → bits_of (set ws (i / 64) (bit_and (get_or ws (i / 64) 0) (18446744073709551615 - 1 * 2 ^ (i % 64) % 18446744073709551616))) ≡ set (bits_of ws) i false
+cleared ws i inside =
+    let x = get_or ws (i / 64) 0 in let low : i % 64 < 64 = omega arith in
+    bit_written ws i _ false inside (ap (λ n. eqb n 1) (bit_at_clear_same w64 x (i % 64) low)) (λ k lt other. bit_at_clear_other w64 x (i % 64) low k lt other)
+
+-- a bit is set
+pub raised : (ws : List ℕ) (i : ℕ) → i < 64 * length ws → bits_of (set ws (i / 64) (bit_or (get_or ws (i / 64) 0) (1 * 2 ^ (i % 64) % 18446744073709551616))) ≡ set (bits_of ws) i true
+raised ws i inside =
+    let x = get_or ws (i / 64) 0 in let low : i % 64 < 64 = omega arith in
+    bit_written ws i _ true inside (ap (λ n. eqb n 1) (bit_at_set_same w64 x (i % 64) low)) (λ k lt other. bit_at_set_other w64 x (i % 64) low k other)

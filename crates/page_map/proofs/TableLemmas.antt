@@ -11,6 +11,8 @@ use Rattle.std.proofs.lemmas.List.Sums.{sum_by-set, sum_by-append}
 use Rattle.std.proofs.lemmas.List.Folds.{sum_by-replicate}
 use Rattle.std.proofs.lemmas.Bool.Decides.{nat_tests}
 use Rattle.std.proofs.lemmas.List.{length-append, length-replicate, get_or_past, get_or-set_other, get_or-set_same}
+use Rattle.lane_scan.specs.Bits.{bits_of}
+use Rattle.lane_scan.proofs.BitLemmas.{length-bits_of, get_or-bits_of}
 use Rattle.page_map.specs.Pages.{Pages, put, with_leaf}
 use Rattle.page_map.specs.Table.{leaf_of, number_at, number_of, numbers_in, chunks_in, pages_in, IsTable}
 
@@ -63,17 +65,21 @@ reads_more [] (suc n) x (suc k) = reads_more [] n x k
 reads_more (x ∷ xs) n y zero = refl
 reads_more (x ∷ xs) n y (suc k) = reads_more xs n y k
 
--- a place without a mark has nothing in it
-pub unmarked : (present : List Bool) (numbers : List ℕ) (k : ℕ) → get_or present k false ≡ false → number_at present numbers k ≡ None
-unmarked present numbers k e = rw e refl
+-- no place behind the marks has anything in it
+pub behind : (words numbers : List ℕ) (k : ℕ) → 64 * length words ≤ k → number_at (bits_of words) numbers k ≡ None
+behind words numbers k ge = rw (get_or_past (bits_of words) k false (omega (arith, length-bits_of words))) refl
 
--- no place behind the others has anything in it
-pub behind : (present : List Bool) (numbers : List ℕ) (k : ℕ) → length present ≤ k → number_at present numbers k ≡ None
-behind present numbers k ge = unmarked present numbers k (get_or_past present k false ge)
+-- words that are 0 add no mark
+more_words : (words : List ℕ) (n k : ℕ) → get_or (bits_of (words ++ replicate n 0)) k false ≡ get_or (bits_of words) k false
+more_words words n k = get_or-bits_of (words ++ replicate n 0) k ∙ rw (reads_more words n 0 (k / 64)) (sym (get_or-bits_of words k))
 
 -- what stands at each place, with more places that have no mark
-pub marks_more : (present : List Bool) (numbers : List ℕ) (n m k : ℕ) → number_at (present ++ replicate n false) (numbers ++ replicate m 0) k ≡ number_at present numbers k
-marks_more present numbers n m k = rw (reads_more present n false k, reads_more numbers m 0 k) refl
+pub marks_more : (words numbers : List ℕ) (n m k : ℕ) → number_at (bits_of (words ++ replicate n 0)) (numbers ++ replicate m 0) k ≡ number_at (bits_of words) numbers k
+marks_more words numbers n m k = rw (more_words words n k, reads_more numbers m 0 k) refl
+
+-- no place has anything in it where each word is 0
+pub unmarked : (numbers : List ℕ) (n k : ℕ) → number_at (bits_of (replicate n 0)) numbers k ≡ None
+unmarked numbers n k = rw (more_words [] n k) (behind [] numbers k (omega arith))
 
 -- as many have a value in a list with more places that have nothing in them
 count_more : (xs : Places) (n : ℕ) → count_by is_some (xs ++ replicate n None) ≡ count_by is_some xs

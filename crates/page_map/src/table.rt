@@ -1,9 +1,10 @@
 //! A root with a place for each chunk of pages up to the highest one that was asked for, and leaves, one behind
-//! another, with a place for each page of a chunk. A place has a number, and a mark whether the number is present.
-ghost use Rattle.std.specs.Prelude.{true, ◌≡◌, ◌+◌, ◌-◌, ◌*◌, ◌/◌, ◌%◌, ◌<◌, ◌≤◌, ℕ, false, None, ◌++◌, replicate, if◌then◌else◌, slice_index_or, vec_capacity, vec_len, EachIndex, IsOkAnd, IsSome, OnOk, OnErr, max};
+//! another, with a place for each page of a chunk. A place has a number, and a bit that marks the number as present.
+ghost use Rattle.std.specs.Prelude.{true, ◌≡◌, ◌+◌, ◌-◌, ◌*◌, ◌/◌, ◌%◌, ◌<◌, ◌≤◌, false, None, ◌++◌, replicate, if◌then◌else◌, slice_index_or, vec_capacity, vec_len, IsOkAnd, IsSome, OnOk, OnErr, max};
 ghost use Rattle.std.specs.FinMap as map;
 ghost use Rattle.std.specs.FinSet as set;
 
+use lane_scan::{clear_bit, has_bit, set_bit};
 use std::alloc::{AllocError as NoMemory, Global};
 use std::marker::Model;
 
@@ -20,13 +21,16 @@ const ROOT: usize = CHUNKS as usize;
 
 const LEAF: usize = CHUNK_PAGES as usize;
 
+// How many marks a word has.
+const WORD: usize = 64;
+
 /// A finite map from pages to numbers. A chunk that had a number once keeps its leaf, and a leaf has room for the
 /// numbers of all pages of its chunk. Only [`PageMap::reserve`] takes memory.
 #[derive(Drop)]
 pub struct PageMap {
     root: Vec<Option<u32>>,
     numbers: Vec<u32>,
-    present: Vec<bool>,
+    present: Vec<u64>,
     spare: u64,
 }
 
@@ -71,7 +75,7 @@ impl PageMap {
         self.root
             .reserve_exact(ROOT.saturating_sub(self.root.len()))?;
         self.numbers.reserve(places)?;
-        self.present.reserve(places)?;
+        self.present.reserve(places / WORD)?;
         self.spare = leaves;
         Ok(())
     }
@@ -115,7 +119,7 @@ impl PageMap {
     pub fn clear_all(&mut self)
         ensures { self.new ≡ record self.old { numbers = map.empty } }
     {
-        blank(&mut self.present);
+        self.present.fill(0);
     }
 
     /// The number of a page. The chunk of a page that has one has a leaf.
@@ -125,7 +129,7 @@ impl PageMap {
             → set.contains self.now.chunks (page / CHUNK_PAGES) ≡ true }
     {
         let place = leaf_at(&self.root, page)? * LEAF + place_at(page);
-        if self.present[place] {
+        if has_bit(&self.present, place) {
             Some(self.numbers[place])
         } else {
             None
@@ -140,10 +144,10 @@ impl PageMap {
         ensures { self.new ≡ with_leaf self.old chunk }
     {
         lengthen(&mut self.root, chunk + 1, None);
-        let filled = self.present.len();
+        let filled = self.numbers.len();
         self.root[chunk] = Some((filled / LEAF) as u32);
         lengthen(&mut self.numbers, filled + LEAF, 0);
-        lengthen(&mut self.present, filled + LEAF, false);
+        lengthen(&mut self.present, (filled + LEAF) / WORD, 0);
         self.spare -= 1;
     }
 
@@ -155,8 +159,13 @@ impl PageMap {
         match leaf_at(&self.root, page) {
             Some(leaf) => {
                 let place = leaf * LEAF + place_at(page);
-                self.present[place] = number.is_some();
-                self.numbers[place] = number.unwrap_or(0);
+                match number {
+                    Some(number) => {
+                        self.numbers[place] = number;
+                        set_bit(&mut self.present, place);
+                    }
+                    None => clear_bit(&mut self.present, place),
+                }
             }
             None => unreachable!(),
         }
@@ -180,15 +189,6 @@ fn place_at(page: u64) -> usize
     ensures { result ≡ page % CHUNK_PAGES }
 {
     (page % CHUNK_PAGES) as usize
-}
-
-// Takes all marks away.
-fn blank(present: &mut [bool])
-    ensures { EachIndex present.new (λ k. slice_index_or present.new k false ≡ false) }
-{
-    for mark in present.iter_mut() {
-        *mark = false;
-    }
 }
 
 // Makes a list at least so long, by filling it up.

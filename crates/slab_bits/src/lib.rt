@@ -5,6 +5,7 @@ ghost use Rattle.std.specs.Prelude.{◌≡◌, ◌<◌, ◌≤◌, false, true, 
 ghost use Rattle.size_classes.specs.Classes.{IsSmall, regions_at};
 ghost use Rattle.slab_bits.specs.Slabs.{AreFreeFrom};
 
+use lane_scan::{clear_bit, has_bit, set_bit};
 use size_classes::slab_regions;
 use std::marker::Model;
 
@@ -12,7 +13,7 @@ use std::marker::Model;
 mod tests;
 mod words;
 
-use words::{WORDS, clear_bit, fill_between, has_bit, lowest_bit, set_bit};
+use words::{WORDS, fill_between, lowest_bit};
 
 /// The free regions of a slab, by their places in it, counted from 0.
 ///
@@ -74,7 +75,7 @@ impl SlabBits {
         requires inside { i < regions_at self.now.class }
         ensures { result ≡ slice_index_or self.now.free i false }
     {
-        has_bit(&self.free, i)
+        has_bit(&self.free, i as usize)
     }
 
     /// Takes the lowest free region out. `None` exactly where all are out.
@@ -85,7 +86,7 @@ impl SlabBits {
         ensures full { IfNone result (self.new ≡ self.old) }
     {
         let i = lowest_bit(&self.free)?;
-        clear_bit(&mut self.free, i);
+        clear_bit(&mut self.free, i as usize);
         self.left -= 1;
         Some(i)
     }
@@ -96,7 +97,7 @@ impl SlabBits {
         requires out { slice_index_or self.old.free i false ≡ false }
         ensures { self.new ≡ record self.old { free = slice_set self.old.free i true } }
     {
-        set_bit(&mut self.free, i);
+        set_bit(&mut self.free, i as usize);
         self.left += 1;
     }
 

@@ -1,5 +1,5 @@
-//! Single bits of eight words.
-ghost use Rattle.std.specs.Prelude.{◌≡◌, ◌&&◌, ℕ, ◌<◌, ◌≤◌, false, true, length, nat_le, nat_lt, position, slice_index_or, slice_set};
+//! The words of a slab, and their lowest bit.
+ghost use Rattle.std.specs.Prelude.{◌≡◌, ◌&&◌, ℕ, ◌≤◌, false, length, nat_le, nat_lt, position, slice_index_or};
 ghost use Rattle.lane_scan.specs.Bits.{bits_of};
 ghost use Rattle.slab_bits.specs.Words.{OnesBelow};
 
@@ -31,14 +31,6 @@ pub fn fill_between(from: u32, to: u32) -> [u64; WORDS]
     words
 }
 
-/// Whether a bit is 1.
-pub fn has_bit(words: &[u64; WORDS], i: u32) -> bool
-    requires { i < 512 }
-    ensures { result ≡ slice_index_or (bits_of words.now) i false }
-{
-    words[i as usize / 64] >> (i % 64) & 1 == 1
-}
-
 /// The lowest bit that is 1. `None` where none is.
 pub fn lowest_bit(words: &[u64; WORDS]) -> Option<u32>
     ensures { result ≡ position (λ bit. bit) (bits_of words.now) }
@@ -49,20 +41,4 @@ pub fn lowest_bit(words: &[u64; WORDS]) -> Option<u32>
         }
     }
     None
-}
-
-/// Makes a bit 0.
-pub fn clear_bit(words: &mut [u64; WORDS], i: u32)
-    requires { i < 512 }
-    ensures { bits_of words.new ≡ slice_set (bits_of words.old) i false }
-{
-    words[i as usize / 64] &= !(1 << (i % 64));
-}
-
-/// Makes a bit 1.
-pub fn set_bit(words: &mut [u64; WORDS], i: u32)
-    requires { i < 512 }
-    ensures { bits_of words.new ≡ slice_set (bits_of words.old) i true }
-{
-    words[i as usize / 64] |= 1 << (i % 64);
 }

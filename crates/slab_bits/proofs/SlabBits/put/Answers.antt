@@ -20,4 +20,4 @@ pub invariant_of-self : goal.invariant_of-self
 invariant_of-self c =
     let low = subst (λ v. c.args.i < regions_at v.class) (sym c.self.view_is) c.requires.inside in let out = subst (λ v. get_or v.free c.args.i false ≡ false) (sym c.self.view_is) c.requires.out in
     let most = (slab_filled c.self.inside.class c.self.invariant.small).2 in let long = c.self.invariant.long in let bits = length-bits_of c.self.inside.free in
-    put _ _ _ _ _ c.self.invariant (omega arith) low out c.set_bit.array_long c.set_bit.ensures
+    put _ _ _ _ _ c.self.invariant (omega arith) low out (omega arith) c.set_bit.ensures

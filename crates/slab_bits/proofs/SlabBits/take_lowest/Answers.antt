@@ -15,12 +15,12 @@ clear_bit-requires c =
 pub overflow_sub-self : goal.overflow_sub-self
 overflow_sub-self c =
     let found = position-Some (λ free. free) (bits_of c.self.inside.free) c.in_ok-i.i false (sym c.lowest_bit.ensures ∙ c.in_ok-i.was) in
-    (taken _ _ _ _ _ c.self.invariant found.0 found.1 c.clear_bit.array_long c.clear_bit.ensures).0
+    (taken _ _ _ _ _ c.self.invariant found.0 found.1 (c.clear_bit.auto.words ∙ c.self.invariant.long) c.clear_bit.ensures).0
 
 pub invariant_of-self : goal.invariant_of-self
 invariant_of-self c =
     let found = position-Some (λ free. free) (bits_of c.self.inside.free) c.in_ok-i.i false (sym c.lowest_bit.ensures ∙ c.in_ok-i.was) in
-    (taken _ _ _ _ _ c.self.invariant found.0 found.1 c.clear_bit.array_long c.clear_bit.ensures).1
+    (taken _ _ _ _ _ c.self.invariant found.0 found.1 (c.clear_bit.auto.words ∙ c.self.invariant.long) c.clear_bit.ensures).1
 
 pub returns-clause-inside : goal.returns-clause-inside
 returns-clause-inside c =

@@ -1,4 +1,5 @@
-use Rattle.std.proofs.Common.{◌≡◌, ◌-◌, ◌+◌, arith}
+use Rattle.std.proofs.Common.{◌/◌, ◌≡◌, ◌-◌, ◌+◌, arith}
+use Rattle.lane_scan.specs.Bits.{bits_of}
 use Rattle.page_map.specs.Table.{number_at}
 use Rattle.page_map.proofs.TableLemmas.{behind, given, marks_more, of_view, view_of}
 use Rattle.page_map.proofs.table.PageMap.give_leaf.Goals as goal
@@ -18,16 +19,17 @@ overflow_sub-self c = let of = of_view _ c.self.invariant.table c.self.view_is i
 pub invariant_of-self : goal.invariant_of-self
 invariant_of-self c =
     let of = of_view _ c.self.invariant.table c.self.view_is in
-    let present = c.self.inside.present in
-    let numbers = c.self.inside.numbers.items in
+    let words = c.self.inside.present in
+    let numbers = c.self.inside.numbers in
     let root = c.self.inside.root in
-    let filled : c.len-filled.result + 512 ≡ c.lengthen-3.new.list.len = omega (arith, c.lengthen-3.ensures.len) in
-    let now = given of (c.args.chunk + 1 - root.len) c.args.chunk (number_at present.items numbers) c.requires.bare (omega (arith, root.ok.0)) (λ k i. number_at present.items numbers k) (λ k ge. behind present.items numbers k (omega (arith, present.ok.0))) in
+    let filled : c.len-filled.result + 512 ≡ c.lengthen-2.new.list.len = omega (arith, c.lengthen-2.ensures.len) in
+    let marked = c.self.invariant.marked in
+    let now = given of (c.args.chunk + 1 - root.len) c.args.chunk (number_at (bits_of words.items) numbers.items) c.requires.bare (omega (arith, root.ok.0)) (λ k i. number_at (bits_of words.items) numbers.items k) (λ k ge. behind words.items numbers.items k (omega (arith, words.ok.0))) in
     record {
       table = rw (c.lengthen.ensures.items, ← filled, c.len-filled.ensures) now.table;
       marked = omega (arith, c.lengthen-2.ensures.len, c.lengthen-3.ensures.len);
-      room = omega (arith, c.lengthen-2.ensures.len, c.lengthen-3.ensures.len, of.left);
-      wide = omega (arith, c.lengthen-2.ensures.len, c.lengthen-3.ensures.len, of.left);
+      room = omega (arith, c.lengthen-2.ensures.len, c.lengthen-3.ensures.capacity, of.left);
+      wide = omega (arith, c.lengthen-2.ensures.len, c.lengthen-2.ensures.capacity, of.left);
       root = λ more. let has = c.self.invariant.root (omega (arith, of.left)) in omega (arith, c.lengthen.ensures.capacity);
       short = omega (arith, c.lengthen.ensures.len);
     }
@@ -35,8 +37,9 @@ invariant_of-self c =
 pub returns : goal.returns
 returns c =
     let of = of_view _ c.self.invariant.table c.self.view_is in
-    let present = c.self.inside.present in
-    let numbers = c.self.inside.numbers.items in
+    let words = c.self.inside.present in
+    let numbers = c.self.inside.numbers in
     let root = c.self.inside.root in
-    let now = given of (c.args.chunk + 1 - root.len) c.args.chunk _ c.requires.bare (omega (arith, root.ok.0)) (marks_more present.items numbers (present.len + 512 - present.len) (present.len + 512 - c.self.inside.numbers.len)) (λ k ge. behind present.items numbers k (omega (arith, present.ok.0))) in
+    let marked = c.self.invariant.marked in
+    let now = given of (c.args.chunk + 1 - root.len) c.args.chunk _ c.requires.bare (omega (arith, root.ok.0)) (marks_more words.items numbers.items ((numbers.len + 512) / 64 - words.len) (numbers.len + 512 - numbers.len)) (λ k ge. behind words.items numbers.items k (omega (arith, words.ok.0))) in
     rw (c.lengthen.ensures.items, c.lengthen-2.ensures.items, c.lengthen-3.ensures.items, c.len-filled.ensures) (view_of now)
