@@ -1,6 +1,5 @@
 -- What searches find among extents that are apart.
-use Rattle.arena_core.proofs.Words.{◌≡◌, ℕ, ◌-◌, ◌≤◌, Bool, true, false, cond, List, [], ◌∷◌, get_or, find, filter, slice_get, Option, None, Some, IfSome, refl, sym, ◌∙◌, ap, subst, arith, All, ◌&&◌, eqb, nat_le, count_by, nat_tests, sum_by-cons, All-head, All-tail, Part, Span, IsPlaced, end_of, has_page, begins_at, is_flight, is_flight_at, fit, is_spare, is_left_of, is_like, is_right_of, filter-begins_at, some_pages, fit-listed, Book, IsFirstFrom, ends_at, is_beside, find_is, IsApart, IsThere, found_if}
-use Rattle.space_model.specs.Part.{is_unused}
+use Rattle.arena_core.proofs.Words.{◌≡◌, ℕ, ◌-◌, ◌≤◌, Bool, true, false, cond, List, [], ◌∷◌, get_or, find, filter, slice_get, Option, None, Some, IfSome, refl, sym, ◌∙◌, ap, subst, arith, All, ◌&&◌, eqb, nat_le, count_by, nat_tests, sum_by-cons, All-head, All-tail, Part, Span, IsPlaced, end_of, has_page, begins_at, is_flight, is_flight_at, fit, is_spare, is_left_of, is_like, is_right_of, filter-begins_at, some_pages, fit-listed, Book, IsFirstFrom, ends_at, is_beside, find_is, IsApart, IsThere, found_if, is_unused}
 use Rattle.list_facts.proofs.Members.{only_one}
 
 -- ---- what is found is there

@@ -1,7 +1,5 @@
 -- A large region that takes another class: its extent is the one that begins at its address, and the slabs stay.
-use Rattle.arena_core.proofs.Words.{◌≡◌, ℕ, ◌*◌, ◌/◌, ◌<◌, ◌≤◌, ◌==◌, Bool, true, false, not, cond, IsTrue, List, [], ◌∷◌, get_or, find, filter, Option, None, Some, refl, sym, ◌∙◌, ap, subst, arith, ◌&&◌, ◌||◌, nat_le, ◌+◌, All, Contains, take, drop, eqb, nat_lt, count_by, list_any, position_or_len, sum_by, IsSome, option_map, eqb-true, leb-true, ltb-true, nat_tests, sum_by-filter_both, sum_by-cons, sum_by-insert, pages_at, size_at, large_size, size_bounds, Ask, Split, Merge, Answer, Done, Refuses, Refused, Span, Part, Region, Space, IsPlaced, same_span, end_of, begins_at, is_active, exchanged, is_flight_at, taken_out, houses, inserted, is_held_by, starts_at, address_of, is_slab, lies_in, region_bytes, has_large, is_large_at, large_home, reclassed, trim_answered, trim_done_stands, trimmed_at, after_join, after_trim_done, is_large_class, join_stands, widened_at, holds_at, is_given_back, staying, found_passes, Sound, nothing_sum, only_one, both_true, two_left, home_found, housed, All-cons, All-contains_itself, All-nil, Contains-append_right, is_in, without_client, one_left, filter_nothing, find_has, find_passes, eqb_itself, lies_between, BinSlab, filter_same, head, booked_slab, IsBooked, places}
-use Rattle.space_model.specs.Stepped.{begins_either, high_piece, is_yes_or_no, joined, low_piece}
-use Rattle.space_model.proofs.Lists.{find_passes}
+use Rattle.arena_core.proofs.Words.{◌≡◌, ℕ, ◌*◌, ◌/◌, ◌<◌, ◌≤◌, ◌==◌, Bool, true, false, not, cond, IsTrue, List, [], ◌∷◌, get_or, find, filter, Option, None, Some, refl, sym, ◌∙◌, ap, subst, arith, ◌&&◌, ◌||◌, nat_le, ◌+◌, All, Contains, take, drop, eqb, nat_lt, count_by, list_any, position_or_len, sum_by, IsSome, option_map, eqb-true, leb-true, ltb-true, nat_tests, sum_by-filter_both, sum_by-cons, sum_by-insert, pages_at, size_at, large_size, size_bounds, Ask, Split, Merge, Answer, Done, Refuses, Span, Part, Region, Space, IsPlaced, same_span, end_of, begins_at, is_active, exchanged, is_flight_at, taken_out, houses, inserted, is_held_by, starts_at, address_of, is_slab, lies_in, region_bytes, has_large, is_large_at, large_home, reclassed, trim_answered, trim_done_stands, trimmed_at, after_join, after_trim_done, is_large_class, join_stands, widened_at, holds_at, is_given_back, staying, found_passes, Sound, nothing_sum, only_one, both_true, two_left, home_found, housed, All-cons, All-contains_itself, All-nil, Contains-append_right, is_in, without_client, one_left, filter_nothing, find_has, find_passes, eqb_itself, lies_between, BinSlab, filter_same, head, booked_slab, IsBooked, places, begins_either, high_piece, is_yes_or_no, joined, low_piece}
 use Rattle.arena_core.proofs.Emptying.{any_counts, begins_alone, ones}
 use Rattle.arena_core.proofs.Finds.{fewer_pass, found_there}
 use Rattle.arena_core.proofs.Booked.{idle_no_slab, no_slab}
@@ -274,7 +272,7 @@ pub join_step : (c : ℕ) (s : Space) (class : ℕ) (ask : Ask) (answer : Answer
     IsBooked s slabs → IsBooked (after_join s c class ask answer).after slabs
 join_step c s class (Merge low high) Done slabs sound also stands are =
     join_by c s class low high (large_home s c (address_of low.first)) (find (is_flight_at c high) s.parts) slabs refl refl sound also stands are
-join_step c s class (Merge low high) Refused slabs sound also stands are = still_booked s _ slabs are (whole_still s c high (find (is_flight_at c high) s.parts) refl sound)
+join_step c s class (Merge low high) Refuses slabs sound also stands are = still_booked s _ slabs are (whole_still s c high (find (is_flight_at c high) s.parts) refl sound)
 join_step c s class ask answer slabs sound also stands are = are
 
 trim_by : (c : ℕ) (s : Space) (class : ℕ) (span : Span) (left : ℕ) (o : Option (Region × Part)) (slabs : List BinSlab) → large_home s c (address_of span.first) ≡ o → Sound s →
@@ -313,5 +311,5 @@ pub trim_step : (c : ℕ) (s : Space) (class : ℕ) (ask : Ask) (answer : Answer
     IsBooked s slabs → IsBooked (after_trim_done s c class ask answer).after slabs
 trim_step c s class (Split span left) Done slabs sound also stands are =
     trim_by c s class span left (large_home s c (address_of span.first)) slabs refl sound also stands are
-trim_step c s class (Split span left) Refused slabs sound also stands are = still_booked s _ slabs are (still s _ refl refl)
+trim_step c s class (Split span left) Refuses slabs sound also stands are = still_booked s _ slabs are (still s _ refl refl)
 trim_step c s class ask answer slabs sound also stands are = still_booked s _ slabs are (still s _ refl refl)

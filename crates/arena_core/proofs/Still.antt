@@ -1,8 +1,5 @@
 -- What leaves the extents that serve regions, and the regions, as they were.
-use Rattle.arena_core.proofs.Words.{◌≡◌, ℕ, ◌-◌, ◌<◌, Bool, true, false, not, cond, IsTrue, List, [], ◌∷◌, ◌++◌, append-nil, filter, find, Option, None, Some, refl, sym, ◌∙◌, ap, All, ◌||◌, ◌&&◌, arith, eqb, nat_lt, option_or, All-cons, All-nil, filter-append, Answer, Done, Refused, Placed, Ask, Alloc, Commit, Dalloc, Decommit, Merge, PurgeLazy, Split, Abandoned, Kept, NoArena, Noted, Nothing, Purge, Setting, DirtyMs, MuzzyMs, HookBox, Bind, Unbind, GrowLimit, MakeLive, Why, Part, Region, Rest, Span, ToMuzzy, ToRetained, Active, Dirty, Flight, Muzzy, State, Space, begins_at, exchanged, is_active, is_flight_at, is_listed, next_flight, pages_listed, put_down, rest_of, taken_out, end_of, Stepped, if_live, is_lazy, stays, whole_at, fit, after_commit, after_cut, after_grow, after_look, after_merge, apart_at, begins_either, commit_at, cut_at, grow_unless, high_piece, is_left_of, is_like, is_purged, is_right_of, join_at, joined, look_at, low_piece, neighbour, put_at, put_at_rest, put_beside, why_not, after_decommit, after_lazy, after_offer, after_purge_take, decommit_at, is_regranted, lazy_at, offer_at, purge_at, without_offer, is_spare, widen_at, widen_by, after_set, is_absent, made_live, doom_at, is_dying, residents, IsQuiet, Sound, Life, Absent, Dying, Live, filter-begins_at, filter-without, find_has, find_passes, Listed, both_true, fit-listed, listed-idle, put_down-idle, some_pages}
-use Rattle.space_model.specs.declared.parts.State.TheVariants.{Retained}
-use Rattle.space_model.specs.Part.{is_unused}
-use Rattle.space_model.specs.Stepped.{is_live}
+use Rattle.arena_core.proofs.Words.{◌≡◌, ℕ, ◌-◌, ◌<◌, Bool, true, false, not, cond, IsTrue, List, [], ◌∷◌, ◌++◌, append-nil, filter, find, Option, None, Some, refl, sym, ◌∙◌, ap, All, ◌||◌, ◌&&◌, arith, eqb, nat_lt, option_or, All-cons, All-nil, filter-append, Answer, Done, Refuses, Placed, Ask, Alloc, Commit, Dalloc, Decommit, Merge, PurgeLazy, Split, Abandoned, Kept, NoArena, Noted, Nothing, Purge, Setting, DirtyMs, MuzzyMs, HookBox, Bind, Unbind, GrowLimit, MakeLive, Why, Part, Region, Rest, Span, ToMuzzy, ToRetained, Active, Dirty, Flight, Muzzy, State, Space, begins_at, exchanged, is_active, is_flight_at, is_listed, next_flight, pages_listed, put_down, rest_of, taken_out, end_of, Stepped, if_live, is_lazy, stays, whole_at, fit, after_commit, after_cut, after_grow, after_look, after_merge, apart_at, begins_either, commit_at, cut_at, grow_unless, high_piece, is_left_of, is_like, is_purged, is_right_of, join_at, joined, look_at, low_piece, neighbour, put_at, put_at_rest, put_beside, why_not, after_decommit, after_lazy, after_offer, after_purge_take, decommit_at, is_regranted, lazy_at, offer_at, purge_at, without_offer, is_spare, widen_at, widen_by, after_set, is_absent, made_live, doom_at, is_dying, residents, IsQuiet, Sound, Life, Absent, Dying, Live, filter-begins_at, filter-without, find_has, find_passes, Listed, both_true, fit-listed, listed-idle, put_down-idle, some_pages, Retained, is_unused, is_live}
 use Rattle.arena_core.proofs.Emptying.{none_kept}
 use Rattle.arena_core.proofs.Homes.{in_flight}
 
@@ -97,7 +94,7 @@ cut_at_still s c span false left (Some p) e sound =
 
 pub cut_still : (s : Space) (c : ℕ) (keep_low : Bool) (ask : Ask) (answer : Answer) → Sound s → Still s (after_cut s c keep_low ask answer).after
 cut_still s c keep_low (Split span left) Done sound = cut_at_still s c span keep_low left (find (is_flight_at c span) s.parts) refl sound
-cut_still s c keep_low (Split span left) Refused sound = whole_still s c span (find (is_flight_at c span) s.parts) refl sound
+cut_still s c keep_low (Split span left) Refuses sound = whole_still s c span (find (is_flight_at c span) s.parts) refl sound
 cut_still s c keep_low ask answer sound = same s
 
 grow_by_still : (s : Space) (c : ℕ) (span : Span) (committed : Bool) (o : Option Why) → Still s (grow_unless s c span committed o).after
@@ -116,7 +113,7 @@ commit_at_still s c span (Some p) e sound =
 
 pub commit_still : (s : Space) (c : ℕ) (ask : Ask) (answer : Answer) → Sound s → Still s (after_commit s c ask answer).after
 commit_still s c (Commit span) Done sound = commit_at_still s c span (find (is_flight_at c span) s.parts) refl sound
-commit_still s c (Commit span) Refused sound = whole_still s c span (find (is_flight_at c span) s.parts) refl sound
+commit_still s c (Commit span) Refuses sound = whole_still s c span (find (is_flight_at c span) s.parts) refl sound
 commit_still s c ask answer sound = same s
 
 -- ---- the steps of a free
@@ -176,7 +173,7 @@ apart_at_still s c false low high (Some p) None e f sound = same s
 
 pub merge_still : (s : Space) (c : ℕ) (own_low : Bool) (ask : Ask) (answer : Answer) → Sound s → Still s (after_merge s c own_low ask answer).after
 merge_still s c own_low (Merge low high) Done sound = join_at_still s c low high (find (is_flight_at c low) s.parts) (find (is_flight_at c high) s.parts) refl refl sound
-merge_still s c own_low (Merge low high) Refused sound = apart_at_still s c own_low low high (find (is_flight_at c low) s.parts) (find (is_flight_at c high) s.parts) refl refl sound
+merge_still s c own_low (Merge low high) Refuses sound = apart_at_still s c own_low low high (find (is_flight_at c low) s.parts) (find (is_flight_at c high) s.parts) refl refl sound
 merge_still s c own_low ask answer sound = same s
 
 -- ---- the steps of a purge
@@ -199,7 +196,7 @@ lazy_at_still s c span (Some p) e sound =
 
 pub lazy_still : (s : Space) (c : ℕ) (ask : Ask) (answer : Answer) → Sound s → Still s (after_lazy s c ask answer).after
 lazy_still s c (PurgeLazy span) Done sound = lazy_at_still s c span (find (is_flight_at c span) s.parts) refl sound
-lazy_still s c (PurgeLazy span) Refused sound = same s
+lazy_still s c (PurgeLazy span) Refuses sound = same s
 lazy_still s c ask answer sound = same s
 
 decommit_at_still : (s : Space) (c : ℕ) (span : Span) (o : Option Part) → find (is_flight_at c span) s.parts ≡ o → Sound s → Still s (decommit_at s o).after
@@ -209,7 +206,7 @@ decommit_at_still s c span (Some p) e sound =
 
 pub decommit_still : (s : Space) (c : ℕ) (ask : Ask) (answer : Answer) → Sound s → Still s (after_decommit s c ask answer).after
 decommit_still s c (Decommit span) Done sound = decommit_at_still s c span (find (is_flight_at c span) s.parts) refl sound
-decommit_still s c (Decommit span) Refused sound = same s
+decommit_still s c (Decommit span) Refuses sound = same s
 decommit_still s c ask answer sound = same s
 
 pub offer_still : (s : Space) (c : ℕ) (span : Span) (o : Option Part) → find (is_flight_at c span) s.parts ≡ o → Sound s → Still s (offer_at s c o).after
@@ -221,7 +218,7 @@ offer_still s c span (Some p) e sound = record {
 
 pub offer_done_still : (s : Space) (c : ℕ) (found : Option ℕ) (ask : Ask) (answer : Answer) → Still s (after_offer s c found ask answer).after
 offer_done_still s c found (Dalloc span committed) Done = still s _ refl refl
-offer_done_still s c found (Dalloc span committed) Refused =
+offer_done_still s c found (Dalloc span committed) Refuses =
     let t : Space = record s { offers = without_offer c span committed s.offers } in
     let kept : Part = record { span = span; state = Flight c ToRetained; committed = committed } in
     elim (is_regranted found span s.parts) as (λ b. Still s (cond b (stays t (Abandoned (next_flight c s.parts))) (record { after = record t { parts = s.parts ++ kept ∷ [] }; reply = Kept })).after)

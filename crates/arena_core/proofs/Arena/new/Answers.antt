@@ -1,5 +1,4 @@
-use Rattle.arena_core.proofs.Words.{◌≡◌, ◌∙◌, arith, rules, refl, sym, ap, subst, length, Space, new_pace, Sound, all_rooms}
-use Rattle.std.specs.Prelude.{replicate}
+use Rattle.arena_core.proofs.Words.{◌≡◌, ◌∙◌, arith, rules, refl, sym, ap, subst, length, Space, new_pace, Sound, all_rooms, replicate}
 use Rattle.arena_core.proofs.Books.{booked_as, nothing_booked}
 use Rattle.arena_core.proofs.Outcomes.{opening_is, opening_sound}
 use Rattle.arena_core.proofs.Arena.new.Goals as goal

@@ -1,14 +1,11 @@
-use Rattle.arena_core.proofs.Words.{◌≡◌, false, refl, ◌∙◌, arith, Part, Rest, Retained, listed, moved_to, goes_to}
-use Rattle.space_model.specs.declared.parts.Rest.TheVariants.{Dirty, Muzzy}
+use Rattle.arena_core.proofs.Words.{◌≡◌, false, refl, ◌∙◌, arith, Part, Rest, listed, moved_to, goes_to}
 use Rattle.arena_core.proofs.Swaps.{there_placed}
 use Rattle.arena_core.proofs.Rounds.{none_ahead, walk_begins, walk_ends, walk_goes}
 use Rattle.arena_core.proofs.ends.move_all.Goals as goal
 
 -- what is listed somewhere doesn't go there
 stays : (rest : Rest) → goes_to rest (listed rest) ≡ false
-stays Dirty = refl
-stays Muzzy = refl
-stays Retained = refl
+stays rest = grind arith
 
 pub loop-part-init : goal.loop-part-init
 loop-part-init c = record { walk = walk_begins (λ p. goes_to c.args.rest p.state) (moved_to c.args.rest) c.args.extents.now.parts c.requires; spare = refl }

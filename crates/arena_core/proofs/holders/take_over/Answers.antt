@@ -1,5 +1,4 @@
-use Rattle.arena_core.proofs.Words.{◌≡◌, ◌∙◌, Some, true, ap, cond, find, sym, NoArena, Owned, is_published_at, take_over_at, stays, space_of}
-use Rattle.space_model.specs.Stepped.{is_live}
+use Rattle.arena_core.proofs.Words.{◌≡◌, ◌∙◌, Some, true, ap, cond, find, sym, NoArena, Owned, is_published_at, take_over_at, stays, space_of, is_live}
 use Rattle.arena_core.proofs.Emptying.{begins_alone}
 use Rattle.arena_core.proofs.Handing.{anew_alone, published_at, published_there}
 use Rattle.arena_core.proofs.holders.take_over.Goals as goal

@@ -1,6 +1,4 @@
-use Rattle.arena_core.proofs.Words.{◌≡◌, [], ◌∷◌, ◌||◌, arith, ap, subst, sym, find, sum_by-cons, begins_at, exchanged, IsApart, active_pages, all_pages}
-use Rattle.std.specs.Option.{IfSome}
-use Rattle.space_model.specs.Stepped.{joined}
+use Rattle.arena_core.proofs.Words.{◌≡◌, [], ◌∷◌, ◌||◌, arith, ap, subst, sym, find, sum_by-cons, begins_at, exchanged, IsApart, active_pages, all_pages, IfSome, joined}
 use Rattle.arena_core.proofs.Swaps.{at_some, joined_active, joined_swaps, serving, there_inside, there_within}
 use Rattle.arena_core.proofs.extents.Extents.join.Goals as goal
 
