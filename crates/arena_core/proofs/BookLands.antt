@@ -1,7 +1,7 @@
 -- A book of slabs beside a space, as regions land in an extent in flight, at the lowest places of a new slab.
 use Rattle.arena_core.proofs.Words.{◌≡◌, ℕ, ◌+◌, ◌-◌, ◌*◌, ◌<◌, ◌≤◌, zero, suc, Bool, true, false, not, ◌||◌, leb, ◌∷◌, Contains, filter, map, inl, inr, refl, sym, ap, ◌∙◌, arith, ◌≢◌, ◌/◌, cond, List, [], ◌++◌, append-nil, get_or, All, max, subst, ◌&&◌, eqb, ltb, lt-ltb, find, Some, dite, ℕ_discrete, list_any, range_with_len, sum_by, cases_lt, eq-eqb, eqb-true, false_from_ne_true, cases_Bool, le-ltb, leb-true, nat_tests, All-contains, All-append, All-cons, All-contains_itself, All-filter, filter-append, regions_at, size_at, pages_at, address_of, landing, region_of, regions_from, starts_at, houses, is_slab, lies_in, places, land_at, slabs_of, place, BinSlab, meets_slab, of_class, slab_with_out, with_slab, any_has, any_map, any_none, filter_map_is, filter_same, map_has, range_from, range_has, any_from, count_some, filter_swap, map_from, map_same, same_place, LandsTakeTheFirst, booked_slab, map-append, sum_by-filter_both, sum_by-cons, row_fits, pages_bounds, size_bounds, filter_from, filter_has, Part, Region, Span, Active, Space, end_of, has_page, pages_end, begins_at, is_active, turned_in_order, Sound, filter-begins_at, filter-without, share, eqb_itself, lies_between, both_true, some_pages, IsBooked, CanBeSlab, slabs_landed}
-use Rattle.arena_core.proofs.Booked.{any_landing, idle_no_slab, serves_none, place_page, served_page, slab_at}
-use Rattle.arena_core.proofs.Books.{class_stays, from_slabs, only, stands_at}
+use Rattle.arena_core.proofs.Booked.{class_stays, from_slabs, same_slab, any_landing, idle_no_slab, serves_none, place_page, served_page, slab_at}
+use Rattle.arena_core.proofs.Books.{only, stands_at}
 use Rattle.arena_core.proofs.Emptying.{ones}
 use Rattle.arena_core.proofs.Homes.{none_begins}
 use Rattle.arena_core.proofs.InOrder.{order_grows, order_splits}
@@ -125,16 +125,12 @@ module _ (c : ℕ) (s : Space) (test : Part → Bool) (p : Part) (class count : 
   slab_stays d q m = any_landing (λ r. eqb r.class d && houses q r) come s.regions ∙ ap (λ b. b || is_slab d s.regions q) (serves_none d come q (any_none (houses q) come (λ r there. away q m r there)))
 
   free_stays : (d : ℕ) (q : Part) → d < 36 → Contains s.parts q → is_slab d s.regions q ≡ true → booked_slab after.regions d q ≡ booked_slab s.regions d q
-  free_stays d q low at slab = λ k. record {
-    class = d;
-    first = q.span.first;
-    free = filter_same (λ a. not (list_any (starts_at a) after.regions)) (λ a. not (list_any (starts_at a) s.regions)) (places d q) (λ a m. ap not (any_landing (starts_at a) come s.regions
-        ∙ ap (λ b. b || list_any (starts_at a) s.regions) (any_none (starts_at a) come (λ r there. false_from_ne_true _ (λ t.
-        let pages = (slab_at s d q l.sound low at slab).pages in
-        let page : has_page (r.addr / 4096) q.span ≡ true = ap (λ x. has_page (x / 4096) q.span) (eqb-true _ _ t) ∙ place_page d a q low pages m in
-        let no : true ≡ false = sym page ∙ apart q (stays d q at slab) (r.addr / 4096) (lands_page r there) in
-        cc))))) k;
-  }
+  free_stays d q low at slab = same_slab d q after.regions s.regions (λ a m. any_landing (starts_at a) come s.regions
+      ∙ ap (λ b. b || list_any (starts_at a) s.regions) (any_none (starts_at a) come (λ r there. false_from_ne_true _ (λ t.
+      let pages = (slab_at s d q l.sound low at slab).pages in
+      let page : has_page (r.addr / 4096) q.span ≡ true = ap (λ x. has_page (x / 4096) q.span) (eqb-true _ _ t) ∙ place_page d a q low pages m in
+      let no : true ≡ false = sym page ∙ apart q (stays d q at slab) (r.addr / 4096) (lands_page r there) in
+      cc))))
 
   -- no region was in the extent
   none_within : (r : Region) → Contains s.regions r → lies_in p.span r ≡ false

@@ -1,6 +1,6 @@
 -- A book of slabs beside a space, as a fill takes regions, and which extent serves a region.
-use Rattle.arena_core.proofs.Words.{◌≡◌, ℕ, ◌<◌, Bool, true, false, not, ◌&&◌, ◌||◌, eqb, ltb, List, [], ◌∷◌, map, filter, take, drop, Contains, IsTrue, if◌then◌else◌, inl, inr, refl, sym, ap, ◌∙◌, arith, ◌+◌, ◌*◌, ◌/◌, ◌≤◌, length, All, subst, flat_map, list_any, position_or_len, range_with_len, sum_by, cases_Bool, eq-eqb, eqb-true, false_from_ne_true, take-append-drop, length-map, All-contains, flat_map-map, list_any-append, sum_by-cons, sum_by-le-sum_by, contains_later, filter_from, filter_has, contains_cases, Part, Region, Space, is_active, turned_in_order, houses, inserted, is_slab, landing, region_of, residents, starts_at, address_of, covers, homes, free_places, lowest_free, places, slabs_of, IsInSlab, Sound, Spot, lowest_spots, BinSlab, is_among, with_regions_out, is_all_free, any_false, any_from, any_has, any_map, any_none, bit, filter_both, filter_map_is, filter_same, head, map_both, map_from, map_same, filter_all_of, map_has, range_from, range_has, AreBooked, BooksStayWhereHoldersChange, BooksStayWhileExtentsDo, FillsTakeTheLowest, ReturnsAreFree, filled, booked_slab, nat_tests, length-filter_both, length-range_with_len, row_fits, pages_at, regions_at, size_at, size_bounds, slab_filled, has_page, share, both_true, serves, serves-le-share, count_by}
-use Rattle.arena_core.proofs.Emptying.{ones_le}
+use Rattle.arena_core.proofs.Words.{◌≡◌, ℕ, ◌<◌, Bool, true, false, not, ◌&&◌, ◌||◌, eqb, ltb, List, [], ◌∷◌, map, filter, take, drop, Contains, IsTrue, if◌then◌else◌, inl, inr, refl, sym, ap, ◌∙◌, arith, ◌+◌, ◌*◌, ◌/◌, ◌≤◌, length, All, subst, flat_map, list_any, position_or_len, range_with_len, sum_by, cases_Bool, eq-eqb, eqb-true, false_from_ne_true, take-append-drop, length-map, All-contains, flat_map-map, list_any-append, sum_by-cons, sum_by-le-sum_by, contains_later, filter_from, filter_has, contains_cases, Part, Region, Space, is_active, turned_in_order, houses, inserted, is_slab, landing, region_of, residents, starts_at, address_of, covers, homes, free_places, lowest_free, places, slabs_of, IsInSlab, Sound, Spot, lowest_spots, BinSlab, is_among, with_regions_out, is_all_free, any_false, any_from, any_has, any_map, any_none, bit, filter_both, filter_map_is, filter_same, head, map_both, map_from, map_same, filter_all_of, map_has, range_from, range_has, AreBooked, BooksStayWhereHoldersChange, BooksStayWhileExtentsDo, FillsTakeTheLowest, ReturnsAreFree, filled, booked_slab, nat_tests, length-filter_both, length-range_with_len, row_fits, pages_at, regions_at, size_at, size_bounds, slab_filled, has_page, share, both_true, serves, serves-le-share, count_by, All-turned, All-nil, All-contains_itself, of_class, cond}
+use Rattle.arena_core.proofs.Emptying.{counted_any, ones_le}
 
 -- ---- tests of regions that landed
 
@@ -20,21 +20,6 @@ any_landing q (r ∷ rs) regions = any_landing q rs (inserted r regions) ∙ ap 
     turn : (a b c : Bool) → (a || (b || c)) ≡ ((b || a) || c)
     turn a b c = grind arith
 
--- where some count, one is there
-counted : {X : Type 0} (p : X → Bool) (xs : List X) → 0 < count_by p xs → (x : X) × Contains xs x × (p x ≡ true)
-counted p [] some = absurd (omega arith)
-counted p (x ∷ xs) some = elim (cases_Bool (p x)) [
-  | inl t ↦ (x, head x xs, t)
-  | inr f ↦
-      let here : bit (p x) ≡ 0 = ap bit f in
-      let more = sum_by-cons (λ y. bit (p y)) x xs in
-      let r = counted p xs (omega arith) in
-      (r.0, contains_later x xs r.0 r.1, r.2)
-]
-
-and_parts : (a b : Bool) → (a && b) ≡ true → (a ≡ true) × (b ≡ true)
-and_parts a b e = (grind (arith, e), grind (arith, e))
-
 -- ---- a fill
 
 module _ (s : Space) (sound : Sound s) (client class count : ℕ) (small : class < 36) where
@@ -49,13 +34,13 @@ module _ (s : Space) (sound : Sound s) (client class count : ℕ) (small : class
   served d p m t =
       let some = any_from (λ r. eqb r.class d && houses p r) (map (region_of client class) addrs) t in
       let a = map_from (region_of client class) addrs some.0 some.1 in
-      let both = and_parts _ _ some.2 in
+      let both = both_true _ _ some.2 in
       let house : houses p (region_of client class a.0) ≡ true = ap (houses p) a.2 ∙ both.1 in
       let is : class ≡ d = ap (λ (r : Region). r.class) a.2 ∙ eqb-true _ _ both.0 in
       let spot = All-contains (λ x. Spot s.parts s.regions (region_of client class x)) addrs a.0 (lowest_spots client class count s small sound) a.1 in
       let slab = All-contains (λ (x : Part). IsTrue (houses x (region_of client class a.0)) → IsInSlab s.regions x (region_of client class a.0)) s.parts p spot.slab m house in
-      let active = (and_parts _ _ (and_parts _ _ house).0).0 in
-      let q = counted (houses p) s.regions (All-contains (λ (x : Part). IsTrue (is_active x.state) → 0 < residents x s.regions) s.parts p sound.used m active) in
+      let active = (both_true _ _ (both_true _ _ house).0).0 in
+      let q = any_from (houses p) s.regions (counted_any (houses p) s.regions (All-contains (λ (x : Part). IsTrue (is_active x.state) → 0 < residents x s.regions) s.parts p sound.used m active)) in
       let like : q.0.class ≡ class = All-contains (λ (x : Region). IsTrue (houses p x) → x.class ≡ class) s.regions q.0 slab.alike q.1 q.2 in
       let one : eqb q.0.class d ≡ true = ap (λ n. eqb n d) (like ∙ is) ∙ same d in
       any_has (λ r. eqb r.class d && houses p r) s.regions q.0 q.1 (rw (one, q.2) refl)
@@ -99,9 +84,28 @@ fills_taken s slabs client class count sound small booked = record {
 
 -- ---- other changes
 
-any_same : {X : Type 0} (p q : X → Bool) (xs : List X) → ((x : X) → p x ≡ q x) → list_any p xs ≡ list_any q xs
-any_same p q [] same = refl
-any_same p q (x ∷ xs) same = λ k. same x k || any_same p q xs same k
+from_order : (ps : List Part) (p : Part) → Contains (turned_in_order (λ p. p) ps) p → Contains ps p
+from_order ps p m = All-contains (Contains ps) (turned_in_order (λ p. p) ps) p (All-turned (λ p. p) (Contains ps) [] ps (All-nil (Contains ps)) (All-contains_itself ps)) m
+
+-- the extents that are slabs of a class
+pub from_slabs : (s : Space) (class : ℕ) (q : Part) → Contains (slabs_of class s) q → Contains s.parts q × (is_slab class s.regions q ≡ true)
+from_slabs s class q m = filter_from (is_slab class s.regions) s.parts q (from_order (filter (is_slab class s.regions) s.parts) q m)
+
+-- the slabs of a class stay booked where its extents and their free places stay
+pub class_stays : (s t : Space) (slabs : List BinSlab) (class : ℕ) → filter (is_slab class t.regions) t.parts ≡ filter (is_slab class s.regions) s.parts →
+    ((q : Part) → Contains s.parts q → is_slab class s.regions q ≡ true → booked_slab t.regions class q ≡ booked_slab s.regions class q) →
+    of_class class slabs ≡ map (booked_slab s.regions class) (slabs_of class s) → of_class class slabs ≡ map (booked_slab t.regions class) (slabs_of class t)
+class_stays s t slabs class parts same booked =
+    booked ∙ map_same (booked_slab s.regions class) (booked_slab t.regions class) (slabs_of class s) (λ q m. let at = from_slabs s class q m in sym (same q at.0 at.1))
+    ∙ ap (λ ps. map (booked_slab t.regions class) (turned_in_order (λ p. p) ps)) (sym parts)
+
+-- a slab shows the same where regions begin at the same of its places
+pub same_slab : (class : ℕ) (q : Part) (rs ts : List Region) → ((a : ℕ) → Contains (places class q) a → list_any (starts_at a) rs ≡ list_any (starts_at a) ts) → booked_slab rs class q ≡ booked_slab ts class q
+same_slab class q rs ts same = λ k. record {
+  class = class;
+  first = q.span.first;
+  free = filter_same (λ a. not (list_any (starts_at a) rs)) (λ a. not (list_any (starts_at a) ts)) (places class q) (λ a m. ap not (same a m)) k;
+}
 
 -- an extent that serves none of the regions is no slab
 pub serves_none : (class : ℕ) (regions : List Region) (p : Part) → list_any (houses p) regions ≡ false → is_slab class regions p ≡ false
@@ -115,18 +119,21 @@ active_slabs class regions parts = filter_both (λ p. is_active p.state) (is_sla
 
 pub stay_still : BooksStayWhileExtentsDo
 stay_still s t slabs parts regions booked class small =
-    let same = sym (active_slabs class t.regions t.parts) ∙ ap (filter (is_slab class t.regions)) parts ∙ active_slabs class t.regions s.parts ∙ ap (λ rs. filter (is_slab class rs) s.parts) regions in
-    booked class small ∙ (λ k. map (booked_slab (sym regions k) class) (turned_in_order (λ p. p) (sym same k)))
+    class_stays s t slabs class
+    (sym (active_slabs class t.regions t.parts) ∙ ap (filter (is_slab class t.regions)) parts ∙ active_slabs class t.regions s.parts ∙ ap (λ rs. filter (is_slab class rs) s.parts) regions)
+    (λ q m slab. ap (λ rs. booked_slab rs class q) regions) (booked class small)
 
 pub stay_handed : BooksStayWhereHoldersChange
 stay_handed s t slabs test holder parts regions booked class small =
-    let anew = λ (r : Region). if test r then record r { holder = holder } else r in
-    let slab = λ (p : Part). any_map anew (λ r. eqb r.class class && houses p r) s.regions ∙ any_same (λ r. eqb (anew r).class class && houses p (anew r)) (λ r. eqb r.class class && houses p r) s.regions (λ r. elim (cases_Bool (test r)) [ inl e ↦ rw e refl | inr f ↦ rw f refl ]) in
-    let start = λ (a : ℕ). any_map anew (starts_at a) s.regions ∙ any_same (λ r. starts_at a (anew r)) (starts_at a) s.regions (λ r. elim (cases_Bool (test r)) [ inl e ↦ rw e refl | inr f ↦ rw f refl ]) in
-    let same = filter_same (is_slab class (map anew s.regions)) (is_slab class s.regions) s.parts (λ p m. slab p) in
-    let shown = λ (p : Part). filter_same (λ a. not (list_any (starts_at a) (map anew s.regions))) (λ a. not (list_any (starts_at a) s.regions)) (places class p) (λ a m. ap not (start a)) in
-    booked class small ∙ map_same (booked_slab s.regions class) (booked_slab (map anew s.regions) class) (slabs_of class s) (λ p m k. record { class = class; first = p.span.first; free = sym (shown p) k })
-    ∙ ap (λ ps. map (booked_slab (map anew s.regions) class) (turned_in_order (λ p. p) ps)) (sym same) ∙ (λ k. map (booked_slab (sym regions k) class) (turned_in_order (λ p. p) (filter (is_slab class (sym regions k)) (sym parts k))))
+    class_stays s t slabs class (filter_same (is_slab class t.regions) (is_slab class s.regions) t.parts (λ p m. any (λ r. eqb r.class class && houses p r) (λ r. refl)) ∙ ap (filter (is_slab class s.regions)) parts)
+    (λ q m slab. same_slab class q t.regions s.regions (λ a there. any (starts_at a) (λ r. refl))) (booked class small)
+  where
+    -- a test that doesn't mind who holds a region passes as before
+    any : (q : Region → Bool) → ((r : Region) → q (record r { holder = holder }) ≡ q r) → list_any q t.regions ≡ list_any q s.regions
+    any q blind =
+        let anew = λ (r : Region). if test r then record r { holder = holder } else r in
+        let here : (r : Region) → q (anew r) ≡ q r = λ r. elim (test r) as (λ b. q (cond b (record r { holder = holder }) r) ≡ q r) [ true ↦ blind r | false ↦ refl ] in
+        ap (list_any q) regions ∙ any_map anew q s.regions ∙ (λ k. list_any (λ r. here r k) s.regions)
 
 -- ---- a return
 

@@ -1,7 +1,7 @@
 -- A book of slabs beside a space, as regions land and are given back.
-use Rattle.arena_core.proofs.Words.{◌≡◌, ℕ, ◌/◌, ◌<◌, ◌≤◌, Bool, true, false, not, IsTrue, List, [], ◌∷◌, length, get_or, All, Contains, filter, map, inl, inr, refl, sym, ◌∙◌, ap, subst, arith, ◌&&◌, eqb, lt-ltb, find, Some, cond, count_by, list_any, sum_by, cases_Bool, cases_lt, eq-eqb, eqb-true, false_from_ne_true, le-ltb, nat_tests, nil_from_length, All-cons, All-contains, All-contains_itself, All-filter, All-map, All-nil, All-head, sum_by-filter_both, ext_get_or, length-map, length-map-range_with_len, length-filter, sum_by-cons, contains_cases, contains_later, filter_from, filter_has, Part, Region, Space, has_page, begins_at, taken_out, turned_in_order, fills, houses, is_slab, residents, starts_at, slabs_by_class, places, slabs_of, Sound, after_back, holds_at, is_emptied, is_given_back, staying, eqb_itself, only_one, both_true, All-turned, turned_sum, BinSlab, is_out, is_all_free, of_class, with_free, any_from, any_has, any_map, filter_all_of, filter_both, filter_map_is, filter_none_of, filter_same, filter_swap, head, map_both, map_from, map_same, booked_slab, IsBooked, NothingIsBooked, slabs_left, is_last, slabs_returned, at_tally, tally}
-use Rattle.arena_core.proofs.Booked.{among_kept, both_ways, freed, idle_no_slab, serves_none, stay_still, SlabAt, slab_at, starts_served, still_slab, unused_is}
-use Rattle.arena_core.proofs.Emptying.{Empties, Gives, any_counts, begins_alone, counts_any, empties, given_parts, gives, is_left, ones}
+use Rattle.arena_core.proofs.Words.{◌≡◌, ℕ, ◌/◌, ◌<◌, ◌≤◌, Bool, true, false, not, IsTrue, List, [], ◌∷◌, length, get_or, All, Contains, filter, map, inl, inr, refl, sym, ◌∙◌, ap, subst, arith, ◌&&◌, eqb, lt-ltb, find, Some, cond, count_by, list_any, sum_by, cases_Bool, cases_lt, eq-eqb, eqb-true, false_from_ne_true, le-ltb, nat_tests, nil_from_length, All-cons, All-contains, All-contains_itself, All-filter, All-map, All-nil, All-head, sum_by-filter_both, ext_get_or, length-map, length-map-range_with_len, length-filter, sum_by-cons, contains_cases, contains_later, filter_from, filter_has, Part, Region, Space, has_page, begins_at, taken_out, turned_in_order, fills, houses, is_slab, residents, starts_at, slabs_by_class, places, slabs_of, Sound, after_back, holds_at, is_emptied, is_given_back, staying, eqb_itself, only_one, both_true, All-turned, turned_sum, BinSlab, is_out, is_all_free, of_class, with_free, any_from, any_has, any_map, filter_all_of, filter_both, filter_map_is, filter_none_of, filter_same, filter_swap, head, map_both, map_from, map_same, booked_slab, IsBooked, NothingIsBooked, slabs_left, is_last, slabs_returned, at_tally, tally, map-id}
+use Rattle.arena_core.proofs.Booked.{from_slabs, same_slab, among_kept, both_ways, freed, idle_no_slab, serves_none, stay_still, SlabAt, slab_at, starts_served, still_slab, unused_is}
+use Rattle.arena_core.proofs.Emptying.{Empties, Gives, any_counts, begins_alone, counted_any, empties, given_parts, gives, is_left, ones}
 use Rattle.arena_core.proofs.Finds.{find_alone}
 use Rattle.arena_core.proofs.InOrder.{order_stays}
 use Rattle.arena_core.proofs.Still.{Still, kept_exchanged}
@@ -10,18 +10,11 @@ use Rattle.arena_core.proofs.Still.{Still, kept_exchanged}
 
 -- as many pass, so something does where it did
 pub same_any : {X : Type 0} (t : X → Bool) (xs ys : List X) → count_by t xs ≡ count_by t ys → list_any t xs ≡ list_any t ys
-same_any t xs ys same = grind (arith, same, counts_any t xs, counts_any t ys, any_counts t xs, any_counts t ys)
+same_any t xs ys same = grind (arith, same, counted_any t xs, counted_any t ys, any_counts t xs, any_counts t ys)
 
 -- the order of extents leaves them the same
 any_order : (t : Part → Bool) (ps : List Part) → list_any t (turned_in_order (λ p. p) ps) ≡ list_any t ps
 any_order t ps = same_any t (turned_in_order (λ p. p) ps) ps (turned_sum (λ p. p) (λ p. ones (t p)) [] ps ∙ omega arith)
-
-from_order : (ps : List Part) (p : Part) → Contains (turned_in_order (λ p. p) ps) p → Contains ps p
-from_order ps p m = All-contains (Contains ps) (turned_in_order (λ p. p) ps) p (All-turned (λ p. p) (Contains ps) [] ps (All-nil (Contains ps)) (All-contains_itself ps)) m
-
--- the extents that are slabs of a class
-pub from_slabs : (s : Space) (class : ℕ) (q : Part) → Contains (slabs_of class s) q → Contains s.parts q × (is_slab class s.regions q ≡ true)
-from_slabs s class q m = filter_from (is_slab class s.regions) s.parts q (from_order (filter (is_slab class s.regions) s.parts) q m)
 
 -- Where a slab of a book stands.
 pub record Stands (s : Space) (x : BinSlab) : Type 0 where
@@ -46,14 +39,6 @@ book_any s slabs book t class q low at slab h =
     let inside : list_any t (of_class class slabs) ≡ true = ap (list_any t) (book.booked class low) ∙ any_map (booked_slab s.regions class) t (slabs_of class s) ∙ any_order (λ p. t (booked_slab s.regions class p)) (filter (is_slab class s.regions) s.parts) ∙ there in
     let x = any_from t (of_class class slabs) inside in
     any_has t slabs x.0 (filter_from (λ y. eqb y.class class) slabs x.0 x.1).0 x.2
-
--- the slabs of a class stay booked where its extents and their free places stay
-pub class_stays : (s t : Space) (slabs : List BinSlab) (class : ℕ) → filter (is_slab class t.regions) t.parts ≡ filter (is_slab class s.regions) s.parts →
-    ((q : Part) → Contains s.parts q → is_slab class s.regions q ≡ true → booked_slab t.regions class q ≡ booked_slab s.regions class q) →
-    of_class class slabs ≡ map (booked_slab s.regions class) (slabs_of class s) → of_class class slabs ≡ map (booked_slab t.regions class) (slabs_of class t)
-class_stays s t slabs class parts same booked =
-    booked ∙ map_same (booked_slab s.regions class) (booked_slab t.regions class) (slabs_of class s) (λ q m. let at = from_slabs s class q m in sym (same q at.0 at.1))
-    ∙ ap (λ ps. map (booked_slab t.regions class) (turned_in_order (λ p. p) ps)) (sym parts)
 
 -- as many slabs of a class as the space has
 class_count : (s : Space) (slabs : List BinSlab) → IsBooked s slabs → (class : ℕ) → class < 36 → count_by (λ x. eqb x.class class) slabs ≡ count_by (is_slab class s.regions) s.parts
@@ -116,8 +101,7 @@ only y x m = elim (contains_cases y [] x m) [ inl e ↦ e | inr d ↦ absurd (om
 
 -- what changes no member leaves the list
 pub map_itself : {X : Type 0} (h : X → X) (xs : List X) → ((x : X) → Contains xs x → h x ≡ x) → map h xs ≡ xs
-map_itself h [] same = refl
-map_itself h (x ∷ xs) same = λ k. same x (head x xs) k ∷ map_itself h xs (λ y m. same y (contains_later x xs y m)) k
+map_itself h xs same = map_same h (λ x. x) xs same ∙ map-id xs
 
 module _ (c addr : ℕ) (s : Space) (p : Part) (slabs : List BinSlab) (sound : Sound s) (e : Empties c addr s p) (book : IsBooked s slabs) where
   abbrev rest : List Region
@@ -247,18 +231,14 @@ module _ (c addr : ℕ) (s : Space) (p : Part) (slabs : List BinSlab) (sound : S
 
   -- a large region is at no place of a slab
   free_stays : (class : ℕ) (q : Part) → 36 ≤ e.region.class → class < 36 → Contains s.parts q → SlabAt class s.regions q → booked_slab rest class q ≡ booked_slab s.regions class q
-  free_stays class q big low at slab = λ k. record {
-    class = class;
-    first = q.span.first;
-    free = filter_same (λ a. not (list_any (starts_at a) rest)) (λ a. not (list_any (starts_at a) s.regions)) (places class q) (λ a m. ap not (both_ways (list_any (starts_at a) rest) (list_any (starts_at a) s.regions)
-        (λ t. let x = any_from (starts_at a) rest t in any_has (starts_at a) s.regions x.0 (sub x.0 x.1) x.2)
-        (λ t.
-        let x = any_from (starts_at a) s.regions t in
-        let place = subst (Contains (places class q)) (sym (eqb-true _ _ x.2)) m in
-        let alike = slab.alike x.0 x.1 (starts_served s class q sound low at slab x.0 x.1 place) in
-        let stays = ap not (false_from_ne_true _ (λ g. let is = ap (λ (r : Region). r.class) (same_region x.0 x.1 (given_starts x.0 g)) in omega (arith, is, alike, big, low))) in
-        any_has (starts_at a) rest x.0 (filter_has (λ r. not (is_given_back c (addr ∷ []) r)) s.regions x.0 x.1 stays) x.2))) k;
-  }
+  free_stays class q big low at slab = same_slab class q rest s.regions (λ a m. both_ways (list_any (starts_at a) rest) (list_any (starts_at a) s.regions)
+      (λ t. let x = any_from (starts_at a) rest t in any_has (starts_at a) s.regions x.0 (sub x.0 x.1) x.2)
+      (λ t.
+      let x = any_from (starts_at a) s.regions t in
+      let place = subst (Contains (places class q)) (sym (eqb-true _ _ x.2)) m in
+      let alike = slab.alike x.0 x.1 (starts_served s class q sound low at slab x.0 x.1 place) in
+      let stays = ap not (false_from_ne_true _ (λ g. let is = ap (λ (r : Region). r.class) (same_region x.0 x.1 (given_starts x.0 g)) in omega (arith, is, alike, big, low))) in
+      any_has (starts_at a) rest x.0 (filter_has (λ r. not (is_given_back c (addr ∷ []) r)) s.regions x.0 x.1 stays) x.2))
 
   same_large : 36 ≤ e.region.class → filter keep (map (with_free addr) slabs) ≡ slabs
   same_large big =

@@ -1,14 +1,11 @@
 -- One region is given back: its extent is the only one that can be emptied.
-use Rattle.arena_core.proofs.Words.{◌≡◌, ℕ, ◌/◌, ◌<◌, ◌≤◌, Bool, true, false, not, cond, IsTrue, List, [], ◌∷◌, append-nil, length, get_or, find, filter, Some, refl, sym, ◌∙◌, ap, subst, arith, All, ◌&&◌, ◌||◌, eqb, inl, inr, count_by, list_any, sum_by, cases_Bool, eqb-true, nat_tests, All-cons, All-filter, All-head, All-nil, All-tail, filter_passes, recursion_from_All, sum_by-filter_both, length-filter, sum_by-cons, size_at, size_bounds, filter_none, Part, Region, Space, IsPlaced, has_page, begins_at, exchanged, holders, is_active, taken_out, covers, homes, houses, is_held_by, residents, starts_at, after_back, holds_at, is_emptied, is_given_back, staying, taken_in_order, Sound, filter-begins_at, find_has, find_passes, serves, some_pages, serves-le-share, sum_nothing}
+use Rattle.arena_core.proofs.Words.{◌≡◌, ℕ, ◌/◌, ◌<◌, ◌≤◌, Bool, true, false, not, cond, IsTrue, List, [], ◌∷◌, append-nil, length, get_or, find, filter, Some, refl, sym, ◌∙◌, ap, subst, arith, All, ◌&&◌, ◌||◌, eqb, inl, inr, count_by, list_any, sum_by, cases_Bool, eqb-true, nat_tests, All-cons, All-filter, All-head, All-nil, All-tail, filter_passes, recursion_from_All, sum_by-filter_both, length-filter, sum_by-cons, size_at, size_bounds, filter_none, Part, Region, Space, IsPlaced, has_page, begins_at, exchanged, holders, is_active, taken_out, covers, homes, houses, is_held_by, residents, starts_at, after_back, holds_at, is_emptied, is_given_back, staying, taken_in_order, Sound, filter-begins_at, find_has, find_passes, serves, some_pages, serves-le-share, sum_nothing, only_one, filter_same, All-contains}
+pub use Rattle.space_model.proofs.Lists.{any_counts, counted_any, none_counted, ones}
 use Rattle.arena_core.proofs.Finds.{fewer_pass}
 use Rattle.arena_core.proofs.Homes.{home_shares}
 use Rattle.arena_core.proofs.Swaps.{keeps_all}
 
 -- ---- lists
-
--- 1 for true, 0 for false
-abbrev pub ones : Bool → ℕ
-ones b = cond b 1 0
 
 -- what such a number says of its test
 pub most_one : (b : Bool) → ones b ≤ 1
@@ -27,28 +24,6 @@ some_found t (x ∷ xs) some = elim (cases_Bool (t x)) [
   | inl h ↦ (x, rw h refl)
   | inr h ↦ let rest = some_found t xs (grind (arith, sum_by-cons (λ y. ones (t y)) x xs, h, some)) in let e : find t (x ∷ xs) ≡ find t xs = rw h refl in (rest.0, e ∙ rest.1)
 ]
-
-pub any_counts : {X : Type 0} (t : X → Bool) (xs : List X) → list_any t xs ≡ true → 0 < count_by t xs
-any_counts t [] h = absurd (cc)
-any_counts t (x ∷ xs) h = grind (arith, any_counts t xs, sum_by-cons (λ y. ones (t y)) x xs)
-
-pub counts_any : {X : Type 0} (t : X → Bool) (xs : List X) → 0 < count_by t xs → list_any t xs ≡ true
-counts_any t [] some = absurd (omega (arith, some))
-counts_any t (x ∷ xs) some = grind (arith, counts_any t xs, sum_by-cons (λ y. ones (t y)) x xs)
-
--- what passes just once is all that a filter keeps
-pub one_passes : {X : Type 0} (t : X → Bool) (xs : List X) → 0 < count_by t xs → count_by t xs ≤ 1 → (x : X) × (filter t xs ≡ x ∷ [])
-one_passes t xs some most = by (filter t xs) refl
-  where
-    by : (ys : List _) → filter t xs ≡ ys → (x : _) × (filter t xs ≡ x ∷ [])
-    by [] e = let n : length (filter t xs) ≡ 0 = ap length e in absurd (omega (arith, length-filter t xs, n, some))
-    by (x ∷ []) e = (x, e)
-    by (x ∷ y ∷ zs) e = let n : length (filter t xs) ≡ length (x ∷ y ∷ zs) = ap length e in absurd (omega (arith, length-filter t xs, n, most))
-
--- tests that agree on each element keep the same
-pub filter_alike : {X : Type 0} (f g : X → Bool) (xs : List X) → All (λ x. f x ≡ g x) xs → filter f xs ≡ filter g xs
-filter_alike f g [] same = refl
-filter_alike {X} f g (x ∷ xs) same = let P : X → Type 0 = λ y. f y ≡ g y in cc (All-head P x xs same, filter_alike f g xs (All-tail P x xs same))
 
 -- what is true of those that pass and of the others is true of all
 pub All-split : {X : Type 0} (P : X → Type 0) (t : X → Bool) (xs : List X) → All P (filter t xs) → All P (filter (λ x. not (t x)) xs) → All P xs
@@ -79,9 +54,9 @@ given c addr s sound held =
     let same : (r : Region) → (is_held_by c r && eqb r.addr addr) ≡ t r = λ r. both (is_held_by c r) r.addr in
     let some : 0 < count_by t s.regions = any_counts t s.regions (sym (λ i. list_any (λ r. same r i) s.regions) ∙ held) in
     let fewer = fewer_pass t (starts_at addr) s.regions (λ k d h e. starts (get_or s.regions k d) e) in
-    let one = one_passes t s.regions some (omega (arith, fewer, begins_alone s addr sound)) in
-    let passes : All (λ r. t r ≡ true) (one.0 ∷ []) = subst (All (λ r. t r ≡ true)) one.1 (filter_passes t s.regions) in
-    (one.0, record { alone = one.1; at = eqb-true _ _ (starts one.0 (All-head (λ r. t r ≡ true) one.0 [] passes)) })
+    let one = some_found t s.regions some in
+    let passes = find_passes t s.regions one.0 one.1 in
+    (one.0, record { alone = only_one t t s.regions one.0 (omega (arith, fewer, begins_alone s addr sound)) one.1 passes; at = eqb-true _ _ (starts one.0 passes) })
   where
     both : (b : Bool) (m : ℕ) → (b && eqb m addr) ≡ (b && (eqb addr m || false))
     both b m = grind (arith, nat_tests)
@@ -120,7 +95,7 @@ other_serves c addr s r x given none used =
     let t = is_given_back c (addr ∷ []) in
     let gone : count_by (houses x) (filter t s.regions) ≡ count_by (houses x) (r ∷ []) = ap (count_by (houses x)) given.alone in
     let sums = sum_by-filter_both t (λ q. not (t q)) (λ _. refl) (λ q. ones (houses x q)) s.regions in
-    grind (arith, gone, sums, none, used, sum_by-cons (λ q. ones (houses x q)) r [], counts_any (houses x) (staying c (addr ∷ []) s.regions))
+    grind (arith, gone, sums, none, used, sum_by-cons (λ q. ones (houses x q)) r [], counted_any (houses x) (staying c (addr ∷ []) s.regions))
 
 -- What giving one region back leaves: its extent is emptied, if none of the regions that stay begins in it, and no other one is.
 pub record Empties (c addr : ℕ) (s : Space) (p : Part) : Type 0 where
@@ -183,8 +158,9 @@ one_exchanged : (c : ℕ) (gone : Part → Bool) (parts : List Part) (p : Part) 
     (filter gone parts ≡ cond b (p ∷ []) []) × (exchanged gone parts (taken_in_order c (filter gone parts)) ≡ cond b (exchanged (begins_at p.span.first) parts (taken_out c p ∷ [])) parts)
 one_exchanged c gone parts p true each alone =
     let t = begins_at p.span.first in
-    let same = filter_alike gone t parts (λ k d h. grind (arith, each k d h)) in
-    let others = filter_alike (λ x. not (gone x)) (λ x. not (t x)) parts (λ k d h. grind (arith, each k d h)) in
+    let P : Part → Type 0 = λ x. gone x ≡ (t x && true) in
+    let same = filter_same gone t parts (λ x m. grind (arith, All-contains P parts x each m)) in
+    let others = filter_same (λ x. not (gone x)) (λ x. not (t x)) parts (λ x m. grind (arith, All-contains P parts x each m)) in
     (same ∙ alone, cc (same, alone, others))
 one_exchanged c gone parts p false each alone =
     let same = none_kept gone parts (λ k d h. grind (arith, each k d h)) in

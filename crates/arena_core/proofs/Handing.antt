@@ -1,18 +1,7 @@
 -- A region that gets another holder.
-use Rattle.arena_core.proofs.Words.{◌≡◌, ◌≢◌, ℕ, suc, ◌+◌, ◌*◌, ◌/◌, ◌%◌, ◌<◌, ◌≤◌, Bool, true, false, not, cond, List, [], ◌∷◌, get_or, map, filter, find, Option, None, Some, Less, is_gt, is_lt, is_eq, refl, sym, ◌∙◌, ap, subst, arith, eqb, nat_lt, inl, inr, Every, count_by, sum_by, list_any, option_map, cases_Bool, cases_order, nat_tests, sum_by-cons, Region, held_anew, is_held_by, is_published, starts_at, holds_at, find-le-sum_by, find_passes, both_true, is_held_at, is_published_at}
-use Rattle.arena_core.proofs.Emptying.{any_counts, counts_any}
+use Rattle.arena_core.proofs.Words.{◌≡◌, ◌≢◌, ℕ, suc, ◌+◌, ◌*◌, ◌/◌, ◌%◌, ◌<◌, ◌≤◌, Bool, true, false, not, cond, List, [], ◌∷◌, get_or, map, filter, find, Option, None, Some, Less, is_gt, is_lt, is_eq, refl, sym, ◌∙◌, ap, subst, arith, eqb, nat_lt, inl, inr, Every, count_by, sum_by, list_any, option_map, cases_Bool, cases_order, nat_tests, sum_by-cons, Region, held_anew, is_held_by, is_published, starts_at, holds_at, find-le-sum_by, find_passes, both_true, is_held_at, is_published_at, any_from, any_has, found}
+use Rattle.arena_core.proofs.Emptying.{any_counts}
 use Rattle.arena_core.proofs.Finds.{fewer_pass}
-
--- a sum that doesn't mind who holds a region
-pub anew_sum : (test : Region → Bool) (holder : Option ℕ) (f : Region → ℕ) → ((r : Region) → f (record r { holder = holder }) ≡ f r) → (regions : List Region) →
-    sum_by f (held_anew test holder regions) ≡ sum_by f regions
-anew_sum test holder f blind [] = refl
-anew_sum test holder f blind (r ∷ rs) =
-    let here : f (cond (test r) (record r { holder = holder }) r) ≡ f r =
-    elim (test r) as (λ b. f (cond b (record r { holder = holder }) r) ≡ f r) [ true ↦ blind r | false ↦ refl ] in
-    omega (arith, here, sum_by-cons f (cond (test r) (record r { holder = holder }) r) (held_anew test holder rs), sum_by-cons f r rs, anew_sum test holder f blind rs)
-
--- ---- a published region
 
 -- one region that passes a test is the only one at its address, so it alone changes by either
 pub anew_alone : (t : Region → Bool) (addr : ℕ) (holder : Option ℕ) (regions : List Region) → ((r : Region) → t r ≡ true → starts_at addr r ≡ true) → count_by (starts_at addr) regions ≤ 1 →
@@ -52,23 +41,15 @@ published_at addr r h = (both_true (is_published r) (eqb r.addr addr) h).1
 
 pub held_there : (c addr : ℕ) (regions : List Region) → holds_at c regions addr ≡ true → (list_any (is_held_at c addr) regions ≡ true) × (list_any (starts_at addr) regions ≡ true)
 held_there c addr regions h =
-    let some = any_counts (is_held_at c addr) regions h in
-    (h, counts_any (starts_at addr) regions (omega (arith, some, fewer_pass (is_held_at c addr) (starts_at addr) regions (λ k d j. held_at c addr (get_or regions k d)))))
+    let r = any_from (is_held_at c addr) regions h in (h, any_has (starts_at addr) regions r.0 r.1 (held_at c addr r.0 r.2))
 
 pub published_there : {o : Option ℕ} {class : ℕ} (addr : ℕ) (regions : List Region) → o ≡ option_map (λ r. r.class) (find (is_published_at addr) regions) → o ≡ Some class →
     (r : Region) × (find (is_published_at addr) regions ≡ Some r) × (r.class ≡ class) × (list_any (is_published_at addr) regions ≡ true) × (list_any (starts_at addr) regions ≡ true)
-published_there {o} {class} addr regions found is = by (find (is_published_at addr) regions) refl (sym found ∙ is)
+published_there {o} {class} addr regions told is = by (find (is_published_at addr) regions) refl (sym told ∙ is)
   where
     by : (u : Option Region) → find (is_published_at addr) regions ≡ u → option_map (λ r. r.class) u ≡ Some class →
         (r : Region) × (find (is_published_at addr) regions ≡ Some r) × (r.class ≡ class) × (list_any (is_published_at addr) regions ≡ true) × (list_any (starts_at addr) regions ≡ true)
     by None e k = absurd (cc)
     by (Some r) e k =
-        let passes = find_passes (is_published_at addr) regions r e in
-        let one : cond {A = ℕ} (is_published_at addr r) 1 0 ≡ 1 = rw passes refl in
-        let some : 0 < count_by (is_published_at addr) regions = omega (arith, one, find-le-sum_by (λ q. cond (is_published_at addr q) 1 0) (is_published_at addr) regions r e) in (
-          r,
-          e,
-          cc,
-          counts_any (is_published_at addr) regions some,
-          counts_any (starts_at addr) regions (omega (arith, some, fewer_pass (is_published_at addr) (starts_at addr) regions (λ k d j. published_at addr (get_or regions k d)))),
-        )
+        let at = found (is_published_at addr) regions r e in
+        (r, e, cc, any_has (is_published_at addr) regions r at.0 at.1, any_has (starts_at addr) regions r at.0 (published_at addr r at.1))

@@ -1,9 +1,9 @@
 -- A large region that takes another class: its extent is the one that begins at its address, and the slabs stay.
-use Rattle.arena_core.proofs.Words.{◌≡◌, ℕ, ◌*◌, ◌/◌, ◌<◌, ◌≤◌, ◌==◌, Bool, true, false, not, cond, IsTrue, List, [], ◌∷◌, get_or, find, filter, Option, None, Some, refl, sym, ◌∙◌, ap, subst, arith, ◌&&◌, ◌||◌, nat_le, ◌+◌, All, Contains, take, drop, eqb, nat_lt, count_by, list_any, position_or_len, sum_by, IsSome, option_map, eqb-true, leb-true, ltb-true, nat_tests, sum_by-filter_both, sum_by-cons, sum_by-insert, pages_at, size_at, large_size, size_bounds, Ask, Split, Merge, Answer, Done, Refuses, Span, Part, Region, Space, IsPlaced, same_span, end_of, begins_at, is_active, exchanged, is_flight_at, taken_out, houses, inserted, is_held_by, starts_at, address_of, is_slab, lies_in, region_bytes, has_large, is_large_at, large_home, reclassed, trim_answered, trim_done_stands, trimmed_at, after_join, after_trim_done, is_large_class, join_stands, widened_at, holds_at, is_given_back, staying, found_passes, Sound, nothing_sum, only_one, both_true, two_left, home_found, housed, All-cons, All-contains_itself, All-nil, Contains-append_right, is_in, without_client, one_left, filter_nothing, find_has, find_passes, eqb_itself, lies_between, BinSlab, filter_same, head, booked_slab, IsBooked, places, begins_either, high_piece, is_yes_or_no, joined, low_piece}
+use Rattle.arena_core.proofs.Words.{◌≡◌, ℕ, ◌*◌, ◌/◌, ◌<◌, ◌≤◌, ◌==◌, Bool, true, false, not, cond, IsTrue, List, [], ◌∷◌, get_or, find, filter, Option, None, Some, refl, sym, ◌∙◌, ap, subst, arith, ◌&&◌, ◌||◌, nat_le, ◌+◌, All, Contains, take, drop, eqb, nat_lt, count_by, list_any, position_or_len, sum_by, IsSome, option_map, eqb-true, leb-true, ltb-true, nat_tests, sum_by-filter_both, sum_by-cons, sum_by-insert, pages_at, size_at, large_size, size_bounds, Ask, Split, Merge, Answer, Done, Refuses, Span, Part, Region, Space, IsPlaced, same_span, end_of, begins_at, is_active, exchanged, is_flight_at, taken_out, houses, inserted, is_held_by, starts_at, address_of, is_slab, lies_in, region_bytes, has_large, is_large_at, large_home, reclassed, trim_answered, trim_done_stands, trimmed_at, after_join, after_trim_done, is_large_class, join_stands, widened_at, holds_at, is_given_back, staying, found_passes, Sound, nothing_sum, only_one, both_true, two_left, home_found, housed, All-cons, All-contains_itself, All-nil, Contains-append_right, is_in, without_client, one_left, filter_nothing, find_has, find_passes, eqb_itself, lies_between, BinSlab, filter_same, head, booked_slab, IsBooked, places, begins_either, high_piece, is_yes_or_no, joined, low_piece, any_has, found}
 use Rattle.arena_core.proofs.Emptying.{any_counts, begins_alone, ones}
 use Rattle.arena_core.proofs.Finds.{fewer_pass, found_there}
-use Rattle.arena_core.proofs.Booked.{idle_no_slab, no_slab}
-use Rattle.arena_core.proofs.Books.{class_stays, same_any, still_booked}
+use Rattle.arena_core.proofs.Booked.{class_stays, idle_no_slab, no_slab, same_slab}
+use Rattle.arena_core.proofs.Books.{same_any, still_booked}
 use Rattle.arena_core.proofs.Homes.{in_flight}
 use Rattle.arena_core.proofs.Still.{Idle, kept_exchanged, still, whole_still}
 
@@ -25,11 +25,6 @@ holder_is : (c : ℕ) (o : Option ℕ) → is_held_by c (record { addr = 0; clas
 holder_is c None h = absurd (cc)
 holder_is c (Some d) h = ap (λ n. Some n) (eqb-true d c h)
 
--- where something is found that passes another test, something passes that
-any_found : {X : Type 0} (t u : X → Bool) (xs : List X) (x : X) → find t xs ≡ Some x → u x ≡ true → list_any u xs ≡ true
-any_found t u [] x e h = absurd (cc)
-any_found t u (y ∷ ys) x e h = grind (arith, any_found t u ys x)
-
 homed_by : (c addr : ℕ) (s : Space) (test : Part → Bool) (o : Option (Region × Part)) → large_home s c addr ≡ o → Sound s → found_passes test (option_map (λ home. home.1) o) ≡ true →
     (home : Region × Part) × Homed c addr s test home
 homed_by c addr s test None e sound h = absurd (cc)
@@ -38,23 +33,25 @@ homed_by c addr s test (Some home) e sound h =
     let p = home.1 in
     let f = home_found c s addr home e in
     let at = housed s (is_large_at c addr) r p sound f.region f.house f.large in
-    let here = both_true (is_held_by c r) (starts_at addr r) (both_true (is_held_by c r && starts_at addr r) _ (find_passes (is_large_at c addr) s.regions r f.region)).0 in
+    let there = found (is_large_at c addr) s.regions r f.region in
+    let large = both_true (is_held_by c r && starts_at addr r) _ there.1 in
+    let here = both_true (is_held_by c r) (starts_at addr r) large.0 in
     let region : r.addr ≡ addr = eqb-true r.addr addr here.1 in
     let start : addr ≡ 4096 * p.span.first = sym region ∙ at.start in
     let page : p.span.first ≡ addr / 4096 = omega arith in
-    let there = found_there s.parts (λ q. houses q r) p (record { placed = sound.placed; owners = sound.owners }) f.house in (
+    let begins = found_there s.parts (λ q. houses q r) p (record { placed = sound.placed; owners = sound.owners }) f.house in (
       home,
       record {
         found = e;
-        begins = subst (λ n. find (begins_at n) s.parts ≡ Some p) page there;
+        begins = subst (λ n. find (begins_at n) s.parts ≡ Some p) page begins;
         passes = h;
         region = region;
         holder = holder_is c r.holder f.held;
         start = start;
         placed = at.placed;
         active = at.active;
-        hand = any_found (is_large_at c addr) (λ q. is_held_by c q && starts_at addr q) s.regions r f.region (rw here.0 here.1);
-        large = any_found (is_large_at c addr) (λ q. starts_at addr q && nat_le 36 q.class) s.regions r f.region (rw here.1 (both_true (is_held_by c r && starts_at addr r) _ (find_passes (is_large_at c addr) s.regions r f.region)).1);
+        hand = any_has (λ q. is_held_by c q && starts_at addr q) s.regions r there.0 (rw here.0 here.1);
+        large = any_has (λ q. starts_at addr q && nat_le 36 q.class) s.regions r there.0 (rw here.1 large.1);
       },
     )
 
@@ -184,12 +181,7 @@ resized_booked {s} {t} {test} {r} {p} {new} {class} {gone} {others} {more} slabs
 
     -- a region begins where one did
     same : (k : ℕ) (q : Part) → booked_slab t.regions k q ≡ booked_slab s.regions k q
-    same k q = λ i. record {
-      class = k;
-      first = q.span.first;
-      free = filter_same (λ a. not (list_any (starts_at a) t.regions)) (λ a. not (list_any (starts_at a) s.regions)) (places k q)
-          (λ a m. ap not (same_any (starts_at a) t.regions s.regions (omega (arith, sums (λ y. ones (starts_at a y)), was (λ y. ones (starts_at a y)))))) i;
-    }
+    same k q = same_slab k q t.regions s.regions (λ a m. same_any (starts_at a) t.regions s.regions (omega (arith, sums (λ y. ones (starts_at a y)), was (λ y. ones (starts_at a y)))))
 
     -- the extent of the large region was no slab, and is none
     old : (k : ℕ) → k < 36 → is_slab k s.regions p ≡ false

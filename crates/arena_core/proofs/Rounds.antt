@@ -1,6 +1,6 @@
 -- Extents that change and regions that are given back, one after the other from the lowest on.
-use Rattle.arena_core.proofs.Words.{◌≡◌, ℕ, ◌+◌, ◌<◌, ◌≤◌, Bool, true, false, cond, not, List, [], ◌∷◌, ◌++◌, append_assoc, append-nil, length, get_or, filter, fold, refl, sym, ◌∙◌, ap, subst, arith, All, nat_lt, inl, inr, suc, ◌*◌, IsTrue, ◌&&◌, ◌||◌, eqb, nat_le, drop, add-one, drop-cons, insert, position_or_len, sum_by, count_by, list_all, list_any, cases_Bool, cases_lt, not-true, nat_tests, All-append, All-cons, All-filter, All-head, All-nil, All-tail, filter-append, filter_passes, All-weaker, length-filter_both, sum_by-filter_both, get_or-le-sum_by, sum_by-cons, Part, IsPlaced, end_of, begins_at, exchanged, placed, turned, turned_in_order, is_active, taken_out, Span, filter-begins_at, filter-without, share, find_has, find_passes, All-insert, some_pages, serves, filter_swap, filter_both, IsApart, IsThere, drop_all, Region, Life, Live, Absent, Dying, Space, houses, is_held_by, residents, after_back, holds_at, is_emptied, is_given_back, is_live, rises_from, staying, taken_in_order, Sound, lawful_sound, back_does, both_true}
-use Rattle.arena_core.proofs.Emptying.{All-split, none_kept, Empties, any_counts, counts_any, empties, filter_alike, given_parts, is_left, ones, some_found}
+use Rattle.arena_core.proofs.Words.{◌≡◌, ℕ, ◌+◌, ◌<◌, ◌≤◌, Bool, true, false, cond, not, List, [], ◌∷◌, ◌++◌, append_assoc, append-nil, length, get_or, filter, fold, refl, sym, ◌∙◌, ap, subst, arith, All, nat_lt, inl, inr, suc, ◌*◌, IsTrue, ◌&&◌, ◌||◌, eqb, nat_le, drop, add-one, drop-cons, insert, position_or_len, sum_by, count_by, list_all, list_any, cases_Bool, cases_lt, not-true, nat_tests, All-append, All-cons, All-filter, All-head, All-nil, All-tail, filter-append, filter_passes, All-weaker, length-filter_both, sum_by-filter_both, get_or-le-sum_by, sum_by-cons, Part, IsPlaced, end_of, begins_at, exchanged, placed, turned, turned_in_order, is_active, taken_out, Span, filter-begins_at, filter-without, share, find_has, find_passes, All-insert, some_pages, serves, filter_swap, filter_both, IsApart, IsThere, drop_all, Region, Life, Live, Absent, Dying, Space, houses, is_held_by, residents, after_back, holds_at, is_emptied, is_given_back, is_live, rises_from, staying, taken_in_order, Sound, lawful_sound, back_does, both_true, filter_same}
+use Rattle.arena_core.proofs.Emptying.{All-split, none_kept, Empties, any_counts, counted_any, empties, none_counted, given_parts, is_left, ones, some_found}
 use Rattle.arena_core.proofs.Swaps.{changed, keeps_all, there_placed}
 
 -- what is inserted behind the first element
@@ -185,8 +185,8 @@ none_ahead {test} {turn} {start} {parts} {page} walk below = λ k d h. fails (ge
 pub staying_twice : (c addr : ℕ) (addrs : List ℕ) (regions : List Region) → staying c addrs (staying c (addr ∷ []) regions) ≡ staying c (addr ∷ addrs) regions
 staying_twice c addr addrs regions =
     filter_both (λ r. not (is_given_back c (addr ∷ []) r)) (λ r. not (is_given_back c addrs r)) regions
-    ∙ filter_alike (λ r. not (is_given_back c (addr ∷ []) r) && not (is_given_back c addrs r)) (λ r. not (is_given_back c (addr ∷ addrs) r)) regions
-    (λ k d h. let r : Region = get_or regions k d in either (is_held_by c r) (eqb addr r.addr) (list_any (λ a. eqb a r.addr) addrs))
+    ∙ filter_same (λ r. not (is_given_back c (addr ∷ []) r) && not (is_given_back c addrs r)) (λ r. not (is_given_back c (addr ∷ addrs) r)) regions
+    (λ r m. either (is_held_by c r) (eqb addr r.addr) (list_any (λ a. eqb a r.addr) addrs))
   where
     either : (held this others : Bool) → (not (held && (this || false)) && not (held && others)) ≡ not (held && (this || others))
     either held this others = grind arith
@@ -216,13 +216,6 @@ all_still c addr (a ∷ more) regions above h =
     grind (arith, held_still c addr a regions (All-head P a more above), all_still c addr more regions (All-tail P a more above))
 
 -- ---- the extents
-
--- what no element passes isn't counted
-none_counted : {X : Type 0} (test : X → Bool) (xs : List X) → list_any test xs ≡ false → count_by test xs ≡ 0
-none_counted test xs h = elim (cases_lt 0 (count_by test xs)) [
-  | inl some ↦ let e = counts_any test xs some in absurd (cc)
-  | inr none ↦ omega arith
-]
 
 -- a number among higher ones is higher
 named_above : (low : ℕ) (addrs : List ℕ) (a : ℕ) → All (λ x. low < x) addrs → list_any (λ x. eqb x a) addrs ≡ true → low < a
@@ -337,7 +330,7 @@ no_round c s sound =
     )
   where
     serves_still : (p : Part) → (IsTrue (is_active p.state) → 0 < residents p s.regions) → is_emptied s.regions p ≡ false
-    serves_still p used = grind (arith, used, counts_any (houses p) s.regions)
+    serves_still p used = grind (arith, used, counted_any (houses p) s.regions)
 
 -- How far a client has come in giving regions back: some are left, whose return leaves what was to be left at first.
 pub record Left (c : ℕ) (rest all : List ℕ) (start s : Space) (emptied : ℕ) : Type 0 where

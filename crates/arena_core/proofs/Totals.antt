@@ -69,11 +69,6 @@ none_past s chunk sound past =
     let placed : IsPlaced p.span = sound.placed k d h in
     let last = placed.2 in grind (arith, nat_tests))
 
--- something is found just where something passes
-pub found_any : (t : Part → Bool) (xs : List Part) → is_some (find t xs) ≡ list_any t xs
-found_any t [] = refl
-found_any t (x ∷ xs) = grind (arith, found_any t xs)
-
 -- where none passes the second test, leaving out those that pass it changes no count
 without_none : {X : Type 0} (f g : X → Bool) (xs : List X) → list_any g xs ≡ false → count_by (λ x. f x && not (g x)) xs ≡ count_by f xs
 without_none f g [] none = refl

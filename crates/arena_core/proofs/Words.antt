@@ -28,14 +28,14 @@ pub use Rattle.space_model.specs.declared.spaces.Space.{Space}
 pub use Rattle.bin_book.proofs.Words.{eq-eqb, false_from_ne_true, cases_Bool, map-append, get_or-set_other, get_or-set_same, Contains-append_right, length-map-range_with_len, sum_by-set, place, BinSlab, meets_slab, slab_with_out, with_slab, with_regions_out, is_among, is_all_free, is_out, with_free, free_of, any_has, any_map, any_none, filter_map_is, filter_same, map_has, range_from, range_has, any_from, count_some, map_from, map_same, any_false, bit, filter_both, head, map_both, filter_all_of, filter_from, filter_has, contains_later, contains_cases, pages_bounds, dite, ℕ_discrete}
 pub use Rattle.std.proofs.Math.ListN.{length-set}
 pub use Rattle.std.proofs.lemmas.Bool.{le-ltb, cases_order}
-pub use Rattle.std.proofs.lemmas.List.{ext_get_or, drop_all, drop_more, get_or-map}
+pub use Rattle.std.proofs.lemmas.List.{ext_get_or, map-id, drop_all, drop_more, get_or-map}
 pub use Rattle.std.proofs.lemmas.List.Elements.{All-contains, All-contains_itself}
 pub use Rattle.std.proofs.lemmas.List.Filters.{length-filter_both}
 pub use Rattle.std.proofs.lemmas.List.Folds.{flat_map-map, list_any_none}
 pub use Rattle.std.proofs.lemmas.List.Sums.{sum_by_push}
 pub use Rattle.bin_book.proofs.Places.{same_place}
 pub use Rattle.bin_book.specs.Bins.{of_class}
-pub use Rattle.list_facts.proofs.Members.{filter_swap, filter_none_of, find_is}
+pub use Rattle.list_facts.proofs.Members.{filter_swap, found, is_some_find, filter_none_of, find_is}
 pub use Rattle.ordered_set.proofs.Sorted.{filter_none, every_filter, every_map, filter_all}
 pub use Rattle.part_book.specs.Books.{Book, IsFirstFrom, ends_at, is_beside, AreBeside, pages_of}
 pub use Rattle.region_book.proofs.ByClass.{at_tally, tally, both_bytes}
