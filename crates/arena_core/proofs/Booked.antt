@@ -1,6 +1,7 @@
 -- A book of slabs beside a space, as a fill takes regions, and which extent serves a region.
 use Rattle.arena_core.proofs.Words.{◌≡◌, ℕ, ◌<◌, Bool, true, false, not, ◌&&◌, ◌||◌, eqb, ltb, List, [], ◌∷◌, map, filter, take, drop, Contains, IsTrue, if◌then◌else◌, inl, inr, refl, sym, ap, ◌∙◌, arith, ◌+◌, ◌*◌, ◌/◌, ◌≤◌, length, All, subst, flat_map, list_any, position_or_len, range_with_len, sum_by, cases_Bool, eq-eqb, eqb-true, false_from_ne_true, take-append-drop, length-map, All-contains, flat_map-map, list_any-append, sum_by-cons, sum_by-le-sum_by, contains_later, filter_from, filter_has, contains_cases, Part, Region, Space, is_active, turned_in_order, houses, inserted, is_slab, landing, region_of, residents, starts_at, address_of, covers, homes, free_places, lowest_free, places, slabs_of, IsInSlab, Sound, Spot, lowest_spots, BinSlab, is_among, with_regions_out, is_all_free, any_false, any_from, any_has, any_map, any_none, bit, filter_both, filter_map_is, filter_same, head, map_both, map_from, map_same, filter_all_of, map_has, range_from, range_has, AreBooked, BooksStayWhereHoldersChange, BooksStayWhileExtentsDo, FillsTakeTheLowest, ReturnsAreFree, filled, booked_slab, nat_tests, length-filter_both, length-range_with_len, row_fits, pages_at, regions_at, size_at, size_bounds, slab_filled, has_page, share, both_true, serves, serves-le-share, count_by, All-turned, All-nil, All-contains_itself, of_class, cond}
-use Rattle.arena_core.proofs.Emptying.{counted_any, ones_le}
+use Rattle.arena_core.proofs.Emptying.{counted_any, ones_le, ones_same}
+use Rattle.arena_core.proofs.Homes.{home_shares}
 
 -- ---- tests of regions that landed
 
@@ -172,11 +173,6 @@ freed regions addr class p = λ k. record {
 
 -- ---- an extent and a region of a sound space
 
--- where a sum is no more than that of smaller terms, each term is no more than the smaller one
-exact_of : {X : Type 0} (f g : X → ℕ) (xs : List X) (x : X) → ((y : X) → g y ≤ f y) → sum_by f xs ≤ sum_by g xs → Contains xs x → f x ≤ g x
-exact_of f g [] x less whole m = absurd (omega arith)
-exact_of f g (y ∷ ys) x less whole m = grind (arith, contains_cases y ys x m, whole, less y, sum_by-cons f y ys, sum_by-cons g y ys, sum_by-le-sum_by g f ys less, exact_of f g ys x less)
-
 -- an extent has the page of the address of a region that it serves
 pub served_page : (q : Part) (x : Region) → x.class < 121 → houses q x ≡ true → has_page (x.addr / 4096) q.span ≡ true
 served_page q x class home =
@@ -189,10 +185,7 @@ pub served_where : (s : Space) (q : Part) (x : Region) → Sound s → Contains 
 served_where s q x sound at there page =
     let class = All-contains (λ r. r.class < 121) s.regions x sound.classes there in
     let home = All-contains (λ r. homes r s.parts ≡ 1) s.regions x sound.homes there in
-    let size : 0 < size_at x.class = omega (arith, size_bounds x.class class) in
-    let starts : covers x.addr x ≡ true = grind (arith, nat_tests) in
-    let more = exact_of (share (x.addr / 4096)) (serves x) s.parts q (λ p. serves-le-share x.addr x p starts) (omega (arith, home, sound.owners (x.addr / 4096))) at in
-    ones_le (has_page (x.addr / 4096) q.span) (houses q x) more page
+    ones_same (houses q x) (has_page (x.addr / 4096) q.span) (home_shares x s.parts q class home (sound.owners (x.addr / 4096)) at) ∙ page
 
 -- ---- a slab of a class
 

@@ -1,5 +1,5 @@
 -- One region is given back: its extent is the only one that can be emptied.
-use Rattle.arena_core.proofs.Words.{◌≡◌, ℕ, ◌/◌, ◌<◌, ◌≤◌, Bool, true, false, not, cond, IsTrue, List, [], ◌∷◌, append-nil, length, get_or, find, filter, Some, refl, sym, ◌∙◌, ap, subst, arith, All, ◌&&◌, ◌||◌, eqb, inl, inr, count_by, list_any, sum_by, cases_Bool, eqb-true, nat_tests, All-cons, All-filter, All-head, All-nil, All-tail, filter_passes, recursion_from_All, sum_by-filter_both, length-filter, sum_by-cons, size_at, size_bounds, filter_none, Part, Region, Space, IsPlaced, has_page, begins_at, exchanged, holders, is_active, taken_out, covers, homes, houses, is_held_by, residents, starts_at, after_back, holds_at, is_emptied, is_given_back, staying, taken_in_order, Sound, filter-begins_at, find_has, find_passes, serves, some_pages, serves-le-share, sum_nothing, only_one, filter_same, All-contains}
+use Rattle.arena_core.proofs.Words.{◌≡◌, ℕ, ◌/◌, ◌<◌, ◌≤◌, Bool, true, false, not, cond, IsTrue, List, [], ◌∷◌, append-nil, length, get_or, find, filter, Some, refl, sym, ◌∙◌, ap, subst, arith, All, ◌&&◌, ◌||◌, eqb, inl, inr, count_by, list_any, sum_by, cases_Bool, eqb-true, nat_tests, All-cons, All-filter, All-head, All-nil, All-tail, filter_passes, recursion_from_All, sum_by-filter_both, length-filter, sum_by-cons, size_at, size_bounds, filter_none, Part, Region, Space, IsPlaced, has_page, begins_at, exchanged, holders, is_active, taken_out, covers, homes, houses, is_held_by, residents, starts_at, after_back, holds_at, is_emptied, is_given_back, staying, taken_in_order, Sound, filter-begins_at, find_has, find_passes, serves, some_pages, serves-le-share, sum_nothing, only_one, filter_same, All-contains, found}
 pub use Rattle.space_model.proofs.Lists.{any_counts, counted_any, none_counted, ones}
 use Rattle.arena_core.proofs.Finds.{fewer_pass}
 use Rattle.arena_core.proofs.Homes.{home_shares}
@@ -79,8 +79,9 @@ home_of r parts class home most =
     let has : (q : Part) → houses q r ≡ true → here q ≡ true = λ q h. ones_le (houses q r) (here q) (serves-le-share r.addr r q starts) h in
     let fewer = fewer_pass (λ q. houses q r) here parts (λ k d h. has (get_or parts k d)) in
     let p = some_found here parts (omega (arith, fewer, home)) in
-    let same = home_shares r parts here p.0 class home most p.1 in
-    (p.0, record { found = p.1; home = ones_same (houses p.0 r) (here p.0) same ∙ find_passes here parts p.0 p.1 })
+    let there = found here parts p.0 p.1 in
+    let same = home_shares r parts p.0 class home most there.0 in
+    (p.0, record { found = p.1; home = ones_same (houses p.0 r) (here p.0) same ∙ there.1 })
 
 -- ---- what is emptied
 

@@ -1,11 +1,8 @@
 -- Extents that change and regions that are given back, one after the other from the lowest on.
-use Rattle.arena_core.proofs.Words.{◌≡◌, ℕ, ◌+◌, ◌<◌, ◌≤◌, Bool, true, false, cond, not, List, [], ◌∷◌, ◌++◌, append_assoc, append-nil, length, get_or, filter, fold, refl, sym, ◌∙◌, ap, subst, arith, All, nat_lt, inl, inr, suc, ◌*◌, IsTrue, ◌&&◌, ◌||◌, eqb, nat_le, drop, add-one, drop-cons, insert, position_or_len, sum_by, count_by, list_all, list_any, cases_Bool, cases_lt, not-true, nat_tests, All-append, All-cons, All-filter, All-head, All-nil, All-tail, filter-append, filter_passes, All-weaker, length-filter_both, sum_by-filter_both, get_or-le-sum_by, sum_by-cons, Part, IsPlaced, end_of, begins_at, exchanged, placed, turned, turned_in_order, is_active, taken_out, Span, filter-begins_at, filter-without, share, find_has, find_passes, All-insert, some_pages, serves, filter_swap, filter_both, IsApart, IsThere, drop_all, Region, Life, Live, Absent, Dying, Space, houses, is_held_by, residents, after_back, holds_at, is_emptied, is_given_back, is_live, rises_from, staying, taken_in_order, Sound, lawful_sound, back_does, both_true, filter_same}
+use Rattle.arena_core.proofs.Words.{◌≡◌, ℕ, ◌+◌, ◌<◌, ◌≤◌, Bool, true, false, cond, not, List, [], ◌∷◌, ◌++◌, append_assoc, append-nil, length, get_or, filter, fold, refl, sym, ◌∙◌, ap, subst, arith, All, nat_lt, inl, inr, suc, ◌*◌, IsTrue, ◌&&◌, ◌||◌, eqb, nat_le, drop, add-one, drop-cons, insert, position_or_len, sum_by, count_by, list_all, list_any, cases_Bool, cases_lt, not-true, nat_tests, All-append, All-cons, All-filter, All-head, All-nil, All-tail, filter-append, filter_passes, All-weaker, length-filter_both, sum_by-filter_both, get_or-le-sum_by, sum_by-cons, Part, IsPlaced, end_of, begins_at, exchanged, placed, turned, turned_in_order, is_active, taken_out, Span, filter-begins_at, filter-without, share, find_has, find_passes, All-insert, some_pages, serves, filter_swap, filter_both, IsApart, IsThere, drop_all, Region, Life, Live, Absent, Dying, Space, houses, is_held_by, residents, after_back, holds_at, is_emptied, is_given_back, is_live, rises_from, staying, taken_in_order, Sound, lawful_sound, back_does, both_true, filter_same, All-map, map, filter_map_is, turned_first}
 use Rattle.arena_core.proofs.Emptying.{All-split, none_kept, Empties, any_counts, counted_any, empties, none_counted, given_parts, is_left, ones, some_found}
+use Rattle.arena_core.proofs.InOrder.{lowest_first}
 use Rattle.arena_core.proofs.Swaps.{changed, keeps_all, there_placed}
-
--- what is inserted behind the first element
-insert_later : {X : Type 0} (x y : X) (xs : List X) (n : ℕ) → insert (x ∷ xs) (1 + n) y ≡ x ∷ insert xs n y
-insert_later x y xs n = let e : 1 + n ≡ suc n = omega arith in rw e refl
 
 -- ---- a change that leaves each extent where it begins
 
@@ -13,51 +10,18 @@ insert_later x y xs n = let e : 1 + n ≡ suc n = omega arith in rw e refl
 abbrev pub KeepsPlace : (Part → Part) → Type 0
 KeepsPlace turn = (q : Part) → (turn q).span.first ≡ q.span.first
 
--- an extent as it is put among those that changed before
-abbrev pub put : (Part → Part) → List Part → Part → List Part
-put turn changed p = placed (turn p) changed
-
--- the lowest extent comes first
-put_first : (turn : Part → Part) (p : Part) (acc : List Part) → KeepsPlace turn → All (λ q. p.span.first < q.span.first) acc → put turn acc p ≡ turn p ∷ acc
-put_first turn p [] keeps above = refl
-put_first turn p (q ∷ qs) keeps above = grind (arith, nat_tests, keeps p, All-head (λ q. p.span.first < q.span.first) q qs above)
-
--- a higher one stands behind it
-put_later : (turn : Part → Part) (p x : Part) (acc : List Part) → KeepsPlace turn → p.span.first < x.span.first → put turn (turn p ∷ acc) x ≡ turn p ∷ put turn acc x
-put_later turn p x acc keeps less =
-    let past : nat_lt (turn x).span.first (turn p).span.first ≡ false = grind (arith, nat_tests, keeps p, keeps x) in
-    rw past (insert_later (turn p) (turn x) acc (position_or_len (λ (q : Part). nat_lt (turn x).span.first q.span.first) acc))
-
-turned_later : (turn : Part → Part) (p : Part) (acc xs : List Part) → KeepsPlace turn → All (λ q. p.span.first < q.span.first) xs →
-    fold (put turn) (turn p ∷ acc) xs ≡ turn p ∷ fold (put turn) acc xs
-turned_later turn p acc [] keeps above = refl
-turned_later turn p acc (x ∷ xs) keeps above =
-    ap (λ ys. fold (put turn) ys xs) (put_later turn p x acc keeps (All-head (λ q. p.span.first < q.span.first) x xs above))
-    ∙ turned_later turn p (put turn acc x) xs keeps (All-tail (λ q. p.span.first < q.span.first) x xs above)
-
--- so the lowest of all is the first that changes
-turned_first : (turn : Part → Part) (p : Part) (acc xs : List Part) → KeepsPlace turn → All (λ q. p.span.first < q.span.first) acc → filter (begins_at p.span.first) xs ≡ p ∷ [] →
-    All (λ q. p.span.first < q.span.first) (filter (λ q. not (begins_at p.span.first q)) xs) →
-    fold (put turn) acc xs ≡ turn p ∷ fold (put turn) acc (filter (λ q. not (begins_at p.span.first q)) xs)
-turned_first turn p acc [] keeps low one above = absurd (cc)
-turned_first turn p acc (x ∷ xs) keeps low one above =
+-- the lowest of all is the first that changes
+turned_lowest : (turn : Part → Part) (p : Part) (xs : List Part) → KeepsPlace turn → filter (begins_at p.span.first) xs ≡ p ∷ [] → All (λ q. p.span.first < q.span.first) (filter (λ q. not (begins_at p.span.first q)) xs) →
+    turned_in_order turn xs ≡ turn p ∷ turned_in_order turn (filter (λ q. not (begins_at p.span.first q)) xs)
+turned_lowest turn p xs keeps alone above =
     let t = begins_at p.span.first in
-    let P : Part → Type 0 = λ q. p.span.first < q.span.first in
-    let others : List Part = filter (λ q. not (t q)) xs in
-    elim (cases_Bool (t x)) [
-      | inl h ↦
-          let e : x ∷ filter t xs ≡ p ∷ [] = (rw h at one) in
-          let k : All P others = (rw h at above) in
-          let none : filter t xs ≡ [] = cc in
-          let rest = keeps_all t xs none in
-          let first = put_first turn p acc keeps low in
-          let later = turned_later turn p acc xs keeps (subst (All P) rest k) in
-          rw h cc
-      | inr h ↦
-          let k : All P (x ∷ others) = (rw h at above) in
-          let higher : p.span.first < (turn x).span.first = let e = keeps x in let less = All-head P x others k in omega arith in
-          rw h (turned_first turn p (put turn acc x) xs keeps (All-insert P acc _ (turn x) low higher) (rw h at one) (All-tail P x others k))
-    ]
+    let now = begins_at (turn p).span.first in
+    let begins : (q : Part) → now (turn q) ≡ t q = λ q k. eqb (keeps q k) (keeps p k) in
+    let others = filter_map_is turn (λ q. not (now q)) xs ∙ (λ k. map turn (filter (λ q. not (begins q k)) xs)) in
+    let higher = All-map (λ q. (turn p).span.first < q.span.first) turn (filter (λ q. not (t q)) xs) (λ k d h. let less = above k d h in let here = keeps p in let there = keeps (get_or (filter (λ q. not (t q)) xs) k d) in omega arith) in
+    sym (turned_first turn xs)
+    ∙ lowest_first (turn p) (map turn xs) (filter_map_is turn now xs ∙ (λ k. map turn (filter (λ q. begins q k) xs)) ∙ ap (map turn) alone) (subst (All (λ q. (turn p).span.first < q.span.first)) (sym others) higher)
+    ∙ ap (λ ys. turn p ∷ turned_in_order (λ q. q) ys) others ∙ ap (λ ys. turn p ∷ ys) (turned_first turn (filter (λ q. not (t q)) xs))
 
 -- What changing the lowest extent that passes a test leaves: others, fewer by one, which change to what all change to.
 pub record TurnsFirst (gone : Part → Bool) (turn : Part → Part) (parts one : List Part) : Type 0 where
@@ -76,7 +40,7 @@ turns_first turn parts p gone keeps goes stays alone above one is =
     let kept = filter-without stay t parts (grind (arith, ap (filter stay) alone, goes)) in
     let first : filter t (filter gone parts) ≡ p ∷ [] = grind (arith, filter_swap t gone parts, ap (filter gone) alone, goes) in
     let rest = filter_swap (λ q. not (t q)) gone parts in
-    let done = turned_first turn p [] (filter gone parts) keeps (All-nil (λ q. p.span.first < q.span.first)) first (subst (All (λ q. p.span.first < q.span.first)) (sym rest) above) in
+    let done = turned_lowest turn p (filter gone parts) keeps first (subst (All (λ q. p.span.first < q.span.first)) (sym rest) above) in
     record {
       all = cc (gone_one, kept_one, append_assoc (filter stay others) (turn p ∷ []) (turned_in_order turn (filter gone others)), kept, rest, done);
       fewer = grind (arith, ap length first, ap length rest, ap length gone_one, length-filter_both t (λ q. not (t q)) (λ _. refl) (filter gone parts));

@@ -56,7 +56,7 @@ pub use Rattle.space_model.proofs.Resizes.{home_found, housed}
 pub use Rattle.space_model.proofs.Settled.{some_pages, serves, serves-le-share, idle-serves}
 pub use Rattle.space_model.proofs.Steps.{op_keeps, Outcome, Outcome-good, Outcome-others, Outcome-sound, joined_fits}
 pub use Rattle.space_model.proofs.Sums.{region_bytes_fits, bytes_le, bytes_pages, listed_fit_space, mapped_sum, whole_sum}
-pub use Rattle.space_model.proofs.Turned.{All-turned, turned_sum}
+pub use Rattle.space_model.proofs.Turned.{All-turned, turned_first, turned_sum}
 pub use Rattle.space_model.specs.Counts.{counts_of, slabs_by_class}
 pub use Rattle.space_model.specs.Purging.{keep_offer}
 pub use Rattle.space_model.specs.Resizing.{trim_answered}
