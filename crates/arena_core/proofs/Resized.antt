@@ -264,7 +264,7 @@ pub join_step : (c : ℕ) (s : Space) (class : ℕ) (ask : Ask) (answer : Answer
     IsBooked s slabs → IsBooked (after_join s c class ask answer).after slabs
 join_step c s class (Merge low high) Done slabs sound also stands are =
     join_by c s class low high (large_home s c (address_of low.first)) (find (is_flight_at c high) s.parts) slabs refl refl sound also stands are
-join_step c s class (Merge low high) Refuses slabs sound also stands are = still_booked s _ slabs are (whole_still s c high (find (is_flight_at c high) s.parts) refl sound)
+join_step c s class (Merge low high) Refuses slabs sound also stands are = still_booked s _ slabs are (whole_still s c high sound)
 join_step c s class ask answer slabs sound also stands are = are
 
 trim_by : (c : ℕ) (s : Space) (class : ℕ) (span : Span) (left : ℕ) (o : Option (Region × Part)) (slabs : List BinSlab) → large_home s c (address_of span.first) ≡ o → Sound s →
