@@ -86,11 +86,11 @@ none_left s (x ∷ xs) book none =
     absurd (cc)
 
 -- so a space that stays has the slabs that it had
-pub same_left : (s : Space) (slabs : List BinSlab) → IsBooked s slabs → slabs_left s slabs ≡ slabs
-same_left s slabs book = by (eqb (length s.regions) 0) refl
+pub stays_left : {s t : Space} {slabs : List BinSlab} → IsBooked s slabs → s ≡ t → slabs ≡ slabs_left t slabs
+stays_left {s} {t} {slabs} book same = subst (λ x. slabs ≡ slabs_left x slabs) same (by (eqb (length s.regions) 0) refl)
   where
-    by : (b : Bool) → eqb (length s.regions) 0 ≡ b → cond b [] slabs ≡ slabs
-    by true e = sym (none_left s slabs book (nil_from_length s.regions (eqb-true _ _ e)))
+    by : (b : Bool) → eqb (length s.regions) 0 ≡ b → slabs ≡ cond b [] slabs
+    by true e = none_left s slabs book (nil_from_length s.regions (eqb-true _ _ e))
     by false e = refl
 
 -- ---- one region is given back

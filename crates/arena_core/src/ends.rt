@@ -81,6 +81,7 @@ fn empty(indexes: &mut Indexes) -> Reply
 }
 
 /// Discards all regions, unless the arena is in use.
+#[tactic(auto, using(crate::proofs::Books::stays_left))]
 pub fn reset(indexes: &mut Indexes, client: u32, cached: u64) -> Reply
     requires client { client < 32 }
     requires stands { IsTrue (reset_stands (space_of indexes.old) client cached) }
@@ -120,6 +121,7 @@ fn end(indexes: &mut Indexes, client: u32) -> Reply
 }
 
 /// Ends the arena, unless it is in use.
+#[tactic(auto, using(crate::proofs::Books::stays_left))]
 pub fn destroy(indexes: &mut Indexes, client: u32, cached: u64) -> Reply
     requires client { client < 32 }
     requires stands { IsTrue (reset_stands (space_of indexes.old) client cached) }

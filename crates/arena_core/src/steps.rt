@@ -174,6 +174,7 @@ fn give_back(body: &mut Body, client: u32, addrs: &Addresses) -> Result<Reply, N
 }
 
 /// An operation for which no memory is taken.
+#[tactic(auto, using(crate::proofs::RoomSums::places_fewer))]
 fn follow(indexes: &mut Indexes, client: u32, op: &Op) -> Reply
     requires client { client < 32 }
     requires follows { opens op.now ≡ false }
