@@ -1,5 +1,5 @@
 -- Extents that are apart stay apart, with sums that are known, where one or two of them are exchanged.
-use Rattle.arena_core.proofs.Words.{◌≡◌, ℕ, ◌+◌, ◌-◌, ◌<◌, ◌≤◌, Bool, true, false, not, cond, List, [], ◌∷◌, ◌++◌, filter, Option, Some, IfSome, refl, sym, ap, subst, arith, All, inl, inr, list_any, sum_by, cases_Bool, cases_lt, nat_tests, sum_by_push, sum_by-cons, sum_by-le-sum_by, All-cons, All-head, All-nil, All-push, All-tail, All-weaker, Part, Span, State, IsPlaced, end_of, has_page, meets, pages_end, begins_at, exchanged, holders, is_active, begins_either, high_piece, joined, low_piece, All-exchanged, filter-begins_at, find-le-sum_by, find_has, share, sum_by-either, sum_by-exchanged, sum_by-replaced, some_pages, lengths-le, AreBeside, Book, IsApart, IsThere, active_pages, all_pages}
+use Rattle.arena_core.proofs.Words.{◌≡◌, ℕ, ◌+◌, ◌-◌, ◌<◌, ◌≤◌, Bool, true, false, not, cond, List, [], ◌∷◌, ◌++◌, filter, Option, Some, IfSome, refl, sym, ap, subst, arith, All, inl, inr, list_any, sum_by, cases_Bool, cases_lt, nat_tests, sum_by_push, sum_by-cons, sum_by-le-sum_by, All-cons, All-head, All-nil, All-push, All-tail, All-weaker, Part, Span, State, IsPlaced, end_of, has_page, meets, pages_end, begins_at, exchanged, holders, is_active, begins_either, high_piece, joined, low_piece, All-exchanged, filter-begins_at, find-le-sum_by, find_has, share, sum_by-either, sum_by-exchanged, sum_by-replaced, some_pages, lengths-le, AreBeside, Book, IsApart, IsThere, active_pages, all_pages, Inside, IsExtents, ◌∙◌}
 
 -- the pages of an extent, and those that serve regions
 abbrev pub pages : Part → ℕ
@@ -12,11 +12,7 @@ serving p = cond (is_active p.state) p.span.pages 0
 pub there_placed : (parts : List Part) (p : Part) → IsApart parts → IsThere parts p → IsPlaced p.span
 there_placed parts p apart there = find_has (λ q. IsPlaced q.span) (begins_at p.span.first) parts p apart.placed there
 
--- what callers name is there inside
-pub there_inside : {b now : Book} (p : Part) → b ≡ now → IsThere now.parts p → IsThere b.parts p
-there_inside p view there = subst (λ (x : Book). IsThere x.parts p) (sym view) there
-
--- it is no more than the sum, and the sum no more than the space
+-- it is no more than the sum
 pub within_sum : (f : Part → ℕ) (parts : List Part) (p : Part) → IsThere parts p → f p ≤ sum_by f parts
 within_sum f parts p there = find-le-sum_by f (begins_at p.span.first) parts p there
 
@@ -201,49 +197,48 @@ pub changed : (parts : List Part) (p q : Part) → IsApart parts → IsThere par
     Swapped parts (exchanged (begins_at p.span.first) parts (q ∷ [])) (serving p) (active_pages (q ∷ []))
 changed parts p q apart there same = swapped parts (q ∷ []) p apart there (one_fills p q (there_placed parts p apart there) same)
 
--- an extent that is there is within the sums
-pub there_within : (parts : List Part) (p : Part) → IsApart parts → IsThere parts p → (active_pages (p ∷ []) ≤ active_pages parts) × (active_pages parts ≤ all_pages parts) × (all_pages parts ≤ pages_end) × (p.span.pages ≤ pages_end)
-there_within parts p apart there = (
-  omega (arith, sum_by-cons serving p [], within_sum serving parts p there),
-  sum_by-le-sum_by serving pages parts (λ q. if_le (is_active q.state) q.span.pages),
-  pages_fit parts apart,
-  omega (arith, within_sum pages parts p there, pages_fit parts apart),
-)
+-- What is known inside of an extent that a caller names: it is there, lies in the space, and is within the sums.
+pub record Named (b : Inside) (p : Part) : Type 0 where
+  pub there : IsThere b.book.parts p
+  pub placed : IsPlaced p.span
+  pub within : active_pages (p ∷ []) ≤ b.active
+  pub pages : b.active ≤ pages_end
+  pub few : p.span.pages ≤ b.total
+
+pub named : {b : Inside} {now : Book} (p : Part) → b.book ≡ now → IsExtents b → IsThere now.parts p → Named b p
+named {b} p view extents here =
+    let there : IsThere b.book.parts p = subst (λ (x : Book). IsThere x.parts p) (sym view) here in
+    let active = sum_by-le-sum_by serving pages b.book.parts (λ q. if_le (is_active q.state) q.span.pages) in record {
+      there = there;
+      placed = there_placed b.book.parts p extents.apart there;
+      within = omega (arith, sum_by-cons serving p [], within_sum serving b.book.parts p there, extents.active);
+      pages = omega (arith, active, pages_fit b.book.parts extents.apart, extents.active);
+      few = omega (arith, within_sum pages b.book.parts p there, extents.total);
+    }
   where
     if_le : (b : Bool) (n : ℕ) → cond b n 0 ≤ n
     if_le b n = grind arith
+
+-- extents are as they should be where they are apart and the sums are those of what they are
+pub extents_are : {new : Inside} {after : List Part} → new.book.parts ≡ after → IsApart after → new.active ≡ active_pages after → new.total ≡ all_pages after → IsExtents new
+extents_are is apart active total = record { apart = subst IsApart (sym is) apart; active = active ∙ ap active_pages (sym is); total = total ∙ ap all_pages (sym is) }
 
 -- two extents as one serve as many pages as they would if both were of the first one's use
 pub joined_active : (p q : Part) → active_pages (joined p q ∷ []) ≡ serving p + active_pages (record q { state = p.state } ∷ [])
 joined_active p q = grind (arith, sum_by-cons serving (joined p q) [], sum_by-cons serving (record q { state = p.state }) [])
 
--- an extent is cut in two, each in a state of its own
-abbrev halves : List Part → Part → ℕ → State → State → List Part
-halves parts p left a b = exchanged (begins_at p.span.first) parts (record (low_piece left p) { state = a } ∷ record (high_piece left p) { state = b } ∷ [])
-
-pub halved : (parts : List Part) (p : Part) (left : ℕ) (a b : State) → IsApart parts → IsThere parts p → 0 < left → left < p.span.pages →
-    Swapped parts (halves parts p left a b) (active_pages (p ∷ [])) (active_pages (record (low_piece left p) { state = a } ∷ []) + active_pages (record (high_piece left p) { state = b } ∷ []))
-halved parts p left a b apart there some fewer =
-    let low : Part = record (low_piece left p) { state = a } in
-    let high : Part = record (high_piece left p) { state = b } in
-    let swap = swapped parts (low ∷ high ∷ []) p apart there (two_fill p low high left (there_placed parts p apart there) some fewer refl refl).0 in record {
-      apart = swap.apart;
-      pages = swap.pages;
-      active = omega (arith, swap.active, sum_by-cons serving p [], sum_by-cons serving low (high ∷ []), sum_by-cons serving low []);
-    }
-
--- its higher piece is in a state of its own, and comes before the lower one
-pub shed : (parts : List Part) (p : Part) (left : ℕ) (state : State) → IsApart parts → IsThere parts p → 0 < left → left < p.span.pages →
-    Swapped parts (exchanged (begins_at p.span.first) parts (record (high_piece left p) { state = state } ∷ low_piece left p ∷ [])) (active_pages (p ∷ []))
-    (active_pages (low_piece left p ∷ []) + active_pages (record (high_piece left p) { state = state } ∷ []))
-shed parts p left state apart there some fewer =
-    let low : Part = low_piece left p in
-    let high : Part = record (high_piece left p) { state = state } in
-    let swap = swapped parts (high ∷ low ∷ []) p apart there (two_fill p low high left (there_placed parts p apart there) some fewer refl refl).1 in record {
-      apart = swap.apart;
-      pages = swap.pages;
-      active = omega (arith, swap.active, sum_by-cons serving p [], sum_by-cons serving high (low ∷ []), sum_by-cons serving low [], sum_by-cons serving high []);
-    }
+-- an extent is cut in two, of which either comes last
+pub cut_swaps : (parts : List Part) (p low high : Part) (left : ℕ) → IsApart parts → IsThere parts p → 0 < left → left < p.span.pages → low.span ≡ (low_piece left p).span → high.span ≡ (high_piece left p).span →
+    Swapped parts (exchanged (begins_at p.span.first) parts (low ∷ high ∷ [])) (active_pages (p ∷ [])) (active_pages (low ∷ []) + active_pages (high ∷ []))
+    × Swapped parts (exchanged (begins_at p.span.first) parts (high ∷ low ∷ [])) (active_pages (p ∷ [])) (active_pages (low ∷ []) + active_pages (high ∷ []))
+cut_swaps parts p low high left apart there some fewer low_is high_is =
+    let fill = two_fill p low high left (there_placed parts p apart there) some fewer low_is high_is in
+    let up = swapped parts (low ∷ high ∷ []) p apart there fill.0 in
+    let down = swapped parts (high ∷ low ∷ []) p apart there fill.1 in
+    let one = λ (x : Part). sum_by-cons serving x [] in (
+      record { apart = up.apart; pages = up.pages; active = omega (arith, up.active, one p, sum_by-cons serving low (high ∷ []), one low, one high) },
+      record { apart = down.apart; pages = down.pages; active = omega (arith, down.active, one p, sum_by-cons serving high (low ∷ []), one low, one high) },
+    )
 
 -- the pieces serve what the extent served
 pub pieces_serve : (p : Part) (left : ℕ) → left < p.span.pages → active_pages (low_piece left p ∷ []) + active_pages (high_piece left p ∷ []) ≡ active_pages (p ∷ [])
