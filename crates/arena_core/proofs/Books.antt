@@ -283,3 +283,8 @@ returns_one c addr s class slabs sound held book told =
       gives = gives c addr s e.0 (is_last class addr slabs) e.1 (last_is c addr s e.0 slabs sound e.1 book class is);
       booked = back_booked c addr s e.0 slabs sound e.1 book class is;
     }
+
+-- so the space is then, where its extents and its regions are those
+pub back_is : (c addr : ℕ) (s : Space) {parts : List Part} {regions : List Region} → parts ≡ (after_back s c (addr ∷ [])).after.parts → regions ≡ (after_back s c (addr ∷ [])).after.regions →
+    record s { parts = parts; regions = regions } ≡ (after_back s c (addr ∷ [])).after
+back_is c addr s parts regions = λ i. record s { parts = parts i; regions = regions i }
