@@ -6,6 +6,7 @@ use Rattle.arena_core.proofs.Emptying.{ones}
 use Rattle.arena_core.proofs.Homes.{none_begins}
 use Rattle.arena_core.proofs.InOrder.{order_grows, order_splits}
 use Rattle.arena_core.proofs.Still.{Idle}
+use Rattle.arena_core.proofs.Swaps.{others_apart}
 
 -- the numbers from one on
 from_on : (start n from : ℕ) → start ≤ from → from ≤ start + n → filter (λ i. leb from i) (range_with_len start n) ≡ range_with_len from (start + n - from)
@@ -82,11 +83,10 @@ module _ (c : ℕ) (s : Space) (test : Part → Bool) (p : Part) (class count : 
   -- no other extent has a page of it
   apart : (q : Part) → Contains stay q → (page : ℕ) → has_page page p.span ≡ true → has_page page q.span ≡ false
   apart q m page own = false_from_ne_true _ (λ t.
-      let sums = sum_by-filter_both (begins_at p.span.first) (λ x. not (begins_at p.span.first x)) (λ _. refl) (share page) s.parts in
-      let here : sum_by (share page) (filter (begins_at p.span.first) s.parts) ≡ sum_by (share page) (p ∷ []) = ap (sum_by (share page)) alone in
+      let most = All-contains (λ x. (n : ℕ) → share n x + share n p ≤ 1) stay q (others_apart s.parts p alone l.sound.owners) m page in
       let one : share page p ≡ 1 = ap ones own in
-      let also = count_some (λ x. has_page page x.span) stay q m t in
-      omega (arith, sums, here, one, also, sum_by-cons (share page) p [], l.sound.owners page))
+      let also : share page q ≡ 1 = ap ones t in
+      omega (arith, most, one, also))
 
   -- a slab is another extent
   stays : (d : ℕ) (q : Part) → Contains s.parts q → is_slab d s.regions q ≡ true → Contains stay q

@@ -1,7 +1,7 @@
 -- A book of slabs beside a space, as regions land and are given back.
 use Rattle.arena_core.proofs.Words.{◌≡◌, ℕ, ◌/◌, ◌<◌, ◌≤◌, Bool, true, false, not, IsTrue, List, [], ◌∷◌, length, get_or, All, Contains, filter, map, inl, inr, refl, sym, ◌∙◌, ap, subst, arith, ◌&&◌, eqb, lt-ltb, find, Some, cond, count_by, list_any, sum_by, cases_Bool, cases_lt, eq-eqb, eqb-true, false_from_ne_true, le-ltb, nat_tests, nil_from_length, All-cons, All-contains, All-contains_itself, All-filter, All-map, All-nil, All-head, sum_by-filter_both, ext_get_or, length-map, length-map-range_with_len, length-filter, sum_by-cons, contains_cases, contains_later, filter_from, filter_has, Part, Region, Space, has_page, begins_at, taken_out, turned_in_order, fills, houses, is_slab, residents, starts_at, slabs_by_class, places, slabs_of, Sound, after_back, holds_at, is_emptied, is_given_back, staying, eqb_itself, only_one, both_true, All-turned, turned_sum, BinSlab, is_out, is_all_free, of_class, with_free, any_from, any_has, any_map, filter_all_of, filter_both, filter_map_is, filter_none_of, filter_same, filter_swap, head, map_both, map_from, map_same, booked_slab, IsBooked, NothingIsBooked, slabs_left, is_last, slabs_returned, at_tally, tally, map-id}
 use Rattle.arena_core.proofs.Booked.{from_slabs, same_slab, among_kept, both_ways, freed, idle_no_slab, serves_none, stay_still, SlabAt, slab_at, starts_served, still_slab, unused_is}
-use Rattle.arena_core.proofs.Emptying.{Empties, Gives, any_counts, begins_alone, counted_any, empties, given_parts, gives, is_left, ones}
+use Rattle.arena_core.proofs.Emptying.{Empties, Gives, any_counts, begins_alone, counted_any, empties, gives, is_left, ones}
 use Rattle.arena_core.proofs.Finds.{find_alone}
 use Rattle.arena_core.proofs.InOrder.{order_stays}
 use Rattle.arena_core.proofs.Still.{Still, kept_exchanged}
@@ -204,11 +204,11 @@ module _ (c addr : ℕ) (s : Space) (p : Part) (slabs : List BinSlab) (sound : S
 
   -- the extent that is emptied is no slab any more
   parts_stay : (class : ℕ) (b : Bool) → is_left rest p ≡ b → filter (is_slab class rest) after.parts ≡ filter (is_slab class rest) s.parts
-  parts_stay class false left = ap (filter (is_slab class rest)) (given_parts c addr s p e false left).1
+  parts_stay class false left = ap (filter (is_slab class rest)) (sym (gives c addr s p false e (sym left)).parts)
   parts_stay class true left =
       let none : list_any (houses p) rest ≡ false = grind (arith, left) in
       let slab = serves_none class rest p none in
-      ap (filter (is_slab class rest)) (given_parts c addr s p e true left).1
+      ap (filter (is_slab class rest)) (sym (gives c addr s p true e (sym left)).parts)
       ∙ kept_exchanged (is_slab class rest) (begins_at p.span.first) s.parts (taken_out c p ∷ []) (ap (filter (is_slab class rest)) e.alone ∙ rw slab refl)
       (All-cons (λ q. is_slab class rest q ≡ false) (taken_out c p) [] (idle_no_slab class rest (taken_out c p) refl) (All-nil (λ q. is_slab class rest q ≡ false)))
 
@@ -241,21 +241,20 @@ module _ (c addr : ℕ) (s : Space) (p : Part) (slabs : List BinSlab) (sound : S
       any_has (starts_at a) rest x.0 (filter_has (λ r. not (is_given_back c (addr ∷ []) r)) s.regions x.0 x.1 stays) x.2))
 
   same_large : 36 ≤ e.region.class → filter keep (map (with_free addr) slabs) ≡ slabs
-  same_large big =
-      let stays : (x : BinSlab) → Contains slabs x → with_free addr x ≡ x = λ x m.
-      let at = stands_at s slabs book x m in
-      let slab = slab_at s x.class at.extent sound at.low at.there at.slab in
-      ap (with_free addr) (sym at.is) ∙ sym (freed_is x.class at.extent) ∙ free_stays x.class at.extent big at.low at.there slab ∙ at.is in
-      let used : (x : BinSlab) → Contains slabs x → keep (with_free addr x) ≡ true = λ x m.
-      let at = stands_at s slabs book x m in
-      let slab = slab_at s x.class at.extent sound at.low at.there at.slab in
-      let other = false_from_ne_true _ (λ t.
-      let same = only p at.extent (subst (λ xs. Contains xs at.extent) e.alone (filter_has (begins_at p.span.first) s.parts at.extent at.there t)) in
-      let alike = slab.alike e.region gone.0 (subst (λ q. houses q e.region ≡ true) same e.home) in
-      let low = at.low in
-      omega (arith, alike, big, low)) in
-      ap (λ y. keep (with_free addr y)) (sym at.is) ∙ ap not (unused x.class at.extent at.low at.there at.slab) ∙ rw other refl in
-      filter_all_of keep (map (with_free addr) slabs) (λ y m. let x = map_from (with_free addr) slabs y m in ap keep (sym x.2) ∙ used x.0 x.1) ∙ map_itself (with_free addr) slabs stays
+  same_large big = filter_all_of keep (map (with_free addr) slabs) (λ y m. let x = map_from (with_free addr) slabs y m in ap keep (sym x.2) ∙ (each x.0 x.1).1) ∙ map_itself (with_free addr) slabs (λ x m. (each x m).0)
+    where
+      -- a slab stays as it is, and is still in use
+      each : (x : BinSlab) → Contains slabs x → (with_free addr x ≡ x) × (keep (with_free addr x) ≡ true)
+      each x m =
+          let at = stands_at s slabs book x m in
+          let low = at.low in
+          let slab = slab_at s x.class at.extent sound low at.there at.slab in
+          let other = false_from_ne_true _ (λ t.
+          let same = only p at.extent (subst (λ xs. Contains xs at.extent) e.alone (filter_has (begins_at p.span.first) s.parts at.extent at.there t)) in
+          let alike = slab.alike e.region gone.0 (subst (λ q. houses q e.region ≡ true) same e.home) in
+          omega (arith, alike, big, low)) in
+          (ap (with_free addr) (sym at.is) ∙ sym (freed_is x.class at.extent) ∙ free_stays x.class at.extent big low at.there slab ∙ at.is,
+            ap (λ y. keep (with_free addr y)) (sym at.is) ∙ ap not (unused x.class at.extent low at.there at.slab) ∙ rw other refl)
 
   -- so the book is that of the space afterwards
   pub back_booked : (class : ℕ) → e.region.class ≡ class → IsBooked after (slabs_returned class addr slabs)

@@ -154,35 +154,26 @@ empties c addr s sound held =
 pub none_kept : {X : Type 0} (t : X → Bool) (xs : List X) → All (λ x. t x ≡ false) xs → filter t xs ≡ []
 none_kept t xs fails = filter_none t xs (recursion_from_All (λ x. t x ≡ false) xs fails)
 
--- where just one extent can pass, it alone is exchanged, or nothing is
-one_exchanged : (c : ℕ) (gone : Part → Bool) (parts : List Part) (p : Part) (b : Bool) → All (λ x. gone x ≡ (begins_at p.span.first x && b)) parts → filter (begins_at p.span.first) parts ≡ p ∷ [] →
-    (filter gone parts ≡ cond b (p ∷ []) []) × (exchanged gone parts (taken_in_order c (filter gone parts)) ≡ cond b (exchanged (begins_at p.span.first) parts (taken_out c p ∷ [])) parts)
-one_exchanged c gone parts p true each alone =
-    let t = begins_at p.span.first in
-    let P : Part → Type 0 = λ x. gone x ≡ (t x && true) in
-    let same = filter_same gone t parts (λ x m. grind (arith, All-contains P parts x each m)) in
-    let others = filter_same (λ x. not (gone x)) (λ x. not (t x)) parts (λ x m. grind (arith, All-contains P parts x each m)) in
-    (same ∙ alone, cc (same, alone, others))
-one_exchanged c gone parts p false each alone =
-    let same = none_kept gone parts (λ k d h. grind (arith, each k d h)) in
-    (same, cc (same, keeps_all gone parts same, append-nil parts))
-
-pub given_parts : (c addr : ℕ) (s : Space) (p : Part) → Empties c addr s p → (b : Bool) → is_left (staying c (addr ∷ []) s.regions) p ≡ b →
-    (filter (is_emptied (staying c (addr ∷ []) s.regions)) s.parts ≡ cond b (p ∷ []) []) × ((after_back s c (addr ∷ [])).after.parts ≡ cond b (exchanged (begins_at p.span.first) s.parts (taken_out c p ∷ [])) s.parts)
-given_parts c addr s p e b is =
-    let regions = staying c (addr ∷ []) s.regions in
-    one_exchanged c (is_emptied regions) s.parts p b (subst (λ x. All (λ q. is_emptied regions q ≡ (begins_at p.span.first q && x)) s.parts) is e.each) e.alone
-
 -- What the return then comes to: how many extents are emptied, and the extents afterwards.
 pub record Gives (c addr : ℕ) (s : Space) (p : Part) (left : Bool) : Type 0 where
   pub count : ones left ≡ length (filter (is_emptied (staying c (addr ∷ []) s.regions)) s.parts)
   pub parts : cond left (exchanged (begins_at p.span.first) s.parts (taken_out c p ∷ [])) s.parts ≡ (after_back s c (addr ∷ [])).after.parts
 
 pub gives : (c addr : ℕ) (s : Space) (p : Part) (left : Bool) → Empties c addr s p → left ≡ is_left (staying c (addr ∷ []) s.regions) p → Gives c addr s p left
-gives c addr s p left e is =
-    let parts = given_parts c addr s p e left (sym is) in
-    record { count = sym (ap length parts.0 ∙ counted left); parts = sym parts.1 }
+gives c addr s p left e is = by left (subst (λ x. All (λ q. gone q ≡ (t q && x)) s.parts) (sym is) e.each)
   where
-    counted : (b : Bool) → length (cond b (p ∷ []) []) ≡ ones b
-    counted true = refl
-    counted false = refl
+    t : Part → Bool
+    t = begins_at p.span.first
+
+    gone : Part → Bool
+    gone = is_emptied (staying c (addr ∷ []) s.regions)
+
+    by : (b : Bool) → All (λ q. gone q ≡ (t q && b)) s.parts → Gives c addr s p b
+    by true each =
+        let P : Part → Type 0 = λ x. gone x ≡ (t x && true) in
+        let here = filter_same gone t s.parts (λ x m. grind (arith, All-contains P s.parts x each m)) ∙ e.alone in
+        let others = filter_same (λ x. not (gone x)) (λ x. not (t x)) s.parts (λ x m. grind (arith, All-contains P s.parts x each m)) in
+        record { count = ap length (sym here); parts = cc (here, others) }
+    by false each =
+        let none = none_kept gone s.parts (λ k d h. grind (arith, each k d h)) in
+        record { count = ap length (sym none); parts = cc (none, keeps_all gone s.parts none, append-nil s.parts) }

@@ -1,5 +1,5 @@
 -- Extents in order of address, as some go or one comes.
-use Rattle.arena_core.proofs.Words.{◌≡◌, ◌≢◌, ◌<◌, ◌≤◌, suc, Bool, true, false, cond, List, [], ◌∷◌, ◌++◌, All, filter, ltb, fold, take, drop, ◌+◌, subst, inl, inr, refl, sym, ap, ◌∙◌, arith, Every, position_or_len, cases_Bool, cases_lt, nat_tests, recursion_from_All, every_filter, every_map, filter_all, filter_none, Part, placed, turned_in_order, OrderGrows, OrderStays, ℕ, not, Contains, filter_same, filter_has, All-contains, begins_at}
+use Rattle.arena_core.proofs.Words.{◌≡◌, ◌≢◌, ◌<◌, ◌≤◌, suc, Bool, true, false, cond, List, [], ◌∷◌, ◌++◌, All, filter, ltb, fold, take, drop, ◌+◌, subst, inl, inr, refl, sym, ap, ◌∙◌, arith, Every, position_or_len, cases_Bool, cases_lt, nat_tests, recursion_from_All, every_filter, every_map, filter_all, filter_none, Part, placed, turned_in_order, OrderGrows, OrderStays, ℕ, not, Contains, filter_same, filter_has, All-contains, begins_at, filter_none_of, filter_from, filter-append, append-nil, filter_passes, ltb-true}
 use Rattle.arena_core.proofs.Swaps.{keeps_all}
 
 -- each extent begins no later than those behind it
@@ -70,36 +70,6 @@ unfolding order
 rising_order before [] r = r
 rising_order before (p ∷ ps) r = rising_order (placed p before) ps (subst Rising (sym (placed_is p before)) (rising_put p before r))
 
-every_order : (P : Part → Type 0) (before parts : List Part) → Every P before → Every P parts → Every P (order before parts)
-unfolding order
-every_order P before [] all more = all
-every_order P before (p ∷ ps) all more = every_order P (placed p before) ps (subst (Every P) (sym (placed_is p before)) (every_put P p before more.0 all)) more.1
-
-order_push : (before parts : List Part) (p : Part) → order before (parts ++ p ∷ []) ≡ placed p (order before parts)
-unfolding order
-order_push before [] p = refl
-order_push before (q ∷ qs) p = order_push (placed q before) qs p
-
--- a new one between those below and those above
-put_between : (p : Part) (L : List Part) → Rising L → Every (λ q. q.span.first ≢ p.span.first) L → put p L ≡ filter (λ q. ltb q.span.first p.span.first) L ++ p ∷ filter (λ q. ltb p.span.first q.span.first) L
-unfolding put Rising
-put_between p [] r other = refl
-put_between p (q ∷ L) r other = elim (cases_lt p.span.first q.span.first) [
-  | inl l ↦
-      let t : ltb p.span.first q.span.first ≡ true = grind (arith, nat_tests) in
-      let later : Every (λ x. p.span.first < x.span.first) (q ∷ L) = (l, every_map (λ x. q.span.first ≤ x.span.first) (λ x. p.span.first < x.span.first) (λ x le. omega arith) L r.0) in
-      let none = filter_none (λ x. ltb x.span.first p.span.first) (q ∷ L) (every_map (λ x. p.span.first < x.span.first) (λ x. ltb x.span.first p.span.first ≡ false) (λ x lt. grind (arith, nat_tests)) (q ∷ L) later) in
-      let all = filter_all (λ x. ltb p.span.first x.span.first) (q ∷ L) (every_map (λ x. p.span.first < x.span.first) (λ x. ltb p.span.first x.span.first ≡ true) (λ x lt. grind (arith, nat_tests)) (q ∷ L) later) in
-      put_first p (q ∷ L) later ∙ sym (λ k. none k ++ p ∷ all k)
-  | inr g ↦ grind (arith, nat_tests, other.0, put_between p L r.1 other.1)
-]
-
-pub order_grows : OrderGrows
-unfolding order Rising
-order_grows parts p other =
-    let all = every_order (λ q. q.span.first ≢ p.span.first) [] parts tt (recursion_from_All (λ q. q.span.first ≢ p.span.first) parts other) in
-    order_push [] parts p ∙ placed_is p (order [] parts) ∙ put_between p (order [] parts) (rising_order [] parts tt) all
-
 -- those below a page stand in front of the others
 split_below : (n : ℕ) (L : List Part) → Rising L → filter (λ q. ltb q.span.first n) L ++ filter (λ q. not (ltb q.span.first n)) L ≡ L
 unfolding Rising
@@ -137,3 +107,22 @@ lowest_first p parts alone above =
     ] in
     in_two (p.span.first + 1) parts
     ∙ (λ k. turned_in_order (λ q. q) ((filter_same under t parts here ∙ alone) k) ++ turned_in_order (λ q. q) (filter_same (λ q. not (under q)) (λ q. not (t q)) parts (λ q m. ap not (here q m)) k))
+
+-- a new one stands between those below it and those above it
+pub order_grows : OrderGrows
+order_grows parts p other =
+    let t = begins_at p.span.first in
+    let under = λ (q : Part). ltb q.span.first p.span.first in
+    let over = λ (q : Part). ltb p.span.first q.span.first in
+    let differs = λ (q : Part) (m : Contains parts q). All-contains (λ x. x.span.first ≢ p.span.first) parts q other m in
+    let none = filter_none_of t (filter (λ q. not (under q)) parts) (λ q m. let away = differs q (filter_from (λ x. not (under x)) parts q m).0 in grind (arith, nat_tests, away)) in
+    let upper = filter_same (λ q. not (under q)) over parts (λ q m. let away = differs q m in grind (arith, nat_tests, away)) in
+    let high : filter (λ q. not (under q)) (parts ++ p ∷ []) ≡ filter (λ q. not (under q)) parts ++ p ∷ [] = grind (arith, nat_tests, filter-append (λ q. not (under q)) parts (p ∷ [])) in
+    let low : filter under (parts ++ p ∷ []) ≡ filter under parts = grind (arith, nat_tests, filter-append under parts (p ∷ []), append-nil (filter under parts)) in
+    let above : filter (λ q. not (t q)) (filter (λ q. not (under q)) parts ++ p ∷ []) ≡ filter over parts = grind (arith, nat_tests, filter-append (λ q. not (t q)) (filter (λ q. not (under q)) parts) (p ∷ []), keeps_all t (filter (λ q. not (under q)) parts) none, append-nil (filter over parts), upper) in
+    let alone : filter t (filter (λ q. not (under q)) parts ++ p ∷ []) ≡ p ∷ [] = grind (arith, nat_tests, filter-append t (filter (λ q. not (under q)) parts) (p ∷ []), none) in
+    let higher : All (λ q. p.span.first < q.span.first) (filter over parts) = λ k d h. ltb-true _ _ (filter_passes over parts k d h) in
+    in_two p.span.first (parts ++ p ∷ [])
+    ∙ (λ k. turned_in_order (λ q. q) (low k) ++ turned_in_order (λ q. q) (high k))
+    ∙ ap (λ xs. turned_in_order (λ q. q) (filter under parts) ++ xs) (lowest_first p (filter (λ q. not (under q)) parts ++ p ∷ []) alone (subst (All (λ q. p.span.first < q.span.first)) (sym above) higher) ∙ ap (λ xs. p ∷ turned_in_order (λ q. q) xs) above)
+    ∙ (λ k. order_stays under parts k ++ p ∷ order_stays over parts k)

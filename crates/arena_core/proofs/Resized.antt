@@ -212,15 +212,12 @@ is_large : (class : ℕ) → is_large_class class ≡ true → (36 ≤ class) ×
 is_large class h = let both = both_true (nat_le 36 class) _ h in (leb-true _ _ both.0, ltb-true _ _ both.1)
 
 -- the extent of a region that was found passes what was tested
-home_passes : (c addr : ℕ) (s : Space) (span : Span) (home : Region × Part) → large_home s c addr ≡ Some home → has_large s c addr (λ p. same_span p.span span) ≡ true → home.1.span.pages ≡ span.pages
+home_passes : (c addr : ℕ) (s : Space) (span : Span) (home : Region × Part) → large_home s c addr ≡ Some home → has_large s c addr (λ p. same_span p.span span) ≡ true →
+    (home.1.span.first ≡ span.first) × (home.1.span.pages ≡ span.pages)
 home_passes c addr s span home e h =
     let passes : same_span home.1.span span ≡ true = subst (λ o. found_passes (λ p. same_span p.span span) (option_map (λ x. x.1) o) ≡ true) e h in
-    eqb-true _ _ (both_true (eqb home.1.span.first span.first) _ passes).1
-
-home_first : (c addr : ℕ) (s : Space) (span : Span) (home : Region × Part) → large_home s c addr ≡ Some home → has_large s c addr (λ p. same_span p.span span) ≡ true → home.1.span.first ≡ span.first
-home_first c addr s span home e h =
-    let passes : same_span home.1.span span ≡ true = subst (λ o. found_passes (λ p. same_span p.span span) (option_map (λ x. x.1) o) ≡ true) e h in
-    eqb-true _ _ (both_true (eqb home.1.span.first span.first) _ passes).0
+    let both = both_true (eqb home.1.span.first span.first) _ passes in
+    (eqb-true _ _ both.0, eqb-true _ _ both.1)
 
 join_by : (c : ℕ) (s : Space) (class : ℕ) (low high : Span) (o : Option (Region × Part)) (u : Option Part) (slabs : List BinSlab) → large_home s c (address_of low.first) ≡ o →
     find (is_flight_at c high) s.parts ≡ u → Sound s → Sound (widened_at s class o u).after → join_stands s c class (Merge low high) Done ≡ true → IsBooked s slabs →
@@ -236,11 +233,10 @@ join_by c s class low high (Some home) (Some q) slabs e f sound also stands are 
     let found = home_found c s (address_of low.first) home e in
     let at = housed s (is_large_at c (address_of low.first)) home.0 p sound found.region found.house found.large in
     let to = in_flight c s high q sound (sym f) in
-    let pages = home_passes c (address_of low.first) s low home e t2.1 in
-    let first = home_first c (address_of low.first) s low home e t2.1 in
+    let passed = home_passes c (address_of low.first) s low home e t2.1 in
     let whole : low.pages + high.pages ≡ pages_at class = eqb-true _ _ t4.1 in
     let side : end_of low ≡ high.first = eqb-true _ _ t3.1 in
-    let beside : end_of p.span ≡ q.span.first = omega (arith, first, pages, to.first, side) in
+    let beside : end_of p.span ≡ q.span.first = omega (arith, passed.0, passed.1, to.first, side) in
     resized_booked {p = p} {new = joined p q} {gone = begins_either p q} {others = q ∷ []} {more = []} slabs (record {
       sound = sound;
       also = also;
@@ -257,7 +253,7 @@ join_by c s class low high (Some home) (Some q) slabs e f sound also stands are 
       active = at.active;
       committed = at.committed;
       start = at.start;
-      pages = omega (arith, pages, to.pages, whole);
+      pages = omega (arith, passed.1, to.pages, whole);
     }) are
 
 pub join_step : (c : ℕ) (s : Space) (class : ℕ) (ask : Ask) (answer : Answer) (slabs : List BinSlab) → Sound s → Sound (after_join s c class ask answer).after → join_stands s c class ask answer ≡ true →

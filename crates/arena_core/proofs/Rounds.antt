@@ -1,8 +1,8 @@
 -- Extents that change and regions that are given back, one after the other from the lowest on.
 use Rattle.arena_core.proofs.Words.{◌≡◌, ℕ, ◌+◌, ◌<◌, ◌≤◌, Bool, true, false, cond, not, List, [], ◌∷◌, ◌++◌, append_assoc, append-nil, length, get_or, filter, fold, refl, sym, ◌∙◌, ap, subst, arith, All, nat_lt, inl, inr, suc, ◌*◌, IsTrue, ◌&&◌, ◌||◌, eqb, nat_le, drop, add-one, drop-cons, insert, position_or_len, sum_by, count_by, list_all, list_any, cases_Bool, cases_lt, not-true, nat_tests, All-append, All-cons, All-filter, All-head, All-nil, All-tail, filter-append, filter_passes, All-weaker, length-filter_both, sum_by-filter_both, get_or-le-sum_by, sum_by-cons, Part, IsPlaced, end_of, begins_at, exchanged, placed, turned, turned_in_order, is_active, taken_out, Span, filter-begins_at, filter-without, share, find_has, find_passes, All-insert, some_pages, serves, filter_swap, filter_both, IsApart, IsThere, drop_all, Region, Life, Live, Absent, Dying, Space, houses, is_held_by, residents, after_back, holds_at, is_emptied, is_given_back, is_live, rises_from, staying, taken_in_order, Sound, lawful_sound, back_does, both_true, filter_same, All-map, map, filter_map_is, turned_first}
-use Rattle.arena_core.proofs.Emptying.{All-split, none_kept, Empties, any_counts, counted_any, empties, none_counted, given_parts, is_left, ones, some_found}
+use Rattle.arena_core.proofs.Emptying.{All-split, none_kept, Empties, any_counts, counted_any, empties, none_counted, gives, is_left, ones, some_found}
 use Rattle.arena_core.proofs.InOrder.{lowest_first}
-use Rattle.arena_core.proofs.Swaps.{changed, keeps_all, there_placed}
+use Rattle.arena_core.proofs.Swaps.{changed, keeps_all, others_apart, there_placed}
 
 -- ---- a change that leaves each extent where it begins
 
@@ -48,15 +48,6 @@ turns_first turn parts p gone keeps goes stays alone above one is =
 
 -- ---- a walk by address
 
--- of extents that are apart, none that begins elsewhere shares a page with one that is there
-pub others_apart : (parts : List Part) (p : Part) → IsApart parts → IsThere parts p → All (λ q. (page : ℕ) → share page q + share page p ≤ 1) (filter (λ q. not (begins_at p.span.first q)) parts)
-others_apart parts p apart there = λ k d h page.
-    let t = begins_at p.span.first in
-    let others : List Part = filter (λ q. not (t q)) parts in
-    let alone : filter t parts ≡ p ∷ [] = filter-begins_at t parts p (some_pages parts apart.placed) (apart.owners p.span.first) there in
-    let own : sum_by (share page) (filter t parts) ≡ sum_by (share page) (p ∷ []) = ap (sum_by (share page)) alone in
-    omega (arith, get_or-le-sum_by (share page) others k d h, own, sum_by-cons (share page) p [], sum_by-filter_both t (λ q. not (t q)) (λ _. refl) (share page) parts, apart.owners page)
-
 -- one that begins no lower than another, with which it shares no page, begins where that one ends or behind
 pub begins_behind : (low high : Part) → share high.span.first low + share high.span.first high ≤ 1 → 0 < high.span.pages → low.span.first ≤ high.span.first → end_of low.span ≤ high.span.first
 begins_behind low high most some le = grind (arith, nat_tests)
@@ -93,7 +84,7 @@ walk_by test turn start parts one page p b tested spans stays there lowest is wa
         let other : Part → Bool = λ q. not (t q) in
         let kept = All-filter other (λ q. test q ≡ true → p.span.first ≤ q.span.first) parts lowest in
         let placed = All-filter other (λ q. IsPlaced q.span) parts walk.apart.placed in
-        let apart = others_apart parts p walk.apart there in
+        let apart = others_apart parts p alone walk.apart.owners in
         λ k d h passes. let q : Part = get_or others k d in begins_behind p q (let most = apart k d h q.span.first in omega arith) (placed k d h).0 (kept k d h passes)
 
     fails : (q : Part) → test q ≡ false → P q
@@ -202,11 +193,10 @@ above_first c addr addrs s p sound e above =
     let others : List Part = filter (λ q. not (t q)) s.parts in
     let P : Part → Type 0 = λ x. (serves e.region x ≡ 0) × (IsTrue (is_active x.state) → 0 < residents x s.regions) × (share p.span.first x + share p.span.first p ≤ 1) in
     let used = All-filter (λ q. not (t q)) (λ x. IsTrue (is_active x.state) → 0 < residents x s.regions) s.parts sound.used in
-    let mine : sum_by (share p.span.first) (filter t s.parts) ≡ sum_by (share p.span.first) (p ∷ []) = ap (sum_by (share p.span.first)) e.alone in
     let each : All P others = λ k d h. (
       e.others k d h,
       used k d h,
-      omega (arith, get_or-le-sum_by (share p.span.first) others k d h, mine, sum_by-cons (share p.span.first) p [], sum_by-filter_both t (λ q. not (t q)) (λ _. refl) (share p.span.first) s.parts, sound.owners p.span.first),
+      others_apart s.parts p e.alone sound.owners k d h p.span.first,
     ) in
     let kept = All-filter gone P others each in
     let passes = filter_passes gone others in
@@ -246,20 +236,18 @@ round_by : (c addr : ℕ) (addrs : List ℕ) (s : Space) (p : Part) (b : Bool) �
     (exchanged gone one (taken_in_order c (filter gone one)) ≡ exchanged gone s.parts (taken_in_order c (filter gone s.parts)))
     × (length (filter (is_emptied (staying c (addr ∷ []) s.regions)) s.parts) + length (filter gone one) ≡ length (filter gone s.parts))
 round_by c addr addrs s p false sound e above left one is gone same =
-    let parts = given_parts c addr s p e false left in
-    let one_is : one ≡ s.parts = is ∙ parts.1 in
-    let none : length (filter (is_emptied (staying c (addr ∷ []) s.regions)) s.parts) ≡ 0 = ap length parts.0 in
+    let g = gives c addr s p false e (sym left) in
+    let one_is : one ≡ s.parts = is ∙ sym g.parts in
     let n : length (filter gone one) ≡ length (filter gone s.parts) = ap (λ xs. length (filter gone xs)) one_is in
-    (ap (λ xs. exchanged gone xs (taken_in_order c (filter gone xs))) one_is, omega (arith, none, n))
+    (ap (λ xs. exchanged gone xs (taken_in_order c (filter gone xs))) one_is, omega (arith, g.count, n))
 round_by c addr addrs s p true sound e above left one is gone same =
-    let parts = given_parts c addr s p e true left in
+    let g = gives c addr s p true e (sym left) in
     let first : List Region = staying c (addr ∷ []) s.regions in
     let goes : gone p ≡ true = ap (λ (f : Part → Bool). f p) same ∙ emptied_still c addrs first p e.active left in
     let stays : gone (taken_out c p) ≡ false = ap (λ (f : Part → Bool). f (taken_out c p)) same in
     let higher = subst (λ (f : Part → Bool). All (λ q. p.span.first < q.span.first) (filter f (filter (λ q. not (begins_at p.span.first q)) s.parts))) (sym same) (above_first c addr addrs s p sound e above) in
-    let both = turns_first (taken_out c) s.parts p gone (λ q. refl) goes stays e.alone higher one (is ∙ parts.1) in
-    let n : length (filter (is_emptied first) s.parts) ≡ 1 = ap length parts.0 in
-    (both.all, omega (arith, n, both.fewer))
+    let both = turns_first (taken_out c) s.parts p gone (λ q. refl) goes stays e.alone higher one (is ∙ sym g.parts) in
+    (both.all, omega (arith, g.count, both.fewer))
   where
     emptied_still : (c : ℕ) (addrs : List ℕ) (regions : List Region) (p : Part) → is_active p.state ≡ true → is_left regions p ≡ true → is_emptied (staying c addrs regions) p ≡ true
     emptied_still c addrs regions p active left =

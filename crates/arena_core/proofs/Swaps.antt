@@ -1,5 +1,5 @@
 -- Extents that are apart stay apart, with sums that are known, where one or two of them are exchanged.
-use Rattle.arena_core.proofs.Words.{◌≡◌, ℕ, ◌+◌, ◌-◌, ◌<◌, ◌≤◌, Bool, true, false, not, cond, List, [], ◌∷◌, ◌++◌, filter, Option, Some, IfSome, refl, sym, ap, subst, arith, All, inl, inr, list_any, sum_by, cases_Bool, cases_lt, nat_tests, sum_by_push, sum_by-cons, sum_by-le-sum_by, All-cons, All-head, All-nil, All-push, All-tail, All-weaker, Part, Span, State, IsPlaced, end_of, has_page, meets, pages_end, begins_at, exchanged, holders, is_active, begins_either, high_piece, joined, low_piece, All-exchanged, filter-begins_at, find-le-sum_by, find_has, share, sum_by-either, sum_by-exchanged, sum_by-replaced, some_pages, lengths-le, AreBeside, Book, IsApart, IsThere, active_pages, all_pages, Inside, IsExtents, ◌∙◌}
+use Rattle.arena_core.proofs.Words.{◌≡◌, ℕ, ◌+◌, ◌-◌, ◌<◌, ◌≤◌, Bool, true, false, not, cond, List, [], ◌∷◌, ◌++◌, filter, Option, Some, IfSome, refl, sym, ap, subst, arith, All, inl, inr, list_any, sum_by, cases_Bool, cases_lt, nat_tests, sum_by_push, sum_by-cons, sum_by-le-sum_by, All-cons, All-head, All-nil, All-push, All-tail, All-weaker, Part, Span, State, IsPlaced, end_of, has_page, meets, pages_end, begins_at, exchanged, holders, is_active, begins_either, high_piece, joined, low_piece, All-exchanged, filter-begins_at, find-le-sum_by, find_has, share, sum_by-either, sum_by-exchanged, sum_by-replaced, some_pages, lengths-le, AreBeside, Book, IsApart, IsThere, active_pages, all_pages, Inside, IsExtents, ◌∙◌, get_or-le-sum_by, sum_by-filter_both}
 
 -- the pages of an extent, and those that serve regions
 abbrev pub pages : Part → ℕ
@@ -15,6 +15,15 @@ there_placed parts p apart there = find_has (λ q. IsPlaced q.span) (begins_at p
 -- it is no more than the sum
 pub within_sum : (f : Part → ℕ) (parts : List Part) (p : Part) → IsThere parts p → f p ≤ sum_by f parts
 within_sum f parts p there = find-le-sum_by f (begins_at p.span.first) parts p there
+
+-- where no two extents share a page, none that begins elsewhere shares one with an extent that begins there alone
+pub others_apart : (parts : List Part) (p : Part) → filter (begins_at p.span.first) parts ≡ p ∷ [] → ((page : ℕ) → holders page parts ≤ 1) →
+    All (λ q. (page : ℕ) → share page q + share page p ≤ 1) (filter (λ q. not (begins_at p.span.first q)) parts)
+others_apart parts p alone owners = λ k d h page.
+    let t = begins_at p.span.first in
+    let others : List Part = filter (λ q. not (t q)) parts in
+    let own : sum_by (share page) (filter t parts) ≡ sum_by (share page) (p ∷ []) = ap (sum_by (share page)) alone in
+    omega (arith, get_or-le-sum_by (share page) others k d h, own, sum_by-cons (share page) p [], sum_by-filter_both t (λ q. not (t q)) (λ _. refl) (share page) parts, owners page)
 
 -- Pieces that may stand in place of an extent: they lie in the space and have just its pages.
 pub record Fill (p : Part) (pieces : List Part) : Type 0 where
