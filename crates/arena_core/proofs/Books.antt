@@ -1,7 +1,7 @@
 -- A book of slabs beside a space, as regions land and are given back.
 use Rattle.arena_core.proofs.Words.{◌≡◌, ℕ, ◌/◌, ◌<◌, ◌≤◌, Bool, true, false, not, IsTrue, List, [], ◌∷◌, length, get_or, All, Contains, filter, map, inl, inr, refl, sym, ◌∙◌, ap, subst, arith, ◌&&◌, eqb, lt-ltb, find, Some, cond, count_by, list_any, sum_by, cases_Bool, cases_lt, eq-eqb, eqb-true, false_from_ne_true, le-ltb, nat_tests, nil_from_length, All-cons, All-contains, All-contains_itself, All-filter, All-map, All-nil, All-head, sum_by-filter_both, ext_get_or, length-map, length-map-range_with_len, length-filter, sum_by-cons, contains_cases, contains_later, filter_from, filter_has, Part, Region, Space, has_page, begins_at, taken_out, turned_in_order, fills, houses, is_slab, residents, starts_at, slabs_by_class, places, slabs_of, Sound, after_back, holds_at, is_emptied, is_given_back, staying, eqb_itself, only_one, both_true, All-turned, turned_sum, BinSlab, is_out, is_all_free, of_class, with_free, any_from, any_has, any_map, filter_all_of, filter_both, filter_map_is, filter_none_of, filter_same, filter_swap, head, map_both, map_from, map_same, booked_slab, IsBooked, NothingIsBooked, slabs_left, is_last, slabs_returned, at_tally, tally, map-id}
 use Rattle.arena_core.proofs.Booked.{from_slabs, same_slab, among_kept, both_ways, freed, idle_no_slab, serves_none, stay_still, SlabAt, slab_at, starts_served, still_slab, unused_is}
-use Rattle.arena_core.proofs.Emptying.{Empties, Gives, any_counts, begins_alone, counted_any, empties, gives, is_left, ones}
+use Rattle.arena_core.proofs.Emptying.{Empties, Gives, any_counts, begins_alone, count_all, counted_any, empties, gives, is_left, ones}
 use Rattle.arena_core.proofs.Finds.{find_alone}
 use Rattle.arena_core.proofs.InOrder.{order_stays}
 use Rattle.arena_core.proofs.Still.{Still, kept_exchanged}
@@ -45,11 +45,7 @@ class_count : (s : Space) (slabs : List BinSlab) → IsBooked s slabs → (class
 class_count s slabs book class low =
     let parts = filter (is_slab class s.regions) s.parts in
     let many = ap length (book.booked class low) ∙ length-map (slabs_of class s) (booked_slab s.regions class) in
-    omega (arith, length-filter (λ x. eqb x.class class) slabs, many, each_one (slabs_of class s), turned_sum (λ p. p) (λ p. 1) [] parts, each_one parts, length-filter (is_slab class s.regions) s.parts)
-  where
-    each_one : (ps : List Part) → sum_by (λ p. 1) ps ≡ length ps
-    each_one [] = refl
-    each_one (p ∷ ps) = omega (arith, each_one ps, sum_by-cons (λ (q : Part). 1) p ps)
+    omega (arith, length-filter (λ x. eqb x.class class) slabs, many, count_all (slabs_of class s), turned_sum (λ p. p) (λ p. 1) [] parts, count_all parts, length-filter (is_slab class s.regions) s.parts)
 
 pub slabs_counted : (s : Space) (slabs : List BinSlab) (numbers : List ℕ) → IsBooked s slabs → length numbers ≡ 36 → ((class : ℕ) → class < 36 → get_or numbers class 0 ≡ count_by (λ x. eqb x.class class) slabs) →
     numbers ≡ slabs_by_class s.regions s.parts

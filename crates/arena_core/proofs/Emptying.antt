@@ -17,6 +17,10 @@ ones_le a b le h = grind arith
 pub ones_same : (a b : Bool) → ones a ≡ ones b → a ≡ b
 ones_same a b h = grind arith
 
+pub count_all : {X : Type 0} (xs : List X) → count_by (λ x. true) xs ≡ length xs
+count_all [] = refl
+count_all (x ∷ xs) = omega (arith, count_all xs, sum_by-cons (λ y. 1) x xs)
+
 -- what passes at all is found, and counted
 pub some_found : {X : Type 0} (t : X → Bool) (xs : List X) → 0 < count_by t xs → (x : X) × (find t xs ≡ Some x)
 some_found t [] some = absurd (omega (arith, some))
@@ -66,12 +70,9 @@ given c addr s sound held =
 
 -- ---- its extent
 
--- The extent of a region: the one that has the page of its address.
-pub record Home (r : Region) (parts : List Part) (p : Part) : Type 0 where
-  pub found : find (λ q. has_page (r.addr / 4096) q.span) parts ≡ Some p
-  pub home : houses p r ≡ true
-
-pub home_of : (r : Region) (parts : List Part) → r.class < 121 → homes r parts ≡ 1 → holders (r.addr / 4096) parts ≤ 1 → (p : Part) × Home r parts p
+-- the extent of a region: the one that has the page of its address
+home_of : (r : Region) (parts : List Part) → r.class < 121 → homes r parts ≡ 1 → holders (r.addr / 4096) parts ≤ 1 →
+    (p : Part) × (find (λ q. has_page (r.addr / 4096) q.span) parts ≡ Some p) × (houses p r ≡ true)
 home_of r parts class home most =
     let size : 0 < size_at r.class = omega (arith, size_bounds r.class class) in
     let starts : covers r.addr r ≡ true = grind (arith, nat_tests) in
@@ -81,7 +82,7 @@ home_of r parts class home most =
     let p = some_found here parts (omega (arith, fewer, home)) in
     let there = found here parts p.0 p.1 in
     let same = home_shares r parts p.0 class home most there.0 in
-    (p.0, record { found = p.1; home = ones_same (houses p.0 r) (here p.0) same ∙ there.1 })
+    (p.0, p.1, ones_same (houses p.0 r) (here p.0) same ∙ there.1)
 
 -- ---- what is emptied
 
@@ -122,24 +123,24 @@ empties c addr s sound held =
     let home = home_of r s.parts class one (sound.owners (r.addr / 4096)) in
     let p : Part = home.0 in
     let search : Part → Bool = λ q. has_page (r.addr / 4096) q.span in
-    let alone = filter-begins_at search s.parts p (some_pages s.parts sound.placed) (sound.owners p.span.first) home.1.found in
-    let active : is_active p.state ≡ true = grind (arith, home.1.home) in
+    let alone = filter-begins_at search s.parts p (some_pages s.parts sound.placed) (sound.owners p.span.first) home.1 in
+    let active : is_active p.state ≡ true = grind (arith, home.2) in
     let begins = begins_at p.span.first in
     let served : sum_by (serves r) (filter begins s.parts) ≡ sum_by (serves r) (p ∷ []) = ap (sum_by (serves r)) alone in
     let none = sum_nothing (serves r) (filter (λ x. not (begins x)) s.parts)
-    (grind (arith, one, home.1.home, served, sum_by-cons (serves r) p [], sum_by-filter_both begins (λ x. not (begins x)) (λ _. refl) (serves r) s.parts)) in
+    (grind (arith, one, home.2, served, sum_by-cons (serves r) p [], sum_by-filter_both begins (λ x. not (begins x)) (λ _. refl) (serves r) s.parts)) in
     let used = All-filter (λ x. not (begins x)) (λ x. IsTrue (is_active x.state) → 0 < residents x s.regions) s.parts sound.used in
     let apart = filter_passes (λ x. not (begins x)) s.parts in
     let P : Part → Type 0 = λ x. is_emptied regions x ≡ (begins x && is_left regions p) in
     let itself : begins p ≡ true = grind (arith, nat_tests) in (
       p,
       record {
-        found = subst (λ a. find (λ q. has_page (a / 4096) q.span) s.parts ≡ Some p) region.1.at home.1.found;
-        placed = find_has (λ q. IsPlaced q.span) search s.parts p sound.placed home.1.found;
+        found = subst (λ a. find (λ q. has_page (a / 4096) q.span) s.parts ≡ Some p) region.1.at home.1;
+        placed = find_has (λ q. IsPlaced q.span) search s.parts p sound.placed home.1;
         active = active;
         region = r;
         given = region.1;
-        home = home.1.home;
+        home = home.2;
         others = none;
         each = All-split P begins s.parts
             (subst (All P) (sym alone) (All-cons P p [] (rw (active, itself) refl) (All-nil P)))

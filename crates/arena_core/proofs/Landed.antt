@@ -15,10 +15,8 @@ can_come s t come sound same = record {
 -- what is said of a land that may stand
 pub may_land : (s : Space) (c : ℕ) (span : Span) (class count : ℕ) → land_stands s c span class count ≡ true → (class < 121) × (span.pages ≡ pages_at class) × (0 < count) × (count ≤ most_regions class)
 may_land s c span class count h =
-    let a = both_true (nat_lt class 121 && nat_lt 0 count && nat_le count (most_regions class) && eqb span.pages (pages_at class)) _ h in
-    let b = both_true (nat_lt class 121 && nat_lt 0 count && nat_le count (most_regions class)) _ a.0 in
-    let d = both_true (nat_lt class 121 && nat_lt 0 count) _ b.0 in
-    let f = both_true (nat_lt class 121) _ d.0 in (grind (arith, nat_tests, f.0), eqb-true _ _ b.1, grind (arith, nat_tests, f.1), leb-true _ _ d.1)
+    let a = (both_true (nat_lt class 121 && nat_lt 0 count && nat_le count (most_regions class) && eqb span.pages (pages_at class)) _ h).0 in
+    (grind (arith, nat_tests, a), grind (arith, nat_tests, a), grind (arith, nat_tests, a), grind (arith, nat_tests, a))
 
 -- What is said of a land that may stand, in an extent that was found.
 pub record Fitting (c : ℕ) (s : Space) (class count : ℕ) (p : Part) : Type 0 where
@@ -94,10 +92,6 @@ lowest_come c s class count sound low some live =
     let addrs = lowest_free class count s in
     let after : Sound (fill_at s c class addrs).after = subst (λ b. Sound (cond b (fill_at s c class addrs) (stays s NoArena)).after) live (op_keeps c s (Fill class count) sound stands).sound in
     can_come s (filled s c class addrs) (map (region_of c class) addrs) (subst Sound (filled_is c s class addrs) after) refl
-
--- an address among them as the region there
-pub held_at : (c class i : ℕ) (addrs : List ℕ) → i < length addrs → get_or (map (region_of c class) addrs) i (region_of c class (get_or addrs i 0)) ≡ region_of c class (get_or addrs i 0)
-held_at c class i addrs lt = get_or-map (region_of c class) addrs i 0 (region_of c class (get_or addrs i 0)) lt
 
 -- what a book gives is what is taken
 pub taken_are : (s : Space) (c class count : ℕ) {slabs : List BinSlab} {before : List ℕ} → Sound s → class < 36 → IsBooked s slabs → before ≡ [] → before ++ take count (free_of class slabs) ≡ lowest_free class count s

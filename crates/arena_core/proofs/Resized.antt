@@ -82,11 +82,6 @@ page_homed {p} c page s test sound h read =
 
 -- ---- another class
 
--- none of those is at the address
-pub none_at : (addr : ℕ) (regions : List Region) → list_any (λ r. r.addr == addr) (filter (λ r. not (starts_at addr r)) regions) ≡ false
-none_at addr [] = refl
-none_at addr (r ∷ rs) = grind (arith, none_at addr rs)
-
 -- the region of a client, as it is put in with another class
 pub reclassed_is : (c addr class : ℕ) (r : Region) (regions : List Region) → r.addr ≡ addr → r.holder ≡ Some c →
     inserted (record { addr = addr; class = class; holder = Some c }) (filter (λ q. not (starts_at addr q)) regions) ≡ reclassed r class regions

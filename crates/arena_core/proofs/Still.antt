@@ -33,12 +33,6 @@ kept_behind f parts pieces none = filter-append f parts pieces ∙ ap (λ ps. fi
 pub kept_exchanged : (f gone : Part → Bool) (parts pieces : List Part) → filter f (filter gone parts) ≡ [] → All (λ p. f p ≡ false) pieces → filter f (exchanged gone parts pieces) ≡ filter f parts
 kept_exchanged f gone parts pieces none come = kept_behind f (filter (λ p. not (gone p)) parts) pieces come ∙ filter-without f gone parts none
 
-pub idle_behind : (parts pieces : List Part) → All Idle pieces → serving (parts ++ pieces) ≡ serving parts
-idle_behind = kept_behind (λ p. is_active p.state)
-
-pub idle_exchanged : (gone : Part → Bool) (parts pieces : List Part) → serving (filter gone parts) ≡ [] → All Idle pieces → serving (exchanged gone parts pieces) ≡ serving parts
-idle_exchanged = kept_exchanged (λ p. is_active p.state)
-
 -- one that is found goes
 idle_alone : (s : Space) (test : Part → Bool) (p : Part) → Sound s → find test s.parts ≡ Some p → Idle p → serving (filter (begins_at p.span.first) s.parts) ≡ []
 idle_alone s test p sound found idle =
@@ -46,7 +40,7 @@ idle_alone s test p sound found idle =
 
 pub idle_replaced : (s : Space) (test : Part → Bool) (p : Part) (pieces : List Part) → Sound s → find test s.parts ≡ Some p → Idle p → All Idle pieces →
     Still s (record s { parts = exchanged (begins_at p.span.first) s.parts pieces })
-idle_replaced s test p pieces sound found idle come = record { parts = idle_exchanged (begins_at p.span.first) s.parts pieces (idle_alone s test p sound found idle) come; regions = refl }
+idle_replaced s test p pieces sound found idle come = record { parts = kept_exchanged (λ p. is_active p.state) (begins_at p.span.first) s.parts pieces (idle_alone s test p sound found idle) come; regions = refl }
 
 -- two that are found go
 filter_or : (f g h : Part → Bool) (xs : List Part) → filter h (filter f xs) ≡ [] → filter h (filter g xs) ≡ [] → filter h (filter (λ x. f x || g x) xs) ≡ []
@@ -115,7 +109,7 @@ cut_still s c keep_low ask answer sound = same s
 
 grow_by_still : (s : Space) (c : ℕ) (span : Span) (committed : Bool) (o : Option Why) → Still s (grow_unless s c span committed o).after
 grow_by_still s c span committed (Some why) = same s
-grow_by_still s c span committed None = record { parts = idle_behind s.parts _ (one _ refl); regions = refl }
+grow_by_still s c span committed None = record { parts = kept_behind (λ p. is_active p.state) s.parts _ (one _ refl); regions = refl }
 
 pub grow_still : (s : Space) (c : ℕ) (found : Option ℕ) (ask : Ask) (answer : Answer) → Still s (after_grow s c found ask answer).after
 grow_still s c found (Alloc commit at pages align) (Placed committed zeroed first) =
@@ -150,7 +144,7 @@ join_still s c low high sound =
     found_still s (λ o. join_at s o (find (is_flight_at c high) s.parts)) (find (is_flight_at c low) s.parts) (same s) (λ p e.
     found_still s (join_at s (Some p)) (find (is_flight_at c high) s.parts) (same s) (λ q f.
     let first = flies c s low p sound e in record {
-      parts = idle_exchanged (begins_either p q) s.parts (joined p q ∷ []) (idle_either s (is_flight_at c low) (is_flight_at c high) p q sound e f first (flies c s high q sound f)) (one (joined p q) first);
+      parts = kept_exchanged (λ p. is_active p.state) (begins_either p q) s.parts (joined p q ∷ []) (idle_either s (is_flight_at c low) (is_flight_at c high) p q sound e f first (flies c s high q sound f)) (one (joined p q) first);
       regions = refl;
     }))
 
@@ -188,7 +182,7 @@ decommit_still s c ask answer sound = same s
 pub offer_still : (s : Space) (c : ℕ) (span : Span) → Sound s → Still s (offer_at s c (find (is_flight_at c span) s.parts)).after
 offer_still s c span sound =
     found_still s (offer_at s c) (find (is_flight_at c span) s.parts) (same s) (λ p e.
-    record { parts = idle_exchanged (begins_at p.span.first) s.parts [] (idle_alone s (is_flight_at c span) p sound e (flies c s span p sound e)) (All-nil Idle); regions = refl })
+    record { parts = kept_exchanged (λ p. is_active p.state) (begins_at p.span.first) s.parts [] (idle_alone s (is_flight_at c span) p sound e (flies c s span p sound e)) (All-nil Idle); regions = refl })
 
 pub offer_done_still : (s : Space) (c : ℕ) (found : Option ℕ) (ask : Ask) (answer : Answer) → Still s (after_offer s c found ask answer).after
 offer_done_still s c found (Dalloc span committed) Done = still s _ refl refl
@@ -196,7 +190,7 @@ offer_done_still s c found (Dalloc span committed) Refuses =
     let t : Space = record s { offers = without_offer c span committed s.offers } in
     let kept : Part = record { span = span; state = Flight c ToRetained; committed = committed } in
     elim (is_regranted found span s.parts) as (λ b. Still s (cond b (stays t (Abandoned (next_flight c s.parts))) (record { after = record t { parts = s.parts ++ kept ∷ [] }; reply = Kept })).after)
-    [ true ↦ still s t refl refl | false ↦ record { parts = idle_behind s.parts (kept ∷ []) (one kept refl); regions = refl } ]
+    [ true ↦ still s t refl refl | false ↦ record { parts = kept_behind (λ p. is_active p.state) s.parts (kept ∷ []) (one kept refl); regions = refl } ]
 offer_done_still s c found ask answer = same s
 
 -- ---- the other steps
@@ -232,7 +226,7 @@ pub doom_still : (s : Space) (c : ℕ) (p : Part) (ps : List Part) → s.parts �
 doom_still s c p ps e sound dying =
     let found : find (λ q. true) s.parts ≡ Some p = ap (find (λ q. true)) e in
     let idle : Idle p = quiet_idle s.life dying sound.quiet in
-    record { parts = idle_exchanged (begins_at p.span.first) s.parts [] (idle_alone s (λ q. true) p sound found idle) (All-nil Idle); regions = refl }
+    record { parts = kept_exchanged (λ p. is_active p.state) (begins_at p.span.first) s.parts [] (idle_alone s (λ q. true) p sound found idle) (All-nil Idle); regions = refl }
   where
     quiet_idle : (life : Life) → is_dying c life ≡ true → IsQuiet life s → Idle p
     quiet_idle Live h quiet = absurd (cc)

@@ -1,5 +1,5 @@
 -- Extents that are apart stay apart, with sums that are known, where one or two of them are exchanged.
-use Rattle.arena_core.proofs.Words.{◌≡◌, ℕ, ◌+◌, ◌-◌, ◌<◌, ◌≤◌, Bool, true, false, not, cond, List, [], ◌∷◌, ◌++◌, filter, Option, Some, IfSome, refl, sym, ap, subst, arith, All, inl, inr, list_any, sum_by, cases_Bool, cases_lt, nat_tests, sum_by_push, sum_by-cons, sum_by-le-sum_by, All-cons, All-head, All-nil, All-push, All-tail, All-weaker, Part, Span, State, IsPlaced, end_of, has_page, meets, pages_end, begins_at, exchanged, holders, is_active, begins_either, high_piece, joined, low_piece, All-exchanged, filter-begins_at, find-le-sum_by, find_has, share, sum_by-either, sum_by-exchanged, sum_by-replaced, some_pages, lengths-le, AreBeside, Book, IsApart, IsThere, active_pages, all_pages, Inside, IsExtents, ◌∙◌, get_or-le-sum_by, sum_by-filter_both}
+use Rattle.arena_core.proofs.Words.{◌≡◌, ℕ, ◌+◌, ◌-◌, ◌<◌, ◌≤◌, Bool, true, false, not, cond, List, [], ◌∷◌, ◌++◌, filter, Option, Some, IfSome, refl, sym, ap, subst, arith, All, inl, inr, list_any, sum_by, cases_Bool, cases_lt, nat_tests, sum_by_push, sum_by-cons, sum_by-le-sum_by, All-cons, All-head, All-nil, All-push, All-tail, All-weaker, Part, Span, State, IsPlaced, end_of, has_page, meets, pages_end, begins_at, exchanged, holders, is_active, begins_either, high_piece, joined, low_piece, All-exchanged, filter-begins_at, find-le-sum_by, find_has, share, sum_by-either, sum_by-exchanged, sum_by-replaced, some_pages, lengths-le, AreBeside, Book, IsApart, IsThere, active_pages, all_pages, Inside, IsExtents, ◌∙◌, get_or-le-sum_by, sum_by-filter_both, cut_shares, joined_share}
 
 -- the pages of an extent, and those that serve regions
 abbrev pub pages : Part → ℕ
@@ -71,9 +71,6 @@ two_fill p low high left placed some fewer low_is high_is =
     let sizes : low.span.pages + high.span.pages ≡ p.span.pages = sum (λ s. s.pages) (omega arith) in
     (pair low high low_placed high_placed shares sizes, pair high low high_placed low_placed (λ page. omega (arith, shares page)) (omega arith))
   where
-    cut_shares : (page left : ℕ) (p : Part) → 0 < left → left < p.span.pages → share page (low_piece left p) + share page (high_piece left p) ≡ share page p
-    cut_shares page left p some fewer = grind (arith, nat_tests)
-
     pair : (a b : Part) → IsPlaced a.span → IsPlaced b.span → ((page : ℕ) → share page a + share page b ≡ share page p) → a.span.pages + b.span.pages ≡ p.span.pages → Fill p (a ∷ b ∷ [])
     pair a b a_placed b_placed shares sizes = record {
       placed = All-cons (λ x. IsPlaced x.span) a (b ∷ []) a_placed (All-cons (λ x. IsPlaced x.span) b [] b_placed (All-nil (λ x. IsPlaced x.span)));
@@ -115,10 +112,6 @@ gone parts p apart there =
 -- of two extents side by side none begins as both do
 begin_apart : (p q : Part) → p.span.first < q.span.first → (x : Part) → begins_at p.span.first x ≡ true → begins_at q.span.first x ≡ false
 begin_apart p q less x h = grind (arith, nat_tests)
-
--- a page is in one of the two, or in neither
-joined_share : (page : ℕ) (p q : Part) → end_of p.span ≡ q.span.first → share page (joined p q) ≡ share page p + share page q
-joined_share page p q side = grind (arith, nat_tests)
 
 pub joined_swaps : (parts : List Part) (p q : Part) → IsApart parts → IsThere parts p → IsThere parts q → AreBeside p q →
     Swapped parts (exchanged (begins_either p q) parts (joined p q ∷ [])) (serving p + serving q) (active_pages (joined p q ∷ []))
