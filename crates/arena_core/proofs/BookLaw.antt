@@ -3,7 +3,7 @@ use Rattle.arena_core.proofs.Words.{◌⊎◌, ap, inl, inr, length, ◌≡◌, 
 use Rattle.arena_core.proofs.Booked.{fills_taken, stay_handed}
 use Rattle.arena_core.proofs.BookLands.{Lands, can_land, landed_booked}
 use Rattle.arena_core.proofs.Resized.{join_step, trim_step}
-use Rattle.arena_core.proofs.Books.{nothing_booked, still_booked}
+use Rattle.arena_core.proofs.Books.{nothing_booked, stays_left, still_booked}
 use Rattle.arena_core.proofs.Landed.{filled_is, may_fill, fitting, may_land}
 use Rattle.arena_core.proofs.Homes.{in_flight}
 use Rattle.arena_core.proofs.Still.{commit_still, cut_still, decommit_still, doom_still, grow_still, lazy_still, live_still, look_still, merge_still, offer_done_still, offer_still, purge_still, put_still, same, set_still, still, widen_still}
@@ -79,21 +79,13 @@ fill_booked c s class count slabs sound low book =
 
 -- ---- an operation that may empty the space
 
--- it leaves all as it is, or no region
-left_or_none : (s : Space) (live free : Bool) (t : Stepped) (held flights threads : ℕ) → t.after.regions ≡ [] →
-    ((cond live (cond free t (stays s (Busy held flights threads))) (stays s NoArena)).after ≡ s) ⊎ ((cond live (cond free t (stays s (Busy held flights threads))) (stays s NoArena)).after.regions ≡ [])
-left_or_none s true true t held flights threads none = inr none
-left_or_none s true false t held flights threads none = inl refl
-left_or_none s false free t held flights threads none = inl refl
-
--- the book without slabs, or the one that was, is that of what is left
-left_booked : (s t : Space) (slabs : List BinSlab) → IsBooked s slabs → (t ≡ s) ⊎ (t.regions ≡ []) → IsBooked t (slabs_left t slabs)
-left_booked s t slabs book left = by (eqb (length t.regions) 0) refl left
-  where
-    by : (b : Bool) → eqb (length t.regions) 0 ≡ b → (t ≡ s) ⊎ (t.regions ≡ []) → IsBooked t (cond b [] slabs)
-    by true e left = nothing_booked t (nil_from_length t.regions (eqb-true _ _ e))
-    by false e (inl same) = subst (λ x. IsBooked x slabs) (sym same) book
-    by false e (inr none) = absurd (let some : eqb (length t.regions) 0 ≡ true = ap (λ rs. eqb (length rs) 0) none in cc)
+-- it leaves all as it is, or no region, and so no slab
+left_booked : (s : Space) (live free : Bool) (t : Stepped) (held flights threads : ℕ) (slabs : List BinSlab) → IsBooked s slabs → t.after.regions ≡ [] →
+    let after = (cond live (cond free t (stays s (Busy held flights threads))) (stays s NoArena)).after in IsBooked after (slabs_left after slabs)
+left_booked s true true t held flights threads slabs book none =
+    subst (IsBooked t.after) (ap (λ rs. cond (eqb (length rs) 0) [] slabs) (sym none)) (nothing_booked t.after none)
+left_booked s true false t held flights threads slabs book none = subst (IsBooked s) (stays_left book refl) book
+left_booked s false free t held flights threads slabs book none = subst (IsBooked s) (stays_left book refl) book
 
 pub begins_booked : (c : ℕ) (s : Space) (op : Op) (slabs : List BinSlab) → Sound s → op_stands s c op ≡ true → opens op ≡ true → is_return op ≡ false → IsBooked s slabs →
     IsBooked (step_of s c op).after (slabs_begun c s op slabs)
@@ -119,7 +111,7 @@ begins_booked c s (Set setting) slabs sound stands opens other book = still_book
 begins_booked c s (Widen addr pages) slabs sound stands opens other book = still_booked s _ slabs book (widen_still s c pages (large_home s c addr) sound)
 begins_booked c s (Trim addr class) slabs sound stands opens other book = still_booked s _ slabs book (still s _ refl refl)
 begins_booked c s (Reset cached) slabs sound stands opens other book =
-    left_booked s _ slabs book (left_or_none s (is_live s.life) _ (emptied s) (held_count s c cached) (flight_count s c) 0 refl)
+    left_booked s (is_live s.life) _ (emptied s) (held_count s c cached) (flight_count s c) 0 slabs book refl
 begins_booked c s (Destroy cached) slabs sound stands opens other book =
-    left_booked s _ slabs book (left_or_none s (is_live s.life) _ (ended s c) (held_count s c cached) (flight_count s c) (length s.bound) refl)
+    left_booked s (is_live s.life) _ (ended s c) (held_count s c cached) (flight_count s c) (length s.bound) slabs book refl
 begins_booked c s op slabs sound stands opens other book = absurd (cc)

@@ -149,19 +149,8 @@ among_kept keep xs a m = both_ways (is_among (filter keep xs) a) (keep a)
 
 -- the regions that begin at an address, once those at another one are gone
 starts_left : (addr a : ℕ) (regions : List Region) → not (list_any (starts_at a) (filter (λ r. not (starts_at addr r)) regions)) ≡ (eqb a addr || not (list_any (starts_at a) regions))
-starts_left addr a regions = elim (cases_Bool (eqb a addr)) [
-  | inl same ↦
-      let none = any_none (starts_at a) (filter (λ r. not (starts_at addr r)) regions) (λ r m. let gone = (filter_from (λ r. not (starts_at addr r)) regions r m).1 in grind (arith, nat_tests, gone, same)) in
-      grind (arith, none, same)
-  | inr other ↦
-      let stay = both_ways (list_any (starts_at a) (filter (λ r. not (starts_at addr r)) regions)) (list_any (starts_at a) regions)
-      (λ t. let p = any_from (starts_at a) (filter (λ r. not (starts_at addr r)) regions) t in any_has (starts_at a) regions p.0 (filter_from (λ r. not (starts_at addr r)) regions p.0 p.1).0 p.2)
-      (λ t.
-      let p = any_from (starts_at a) regions t in
-      let differs : starts_at addr p.0 ≡ false = ap (λ n. eqb n addr) (eqb-true _ _ p.2) ∙ other in
-      any_has (starts_at a) (filter (λ r. not (starts_at addr r)) regions) p.0 (filter_has (λ r. not (starts_at addr r)) regions p.0 p.1 (ap not differs)) p.2) in
-      ap not stay ∙ sym (ap (λ b. b || not (list_any (starts_at a) regions)) other)
-]
+starts_left addr a [] = grind arith
+starts_left addr a (r ∷ rs) = grind (arith, nat_tests, starts_left addr a rs)
 
 pub freed : ReturnsAreFree
 freed regions addr class p = λ k. record {

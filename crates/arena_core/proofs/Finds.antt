@@ -55,16 +55,16 @@ fewer_pass {X} t u (x ∷ xs) has =
     let P : X → Type 0 = λ y. t y ≡ true → u y ≡ true in
     grind (arith, fewer_pass t u xs (All-tail P x xs has), All-head P x xs has, sum_by-cons (λ y. cond (t y) 1 0) x xs, sum_by-cons (λ y. cond (u y) 1 0) x xs)
 
+-- at most one extent passes a test that only those with a page pass
+once : (test : Part → Bool) (page : ℕ) (parts : List Part) → IsApart parts → ((p : Part) → IsPlaced p.span → test p ≡ true → has_page page p.span ≡ true) → count_by test parts ≤ 1
+once test page parts apart has = omega (arith, apart.owners page, fewer_pass test (λ p. has_page page p.span) parts (λ k d h. has (get_or parts k d) (apart.placed k d h)))
+
 -- at most one extent begins at a page, and at most one ends before it
 pub begins_once : (page : ℕ) (parts : List Part) → IsApart parts → count_by (begins_at page) parts ≤ 1
-begins_once page parts apart =
-    let has : (p : Part) → IsPlaced p.span → begins_at page p ≡ true → has_page page p.span ≡ true = λ p placed h. grind (arith, nat_tests, placed.0) in
-    omega (arith, apart.owners page, fewer_pass (begins_at page) (λ p. has_page page p.span) parts (λ k d h. has (get_or parts k d) (apart.placed k d h)))
+begins_once page parts apart = once (begins_at page) page parts apart (λ p placed h. grind (arith, nat_tests, placed.0))
 
 pub ends_once : (page : ℕ) (parts : List Part) → IsApart parts → count_by (ends_at page) parts ≤ 1
-ends_once page parts apart =
-    let has : (p : Part) → IsPlaced p.span → ends_at page p ≡ true → has_page (page - 1) p.span ≡ true = λ p placed h. grind (arith, nat_tests, placed.0) in
-    omega (arith, apart.owners (page - 1), fewer_pass (ends_at page) (λ p. has_page (page - 1) p.span) parts (λ k d h. has (get_or parts k d) (apart.placed k d h)))
+ends_once page parts apart = once (ends_at page) (page - 1) parts apart (λ p placed h. grind (arith, nat_tests, placed.0))
 
 -- an extent that is first from a page on is there
 pub from_inside : {b now : Book} (page : ℕ) (o : Option Part) → b ≡ now → IsApart b.parts → IfSome o (IsFirstFrom page b.parts) → IfSome o (IsThere now.parts)

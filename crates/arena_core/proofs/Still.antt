@@ -171,12 +171,10 @@ purge_still s c rest keep sound =
 
 pub lazy_still : (s : Space) (c : ℕ) (ask : Ask) (answer : Answer) → Sound s → Still s (after_lazy s c ask answer).after
 lazy_still s c (PurgeLazy span) Done sound = flown s c span (lazy_at s c) (λ p. record p { state = Flight c ToMuzzy } ∷ []) sound (λ p idle. one (record p { state = Flight c ToMuzzy }) refl) (same s) (λ p. refl)
-lazy_still s c (PurgeLazy span) Refuses sound = same s
 lazy_still s c ask answer sound = same s
 
 pub decommit_still : (s : Space) (c : ℕ) (ask : Ask) (answer : Answer) → Sound s → Still s (after_decommit s c ask answer).after
 decommit_still s c (Decommit span) Done sound = flown s c span (decommit_at s) (λ p. record p { committed = false } ∷ []) sound (λ p idle. one (record p { committed = false }) idle) (same s) (λ p. refl)
-decommit_still s c (Decommit span) Refuses sound = same s
 decommit_still s c ask answer sound = same s
 
 pub offer_still : (s : Space) (c : ℕ) (span : Span) → Sound s → Still s (offer_at s c (find (is_flight_at c span) s.parts)).after
@@ -212,14 +210,9 @@ widen_still s c pages (Some home) sound =
     taken_still s c (widen_by s c end) (find (is_spare end lacking) s.parts) sound (spare_listed end lacking s.parts) (same s) (λ p. refl)
 
 pub set_still : (s : Space) (c : ℕ) (setting : Setting) → Still s (after_set s c setting).after
-set_still s c (DirtyMs ms now) = live_still s _ (still s _ refl refl)
-set_still s c (MuzzyMs ms now) = live_still s _ (still s _ refl refl)
-set_still s c (HookBox box_no) = live_still s _ (still s _ refl refl)
-set_still s c Bind = live_still s _ (still s _ refl refl)
-set_still s c Unbind = live_still s _ (still s _ refl refl)
-set_still s c (GrowLimit chunks) = live_still s _ (still s _ refl refl)
 set_still s c (MakeLive box_no dirty_ms muzzy_ms now) =
     elim (is_absent s.life) as (λ b. Still s (cond b (stays (made_live s box_no dirty_ms muzzy_ms now) Noted) (stays s Nothing)).after) [ true ↦ still s _ refl refl | false ↦ same s ]
+set_still s c setting = live_still s _ (still s _ refl refl)
 
 -- an arena that is being destroyed has no region, so none of its extents serves one
 pub doom_still : (s : Space) (c : ℕ) (p : Part) (ps : List Part) → s.parts ≡ p ∷ ps → Sound s → is_dying c s.life ≡ true → Still s (doom_at s (p ∷ ps)).after

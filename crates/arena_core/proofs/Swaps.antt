@@ -1,5 +1,5 @@
 -- Extents that are apart stay apart, with sums that are known, where one or two of them are exchanged.
-use Rattle.arena_core.proofs.Words.{◌≡◌, ℕ, ◌+◌, ◌-◌, ◌<◌, ◌≤◌, Bool, true, false, not, cond, List, [], ◌∷◌, ◌++◌, filter, Option, Some, IfSome, refl, sym, ap, subst, arith, All, inl, inr, list_any, sum_by, cases_Bool, cases_lt, nat_tests, sum_by_push, sum_by-cons, sum_by-le-sum_by, All-cons, All-head, All-nil, All-push, All-tail, All-weaker, Part, Span, State, IsPlaced, end_of, has_page, meets, pages_end, begins_at, exchanged, holders, is_active, begins_either, high_piece, joined, low_piece, All-exchanged, filter-begins_at, find-le-sum_by, find_has, share, sum_by-either, sum_by-exchanged, sum_by-replaced, some_pages, lengths-le, AreBeside, Book, IsApart, IsThere, active_pages, all_pages, Inside, IsExtents, ◌∙◌, get_or-le-sum_by, sum_by-filter_both, cut_shares, joined_share}
+use Rattle.arena_core.proofs.Words.{◌≡◌, ℕ, ◌+◌, ◌-◌, ◌<◌, ◌≤◌, Bool, true, false, not, cond, List, [], ◌∷◌, ◌++◌, filter, Option, Some, IfSome, refl, sym, ap, subst, arith, All, inl, inr, list_any, sum_by, cases_Bool, cases_lt, nat_tests, sum_by_push, sum_by-cons, sum_by-le-sum_by, All-cons, All-head, All-nil, All-push, All-tail, All-weaker, Part, Span, State, IsPlaced, end_of, has_page, meets, pages_end, begins_at, exchanged, holders, is_active, begins_either, high_piece, joined, low_piece, All-exchanged, filter-begins_at, find-le-sum_by, find_has, share, sum_by-either, sum_by-exchanged, sum_by-replaced, some_pages, lengths-le, AreBeside, Book, IsApart, IsThere, active_pages, all_pages, Inside, IsExtents, ◌∙◌, get_or-le-sum_by, sum_by-filter_both, cut_shares, joined_share, list_any_none, false_from_ne_true, get_or}
 
 -- the pages of an extent, and those that serve regions
 abbrev pub pages : Part → ℕ
@@ -155,16 +155,13 @@ common_page s t some other h = elim (cases_lt s.first t.first) [
 -- where no page would be in two, none of the extents meets the new one
 pub none_meets : (parts : List Part) (p : Part) → All (λ q. IsPlaced q.span) parts → 0 < p.span.pages → ((page : ℕ) → holders page parts + share page p ≤ 1) →
     list_any (λ q. meets q.span p.span) parts ≡ false
-none_meets [] p placed some owners = refl
-none_meets (q ∷ qs) p placed some owners =
-    let P : Part → Type 0 = λ x. IsPlaced x.span in
-    let rest = none_meets qs p (All-tail P q qs placed) some (λ page. omega (arith, sum_by-cons (share page) q qs, owners page)) in
-    elim (cases_Bool (meets q.span p.span)) [
-      | inr f ↦ rw f rest
-      | inl t ↦
-          let both = common_page q.span p.span (All-head P q qs placed).0 some t in
-          absurd (grind (arith, sum_by-cons (share both.0) q qs, owners both.0, both.1, both.2))
-    ]
+none_meets parts p placed some owners =
+    list_any_none (λ q. meets q.span p.span) parts (λ k d h. false_from_ne_true _ (λ t.
+    let q : Part = get_or parts k d in
+    let both = common_page q.span p.span (placed k d h).0 some t in
+    let own : share both.0 q ≡ 1 = ap (λ b. cond b 1 0) both.1 in
+    let other : share both.0 p ≡ 1 = ap (λ b. cond b 1 0) both.2 in
+    omega (arith, get_or-le-sum_by (share both.0) parts k d h, owners both.0, own, other)))
 
 -- What a new extent that serves no region leaves: no other one meets it, all are apart, and the sums grow by its pages.
 pub record Added (parts : List Part) (p : Part) : Type 0 where
