@@ -141,6 +141,10 @@ stay_handed s t slabs test holder parts regions booked class small =
 pub both_ways : (a b : Bool) → (a ≡ true → b ≡ true) → (b ≡ true → a ≡ true) → a ≡ b
 both_ways a b f g = grind (arith, f, g)
 
+-- what leads to what isn't so isn't so
+pub not_so : {a b : Bool} → b ≡ false → (a ≡ true → b ≡ true) → a ≡ false
+not_so {a} {b} off leads = grind (arith, off, leads)
+
 -- what a filter keeps is among what it gives
 pub among_kept : (keep : ℕ → Bool) (xs : List ℕ) (a : ℕ) → Contains xs a → is_among (filter keep xs) a ≡ keep a
 among_kept keep xs a m = both_ways (is_among (filter keep xs) a) (keep a)
@@ -254,12 +258,8 @@ module _ (s : Space) (class : ℕ) (q : Part) (sound : Sound s) (low : class < 3
     pub unused_is : is_all_free (booked_slab few class q) ≡ not (list_any (houses q) few)
     unused_is = elim (cases_Bool (list_any (houses q) few)) [
       | inr none ↦
-          let all = filter_all_of keep (places class q) (λ a m. ap not (any_none (starts_at a) few (λ x there. false_from_ne_true _ (λ t.
-          let is : x.addr ≡ a = eqb-true _ _ t in
-          let home = starts_served here x (sub x there) (subst (Contains (places class q)) (sym is) m) in
-          let away = any_false (houses q) few x none there in
-          let no : true ≡ false = sym home ∙ away in
-          cc)))) in
+          let all = filter_all_of keep (places class q) (λ a m. ap not (any_none (starts_at a) few (λ x there. not_so (any_false (houses q) few x none there)
+          (λ t. starts_served here x (sub x there) (subst (Contains (places class q)) (sym (eqb-true _ _ t)) m))))) in
           let many : length (free_places class few q) ≡ regions_at class = ap length all ∙ long in
           eq-eqb _ _ many ∙ sym (ap not none)
       | inl some ↦

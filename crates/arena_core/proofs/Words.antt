@@ -51,6 +51,7 @@ pub use Rattle.space_model.proofs.Intervals.{lengths-le}
 pub use Rattle.space_model.proofs.Landing.{eqb_itself, lies_between, All-insert}
 pub use Rattle.space_model.proofs.LawLemmas.{absent_replays_are_good, first_replays_are_good}
 pub use Rattle.space_model.proofs.Lists.{only_one, nothing_sum, sum_nothing, all_sum_le, not_true, find_has, find_passes, find-le-sum_by, filter_nothing, filter-without, sum_by-either, any_counts, counted_any, none_counted}
+pub use Rattle.space_model.proofs.Moves.{live_is}
 pub use Rattle.space_model.proofs.Outcomes.{on_found}
 pub use Rattle.space_model.proofs.Pieces.{both_true, cut_shares, joined_share, fit-listed, neighbour_side, flight-idle, two_left, Listed, listed-idle, put_down-idle}
 pub use Rattle.space_model.proofs.Resizes.{home_found, housed}
