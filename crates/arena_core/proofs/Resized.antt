@@ -1,5 +1,5 @@
 -- A large region that takes another class: its extent is the one that begins at its address, and the slabs stay.
-use Rattle.arena_core.proofs.Words.{◌≡◌, ℕ, ◌*◌, ◌/◌, ◌<◌, ◌≤◌, ◌==◌, Bool, true, false, not, cond, IsTrue, List, [], ◌∷◌, get_or, find, filter, Option, None, Some, refl, sym, ◌∙◌, ap, subst, arith, ◌&&◌, ◌||◌, nat_le, ◌+◌, All, Contains, take, drop, eqb, nat_lt, count_by, list_any, position_or_len, sum_by, IsSome, option_map, eqb-true, leb-true, ltb-true, nat_tests, sum_by-filter_both, sum_by-cons, sum_by-insert, pages_at, size_at, large_size, size_bounds, Ask, Split, Merge, Answer, Done, Refuses, Span, Part, Region, Space, IsPlaced, same_span, end_of, begins_at, is_active, exchanged, is_flight_at, taken_out, houses, inserted, is_held_by, starts_at, address_of, is_slab, lies_in, region_bytes, has_large, is_large_at, large_home, reclassed, trim_answered, trim_done_stands, trimmed_at, after_join, after_trim_done, is_large_class, join_stands, widened_at, holds_at, is_given_back, staying, found_passes, Sound, nothing_sum, only_one, both_true, two_left, home_found, housed, All-cons, All-contains_itself, All-nil, Contains-append_right, is_in, without_client, one_left, filter_nothing, find_has, find_passes, eqb_itself, lies_between, BinSlab, filter_same, head, booked_slab, IsBooked, places, begins_either, high_piece, is_yes_or_no, joined, low_piece, any_has, found}
+use Rattle.arena_core.proofs.Words.{◌≡◌, ℕ, ◌*◌, ◌/◌, ◌<◌, ◌≤◌, ◌==◌, Bool, true, false, not, cond, IsTrue, List, [], ◌∷◌, get_or, find, filter, Option, None, Some, refl, sym, ◌∙◌, ap, subst, arith, ◌&&◌, ◌||◌, nat_le, ◌+◌, All, Contains, take, drop, eqb, nat_lt, count_by, list_any, position_or_len, sum_by, IsSome, option_map, eqb-true, leb-true, ltb-true, nat_tests, sum_by-filter_both, sum_by-cons, sum_by-insert, pages_at, size_at, large_size, size_bounds, Ask, Split, Merge, Answer, Done, Refuses, Span, Part, Region, Space, IsPlaced, same_span, end_of, begins_at, is_active, exchanged, is_flight_at, taken_out, houses, inserted, is_held_by, starts_at, address_of, is_slab, lies_in, region_bytes, has_large, is_large_at, large_home, reclassed, trim_answered, trim_done_stands, trimmed_at, after_join, after_trim_done, is_large_class, join_stands, widened_at, holds_at, is_given_back, staying, found_passes, Sound, nothing_sum, only_one, both_true, two_left, home_found, housed, All-cons, All-contains_itself, All-nil, Contains-append_right, is_in, without_client, one_left, filter_nothing, find_has, find_passes, eqb_itself, lies_between, BinSlab, filter_same, head, booked_slab, IsBooked, places, begins_either, high_piece, is_yes_or_no, joined, low_piece, any_has, found, Home, Housed}
 use Rattle.arena_core.proofs.Emptying.{any_counts, begins_alone, ones}
 use Rattle.arena_core.proofs.Finds.{fewer_pass, found_there}
 use Rattle.arena_core.proofs.Booked.{class_stays, idle_no_slab, no_slab, same_slab}
@@ -130,28 +130,35 @@ alone_at s test r sound found = only_one (starts_at r.addr) test s.regions r (be
 
 -- What a resize does: a large region takes another large class in the first of the new extents, and the others that go or
 -- come serve none.
-record Resized (s t : Space) (test : Region → Bool) (r : Region) (p new : Part) (class : ℕ) (gone : Part → Bool) (others more : List Part) : Type 0 where
+record Resized (c addr : ℕ) (s t : Space) (home : Region × Part) (new : Part) (class : ℕ) (gone : Part → Bool) (others more : List Part) : Type 0 where
   sound : Sound s
   also : Sound t
-  region : find test s.regions ≡ Some r
-  home : find (λ q. houses q r) s.parts ≡ Some p
-  large : 36 ≤ r.class
-  big : 36 ≤ class
-  within : class < 121
+  found : large_home s c addr ≡ Some home
+  big : (36 ≤ class) × (class < 121)
   parts : t.parts ≡ exchanged gone s.parts (new ∷ more)
-  regions : t.regions ≡ reclassed r class s.regions
-  left : (f : Part → ℕ) → sum_by f (filter gone s.parts) ≡ f p + sum_by f others
+  regions : t.regions ≡ reclassed home.0 class s.regions
+  left : (f : Part → ℕ) → sum_by f (filter gone s.parts) ≡ f home.1 + sum_by f others
   idle : All Idle others
   still : All Idle more
-  active : is_active new.state ≡ true
-  committed : new.committed ≡ true
-  start : r.addr ≡ address_of new.span.first
+  is : new ≡ record home.1 { span = record { first = home.1.span.first; pages = new.span.pages } }
   pages : new.span.pages ≡ pages_at class
 
-resized_booked : {s t : Space} {test : Region → Bool} {r : Region} {p new : Part} {class : ℕ} {gone : Part → Bool} {others more : List Part} (slabs : List BinSlab) → Resized s t test r p new class gone others more →
-    IsBooked s slabs → IsBooked t slabs
-resized_booked {s} {t} {test} {r} {p} {new} {class} {gone} {others} {more} slabs x book = record { small = book.small; booked = λ k low. class_stays s t slabs k (parts k low) (λ q m slab. same k q) (book.booked k low) }
+resized_booked : {c addr : ℕ} {s t : Space} {home : Region × Part} {new : Part} {class : ℕ} {gone : Part → Bool} {others more : List Part} (slabs : List BinSlab) →
+    Resized c addr s t home new class gone others more → IsBooked s slabs → IsBooked t slabs
+resized_booked {c} {addr} {s} {t} {home} {new} {class} {gone} {others} {more} slabs x book = record { small = book.small; booked = λ k low. class_stays s t slabs k (parts k low) (λ q m slab. same k q) (book.booked k low) }
   where
+    r : Region
+    r = home.0
+
+    p : Part
+    p = home.1
+
+    of : Home c s addr home
+    of = home_found c s addr home x.found
+
+    at : Housed s r p
+    at = housed s (is_large_at c addr) r p x.sound of.region of.house of.large
+
     now : Region
     now = record r { class = class }
 
@@ -163,13 +170,13 @@ resized_booked {s} {t} {test} {r} {p} {new} {class} {gone} {others} {more} slabs
 
     was : (f : Region → ℕ) → sum_by f s.regions ≡ sum_by f rest + f r
     was f =
-        omega (arith, sum_by-filter_both (starts_at r.addr) (λ q. not (starts_at r.addr q)) (λ _. refl) f s.regions, ap (sum_by f) (alone_at s test r x.sound x.region), sum_by-cons f r [])
+        omega (arith, sum_by-filter_both (starts_at r.addr) (λ q. not (starts_at r.addr q)) (λ _. refl) f s.regions, ap (sum_by f) (alone_at s (is_large_at c addr) r x.sound of.region), sum_by-cons f r [])
 
     -- neither class is small, so nothing is a slab that wasn't
     neither : (k : ℕ) → k < 36 → (q : Part) → is_slab k t.regions q ≡ is_slab k s.regions q
     neither k low q =
         same_any (serves_class k q) t.regions s.regions
-        (omega (arith, sums (λ y. ones (serves_class k q y)), was (λ y. ones (serves_class k q y)), other k class (houses q now) low x.big, other k r.class (houses q r) low x.large))
+        (omega (arith, sums (λ y. ones (serves_class k q y)), was (λ y. ones (serves_class k q y)), other k class (houses q now) low x.big.0, other k r.class (houses q r) low of.large))
       where
         other : (k class : ℕ) (h : Bool) → k < 36 → 36 ≤ class → ones (eqb class k && h) ≡ 0
         other k class h low big = grind (arith, nat_tests)
@@ -181,16 +188,19 @@ resized_booked {s} {t} {test} {r} {p} {new} {class} {gone} {others} {more} slabs
     -- the extent of the large region was no slab, and is none
     old : (k : ℕ) → k < 36 → is_slab k s.regions p ≡ false
     old k low =
-        no_slab s k p x.sound low (find_has (Contains s.parts) (λ q. houses q r) s.parts p (All-contains_itself s.parts) x.home) r (find_has (Contains s.regions) test s.regions r (All-contains_itself s.regions) x.region)
-        (find_passes (λ q. houses q r) s.parts p x.home) (λ e. omega (arith, e, low, x.large))
+        no_slab s k p x.sound low (find_has (Contains s.parts) (λ q. houses q r) s.parts p (All-contains_itself s.parts) of.house) r (find_has (Contains s.regions) (is_large_at c addr) s.regions r (All-contains_itself s.regions) of.region)
+        (find_passes (λ q. houses q r) s.parts p of.house) (λ e. omega (arith, e, low, of.large))
 
     come : (k : ℕ) → k < 36 → is_slab k s.regions new ≡ false
     come k low =
         let n = position_or_len (λ (q : Region). nat_lt now.addr q.addr) rest in
         let there = subst (λ xs. Contains xs new) (sym x.parts) (Contains-append_right (filter (λ q. not (gone q)) s.parts) (new ∷ more) new (head new more)) in
         let region = subst (λ xs. Contains xs now) (sym x.regions) (Contains-append_right (take n rest) (now ∷ drop n rest) now (head now (drop n rest))) in
-        let inside : lies_in new.span now ≡ true = lies_between new.span now (omega (arith, x.start)) (omega (arith, x.start, x.pages, large_size class x.big x.within)) in
-        sym (neither k low new) ∙ no_slab t k new x.also low there now region (rw (x.active, x.committed, inside) refl) (λ e. omega (arith, e, low, x.big))
+        let active : is_active new.state ≡ true = ap (λ (q : Part). is_active q.state) x.is ∙ at.active in
+        let committed : new.committed ≡ true = ap (λ (q : Part). q.committed) x.is ∙ at.committed in
+        let start : r.addr ≡ address_of new.span.first = at.start ∙ ap (λ (q : Part). address_of q.span.first) (sym x.is) in
+        let inside : lies_in new.span now ≡ true = lies_between new.span now (omega (arith, start)) (omega (arith, start, x.pages, large_size class x.big.0 x.big.1)) in
+        sym (neither k low new) ∙ no_slab t k new x.also low there now region (rw (active, committed, inside) refl) (λ e. omega (arith, e, low, x.big.0))
 
     parts : (k : ℕ) → k < 36 → filter (is_slab k t.regions) t.parts ≡ filter (is_slab k s.regions) s.parts
     parts k low =
@@ -226,28 +236,22 @@ join_by c s class low high (Some home) (Some q) slabs e f sound also stands are 
     let t4 = both_true (is_large_class class) _ t3.0 in
     let p : Part = home.1 in
     let found = home_found c s (address_of low.first) home e in
-    let at = housed s (is_large_at c (address_of low.first)) home.0 p sound found.region found.house found.large in
     let to = in_flight c s high q sound (sym f) in
     let passed = home_passes c (address_of low.first) s low home e t2.1 in
     let whole : low.pages + high.pages ≡ pages_at class = eqb-true _ _ t4.1 in
     let side : end_of low ≡ high.first = eqb-true _ _ t3.1 in
     let beside : end_of p.span ≡ q.span.first = omega (arith, passed.0, passed.1, to.first, side) in
-    resized_booked {p = p} {new = joined p q} {gone = begins_either p q} {others = q ∷ []} {more = []} slabs (record {
+    resized_booked {home = home} {new = joined p q} {gone = begins_either p q} {others = q ∷ []} {more = []} slabs (record {
       sound = sound;
       also = also;
-      region = found.region;
-      home = found.house;
-      large = found.large;
-      big = (is_large class t4.0).0;
-      within = (is_large class t4.0).1;
+      found = e;
+      big = is_large class t4.0;
       parts = refl;
       regions = refl;
       left = λ g. omega (arith, two_left s (λ x. houses x home.0) (is_flight_at c high) p q sound found.house f beside g, sum_by-cons g p (q ∷ []));
       idle = All-cons Idle q [] to.idle (All-nil Idle);
       still = All-nil Idle;
-      active = at.active;
-      committed = at.committed;
-      start = at.start;
+      is = refl;
       pages = omega (arith, passed.1, to.pages, whole);
     }) are
 
@@ -269,24 +273,18 @@ trim_by c s class span left (Some home) slabs e sound also stands are =
     let class_is = (both_true (is_yes_or_no Done && is_in c s.trims) _ t3.0).1 in
     let p : Part = home.1 in
     let found = home_found c s (address_of span.first) home e in
-    let at = housed s (is_large_at c (address_of span.first)) home.0 p sound found.region found.house found.large in
     let high : Part = taken_out c (high_piece left p) in
-    resized_booked {p = p} {new = low_piece left p} {gone = begins_at p.span.first} {others = []} {more = high ∷ []} slabs (record {
+    resized_booked {home = home} {new = low_piece left p} {gone = begins_at p.span.first} {others = []} {more = high ∷ []} slabs (record {
       sound = sound;
       also = also;
-      region = found.region;
-      home = found.house;
-      large = found.large;
-      big = (is_large class class_is).0;
-      within = (is_large class class_is).1;
+      found = e;
+      big = is_large class class_is;
       parts = refl;
       regions = refl;
       left = λ g. omega (arith, one_left s (λ x. houses x home.0) p sound found.house g, sum_by-cons g p []);
       idle = All-nil Idle;
       still = All-cons Idle high [] refl (All-nil Idle);
-      active = at.active;
-      committed = at.committed;
-      start = at.start;
+      is = refl;
       pages = eqb-true _ _ t3.1;
     }) are
 

@@ -54,7 +54,7 @@ pub use Rattle.space_model.proofs.Lists.{only_one, nothing_sum, sum_nothing, all
 pub use Rattle.space_model.proofs.Moves.{live_is}
 pub use Rattle.space_model.proofs.Outcomes.{on_found}
 pub use Rattle.space_model.proofs.Pieces.{both_true, cut_shares, joined_share, fit-listed, neighbour_side, flight-idle, two_left, Listed, listed-idle, put_down-idle}
-pub use Rattle.space_model.proofs.Resizes.{home_found, housed}
+pub use Rattle.space_model.proofs.Resizes.{home_found, housed, Home, Housed}
 pub use Rattle.space_model.proofs.Settled.{some_pages, serves, serves-le-share, idle-serves}
 pub use Rattle.space_model.proofs.Steps.{op_keeps, Outcome, Outcome-good, Outcome-others, Outcome-sound, joined_fits}
 pub use Rattle.space_model.proofs.Sums.{region_bytes_fits, bytes_le, bytes_pages, listed_fit_space, mapped_sum, whole_sum}

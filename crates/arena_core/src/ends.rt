@@ -50,6 +50,7 @@ fn move_one(extents: &mut Extents, part: &Part, rest: Rest)
 }
 
 /// Moves each extent that goes there to a list, in order of address.
+#[tactic(auto, using(crate::proofs::Swaps::there_placed))]
 fn move_all(extents: &mut Extents, rest: Rest)
     requires { IsApart extents.old.parts }
     ensures parts { extents.new.parts ≡ turned (λ p. goes_to rest p.state) (moved_to rest) extents.old.parts }

@@ -207,6 +207,7 @@ fn follow(indexes: &mut Indexes, client: u32, op: &Op) -> Reply
 }
 
 /// An operation for which no memory is taken: it uses one of the client's room up.
+#[tactic(auto, using(crate::proofs::RoomSums::rooms_with))]
 fn use_up(body: &mut Body, client: u32, op: &Op) -> Reply
     requires client { client < 32 }
     requires follows { opens op.now ≡ false }

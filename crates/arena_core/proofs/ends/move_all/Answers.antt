@@ -10,16 +10,6 @@ stays rest = grind arith
 pub loop-part-init : goal.loop-part-init
 loop-part-init c = record { walk = walk_begins (λ p. goes_to c.args.rest p.state) (moved_to c.args.rest) c.args.extents.now.parts c.requires; spare = refl }
 
-pub overflow_add-page : goal.overflow_add-page
-overflow_add-page c =
-    let placed = there_placed c.loop-part.extents.parts c.in-Some.part c.loop-part.invariant.walk.apart c.in-Some.ensures.there in
-    omega (arith, placed.2)
-
-pub loop-part-smaller : goal.loop-part-smaller
-loop-part-smaller c =
-    let placed = there_placed c.loop-part.extents.parts c.in-Some.part c.loop-part.invariant.walk.apart c.in-Some.ensures.there in
-    omega (arith, placed.0, placed.2, c.in-Some.ensures.first.from)
-
 pub loop-part-preserved : goal.loop-part-preserved
 loop-part-preserved c = record {
   walk = walk_goes (λ (p : Part). goes_to c.args.rest p.state) (moved_to c.args.rest) c.args.extents.now.parts c.loop-part.extents.parts c.move_one.new.extents.parts c.loop-part.page c.in-Some.part
