@@ -1,7 +1,7 @@
 -- A book of slabs beside a space, as regions land and are given back.
 use Rattle.arena_core.proofs.Words.{◌≡◌, ℕ, ◌/◌, ◌<◌, ◌≤◌, Bool, true, false, not, IsTrue, List, [], ◌∷◌, length, get_or, All, Contains, filter, map, inl, inr, refl, sym, ◌∙◌, ap, subst, arith, ◌&&◌, eqb, lt-ltb, find, Some, cond, count_by, list_any, sum_by, cases_Bool, cases_lt, eq-eqb, eqb-true, false_from_ne_true, le-ltb, nat_tests, nil_from_length, All-cons, All-contains, All-contains_itself, All-filter, All-map, All-nil, All-head, sum_by-filter_both, ext_get_or, length-map, length-map-range_with_len, length-filter, sum_by-cons, contains_cases, contains_later, filter_from, filter_has, Part, Region, Space, has_page, begins_at, taken_out, turned_in_order, fills, houses, is_slab, residents, starts_at, slabs_by_class, places, slabs_of, Sound, after_back, holds_at, is_emptied, is_given_back, staying, eqb_itself, only_one, both_true, All-turned, turned_sum, BinSlab, is_out, is_all_free, of_class, with_free, any_from, any_has, any_map, filter_all_of, filter_both, filter_map_is, filter_none_of, filter_same, filter_swap, head, map_both, map_from, map_same, booked_slab, IsBooked, NothingIsBooked, slabs_left, is_last, slabs_returned, at_tally, tally, map-id}
 use Rattle.arena_core.proofs.Booked.{from_slabs, same_slab, not_so, among_kept, both_ways, freed, idle_no_slab, serves_none, stay_still, SlabAt, slab_at, starts_served, still_slab, unused_is}
-use Rattle.arena_core.proofs.Emptying.{Empties, Gives, any_counts, begins_alone, count_all, counted_any, empties, gives, is_left, ones}
+use Rattle.arena_core.proofs.Emptying.{Empties, Gives, any_counts, begins_alone, count_all, counted_any, given_starts, empties, gives, is_left, ones}
 use Rattle.arena_core.proofs.Finds.{find_alone}
 use Rattle.arena_core.proofs.InOrder.{order_stays}
 use Rattle.arena_core.proofs.Still.{Still, kept_exchanged}
@@ -119,12 +119,9 @@ module _ (c addr : ℕ) (s : Space) (p : Part) (slabs : List BinSlab) (sound : S
       let one = only_one (starts_at addr) (is_given_back c (addr ∷ [])) s.regions e.region (begins_alone s addr sound) (find_alone (is_given_back c (addr ∷ [])) s.regions e.region e.given.alone) (eq-eqb _ _ e.given.at) in
       only e.region x (subst (λ xs. Contains xs x) one (filter_has (starts_at addr) s.regions x m t))
 
-  given_starts : (x : Region) → is_given_back c (addr ∷ []) x ≡ true → starts_at addr x ≡ true
-  given_starts x h = grind (arith, nat_tests)
-
   rest_is : rest ≡ filter (λ r. not (starts_at addr r)) s.regions
   rest_is = filter_same (λ r. not (is_given_back c (addr ∷ []) r)) (λ r. not (starts_at addr r)) s.regions (λ x m. ap not (both_ways (is_given_back c (addr ∷ []) x) (starts_at addr x)
-      (λ t. given_starts x t)
+      (λ t. given_starts c addr x t)
       (λ t. subst (λ r. is_given_back c (addr ∷ []) r ≡ true) (same_region x m t) gone.1)))
 
   freed_is : (class : ℕ) (q : Part) → booked_slab rest class q ≡ with_free addr (booked_slab s.regions class q)
@@ -229,7 +226,7 @@ module _ (c addr : ℕ) (s : Space) (p : Part) (slabs : List BinSlab) (sound : S
       let x = any_from (starts_at a) s.regions t in
       let place = subst (Contains (places class q)) (sym (eqb-true _ _ x.2)) m in
       let alike = slab.alike x.0 x.1 (starts_served s class q sound low at slab x.0 x.1 place) in
-      let stays = ap not (false_from_ne_true _ (λ g. let is = ap (λ (r : Region). r.class) (same_region x.0 x.1 (given_starts x.0 g)) in omega (arith, is, alike, big, low))) in
+      let stays = ap not (false_from_ne_true _ (λ g. let is = ap (λ (r : Region). r.class) (same_region x.0 x.1 (given_starts c addr x.0 g)) in omega (arith, is, alike, big, low))) in
       any_has (starts_at a) rest x.0 (filter_has (λ r. not (is_given_back c (addr ∷ []) r)) s.regions x.0 x.1 stays) x.2))
 
   same_large : 36 ≤ e.region.class → filter keep (map (with_free addr) slabs) ≡ slabs

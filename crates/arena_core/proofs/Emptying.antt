@@ -47,6 +47,10 @@ begins_alone s addr sound =
     λ r class h. let size : 0 < size_at r.class = omega (arith, size_bounds r.class class) in grind (arith, nat_tests) in
     omega (arith, sound.apart addr, fewer_pass (starts_at addr) (covers addr) s.regions (λ k d h. has (get_or s.regions k d) (sound.classes k d h)))
 
+-- a region that is given back at an address begins there
+pub given_starts : (c addr : ℕ) (r : Region) → is_given_back c (addr ∷ []) r ≡ true → starts_at addr r ≡ true
+given_starts c addr r h = grind (arith, nat_tests)
+
 -- The region that a client gives back.
 pub record Given (c addr : ℕ) (regions : List Region) (r : Region) : Type 0 where
   pub alone : filter (is_given_back c (addr ∷ [])) regions ≡ r ∷ []
@@ -57,16 +61,13 @@ given c addr s sound held =
     let t = is_given_back c (addr ∷ []) in
     let same : (r : Region) → (is_held_by c r && eqb r.addr addr) ≡ t r = λ r. both (is_held_by c r) r.addr in
     let some : 0 < count_by t s.regions = any_counts t s.regions (sym (λ i. list_any (λ r. same r i) s.regions) ∙ held) in
-    let fewer = fewer_pass t (starts_at addr) s.regions (λ k d h e. starts (get_or s.regions k d) e) in
+    let fewer = fewer_pass t (starts_at addr) s.regions (λ k d h e. given_starts c addr (get_or s.regions k d) e) in
     let one = some_found t s.regions some in
     let passes = find_passes t s.regions one.0 one.1 in
-    (one.0, record { alone = only_one t t s.regions one.0 (omega (arith, fewer, begins_alone s addr sound)) one.1 passes; at = eqb-true _ _ (starts one.0 passes) })
+    (one.0, record { alone = only_one t t s.regions one.0 (omega (arith, fewer, begins_alone s addr sound)) one.1 passes; at = eqb-true _ _ (given_starts c addr one.0 passes) })
   where
     both : (b : Bool) (m : ℕ) → (b && eqb m addr) ≡ (b && (eqb addr m || false))
     both b m = grind (arith, nat_tests)
-
-    starts : (r : Region) → is_given_back c (addr ∷ []) r ≡ true → starts_at addr r ≡ true
-    starts r h = grind (arith, nat_tests)
 
 -- ---- its extent
 

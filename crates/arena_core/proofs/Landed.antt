@@ -102,21 +102,14 @@ pub no_free : {b : Bool} (xs : List ℕ) → (IsTrue b ↔ (xs ≡ [] → ⊥)) 
 no_free [] told none = refl
 no_free {b} (x ∷ xs) told none = absurd (let t : b ≡ true = told.1 (λ e. cc) in cc)
 
--- Where no region of the class is free, nothing happens.
-pub record NothingFree (c : ℕ) (s : Space) (class count : ℕ) (slabs : List BinSlab) : Type 0 where
-  pub after : s ≡ (after_fill s c class count).after
-  pub reply : Nothing ≡ (after_fill s c class count).reply
-  pub slabs_stay : slabs ≡ slabs_filled s class count slabs
-
-pub nothing_free : (c : ℕ) (s : Space) (class count : ℕ) (slabs : List BinSlab) → Sound s → class < 36 → IsBooked s slabs → is_live s.life ≡ true → free_of class slabs ≡ [] → NothingFree c s class count slabs
+-- where no region of the class is free, nothing happens
+pub nothing_free : (c : ℕ) (s : Space) (class count : ℕ) (slabs : List BinSlab) → Sound s → class < 36 → IsBooked s slabs → is_live s.life ≡ true → free_of class slabs ≡ [] →
+    (stays s Nothing ≡ after_fill s c class count) × (slabs ≡ slabs_filled s class count slabs)
 nothing_free c s class count slabs sound low book live none =
     let addrs = lowest_free class count s in
     let is : addrs ≡ [] = sym (taken_are s c class count sound low book refl) ∙ ap (take count) none ∙ take_nothing count in
-    let same : slabs ≡ slabs_taken addrs slabs = sym (map_itself (with_regions_out []) slabs (λ x m k. record x { free = filter_all_of (λ a. true) x.free (λ a there. refl) k })) ∙ ap (λ xs. slabs_taken xs slabs) (sym is) in record {
-      after = subst (λ b. s ≡ (cond b (fill_at s c class addrs) (stays s NoArena)).after) (sym live) (subst (λ xs. s ≡ (fill_at s c class xs).after) (sym is) refl);
-      reply = subst (λ b. Nothing ≡ (cond b (fill_at s c class addrs) (stays s NoArena)).reply) (sym live) (subst (λ xs. Nothing ≡ (fill_at s c class xs).reply) (sym is) refl);
-      slabs_stay = subst (λ b. slabs ≡ cond b (slabs_taken addrs slabs) slabs) (sym live) same;
-    }
+    let same : slabs ≡ slabs_taken addrs slabs = sym (map_itself (with_regions_out []) slabs (λ x m k. record x { free = filter_all_of (λ a. true) x.free (λ a there. refl) k })) ∙ ap (λ xs. slabs_taken xs slabs) (sym is) in
+    (subst (λ b. stays s Nothing ≡ cond b (fill_at s c class addrs) (stays s NoArena)) (sym live) (ap (fill_at s c class) (sym is)), subst (λ b. slabs ≡ cond b (slabs_taken addrs slabs) slabs) (sym live) same)
   where
     take_nothing : (n : ℕ) → take {A = ℕ} n [] ≡ []
     take_nothing zero = refl

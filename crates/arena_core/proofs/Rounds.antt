@@ -1,5 +1,5 @@
 -- Extents that change and regions that are given back, one after the other from the lowest on.
-use Rattle.arena_core.proofs.Words.{◌≡◌, ℕ, ◌+◌, ◌<◌, ◌≤◌, Bool, true, false, cond, not, List, [], ◌∷◌, ◌++◌, append_assoc, append-nil, length, get_or, filter, fold, refl, sym, ◌∙◌, ap, subst, arith, All, nat_lt, inl, inr, suc, ◌*◌, IsTrue, ◌&&◌, ◌||◌, eqb, nat_le, drop, add-one, drop-cons, insert, position_or_len, sum_by, count_by, list_all, list_any, cases_Bool, cases_lt, not-true, nat_tests, All-append, All-cons, All-filter, All-head, All-nil, All-tail, filter-append, filter_passes, All-weaker, length-filter_both, sum_by-filter_both, get_or-le-sum_by, sum_by-cons, Part, IsPlaced, end_of, begins_at, exchanged, placed, turned, turned_in_order, is_active, taken_out, Span, filter-begins_at, filter-without, share, find_has, find_passes, All-insert, some_pages, serves, filter_swap, filter_both, IsApart, IsThere, drop_all, Region, Life, Live, Absent, Dying, Space, houses, is_held_by, residents, after_back, holds_at, is_emptied, is_given_back, is_live, rises_from, staying, taken_in_order, Sound, lawful_sound, back_does, both_true, filter_same, All-map, map, filter_map_is, turned_first, live_is}
+use Rattle.arena_core.proofs.Words.{◌≡◌, ℕ, ◌+◌, ◌<◌, ◌≤◌, Bool, true, false, cond, not, List, [], ◌∷◌, ◌++◌, append_assoc, append-nil, length, get_or, filter, fold, refl, sym, ◌∙◌, ap, subst, arith, All, nat_lt, inl, inr, suc, ◌*◌, IsTrue, ◌&&◌, ◌||◌, eqb, nat_le, drop, add-one, drop-cons, insert, position_or_len, sum_by, count_by, list_all, list_any, cases_Bool, cases_lt, not-true, nat_tests, All-append, All-cons, All-filter, All-head, All-nil, All-tail, filter-append, filter_passes, All-weaker, length-filter_both, sum_by-filter_both, get_or-le-sum_by, sum_by-cons, Part, IsPlaced, end_of, begins_at, exchanged, placed, turned, turned_in_order, is_active, taken_out, Span, filter-begins_at, filter-without, share, find_has, find_passes, All-insert, some_pages, serves, filter_swap, filter_both, IsApart, IsThere, drop_all, Region, Life, Live, Absent, Dying, Space, houses, is_held_by, residents, after_back, holds_at, is_emptied, is_given_back, is_live, rises_from, staying, taken_in_order, Sound, lawful_sound, back_does, both_true, filter_same, All-map, map, filter_map_is, turned_first, live_is, any_from, filter_from, eqb-true, All-contains}
 use Rattle.arena_core.proofs.Emptying.{All-split, none_kept, Empties, any_counts, counted_any, empties, none_counted, gives, is_left, ones, some_found}
 use Rattle.arena_core.proofs.InOrder.{lowest_first}
 use Rattle.arena_core.proofs.Swaps.{changed, keeps_all, others_apart, there_placed}
@@ -61,11 +61,11 @@ pub record Walk (test : Part → Bool) (turn : Part → Part) (start parts : Lis
 pub walk_begins : (test : Part → Bool) (turn : Part → Part) (parts : List Part) → IsApart parts → Walk test turn parts parts 0
 walk_begins test turn parts apart = record { apart = apart; all = refl; low = λ k d h passes. omega arith }
 
--- the lowest extent that passes changes, or one below it that fails is passed
-walk_by : (test : Part → Bool) (turn : Part → Part) (start parts one : List Part) (page : ℕ) (p : Part) (b : Bool) → test p ≡ b → ((q : Part) → (turn q).span ≡ q.span) → test (turn p) ≡ false → IsThere parts p →
-    All (λ q. test q ≡ true → p.span.first ≤ q.span.first) parts → one ≡ cond b (exchanged (begins_at p.span.first) parts (turn p ∷ [])) parts → Walk test turn start parts page →
+-- the lowest extent that passes changes, or one below it that fails is passed, where the extents that begin from the page on begin no lower
+pub walk_goes : (test : Part → Bool) (turn : Part → Part) (start parts one : List Part) (page : ℕ) (p : Part) → ((q : Part) → (turn q).span ≡ q.span) → test (turn p) ≡ false → IsThere parts p →
+    All (λ q. page ≤ q.span.first → p.span.first ≤ q.span.first) parts → one ≡ cond (test p) (exchanged (begins_at p.span.first) parts (turn p ∷ [])) parts → Walk test turn start parts page →
     Walk test turn start one (end_of p.span)
-walk_by test turn start parts one page p b tested spans stays there lowest is walk = by b tested is
+walk_goes test turn start parts one page p spans stays there first is walk = by (test p) refl is
   where
     t : Part → Bool
     t = begins_at p.span.first
@@ -82,7 +82,7 @@ walk_by test turn start parts one page p b tested spans stays there lowest is wa
     rest : All P others
     rest =
         let other : Part → Bool = λ q. not (t q) in
-        let kept = All-filter other (λ q. test q ≡ true → p.span.first ≤ q.span.first) parts lowest in
+        let kept = All-filter other (λ q. test q ≡ true → p.span.first ≤ q.span.first) parts (λ k d h passes. first k d h (walk.low k d h passes)) in
         let placed = All-filter other (λ q. IsPlaced q.span) parts walk.apart.placed in
         let apart = others_apart parts p alone walk.apart.owners in
         λ k d h passes. let q : Part = get_or others k d in begins_behind p q (let most = apart k d h q.span.first in omega arith) (placed k d h).0 (kept k d h passes)
@@ -113,23 +113,12 @@ walk_by test turn start parts one page p b tested spans stays there lowest is wa
           low = subst (All P) (sym is) (All-split P t parts (subst (All P) (sym alone) (All-cons P p [] (fails p off) (All-nil P))) rest);
         }
 
--- where the extents that begin from the page on begin no lower
-pub walk_goes : (test : Part → Bool) (turn : Part → Part) (start parts one : List Part) (page : ℕ) (p : Part) → ((q : Part) → (turn q).span ≡ q.span) → test (turn p) ≡ false → IsThere parts p →
-    All (λ q. page ≤ q.span.first → p.span.first ≤ q.span.first) parts → one ≡ cond (test p) (exchanged (begins_at p.span.first) parts (turn p ∷ [])) parts → Walk test turn start parts page →
-    Walk test turn start one (end_of p.span)
-walk_goes test turn start parts one page p spans stays there first is walk =
-    walk_by test turn start parts one page p (test p) refl spans stays there (λ k d h passes. first k d h (walk.low k d h passes)) is walk
-
--- it ends where none passes
-pub walk_ends : (test : Part → Bool) (turn : Part → Part) (start parts : List Part) (page : ℕ) → All (λ q. test q ≡ false) parts → Walk test turn start parts page → parts ≡ turned test turn start
-walk_ends test turn start parts page fails walk =
-    let none : filter test parts ≡ [] = none_kept test parts fails in
+-- it ends where none begins from the page on
+pub walk_ends : (test : Part → Bool) (turn : Part → Part) (start parts : List Part) (page : ℕ) → All (λ q. q.span.first < page) parts → Walk test turn start parts page → parts ≡ turned test turn start
+walk_ends test turn start parts page below walk =
+    let none : filter test parts ≡ [] = none_kept test parts (λ k d h. fails (get_or parts k d) (below k d h) (walk.low k d h)) in
     let same : turned test turn parts ≡ parts = cc (none, keeps_all test parts none, append-nil parts) in
     sym same ∙ walk.all
-
--- so it does where none begins from the page on
-pub none_ahead : {test : Part → Bool} {turn : Part → Part} {start parts : List Part} {page : ℕ} → Walk test turn start parts page → All (λ q. q.span.first < page) parts → All (λ q. test q ≡ false) parts
-none_ahead {test} {turn} {start} {parts} {page} walk below = λ k d h. fails (get_or parts k d) (below k d h) (walk.low k d h)
   where
     fails : (q : Part) → q.span.first < page → (test q ≡ true → page ≤ q.span.first) → test q ≡ false
     fails q less low = elim (cases_Bool (test q)) [ inl h ↦ let le = low h in absurd (omega arith) | inr h ↦ h ]
@@ -174,10 +163,8 @@ all_still c addr (a ∷ more) regions above h =
 
 -- a number among higher ones is higher
 named_above : (low : ℕ) (addrs : List ℕ) (a : ℕ) → All (λ x. low < x) addrs → list_any (λ x. eqb x a) addrs ≡ true → low < a
-named_above low [] a above h = absurd (cc)
-named_above low (x ∷ xs) a above h =
-    let P : ℕ → Type 0 = λ y. low < y in
-    grind (arith, nat_tests, All-head P x xs above, named_above low xs a (All-tail P x xs above))
+named_above low addrs a above h =
+    let x = any_from (λ y. eqb y a) addrs h in subst (λ n. low < n) (eqb-true _ _ x.2) (All-contains (λ y. low < y) addrs x.0 above x.1)
 
 -- a region begins in the extent that serves it
 begins_in : (x : Part) (r : Region) → houses x r ≡ true → (4096 * x.span.first ≤ r.addr) × (r.addr ≤ 4096 * end_of x.span)
@@ -214,12 +201,11 @@ above_first c addr addrs s p sound e above =
         let there = sum_by-filter_both later (λ q. not (later q)) (λ _. refl) (λ q. ones (test q)) one in
         let zero = none_counted test (staying c addrs one) (grind (arith, goes)) in
         let some : 0 < count_by test (filter later one) = grind (arith, goes, gone, here, there, zero, none, used, sum_by-cons (λ q. ones (test q)) e.region []) in
-        let found = some_found test (filter later one) some in
+        let found = any_from test (filter later one) (counted_any test (filter later one) some) in
         let q : Region = found.0 in
-        let home = find_passes test (filter later one) q found.1 in
-        let named = find_has (λ r. later r ≡ true) test (filter later one) q (filter_passes later one) found.1 in
+        let named = (filter_from later one q found.1).1 in
         let less = named_above addr addrs q.addr above (both_true (is_held_by c q) (list_any (λ a. eqb a q.addr) addrs) named).1 in
-        grind (arith, nat_tests, apart, begins_in x q home, begins_in p e.region e.home, e.given.at, less, e.placed.0)
+        grind (arith, nat_tests, apart, begins_in x q found.2, begins_in p e.region e.home, e.given.at, less, e.placed.0)
 
 -- ---- the rounds
 

@@ -12,10 +12,6 @@ serving p = cond (is_active p.state) p.span.pages 0
 pub there_placed : (parts : List Part) (p : Part) → IsApart parts → IsThere parts p → IsPlaced p.span
 there_placed parts p apart there = find_has (λ q. IsPlaced q.span) (begins_at p.span.first) parts p apart.placed there
 
--- it is no more than the sum
-pub within_sum : (f : Part → ℕ) (parts : List Part) (p : Part) → IsThere parts p → f p ≤ sum_by f parts
-within_sum f parts p there = find-le-sum_by f (begins_at p.span.first) parts p there
-
 -- where no two extents share a page, none that begins elsewhere shares one with an extent that begins there alone
 pub others_apart : (parts : List Part) (p : Part) → filter (begins_at p.span.first) parts ≡ p ∷ [] → ((page : ℕ) → holders page parts ≤ 1) →
     All (λ q. (page : ℕ) → share page q + share page p ≤ 1) (filter (λ q. not (begins_at p.span.first q)) parts)
@@ -109,10 +105,6 @@ gone parts p apart there =
 
 -- ---- two extents become one
 
--- of two extents side by side none begins as both do
-begin_apart : (p q : Part) → p.span.first < q.span.first → (x : Part) → begins_at p.span.first x ≡ true → begins_at q.span.first x ≡ false
-begin_apart p q less x h = grind (arith, nat_tests)
-
 pub joined_swaps : (parts : List Part) (p q : Part) → IsApart parts → IsThere parts p → IsThere parts q → AreBeside p q →
     Swapped parts (exchanged (begins_either p q) parts (joined p q ∷ [])) (serving p + serving q) (active_pages (joined p q ∷ []))
 joined_swaps parts p q apart low high side =
@@ -127,7 +119,7 @@ joined_swaps parts p q apart low high side =
     omega (
       arith,
       sum_by-exchanged f (begins_either p q) parts (joined p q ∷ []),
-      sum_by-either f (begins_at p.span.first) (begins_at q.span.first) (begin_apart p q less) parts,
+      sum_by-either f (begins_at p.span.first) (begins_at q.span.first) (λ x h. grind (arith, nat_tests, less)) parts,
       p_alone f,
       q_alone f,
       sum_by-cons f p [],
@@ -196,6 +188,10 @@ pub changed : (parts : List Part) (p q : Part) → IsApart parts → IsThere par
     Swapped parts (exchanged (begins_at p.span.first) parts (q ∷ [])) (serving p) (active_pages (q ∷ []))
 changed parts p q apart there same = swapped parts (q ∷ []) p apart there (one_fills p q (there_placed parts p apart there) same)
 
+-- what serves regions is no more than what there is
+if_le : (b : Bool) (n : ℕ) → cond b n 0 ≤ n
+if_le b n = grind arith
+
 -- What is known inside of an extent that a caller names: it is there, lies in the space, and is within the sums.
 pub record Named (b : Inside) (p : Part) : Type 0 where
   pub there : IsThere b.book.parts p
@@ -210,13 +206,10 @@ named {b} p view extents here =
     let active = sum_by-le-sum_by serving pages b.book.parts (λ q. if_le (is_active q.state) q.span.pages) in record {
       there = there;
       placed = there_placed b.book.parts p extents.apart there;
-      within = omega (arith, sum_by-cons serving p [], within_sum serving b.book.parts p there, extents.active);
+      within = omega (arith, sum_by-cons serving p [], find-le-sum_by serving (begins_at p.span.first) b.book.parts p there, extents.active);
       pages = omega (arith, active, pages_fit b.book.parts extents.apart, extents.active);
-      few = omega (arith, within_sum pages b.book.parts p there, extents.total);
+      few = omega (arith, find-le-sum_by pages (begins_at p.span.first) b.book.parts p there, extents.total);
     }
-  where
-    if_le : (b : Bool) (n : ℕ) → cond b n 0 ≤ n
-    if_le b n = grind arith
 
 -- extents are as they should be where they are apart and the sums are those of what they are
 pub extents_are : {new : Inside} {after : List Part} → new.book.parts ≡ after → IsApart after → new.active ≡ active_pages after → new.total ≡ all_pages after → IsExtents new
@@ -248,7 +241,4 @@ pieces_serve p left fewer = omega (arith, parted (is_active p.state) p.span.page
 
 -- an extent serves no more than its pages
 pub serves_most : (p : Part) → active_pages (p ∷ []) ≤ p.span.pages
-serves_most p = omega (arith, sum_by-cons serving p [], most (is_active p.state) p.span.pages)
-  where
-    most : (b : Bool) (n : ℕ) → cond b n 0 ≤ n
-    most b n = grind arith
+serves_most p = omega (arith, sum_by-cons serving p [], if_le (is_active p.state) p.span.pages)

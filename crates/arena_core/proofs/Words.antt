@@ -35,7 +35,7 @@ pub use Rattle.std.proofs.lemmas.List.Folds.{flat_map-map, list_any_none}
 pub use Rattle.std.proofs.lemmas.List.Sums.{sum_by_push}
 pub use Rattle.bin_book.proofs.Places.{same_place}
 pub use Rattle.bin_book.specs.Bins.{of_class}
-pub use Rattle.list_facts.proofs.Members.{filter_swap, found, is_some_find, filter_none_of, find_is}
+pub use Rattle.list_facts.proofs.Members.{count_same, filter_swap, found, is_some_find, filter_none_of, find_is}
 pub use Rattle.ordered_set.proofs.Sorted.{filter_none, every_filter, every_map, filter_all}
 pub use Rattle.part_book.specs.Books.{Book, IsFirstFrom, ends_at, is_beside, AreBeside, pages_of}
 pub use Rattle.region_book.proofs.ByClass.{at_tally, tally, both_bytes}

@@ -1,6 +1,6 @@
 use Rattle.arena_core.proofs.Words.{◌≡◌, false, refl, ◌∙◌, arith, Part, Rest, listed, moved_to, goes_to}
 use Rattle.arena_core.proofs.Swaps.{there_placed}
-use Rattle.arena_core.proofs.Rounds.{none_ahead, walk_begins, walk_ends, walk_goes}
+use Rattle.arena_core.proofs.Rounds.{walk_begins, walk_ends, walk_goes}
 use Rattle.arena_core.proofs.ends.move_all.Goals as goal
 
 -- what is listed somewhere doesn't go there
@@ -20,7 +20,7 @@ loop-part-preserved c = record {
 pub returns-clause-parts : goal.returns-clause-parts
 returns-clause-parts c =
     walk_ends (λ (p : Part). goes_to c.args.rest p.state) (moved_to c.args.rest) c.args.extents.now.parts c.loop-part.extents.parts c.loop-part.page
-    (none_ahead c.loop-part.invariant.walk (c.in_default.ensures.none refl)) c.loop-part.invariant.walk
+    (c.in_default.ensures.none refl) c.loop-part.invariant.walk
 
 pub returns-clause-spare : goal.returns-clause-spare
 returns-clause-spare c = c.loop-part.invariant.spare
