@@ -1,5 +1,5 @@
 -- A book of slabs beside a space, as regions land in an extent in flight, at the lowest places of a new slab.
-use Rattle.arena_core.proofs.Words.{◌≡◌, ℕ, ◌+◌, ◌-◌, ◌*◌, ◌<◌, ◌≤◌, zero, suc, Bool, true, false, not, ◌||◌, leb, ◌∷◌, Contains, filter, map, inl, inr, refl, sym, ap, ◌∙◌, arith, ◌≢◌, ◌/◌, cond, List, [], ◌++◌, append-nil, get_or, All, max, subst, ◌&&◌, eqb, ltb, lt-ltb, find, Some, dite, ℕ_discrete, list_any, range_with_len, sum_by, cases_lt, eq-eqb, eqb-true, false_from_ne_true, cases_Bool, le-ltb, leb-true, nat_tests, All-contains, All-append, All-cons, All-contains_itself, All-filter, filter-append, regions_at, size_at, pages_at, address_of, landing, region_of, regions_from, starts_at, houses, is_slab, lies_in, places, land_at, slabs_of, place, BinSlab, meets_slab, of_class, slab_with_out, with_slab, any_has, any_map, any_none, filter_map_is, filter_same, map_has, range_from, range_has, any_from, count_some, filter_swap, map_from, map_same, same_place, LandsTakeTheFirst, booked_slab, map-append, sum_by-filter_both, sum_by-cons, row_fits, pages_bounds, size_bounds, filter_from, filter_has, Part, Region, Span, Active, Space, end_of, has_page, pages_end, begins_at, is_active, turned_in_order, Sound, filter-begins_at, filter-without, share, eqb_itself, lies_between, both_true, some_pages, IsBooked, CanBeSlab, slabs_landed}
+use Rattle.arena_core.proofs.Words.{◌≡◌, ℕ, ◌+◌, ◌-◌, ◌*◌, ◌<◌, ◌≤◌, zero, suc, Bool, true, false, not, ◌||◌, leb, ◌∷◌, Contains, filter, map, inl, inr, refl, sym, ap, ◌∙◌, arith, ◌≢◌, ◌/◌, cond, List, [], ◌++◌, append-nil, get_or, All, max, subst, ◌&&◌, eqb, ltb, lt-ltb, find, Some, dite, ℕ_discrete, list_any, range_with_len, cases_lt, eq-eqb, eqb-true, false_from_ne_true, cases_Bool, le-ltb, nat_tests, All-contains, All-append, All-cons, All-contains_itself, All-filter, filter-append, regions_at, size_at, pages_at, address_of, landing, region_of, regions_from, starts_at, houses, is_slab, lies_in, places, land_at, slabs_of, place, BinSlab, meets_slab, of_class, slab_with_out, with_slab, any_has, any_map, any_none, filter_map_is, filter_same, map_has, range_from, range_has, filter_swap, map_from, map_same, same_place, LandsTakeTheFirst, booked_slab, map-append, row_fits, pages_bounds, filter_from, filter_has, Part, Region, Span, Active, Space, end_of, has_page, pages_end, begins_at, is_active, turned_in_order, Sound, filter-begins_at, filter-without, share, eqb_itself, lies_between, some_pages, IsBooked, CanBeSlab, slabs_landed}
 use Rattle.arena_core.proofs.Booked.{class_stays, from_slabs, same_slab, not_so, any_landing, idle_no_slab, serves_none, place_page, served_page, slab_at}
 use Rattle.arena_core.proofs.Books.{only, stands_at}
 use Rattle.arena_core.proofs.Emptying.{ones}

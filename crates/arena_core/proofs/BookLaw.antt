@@ -1,5 +1,5 @@
 -- The book of slabs after any operation that gives nothing back.
-use Rattle.arena_core.proofs.Words.{◌⊎◌, ap, inl, inr, length, ◌≡◌, ℕ, ◌<◌, ◌≤◌, Bool, true, false, cond, List, [], ◌∷◌, find, Option, None, Some, refl, sym, ◌∙◌, subst, ◌&&◌, eqb, lt-ltb, nat_lt, nat_le, eqb-true, nil_from_length, All-map, pages_at, regions_at, Op, Look, CutDone, GrowDone, CommitDone, Land, PutLook, MergeDone, Fill, Advance, PurgeTake, LazyDone, Offer, OfferDone, DecommitDone, ForcedDone, Publish, TakeOver, Reset, Destroy, DestroyTake, Counts, Set, Widen, JoinDone, Trim, TrimDone, Busy, NoArena, Part, Region, Span, Space, is_flight_at, held_anew, doom_at, emptied, ended, flight_count, held_count, is_held_at, is_published_at, take_over_at, large_home, after_fill, fill_at, land_at, land_stands, lowest_free, most_regions, is_live, op_stands, step_of, Stepped, found_passes, if_live, stays, Sound, both_true, op_keeps, BinSlab, with_regions_out, is_return, opens, CanFollow, IsBooked, slabs_begun, slabs_filled, slabs_followed, slabs_left, slabs_taken, CanBeSlab, slabs_landed, on_found}
+use Rattle.arena_core.proofs.Words.{ap, length, ◌≡◌, ℕ, ◌<◌, ◌≤◌, Bool, true, false, cond, List, [], ◌∷◌, find, Option, None, Some, refl, sym, ◌∙◌, subst, ◌&&◌, eqb, lt-ltb, nat_lt, nat_le, All-map, pages_at, regions_at, Op, Look, CutDone, GrowDone, CommitDone, Land, PutLook, MergeDone, Fill, Advance, PurgeTake, LazyDone, Offer, OfferDone, DecommitDone, ForcedDone, Publish, TakeOver, Reset, Destroy, DestroyTake, Counts, Set, Widen, JoinDone, Trim, TrimDone, Busy, NoArena, Part, Region, Span, Space, is_flight_at, held_anew, doom_at, emptied, ended, flight_count, held_count, is_held_at, is_published_at, take_over_at, large_home, after_fill, fill_at, land_at, land_stands, lowest_free, most_regions, is_live, op_stands, step_of, Stepped, if_live, stays, Sound, both_true, op_keeps, BinSlab, with_regions_out, is_return, opens, CanFollow, IsBooked, slabs_begun, slabs_filled, slabs_followed, slabs_left, slabs_taken, CanBeSlab, slabs_landed, on_found}
 use Rattle.arena_core.proofs.Booked.{fills_taken, stay_handed}
 use Rattle.arena_core.proofs.BookLands.{Lands, can_land, landed_booked}
 use Rattle.arena_core.proofs.Resized.{join_step, trim_step}

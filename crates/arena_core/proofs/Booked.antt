@@ -1,5 +1,5 @@
 -- A book of slabs beside a space, as a fill takes regions, and which extent serves a region.
-use Rattle.arena_core.proofs.Words.{◌≡◌, ℕ, ◌<◌, Bool, true, false, not, ◌&&◌, ◌||◌, eqb, ltb, List, [], ◌∷◌, map, filter, take, drop, Contains, IsTrue, if◌then◌else◌, inl, inr, refl, sym, ap, ◌∙◌, arith, ◌+◌, ◌*◌, ◌/◌, ◌≤◌, length, All, subst, flat_map, list_any, position_or_len, range_with_len, sum_by, cases_Bool, eq-eqb, eqb-true, false_from_ne_true, take-append-drop, length-map, All-contains, flat_map-map, list_any-append, sum_by-cons, sum_by-le-sum_by, contains_later, filter_from, filter_has, contains_cases, Part, Region, Space, is_active, turned_in_order, houses, inserted, is_slab, landing, region_of, residents, starts_at, address_of, covers, homes, free_places, lowest_free, places, slabs_of, IsInSlab, Sound, Spot, lowest_spots, BinSlab, is_among, with_regions_out, is_all_free, any_false, any_from, any_has, any_map, any_none, bit, filter_both, filter_map_is, filter_same, head, map_both, map_from, map_same, filter_all_of, map_has, range_from, range_has, AreBooked, BooksStayWhereHoldersChange, BooksStayWhileExtentsDo, FillsTakeTheLowest, ReturnsAreFree, filled, booked_slab, nat_tests, length-filter_both, length-range_with_len, row_fits, pages_at, regions_at, size_at, size_bounds, slab_filled, has_page, share, both_true, serves, serves-le-share, count_by, All-turned, All-nil, All-contains_itself, of_class, cond}
+use Rattle.arena_core.proofs.Words.{◌≡◌, ℕ, ◌<◌, Bool, true, false, not, ◌&&◌, ◌||◌, eqb, ltb, List, [], ◌∷◌, map, filter, take, drop, Contains, IsTrue, if◌then◌else◌, inl, inr, refl, sym, ap, ◌∙◌, arith, ◌+◌, ◌*◌, ◌/◌, ◌≤◌, length, All, subst, flat_map, list_any, position_or_len, range_with_len, cases_Bool, eq-eqb, eqb-true, false_from_ne_true, take-append-drop, length-map, All-contains, flat_map-map, list_any-append, filter_from, filter_has, Part, Region, Space, is_active, turned_in_order, houses, inserted, is_slab, landing, region_of, residents, starts_at, address_of, covers, homes, free_places, lowest_free, places, slabs_of, IsInSlab, Sound, Spot, lowest_spots, BinSlab, is_among, with_regions_out, is_all_free, any_false, any_from, any_has, any_map, any_none, filter_both, filter_map_is, filter_same, map_both, map_from, map_same, filter_all_of, map_has, range_from, range_has, AreBooked, BooksStayWhereHoldersChange, BooksStayWhileExtentsDo, FillsTakeTheLowest, ReturnsAreFree, filled, booked_slab, nat_tests, length-filter_both, length-range_with_len, row_fits, pages_at, regions_at, size_at, size_bounds, slab_filled, has_page, both_true, serves-le-share, All-turned, All-nil, All-contains_itself, of_class, cond}
 use Rattle.arena_core.proofs.Emptying.{counted_any, ones_le, ones_same}
 use Rattle.arena_core.proofs.Homes.{home_shares}
 

@@ -1,5 +1,5 @@
 -- A region that gets another holder.
-use Rattle.arena_core.proofs.Words.{◌≡◌, ◌≢◌, ℕ, suc, ◌+◌, ◌*◌, ◌/◌, ◌%◌, ◌<◌, ◌≤◌, Bool, true, false, not, cond, List, [], ◌∷◌, get_or, map, filter, find, Option, None, Some, Less, is_gt, is_lt, is_eq, refl, sym, ◌∙◌, ap, subst, arith, eqb, nat_lt, inl, inr, Every, count_by, sum_by, list_any, option_map, cases_Bool, cases_order, nat_tests, sum_by-cons, Region, held_anew, is_held_by, is_published, starts_at, holds_at, find-le-sum_by, find_passes, both_true, is_held_at, is_published_at, any_from, any_has, found, map_same, Contains}
+use Rattle.arena_core.proofs.Words.{◌≡◌, ℕ, ◌≤◌, Bool, true, cond, List, find, Option, None, Some, refl, sym, ◌∙◌, ap, subst, eqb, count_by, list_any, option_map, Region, held_anew, is_held_by, is_published, starts_at, holds_at, both_true, is_held_at, is_published_at, any_from, any_has, found, map_same, Contains}
 use Rattle.list_facts.proofs.Members.{only_one}
 use Rattle.arena_core.proofs.Booked.{both_ways}
 

@@ -1,5 +1,5 @@
 -- Extents in order of address, as some go or one comes.
-use Rattle.arena_core.proofs.Words.{◌≡◌, ◌≢◌, ◌<◌, ◌≤◌, suc, Bool, true, false, cond, List, [], ◌∷◌, ◌++◌, All, filter, ltb, fold, take, drop, ◌+◌, subst, inl, inr, refl, sym, ap, ◌∙◌, arith, Every, position_or_len, cases_Bool, cases_lt, nat_tests, recursion_from_All, every_filter, every_map, filter_all, filter_none, Part, placed, turned_in_order, OrderGrows, OrderStays, ℕ, not, Contains, filter_same, filter_has, All-contains, begins_at, filter_none_of, filter_from, filter-append, append-nil, filter_passes, ltb-true}
+use Rattle.arena_core.proofs.Words.{◌≡◌, ◌≢◌, ◌<◌, ◌≤◌, suc, Bool, true, false, cond, List, [], ◌∷◌, ◌++◌, All, filter, ltb, fold, ◌+◌, subst, inl, inr, refl, sym, ap, ◌∙◌, arith, Every, position_or_len, cases_Bool, cases_lt, nat_tests, every_filter, every_map, filter_none, Part, placed, turned_in_order, OrderGrows, OrderStays, ℕ, not, Contains, filter_same, filter_has, All-contains, begins_at, filter_none_of, filter_from, filter-append, append-nil, filter_passes, ltb-true}
 use Rattle.arena_core.proofs.Swaps.{keeps_all}
 
 -- each extent begins no later than those behind it

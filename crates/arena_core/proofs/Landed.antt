@@ -1,6 +1,6 @@
 -- Regions of a class that land in an extent, or are taken as the lowest free ones.
-use Rattle.arena_core.proofs.Words.{◌≡◌, ℕ, ◌+◌, ◌<◌, ◌≤◌, ◌^◌, false, List, [], ◌∷◌, length, get_or, drop, sym, ap, ◌∙◌, subst, arith, nat_lt, ◌*◌, true, cond, IsTrue, find, Some, refl, ◌&&◌, eqb, nat_le, inl, inr, zero, suc, Bool, ◌↔◌, ◌++◌, map, take, lt-ltb, count_by, list_any, position_or_len, sum_by, false_from_ne_true, cases_lt, eqb-true, le-ltb, leb-true, ltb-true, drop_all, drop_more, get_or-map, sum_by-cons, sum_by-insert, size_at, pages_at, regions_at, Region, Space, region_bytes, inserted, landing, starts_at, address_of, regions_from, region_of, Sound, eqb_itself, region_bytes_fits, CanCome, nat_tests, mul-le-mul_left, large_size, slab_filled, Land, Fill, Part, Span, is_flight_at, pages_end, land_at, land_stands, most_regions, after_fill, fill_at, lowest_free, is_live, op_stands, both_true, op_keeps, NoArena, Nothing, Regions, stays, BinSlab, free_of, with_regions_out, filter_all_of, filled, IsBooked, slabs_filled, slabs_taken}
-use Rattle.arena_core.proofs.Emptying.{any_counts, begins_alone, ones}
+use Rattle.arena_core.proofs.Words.{◌≡◌, ℕ, ◌+◌, ◌<◌, ◌≤◌, ◌^◌, false, List, [], ◌∷◌, sym, ap, ◌∙◌, subst, arith, nat_lt, ◌*◌, true, cond, IsTrue, find, Some, refl, ◌&&◌, eqb, nat_le, inl, inr, zero, suc, Bool, ◌↔◌, ◌++◌, map, take, lt-ltb, count_by, cases_lt, le-ltb, ltb-true, size_at, pages_at, regions_at, Region, Space, region_bytes, landing, starts_at, address_of, regions_from, region_of, Sound, region_bytes_fits, CanCome, nat_tests, mul-le-mul_left, large_size, slab_filled, Land, Fill, Part, Span, is_flight_at, pages_end, land_at, land_stands, most_regions, after_fill, fill_at, lowest_free, is_live, op_stands, both_true, op_keeps, NoArena, Nothing, Regions, stays, BinSlab, free_of, with_regions_out, filter_all_of, filled, IsBooked, slabs_filled, slabs_taken}
+use Rattle.arena_core.proofs.Emptying.{begins_alone}
 use Rattle.arena_core.proofs.Homes.{in_flight}
 use Rattle.arena_core.proofs.Booked.{fills_taken}
 use Rattle.arena_core.proofs.Books.{map_itself}

@@ -1,6 +1,6 @@
 -- Extents that change and regions that are given back, one after the other from the lowest on.
-use Rattle.arena_core.proofs.Words.{◌≡◌, ℕ, ◌+◌, ◌<◌, ◌≤◌, Bool, true, false, cond, not, List, [], ◌∷◌, ◌++◌, append_assoc, append-nil, length, get_or, filter, fold, refl, sym, ◌∙◌, ap, subst, arith, All, nat_lt, inl, inr, suc, ◌*◌, IsTrue, ◌&&◌, ◌||◌, eqb, nat_le, drop, add-one, drop-cons, insert, position_or_len, sum_by, count_by, list_all, list_any, cases_Bool, cases_lt, not-true, nat_tests, All-append, All-cons, All-filter, All-head, All-nil, All-tail, filter-append, filter_passes, All-weaker, length-filter_both, sum_by-filter_both, get_or-le-sum_by, sum_by-cons, Part, IsPlaced, end_of, begins_at, exchanged, placed, turned, turned_in_order, is_active, taken_out, Span, filter-begins_at, filter-without, share, find_has, find_passes, All-insert, some_pages, serves, filter_swap, filter_both, IsApart, IsThere, drop_all, Region, Life, Live, Absent, Dying, Space, houses, is_held_by, residents, after_back, holds_at, is_emptied, is_given_back, is_live, rises_from, staying, taken_in_order, Sound, lawful_sound, back_does, both_true, filter_same, All-map, map, filter_map_is, turned_first, live_is, any_from, filter_from, eqb-true, All-contains}
-use Rattle.arena_core.proofs.Emptying.{All-split, none_kept, Empties, any_counts, counted_any, empties, none_counted, gives, is_left, ones, some_found}
+use Rattle.arena_core.proofs.Words.{◌≡◌, ℕ, ◌+◌, ◌<◌, ◌≤◌, Bool, true, false, cond, not, List, [], ◌∷◌, ◌++◌, append_assoc, append-nil, length, get_or, filter, refl, sym, ◌∙◌, ap, subst, arith, All, inl, inr, ◌*◌, IsTrue, ◌&&◌, ◌||◌, eqb, nat_le, drop, add-one, drop-cons, count_by, list_all, list_any, cases_Bool, not-true, nat_tests, All-append, All-cons, All-filter, All-head, All-nil, All-tail, filter-append, filter_passes, All-weaker, length-filter_both, sum_by-filter_both, sum_by-cons, Part, IsPlaced, end_of, begins_at, exchanged, turned, turned_in_order, is_active, taken_out, Span, filter-begins_at, filter-without, share, some_pages, serves, filter_swap, filter_both, IsApart, IsThere, drop_all, Region, Space, houses, is_held_by, residents, after_back, holds_at, is_emptied, is_given_back, is_live, rises_from, staying, taken_in_order, Sound, lawful_sound, back_does, both_true, filter_same, All-map, map, filter_map_is, turned_first, live_is, any_from, filter_from, eqb-true, All-contains}
+use Rattle.arena_core.proofs.Emptying.{All-split, none_kept, Empties, any_counts, counted_any, empties, none_counted, gives, is_left, ones}
 use Rattle.arena_core.proofs.InOrder.{lowest_first}
 use Rattle.arena_core.proofs.Swaps.{changed, keeps_all, others_apart, there_placed}
 

@@ -1,5 +1,5 @@
 -- The counts of bytes are those of pages, what is read of all extents, and what others have in an arena.
-use Rattle.arena_core.proofs.Words.{◌≡◌, ℕ, ◌+◌, ◌-◌, ◌*◌, ◌^◌, ◌<◌, ◌≤◌, Bool, true, false, cond, List, [], ◌∷◌, get_or, find, filter, refl, sym, arith, not, IsTrue, length, All, ◌&&◌, eqb, nat_le, list_any, sum_by, count_by, is_some, nat_tests, list_any_none, sum_by-cons, Part, Rest, ToDirty, ToMuzzy, ToRetained, State, Space, IsPlaced, chunk_span, meets, pages_end, is_active, is_listed, pages_listed, is_flight, is_in_flight, bytes_of, bytes_where, is_mapped, Sound, bytes_le, bytes_pages, listed_fit_space, mapped_sum, whole_sum, pages_of, active_pages, all_pages, Indexes, space_of, Offered, is_held_by, flight_count, reset_stands, all_sum_le, not_true, both_true, some_pages, count_same, any_false}
+use Rattle.arena_core.proofs.Words.{◌≡◌, ℕ, ◌+◌, ◌-◌, ◌*◌, ◌^◌, ◌<◌, ◌≤◌, Bool, true, false, cond, List, [], ◌∷◌, get_or, filter, refl, sym, arith, not, IsTrue, length, All, ◌&&◌, eqb, nat_le, list_any, sum_by, count_by, nat_tests, list_any_none, sum_by-cons, Part, Rest, ToDirty, ToMuzzy, ToRetained, State, Space, IsPlaced, chunk_span, meets, pages_end, is_active, is_listed, pages_listed, is_flight, is_in_flight, bytes_of, bytes_where, is_mapped, Sound, bytes_le, bytes_pages, listed_fit_space, mapped_sum, whole_sum, pages_of, active_pages, all_pages, Indexes, space_of, Offered, is_held_by, flight_count, reset_stands, all_sum_le, not_true, both_true, some_pages, count_same, any_false}
 use Rattle.arena_core.proofs.Emptying.{count_all, most_one}
 
 -- the pages of an extent whose state passes, or none

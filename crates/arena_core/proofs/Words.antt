@@ -1,7 +1,7 @@
 -- The words of the proofs: definitions and lemmas of std, of the crates below and of this one, each under one name.
 pub use Rattle.std.specs.List.{AllByRecursion as Every, list_all}
-pub use Rattle.std.proofs.Common.{ap, ◌∙◌, ◌≡◌, arith, rules, refl, sym, subst, length, OnOk, ◌≤◌, ℕ, ◌+◌, ◌-◌, ◌*◌, ◌<◌, zero, suc, Bool, true, false, not, ◌||◌, leb, ◌∷◌, Contains, filter, map, inl, inr, ◌≢◌, ◌/◌, cond, List, [], ◌++◌, append-nil, get_or, All, max, ◌&&◌, eqb, ltb, lt-ltb, find, Some, ◌⊎◌, Option, None, ltb as nat_lt, leb as nat_le, take, drop, IsTrue, if◌then◌else◌, slice_get, IfSome, IsSome, replicate, ◌%◌, Less, is_gt, is_lt, is_eq, fold, ◌^◌, ◌↔◌, Result, Ok, Err, IfOk, OnErr, ◌==◌, slice_set, append_assoc, add-one, drop-cons}
-pub use Rattle.space_model.proofs.Words.{list_any, range_with_len, sum_by, flat_map, position_or_len, count_by, insert, option_or, option_map, is_some, mul-le-mul_left, cases_lt, eqb-true, leb-true, ltb-true, not-true, nat_tests, nil_from_length, take-append-drop, length-map, All-append, All-cons, All-filter, filter-append, All-map, All-nil, All-head, All-tail, filter_passes, recursion_from_All, All-weaker, All-push, sum_by-filter_both, list_any-append, length-range_with_len, sum_by-cons, sum_by-le-sum_by, length-filter, sum_by-insert, get_or-le-sum_by, sum_by-append, row_fits, size_bounds, slab_filled, large_size, regions_at, size_at, pages_at, region_bytes, bytes_of, bytes_where, is_mapped, region_bytes_where, doom_at, emptied, ended, flight_count, held_count, reset_stands, after_destroy, after_reset, fit, is_held_at, is_published_at, take_over_at, Good, new_pace, absent_space, first_space, mine, is_dying, begins_at, is_active, turned_in_order, is_flight_at, taken_out, exchanged, holders, is_flight, placed, turned, is_listed, next_flight, pages_listed, put_down, rest_of, is_in_flight, listed, moved_to, after_decommit, after_lazy, after_offer, after_purge_take, decommit_at, is_regranted, lazy_at, offer_at, purge_at, without_offer, address_of, landing, region_of, regions_from, starts_at, houses, is_slab, lies_in, held_anew, inserted, residents, covers, homes, fills, is_held_by, is_published, large_home, is_spare, has_large, is_large_at, reclassed, trim_done_stands, trimmed_at, after_join, after_trim_done, is_large_class, join_stands, widened_at, widen_at, widen_by, is_in, without_client, after_set, is_absent, made_live, places, land_at, slabs_of, after_fill, fill_at, land_stands, lowest_free, most_regions, free_places, Sound, IsInSlab, IsQuiet, end_of, has_page, pages_end, IsPlaced, same_span, meets, chunk_span, is_live, op_stands, step_of, after_back, holds_at, is_emptied, is_given_back, staying, is_left_of, is_like, is_right_of, is_yes_or_no, merge_stands, reply_to, space_after, stands, rises_from, after_commit, after_cut, after_grow, after_look, after_merge, apart_at, begins_either, commit_at, cut_at, grow_unless, high_piece, is_purged, join_at, joined, look_at, low_piece, neighbour, put_at, put_at_rest, put_beside, why_not, cut_stands, Stepped, found_passes, if_live, stays, is_lazy, whole_at, is_unused}
+pub use Rattle.std.proofs.Common.{ap, ◌∙◌, ◌≡◌, arith, rules, refl, sym, subst, length, OnOk, ◌≤◌, ℕ, ◌+◌, ◌-◌, ◌*◌, ◌<◌, zero, suc, Bool, true, false, not, ◌||◌, leb, ◌∷◌, Contains, filter, map, inl, inr, ◌≢◌, ◌/◌, cond, List, [], ◌++◌, append-nil, get_or, All, max, ◌&&◌, eqb, ltb, lt-ltb, find, Some, ◌⊎◌, Option, None, ltb as nat_lt, leb as nat_le, take, drop, IsTrue, if◌then◌else◌, slice_get, IfSome, IsSome, replicate, fold, ◌^◌, ◌↔◌, Result, Ok, Err, IfOk, OnErr, slice_set, append_assoc, add-one, drop-cons}
+pub use Rattle.space_model.proofs.Words.{list_any, range_with_len, sum_by, flat_map, position_or_len, count_by, option_map, mul-le-mul_left, cases_lt, eqb-true, leb-true, ltb-true, not-true, nat_tests, nil_from_length, take-append-drop, length-map, All-append, All-cons, All-filter, filter-append, All-map, All-nil, All-head, All-tail, filter_passes, recursion_from_All, All-weaker, All-push, sum_by-filter_both, list_any-append, length-range_with_len, sum_by-cons, sum_by-le-sum_by, length-filter, sum_by-insert, get_or-le-sum_by, sum_by-append, row_fits, size_bounds, slab_filled, large_size, regions_at, size_at, pages_at, region_bytes, bytes_of, bytes_where, is_mapped, region_bytes_where, doom_at, emptied, ended, flight_count, held_count, reset_stands, fit, is_held_at, is_published_at, take_over_at, Good, new_pace, absent_space, first_space, mine, is_dying, begins_at, is_active, turned_in_order, is_flight_at, taken_out, exchanged, holders, is_flight, placed, turned, is_listed, next_flight, pages_listed, put_down, rest_of, is_in_flight, listed, moved_to, after_decommit, after_lazy, after_offer, after_purge_take, decommit_at, is_regranted, lazy_at, offer_at, purge_at, without_offer, address_of, landing, region_of, regions_from, starts_at, houses, is_slab, lies_in, held_anew, inserted, residents, covers, homes, fills, is_held_by, is_published, large_home, is_spare, has_large, is_large_at, reclassed, trim_done_stands, trimmed_at, after_join, after_trim_done, is_large_class, join_stands, widened_at, widen_at, widen_by, is_in, without_client, after_set, is_absent, made_live, places, land_at, slabs_of, after_fill, fill_at, land_stands, lowest_free, most_regions, free_places, Sound, IsInSlab, IsQuiet, end_of, has_page, pages_end, IsPlaced, same_span, meets, chunk_span, is_live, op_stands, step_of, after_back, holds_at, is_emptied, is_given_back, staying, is_left_of, is_like, is_right_of, is_yes_or_no, merge_stands, reply_to, space_after, stands, rises_from, after_commit, after_cut, after_grow, after_look, after_merge, apart_at, begins_either, commit_at, cut_at, grow_unless, high_piece, is_purged, join_at, joined, look_at, low_piece, neighbour, put_at, put_at_rest, put_beside, why_not, cut_stands, Stepped, found_passes, if_live, stays, is_lazy, whole_at, is_unused}
 pub use Rattle.space_model.specs.declared.asks.Answer.{Answer}
 pub use Rattle.space_model.specs.declared.asks.Answer.TheVariants.{Done, Refused as Refuses, Placed}
 pub use Rattle.space_model.specs.declared.asks.Ask.{Ask}
@@ -12,7 +12,7 @@ pub use Rattle.space_model.specs.declared.entries.Op.TheVariants.{Look, CutDone,
 pub use Rattle.space_model.specs.declared.entries.Reply.{Reply}
 pub use Rattle.space_model.specs.declared.entries.Reply.TheVariants.{Busy, NoArena, Nothing, Regions, Abandoned, Kept, Noted, Purge, Owned, Landed, Counted, Next}
 pub use Rattle.space_model.specs.declared.entries.Setting.{Setting}
-pub use Rattle.space_model.specs.declared.entries.Setting.TheVariants.{DirtyMs, MuzzyMs, HookBox, Bind, Unbind, GrowLimit, Live as MakeLive}
+pub use Rattle.space_model.specs.declared.entries.Setting.TheVariants.{Live as MakeLive}
 pub use Rattle.space_model.specs.declared.entries.Why.{Why}
 pub use Rattle.space_model.specs.declared.parts.Offered.{Offered}
 pub use Rattle.space_model.specs.declared.parts.Part.{Part}
@@ -21,22 +21,22 @@ pub use Rattle.space_model.specs.declared.parts.Rest.{Rest}
 pub use Rattle.space_model.specs.declared.parts.Rest.TheVariants.{Muzzy as ToMuzzy, Retained as ToRetained, Dirty as ToDirty}
 pub use Rattle.space_model.specs.declared.parts.Span.{Span}
 pub use Rattle.space_model.specs.declared.parts.State.{State}
-pub use Rattle.space_model.specs.declared.parts.State.TheVariants.{Active, Dirty, Flight, Muzzy, Retained}
+pub use Rattle.space_model.specs.declared.parts.State.TheVariants.{Active, Flight}
 pub use Rattle.space_model.specs.declared.spaces.Life.{Life}
 pub use Rattle.space_model.specs.declared.spaces.Life.TheVariants.{Live, Absent, Dying}
 pub use Rattle.space_model.specs.declared.spaces.Space.{Space}
-pub use Rattle.bin_book.proofs.Words.{eq-eqb, false_from_ne_true, cases_Bool, map-append, get_or-set_other, get_or-set_same, Contains-append_right, length-map-range_with_len, sum_by-set, place, BinSlab, meets_slab, slab_with_out, with_slab, with_regions_out, is_among, is_all_free, is_out, with_free, free_of, any_has, any_map, any_none, filter_map_is, filter_same, map_has, range_from, range_has, any_from, count_some, map_from, map_same, any_false, bit, filter_both, head, map_both, filter_all_of, filter_from, filter_has, contains_later, contains_cases, pages_bounds, dite, ℕ_discrete}
+pub use Rattle.bin_book.proofs.Words.{eq-eqb, false_from_ne_true, cases_Bool, map-append, get_or-set_other, get_or-set_same, Contains-append_right, length-map-range_with_len, sum_by-set, place, BinSlab, meets_slab, slab_with_out, with_slab, with_regions_out, is_among, is_all_free, is_out, with_free, free_of, any_has, any_map, any_none, filter_map_is, filter_same, map_has, range_from, range_has, any_from, map_from, map_same, any_false, filter_both, head, map_both, filter_all_of, filter_from, filter_has, contains_cases, pages_bounds, dite, ℕ_discrete}
 pub use Rattle.std.proofs.Math.ListN.{length-set}
-pub use Rattle.std.proofs.lemmas.Bool.{le-ltb, cases_order}
-pub use Rattle.std.proofs.lemmas.List.{ext_get_or, map-id, drop_all, drop_more, get_or-map}
+pub use Rattle.std.proofs.lemmas.Bool.{le-ltb}
+pub use Rattle.std.proofs.lemmas.List.{ext_get_or, map-id, drop_all}
 pub use Rattle.std.proofs.lemmas.List.Elements.{All-contains, All-contains_itself}
 pub use Rattle.std.proofs.lemmas.List.Filters.{length-filter_both}
 pub use Rattle.std.proofs.lemmas.List.Folds.{flat_map-map, list_any_none}
 pub use Rattle.std.proofs.lemmas.List.Sums.{sum_by_push}
 pub use Rattle.bin_book.proofs.Places.{same_place}
 pub use Rattle.bin_book.specs.Bins.{of_class}
-pub use Rattle.list_facts.proofs.Members.{count_same, filter_swap, found, is_some_find, filter_none_of, find_is}
-pub use Rattle.ordered_set.proofs.Sorted.{filter_none, every_filter, every_map, filter_all}
+pub use Rattle.list_facts.proofs.Members.{count_same, filter_swap, found, filter_none_of, find_is}
+pub use Rattle.ordered_set.proofs.Sorted.{filter_none, every_filter, every_map}
 pub use Rattle.part_book.specs.Books.{Book, IsFirstFrom, ends_at, is_beside, AreBeside, pages_of}
 pub use Rattle.region_book.proofs.ByClass.{at_tally, tally, both_bytes}
 pub use Rattle.region_book.specs.RegionLists.{CanBeSlab, CanCome}
@@ -48,9 +48,9 @@ pub use Rattle.space_model.proofs.Fills.{Spot, lowest_spots}
 pub use Rattle.space_model.proofs.Giving.{back_does}
 pub use Rattle.space_model.proofs.Growth.{free-holders, why_not-free}
 pub use Rattle.space_model.proofs.Intervals.{lengths-le}
-pub use Rattle.space_model.proofs.Landing.{eqb_itself, lies_between, All-insert}
+pub use Rattle.space_model.proofs.Landing.{eqb_itself, lies_between}
 pub use Rattle.space_model.proofs.LawLemmas.{absent_replays_are_good, first_replays_are_good}
-pub use Rattle.space_model.proofs.Lists.{only_one, nothing_sum, sum_nothing, all_sum_le, not_true, find_has, find_passes, find-le-sum_by, filter_nothing, filter-without, sum_by-either, any_counts, counted_any, none_counted}
+pub use Rattle.space_model.proofs.Lists.{only_one, nothing_sum, sum_nothing, all_sum_le, not_true, find_has, find_passes, find-le-sum_by, filter_nothing, filter-without, sum_by-either}
 pub use Rattle.space_model.proofs.Moves.{live_is}
 pub use Rattle.space_model.proofs.Outcomes.{on_found}
 pub use Rattle.space_model.proofs.Pieces.{both_true, cut_shares, joined_share, fit-listed, neighbour_side, flight-idle, two_left, Listed, listed-idle, put_down-idle}

@@ -1,5 +1,4 @@
 use Rattle.arena_core.proofs.Words.{◌≡◌, false, refl, ◌∙◌, arith, Part, Rest, listed, moved_to, goes_to}
-use Rattle.arena_core.proofs.Swaps.{there_placed}
 use Rattle.arena_core.proofs.Rounds.{walk_begins, walk_ends, walk_goes}
 use Rattle.arena_core.proofs.ends.move_all.Goals as goal
 

@@ -1,6 +1,6 @@
 use Rattle.arena_core.proofs.Words.{◌≡◌, ◌∙◌, ◌∷◌, [], Some, ap, cond, refl, subst, sym, true, false, Flight, begins_at, exchanged, space_of, rules}
 use Rattle.arena_core.proofs.Books.{booked_as, returns_one, back_is}
-use Rattle.arena_core.proofs.Emptying.{Gives, begins_alone}
+use Rattle.arena_core.proofs.Emptying.{Gives}
 use Rattle.arena_core.proofs.frees.give_one.Goals as goal
 
 pub unwrap-part-requires : goal.unwrap-part-requires

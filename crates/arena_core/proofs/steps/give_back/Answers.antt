@@ -1,6 +1,5 @@
 use Rattle.arena_core.proofs.Words.{◌≡◌, ◌∙◌, ◌*◌, ◌≤◌, arith, ap, length, max, slice_set, Next, Space, after_back, all_rooms, room_of, space_of, next_flight, emptied_by_return}
 use Rattle.arena_core.proofs.RoomSums.{rooms_fewer}
-use Rattle.arena_core.proofs.Books.{booked_as}
 use Rattle.arena_core.proofs.steps.give_back.Goals as goal
 
 pub returns : goal.returns
