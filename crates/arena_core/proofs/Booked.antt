@@ -1,5 +1,5 @@
 -- A book of slabs beside a space, as a fill takes regions, and which extent serves a region.
-use Rattle.arena_core.proofs.Words.{◌≡◌, ℕ, ◌<◌, Bool, true, false, not, ◌&&◌, ◌||◌, eqb, ltb, List, [], ◌∷◌, map, filter, take, drop, Contains, IsTrue, if◌then◌else◌, inl, inr, refl, sym, ap, ◌∙◌, arith, ◌+◌, ◌*◌, ◌/◌, ◌≤◌, length, All, subst, flat_map, list_any, position_or_len, range_with_len, cases_Bool, eq-eqb, eqb-true, false_from_ne_true, take-append-drop, length-map, All-contains, flat_map-map, list_any-append, filter_from, filter_has, Part, Region, Space, is_active, turned_in_order, houses, inserted, is_slab, landing, region_of, residents, starts_at, address_of, covers, homes, free_places, lowest_free, places, slabs_of, IsInSlab, Sound, Spot, lowest_spots, BinSlab, is_among, with_regions_out, is_all_free, any_false, any_from, any_has, any_map, any_none, filter_both, filter_map_is, filter_same, map_both, map_from, map_same, filter_all_of, map_has, range_from, range_has, AreBooked, BooksStayWhereHoldersChange, BooksStayWhileExtentsDo, FillsTakeTheLowest, ReturnsAreFree, filled, booked_slab, nat_tests, length-filter_both, length-range_with_len, row_fits, pages_at, regions_at, size_at, size_bounds, slab_filled, has_page, both_true, serves-le-share, All-turned, All-nil, All-contains_itself, of_class, cond}
+use Rattle.arena_core.proofs.Words.{◌≡◌, ℕ, ◌<◌, Bool, true, false, not, ◌&&◌, ◌||◌, eqb, ltb, List, [], ◌∷◌, map, filter, take, drop, Contains, IsTrue, if◌then◌else◌, inl, inr, refl, sym, ap, ◌∙◌, arith, ◌+◌, ◌*◌, ◌/◌, ◌≤◌, length, All, subst, flat_map, list_any, position_or_len, range_with_len, cases_Bool, eq-eqb, eqb-true, false_from_ne_true, take-append-drop, length-map, All-contains, flat_map-map, list_any-append, filter_from, filter_has, Part, Region, Space, is_active, turned_in_order, houses, inserted, is_slab, landing, region_of, residents, starts_at, address_of, covers, homes, free_places, lowest_free, places, slabs_of, IsInSlab, Sound, Spot, lowest_spots, BinSlab, is_among, with_regions_out, is_all_free, any_false, any_from, any_has, any_map, any_none, filter_both, filter_map_is, filter_same, map_both, map_from, map_same, filter_all_of, map_has, range_from, range_has, AreBooked, BooksStayWhereHoldersChange, BooksStayWhileExtentsDo, FillsTakeTheLowest, ReturnsAreFree, filled, booked_slab, nat_tests, length-filter_both, length-range_with_len, row_fits, pages_at, regions_at, size_at, size_bounds, slab_filled, has_page, both_true, serves-le-share, All-turned, All-nil, All-contains_itself, of_class, cond, eqb_itself}
 use Rattle.arena_core.proofs.Emptying.{counted_any, ones_le, ones_same}
 use Rattle.arena_core.proofs.Homes.{home_shares}
 
@@ -43,11 +43,8 @@ module _ (s : Space) (sound : Sound s) (client class count : ℕ) (small : class
       let active = (both_true _ _ (both_true _ _ house).0).0 in
       let q = any_from (houses p) s.regions (counted_any (houses p) s.regions (All-contains (λ (x : Part). IsTrue (is_active x.state) → 0 < residents x s.regions) s.parts p sound.used m active)) in
       let like : q.0.class ≡ class = All-contains (λ (x : Region). IsTrue (houses p x) → x.class ≡ class) s.regions q.0 slab.alike q.1 q.2 in
-      let one : eqb q.0.class d ≡ true = ap (λ n. eqb n d) (like ∙ is) ∙ same d in
+      let one : eqb q.0.class d ≡ true = ap (λ n. eqb n d) (like ∙ is) ∙ eqb_itself d in
       any_has (λ r. eqb r.class d && houses p r) s.regions q.0 q.1 (rw (one, q.2) refl)
-    where
-      same : (n : ℕ) → eqb n n ≡ true
-      same n = eq-eqb n n refl
 
   slab_stays : (d : ℕ) (p : Part) → Contains s.parts p → is_slab d after p ≡ is_slab d s.regions p
   slab_stays d p m =
