@@ -1,11 +1,12 @@
 -- A book of slabs beside a space, as regions land in an extent in flight, at the lowest places of a new slab.
-use Rattle.arena_core.proofs.Words.{◌≡◌, ℕ, ◌+◌, ◌-◌, ◌*◌, ◌<◌, ◌≤◌, zero, suc, Bool, true, false, not, ◌||◌, leb, ◌∷◌, Contains, filter, map, inl, inr, refl, sym, ap, ◌∙◌, arith, ◌≢◌, ◌/◌, cond, List, [], ◌++◌, append-nil, get_or, All, max, subst, ◌&&◌, eqb, ltb, lt-ltb, find, Some, dite, ℕ_discrete, list_any, range_with_len, sum_by, cases_lt, eq-eqb, eqb-true, false_from_ne_true, cases_Bool, le-ltb, leb-true, nat_tests, All-contains, All-append, All-cons, All-contains_itself, All-filter, filter-append, regions_at, size_at, pages_at, address_of, landing, region_of, regions_from, starts_at, houses, is_slab, lies_in, places, land_at, slabs_of, place, BinSlab, meets_slab, of_class, slab_with_out, with_slab, any_has, any_map, any_none, filter_map_is, filter_same, map_has, range_from, range_has, any_from, count_some, filter_swap, map_from, map_same, same_place, LandsTakeTheFirst, booked_slab, map-append, sum_by-filter_both, sum_by-cons, row_fits, pages_bounds, size_bounds, filter_from, filter_has, Part, Region, Span, Active, Space, end_of, has_page, pages_end, begins_at, is_active, turned_in_order, Sound, filter-begins_at, filter-without, share, eqb_itself, lies_between, both_true, some_pages, IsBooked, CanBeSlab, slabs_landed}
-use Rattle.arena_core.proofs.Booked.{any_landing, idle_no_slab, serves_none, place_page, served_page, slab_at}
-use Rattle.arena_core.proofs.Books.{class_stays, from_slabs, only, stands_at}
+use Rattle.arena_core.proofs.Words.{◌≡◌, ℕ, ◌+◌, ◌-◌, ◌*◌, ◌<◌, ◌≤◌, zero, suc, Bool, true, false, not, ◌||◌, leb, ◌∷◌, Contains, filter, map, inl, inr, refl, sym, ap, ◌∙◌, arith, ◌≢◌, ◌/◌, cond, List, [], ◌++◌, append-nil, get_or, All, max, subst, ◌&&◌, eqb, ltb, lt-ltb, find, Some, dite, ℕ_discrete, list_any, range_with_len, cases_lt, eq-eqb, eqb-true, false_from_ne_true, cases_Bool, le-ltb, nat_tests, All-contains, All-append, All-cons, All-contains_itself, All-filter, filter-append, regions_at, size_at, pages_at, address_of, landing, region_of, regions_from, starts_at, houses, is_slab, lies_in, places, land_at, slabs_of, place, BinSlab, meets_slab, of_class, slab_with_out, with_slab, any_has, any_map, any_none, filter_map_is, filter_same, map_has, range_from, range_has, filter_swap, map_from, map_same, same_place, LandsTakeTheFirst, booked_slab, map-append, row_fits, pages_bounds, filter_from, filter_has, Part, Region, Span, Active, Space, end_of, has_page, pages_end, begins_at, is_active, turned_in_order, Sound, filter-begins_at, filter-without, share, eqb_itself, lies_between, some_pages, IsBooked, CanBeSlab, slabs_landed}
+use Rattle.arena_core.proofs.Booked.{class_stays, from_slabs, same_slab, not_so, any_landing, idle_no_slab, serves_none, place_page, served_page, slab_at}
+use Rattle.arena_core.proofs.Books.{only, stands_at}
 use Rattle.arena_core.proofs.Emptying.{ones}
 use Rattle.arena_core.proofs.Homes.{none_begins}
 use Rattle.arena_core.proofs.InOrder.{order_grows, order_splits}
 use Rattle.arena_core.proofs.Still.{Idle}
+use Rattle.arena_core.proofs.Swaps.{others_apart}
 
 -- the numbers from one on
 from_on : (start n from : ℕ) → start ≤ from → from ≤ start + n → filter (λ i. leb from i) (range_with_len start n) ≡ range_with_len from (start + n - from)
@@ -82,19 +83,16 @@ module _ (c : ℕ) (s : Space) (test : Part → Bool) (p : Part) (class count : 
   -- no other extent has a page of it
   apart : (q : Part) → Contains stay q → (page : ℕ) → has_page page p.span ≡ true → has_page page q.span ≡ false
   apart q m page own = false_from_ne_true _ (λ t.
-      let sums = sum_by-filter_both (begins_at p.span.first) (λ x. not (begins_at p.span.first x)) (λ _. refl) (share page) s.parts in
-      let here : sum_by (share page) (filter (begins_at p.span.first) s.parts) ≡ sum_by (share page) (p ∷ []) = ap (sum_by (share page)) alone in
+      let most = All-contains (λ x. (n : ℕ) → share n x + share n p ≤ 1) stay q (others_apart s.parts p alone l.sound.owners) m page in
       let one : share page p ≡ 1 = ap ones own in
-      let also = count_some (λ x. has_page page x.span) stay q m t in
-      omega (arith, sums, here, one, also, sum_by-cons (share page) p [], l.sound.owners page))
+      let also : share page q ≡ 1 = ap ones t in
+      omega (arith, most, one, also))
 
   -- a slab is another extent
   stays : (d : ℕ) (q : Part) → Contains s.parts q → is_slab d s.regions q ≡ true → Contains stay q
-  stays d q m slab = filter_has (λ x. not (begins_at p.span.first x)) s.parts q m (ap not (false_from_ne_true _ (λ t.
+  stays d q m slab = filter_has (λ x. not (begins_at p.span.first x)) s.parts q m (ap not (not_so (ap not slab) (λ t.
       let same = only p q (subst (λ xs. Contains xs q) alone (filter_has (begins_at p.span.first) s.parts q m t)) in
-      let none = idle_no_slab d s.regions q (ap (λ (x : Part). is_active x.state) (sym same) ∙ l.idle) in
-      let no : true ≡ false = sym slab ∙ none in
-      cc)))
+      ap not (idle_no_slab d s.regions q (ap (λ (x : Part). is_active x.state) (sym same) ∙ l.idle)))))
 
   -- the regions that land lie in it
   lands_in : (r : Region) → Contains come r → (r.class ≡ class) × (lies_in p.span r ≡ true)
@@ -115,38 +113,30 @@ module _ (c : ℕ) (s : Space) (test : Part → Bool) (p : Part) (class count : 
 
   -- so no other extent serves them
   away : (q : Part) → Contains stay q → (r : Region) → Contains come r → houses q r ≡ false
-  away q m r there = false_from_ne_true _ (λ t.
-      let in_it = lands_in r there in
-      let page = served_page q r (omega (arith, in_it.0, l.low)) t in
-      let no : true ≡ false = sym page ∙ apart q m (r.addr / 4096) (lands_page r there) in
-      cc)
+  away q m r there = not_so (apart q m (r.addr / 4096) (lands_page r there)) (served_page q r (let in_it = lands_in r there in omega (arith, in_it.0, l.low)))
 
   slab_stays : (d : ℕ) (q : Part) → Contains stay q → is_slab d after.regions q ≡ is_slab d s.regions q
   slab_stays d q m = any_landing (λ r. eqb r.class d && houses q r) come s.regions ∙ ap (λ b. b || is_slab d s.regions q) (serves_none d come q (any_none (houses q) come (λ r there. away q m r there)))
 
   free_stays : (d : ℕ) (q : Part) → d < 36 → Contains s.parts q → is_slab d s.regions q ≡ true → booked_slab after.regions d q ≡ booked_slab s.regions d q
-  free_stays d q low at slab = λ k. record {
-    class = d;
-    first = q.span.first;
-    free = filter_same (λ a. not (list_any (starts_at a) after.regions)) (λ a. not (list_any (starts_at a) s.regions)) (places d q) (λ a m. ap not (any_landing (starts_at a) come s.regions
-        ∙ ap (λ b. b || list_any (starts_at a) s.regions) (any_none (starts_at a) come (λ r there. false_from_ne_true _ (λ t.
-        let pages = (slab_at s d q l.sound low at slab).pages in
-        let page : has_page (r.addr / 4096) q.span ≡ true = ap (λ x. has_page (x / 4096) q.span) (eqb-true _ _ t) ∙ place_page d a q low pages m in
-        let no : true ≡ false = sym page ∙ apart q (stays d q at slab) (r.addr / 4096) (lands_page r there) in
-        cc))))) k;
-  }
+  free_stays d q low at slab = same_slab d q after.regions s.regions (λ a m. any_landing (starts_at a) come s.regions
+      ∙ ap (λ b. b || list_any (starts_at a) s.regions) (any_none (starts_at a) come (λ r there. not_so (apart q (stays d q at slab) (r.addr / 4096) (lands_page r there))
+      (λ t. ap (λ x. has_page (x / 4096) q.span) (eqb-true _ _ t) ∙ place_page d a q low (slab_at s d q l.sound low at slab).pages m))))
 
   -- no region was in the extent
-  none_within : (r : Region) → Contains s.regions r → lies_in p.span r ≡ false
-  none_within r m = false_from_ne_true _ (λ t.
-      let both = both_true (leb (address_of p.span.first) r.addr) _ t in
-      let size = (size_bounds r.class (All-contains (λ x. x.class < 121) s.regions r l.sound.classes m)).0 in
-      let above = leb-true _ _ both.0 in
-      let below = leb-true _ _ both.1 in
-      let none = none_begins s test p r.addr l.sound l.found l.idle (omega (arith, above)) (omega (arith, below, size)) in
+  none_at : (r : Region) → Contains s.regions r → has_page (r.addr / 4096) p.span ≡ false
+  none_at r m = false_from_ne_true _ (λ page.
+      let bounds = page_bounds r.addr p page in
+      let none = none_begins s test p r.addr l.sound l.found l.idle bounds.0 bounds.1 in
       let there = any_has (λ x. eqb x.addr r.addr) s.regions r m (eqb_itself r.addr) in
       let no : true ≡ false = sym there ∙ none in
       cc)
+    where
+      page_bounds : (a : ℕ) (q : Part) → has_page (a / 4096) q.span ≡ true → (4096 * q.span.first ≤ a) × (a < 4096 * end_of q.span)
+      page_bounds a q h = (grind (arith, nat_tests), grind (arith, nat_tests))
+
+  none_within : (r : Region) → Contains s.regions r → lies_in p.span r ≡ false
+  none_within r m = not_so (none_at r m) (λ t. served_page active r (All-contains (λ x. x.class < 121) s.regions r l.sound.classes m) (rw (l.committed, t) refl))
 
   -- the extent is a slab of the class, and of no other one
   active_slab : (d : ℕ) → is_slab d after.regions active ≡ eqb class d
@@ -225,17 +215,8 @@ module _ (c : ℕ) (s : Space) (test : Part → Bool) (p : Part) (class count : 
 
       first : (d : ℕ) → class ≡ d → new ≡ booked_slab after.regions d active
       first d is = sym (lands_first s.regions c class count p small (l.most small)
-          (λ k x h. let a : ℕ = get_or (places class p) k x in false_from_ne_true _ (λ t.
-          let r = any_from (starts_at a) s.regions t in
-          let page : has_page (r.0.addr / 4096) p.span ≡ true = ap (λ n. has_page (n / 4096) p.span) (eqb-true _ _ r.2) ∙ place_page class a p small l.pages (All-contains_itself (places class p) k x h) in
-          let bounds = page_bounds r.0.addr p page in
-          let none = none_begins s test p r.0.addr l.sound l.found l.idle bounds.0 bounds.1 in
-          let there = any_has (λ y. eqb y.addr r.0.addr) s.regions r.0 r.1 (eqb_itself r.0.addr) in
-          let no : true ≡ false = sym there ∙ none in
-          cc))) ∙ ap (λ k. booked_slab after.regions k active) is
-        where
-          page_bounds : (a : ℕ) (q : Part) → has_page (a / 4096) q.span ≡ true → (4096 * q.span.first ≤ a) × (a < 4096 * end_of q.span)
-          page_bounds a q h = (grind (arith, nat_tests), grind (arith, nat_tests))
+          (λ k x h. let a : ℕ = get_or (places class p) k x in any_none (starts_at a) s.regions (λ r m. not_so (none_at r m)
+          (λ t. ap (λ n. has_page (n / 4096) p.span) (eqb-true _ _ t) ∙ place_page class a p small l.pages (All-contains_itself (places class p) k x h))))) ∙ ap (λ k. booked_slab after.regions k active) is
 
       grown : (d : ℕ) → d < 36 → class ≡ d → eqb class d ≡ true → map (booked_slab s.regions d) (filter below (slabs_of d s)) ++ new ∷ map (booked_slab s.regions d) (filter above (slabs_of d s)) ≡ map (booked_slab after.regions d) (slabs_of d after)
       grown d low is same =

@@ -1,67 +1,55 @@
 -- The book of slabs after any operation that gives nothing back.
-use Rattle.arena_core.proofs.Words.{◌⊎◌, ap, inl, inr, length, ◌≡◌, ℕ, ◌<◌, ◌≤◌, Bool, true, false, cond, List, [], ◌∷◌, find, Option, None, Some, refl, sym, ◌∙◌, subst, ◌&&◌, eqb, lt-ltb, nat_lt, nat_le, eqb-true, nil_from_length, All-map, pages_at, regions_at, Op, Look, CutDone, GrowDone, CommitDone, Land, PutLook, MergeDone, Fill, Advance, PurgeTake, LazyDone, Offer, OfferDone, DecommitDone, ForcedDone, Publish, TakeOver, Reset, Destroy, DestroyTake, Counts, Set, Widen, JoinDone, Trim, TrimDone, Busy, NoArena, Part, Region, Span, Space, is_flight_at, held_anew, doom_at, emptied, ended, flight_count, held_count, is_held_at, is_published_at, take_over_at, large_home, after_fill, fill_at, land_at, land_stands, lowest_free, most_regions, is_live, op_stands, step_of, Stepped, found_passes, if_live, stays, Sound, both_true, op_keeps, BinSlab, with_regions_out, is_return, opens, CanFollow, IsBooked, slabs_begun, slabs_filled, slabs_followed, slabs_left, slabs_taken, CanBeSlab, slabs_landed}
+use Rattle.arena_core.proofs.Words.{ap, length, ◌≡◌, ℕ, ◌<◌, ◌≤◌, Bool, true, false, cond, List, [], ◌∷◌, find, Option, None, Some, refl, sym, ◌∙◌, subst, ◌&&◌, eqb, lt-ltb, nat_lt, nat_le, All-map, pages_at, regions_at, Op, Look, CutDone, GrowDone, CommitDone, Land, PutLook, MergeDone, Fill, Advance, PurgeTake, LazyDone, Offer, OfferDone, DecommitDone, ForcedDone, Publish, TakeOver, Reset, Destroy, DestroyTake, Counts, Set, Widen, JoinDone, Trim, TrimDone, Busy, NoArena, Part, Region, Span, Space, is_flight_at, held_anew, doom_at, emptied, ended, flight_count, held_count, is_held_at, is_published_at, take_over_at, large_home, after_fill, fill_at, land_at, land_stands, lowest_free, most_regions, is_live, op_stands, step_of, Stepped, if_live, stays, Sound, both_true, op_keeps, BinSlab, with_regions_out, is_return, opens, CanFollow, IsBooked, slabs_begun, slabs_filled, slabs_followed, slabs_left, slabs_taken, CanBeSlab, slabs_landed, on_found}
 use Rattle.arena_core.proofs.Booked.{fills_taken, stay_handed}
 use Rattle.arena_core.proofs.BookLands.{Lands, can_land, landed_booked}
 use Rattle.arena_core.proofs.Resized.{join_step, trim_step}
-use Rattle.arena_core.proofs.Books.{nothing_booked, still_booked}
+use Rattle.arena_core.proofs.Books.{nothing_booked, stays_left, still_booked}
 use Rattle.arena_core.proofs.Landed.{filled_is, may_fill, fitting, may_land}
 use Rattle.arena_core.proofs.Homes.{in_flight}
 use Rattle.arena_core.proofs.Still.{commit_still, cut_still, decommit_still, doom_still, grow_still, lazy_still, live_still, look_still, merge_still, offer_done_still, offer_still, purge_still, put_still, same, set_still, still, widen_still}
 
 -- ---- Land
 
--- what is said of a land that may stand, in an extent that was found
-lands_of : (c : ℕ) (s : Space) (span : Span) (class count : ℕ) (p : Part) → Sound s → land_stands s c span class count ≡ true → find (is_flight_at c span) s.parts ≡ Some p → Lands c s (is_flight_at c span) p class count
-lands_of c s span class count p sound stands found =
+-- a land that may stand leaves what a book keeps with the new slab, which the book can take
+landed : (c : ℕ) (s : Space) (span : Span) (class count : ℕ) (slabs : List BinSlab) → Sound s → land_stands s c span class count ≡ true → IsBooked s slabs →
+    IsBooked (land_at s c class count (find (is_flight_at c span) s.parts)).after (slabs_landed class span.first count slabs) × (class < 36 → CanBeSlab class span.first count slabs)
+landed c s span class count slabs sound stands book =
+    on_found (λ o. IsBooked (land_at s c class count o).after (slabs_landed class span.first count slabs) × (class < 36 → CanBeSlab class span.first count slabs))
+    (λ p. p.committed) (find (is_flight_at c span) s.parts) (both_true (nat_lt class 121 && nat_lt 0 count && nat_le count (most_regions class) && eqb span.pages (pages_at class)) _ stands).1
+    (λ p found committed.
     let at = in_flight c s span p sound (sym found) in
     let may = may_land s c span class count stands in
-    let fit = fitting c s span class count p sound stands (sym found) in record {
+    let fit = fitting c s span class count p sound stands (sym found) in
+    let l : Lands c s (is_flight_at c span) p class count = record {
       sound = sound;
       found = found;
       idle = at.idle;
-      committed = subst (λ (o : Option Part). found_passes (λ p. p.committed) o ≡ true) found (both_true (nat_lt class 121 && nat_lt 0 count && nat_le count (most_regions class) && eqb span.pages (pages_at class)) _ stands).1;
+      committed = committed;
       pages = at.pages ∙ may.1;
       low = may.0;
       some = may.2;
       bytes = fit.bytes;
       most = λ small. subst (λ b. count ≤ cond b (regions_at class) 1) (lt-ltb class 36 small) may.3;
       last = fit.last;
-    }
-
--- that an extent is found
-no_extent : (class count : ℕ) (s : Space) (c : ℕ) (span : Span) → land_stands s c span class count ≡ true → find (is_flight_at c span) s.parts ≡ None → ⊥
-no_extent class count s c span stands e =
-    let none : found_passes (λ p. p.committed) None ≡ true = subst (λ (o : Option Part). found_passes (λ p. p.committed) o ≡ true) e (both_true (nat_lt class 121 && nat_lt 0 count && nat_le count (most_regions class) && eqb span.pages (pages_at class)) _ stands).1 in
-    cc
-
-land_booked : (c : ℕ) (s : Space) (span : Span) (class count : ℕ) (o : Option Part) (slabs : List BinSlab) → find (is_flight_at c span) s.parts ≡ o → Sound s → land_stands s c span class count ≡ true → IsBooked s slabs →
-    IsBooked (land_at s c class count o).after (slabs_landed class span.first count slabs)
-land_booked c s span class count None slabs e sound stands book = absurd (no_extent class count s c span stands e)
-land_booked c s span class count (Some p) slabs e sound stands book =
-    landed_booked c s (is_flight_at c span) p class count (lands_of c s span class count p sound stands e) slabs book span (sym (in_flight c s span p sound (sym e)).first)
-
-land_can : (c : ℕ) (s : Space) (span : Span) (class count : ℕ) (o : Option Part) (slabs : List BinSlab) → find (is_flight_at c span) s.parts ≡ o → Sound s → land_stands s c span class count ≡ true → IsBooked s slabs →
-    class < 36 → CanBeSlab class span.first count slabs
-land_can c s span class count None slabs e sound stands book = absurd (no_extent class count s c span stands e)
-land_can c s span class count (Some p) slabs e sound stands book =
-    can_land c s (is_flight_at c span) p class count (lands_of c s span class count p sound stands e) slabs book span (sym (in_flight c s span p sound (sym e)).first)
+    } in
+    (landed_booked c s (is_flight_at c span) p class count l slabs book span (sym at.first), can_land c s (is_flight_at c span) p class count l slabs book span (sym at.first)))
 
 -- ---- an operation that takes no memory
 
 -- its slab, if it makes one, can come
 pub can_follow : (c : ℕ) (s : Space) (op : Op) (slabs : List BinSlab) → Sound s → op_stands s c op ≡ true → IsBooked s slabs → CanFollow op slabs
-can_follow c s (Land span class count) slabs sound stands book = land_can c s span class count (find (is_flight_at c span) s.parts) slabs refl sound (both_true (is_live s.life) _ stands).1 book
+can_follow c s (Land span class count) slabs sound stands book = (landed c s span class count slabs sound (both_true (is_live s.life) _ stands).1 book).1
 can_follow c s op slabs sound stands book = tt
 
 pub follows_booked : (c : ℕ) (s : Space) (op : Op) (slabs : List BinSlab) → Sound s → op_stands s c op ≡ true → opens op ≡ false → IsBooked s slabs → IsBooked (step_of s c op).after (slabs_followed op slabs)
 follows_booked c s (CutDone heard keep_low) slabs sound stands follows book = still_booked s _ slabs book (cut_still s c keep_low heard.ask heard.answer sound)
 follows_booked c s (GrowDone heard found) slabs sound stands follows book = still_booked s _ slabs book (grow_still s c found heard.ask heard.answer)
 follows_booked c s (CommitDone heard) slabs sound stands follows book = still_booked s _ slabs book (commit_still s c heard.ask heard.answer sound)
-follows_booked c s (Land span class count) slabs sound stands follows book = land_booked c s span class count (find (is_flight_at c span) s.parts) slabs refl sound (both_true (is_live s.life) _ stands).1 book
-follows_booked c s (PutLook span tries) slabs sound stands follows book = still_booked s _ slabs book (put_still s c tries span (find (is_flight_at c span) s.parts) refl sound)
+follows_booked c s (Land span class count) slabs sound stands follows book = (landed c s span class count slabs sound (both_true (is_live s.life) _ stands).1 book).0
+follows_booked c s (PutLook span tries) slabs sound stands follows book = still_booked s _ slabs book (put_still s c tries span sound)
 follows_booked c s (MergeDone heard own_low) slabs sound stands follows book = still_booked s _ slabs book (merge_still s c own_low heard.ask heard.answer sound)
 follows_booked c s (LazyDone heard) slabs sound stands follows book = still_booked s _ slabs book (lazy_still s c heard.ask heard.answer sound)
-follows_booked c s (Offer span) slabs sound stands follows book = still_booked s _ slabs book (offer_still s c span (find (is_flight_at c span) s.parts) refl sound)
+follows_booked c s (Offer span) slabs sound stands follows book = still_booked s _ slabs book (offer_still s c span sound)
 follows_booked c s (OfferDone heard found) slabs sound stands follows book = still_booked s _ slabs book (offer_done_still s c found heard.ask heard.answer)
 follows_booked c s (DecommitDone heard) slabs sound stands follows book = still_booked s _ slabs book (decommit_still s c heard.ask heard.answer sound)
 follows_booked c s (ForcedDone heard) slabs sound stands follows book = book
@@ -91,21 +79,13 @@ fill_booked c s class count slabs sound low book =
 
 -- ---- an operation that may empty the space
 
--- it leaves all as it is, or no region
-left_or_none : (s : Space) (live free : Bool) (t : Stepped) (held flights threads : ℕ) → t.after.regions ≡ [] →
-    ((cond live (cond free t (stays s (Busy held flights threads))) (stays s NoArena)).after ≡ s) ⊎ ((cond live (cond free t (stays s (Busy held flights threads))) (stays s NoArena)).after.regions ≡ [])
-left_or_none s true true t held flights threads none = inr none
-left_or_none s true false t held flights threads none = inl refl
-left_or_none s false free t held flights threads none = inl refl
-
--- the book without slabs, or the one that was, is that of what is left
-left_booked : (s t : Space) (slabs : List BinSlab) → IsBooked s slabs → (t ≡ s) ⊎ (t.regions ≡ []) → IsBooked t (slabs_left t slabs)
-left_booked s t slabs book left = by (eqb (length t.regions) 0) refl left
-  where
-    by : (b : Bool) → eqb (length t.regions) 0 ≡ b → (t ≡ s) ⊎ (t.regions ≡ []) → IsBooked t (cond b [] slabs)
-    by true e left = nothing_booked t (nil_from_length t.regions (eqb-true _ _ e))
-    by false e (inl same) = subst (λ x. IsBooked x slabs) (sym same) book
-    by false e (inr none) = absurd (let some : eqb (length t.regions) 0 ≡ true = ap (λ rs. eqb (length rs) 0) none in cc)
+-- it leaves all as it is, or no region, and so no slab
+left_booked : (s : Space) (live free : Bool) (t : Stepped) (held flights threads : ℕ) (slabs : List BinSlab) → IsBooked s slabs → t.after.regions ≡ [] →
+    let after = (cond live (cond free t (stays s (Busy held flights threads))) (stays s NoArena)).after in IsBooked after (slabs_left after slabs)
+left_booked s true true t held flights threads slabs book none =
+    subst (IsBooked t.after) (ap (λ rs. cond (eqb (length rs) 0) [] slabs) (sym none)) (nothing_booked t.after none)
+left_booked s true false t held flights threads slabs book none = subst (IsBooked s) (stays_left book refl) book
+left_booked s false free t held flights threads slabs book none = subst (IsBooked s) (stays_left book refl) book
 
 pub begins_booked : (c : ℕ) (s : Space) (op : Op) (slabs : List BinSlab) → Sound s → op_stands s c op ≡ true → opens op ≡ true → is_return op ≡ false → IsBooked s slabs →
     IsBooked (step_of s c op).after (slabs_begun c s op slabs)
@@ -131,7 +111,7 @@ begins_booked c s (Set setting) slabs sound stands opens other book = still_book
 begins_booked c s (Widen addr pages) slabs sound stands opens other book = still_booked s _ slabs book (widen_still s c pages (large_home s c addr) sound)
 begins_booked c s (Trim addr class) slabs sound stands opens other book = still_booked s _ slabs book (still s _ refl refl)
 begins_booked c s (Reset cached) slabs sound stands opens other book =
-    left_booked s _ slabs book (left_or_none s (is_live s.life) _ (emptied s) (held_count s c cached) (flight_count s c) 0 refl)
+    left_booked s (is_live s.life) _ (emptied s) (held_count s c cached) (flight_count s c) 0 slabs book refl
 begins_booked c s (Destroy cached) slabs sound stands opens other book =
-    left_booked s _ slabs book (left_or_none s (is_live s.life) _ (ended s c) (held_count s c cached) (flight_count s c) (length s.bound) refl)
+    left_booked s (is_live s.life) _ (ended s c) (held_count s c cached) (flight_count s c) (length s.bound) slabs book refl
 begins_booked c s op slabs sound stands opens other book = absurd (cc)

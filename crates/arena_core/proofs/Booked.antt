@@ -1,7 +1,7 @@
 -- A book of slabs beside a space, as a fill takes regions, and which extent serves a region.
-use Rattle.arena_core.proofs.Words.{◌≡◌, ℕ, ◌<◌, Bool, true, false, not, ◌&&◌, ◌||◌, eqb, ltb, List, [], ◌∷◌, map, filter, take, drop, Contains, IsTrue, if◌then◌else◌, inl, inr, refl, sym, ap, ◌∙◌, arith, ◌+◌, ◌*◌, ◌/◌, ◌≤◌, length, All, subst, flat_map, list_any, position_or_len, range_with_len, sum_by, cases_Bool, eq-eqb, eqb-true, false_from_ne_true, take-append-drop, length-map, All-contains, flat_map-map, list_any-append, sum_by-cons, sum_by-le-sum_by, contains_later, filter_from, filter_has, contains_cases, Part, Region, Space, is_active, turned_in_order, houses, inserted, is_slab, landing, region_of, residents, starts_at, address_of, covers, homes, free_places, lowest_free, places, slabs_of, IsInSlab, Sound, Spot, lowest_spots, BinSlab, is_among, with_regions_out, is_all_free, any_false, any_from, any_has, any_map, any_none, bit, filter_both, filter_map_is, filter_same, head, map_both, map_from, map_same, filter_all_of, map_has, range_from, range_has, AreBooked, BooksStayWhereHoldersChange, BooksStayWhileExtentsDo, FillsTakeTheLowest, ReturnsAreFree, filled, booked_slab, nat_tests, length-filter_both, length-range_with_len, row_fits, pages_at, regions_at, size_at, size_bounds, slab_filled, has_page, share, both_true, serves, serves-le-share}
-use Rattle.std.proofs.Common.{count_by}
-use Rattle.arena_core.proofs.Emptying.{ones_le}
+use Rattle.arena_core.proofs.Words.{◌≡◌, ℕ, ◌<◌, Bool, true, false, not, ◌&&◌, ◌||◌, eqb, ltb, List, [], ◌∷◌, map, filter, take, drop, Contains, IsTrue, if◌then◌else◌, inl, inr, refl, sym, ap, ◌∙◌, arith, ◌+◌, ◌*◌, ◌/◌, ◌≤◌, length, All, subst, flat_map, list_any, position_or_len, range_with_len, cases_Bool, eq-eqb, eqb-true, false_from_ne_true, take-append-drop, length-map, All-contains, flat_map-map, list_any-append, filter_from, filter_has, Part, Region, Space, is_active, turned_in_order, houses, inserted, is_slab, landing, region_of, residents, starts_at, address_of, covers, homes, free_places, lowest_free, places, slabs_of, IsInSlab, Sound, Spot, lowest_spots, BinSlab, is_among, with_regions_out, is_all_free, any_false, any_from, any_has, any_map, any_none, filter_both, filter_map_is, filter_same, map_both, map_from, map_same, filter_all_of, map_has, range_from, range_has, AreBooked, BooksStayWhereHoldersChange, BooksStayWhileExtentsDo, FillsTakeTheLowest, ReturnsAreFree, filled, booked_slab, nat_tests, length-filter_both, length-range_with_len, row_fits, pages_at, regions_at, size_at, size_bounds, slab_filled, has_page, both_true, serves-le-share, All-turned, All-nil, All-contains_itself, of_class, cond, eqb_itself}
+use Rattle.arena_core.proofs.Emptying.{counted_any, ones_le, ones_same}
+use Rattle.arena_core.proofs.Homes.{home_shares}
 
 -- ---- tests of regions that landed
 
@@ -21,21 +21,6 @@ any_landing q (r ∷ rs) regions = any_landing q rs (inserted r regions) ∙ ap 
     turn : (a b c : Bool) → (a || (b || c)) ≡ ((b || a) || c)
     turn a b c = grind arith
 
--- where some count, one is there
-counted : {X : Type 0} (p : X → Bool) (xs : List X) → 0 < count_by p xs → (x : X) × Contains xs x × (p x ≡ true)
-counted p [] some = absurd (omega arith)
-counted p (x ∷ xs) some = elim (cases_Bool (p x)) [
-  | inl t ↦ (x, head x xs, t)
-  | inr f ↦
-      let here : bit (p x) ≡ 0 = ap bit f in
-      let more = sum_by-cons (λ y. bit (p y)) x xs in
-      let r = counted p xs (omega arith) in
-      (r.0, contains_later x xs r.0 r.1, r.2)
-]
-
-and_parts : (a b : Bool) → (a && b) ≡ true → (a ≡ true) × (b ≡ true)
-and_parts a b e = (grind (arith, e), grind (arith, e))
-
 -- ---- a fill
 
 module _ (s : Space) (sound : Sound s) (client class count : ℕ) (small : class < 36) where
@@ -50,19 +35,16 @@ module _ (s : Space) (sound : Sound s) (client class count : ℕ) (small : class
   served d p m t =
       let some = any_from (λ r. eqb r.class d && houses p r) (map (region_of client class) addrs) t in
       let a = map_from (region_of client class) addrs some.0 some.1 in
-      let both = and_parts _ _ some.2 in
+      let both = both_true _ _ some.2 in
       let house : houses p (region_of client class a.0) ≡ true = ap (houses p) a.2 ∙ both.1 in
       let is : class ≡ d = ap (λ (r : Region). r.class) a.2 ∙ eqb-true _ _ both.0 in
       let spot = All-contains (λ x. Spot s.parts s.regions (region_of client class x)) addrs a.0 (lowest_spots client class count s small sound) a.1 in
       let slab = All-contains (λ (x : Part). IsTrue (houses x (region_of client class a.0)) → IsInSlab s.regions x (region_of client class a.0)) s.parts p spot.slab m house in
-      let active = (and_parts _ _ (and_parts _ _ house).0).0 in
-      let q = counted (houses p) s.regions (All-contains (λ (x : Part). IsTrue (is_active x.state) → 0 < residents x s.regions) s.parts p sound.used m active) in
+      let active = (both_true _ _ (both_true _ _ house).0).0 in
+      let q = any_from (houses p) s.regions (counted_any (houses p) s.regions (All-contains (λ (x : Part). IsTrue (is_active x.state) → 0 < residents x s.regions) s.parts p sound.used m active)) in
       let like : q.0.class ≡ class = All-contains (λ (x : Region). IsTrue (houses p x) → x.class ≡ class) s.regions q.0 slab.alike q.1 q.2 in
-      let one : eqb q.0.class d ≡ true = ap (λ n. eqb n d) (like ∙ is) ∙ same d in
+      let one : eqb q.0.class d ≡ true = ap (λ n. eqb n d) (like ∙ is) ∙ eqb_itself d in
       any_has (λ r. eqb r.class d && houses p r) s.regions q.0 q.1 (rw (one, q.2) refl)
-    where
-      same : (n : ℕ) → eqb n n ≡ true
-      same n = eq-eqb n n refl
 
   slab_stays : (d : ℕ) (p : Part) → Contains s.parts p → is_slab d after p ≡ is_slab d s.regions p
   slab_stays d p m =
@@ -100,9 +82,28 @@ fills_taken s slabs client class count sound small booked = record {
 
 -- ---- other changes
 
-any_same : {X : Type 0} (p q : X → Bool) (xs : List X) → ((x : X) → p x ≡ q x) → list_any p xs ≡ list_any q xs
-any_same p q [] same = refl
-any_same p q (x ∷ xs) same = λ k. same x k || any_same p q xs same k
+from_order : (ps : List Part) (p : Part) → Contains (turned_in_order (λ p. p) ps) p → Contains ps p
+from_order ps p m = All-contains (Contains ps) (turned_in_order (λ p. p) ps) p (All-turned (λ p. p) (Contains ps) [] ps (All-nil (Contains ps)) (All-contains_itself ps)) m
+
+-- the extents that are slabs of a class
+pub from_slabs : (s : Space) (class : ℕ) (q : Part) → Contains (slabs_of class s) q → Contains s.parts q × (is_slab class s.regions q ≡ true)
+from_slabs s class q m = filter_from (is_slab class s.regions) s.parts q (from_order (filter (is_slab class s.regions) s.parts) q m)
+
+-- the slabs of a class stay booked where its extents and their free places stay
+pub class_stays : (s t : Space) (slabs : List BinSlab) (class : ℕ) → filter (is_slab class t.regions) t.parts ≡ filter (is_slab class s.regions) s.parts →
+    ((q : Part) → Contains s.parts q → is_slab class s.regions q ≡ true → booked_slab t.regions class q ≡ booked_slab s.regions class q) →
+    of_class class slabs ≡ map (booked_slab s.regions class) (slabs_of class s) → of_class class slabs ≡ map (booked_slab t.regions class) (slabs_of class t)
+class_stays s t slabs class parts same booked =
+    booked ∙ map_same (booked_slab s.regions class) (booked_slab t.regions class) (slabs_of class s) (λ q m. let at = from_slabs s class q m in sym (same q at.0 at.1))
+    ∙ ap (λ ps. map (booked_slab t.regions class) (turned_in_order (λ p. p) ps)) (sym parts)
+
+-- a slab shows the same where regions begin at the same of its places
+pub same_slab : (class : ℕ) (q : Part) (rs ts : List Region) → ((a : ℕ) → Contains (places class q) a → list_any (starts_at a) rs ≡ list_any (starts_at a) ts) → booked_slab rs class q ≡ booked_slab ts class q
+same_slab class q rs ts same = λ k. record {
+  class = class;
+  first = q.span.first;
+  free = filter_same (λ a. not (list_any (starts_at a) rs)) (λ a. not (list_any (starts_at a) ts)) (places class q) (λ a m. ap not (same a m)) k;
+}
 
 -- an extent that serves none of the regions is no slab
 pub serves_none : (class : ℕ) (regions : List Region) (p : Part) → list_any (houses p) regions ≡ false → is_slab class regions p ≡ false
@@ -116,23 +117,30 @@ active_slabs class regions parts = filter_both (λ p. is_active p.state) (is_sla
 
 pub stay_still : BooksStayWhileExtentsDo
 stay_still s t slabs parts regions booked class small =
-    let same = sym (active_slabs class t.regions t.parts) ∙ ap (filter (is_slab class t.regions)) parts ∙ active_slabs class t.regions s.parts ∙ ap (λ rs. filter (is_slab class rs) s.parts) regions in
-    booked class small ∙ (λ k. map (booked_slab (sym regions k) class) (turned_in_order (λ p. p) (sym same k)))
+    class_stays s t slabs class
+    (sym (active_slabs class t.regions t.parts) ∙ ap (filter (is_slab class t.regions)) parts ∙ active_slabs class t.regions s.parts ∙ ap (λ rs. filter (is_slab class rs) s.parts) regions)
+    (λ q m slab. ap (λ rs. booked_slab rs class q) regions) (booked class small)
 
 pub stay_handed : BooksStayWhereHoldersChange
 stay_handed s t slabs test holder parts regions booked class small =
-    let anew = λ (r : Region). if test r then record r { holder = holder } else r in
-    let slab = λ (p : Part). any_map anew (λ r. eqb r.class class && houses p r) s.regions ∙ any_same (λ r. eqb (anew r).class class && houses p (anew r)) (λ r. eqb r.class class && houses p r) s.regions (λ r. elim (cases_Bool (test r)) [ inl e ↦ rw e refl | inr f ↦ rw f refl ]) in
-    let start = λ (a : ℕ). any_map anew (starts_at a) s.regions ∙ any_same (λ r. starts_at a (anew r)) (starts_at a) s.regions (λ r. elim (cases_Bool (test r)) [ inl e ↦ rw e refl | inr f ↦ rw f refl ]) in
-    let same = filter_same (is_slab class (map anew s.regions)) (is_slab class s.regions) s.parts (λ p m. slab p) in
-    let shown = λ (p : Part). filter_same (λ a. not (list_any (starts_at a) (map anew s.regions))) (λ a. not (list_any (starts_at a) s.regions)) (places class p) (λ a m. ap not (start a)) in
-    booked class small ∙ map_same (booked_slab s.regions class) (booked_slab (map anew s.regions) class) (slabs_of class s) (λ p m k. record { class = class; first = p.span.first; free = sym (shown p) k })
-    ∙ ap (λ ps. map (booked_slab (map anew s.regions) class) (turned_in_order (λ p. p) ps)) (sym same) ∙ (λ k. map (booked_slab (sym regions k) class) (turned_in_order (λ p. p) (filter (is_slab class (sym regions k)) (sym parts k))))
+    class_stays s t slabs class (filter_same (is_slab class t.regions) (is_slab class s.regions) t.parts (λ p m. any (λ r. eqb r.class class && houses p r) (λ r. refl)) ∙ ap (filter (is_slab class s.regions)) parts)
+    (λ q m slab. same_slab class q t.regions s.regions (λ a there. any (starts_at a) (λ r. refl))) (booked class small)
+  where
+    -- a test that doesn't mind who holds a region passes as before
+    any : (q : Region → Bool) → ((r : Region) → q (record r { holder = holder }) ≡ q r) → list_any q t.regions ≡ list_any q s.regions
+    any q blind =
+        let anew = λ (r : Region). if test r then record r { holder = holder } else r in
+        let here : (r : Region) → q (anew r) ≡ q r = λ r. elim (test r) as (λ b. q (cond b (record r { holder = holder }) r) ≡ q r) [ true ↦ blind r | false ↦ refl ] in
+        ap (list_any q) regions ∙ any_map anew q s.regions ∙ (λ k. list_any (λ r. here r k) s.regions)
 
 -- ---- a return
 
 pub both_ways : (a b : Bool) → (a ≡ true → b ≡ true) → (b ≡ true → a ≡ true) → a ≡ b
 both_ways a b f g = grind (arith, f, g)
+
+-- what leads to what isn't so isn't so
+pub not_so : {a b : Bool} → b ≡ false → (a ≡ true → b ≡ true) → a ≡ false
+not_so {a} {b} off leads = grind (arith, off, leads)
 
 -- what a filter keeps is among what it gives
 pub among_kept : (keep : ℕ → Bool) (xs : List ℕ) (a : ℕ) → Contains xs a → is_among (filter keep xs) a ≡ keep a
@@ -142,19 +150,8 @@ among_kept keep xs a m = both_ways (is_among (filter keep xs) a) (keep a)
 
 -- the regions that begin at an address, once those at another one are gone
 starts_left : (addr a : ℕ) (regions : List Region) → not (list_any (starts_at a) (filter (λ r. not (starts_at addr r)) regions)) ≡ (eqb a addr || not (list_any (starts_at a) regions))
-starts_left addr a regions = elim (cases_Bool (eqb a addr)) [
-  | inl same ↦
-      let none = any_none (starts_at a) (filter (λ r. not (starts_at addr r)) regions) (λ r m. let gone = (filter_from (λ r. not (starts_at addr r)) regions r m).1 in grind (arith, nat_tests, gone, same)) in
-      grind (arith, none, same)
-  | inr other ↦
-      let stay = both_ways (list_any (starts_at a) (filter (λ r. not (starts_at addr r)) regions)) (list_any (starts_at a) regions)
-      (λ t. let p = any_from (starts_at a) (filter (λ r. not (starts_at addr r)) regions) t in any_has (starts_at a) regions p.0 (filter_from (λ r. not (starts_at addr r)) regions p.0 p.1).0 p.2)
-      (λ t.
-      let p = any_from (starts_at a) regions t in
-      let differs : starts_at addr p.0 ≡ false = ap (λ n. eqb n addr) (eqb-true _ _ p.2) ∙ other in
-      any_has (starts_at a) (filter (λ r. not (starts_at addr r)) regions) p.0 (filter_has (λ r. not (starts_at addr r)) regions p.0 p.1 (ap not differs)) p.2) in
-      ap not stay ∙ sym (ap (λ b. b || not (list_any (starts_at a) regions)) other)
-]
+starts_left addr a [] = grind arith
+starts_left addr a (r ∷ rs) = grind (arith, nat_tests, starts_left addr a rs)
 
 pub freed : ReturnsAreFree
 freed regions addr class p = λ k. record {
@@ -165,11 +162,6 @@ freed regions addr class p = λ k. record {
 }
 
 -- ---- an extent and a region of a sound space
-
--- where a sum is no more than that of smaller terms, each term is no more than the smaller one
-exact_of : {X : Type 0} (f g : X → ℕ) (xs : List X) (x : X) → ((y : X) → g y ≤ f y) → sum_by f xs ≤ sum_by g xs → Contains xs x → f x ≤ g x
-exact_of f g [] x less whole m = absurd (omega arith)
-exact_of f g (y ∷ ys) x less whole m = grind (arith, contains_cases y ys x m, whole, less y, sum_by-cons f y ys, sum_by-cons g y ys, sum_by-le-sum_by g f ys less, exact_of f g ys x less)
 
 -- an extent has the page of the address of a region that it serves
 pub served_page : (q : Part) (x : Region) → x.class < 121 → houses q x ≡ true → has_page (x.addr / 4096) q.span ≡ true
@@ -183,10 +175,7 @@ pub served_where : (s : Space) (q : Part) (x : Region) → Sound s → Contains 
 served_where s q x sound at there page =
     let class = All-contains (λ r. r.class < 121) s.regions x sound.classes there in
     let home = All-contains (λ r. homes r s.parts ≡ 1) s.regions x sound.homes there in
-    let size : 0 < size_at x.class = omega (arith, size_bounds x.class class) in
-    let starts : covers x.addr x ≡ true = grind (arith, nat_tests) in
-    let more = exact_of (share (x.addr / 4096)) (serves x) s.parts q (λ p. serves-le-share x.addr x p starts) (omega (arith, home, sound.owners (x.addr / 4096))) at in
-    ones_le (has_page (x.addr / 4096) q.span) (houses q x) more page
+    ones_same (houses q x) (has_page (x.addr / 4096) q.span) (home_shares x s.parts q class home (sound.owners (x.addr / 4096)) at) ∙ page
 
 -- ---- a slab of a class
 
@@ -266,12 +255,8 @@ module _ (s : Space) (class : ℕ) (q : Part) (sound : Sound s) (low : class < 3
     pub unused_is : is_all_free (booked_slab few class q) ≡ not (list_any (houses q) few)
     unused_is = elim (cases_Bool (list_any (houses q) few)) [
       | inr none ↦
-          let all = filter_all_of keep (places class q) (λ a m. ap not (any_none (starts_at a) few (λ x there. false_from_ne_true _ (λ t.
-          let is : x.addr ≡ a = eqb-true _ _ t in
-          let home = starts_served here x (sub x there) (subst (Contains (places class q)) (sym is) m) in
-          let away = any_false (houses q) few x none there in
-          let no : true ≡ false = sym home ∙ away in
-          cc)))) in
+          let all = filter_all_of keep (places class q) (λ a m. ap not (any_none (starts_at a) few (λ x there. not_so (any_false (houses q) few x none there)
+          (λ t. starts_served here x (sub x there) (subst (Contains (places class q)) (sym (eqb-true _ _ t)) m))))) in
           let many : length (free_places class few q) ≡ regions_at class = ap length all ∙ long in
           eq-eqb _ _ many ∙ sym (ap not none)
       | inl some ↦

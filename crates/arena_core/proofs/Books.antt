@@ -1,7 +1,7 @@
 -- A book of slabs beside a space, as regions land and are given back.
-use Rattle.arena_core.proofs.Words.{◌≡◌, ℕ, ◌/◌, ◌<◌, ◌≤◌, Bool, true, false, not, IsTrue, List, [], ◌∷◌, length, get_or, All, Contains, filter, map, inl, inr, refl, sym, ◌∙◌, ap, subst, arith, ◌&&◌, eqb, lt-ltb, find, Some, cond, count_by, list_any, sum_by, cases_Bool, cases_lt, eq-eqb, eqb-true, false_from_ne_true, le-ltb, nat_tests, nil_from_length, All-cons, All-contains, All-contains_itself, All-filter, All-map, All-nil, All-head, sum_by-filter_both, ext_get_or, length-map, length-map-range_with_len, length-filter, sum_by-cons, contains_cases, contains_later, filter_from, filter_has, Part, Region, Space, has_page, begins_at, taken_out, turned_in_order, fills, houses, is_slab, residents, starts_at, slabs_by_class, places, slabs_of, Sound, after_back, holds_at, is_emptied, is_given_back, staying, eqb_itself, only_one, both_true, All-turned, turned_sum, BinSlab, is_out, is_all_free, of_class, with_free, any_from, any_has, any_map, filter_all_of, filter_both, filter_map_is, filter_none_of, filter_same, filter_swap, head, map_both, map_from, map_same, booked_slab, IsBooked, NothingIsBooked, slabs_left, is_last, slabs_returned, at_tally, tally}
-use Rattle.arena_core.proofs.Booked.{among_kept, both_ways, freed, idle_no_slab, serves_none, stay_still, SlabAt, slab_at, starts_served, still_slab, unused_is}
-use Rattle.arena_core.proofs.Emptying.{Empties, Gives, any_counts, begins_alone, counts_any, empties, given_parts, gives, is_left, ones}
+use Rattle.arena_core.proofs.Words.{◌≡◌, ℕ, ◌/◌, ◌<◌, ◌≤◌, Bool, true, false, not, IsTrue, List, [], ◌∷◌, length, get_or, All, Contains, filter, map, inl, inr, refl, sym, ◌∙◌, ap, subst, arith, ◌&&◌, eqb, lt-ltb, find, Some, cond, count_by, list_any, cases_Bool, cases_lt, eq-eqb, eqb-true, false_from_ne_true, le-ltb, nil_from_length, All-cons, All-contains, All-filter, All-map, All-nil, All-head, sum_by-filter_both, ext_get_or, length-map, length-map-range_with_len, length-filter, sum_by-cons, contains_cases, filter_from, filter_has, Part, Region, Space, has_page, begins_at, taken_out, turned_in_order, fills, houses, is_slab, residents, starts_at, slabs_by_class, places, slabs_of, Sound, after_back, holds_at, is_emptied, is_given_back, staying, eqb_itself, only_one, both_true, turned_sum, BinSlab, is_out, is_all_free, of_class, with_free, any_from, any_has, any_map, filter_all_of, filter_both, filter_map_is, filter_none_of, filter_same, filter_swap, head, map_both, map_from, map_same, booked_slab, IsBooked, NothingIsBooked, slabs_left, is_last, slabs_returned, at_tally, tally, map-id}
+use Rattle.arena_core.proofs.Booked.{from_slabs, same_slab, not_so, among_kept, both_ways, freed, idle_no_slab, serves_none, stay_still, SlabAt, slab_at, starts_served, still_slab, unused_is}
+use Rattle.arena_core.proofs.Emptying.{Empties, Gives, any_counts, begins_alone, count_all, counted_any, given_starts, empties, gives, is_left, ones}
 use Rattle.arena_core.proofs.Finds.{find_alone}
 use Rattle.arena_core.proofs.InOrder.{order_stays}
 use Rattle.arena_core.proofs.Still.{Still, kept_exchanged}
@@ -10,18 +10,11 @@ use Rattle.arena_core.proofs.Still.{Still, kept_exchanged}
 
 -- as many pass, so something does where it did
 pub same_any : {X : Type 0} (t : X → Bool) (xs ys : List X) → count_by t xs ≡ count_by t ys → list_any t xs ≡ list_any t ys
-same_any t xs ys same = grind (arith, same, counts_any t xs, counts_any t ys, any_counts t xs, any_counts t ys)
+same_any t xs ys same = grind (arith, same, counted_any t xs, counted_any t ys, any_counts t xs, any_counts t ys)
 
 -- the order of extents leaves them the same
 any_order : (t : Part → Bool) (ps : List Part) → list_any t (turned_in_order (λ p. p) ps) ≡ list_any t ps
 any_order t ps = same_any t (turned_in_order (λ p. p) ps) ps (turned_sum (λ p. p) (λ p. ones (t p)) [] ps ∙ omega arith)
-
-from_order : (ps : List Part) (p : Part) → Contains (turned_in_order (λ p. p) ps) p → Contains ps p
-from_order ps p m = All-contains (Contains ps) (turned_in_order (λ p. p) ps) p (All-turned (λ p. p) (Contains ps) [] ps (All-nil (Contains ps)) (All-contains_itself ps)) m
-
--- the extents that are slabs of a class
-pub from_slabs : (s : Space) (class : ℕ) (q : Part) → Contains (slabs_of class s) q → Contains s.parts q × (is_slab class s.regions q ≡ true)
-from_slabs s class q m = filter_from (is_slab class s.regions) s.parts q (from_order (filter (is_slab class s.regions) s.parts) q m)
 
 -- Where a slab of a book stands.
 pub record Stands (s : Space) (x : BinSlab) : Type 0 where
@@ -47,24 +40,12 @@ book_any s slabs book t class q low at slab h =
     let x = any_from t (of_class class slabs) inside in
     any_has t slabs x.0 (filter_from (λ y. eqb y.class class) slabs x.0 x.1).0 x.2
 
--- the slabs of a class stay booked where its extents and their free places stay
-pub class_stays : (s t : Space) (slabs : List BinSlab) (class : ℕ) → filter (is_slab class t.regions) t.parts ≡ filter (is_slab class s.regions) s.parts →
-    ((q : Part) → Contains s.parts q → is_slab class s.regions q ≡ true → booked_slab t.regions class q ≡ booked_slab s.regions class q) →
-    of_class class slabs ≡ map (booked_slab s.regions class) (slabs_of class s) → of_class class slabs ≡ map (booked_slab t.regions class) (slabs_of class t)
-class_stays s t slabs class parts same booked =
-    booked ∙ map_same (booked_slab s.regions class) (booked_slab t.regions class) (slabs_of class s) (λ q m. let at = from_slabs s class q m in sym (same q at.0 at.1))
-    ∙ ap (λ ps. map (booked_slab t.regions class) (turned_in_order (λ p. p) ps)) (sym parts)
-
 -- as many slabs of a class as the space has
 class_count : (s : Space) (slabs : List BinSlab) → IsBooked s slabs → (class : ℕ) → class < 36 → count_by (λ x. eqb x.class class) slabs ≡ count_by (is_slab class s.regions) s.parts
 class_count s slabs book class low =
     let parts = filter (is_slab class s.regions) s.parts in
     let many = ap length (book.booked class low) ∙ length-map (slabs_of class s) (booked_slab s.regions class) in
-    omega (arith, length-filter (λ x. eqb x.class class) slabs, many, each_one (slabs_of class s), turned_sum (λ p. p) (λ p. 1) [] parts, each_one parts, length-filter (is_slab class s.regions) s.parts)
-  where
-    each_one : (ps : List Part) → sum_by (λ p. 1) ps ≡ length ps
-    each_one [] = refl
-    each_one (p ∷ ps) = omega (arith, each_one ps, sum_by-cons (λ (q : Part). 1) p ps)
+    omega (arith, length-filter (λ x. eqb x.class class) slabs, many, count_all (slabs_of class s), turned_sum (λ p. p) (λ p. 1) [] parts, count_all parts, length-filter (is_slab class s.regions) s.parts)
 
 pub slabs_counted : (s : Space) (slabs : List BinSlab) (numbers : List ℕ) → IsBooked s slabs → length numbers ≡ 36 → ((class : ℕ) → class < 36 → get_or numbers class 0 ≡ count_by (λ x. eqb x.class class) slabs) →
     numbers ≡ slabs_by_class s.regions s.parts
@@ -101,11 +82,11 @@ none_left s (x ∷ xs) book none =
     absurd (cc)
 
 -- so a space that stays has the slabs that it had
-pub same_left : (s : Space) (slabs : List BinSlab) → IsBooked s slabs → slabs_left s slabs ≡ slabs
-same_left s slabs book = by (eqb (length s.regions) 0) refl
+pub stays_left : {s t : Space} {slabs : List BinSlab} → IsBooked s slabs → s ≡ t → slabs ≡ slabs_left t slabs
+stays_left {s} {t} {slabs} book same = subst (λ x. slabs ≡ slabs_left x slabs) same (by (eqb (length s.regions) 0) refl)
   where
-    by : (b : Bool) → eqb (length s.regions) 0 ≡ b → cond b [] slabs ≡ slabs
-    by true e = sym (none_left s slabs book (nil_from_length s.regions (eqb-true _ _ e)))
+    by : (b : Bool) → eqb (length s.regions) 0 ≡ b → slabs ≡ cond b [] slabs
+    by true e = none_left s slabs book (nil_from_length s.regions (eqb-true _ _ e))
     by false e = refl
 
 -- ---- one region is given back
@@ -116,8 +97,7 @@ only y x m = elim (contains_cases y [] x m) [ inl e ↦ e | inr d ↦ absurd (om
 
 -- what changes no member leaves the list
 pub map_itself : {X : Type 0} (h : X → X) (xs : List X) → ((x : X) → Contains xs x → h x ≡ x) → map h xs ≡ xs
-map_itself h [] same = refl
-map_itself h (x ∷ xs) same = λ k. same x (head x xs) k ∷ map_itself h xs (λ y m. same y (contains_later x xs y m)) k
+map_itself h xs same = map_same h (λ x. x) xs same ∙ map-id xs
 
 module _ (c addr : ℕ) (s : Space) (p : Part) (slabs : List BinSlab) (sound : Sound s) (e : Empties c addr s p) (book : IsBooked s slabs) where
   abbrev rest : List Region
@@ -139,12 +119,9 @@ module _ (c addr : ℕ) (s : Space) (p : Part) (slabs : List BinSlab) (sound : S
       let one = only_one (starts_at addr) (is_given_back c (addr ∷ [])) s.regions e.region (begins_alone s addr sound) (find_alone (is_given_back c (addr ∷ [])) s.regions e.region e.given.alone) (eq-eqb _ _ e.given.at) in
       only e.region x (subst (λ xs. Contains xs x) one (filter_has (starts_at addr) s.regions x m t))
 
-  given_starts : (x : Region) → is_given_back c (addr ∷ []) x ≡ true → starts_at addr x ≡ true
-  given_starts x h = grind (arith, nat_tests)
-
   rest_is : rest ≡ filter (λ r. not (starts_at addr r)) s.regions
   rest_is = filter_same (λ r. not (is_given_back c (addr ∷ []) r)) (λ r. not (starts_at addr r)) s.regions (λ x m. ap not (both_ways (is_given_back c (addr ∷ []) x) (starts_at addr x)
-      (λ t. given_starts x t)
+      (λ t. given_starts c addr x t)
       (λ t. subst (λ r. is_given_back c (addr ∷ []) r ≡ true) (same_region x m t) gone.1)))
 
   freed_is : (class : ℕ) (q : Part) → booked_slab rest class q ≡ with_free addr (booked_slab s.regions class q)
@@ -207,11 +184,7 @@ module _ (c addr : ℕ) (s : Space) (p : Part) (slabs : List BinSlab) (sound : S
   one_slab class q low at = elim (cases_Bool (is_slab class s.regions q)) [
     | inl t ↦ grind (arith, t, still_slab s class q sound low at t rest sub, unused_is s class q sound low at t rest sub)
     | inr f ↦
-        let none = false_from_ne_true _ (λ t.
-        let x = any_from (λ r. eqb r.class class && houses q r) rest t in
-        let u = any_has (λ r. eqb r.class class && houses q r) s.regions x.0 (sub x.0 x.1) x.2 in
-        let no : true ≡ false = sym u ∙ f in
-        cc) in
+        let none = not_so f (λ t. let x = any_from (λ r. eqb r.class class && houses q r) rest t in any_has (λ r. eqb r.class class && houses q r) s.regions x.0 (sub x.0 x.1) x.2) in
         none ∙ ap (λ b. b && not (is_all_free (booked_slab rest class q))) (sym f)
   ]
 
@@ -220,11 +193,11 @@ module _ (c addr : ℕ) (s : Space) (p : Part) (slabs : List BinSlab) (sound : S
 
   -- the extent that is emptied is no slab any more
   parts_stay : (class : ℕ) (b : Bool) → is_left rest p ≡ b → filter (is_slab class rest) after.parts ≡ filter (is_slab class rest) s.parts
-  parts_stay class false left = ap (filter (is_slab class rest)) (given_parts c addr s p e false left).1
+  parts_stay class false left = ap (filter (is_slab class rest)) (sym (gives c addr s p false e (sym left)).parts)
   parts_stay class true left =
       let none : list_any (houses p) rest ≡ false = grind (arith, left) in
       let slab = serves_none class rest p none in
-      ap (filter (is_slab class rest)) (given_parts c addr s p e true left).1
+      ap (filter (is_slab class rest)) (sym (gives c addr s p true e (sym left)).parts)
       ∙ kept_exchanged (is_slab class rest) (begins_at p.span.first) s.parts (taken_out c p ∷ []) (ap (filter (is_slab class rest)) e.alone ∙ rw slab refl)
       (All-cons (λ q. is_slab class rest q ≡ false) (taken_out c p) [] (idle_no_slab class rest (taken_out c p) refl) (All-nil (λ q. is_slab class rest q ≡ false)))
 
@@ -247,35 +220,31 @@ module _ (c addr : ℕ) (s : Space) (p : Part) (slabs : List BinSlab) (sound : S
 
   -- a large region is at no place of a slab
   free_stays : (class : ℕ) (q : Part) → 36 ≤ e.region.class → class < 36 → Contains s.parts q → SlabAt class s.regions q → booked_slab rest class q ≡ booked_slab s.regions class q
-  free_stays class q big low at slab = λ k. record {
-    class = class;
-    first = q.span.first;
-    free = filter_same (λ a. not (list_any (starts_at a) rest)) (λ a. not (list_any (starts_at a) s.regions)) (places class q) (λ a m. ap not (both_ways (list_any (starts_at a) rest) (list_any (starts_at a) s.regions)
-        (λ t. let x = any_from (starts_at a) rest t in any_has (starts_at a) s.regions x.0 (sub x.0 x.1) x.2)
-        (λ t.
-        let x = any_from (starts_at a) s.regions t in
-        let place = subst (Contains (places class q)) (sym (eqb-true _ _ x.2)) m in
-        let alike = slab.alike x.0 x.1 (starts_served s class q sound low at slab x.0 x.1 place) in
-        let stays = ap not (false_from_ne_true _ (λ g. let is = ap (λ (r : Region). r.class) (same_region x.0 x.1 (given_starts x.0 g)) in omega (arith, is, alike, big, low))) in
-        any_has (starts_at a) rest x.0 (filter_has (λ r. not (is_given_back c (addr ∷ []) r)) s.regions x.0 x.1 stays) x.2))) k;
-  }
+  free_stays class q big low at slab = same_slab class q rest s.regions (λ a m. both_ways (list_any (starts_at a) rest) (list_any (starts_at a) s.regions)
+      (λ t. let x = any_from (starts_at a) rest t in any_has (starts_at a) s.regions x.0 (sub x.0 x.1) x.2)
+      (λ t.
+      let x = any_from (starts_at a) s.regions t in
+      let place = subst (Contains (places class q)) (sym (eqb-true _ _ x.2)) m in
+      let alike = slab.alike x.0 x.1 (starts_served s class q sound low at slab x.0 x.1 place) in
+      let stays = ap not (false_from_ne_true _ (λ g. let is = ap (λ (r : Region). r.class) (same_region x.0 x.1 (given_starts c addr x.0 g)) in omega (arith, is, alike, big, low))) in
+      any_has (starts_at a) rest x.0 (filter_has (λ r. not (is_given_back c (addr ∷ []) r)) s.regions x.0 x.1 stays) x.2))
 
   same_large : 36 ≤ e.region.class → filter keep (map (with_free addr) slabs) ≡ slabs
-  same_large big =
-      let stays : (x : BinSlab) → Contains slabs x → with_free addr x ≡ x = λ x m.
-      let at = stands_at s slabs book x m in
-      let slab = slab_at s x.class at.extent sound at.low at.there at.slab in
-      ap (with_free addr) (sym at.is) ∙ sym (freed_is x.class at.extent) ∙ free_stays x.class at.extent big at.low at.there slab ∙ at.is in
-      let used : (x : BinSlab) → Contains slabs x → keep (with_free addr x) ≡ true = λ x m.
-      let at = stands_at s slabs book x m in
-      let slab = slab_at s x.class at.extent sound at.low at.there at.slab in
-      let other = false_from_ne_true _ (λ t.
-      let same = only p at.extent (subst (λ xs. Contains xs at.extent) e.alone (filter_has (begins_at p.span.first) s.parts at.extent at.there t)) in
-      let alike = slab.alike e.region gone.0 (subst (λ q. houses q e.region ≡ true) same e.home) in
-      let low = at.low in
-      omega (arith, alike, big, low)) in
-      ap (λ y. keep (with_free addr y)) (sym at.is) ∙ ap not (unused x.class at.extent at.low at.there at.slab) ∙ rw other refl in
-      filter_all_of keep (map (with_free addr) slabs) (λ y m. let x = map_from (with_free addr) slabs y m in ap keep (sym x.2) ∙ used x.0 x.1) ∙ map_itself (with_free addr) slabs stays
+  same_large big = filter_all_of keep (map (with_free addr) slabs) (λ y m. let x = map_from (with_free addr) slabs y m in ap keep (sym x.2) ∙ (each x.0 x.1).1) ∙ map_itself (with_free addr) slabs (λ x m. (each x m).0)
+    where
+      -- a slab stays as it is, and is still in use
+      each : (x : BinSlab) → Contains slabs x → (with_free addr x ≡ x) × (keep (with_free addr x) ≡ true)
+      each x m =
+          let at = stands_at s slabs book x m in
+          let low = at.low in
+          let slab = slab_at s x.class at.extent sound low at.there at.slab in
+          let other = false_from_ne_true _ (λ t.
+          let same = only p at.extent (subst (λ xs. Contains xs at.extent) e.alone (filter_has (begins_at p.span.first) s.parts at.extent at.there t)) in
+          let alike = slab.alike e.region gone.0 (subst (λ q. houses q e.region ≡ true) same e.home) in
+          omega (arith, alike, big, low)) in (
+            ap (with_free addr) (sym at.is) ∙ sym (freed_is x.class at.extent) ∙ free_stays x.class at.extent big low at.there slab ∙ at.is,
+            ap (λ y. keep (with_free addr y)) (sym at.is) ∙ ap not (unused x.class at.extent low at.there at.slab) ∙ rw other refl,
+          )
 
   -- so the book is that of the space afterwards
   pub back_booked : (class : ℕ) → e.region.class ≡ class → IsBooked after (slabs_returned class addr slabs)
@@ -303,3 +272,8 @@ returns_one c addr s class slabs sound held book told =
       gives = gives c addr s e.0 (is_last class addr slabs) e.1 (last_is c addr s e.0 slabs sound e.1 book class is);
       booked = back_booked c addr s e.0 slabs sound e.1 book class is;
     }
+
+-- so the space is then, where its extents and its regions are those
+pub back_is : (c addr : ℕ) (s : Space) {parts : List Part} {regions : List Region} → parts ≡ (after_back s c (addr ∷ [])).after.parts → regions ≡ (after_back s c (addr ∷ [])).after.regions →
+    record s { parts = parts; regions = regions } ≡ (after_back s c (addr ∷ [])).after
+back_is c addr s parts regions = λ i. record s { parts = parts i; regions = regions i }

@@ -1,14 +1,11 @@
 -- One region is given back: its extent is the only one that can be emptied.
-use Rattle.arena_core.proofs.Words.{◌≡◌, ℕ, ◌/◌, ◌<◌, ◌≤◌, Bool, true, false, not, cond, IsTrue, List, [], ◌∷◌, append-nil, length, get_or, find, filter, Some, refl, sym, ◌∙◌, ap, subst, arith, All, ◌&&◌, ◌||◌, eqb, inl, inr, count_by, list_any, sum_by, cases_Bool, eqb-true, nat_tests, All-cons, All-filter, All-head, All-nil, All-tail, filter_passes, recursion_from_All, sum_by-filter_both, length-filter, sum_by-cons, size_at, size_bounds, filter_none, Part, Region, Space, IsPlaced, has_page, begins_at, exchanged, holders, is_active, taken_out, covers, homes, houses, is_held_by, residents, starts_at, after_back, holds_at, is_emptied, is_given_back, staying, taken_in_order, Sound, filter-begins_at, find_has, find_passes, serves, some_pages, serves-le-share, sum_nothing}
+use Rattle.arena_core.proofs.Words.{◌≡◌, ℕ, ◌/◌, ◌<◌, ◌≤◌, Bool, true, false, not, cond, IsTrue, List, [], ◌∷◌, append-nil, length, get_or, find, filter, Some, refl, sym, ◌∙◌, ap, subst, arith, All, ◌&&◌, ◌||◌, eqb, inl, inr, count_by, list_any, sum_by, cases_Bool, eqb-true, nat_tests, All-cons, All-filter, All-head, All-nil, All-tail, filter_passes, recursion_from_All, sum_by-filter_both, sum_by-cons, size_at, size_bounds, filter_none, Part, Region, Space, IsPlaced, has_page, begins_at, exchanged, holders, is_active, taken_out, covers, homes, houses, is_held_by, residents, starts_at, after_back, holds_at, is_emptied, is_given_back, staying, Sound, filter-begins_at, find_has, find_passes, serves, some_pages, serves-le-share, sum_nothing, only_one, filter_same, All-contains, found}
+pub use Rattle.space_model.proofs.Lists.{any_counts, counted_any, none_counted, ones}
 use Rattle.arena_core.proofs.Finds.{fewer_pass}
 use Rattle.arena_core.proofs.Homes.{home_shares}
 use Rattle.arena_core.proofs.Swaps.{keeps_all}
 
 -- ---- lists
-
--- 1 for true, 0 for false
-abbrev pub ones : Bool → ℕ
-ones b = cond b 1 0
 
 -- what such a number says of its test
 pub most_one : (b : Bool) → ones b ≤ 1
@@ -20,6 +17,10 @@ ones_le a b le h = grind arith
 pub ones_same : (a b : Bool) → ones a ≡ ones b → a ≡ b
 ones_same a b h = grind arith
 
+pub count_all : {X : Type 0} (xs : List X) → count_by (λ x. true) xs ≡ length xs
+count_all [] = refl
+count_all (x ∷ xs) = omega (arith, count_all xs, sum_by-cons (λ y. 1) x xs)
+
 -- what passes at all is found, and counted
 pub some_found : {X : Type 0} (t : X → Bool) (xs : List X) → 0 < count_by t xs → (x : X) × (find t xs ≡ Some x)
 some_found t [] some = absurd (omega (arith, some))
@@ -27,28 +28,6 @@ some_found t (x ∷ xs) some = elim (cases_Bool (t x)) [
   | inl h ↦ (x, rw h refl)
   | inr h ↦ let rest = some_found t xs (grind (arith, sum_by-cons (λ y. ones (t y)) x xs, h, some)) in let e : find t (x ∷ xs) ≡ find t xs = rw h refl in (rest.0, e ∙ rest.1)
 ]
-
-pub any_counts : {X : Type 0} (t : X → Bool) (xs : List X) → list_any t xs ≡ true → 0 < count_by t xs
-any_counts t [] h = absurd (cc)
-any_counts t (x ∷ xs) h = grind (arith, any_counts t xs, sum_by-cons (λ y. ones (t y)) x xs)
-
-pub counts_any : {X : Type 0} (t : X → Bool) (xs : List X) → 0 < count_by t xs → list_any t xs ≡ true
-counts_any t [] some = absurd (omega (arith, some))
-counts_any t (x ∷ xs) some = grind (arith, counts_any t xs, sum_by-cons (λ y. ones (t y)) x xs)
-
--- what passes just once is all that a filter keeps
-pub one_passes : {X : Type 0} (t : X → Bool) (xs : List X) → 0 < count_by t xs → count_by t xs ≤ 1 → (x : X) × (filter t xs ≡ x ∷ [])
-one_passes t xs some most = by (filter t xs) refl
-  where
-    by : (ys : List _) → filter t xs ≡ ys → (x : _) × (filter t xs ≡ x ∷ [])
-    by [] e = let n : length (filter t xs) ≡ 0 = ap length e in absurd (omega (arith, length-filter t xs, n, some))
-    by (x ∷ []) e = (x, e)
-    by (x ∷ y ∷ zs) e = let n : length (filter t xs) ≡ length (x ∷ y ∷ zs) = ap length e in absurd (omega (arith, length-filter t xs, n, most))
-
--- tests that agree on each element keep the same
-pub filter_alike : {X : Type 0} (f g : X → Bool) (xs : List X) → All (λ x. f x ≡ g x) xs → filter f xs ≡ filter g xs
-filter_alike f g [] same = refl
-filter_alike {X} f g (x ∷ xs) same = let P : X → Type 0 = λ y. f y ≡ g y in cc (All-head P x xs same, filter_alike f g xs (All-tail P x xs same))
 
 -- what is true of those that pass and of the others is true of all
 pub All-split : {X : Type 0} (P : X → Type 0) (t : X → Bool) (xs : List X) → All P (filter t xs) → All P (filter (λ x. not (t x)) xs) → All P xs
@@ -68,6 +47,10 @@ begins_alone s addr sound =
     λ r class h. let size : 0 < size_at r.class = omega (arith, size_bounds r.class class) in grind (arith, nat_tests) in
     omega (arith, sound.apart addr, fewer_pass (starts_at addr) (covers addr) s.regions (λ k d h. has (get_or s.regions k d) (sound.classes k d h)))
 
+-- a region that is given back at an address begins there
+pub given_starts : (c addr : ℕ) (r : Region) → is_given_back c (addr ∷ []) r ≡ true → starts_at addr r ≡ true
+given_starts c addr r h = grind (arith, nat_tests)
+
 -- The region that a client gives back.
 pub record Given (c addr : ℕ) (regions : List Region) (r : Region) : Type 0 where
   pub alone : filter (is_given_back c (addr ∷ [])) regions ≡ r ∷ []
@@ -78,25 +61,19 @@ given c addr s sound held =
     let t = is_given_back c (addr ∷ []) in
     let same : (r : Region) → (is_held_by c r && eqb r.addr addr) ≡ t r = λ r. both (is_held_by c r) r.addr in
     let some : 0 < count_by t s.regions = any_counts t s.regions (sym (λ i. list_any (λ r. same r i) s.regions) ∙ held) in
-    let fewer = fewer_pass t (starts_at addr) s.regions (λ k d h e. starts (get_or s.regions k d) e) in
-    let one = one_passes t s.regions some (omega (arith, fewer, begins_alone s addr sound)) in
-    let passes : All (λ r. t r ≡ true) (one.0 ∷ []) = subst (All (λ r. t r ≡ true)) one.1 (filter_passes t s.regions) in
-    (one.0, record { alone = one.1; at = eqb-true _ _ (starts one.0 (All-head (λ r. t r ≡ true) one.0 [] passes)) })
+    let fewer = fewer_pass t (starts_at addr) s.regions (λ k d h e. given_starts c addr (get_or s.regions k d) e) in
+    let one = some_found t s.regions some in
+    let passes = find_passes t s.regions one.0 one.1 in
+    (one.0, record { alone = only_one t t s.regions one.0 (omega (arith, fewer, begins_alone s addr sound)) one.1 passes; at = eqb-true _ _ (given_starts c addr one.0 passes) })
   where
     both : (b : Bool) (m : ℕ) → (b && eqb m addr) ≡ (b && (eqb addr m || false))
     both b m = grind (arith, nat_tests)
 
-    starts : (r : Region) → is_given_back c (addr ∷ []) r ≡ true → starts_at addr r ≡ true
-    starts r h = grind (arith, nat_tests)
-
 -- ---- its extent
 
--- The extent of a region: the one that has the page of its address.
-pub record Home (r : Region) (parts : List Part) (p : Part) : Type 0 where
-  pub found : find (λ q. has_page (r.addr / 4096) q.span) parts ≡ Some p
-  pub home : houses p r ≡ true
-
-pub home_of : (r : Region) (parts : List Part) → r.class < 121 → homes r parts ≡ 1 → holders (r.addr / 4096) parts ≤ 1 → (p : Part) × Home r parts p
+-- the extent of a region: the one that has the page of its address
+home_of : (r : Region) (parts : List Part) → r.class < 121 → homes r parts ≡ 1 → holders (r.addr / 4096) parts ≤ 1 →
+    (p : Part) × (find (λ q. has_page (r.addr / 4096) q.span) parts ≡ Some p) × (houses p r ≡ true)
 home_of r parts class home most =
     let size : 0 < size_at r.class = omega (arith, size_bounds r.class class) in
     let starts : covers r.addr r ≡ true = grind (arith, nat_tests) in
@@ -104,8 +81,9 @@ home_of r parts class home most =
     let has : (q : Part) → houses q r ≡ true → here q ≡ true = λ q h. ones_le (houses q r) (here q) (serves-le-share r.addr r q starts) h in
     let fewer = fewer_pass (λ q. houses q r) here parts (λ k d h. has (get_or parts k d)) in
     let p = some_found here parts (omega (arith, fewer, home)) in
-    let same = home_shares r parts here p.0 class home most p.1 in
-    (p.0, record { found = p.1; home = ones_same (houses p.0 r) (here p.0) same ∙ find_passes here parts p.0 p.1 })
+    let there = found here parts p.0 p.1 in
+    let same = home_shares r parts p.0 class home most there.0 in
+    (p.0, p.1, ones_same (houses p.0 r) (here p.0) same ∙ there.1)
 
 -- ---- what is emptied
 
@@ -120,7 +98,7 @@ other_serves c addr s r x given none used =
     let t = is_given_back c (addr ∷ []) in
     let gone : count_by (houses x) (filter t s.regions) ≡ count_by (houses x) (r ∷ []) = ap (count_by (houses x)) given.alone in
     let sums = sum_by-filter_both t (λ q. not (t q)) (λ _. refl) (λ q. ones (houses x q)) s.regions in
-    grind (arith, gone, sums, none, used, sum_by-cons (λ q. ones (houses x q)) r [], counts_any (houses x) (staying c (addr ∷ []) s.regions))
+    grind (arith, gone, sums, none, used, sum_by-cons (λ q. ones (houses x q)) r [], counted_any (houses x) (staying c (addr ∷ []) s.regions))
 
 -- What giving one region back leaves: its extent is emptied, if none of the regions that stay begins in it, and no other one is.
 pub record Empties (c addr : ℕ) (s : Space) (p : Part) : Type 0 where
@@ -146,24 +124,24 @@ empties c addr s sound held =
     let home = home_of r s.parts class one (sound.owners (r.addr / 4096)) in
     let p : Part = home.0 in
     let search : Part → Bool = λ q. has_page (r.addr / 4096) q.span in
-    let alone = filter-begins_at search s.parts p (some_pages s.parts sound.placed) (sound.owners p.span.first) home.1.found in
-    let active : is_active p.state ≡ true = grind (arith, home.1.home) in
+    let alone = filter-begins_at search s.parts p (some_pages s.parts sound.placed) (sound.owners p.span.first) home.1 in
+    let active : is_active p.state ≡ true = grind (arith, home.2) in
     let begins = begins_at p.span.first in
     let served : sum_by (serves r) (filter begins s.parts) ≡ sum_by (serves r) (p ∷ []) = ap (sum_by (serves r)) alone in
     let none = sum_nothing (serves r) (filter (λ x. not (begins x)) s.parts)
-    (grind (arith, one, home.1.home, served, sum_by-cons (serves r) p [], sum_by-filter_both begins (λ x. not (begins x)) (λ _. refl) (serves r) s.parts)) in
+    (grind (arith, one, home.2, served, sum_by-cons (serves r) p [], sum_by-filter_both begins (λ x. not (begins x)) (λ _. refl) (serves r) s.parts)) in
     let used = All-filter (λ x. not (begins x)) (λ x. IsTrue (is_active x.state) → 0 < residents x s.regions) s.parts sound.used in
     let apart = filter_passes (λ x. not (begins x)) s.parts in
     let P : Part → Type 0 = λ x. is_emptied regions x ≡ (begins x && is_left regions p) in
     let itself : begins p ≡ true = grind (arith, nat_tests) in (
       p,
       record {
-        found = subst (λ a. find (λ q. has_page (a / 4096) q.span) s.parts ≡ Some p) region.1.at home.1.found;
-        placed = find_has (λ q. IsPlaced q.span) search s.parts p sound.placed home.1.found;
+        found = subst (λ a. find (λ q. has_page (a / 4096) q.span) s.parts ≡ Some p) region.1.at home.1;
+        placed = find_has (λ q. IsPlaced q.span) search s.parts p sound.placed home.1;
         active = active;
         region = r;
         given = region.1;
-        home = home.1.home;
+        home = home.2;
         others = none;
         each = All-split P begins s.parts
             (subst (All P) (sym alone) (All-cons P p [] (rw (active, itself) refl) (All-nil P)))
@@ -178,34 +156,26 @@ empties c addr s sound held =
 pub none_kept : {X : Type 0} (t : X → Bool) (xs : List X) → All (λ x. t x ≡ false) xs → filter t xs ≡ []
 none_kept t xs fails = filter_none t xs (recursion_from_All (λ x. t x ≡ false) xs fails)
 
--- where just one extent can pass, it alone is exchanged, or nothing is
-one_exchanged : (c : ℕ) (gone : Part → Bool) (parts : List Part) (p : Part) (b : Bool) → All (λ x. gone x ≡ (begins_at p.span.first x && b)) parts → filter (begins_at p.span.first) parts ≡ p ∷ [] →
-    (filter gone parts ≡ cond b (p ∷ []) []) × (exchanged gone parts (taken_in_order c (filter gone parts)) ≡ cond b (exchanged (begins_at p.span.first) parts (taken_out c p ∷ [])) parts)
-one_exchanged c gone parts p true each alone =
-    let t = begins_at p.span.first in
-    let same = filter_alike gone t parts (λ k d h. grind (arith, each k d h)) in
-    let others = filter_alike (λ x. not (gone x)) (λ x. not (t x)) parts (λ k d h. grind (arith, each k d h)) in
-    (same ∙ alone, cc (same, alone, others))
-one_exchanged c gone parts p false each alone =
-    let same = none_kept gone parts (λ k d h. grind (arith, each k d h)) in
-    (same, cc (same, keeps_all gone parts same, append-nil parts))
-
-pub given_parts : (c addr : ℕ) (s : Space) (p : Part) → Empties c addr s p → (b : Bool) → is_left (staying c (addr ∷ []) s.regions) p ≡ b →
-    (filter (is_emptied (staying c (addr ∷ []) s.regions)) s.parts ≡ cond b (p ∷ []) []) × ((after_back s c (addr ∷ [])).after.parts ≡ cond b (exchanged (begins_at p.span.first) s.parts (taken_out c p ∷ [])) s.parts)
-given_parts c addr s p e b is =
-    let regions = staying c (addr ∷ []) s.regions in
-    one_exchanged c (is_emptied regions) s.parts p b (subst (λ x. All (λ q. is_emptied regions q ≡ (begins_at p.span.first q && x)) s.parts) is e.each) e.alone
-
 -- What the return then comes to: how many extents are emptied, and the extents afterwards.
 pub record Gives (c addr : ℕ) (s : Space) (p : Part) (left : Bool) : Type 0 where
   pub count : ones left ≡ length (filter (is_emptied (staying c (addr ∷ []) s.regions)) s.parts)
   pub parts : cond left (exchanged (begins_at p.span.first) s.parts (taken_out c p ∷ [])) s.parts ≡ (after_back s c (addr ∷ [])).after.parts
 
 pub gives : (c addr : ℕ) (s : Space) (p : Part) (left : Bool) → Empties c addr s p → left ≡ is_left (staying c (addr ∷ []) s.regions) p → Gives c addr s p left
-gives c addr s p left e is =
-    let parts = given_parts c addr s p e left (sym is) in
-    record { count = sym (ap length parts.0 ∙ counted left); parts = sym parts.1 }
+gives c addr s p left e is = by left (subst (λ x. All (λ q. gone q ≡ (t q && x)) s.parts) (sym is) e.each)
   where
-    counted : (b : Bool) → length (cond b (p ∷ []) []) ≡ ones b
-    counted true = refl
-    counted false = refl
+    t : Part → Bool
+    t = begins_at p.span.first
+
+    gone : Part → Bool
+    gone = is_emptied (staying c (addr ∷ []) s.regions)
+
+    by : (b : Bool) → All (λ q. gone q ≡ (t q && b)) s.parts → Gives c addr s p b
+    by true each =
+        let P : Part → Type 0 = λ x. gone x ≡ (t x && true) in
+        let here = filter_same gone t s.parts (λ x m. grind (arith, All-contains P s.parts x each m)) ∙ e.alone in
+        let others = filter_same (λ x. not (gone x)) (λ x. not (t x)) s.parts (λ x m. grind (arith, All-contains P s.parts x each m)) in
+        record { count = ap length (sym here); parts = cc (here, others) }
+    by false each =
+        let none = none_kept gone s.parts (λ k d h. grind (arith, each k d h)) in
+        record { count = ap length (sym none); parts = cc (none, keeps_all gone s.parts none, append-nil s.parts) }

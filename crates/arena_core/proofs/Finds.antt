@@ -1,6 +1,5 @@
 -- What searches find among extents that are apart.
-use Rattle.arena_core.proofs.Words.{◌≡◌, ℕ, ◌-◌, ◌≤◌, Bool, true, false, cond, List, [], ◌∷◌, get_or, find, filter, slice_get, Option, None, Some, IfSome, refl, sym, ◌∙◌, ap, subst, arith, All, ◌&&◌, eqb, nat_le, count_by, nat_tests, sum_by-cons, All-head, All-tail, Part, Span, IsPlaced, end_of, has_page, begins_at, is_flight, is_flight_at, fit, is_spare, is_left_of, is_like, is_right_of, filter-begins_at, some_pages, fit-listed, Book, IsFirstFrom, ends_at, is_beside, find_is, IsApart, IsThere, found_if}
-use Rattle.space_model.specs.Part.{is_unused}
+use Rattle.arena_core.proofs.Words.{◌≡◌, ℕ, ◌-◌, ◌≤◌, Bool, true, false, cond, List, [], ◌∷◌, get_or, find, filter, slice_get, Option, None, Some, IfSome, refl, sym, ◌∙◌, ap, subst, arith, All, ◌&&◌, eqb, nat_le, count_by, nat_tests, sum_by-cons, All-head, All-tail, Part, Span, IsPlaced, end_of, has_page, begins_at, is_flight, is_flight_at, fit, is_spare, is_left_of, is_like, is_right_of, filter-begins_at, some_pages, fit-listed, Book, IsFirstFrom, ends_at, is_beside, find_is, IsApart, IsThere, found_if, is_unused, eqb_itself}
 use Rattle.list_facts.proofs.Members.{only_one}
 
 -- ---- what is found is there
@@ -14,15 +13,16 @@ pub found_there : (parts : List Part) (test : Part → Bool) (p : Part) → IsAp
 found_there parts test p apart found =
     find_alone (begins_at p.span.first) parts p (filter-begins_at test parts p (some_pages parts apart.placed) (apart.owners p.span.first) found)
 
-pub search_there : (parts : List Part) (test : Part → Bool) (o : Option Part) → IsApart parts → o ≡ find test parts → IfSome o (IsThere parts)
-search_there parts test None apart e = tt
-search_there parts test (Some p) apart e = found_there parts test p apart (sym e)
-
 -- ---- as functions cite them, of a book that callers see as `now`
+
+-- what may be found is there, where each extent that may be is there inside
+inside : {b now : Book} (o : Option Part) → b ≡ now → ((p : Part) → o ≡ Some p → IsThere b.parts p) → IfSome o (IsThere now.parts)
+inside None view each = tt
+inside (Some p) view each = subst (λ (x : Book). IsThere x.parts p) view (each p refl)
 
 -- what a search found is there
 pub found_inside : {b now : Book} {o : Option Part} (test : Part → Bool) → b ≡ now → IsApart b.parts → o ≡ find test b.parts → IfSome o (IsThere now.parts)
-found_inside {b} {now} {o} test view apart e = subst (λ (x : Book). IfSome o (IsThere x.parts)) view (search_there b.parts test o apart e)
+found_inside {b} {now} {o} test view apart e = inside o view (λ p is. found_there b.parts test p apart (sym e ∙ is))
 
 -- so is the first one
 pub first_inside : {b now : Book} {o : Option Part} → b ≡ now → IsApart b.parts → o ≡ slice_get b.parts 0 → IfSome o (IsThere now.parts)
@@ -34,11 +34,7 @@ first_inside {b} view apart e = found_inside (λ _. true) view apart (e ∙ firs
 
 -- so is the unused extent that serves a request
 pub fit_inside : {b now : Book} {o : Option Part} (pages align : ℕ) → b ≡ now → IsApart b.parts → o ≡ fit pages align b.parts → IfSome o (IsThere now.parts)
-fit_inside {b} {now} {o} pages align view apart e = subst (λ (x : Book). IfSome o (IsThere x.parts)) view (there o e)
-  where
-    there : (o : Option Part) → o ≡ fit pages align b.parts → IfSome o (IsThere b.parts)
-    there None e = tt
-    there (Some p) e = let l = fit-listed pages align b.parts p (sym e) in found_there b.parts l.test p apart l.found
+fit_inside {b} {now} {o} pages align view apart e = inside o view (λ p is. let l = fit-listed pages align b.parts p (sym e ∙ is) in found_there b.parts l.test p apart l.found)
 
 -- ---- a search for one page
 
@@ -59,27 +55,25 @@ fewer_pass {X} t u (x ∷ xs) has =
     let P : X → Type 0 = λ y. t y ≡ true → u y ≡ true in
     grind (arith, fewer_pass t u xs (All-tail P x xs has), All-head P x xs has, sum_by-cons (λ y. cond (t y) 1 0) x xs, sum_by-cons (λ y. cond (u y) 1 0) x xs)
 
+-- at most one extent passes a test that only those with a page pass
+once : (test : Part → Bool) (page : ℕ) (parts : List Part) → IsApart parts → ((p : Part) → IsPlaced p.span → test p ≡ true → has_page page p.span ≡ true) → count_by test parts ≤ 1
+once test page parts apart has = omega (arith, apart.owners page, fewer_pass test (λ p. has_page page p.span) parts (λ k d h. has (get_or parts k d) (apart.placed k d h)))
+
 -- at most one extent begins at a page, and at most one ends before it
 pub begins_once : (page : ℕ) (parts : List Part) → IsApart parts → count_by (begins_at page) parts ≤ 1
-begins_once page parts apart =
-    let has : (p : Part) → IsPlaced p.span → begins_at page p ≡ true → has_page page p.span ≡ true = λ p placed h. grind (arith, nat_tests, placed.0) in
-    omega (arith, apart.owners page, fewer_pass (begins_at page) (λ p. has_page page p.span) parts (λ k d h. has (get_or parts k d) (apart.placed k d h)))
+begins_once page parts apart = once (begins_at page) page parts apart (λ p placed h. grind (arith, nat_tests, placed.0))
 
 pub ends_once : (page : ℕ) (parts : List Part) → IsApart parts → count_by (ends_at page) parts ≤ 1
-ends_once page parts apart =
-    let has : (p : Part) → IsPlaced p.span → ends_at page p ≡ true → has_page (page - 1) p.span ≡ true = λ p placed h. grind (arith, nat_tests, placed.0) in
-    omega (arith, apart.owners (page - 1), fewer_pass (ends_at page) (λ p. has_page (page - 1) p.span) parts (λ k d h. has (get_or parts k d) (apart.placed k d h)))
+ends_once page parts apart = once (ends_at page) (page - 1) parts apart (λ p placed h. grind (arith, nat_tests, placed.0))
 
 -- an extent that is first from a page on is there
 pub from_inside : {b now : Book} (page : ℕ) (o : Option Part) → b ≡ now → IsApart b.parts → IfSome o (IsFirstFrom page b.parts) → IfSome o (IsThere now.parts)
-from_inside {b} {now} page o view apart e = subst (λ (x : Book). IfSome o (IsThere x.parts)) view (there o e)
-  where
-    there : (o : Option Part) → IfSome o (IsFirstFrom page b.parts) → IfSome o (IsThere b.parts)
-    there None e = tt
-    there (Some p) e =
-        let t = begins_at p.span.first in
-        let itself : t p ≡ true = grind (arith, nat_tests) in
-        find_is t b.parts p e.listed itself (λ q also h. only_one t b.parts p q (begins_once p.span.first b.parts apart) e.listed also itself h)
+from_inside {b} page o view apart e =
+    inside o view (λ p is.
+    let first = subst (λ u. IfSome u (IsFirstFrom page b.parts)) is e in
+    let t = begins_at p.span.first in
+    let itself : t p ≡ true = eqb_itself p.span.first in
+    find_is t b.parts p first.listed itself (λ q also h. only_one t b.parts p q (begins_once p.span.first b.parts apart) first.listed also itself h))
 
 -- What was found inside by one test, and kept if it passes another, is what a search by both finds, and is there.
 pub record Kept (got : Option Part) (both : Part → Bool) (now : Book) : Type 0 where

@@ -1,26 +1,24 @@
 -- The extent that serves a region is the one that has the page of its address.
-use Rattle.arena_core.proofs.Words.{◌≡◌, ℕ, ◌*◌, ◌/◌, ◌<◌, ◌≤◌, Bool, true, false, cond, IsTrue, List, [], ◌∷◌, get_or, find, Some, sym, ap, arith, eqb, inl, inr, ◌&&◌, list_any, sum_by, cases_Bool, nat_tests, list_any_none, sum_by-cons, sum_by-le-sum_by, size_at, size_bounds, Part, Answer, Merge, Region, Span, Space, IsPlaced, end_of, has_page, holders, is_active, is_flight, is_flight_at, covers, homes, is_yes_or_no, merge_stands, Sound, find_has, find_passes, share, idle-serves, serves, serves-le-share, both_true, flight-idle, AreBeside}
+use Rattle.arena_core.proofs.Words.{◌≡◌, ℕ, ◌*◌, ◌/◌, ◌<◌, ◌≤◌, Bool, true, false, cond, IsTrue, List, [], ◌∷◌, get_or, find, Some, sym, ap, arith, eqb, inl, inr, ◌&&◌, list_any, sum_by, cases_Bool, nat_tests, list_any_none, sum_by-cons, sum_by-le-sum_by, size_at, size_bounds, Part, Answer, Merge, Region, Span, Space, IsPlaced, end_of, has_page, holders, is_active, is_flight, is_flight_at, covers, homes, is_yes_or_no, merge_stands, Sound, find_has, find_passes, share, idle-serves, serves, serves-le-share, both_true, flight-idle, AreBeside, Contains, contains_cases, found}
 
 -- where a sum is no more than that of smaller terms, each term is no more than the smaller one
-exact_at : {X : Type 0} (f g : X → ℕ) (test : X → Bool) (xs : List X) (x : X) → ((y : X) → g y ≤ f y) → sum_by f xs ≤ sum_by g xs → find test xs ≡ Some x → f x ≤ g x
-exact_at f g test [] x less whole e = absurd (cc)
-exact_at f g test (y ∷ ys) x less whole e =
-    grind (arith, exact_at f g test ys x less, sum_by-cons f y ys, sum_by-cons g y ys, sum_by-le-sum_by g f ys less, less y)
+exact_of : {X : Type 0} (f g : X → ℕ) (xs : List X) (x : X) → ((y : X) → g y ≤ f y) → sum_by f xs ≤ sum_by g xs → Contains xs x → f x ≤ g x
+exact_of f g [] x less whole m = absurd (omega arith)
+exact_of f g (y ∷ ys) x less whole m = grind (arith, contains_cases y ys x m, whole, less y, sum_by-cons f y ys, sum_by-cons g y ys, sum_by-le-sum_by g f ys less, exact_of f g ys x less)
 
 -- a region that has one home is served by an extent just where that has the page of its address
-pub home_shares : (r : Region) (parts : List Part) (test : Part → Bool) (p : Part) → r.class < 121 → homes r parts ≡ 1 → holders (r.addr / 4096) parts ≤ 1 →
-    find test parts ≡ Some p → serves r p ≡ share (r.addr / 4096) p
-home_shares r parts test p class home most found =
+pub home_shares : (r : Region) (parts : List Part) (p : Part) → r.class < 121 → homes r parts ≡ 1 → holders (r.addr / 4096) parts ≤ 1 → Contains parts p → serves r p ≡ share (r.addr / 4096) p
+home_shares r parts p class home most there =
     let size : 0 < size_at r.class = omega (arith, size_bounds r.class class) in
     let starts : covers r.addr r ≡ true = grind (arith, nat_tests) in
     let less : (q : Part) → serves r q ≤ share (r.addr / 4096) q = λ q. serves-le-share r.addr r q starts in
-    omega (arith, less p, exact_at (share (r.addr / 4096)) (serves r) test parts p less (omega (arith, home, most)) found)
+    omega (arith, less p, exact_of (share (r.addr / 4096)) (serves r) parts p less (omega (arith, home, most)) there)
 
 -- no region begins in an extent that serves none
 pub none_begins : (s : Space) (test : Part → Bool) (p : Part) (addr : ℕ) → Sound s → find test s.parts ≡ Some p → is_active p.state ≡ false →
     4096 * p.span.first ≤ addr → addr < 4096 * end_of p.span → list_any (λ r. eqb r.addr addr) s.regions ≡ false
-none_begins s test p addr sound found idle above below =
-    let placed : IsPlaced p.span = find_has (λ q. IsPlaced q.span) test s.parts p sound.placed found in
+none_begins s test p addr sound told idle above below =
+    let placed : IsPlaced p.span = find_has (λ q. IsPlaced q.span) test s.parts p sound.placed told in
     let ones : Bool → ℕ = λ b. cond b 1 0 in
     list_any_none (λ r. eqb r.addr addr) s.regions (λ k d h.
     let r : Region = get_or s.regions k d in
@@ -30,7 +28,7 @@ none_begins s test p addr sound found idle above below =
           let at : r.addr ≡ addr = grind (arith, nat_tests) in
           let has : has_page (r.addr / 4096) p.span ≡ true = grind (arith, nat_tests, at, above, below) in
           let one : share (r.addr / 4096) p ≡ 1 = ap ones has in
-          let same = home_shares r s.parts test p (sound.classes k d h) (sound.homes k d h) (sound.owners (r.addr / 4096)) found in
+          let same = home_shares r s.parts p (sound.classes k d h) (sound.homes k d h) (sound.owners (r.addr / 4096)) (found test s.parts p told).0 in
           absurd (omega (arith, one, idle-serves p r idle, same))
     ])
 

@@ -1,7 +1,6 @@
 -- Regions of a class that land in an extent, or are taken as the lowest free ones.
-use Rattle.arena_core.proofs.Words.{◌≡◌, ℕ, ◌+◌, ◌<◌, ◌≤◌, ◌^◌, false, List, [], ◌∷◌, length, get_or, drop, sym, ap, ◌∙◌, subst, arith, nat_lt, ◌*◌, true, cond, IsTrue, find, Some, refl, ◌&&◌, eqb, nat_le, inl, inr, zero, suc, Bool, ◌↔◌, ◌++◌, map, take, lt-ltb, count_by, list_any, position_or_len, sum_by, false_from_ne_true, cases_lt, eqb-true, le-ltb, leb-true, ltb-true, drop_all, drop_more, get_or-map, sum_by-cons, sum_by-insert, size_at, pages_at, regions_at, Region, Space, region_bytes, inserted, landing, starts_at, address_of, regions_from, region_of, Sound, eqb_itself, region_bytes_fits, CanCome, nat_tests, mul-le-mul_left, large_size, slab_filled, Land, Fill, Part, Span, is_flight_at, pages_end, land_at, land_stands, most_regions, after_fill, fill_at, lowest_free, is_live, op_stands, both_true, op_keeps, NoArena, Nothing, Regions, stays, BinSlab, free_of, with_regions_out, filter_all_of, filled, IsBooked, slabs_filled, slabs_taken}
-use Rattle.std.proofs.lemmas.Bool.{lt-ltb}
-use Rattle.arena_core.proofs.Emptying.{any_counts, begins_alone, ones}
+use Rattle.arena_core.proofs.Words.{◌≡◌, ℕ, ◌+◌, ◌<◌, ◌≤◌, ◌^◌, false, List, [], ◌∷◌, sym, ap, ◌∙◌, subst, arith, nat_lt, ◌*◌, true, cond, IsTrue, find, Some, refl, ◌&&◌, eqb, nat_le, inl, inr, zero, suc, Bool, ◌↔◌, ◌++◌, map, take, lt-ltb, count_by, cases_lt, le-ltb, ltb-true, size_at, pages_at, regions_at, Region, Space, region_bytes, landing, starts_at, address_of, regions_from, region_of, Sound, region_bytes_fits, CanCome, nat_tests, mul-le-mul_left, large_size, slab_filled, Land, Fill, Part, Span, is_flight_at, pages_end, land_at, land_stands, most_regions, after_fill, fill_at, lowest_free, is_live, op_stands, both_true, op_keeps, NoArena, Nothing, Regions, stays, BinSlab, free_of, with_regions_out, filter_all_of, filled, IsBooked, slabs_filled, slabs_taken}
+use Rattle.arena_core.proofs.Emptying.{begins_alone}
 use Rattle.arena_core.proofs.Homes.{in_flight}
 use Rattle.arena_core.proofs.Booked.{fills_taken}
 use Rattle.arena_core.proofs.Books.{map_itself}
@@ -16,10 +15,8 @@ can_come s t come sound same = record {
 -- what is said of a land that may stand
 pub may_land : (s : Space) (c : ℕ) (span : Span) (class count : ℕ) → land_stands s c span class count ≡ true → (class < 121) × (span.pages ≡ pages_at class) × (0 < count) × (count ≤ most_regions class)
 may_land s c span class count h =
-    let a = both_true (nat_lt class 121 && nat_lt 0 count && nat_le count (most_regions class) && eqb span.pages (pages_at class)) _ h in
-    let b = both_true (nat_lt class 121 && nat_lt 0 count && nat_le count (most_regions class)) _ a.0 in
-    let d = both_true (nat_lt class 121 && nat_lt 0 count) _ b.0 in
-    let f = both_true (nat_lt class 121) _ d.0 in (grind (arith, nat_tests, f.0), eqb-true _ _ b.1, grind (arith, nat_tests, f.1), leb-true _ _ d.1)
+    let a = (both_true (nat_lt class 121 && nat_lt 0 count && nat_le count (most_regions class) && eqb span.pages (pages_at class)) _ h).0 in
+    (grind (arith, nat_tests, a), grind (arith, nat_tests, a), grind (arith, nat_tests, a), grind (arith, nat_tests, a))
 
 -- What is said of a land that may stand, in an extent that was found.
 pub record Fitting (c : ℕ) (s : Space) (class count : ℕ) (p : Part) : Type 0 where
@@ -96,10 +93,6 @@ lowest_come c s class count sound low some live =
     let after : Sound (fill_at s c class addrs).after = subst (λ b. Sound (cond b (fill_at s c class addrs) (stays s NoArena)).after) live (op_keeps c s (Fill class count) sound stands).sound in
     can_come s (filled s c class addrs) (map (region_of c class) addrs) (subst Sound (filled_is c s class addrs) after) refl
 
--- an address among them as the region there
-pub held_at : (c class i : ℕ) (addrs : List ℕ) → i < length addrs → get_or (map (region_of c class) addrs) i (region_of c class (get_or addrs i 0)) ≡ region_of c class (get_or addrs i 0)
-held_at c class i addrs lt = get_or-map (region_of c class) addrs i 0 (region_of c class (get_or addrs i 0)) lt
-
 -- what a book gives is what is taken
 pub taken_are : (s : Space) (c class count : ℕ) {slabs : List BinSlab} {before : List ℕ} → Sound s → class < 36 → IsBooked s slabs → before ≡ [] → before ++ take count (free_of class slabs) ≡ lowest_free class count s
 taken_are s c class count {slabs} {before} sound low book none = ap (λ xs. xs ++ take count (free_of class slabs)) none ∙ (fills_taken s slabs c class count sound low book.booked).addrs
@@ -109,21 +102,14 @@ pub no_free : {b : Bool} (xs : List ℕ) → (IsTrue b ↔ (xs ≡ [] → ⊥)) 
 no_free [] told none = refl
 no_free {b} (x ∷ xs) told none = absurd (let t : b ≡ true = told.1 (λ e. cc) in cc)
 
--- Where no region of the class is free, nothing happens.
-pub record NothingFree (c : ℕ) (s : Space) (class count : ℕ) (slabs : List BinSlab) : Type 0 where
-  pub after : s ≡ (after_fill s c class count).after
-  pub reply : Nothing ≡ (after_fill s c class count).reply
-  pub slabs_stay : slabs ≡ slabs_filled s class count slabs
-
-pub nothing_free : (c : ℕ) (s : Space) (class count : ℕ) (slabs : List BinSlab) → Sound s → class < 36 → IsBooked s slabs → is_live s.life ≡ true → free_of class slabs ≡ [] → NothingFree c s class count slabs
+-- where no region of the class is free, nothing happens
+pub nothing_free : (c : ℕ) (s : Space) (class count : ℕ) (slabs : List BinSlab) → Sound s → class < 36 → IsBooked s slabs → is_live s.life ≡ true → free_of class slabs ≡ [] →
+    (stays s Nothing ≡ after_fill s c class count) × (slabs ≡ slabs_filled s class count slabs)
 nothing_free c s class count slabs sound low book live none =
     let addrs = lowest_free class count s in
     let is : addrs ≡ [] = sym (taken_are s c class count sound low book refl) ∙ ap (take count) none ∙ take_nothing count in
-    let same : slabs ≡ slabs_taken addrs slabs = sym (map_itself (with_regions_out []) slabs (λ x m k. record x { free = filter_all_of (λ a. true) x.free (λ a there. refl) k })) ∙ ap (λ xs. slabs_taken xs slabs) (sym is) in record {
-      after = subst (λ b. s ≡ (cond b (fill_at s c class addrs) (stays s NoArena)).after) (sym live) (subst (λ xs. s ≡ (fill_at s c class xs).after) (sym is) refl);
-      reply = subst (λ b. Nothing ≡ (cond b (fill_at s c class addrs) (stays s NoArena)).reply) (sym live) (subst (λ xs. Nothing ≡ (fill_at s c class xs).reply) (sym is) refl);
-      slabs_stay = subst (λ b. slabs ≡ cond b (slabs_taken addrs slabs) slabs) (sym live) same;
-    }
+    let same : slabs ≡ slabs_taken addrs slabs = sym (map_itself (with_regions_out []) slabs (λ x m k. record x { free = filter_all_of (λ a. true) x.free (λ a there. refl) k })) ∙ ap (λ xs. slabs_taken xs slabs) (sym is) in
+    (subst (λ b. stays s Nothing ≡ cond b (fill_at s c class addrs) (stays s NoArena)) (sym live) (ap (fill_at s c class) (sym is)), subst (λ b. slabs ≡ cond b (slabs_taken addrs slabs) slabs) (sym live) same)
   where
     take_nothing : (n : ℕ) → take {A = ℕ} n [] ≡ []
     take_nothing zero = refl

@@ -58,14 +58,8 @@ stepped {E} {old} {new} {a} {r} client op view body stands_now after told rooms 
 abbrev opened : Space → Space
 opened s = record s { parts = []; regions = []; offers = []; dirty = new_pace s.dirty.ms s.dirty.start; muzzy = new_pace s.muzzy.ms s.muzzy.start }
 
-pub opening_sound : (s : Space) → (s ≡ absent_space) ⊎ (s ≡ first_space) → Sound (opened s)
-opening_sound s opens = elim opens [
-  | inl e ↦ subst (λ x. Sound (opened x)) (sym e) (absent_replays_are_good [] refl).sound
-  | inr e ↦ subst (λ x. Sound (opened x)) (sym e) (first_replays_are_good [] refl).sound
-]
-
-pub opening_is : (s : Space) → (s ≡ absent_space) ⊎ (s ≡ first_space) → opened s ≡ s
-opening_is s opens = elim opens [
-  | inl e ↦ subst (λ x. opened x ≡ x) (sym e) refl
-  | inr e ↦ subst (λ x. opened x ≡ x) (sym e) refl
+pub opening : (s : Space) → (s ≡ absent_space) ⊎ (s ≡ first_space) → Sound (opened s) × (opened s ≡ s)
+opening s opens = elim opens [
+  | inl e ↦ subst (λ x. Sound (opened x) × (opened x ≡ x)) (sym e) ((absent_replays_are_good [] refl).sound, refl)
+  | inr e ↦ subst (λ x. Sound (opened x) × (opened x ≡ x)) (sym e) ((first_replays_are_good [] refl).sound, refl)
 ]

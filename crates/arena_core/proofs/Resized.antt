@@ -1,11 +1,9 @@
 -- A large region that takes another class: its extent is the one that begins at its address, and the slabs stay.
-use Rattle.arena_core.proofs.Words.{◌≡◌, ℕ, ◌*◌, ◌/◌, ◌<◌, ◌≤◌, ◌==◌, Bool, true, false, not, cond, IsTrue, List, [], ◌∷◌, get_or, find, filter, Option, None, Some, refl, sym, ◌∙◌, ap, subst, arith, ◌&&◌, ◌||◌, nat_le, ◌+◌, All, Contains, take, drop, eqb, nat_lt, count_by, list_any, position_or_len, sum_by, IsSome, option_map, eqb-true, leb-true, ltb-true, nat_tests, sum_by-filter_both, sum_by-cons, sum_by-insert, pages_at, size_at, large_size, size_bounds, Ask, Split, Merge, Answer, Done, Refuses, Refused, Span, Part, Region, Space, IsPlaced, same_span, end_of, begins_at, is_active, exchanged, is_flight_at, taken_out, houses, inserted, is_held_by, starts_at, address_of, is_slab, lies_in, region_bytes, has_large, is_large_at, large_home, reclassed, trim_answered, trim_done_stands, trimmed_at, after_join, after_trim_done, is_large_class, join_stands, widened_at, holds_at, is_given_back, staying, found_passes, Sound, nothing_sum, only_one, both_true, two_left, home_found, housed, All-cons, All-contains_itself, All-nil, Contains-append_right, is_in, without_client, one_left, filter_nothing, find_has, find_passes, eqb_itself, lies_between, BinSlab, filter_same, head, booked_slab, IsBooked, places}
-use Rattle.space_model.specs.Stepped.{begins_either, high_piece, is_yes_or_no, joined, low_piece}
-use Rattle.space_model.proofs.Lists.{find_passes}
-use Rattle.arena_core.proofs.Emptying.{any_counts, begins_alone, ones}
-use Rattle.arena_core.proofs.Finds.{fewer_pass, found_there}
-use Rattle.arena_core.proofs.Booked.{idle_no_slab, no_slab}
-use Rattle.arena_core.proofs.Books.{class_stays, same_any, still_booked}
+use Rattle.arena_core.proofs.Words.{◌≡◌, ℕ, ◌*◌, ◌/◌, ◌<◌, ◌≤◌, Bool, true, false, not, IsTrue, List, [], ◌∷◌, get_or, find, filter, Option, None, Some, refl, sym, ◌∙◌, ap, subst, arith, ◌&&◌, nat_le, ◌+◌, All, Contains, take, drop, eqb, nat_lt, list_any, position_or_len, sum_by, IsSome, option_map, eqb-true, leb-true, ltb-true, nat_tests, sum_by-filter_both, sum_by-cons, sum_by-insert, pages_at, large_size, size_bounds, Ask, Split, Merge, Answer, Done, Refuses, Span, Part, Region, Space, IsPlaced, same_span, end_of, begins_at, is_active, exchanged, is_flight_at, taken_out, houses, inserted, is_held_by, starts_at, address_of, is_slab, lies_in, has_large, is_large_at, large_home, reclassed, trim_answered, trim_done_stands, trimmed_at, after_join, after_trim_done, is_large_class, join_stands, widened_at, holds_at, found_passes, Sound, nothing_sum, only_one, both_true, two_left, home_found, housed, All-cons, All-contains_itself, All-nil, Contains-append_right, is_in, without_client, one_left, filter_nothing, find_has, find_passes, eqb_itself, lies_between, BinSlab, filter_same, head, booked_slab, IsBooked, begins_either, high_piece, is_yes_or_no, joined, low_piece, any_has, found, Home, Housed}
+use Rattle.arena_core.proofs.Emptying.{begins_alone, ones}
+use Rattle.arena_core.proofs.Finds.{found_there}
+use Rattle.arena_core.proofs.Booked.{class_stays, idle_no_slab, no_slab, same_slab}
+use Rattle.arena_core.proofs.Books.{same_any, still_booked}
 use Rattle.arena_core.proofs.Homes.{in_flight}
 use Rattle.arena_core.proofs.Still.{Idle, kept_exchanged, still, whole_still}
 
@@ -27,11 +25,6 @@ holder_is : (c : ℕ) (o : Option ℕ) → is_held_by c (record { addr = 0; clas
 holder_is c None h = absurd (cc)
 holder_is c (Some d) h = ap (λ n. Some n) (eqb-true d c h)
 
--- where something is found that passes another test, something passes that
-any_found : {X : Type 0} (t u : X → Bool) (xs : List X) (x : X) → find t xs ≡ Some x → u x ≡ true → list_any u xs ≡ true
-any_found t u [] x e h = absurd (cc)
-any_found t u (y ∷ ys) x e h = grind (arith, any_found t u ys x)
-
 homed_by : (c addr : ℕ) (s : Space) (test : Part → Bool) (o : Option (Region × Part)) → large_home s c addr ≡ o → Sound s → found_passes test (option_map (λ home. home.1) o) ≡ true →
     (home : Region × Part) × Homed c addr s test home
 homed_by c addr s test None e sound h = absurd (cc)
@@ -40,23 +33,25 @@ homed_by c addr s test (Some home) e sound h =
     let p = home.1 in
     let f = home_found c s addr home e in
     let at = housed s (is_large_at c addr) r p sound f.region f.house f.large in
-    let here = both_true (is_held_by c r) (starts_at addr r) (both_true (is_held_by c r && starts_at addr r) _ (find_passes (is_large_at c addr) s.regions r f.region)).0 in
+    let there = found (is_large_at c addr) s.regions r f.region in
+    let large = both_true (is_held_by c r && starts_at addr r) _ there.1 in
+    let here = both_true (is_held_by c r) (starts_at addr r) large.0 in
     let region : r.addr ≡ addr = eqb-true r.addr addr here.1 in
     let start : addr ≡ 4096 * p.span.first = sym region ∙ at.start in
     let page : p.span.first ≡ addr / 4096 = omega arith in
-    let there = found_there s.parts (λ q. houses q r) p (record { placed = sound.placed; owners = sound.owners }) f.house in (
+    let begins = found_there s.parts (λ q. houses q r) p (record { placed = sound.placed; owners = sound.owners }) f.house in (
       home,
       record {
         found = e;
-        begins = subst (λ n. find (begins_at n) s.parts ≡ Some p) page there;
+        begins = subst (λ n. find (begins_at n) s.parts ≡ Some p) page begins;
         passes = h;
         region = region;
         holder = holder_is c r.holder f.held;
         start = start;
         placed = at.placed;
         active = at.active;
-        hand = any_found (is_large_at c addr) (λ q. is_held_by c q && starts_at addr q) s.regions r f.region (rw here.0 here.1);
-        large = any_found (is_large_at c addr) (λ q. starts_at addr q && nat_le 36 q.class) s.regions r f.region (rw here.1 (both_true (is_held_by c r && starts_at addr r) _ (find_passes (is_large_at c addr) s.regions r f.region)).1);
+        hand = any_has (λ q. is_held_by c q && starts_at addr q) s.regions r there.0 (rw here.0 here.1);
+        large = any_has (λ q. starts_at addr q && nat_le 36 q.class) s.regions r there.0 (rw here.1 large.1);
       },
     )
 
@@ -86,11 +81,6 @@ page_homed {p} c page s test sound h read =
     homed c (4096 * page) s test sound h (subst (λ n. find (begins_at n) s.parts ≡ Some p) same read)
 
 -- ---- another class
-
--- none of those is at the address
-pub none_at : (addr : ℕ) (regions : List Region) → list_any (λ r. r.addr == addr) (filter (λ r. not (starts_at addr r)) regions) ≡ false
-none_at addr [] = refl
-none_at addr (r ∷ rs) = grind (arith, none_at addr rs)
 
 -- the region of a client, as it is put in with another class
 pub reclassed_is : (c addr class : ℕ) (r : Region) (regions : List Region) → r.addr ≡ addr → r.holder ≡ Some c →
@@ -140,28 +130,35 @@ alone_at s test r sound found = only_one (starts_at r.addr) test s.regions r (be
 
 -- What a resize does: a large region takes another large class in the first of the new extents, and the others that go or
 -- come serve none.
-record Resized (s t : Space) (test : Region → Bool) (r : Region) (p new : Part) (class : ℕ) (gone : Part → Bool) (others more : List Part) : Type 0 where
+record Resized (c addr : ℕ) (s t : Space) (home : Region × Part) (new : Part) (class : ℕ) (gone : Part → Bool) (others more : List Part) : Type 0 where
   sound : Sound s
   also : Sound t
-  region : find test s.regions ≡ Some r
-  home : find (λ q. houses q r) s.parts ≡ Some p
-  large : 36 ≤ r.class
-  big : 36 ≤ class
-  within : class < 121
+  found : large_home s c addr ≡ Some home
+  big : (36 ≤ class) × (class < 121)
   parts : t.parts ≡ exchanged gone s.parts (new ∷ more)
-  regions : t.regions ≡ reclassed r class s.regions
-  left : (f : Part → ℕ) → sum_by f (filter gone s.parts) ≡ f p + sum_by f others
+  regions : t.regions ≡ reclassed home.0 class s.regions
+  left : (f : Part → ℕ) → sum_by f (filter gone s.parts) ≡ f home.1 + sum_by f others
   idle : All Idle others
   still : All Idle more
-  active : is_active new.state ≡ true
-  committed : new.committed ≡ true
-  start : r.addr ≡ address_of new.span.first
+  is : new ≡ record home.1 { span = record { first = home.1.span.first; pages = new.span.pages } }
   pages : new.span.pages ≡ pages_at class
 
-resized_booked : {s t : Space} {test : Region → Bool} {r : Region} {p new : Part} {class : ℕ} {gone : Part → Bool} {others more : List Part} (slabs : List BinSlab) → Resized s t test r p new class gone others more →
-    IsBooked s slabs → IsBooked t slabs
-resized_booked {s} {t} {test} {r} {p} {new} {class} {gone} {others} {more} slabs x book = record { small = book.small; booked = λ k low. class_stays s t slabs k (parts k low) (λ q m slab. same k q) (book.booked k low) }
+resized_booked : {c addr : ℕ} {s t : Space} {home : Region × Part} {new : Part} {class : ℕ} {gone : Part → Bool} {others more : List Part} (slabs : List BinSlab) →
+    Resized c addr s t home new class gone others more → IsBooked s slabs → IsBooked t slabs
+resized_booked {c} {addr} {s} {t} {home} {new} {class} {gone} {others} {more} slabs x book = record { small = book.small; booked = λ k low. class_stays s t slabs k (parts k low) (λ q m slab. same k q) (book.booked k low) }
   where
+    r : Region
+    r = home.0
+
+    p : Part
+    p = home.1
+
+    of : Home c s addr home
+    of = home_found c s addr home x.found
+
+    at : Housed s r p
+    at = housed s (is_large_at c addr) r p x.sound of.region of.house of.large
+
     now : Region
     now = record r { class = class }
 
@@ -173,39 +170,37 @@ resized_booked {s} {t} {test} {r} {p} {new} {class} {gone} {others} {more} slabs
 
     was : (f : Region → ℕ) → sum_by f s.regions ≡ sum_by f rest + f r
     was f =
-        omega (arith, sum_by-filter_both (starts_at r.addr) (λ q. not (starts_at r.addr q)) (λ _. refl) f s.regions, ap (sum_by f) (alone_at s test r x.sound x.region), sum_by-cons f r [])
+        omega (arith, sum_by-filter_both (starts_at r.addr) (λ q. not (starts_at r.addr q)) (λ _. refl) f s.regions, ap (sum_by f) (alone_at s (is_large_at c addr) r x.sound of.region), sum_by-cons f r [])
 
     -- neither class is small, so nothing is a slab that wasn't
     neither : (k : ℕ) → k < 36 → (q : Part) → is_slab k t.regions q ≡ is_slab k s.regions q
     neither k low q =
         same_any (serves_class k q) t.regions s.regions
-        (omega (arith, sums (λ y. ones (serves_class k q y)), was (λ y. ones (serves_class k q y)), other k class (houses q now) low x.big, other k r.class (houses q r) low x.large))
+        (omega (arith, sums (λ y. ones (serves_class k q y)), was (λ y. ones (serves_class k q y)), other k class (houses q now) low x.big.0, other k r.class (houses q r) low of.large))
       where
         other : (k class : ℕ) (h : Bool) → k < 36 → 36 ≤ class → ones (eqb class k && h) ≡ 0
         other k class h low big = grind (arith, nat_tests)
 
     -- a region begins where one did
     same : (k : ℕ) (q : Part) → booked_slab t.regions k q ≡ booked_slab s.regions k q
-    same k q = λ i. record {
-      class = k;
-      first = q.span.first;
-      free = filter_same (λ a. not (list_any (starts_at a) t.regions)) (λ a. not (list_any (starts_at a) s.regions)) (places k q)
-          (λ a m. ap not (same_any (starts_at a) t.regions s.regions (omega (arith, sums (λ y. ones (starts_at a y)), was (λ y. ones (starts_at a y)))))) i;
-    }
+    same k q = same_slab k q t.regions s.regions (λ a m. same_any (starts_at a) t.regions s.regions (omega (arith, sums (λ y. ones (starts_at a y)), was (λ y. ones (starts_at a y)))))
 
     -- the extent of the large region was no slab, and is none
     old : (k : ℕ) → k < 36 → is_slab k s.regions p ≡ false
     old k low =
-        no_slab s k p x.sound low (find_has (Contains s.parts) (λ q. houses q r) s.parts p (All-contains_itself s.parts) x.home) r (find_has (Contains s.regions) test s.regions r (All-contains_itself s.regions) x.region)
-        (find_passes (λ q. houses q r) s.parts p x.home) (λ e. omega (arith, e, low, x.large))
+        no_slab s k p x.sound low (find_has (Contains s.parts) (λ q. houses q r) s.parts p (All-contains_itself s.parts) of.house) r (find_has (Contains s.regions) (is_large_at c addr) s.regions r (All-contains_itself s.regions) of.region)
+        (find_passes (λ q. houses q r) s.parts p of.house) (λ e. omega (arith, e, low, of.large))
 
     come : (k : ℕ) → k < 36 → is_slab k s.regions new ≡ false
     come k low =
         let n = position_or_len (λ (q : Region). nat_lt now.addr q.addr) rest in
         let there = subst (λ xs. Contains xs new) (sym x.parts) (Contains-append_right (filter (λ q. not (gone q)) s.parts) (new ∷ more) new (head new more)) in
         let region = subst (λ xs. Contains xs now) (sym x.regions) (Contains-append_right (take n rest) (now ∷ drop n rest) now (head now (drop n rest))) in
-        let inside : lies_in new.span now ≡ true = lies_between new.span now (omega (arith, x.start)) (omega (arith, x.start, x.pages, large_size class x.big x.within)) in
-        sym (neither k low new) ∙ no_slab t k new x.also low there now region (rw (x.active, x.committed, inside) refl) (λ e. omega (arith, e, low, x.big))
+        let active : is_active new.state ≡ true = ap (λ (q : Part). is_active q.state) x.is ∙ at.active in
+        let committed : new.committed ≡ true = ap (λ (q : Part). q.committed) x.is ∙ at.committed in
+        let start : r.addr ≡ address_of new.span.first = at.start ∙ ap (λ (q : Part). address_of q.span.first) (sym x.is) in
+        let inside : lies_in new.span now ≡ true = lies_between new.span now (omega (arith, start)) (omega (arith, start, x.pages, large_size class x.big.0 x.big.1)) in
+        sym (neither k low new) ∙ no_slab t k new x.also low there now region (rw (active, committed, inside) refl) (λ e. omega (arith, e, low, x.big.0))
 
     parts : (k : ℕ) → k < 36 → filter (is_slab k t.regions) t.parts ≡ filter (is_slab k s.regions) s.parts
     parts k low =
@@ -222,15 +217,12 @@ is_large : (class : ℕ) → is_large_class class ≡ true → (36 ≤ class) ×
 is_large class h = let both = both_true (nat_le 36 class) _ h in (leb-true _ _ both.0, ltb-true _ _ both.1)
 
 -- the extent of a region that was found passes what was tested
-home_passes : (c addr : ℕ) (s : Space) (span : Span) (home : Region × Part) → large_home s c addr ≡ Some home → has_large s c addr (λ p. same_span p.span span) ≡ true → home.1.span.pages ≡ span.pages
+home_passes : (c addr : ℕ) (s : Space) (span : Span) (home : Region × Part) → large_home s c addr ≡ Some home → has_large s c addr (λ p. same_span p.span span) ≡ true →
+    (home.1.span.first ≡ span.first) × (home.1.span.pages ≡ span.pages)
 home_passes c addr s span home e h =
     let passes : same_span home.1.span span ≡ true = subst (λ o. found_passes (λ p. same_span p.span span) (option_map (λ x. x.1) o) ≡ true) e h in
-    eqb-true _ _ (both_true (eqb home.1.span.first span.first) _ passes).1
-
-home_first : (c addr : ℕ) (s : Space) (span : Span) (home : Region × Part) → large_home s c addr ≡ Some home → has_large s c addr (λ p. same_span p.span span) ≡ true → home.1.span.first ≡ span.first
-home_first c addr s span home e h =
-    let passes : same_span home.1.span span ≡ true = subst (λ o. found_passes (λ p. same_span p.span span) (option_map (λ x. x.1) o) ≡ true) e h in
-    eqb-true _ _ (both_true (eqb home.1.span.first span.first) _ passes).0
+    let both = both_true (eqb home.1.span.first span.first) _ passes in
+    (eqb-true _ _ both.0, eqb-true _ _ both.1)
 
 join_by : (c : ℕ) (s : Space) (class : ℕ) (low high : Span) (o : Option (Region × Part)) (u : Option Part) (slabs : List BinSlab) → large_home s c (address_of low.first) ≡ o →
     find (is_flight_at c high) s.parts ≡ u → Sound s → Sound (widened_at s class o u).after → join_stands s c class (Merge low high) Done ≡ true → IsBooked s slabs →
@@ -244,37 +236,30 @@ join_by c s class low high (Some home) (Some q) slabs e f sound also stands are 
     let t4 = both_true (is_large_class class) _ t3.0 in
     let p : Part = home.1 in
     let found = home_found c s (address_of low.first) home e in
-    let at = housed s (is_large_at c (address_of low.first)) home.0 p sound found.region found.house found.large in
     let to = in_flight c s high q sound (sym f) in
-    let pages = home_passes c (address_of low.first) s low home e t2.1 in
-    let first = home_first c (address_of low.first) s low home e t2.1 in
+    let passed = home_passes c (address_of low.first) s low home e t2.1 in
     let whole : low.pages + high.pages ≡ pages_at class = eqb-true _ _ t4.1 in
     let side : end_of low ≡ high.first = eqb-true _ _ t3.1 in
-    let beside : end_of p.span ≡ q.span.first = omega (arith, first, pages, to.first, side) in
-    resized_booked {p = p} {new = joined p q} {gone = begins_either p q} {others = q ∷ []} {more = []} slabs (record {
+    let beside : end_of p.span ≡ q.span.first = omega (arith, passed.0, passed.1, to.first, side) in
+    resized_booked {home = home} {new = joined p q} {gone = begins_either p q} {others = q ∷ []} {more = []} slabs (record {
       sound = sound;
       also = also;
-      region = found.region;
-      home = found.house;
-      large = found.large;
-      big = (is_large class t4.0).0;
-      within = (is_large class t4.0).1;
+      found = e;
+      big = is_large class t4.0;
       parts = refl;
       regions = refl;
       left = λ g. omega (arith, two_left s (λ x. houses x home.0) (is_flight_at c high) p q sound found.house f beside g, sum_by-cons g p (q ∷ []));
       idle = All-cons Idle q [] to.idle (All-nil Idle);
       still = All-nil Idle;
-      active = at.active;
-      committed = at.committed;
-      start = at.start;
-      pages = omega (arith, pages, to.pages, whole);
+      is = refl;
+      pages = omega (arith, passed.1, to.pages, whole);
     }) are
 
 pub join_step : (c : ℕ) (s : Space) (class : ℕ) (ask : Ask) (answer : Answer) (slabs : List BinSlab) → Sound s → Sound (after_join s c class ask answer).after → join_stands s c class ask answer ≡ true →
     IsBooked s slabs → IsBooked (after_join s c class ask answer).after slabs
 join_step c s class (Merge low high) Done slabs sound also stands are =
     join_by c s class low high (large_home s c (address_of low.first)) (find (is_flight_at c high) s.parts) slabs refl refl sound also stands are
-join_step c s class (Merge low high) Refused slabs sound also stands are = still_booked s _ slabs are (whole_still s c high (find (is_flight_at c high) s.parts) refl sound)
+join_step c s class (Merge low high) Refuses slabs sound also stands are = still_booked s _ slabs are (whole_still s c high sound)
 join_step c s class ask answer slabs sound also stands are = are
 
 trim_by : (c : ℕ) (s : Space) (class : ℕ) (span : Span) (left : ℕ) (o : Option (Region × Part)) (slabs : List BinSlab) → large_home s c (address_of span.first) ≡ o → Sound s →
@@ -288,24 +273,18 @@ trim_by c s class span left (Some home) slabs e sound also stands are =
     let class_is = (both_true (is_yes_or_no Done && is_in c s.trims) _ t3.0).1 in
     let p : Part = home.1 in
     let found = home_found c s (address_of span.first) home e in
-    let at = housed s (is_large_at c (address_of span.first)) home.0 p sound found.region found.house found.large in
     let high : Part = taken_out c (high_piece left p) in
-    resized_booked {p = p} {new = low_piece left p} {gone = begins_at p.span.first} {others = []} {more = high ∷ []} slabs (record {
+    resized_booked {home = home} {new = low_piece left p} {gone = begins_at p.span.first} {others = []} {more = high ∷ []} slabs (record {
       sound = sound;
       also = also;
-      region = found.region;
-      home = found.house;
-      large = found.large;
-      big = (is_large class class_is).0;
-      within = (is_large class class_is).1;
+      found = e;
+      big = is_large class class_is;
       parts = refl;
       regions = refl;
       left = λ g. omega (arith, one_left s (λ x. houses x home.0) p sound found.house g, sum_by-cons g p []);
       idle = All-nil Idle;
       still = All-cons Idle high [] refl (All-nil Idle);
-      active = at.active;
-      committed = at.committed;
-      start = at.start;
+      is = refl;
       pages = eqb-true _ _ t3.1;
     }) are
 
@@ -313,5 +292,5 @@ pub trim_step : (c : ℕ) (s : Space) (class : ℕ) (ask : Ask) (answer : Answer
     IsBooked s slabs → IsBooked (after_trim_done s c class ask answer).after slabs
 trim_step c s class (Split span left) Done slabs sound also stands are =
     trim_by c s class span left (large_home s c (address_of span.first)) slabs refl sound also stands are
-trim_step c s class (Split span left) Refused slabs sound also stands are = still_booked s _ slabs are (still s _ refl refl)
+trim_step c s class (Split span left) Refuses slabs sound also stands are = still_booked s _ slabs are (still s _ refl refl)
 trim_step c s class ask answer slabs sound also stands are = still_booked s _ slabs are (still s _ refl refl)

@@ -10,7 +10,7 @@ pub rooms_fewer : (rooms : List ℕ) (client few more : ℕ) → client < length
 rooms_fewer rooms client few more h le = omega (arith, rooms_with rooms client few h, rooms_with rooms client more h)
 
 -- places for more are places for fewer
-places_fewer : (i : Indexes) (few more : ℕ) → few ≤ more → HasPlaces i more → HasPlaces i few
+pub places_fewer : (i : Indexes) (few more : ℕ) → few ≤ more → HasPlaces i more → HasPlaces i few
 places_fewer i few more le h = record { extents = omega (arith, h.extents); regions = omega (arith, h.regions); offers = omega (arith, h.offers) }
 
 -- an operation that takes no place leaves one less than there were

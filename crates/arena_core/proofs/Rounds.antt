@@ -1,11 +1,8 @@
 -- Extents that change and regions that are given back, one after the other from the lowest on.
-use Rattle.arena_core.proofs.Words.{◌≡◌, ℕ, ◌+◌, ◌<◌, ◌≤◌, Bool, true, false, cond, not, List, [], ◌∷◌, ◌++◌, append_assoc, append-nil, length, get_or, filter, fold, refl, sym, ◌∙◌, ap, subst, arith, All, nat_lt, inl, inr, suc, ◌*◌, IsTrue, ◌&&◌, ◌||◌, eqb, nat_le, drop, add-one, drop-cons, insert, position_or_len, sum_by, count_by, list_all, list_any, cases_Bool, cases_lt, not-true, nat_tests, All-append, All-cons, All-filter, All-head, All-nil, All-tail, filter-append, filter_passes, All-weaker, length-filter_both, sum_by-filter_both, get_or-le-sum_by, sum_by-cons, Part, IsPlaced, end_of, begins_at, exchanged, placed, turned, turned_in_order, is_active, taken_out, Span, filter-begins_at, filter-without, share, find_has, find_passes, All-insert, some_pages, serves, filter_swap, filter_both, IsApart, IsThere, drop_all, Region, Life, Live, Absent, Dying, Space, houses, is_held_by, residents, after_back, holds_at, is_emptied, is_given_back, is_live, rises_from, staying, taken_in_order, Sound, lawful_sound, back_does, both_true}
-use Rattle.arena_core.proofs.Emptying.{All-split, none_kept, Empties, any_counts, counts_any, empties, filter_alike, given_parts, is_left, ones, some_found}
-use Rattle.arena_core.proofs.Swaps.{changed, keeps_all, there_placed}
-
--- what is inserted behind the first element
-insert_later : {X : Type 0} (x y : X) (xs : List X) (n : ℕ) → insert (x ∷ xs) (1 + n) y ≡ x ∷ insert xs n y
-insert_later x y xs n = let e : 1 + n ≡ suc n = omega arith in rw e refl
+use Rattle.arena_core.proofs.Words.{◌≡◌, ℕ, ◌+◌, ◌<◌, ◌≤◌, Bool, true, false, cond, not, List, [], ◌∷◌, ◌++◌, append_assoc, append-nil, length, get_or, filter, refl, sym, ◌∙◌, ap, subst, arith, All, inl, inr, ◌*◌, IsTrue, ◌&&◌, ◌||◌, eqb, nat_le, drop, add-one, drop-cons, count_by, list_all, list_any, cases_Bool, not-true, nat_tests, All-append, All-cons, All-filter, All-head, All-nil, All-tail, filter-append, filter_passes, All-weaker, length-filter_both, sum_by-filter_both, sum_by-cons, Part, IsPlaced, end_of, begins_at, exchanged, turned, turned_in_order, is_active, taken_out, Span, filter-begins_at, filter-without, share, some_pages, serves, filter_swap, filter_both, IsApart, IsThere, drop_all, Region, Space, houses, is_held_by, residents, after_back, holds_at, is_emptied, is_given_back, is_live, rises_from, staying, taken_in_order, Sound, lawful_sound, back_does, both_true, filter_same, All-map, map, filter_map_is, turned_first, live_is, any_from, filter_from, eqb-true, All-contains}
+use Rattle.arena_core.proofs.Emptying.{All-split, none_kept, Empties, any_counts, counted_any, empties, none_counted, gives, is_left, ones}
+use Rattle.arena_core.proofs.InOrder.{lowest_first}
+use Rattle.arena_core.proofs.Swaps.{changed, keeps_all, others_apart, there_placed}
 
 -- ---- a change that leaves each extent where it begins
 
@@ -13,51 +10,18 @@ insert_later x y xs n = let e : 1 + n ≡ suc n = omega arith in rw e refl
 abbrev pub KeepsPlace : (Part → Part) → Type 0
 KeepsPlace turn = (q : Part) → (turn q).span.first ≡ q.span.first
 
--- an extent as it is put among those that changed before
-abbrev pub put : (Part → Part) → List Part → Part → List Part
-put turn changed p = placed (turn p) changed
-
--- the lowest extent comes first
-put_first : (turn : Part → Part) (p : Part) (acc : List Part) → KeepsPlace turn → All (λ q. p.span.first < q.span.first) acc → put turn acc p ≡ turn p ∷ acc
-put_first turn p [] keeps above = refl
-put_first turn p (q ∷ qs) keeps above = grind (arith, nat_tests, keeps p, All-head (λ q. p.span.first < q.span.first) q qs above)
-
--- a higher one stands behind it
-put_later : (turn : Part → Part) (p x : Part) (acc : List Part) → KeepsPlace turn → p.span.first < x.span.first → put turn (turn p ∷ acc) x ≡ turn p ∷ put turn acc x
-put_later turn p x acc keeps less =
-    let past : nat_lt (turn x).span.first (turn p).span.first ≡ false = grind (arith, nat_tests, keeps p, keeps x) in
-    rw past (insert_later (turn p) (turn x) acc (position_or_len (λ (q : Part). nat_lt (turn x).span.first q.span.first) acc))
-
-turned_later : (turn : Part → Part) (p : Part) (acc xs : List Part) → KeepsPlace turn → All (λ q. p.span.first < q.span.first) xs →
-    fold (put turn) (turn p ∷ acc) xs ≡ turn p ∷ fold (put turn) acc xs
-turned_later turn p acc [] keeps above = refl
-turned_later turn p acc (x ∷ xs) keeps above =
-    ap (λ ys. fold (put turn) ys xs) (put_later turn p x acc keeps (All-head (λ q. p.span.first < q.span.first) x xs above))
-    ∙ turned_later turn p (put turn acc x) xs keeps (All-tail (λ q. p.span.first < q.span.first) x xs above)
-
--- so the lowest of all is the first that changes
-turned_first : (turn : Part → Part) (p : Part) (acc xs : List Part) → KeepsPlace turn → All (λ q. p.span.first < q.span.first) acc → filter (begins_at p.span.first) xs ≡ p ∷ [] →
-    All (λ q. p.span.first < q.span.first) (filter (λ q. not (begins_at p.span.first q)) xs) →
-    fold (put turn) acc xs ≡ turn p ∷ fold (put turn) acc (filter (λ q. not (begins_at p.span.first q)) xs)
-turned_first turn p acc [] keeps low one above = absurd (cc)
-turned_first turn p acc (x ∷ xs) keeps low one above =
+-- the lowest of all is the first that changes
+turned_lowest : (turn : Part → Part) (p : Part) (xs : List Part) → KeepsPlace turn → filter (begins_at p.span.first) xs ≡ p ∷ [] → All (λ q. p.span.first < q.span.first) (filter (λ q. not (begins_at p.span.first q)) xs) →
+    turned_in_order turn xs ≡ turn p ∷ turned_in_order turn (filter (λ q. not (begins_at p.span.first q)) xs)
+turned_lowest turn p xs keeps alone above =
     let t = begins_at p.span.first in
-    let P : Part → Type 0 = λ q. p.span.first < q.span.first in
-    let others : List Part = filter (λ q. not (t q)) xs in
-    elim (cases_Bool (t x)) [
-      | inl h ↦
-          let e : x ∷ filter t xs ≡ p ∷ [] = (rw h at one) in
-          let k : All P others = (rw h at above) in
-          let none : filter t xs ≡ [] = cc in
-          let rest = keeps_all t xs none in
-          let first = put_first turn p acc keeps low in
-          let later = turned_later turn p acc xs keeps (subst (All P) rest k) in
-          rw h cc
-      | inr h ↦
-          let k : All P (x ∷ others) = (rw h at above) in
-          let higher : p.span.first < (turn x).span.first = let e = keeps x in let less = All-head P x others k in omega arith in
-          rw h (turned_first turn p (put turn acc x) xs keeps (All-insert P acc _ (turn x) low higher) (rw h at one) (All-tail P x others k))
-    ]
+    let now = begins_at (turn p).span.first in
+    let begins : (q : Part) → now (turn q) ≡ t q = λ q k. eqb (keeps q k) (keeps p k) in
+    let others = filter_map_is turn (λ q. not (now q)) xs ∙ (λ k. map turn (filter (λ q. not (begins q k)) xs)) in
+    let higher = All-map (λ q. (turn p).span.first < q.span.first) turn (filter (λ q. not (t q)) xs) (λ k d h. let less = above k d h in let here = keeps p in let there = keeps (get_or (filter (λ q. not (t q)) xs) k d) in omega arith) in
+    sym (turned_first turn xs)
+    ∙ lowest_first (turn p) (map turn xs) (filter_map_is turn now xs ∙ (λ k. map turn (filter (λ q. begins q k) xs)) ∙ ap (map turn) alone) (subst (All (λ q. (turn p).span.first < q.span.first)) (sym others) higher)
+    ∙ ap (λ ys. turn p ∷ turned_in_order (λ q. q) ys) others ∙ ap (λ ys. turn p ∷ ys) (turned_first turn (filter (λ q. not (t q)) xs))
 
 -- What changing the lowest extent that passes a test leaves: others, fewer by one, which change to what all change to.
 pub record TurnsFirst (gone : Part → Bool) (turn : Part → Part) (parts one : List Part) : Type 0 where
@@ -76,22 +40,13 @@ turns_first turn parts p gone keeps goes stays alone above one is =
     let kept = filter-without stay t parts (grind (arith, ap (filter stay) alone, goes)) in
     let first : filter t (filter gone parts) ≡ p ∷ [] = grind (arith, filter_swap t gone parts, ap (filter gone) alone, goes) in
     let rest = filter_swap (λ q. not (t q)) gone parts in
-    let done = turned_first turn p [] (filter gone parts) keeps (All-nil (λ q. p.span.first < q.span.first)) first (subst (All (λ q. p.span.first < q.span.first)) (sym rest) above) in
+    let done = turned_lowest turn p (filter gone parts) keeps first (subst (All (λ q. p.span.first < q.span.first)) (sym rest) above) in
     record {
       all = cc (gone_one, kept_one, append_assoc (filter stay others) (turn p ∷ []) (turned_in_order turn (filter gone others)), kept, rest, done);
       fewer = grind (arith, ap length first, ap length rest, ap length gone_one, length-filter_both t (λ q. not (t q)) (λ _. refl) (filter gone parts));
     }
 
 -- ---- a walk by address
-
--- of extents that are apart, none that begins elsewhere shares a page with one that is there
-pub others_apart : (parts : List Part) (p : Part) → IsApart parts → IsThere parts p → All (λ q. (page : ℕ) → share page q + share page p ≤ 1) (filter (λ q. not (begins_at p.span.first q)) parts)
-others_apart parts p apart there = λ k d h page.
-    let t = begins_at p.span.first in
-    let others : List Part = filter (λ q. not (t q)) parts in
-    let alone : filter t parts ≡ p ∷ [] = filter-begins_at t parts p (some_pages parts apart.placed) (apart.owners p.span.first) there in
-    let own : sum_by (share page) (filter t parts) ≡ sum_by (share page) (p ∷ []) = ap (sum_by (share page)) alone in
-    omega (arith, get_or-le-sum_by (share page) others k d h, own, sum_by-cons (share page) p [], sum_by-filter_both t (λ q. not (t q)) (λ _. refl) (share page) parts, apart.owners page)
 
 -- one that begins no lower than another, with which it shares no page, begins where that one ends or behind
 pub begins_behind : (low high : Part) → share high.span.first low + share high.span.first high ≤ 1 → 0 < high.span.pages → low.span.first ≤ high.span.first → end_of low.span ≤ high.span.first
@@ -106,11 +61,11 @@ pub record Walk (test : Part → Bool) (turn : Part → Part) (start parts : Lis
 pub walk_begins : (test : Part → Bool) (turn : Part → Part) (parts : List Part) → IsApart parts → Walk test turn parts parts 0
 walk_begins test turn parts apart = record { apart = apart; all = refl; low = λ k d h passes. omega arith }
 
--- the lowest extent that passes changes, or one below it that fails is passed
-walk_by : (test : Part → Bool) (turn : Part → Part) (start parts one : List Part) (page : ℕ) (p : Part) (b : Bool) → test p ≡ b → ((q : Part) → (turn q).span ≡ q.span) → test (turn p) ≡ false → IsThere parts p →
-    All (λ q. test q ≡ true → p.span.first ≤ q.span.first) parts → one ≡ cond b (exchanged (begins_at p.span.first) parts (turn p ∷ [])) parts → Walk test turn start parts page →
+-- the lowest extent that passes changes, or one below it that fails is passed, where the extents that begin from the page on begin no lower
+pub walk_goes : (test : Part → Bool) (turn : Part → Part) (start parts one : List Part) (page : ℕ) (p : Part) → ((q : Part) → (turn q).span ≡ q.span) → test (turn p) ≡ false → IsThere parts p →
+    All (λ q. page ≤ q.span.first → p.span.first ≤ q.span.first) parts → one ≡ cond (test p) (exchanged (begins_at p.span.first) parts (turn p ∷ [])) parts → Walk test turn start parts page →
     Walk test turn start one (end_of p.span)
-walk_by test turn start parts one page p b tested spans stays there lowest is walk = by b tested is
+walk_goes test turn start parts one page p spans stays there first is walk = by (test p) refl is
   where
     t : Part → Bool
     t = begins_at p.span.first
@@ -127,9 +82,9 @@ walk_by test turn start parts one page p b tested spans stays there lowest is wa
     rest : All P others
     rest =
         let other : Part → Bool = λ q. not (t q) in
-        let kept = All-filter other (λ q. test q ≡ true → p.span.first ≤ q.span.first) parts lowest in
+        let kept = All-filter other (λ q. test q ≡ true → p.span.first ≤ q.span.first) parts (λ k d h passes. first k d h (walk.low k d h passes)) in
         let placed = All-filter other (λ q. IsPlaced q.span) parts walk.apart.placed in
-        let apart = others_apart parts p walk.apart there in
+        let apart = others_apart parts p alone walk.apart.owners in
         λ k d h passes. let q : Part = get_or others k d in begins_behind p q (let most = apart k d h q.span.first in omega arith) (placed k d h).0 (kept k d h passes)
 
     fails : (q : Part) → test q ≡ false → P q
@@ -158,23 +113,12 @@ walk_by test turn start parts one page p b tested spans stays there lowest is wa
           low = subst (All P) (sym is) (All-split P t parts (subst (All P) (sym alone) (All-cons P p [] (fails p off) (All-nil P))) rest);
         }
 
--- where the extents that begin from the page on begin no lower
-pub walk_goes : (test : Part → Bool) (turn : Part → Part) (start parts one : List Part) (page : ℕ) (p : Part) → ((q : Part) → (turn q).span ≡ q.span) → test (turn p) ≡ false → IsThere parts p →
-    All (λ q. page ≤ q.span.first → p.span.first ≤ q.span.first) parts → one ≡ cond (test p) (exchanged (begins_at p.span.first) parts (turn p ∷ [])) parts → Walk test turn start parts page →
-    Walk test turn start one (end_of p.span)
-walk_goes test turn start parts one page p spans stays there first is walk =
-    walk_by test turn start parts one page p (test p) refl spans stays there (λ k d h passes. first k d h (walk.low k d h passes)) is walk
-
--- it ends where none passes
-pub walk_ends : (test : Part → Bool) (turn : Part → Part) (start parts : List Part) (page : ℕ) → All (λ q. test q ≡ false) parts → Walk test turn start parts page → parts ≡ turned test turn start
-walk_ends test turn start parts page fails walk =
-    let none : filter test parts ≡ [] = none_kept test parts fails in
+-- it ends where none begins from the page on
+pub walk_ends : (test : Part → Bool) (turn : Part → Part) (start parts : List Part) (page : ℕ) → All (λ q. q.span.first < page) parts → Walk test turn start parts page → parts ≡ turned test turn start
+walk_ends test turn start parts page below walk =
+    let none : filter test parts ≡ [] = none_kept test parts (λ k d h. fails (get_or parts k d) (below k d h) (walk.low k d h)) in
     let same : turned test turn parts ≡ parts = cc (none, keeps_all test parts none, append-nil parts) in
     sym same ∙ walk.all
-
--- so it does where none begins from the page on
-pub none_ahead : {test : Part → Bool} {turn : Part → Part} {start parts : List Part} {page : ℕ} → Walk test turn start parts page → All (λ q. q.span.first < page) parts → All (λ q. test q ≡ false) parts
-none_ahead {test} {turn} {start} {parts} {page} walk below = λ k d h. fails (get_or parts k d) (below k d h) (walk.low k d h)
   where
     fails : (q : Part) → q.span.first < page → (test q ≡ true → page ≤ q.span.first) → test q ≡ false
     fails q less low = elim (cases_Bool (test q)) [ inl h ↦ let le = low h in absurd (omega arith) | inr h ↦ h ]
@@ -185,8 +129,8 @@ none_ahead {test} {turn} {start} {parts} {page} walk below = λ k d h. fails (ge
 pub staying_twice : (c addr : ℕ) (addrs : List ℕ) (regions : List Region) → staying c addrs (staying c (addr ∷ []) regions) ≡ staying c (addr ∷ addrs) regions
 staying_twice c addr addrs regions =
     filter_both (λ r. not (is_given_back c (addr ∷ []) r)) (λ r. not (is_given_back c addrs r)) regions
-    ∙ filter_alike (λ r. not (is_given_back c (addr ∷ []) r) && not (is_given_back c addrs r)) (λ r. not (is_given_back c (addr ∷ addrs) r)) regions
-    (λ k d h. let r : Region = get_or regions k d in either (is_held_by c r) (eqb addr r.addr) (list_any (λ a. eqb a r.addr) addrs))
+    ∙ filter_same (λ r. not (is_given_back c (addr ∷ []) r) && not (is_given_back c addrs r)) (λ r. not (is_given_back c (addr ∷ addrs) r)) regions
+    (λ r m. either (is_held_by c r) (eqb addr r.addr) (list_any (λ a. eqb a r.addr) addrs))
   where
     either : (held this others : Bool) → (not (held && (this || false)) && not (held && others)) ≡ not (held && (this || others))
     either held this others = grind arith
@@ -217,19 +161,10 @@ all_still c addr (a ∷ more) regions above h =
 
 -- ---- the extents
 
--- what no element passes isn't counted
-none_counted : {X : Type 0} (test : X → Bool) (xs : List X) → list_any test xs ≡ false → count_by test xs ≡ 0
-none_counted test xs h = elim (cases_lt 0 (count_by test xs)) [
-  | inl some ↦ let e = counts_any test xs some in absurd (cc)
-  | inr none ↦ omega arith
-]
-
 -- a number among higher ones is higher
 named_above : (low : ℕ) (addrs : List ℕ) (a : ℕ) → All (λ x. low < x) addrs → list_any (λ x. eqb x a) addrs ≡ true → low < a
-named_above low [] a above h = absurd (cc)
-named_above low (x ∷ xs) a above h =
-    let P : ℕ → Type 0 = λ y. low < y in
-    grind (arith, nat_tests, All-head P x xs above, named_above low xs a (All-tail P x xs above))
+named_above low addrs a above h =
+    let x = any_from (λ y. eqb y a) addrs h in subst (λ n. low < n) (eqb-true _ _ x.2) (All-contains (λ y. low < y) addrs x.0 above x.1)
 
 -- a region begins in the extent that serves it
 begins_in : (x : Part) (r : Region) → houses x r ≡ true → (4096 * x.span.first ≤ r.addr) × (r.addr ≤ 4096 * end_of x.span)
@@ -245,11 +180,10 @@ above_first c addr addrs s p sound e above =
     let others : List Part = filter (λ q. not (t q)) s.parts in
     let P : Part → Type 0 = λ x. (serves e.region x ≡ 0) × (IsTrue (is_active x.state) → 0 < residents x s.regions) × (share p.span.first x + share p.span.first p ≤ 1) in
     let used = All-filter (λ q. not (t q)) (λ x. IsTrue (is_active x.state) → 0 < residents x s.regions) s.parts sound.used in
-    let mine : sum_by (share p.span.first) (filter t s.parts) ≡ sum_by (share p.span.first) (p ∷ []) = ap (sum_by (share p.span.first)) e.alone in
     let each : All P others = λ k d h. (
       e.others k d h,
       used k d h,
-      omega (arith, get_or-le-sum_by (share p.span.first) others k d h, mine, sum_by-cons (share p.span.first) p [], sum_by-filter_both t (λ q. not (t q)) (λ _. refl) (share p.span.first) s.parts, sound.owners p.span.first),
+      others_apart s.parts p e.alone sound.owners k d h p.span.first,
     ) in
     let kept = All-filter gone P others each in
     let passes = filter_passes gone others in
@@ -267,12 +201,11 @@ above_first c addr addrs s p sound e above =
         let there = sum_by-filter_both later (λ q. not (later q)) (λ _. refl) (λ q. ones (test q)) one in
         let zero = none_counted test (staying c addrs one) (grind (arith, goes)) in
         let some : 0 < count_by test (filter later one) = grind (arith, goes, gone, here, there, zero, none, used, sum_by-cons (λ q. ones (test q)) e.region []) in
-        let found = some_found test (filter later one) some in
+        let found = any_from test (filter later one) (counted_any test (filter later one) some) in
         let q : Region = found.0 in
-        let home = find_passes test (filter later one) q found.1 in
-        let named = find_has (λ r. later r ≡ true) test (filter later one) q (filter_passes later one) found.1 in
+        let named = (filter_from later one q found.1).1 in
         let less = named_above addr addrs q.addr above (both_true (is_held_by c q) (list_any (λ a. eqb a q.addr) addrs) named).1 in
-        grind (arith, nat_tests, apart, begins_in x q home, begins_in p e.region e.home, e.given.at, less, e.placed.0)
+        grind (arith, nat_tests, apart, begins_in x q found.2, begins_in p e.region e.home, e.given.at, less, e.placed.0)
 
 -- ---- the rounds
 
@@ -289,20 +222,18 @@ round_by : (c addr : ℕ) (addrs : List ℕ) (s : Space) (p : Part) (b : Bool) �
     (exchanged gone one (taken_in_order c (filter gone one)) ≡ exchanged gone s.parts (taken_in_order c (filter gone s.parts)))
     × (length (filter (is_emptied (staying c (addr ∷ []) s.regions)) s.parts) + length (filter gone one) ≡ length (filter gone s.parts))
 round_by c addr addrs s p false sound e above left one is gone same =
-    let parts = given_parts c addr s p e false left in
-    let one_is : one ≡ s.parts = is ∙ parts.1 in
-    let none : length (filter (is_emptied (staying c (addr ∷ []) s.regions)) s.parts) ≡ 0 = ap length parts.0 in
+    let g = gives c addr s p false e (sym left) in
+    let one_is : one ≡ s.parts = is ∙ sym g.parts in
     let n : length (filter gone one) ≡ length (filter gone s.parts) = ap (λ xs. length (filter gone xs)) one_is in
-    (ap (λ xs. exchanged gone xs (taken_in_order c (filter gone xs))) one_is, omega (arith, none, n))
+    (ap (λ xs. exchanged gone xs (taken_in_order c (filter gone xs))) one_is, omega (arith, g.count, n))
 round_by c addr addrs s p true sound e above left one is gone same =
-    let parts = given_parts c addr s p e true left in
+    let g = gives c addr s p true e (sym left) in
     let first : List Region = staying c (addr ∷ []) s.regions in
     let goes : gone p ≡ true = ap (λ (f : Part → Bool). f p) same ∙ emptied_still c addrs first p e.active left in
     let stays : gone (taken_out c p) ≡ false = ap (λ (f : Part → Bool). f (taken_out c p)) same in
     let higher = subst (λ (f : Part → Bool). All (λ q. p.span.first < q.span.first) (filter f (filter (λ q. not (begins_at p.span.first q)) s.parts))) (sym same) (above_first c addr addrs s p sound e above) in
-    let both = turns_first (taken_out c) s.parts p gone (λ q. refl) goes stays e.alone higher one (is ∙ parts.1) in
-    let n : length (filter (is_emptied first) s.parts) ≡ 1 = ap length parts.0 in
-    (both.all, omega (arith, n, both.fewer))
+    let both = turns_first (taken_out c) s.parts p gone (λ q. refl) goes stays e.alone higher one (is ∙ sym g.parts) in
+    (both.all, omega (arith, g.count, both.fewer))
   where
     emptied_still : (c : ℕ) (addrs : List ℕ) (regions : List Region) (p : Part) → is_active p.state ≡ true → is_left regions p ≡ true → is_emptied (staying c addrs regions) p ≡ true
     emptied_still c addrs regions p active left =
@@ -337,7 +268,7 @@ no_round c s sound =
     )
   where
     serves_still : (p : Part) → (IsTrue (is_active p.state) → 0 < residents p s.regions) → is_emptied s.regions p ≡ false
-    serves_still p used = grind (arith, used, counts_any (houses p) s.regions)
+    serves_still p used = grind (arith, used, counted_any (houses p) s.regions)
 
 -- How far a client has come in giving regions back: some are left, whose return leaves what was to be left at first.
 pub record Left (c : ℕ) (rest all : List ℕ) (start s : Space) (emptied : ℕ) : Type 0 where
@@ -378,11 +309,6 @@ left_step {c} {i} {all} {start} {s} {one} {n} {k} old h is counted =
       after = r.after ∙ left.after;
       count = omega (arith, counted, r.emptied, left.count);
     })
-  where
-    live_is : (life : Life) → is_live life ≡ true → life ≡ Live
-    live_is Live h = refl
-    live_is Absent h = absurd (cc)
-    live_is (Dying d) h = absurd (cc)
 
 -- none is left
 pub left_end : {c i : ℕ} {all : List ℕ} {start s : Space} {n : ℕ} → Left c (drop i all) all start s n → length all ≤ i →

@@ -1,5 +1,5 @@
 -- Extents that are apart stay apart, with sums that are known, where one or two of them are exchanged.
-use Rattle.arena_core.proofs.Words.{◌≡◌, ℕ, ◌+◌, ◌-◌, ◌<◌, ◌≤◌, Bool, true, false, not, cond, List, [], ◌∷◌, ◌++◌, filter, Option, Some, IfSome, refl, sym, ap, subst, arith, All, inl, inr, list_any, sum_by, cases_Bool, cases_lt, nat_tests, sum_by_push, sum_by-cons, sum_by-le-sum_by, All-cons, All-head, All-nil, All-push, All-tail, All-weaker, Part, Span, State, IsPlaced, end_of, has_page, meets, pages_end, begins_at, exchanged, holders, is_active, begins_either, high_piece, joined, low_piece, All-exchanged, filter-begins_at, find-le-sum_by, find_has, share, sum_by-either, sum_by-exchanged, sum_by-replaced, some_pages, lengths-le, AreBeside, Book, IsApart, IsThere, active_pages, all_pages}
+use Rattle.arena_core.proofs.Words.{◌≡◌, ℕ, ◌+◌, ◌-◌, ◌<◌, ◌≤◌, Bool, true, false, not, cond, List, [], ◌∷◌, ◌++◌, filter, Option, Some, IfSome, refl, sym, ap, subst, arith, All, inl, inr, list_any, sum_by, cases_lt, nat_tests, sum_by_push, sum_by-cons, sum_by-le-sum_by, All-cons, All-nil, All-push, All-weaker, Part, Span, IsPlaced, has_page, meets, pages_end, begins_at, exchanged, holders, is_active, begins_either, high_piece, joined, low_piece, All-exchanged, filter-begins_at, find-le-sum_by, find_has, share, sum_by-either, sum_by-exchanged, sum_by-replaced, some_pages, lengths-le, AreBeside, Book, IsApart, IsThere, active_pages, all_pages, Inside, IsExtents, ◌∙◌, get_or-le-sum_by, sum_by-filter_both, cut_shares, joined_share, list_any_none, false_from_ne_true, get_or}
 
 -- the pages of an extent, and those that serve regions
 abbrev pub pages : Part → ℕ
@@ -12,13 +12,14 @@ serving p = cond (is_active p.state) p.span.pages 0
 pub there_placed : (parts : List Part) (p : Part) → IsApart parts → IsThere parts p → IsPlaced p.span
 there_placed parts p apart there = find_has (λ q. IsPlaced q.span) (begins_at p.span.first) parts p apart.placed there
 
--- what callers name is there inside
-pub there_inside : {b now : Book} (p : Part) → b ≡ now → IsThere now.parts p → IsThere b.parts p
-there_inside p view there = subst (λ (x : Book). IsThere x.parts p) (sym view) there
-
--- it is no more than the sum, and the sum no more than the space
-pub within_sum : (f : Part → ℕ) (parts : List Part) (p : Part) → IsThere parts p → f p ≤ sum_by f parts
-within_sum f parts p there = find-le-sum_by f (begins_at p.span.first) parts p there
+-- where no two extents share a page, none that begins elsewhere shares one with an extent that begins there alone
+pub others_apart : (parts : List Part) (p : Part) → filter (begins_at p.span.first) parts ≡ p ∷ [] → ((page : ℕ) → holders page parts ≤ 1) →
+    All (λ q. (page : ℕ) → share page q + share page p ≤ 1) (filter (λ q. not (begins_at p.span.first q)) parts)
+others_apart parts p alone owners = λ k d h page.
+    let t = begins_at p.span.first in
+    let others : List Part = filter (λ q. not (t q)) parts in
+    let own : sum_by (share page) (filter t parts) ≡ sum_by (share page) (p ∷ []) = ap (sum_by (share page)) alone in
+    omega (arith, get_or-le-sum_by (share page) others k d h, own, sum_by-cons (share page) p [], sum_by-filter_both t (λ q. not (t q)) (λ _. refl) (share page) parts, owners page)
 
 -- Pieces that may stand in place of an extent: they lie in the space and have just its pages.
 pub record Fill (p : Part) (pieces : List Part) : Type 0 where
@@ -66,9 +67,6 @@ two_fill p low high left placed some fewer low_is high_is =
     let sizes : low.span.pages + high.span.pages ≡ p.span.pages = sum (λ s. s.pages) (omega arith) in
     (pair low high low_placed high_placed shares sizes, pair high low high_placed low_placed (λ page. omega (arith, shares page)) (omega arith))
   where
-    cut_shares : (page left : ℕ) (p : Part) → 0 < left → left < p.span.pages → share page (low_piece left p) + share page (high_piece left p) ≡ share page p
-    cut_shares page left p some fewer = grind (arith, nat_tests)
-
     pair : (a b : Part) → IsPlaced a.span → IsPlaced b.span → ((page : ℕ) → share page a + share page b ≡ share page p) → a.span.pages + b.span.pages ≡ p.span.pages → Fill p (a ∷ b ∷ [])
     pair a b a_placed b_placed shares sizes = record {
       placed = All-cons (λ x. IsPlaced x.span) a (b ∷ []) a_placed (All-cons (λ x. IsPlaced x.span) b [] b_placed (All-nil (λ x. IsPlaced x.span)));
@@ -107,14 +105,6 @@ gone parts p apart there =
 
 -- ---- two extents become one
 
--- of two extents side by side none begins as both do
-begin_apart : (p q : Part) → p.span.first < q.span.first → (x : Part) → begins_at p.span.first x ≡ true → begins_at q.span.first x ≡ false
-begin_apart p q less x h = grind (arith, nat_tests)
-
--- a page is in one of the two, or in neither
-joined_share : (page : ℕ) (p q : Part) → end_of p.span ≡ q.span.first → share page (joined p q) ≡ share page p + share page q
-joined_share page p q side = grind (arith, nat_tests)
-
 pub joined_swaps : (parts : List Part) (p q : Part) → IsApart parts → IsThere parts p → IsThere parts q → AreBeside p q →
     Swapped parts (exchanged (begins_either p q) parts (joined p q ∷ [])) (serving p + serving q) (active_pages (joined p q ∷ []))
 joined_swaps parts p q apart low high side =
@@ -129,7 +119,7 @@ joined_swaps parts p q apart low high side =
     omega (
       arith,
       sum_by-exchanged f (begins_either p q) parts (joined p q ∷ []),
-      sum_by-either f (begins_at p.span.first) (begins_at q.span.first) (begin_apart p q less) parts,
+      sum_by-either f (begins_at p.span.first) (begins_at q.span.first) (λ x h. grind (arith, nat_tests, less)) parts,
       p_alone f,
       q_alone f,
       sum_by-cons f p [],
@@ -157,16 +147,13 @@ common_page s t some other h = elim (cases_lt s.first t.first) [
 -- where no page would be in two, none of the extents meets the new one
 pub none_meets : (parts : List Part) (p : Part) → All (λ q. IsPlaced q.span) parts → 0 < p.span.pages → ((page : ℕ) → holders page parts + share page p ≤ 1) →
     list_any (λ q. meets q.span p.span) parts ≡ false
-none_meets [] p placed some owners = refl
-none_meets (q ∷ qs) p placed some owners =
-    let P : Part → Type 0 = λ x. IsPlaced x.span in
-    let rest = none_meets qs p (All-tail P q qs placed) some (λ page. omega (arith, sum_by-cons (share page) q qs, owners page)) in
-    elim (cases_Bool (meets q.span p.span)) [
-      | inr f ↦ rw f rest
-      | inl t ↦
-          let both = common_page q.span p.span (All-head P q qs placed).0 some t in
-          absurd (grind (arith, sum_by-cons (share both.0) q qs, owners both.0, both.1, both.2))
-    ]
+none_meets parts p placed some owners =
+    list_any_none (λ q. meets q.span p.span) parts (λ k d h. false_from_ne_true _ (λ t.
+    let q : Part = get_or parts k d in
+    let both = common_page q.span p.span (placed k d h).0 some t in
+    let own : share both.0 q ≡ 1 = ap (λ b. cond b 1 0) both.1 in
+    let other : share both.0 p ≡ 1 = ap (λ b. cond b 1 0) both.2 in
+    omega (arith, get_or-le-sum_by (share both.0) parts k d h, owners both.0, own, other)))
 
 -- What a new extent that serves no region leaves: no other one meets it, all are apart, and the sums grow by its pages.
 pub record Added (parts : List Part) (p : Part) : Type 0 where
@@ -201,49 +188,49 @@ pub changed : (parts : List Part) (p q : Part) → IsApart parts → IsThere par
     Swapped parts (exchanged (begins_at p.span.first) parts (q ∷ [])) (serving p) (active_pages (q ∷ []))
 changed parts p q apart there same = swapped parts (q ∷ []) p apart there (one_fills p q (there_placed parts p apart there) same)
 
--- an extent that is there is within the sums
-pub there_within : (parts : List Part) (p : Part) → IsApart parts → IsThere parts p → (active_pages (p ∷ []) ≤ active_pages parts) × (active_pages parts ≤ all_pages parts) × (all_pages parts ≤ pages_end) × (p.span.pages ≤ pages_end)
-there_within parts p apart there = (
-  omega (arith, sum_by-cons serving p [], within_sum serving parts p there),
-  sum_by-le-sum_by serving pages parts (λ q. if_le (is_active q.state) q.span.pages),
-  pages_fit parts apart,
-  omega (arith, within_sum pages parts p there, pages_fit parts apart),
-)
-  where
-    if_le : (b : Bool) (n : ℕ) → cond b n 0 ≤ n
-    if_le b n = grind arith
+-- what serves regions is no more than what there is
+if_le : (b : Bool) (n : ℕ) → cond b n 0 ≤ n
+if_le b n = grind arith
+
+-- What is known inside of an extent that a caller names: it is there, lies in the space, and is within the sums.
+pub record Named (b : Inside) (p : Part) : Type 0 where
+  pub there : IsThere b.book.parts p
+  pub placed : IsPlaced p.span
+  pub within : active_pages (p ∷ []) ≤ b.active
+  pub pages : b.active ≤ pages_end
+  pub few : p.span.pages ≤ b.total
+
+pub named : {b : Inside} {now : Book} (p : Part) → b.book ≡ now → IsExtents b → IsThere now.parts p → Named b p
+named {b} p view extents here =
+    let there : IsThere b.book.parts p = subst (λ (x : Book). IsThere x.parts p) (sym view) here in
+    let active = sum_by-le-sum_by serving pages b.book.parts (λ q. if_le (is_active q.state) q.span.pages) in record {
+      there = there;
+      placed = there_placed b.book.parts p extents.apart there;
+      within = omega (arith, sum_by-cons serving p [], find-le-sum_by serving (begins_at p.span.first) b.book.parts p there, extents.active);
+      pages = omega (arith, active, pages_fit b.book.parts extents.apart, extents.active);
+      few = omega (arith, find-le-sum_by pages (begins_at p.span.first) b.book.parts p there, extents.total);
+    }
+
+-- extents are as they should be where they are apart and the sums are those of what they are
+pub extents_are : {new : Inside} {after : List Part} → new.book.parts ≡ after → IsApart after → new.active ≡ active_pages after → new.total ≡ all_pages after → IsExtents new
+extents_are is apart active total = record { apart = subst IsApart (sym is) apart; active = active ∙ ap active_pages (sym is); total = total ∙ ap all_pages (sym is) }
 
 -- two extents as one serve as many pages as they would if both were of the first one's use
 pub joined_active : (p q : Part) → active_pages (joined p q ∷ []) ≡ serving p + active_pages (record q { state = p.state } ∷ [])
 joined_active p q = grind (arith, sum_by-cons serving (joined p q) [], sum_by-cons serving (record q { state = p.state }) [])
 
--- an extent is cut in two, each in a state of its own
-abbrev halves : List Part → Part → ℕ → State → State → List Part
-halves parts p left a b = exchanged (begins_at p.span.first) parts (record (low_piece left p) { state = a } ∷ record (high_piece left p) { state = b } ∷ [])
-
-pub halved : (parts : List Part) (p : Part) (left : ℕ) (a b : State) → IsApart parts → IsThere parts p → 0 < left → left < p.span.pages →
-    Swapped parts (halves parts p left a b) (active_pages (p ∷ [])) (active_pages (record (low_piece left p) { state = a } ∷ []) + active_pages (record (high_piece left p) { state = b } ∷ []))
-halved parts p left a b apart there some fewer =
-    let low : Part = record (low_piece left p) { state = a } in
-    let high : Part = record (high_piece left p) { state = b } in
-    let swap = swapped parts (low ∷ high ∷ []) p apart there (two_fill p low high left (there_placed parts p apart there) some fewer refl refl).0 in record {
-      apart = swap.apart;
-      pages = swap.pages;
-      active = omega (arith, swap.active, sum_by-cons serving p [], sum_by-cons serving low (high ∷ []), sum_by-cons serving low []);
-    }
-
--- its higher piece is in a state of its own, and comes before the lower one
-pub shed : (parts : List Part) (p : Part) (left : ℕ) (state : State) → IsApart parts → IsThere parts p → 0 < left → left < p.span.pages →
-    Swapped parts (exchanged (begins_at p.span.first) parts (record (high_piece left p) { state = state } ∷ low_piece left p ∷ [])) (active_pages (p ∷ []))
-    (active_pages (low_piece left p ∷ []) + active_pages (record (high_piece left p) { state = state } ∷ []))
-shed parts p left state apart there some fewer =
-    let low : Part = low_piece left p in
-    let high : Part = record (high_piece left p) { state = state } in
-    let swap = swapped parts (high ∷ low ∷ []) p apart there (two_fill p low high left (there_placed parts p apart there) some fewer refl refl).1 in record {
-      apart = swap.apart;
-      pages = swap.pages;
-      active = omega (arith, swap.active, sum_by-cons serving p [], sum_by-cons serving high (low ∷ []), sum_by-cons serving low [], sum_by-cons serving high []);
-    }
+-- an extent is cut in two, of which either comes last
+pub cut_swaps : (parts : List Part) (p low high : Part) (left : ℕ) → IsApart parts → IsThere parts p → 0 < left → left < p.span.pages → low.span ≡ (low_piece left p).span → high.span ≡ (high_piece left p).span →
+    Swapped parts (exchanged (begins_at p.span.first) parts (low ∷ high ∷ [])) (active_pages (p ∷ [])) (active_pages (low ∷ []) + active_pages (high ∷ []))
+    × Swapped parts (exchanged (begins_at p.span.first) parts (high ∷ low ∷ [])) (active_pages (p ∷ [])) (active_pages (low ∷ []) + active_pages (high ∷ []))
+cut_swaps parts p low high left apart there some fewer low_is high_is =
+    let fill = two_fill p low high left (there_placed parts p apart there) some fewer low_is high_is in
+    let up = swapped parts (low ∷ high ∷ []) p apart there fill.0 in
+    let down = swapped parts (high ∷ low ∷ []) p apart there fill.1 in
+    let one = λ (x : Part). sum_by-cons serving x [] in (
+      record { apart = up.apart; pages = up.pages; active = omega (arith, up.active, one p, sum_by-cons serving low (high ∷ []), one low, one high) },
+      record { apart = down.apart; pages = down.pages; active = omega (arith, down.active, one p, sum_by-cons serving high (low ∷ []), one low, one high) },
+    )
 
 -- the pieces serve what the extent served
 pub pieces_serve : (p : Part) (left : ℕ) → left < p.span.pages → active_pages (low_piece left p ∷ []) + active_pages (high_piece left p ∷ []) ≡ active_pages (p ∷ [])
@@ -254,7 +241,4 @@ pieces_serve p left fewer = omega (arith, parted (is_active p.state) p.span.page
 
 -- an extent serves no more than its pages
 pub serves_most : (p : Part) → active_pages (p ∷ []) ≤ p.span.pages
-serves_most p = omega (arith, sum_by-cons serving p [], most (is_active p.state) p.span.pages)
-  where
-    most : (b : Bool) (n : ℕ) → cond b n 0 ≤ n
-    most b n = grind arith
+serves_most p = omega (arith, sum_by-cons serving p [], if_le (is_active p.state) p.span.pages)

@@ -1,7 +1,6 @@
 -- The counts of bytes are those of pages, what is read of all extents, and what others have in an arena.
-use Rattle.arena_core.proofs.Words.{◌≡◌, ℕ, ◌+◌, ◌-◌, ◌*◌, ◌^◌, ◌<◌, ◌≤◌, Bool, true, false, cond, List, [], ◌∷◌, get_or, find, filter, refl, sym, arith, not, IsTrue, length, All, ◌&&◌, eqb, nat_le, list_any, sum_by, count_by, is_some, nat_tests, list_any_none, sum_by-cons, Part, Rest, ToDirty, ToMuzzy, ToRetained, State, Space, IsPlaced, chunk_span, meets, pages_end, is_active, is_listed, pages_listed, is_flight, is_in_flight, bytes_of, bytes_where, is_mapped, Sound, bytes_le, bytes_pages, listed_fit_space, mapped_sum, whole_sum, pages_of, active_pages, all_pages, Indexes, space_of, Offered, is_held_by, flight_count, reset_stands, all_sum_le, not_true, both_true, some_pages}
-use Rattle.space_model.specs.Sound.{is_in_flight}
-use Rattle.arena_core.proofs.Emptying.{most_one}
+use Rattle.arena_core.proofs.Words.{◌≡◌, ℕ, ◌+◌, ◌-◌, ◌*◌, ◌^◌, ◌<◌, ◌≤◌, Bool, true, false, cond, List, [], ◌∷◌, get_or, filter, refl, sym, arith, not, IsTrue, length, All, ◌&&◌, eqb, nat_le, list_any, sum_by, count_by, nat_tests, list_any_none, sum_by-cons, Part, Rest, ToDirty, ToMuzzy, ToRetained, State, Space, IsPlaced, chunk_span, meets, pages_end, is_active, is_listed, pages_listed, is_flight, is_in_flight, bytes_of, bytes_where, is_mapped, Sound, bytes_le, bytes_pages, listed_fit_space, mapped_sum, whole_sum, pages_of, active_pages, all_pages, Indexes, space_of, Offered, is_held_by, flight_count, reset_stands, all_sum_le, not_true, both_true, some_pages, count_same, any_false}
+use Rattle.arena_core.proofs.Emptying.{count_all, most_one}
 
 -- the pages of an extent whose state passes, or none
 abbrev pub pages_if : (State → Bool) → Part → ℕ
@@ -70,19 +69,9 @@ none_past s chunk sound past =
     let placed : IsPlaced p.span = sound.placed k d h in
     let last = placed.2 in grind (arith, nat_tests))
 
--- something is found just where something passes
-pub found_any : (t : Part → Bool) (xs : List Part) → is_some (find t xs) ≡ list_any t xs
-found_any t [] = refl
-found_any t (x ∷ xs) = grind (arith, found_any t xs)
-
 -- where none passes the second test, leaving out those that pass it changes no count
 without_none : {X : Type 0} (f g : X → Bool) (xs : List X) → list_any g xs ≡ false → count_by (λ x. f x && not (g x)) xs ≡ count_by f xs
-without_none f g [] none = refl
-without_none f g (x ∷ xs) none = grind (arith, without_none f g xs, sum_by-cons (λ y. cond (f y && not (g y)) 1 0) x xs, sum_by-cons (λ y. cond (f y) 1 0) x xs)
-
-count_all : {X : Type 0} (xs : List X) → count_by (λ x. true) xs ≡ length xs
-count_all [] = refl
-count_all (x ∷ xs) = omega (arith, count_all xs, sum_by-cons (λ y. 1) x xs)
+without_none f g xs none = count_same (λ x. f x && not (g x)) f xs (λ x m. grind (arith, any_false g xs x none m))
 
 -- all extents in flight and all offers are those of others
 pub flights_of_others : (s : Space) (c cached : ℕ) → IsTrue (reset_stands s c cached) → count_by (λ p. is_in_flight p.state) s.parts + length s.offers ≡ flight_count s c

@@ -1,15 +1,12 @@
 -- The slabs of an arena's book as its operations go on.
-use Rattle.std.specs.Prelude.{ℕ, ◌+◌, ◌<◌, ◌≤◌, ◌^◌, ◌≡◌, Bool, false, true, not, nat_lt, ◌==◌, List, [], length, filter, map, All, if◌then◌else◌}
-use Rattle.std.specs.List.{list_any}
-use Rattle.size_classes.specs.Classes.{pages_at, regions_at}
+use Rattle.std.specs.Prelude.{ℕ, ◌<◌, ◌≡◌, ◌==◌, List, [], length, map, All, if◌then◌else◌}
 use Rattle.space_model.specs.declared.entries.Op.{Op}
 use Rattle.space_model.specs.declared.entries.Op.TheVariants.{Fill, Land, Reset, Destroy}
-use Rattle.space_model.specs.declared.parts.Span.{Span}
 use Rattle.space_model.specs.declared.spaces.Space.{Space}
 use Rattle.space_model.specs.Ending.{after_destroy, after_reset}
 use Rattle.space_model.specs.Slabs.{lowest_free}
 use Rattle.space_model.specs.Stepped.{is_live}
-use Rattle.bin_book.specs.Bins.{BinSlab, meets_slab, slab_with_out, with_free, with_slab, with_regions_out}
+use Rattle.bin_book.specs.Bins.{BinSlab, with_regions_out}
 use Rattle.region_book.specs.RegionLists.{CanBeSlab}
 use Rattle.region_book.specs.Slabs.{slabs_landed}
 use Rattle.arena_core.specs.Booked.{AreBooked}

@@ -50,6 +50,7 @@ fn move_one(extents: &mut Extents, part: &Part, rest: Rest)
 }
 
 /// Moves each extent that goes there to a list, in order of address.
+#[tactic(auto, using(crate::proofs::Swaps::there_placed))]
 fn move_all(extents: &mut Extents, rest: Rest)
     requires { IsApart extents.old.parts }
     ensures parts { extents.new.parts ≡ turned (λ p. goes_to rest p.state) (moved_to rest) extents.old.parts }
@@ -81,6 +82,7 @@ fn empty(indexes: &mut Indexes) -> Reply
 }
 
 /// Discards all regions, unless the arena is in use.
+#[tactic(auto, using(crate::proofs::Books::stays_left))]
 pub fn reset(indexes: &mut Indexes, client: u32, cached: u64) -> Reply
     requires client { client < 32 }
     requires stands { IsTrue (reset_stands (space_of indexes.old) client cached) }
@@ -120,6 +122,7 @@ fn end(indexes: &mut Indexes, client: u32) -> Reply
 }
 
 /// Ends the arena, unless it is in use.
+#[tactic(auto, using(crate::proofs::Books::stays_left))]
 pub fn destroy(indexes: &mut Indexes, client: u32, cached: u64) -> Reply
     requires client { client < 32 }
     requires stands { IsTrue (reset_stands (space_of indexes.old) client cached) }

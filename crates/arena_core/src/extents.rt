@@ -88,6 +88,7 @@ impl Extents {
     }
 
     /// The unused extent that serves a request.
+    #[tactic(auto, using(crate::proofs::Finds::fit_inside))]
     pub fn fit(&self, pages: u64, align: u64) -> Option<Part>
         requires some { 0 < pages }
         requires aligned { 0 < align }
@@ -98,6 +99,7 @@ impl Extents {
     }
 
     /// The oldest extent.
+    #[tactic(auto, using(crate::proofs::Finds::first_inside))]
     pub fn first(&self) -> Option<Part>
         ensures first { result ≡ slice_get self.now.parts 0 }
         ensures there { IfSome result (IsThere self.now.parts) }
@@ -106,6 +108,7 @@ impl Extents {
     }
 
     /// The extent that is longest among those listed for a rest.
+    #[tactic(auto, using(crate::proofs::Finds::found_inside))]
     pub fn oldest(&self, rest: Rest) -> Option<Part>
         ensures oldest { result ≡ find (λ p. is_listed rest p.state) self.now.parts }
         ensures there { IfSome result (IsThere self.now.parts) }
@@ -121,6 +124,7 @@ impl Extents {
     }
 
     /// The extent that begins at a page.
+    #[tactic(auto, using(crate::proofs::Finds::found_there))]
     pub fn at(&self, first: u64) -> Part
         requires { IsSome (find (begins_at first) self.now.parts) }
         ensures at { find (begins_at first) self.now.parts ≡ Some result }
@@ -130,6 +134,7 @@ impl Extents {
     }
 
     /// The unused extent that begins at a page, if it has so many pages.
+    #[tactic(auto, using(crate::proofs::Finds::spare_inside, crate::proofs::Finds::found_inside))]
     pub fn spare_at(&self, page: u64, pages: u64) -> Option<Part>
         ensures spare { result ≡ find (is_spare page pages) self.now.parts }
         ensures there { IfSome result (IsThere self.now.parts) }
@@ -138,6 +143,7 @@ impl Extents {
     }
 
     /// The extent that has a page.
+    #[tactic(auto, using(crate::proofs::Finds::found_inside))]
     pub fn holding(&self, page: u64) -> Option<Part>
         ensures holds { result ≡ find (λ p. has_page page p.span) self.now.parts }
         ensures there { IfSome result (IsThere self.now.parts) }
@@ -146,6 +152,7 @@ impl Extents {
     }
 
     /// The first extent that begins at a page or behind it.
+    #[tactic(auto, using(crate::proofs::Finds::from_inside))]
     pub fn first_from(&self, page: u64) -> Option<Part>
         ensures none { IsNone result → All (λ p. p.span.first < page) self.now.parts }
         ensures first { IfSome result (IsFirstFrom page self.now.parts) }
@@ -176,6 +183,7 @@ impl Extents {
     }
 
     /// The client's extent in flight with just this span.
+    #[tactic(auto, using(crate::proofs::Finds::flight_inside, crate::proofs::Finds::found_inside))]
     pub fn flight(&self, client: u32, span: Span) -> Option<Part>
         ensures flight { result ≡ find (is_flight_at client span) self.now.parts }
         ensures there { IfSome result (IsThere self.now.parts) }

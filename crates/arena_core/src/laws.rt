@@ -9,6 +9,7 @@ pub fn fills_take_the_lowest()
 {}
 
 /// A book stays with its space while the regions and the extents that serve them stay, whoever holds them.
+#[tactic(auto, using(crate::proofs::Booked::stay_still, crate::proofs::Booked::stay_handed))]
 pub fn books_stay()
     ensures extents { BooksStayWhileExtentsDo }
     ensures holders { BooksStayWhereHoldersChange }
@@ -25,6 +26,7 @@ pub fn returns_are_free()
 {}
 
 /// Extents that stay keep their order by address, and a new one stands between those below it and those above it.
+#[tactic(auto, using(crate::proofs::InOrder::order_stays, crate::proofs::InOrder::order_grows))]
 pub fn order_stays()
     ensures stays { OrderStays }
     ensures grows { OrderGrows }

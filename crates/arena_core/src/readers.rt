@@ -57,6 +57,7 @@ pub fn owns_chunk(indexes: &Indexes, chunk: u64) -> bool
 }
 
 /// Whether an extent has a page.
+#[tactic(auto, using(list_facts::proofs::Members::is_some_find))]
 pub fn holds_page(indexes: &Indexes, page: u64) -> bool
     ensures { result ≡ list_any (λ p. has_page page p.span) (space_of indexes.now).parts }
 {

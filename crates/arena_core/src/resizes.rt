@@ -17,7 +17,7 @@ use size_classes::PAGE_BYTES;
 use space_model::{Answer, Ask, CHUNK_PAGES, CHUNKS, Heard, Part, Reply, Rest, Span, State};
 
 /// Whether a chunk begins at the page, in the space, and no extent has the page.
-#[tactic(auto, using(crate::proofs::Totals::found_any))]
+#[tactic(auto, using(list_facts::proofs::Members::is_some_find))]
 fn is_open(extents: &Extents, page: u64) -> bool
     ensures { result ≡ is_open extents.now.parts page }
 {

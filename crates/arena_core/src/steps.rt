@@ -123,7 +123,7 @@ fn begin(indexes: &mut Indexes, client: u32, op: &Op) -> Result<Reply, NoMemory>
 }
 
 /// The first operation of a unit, if it isn't a return, with room for 16 operations after it.
-#[tactic(auto, using(crate::proofs::RoomSums::empties_nothing))]
+#[tactic(auto, using(crate::proofs::RoomSums::empties_nothing, crate::proofs::Books::booked_as))]
 fn open_unit(body: &mut Body, client: u32, op: &Op) -> Result<Reply, NoMemory>
     requires client { client < 32 }
     requires opens { opens op.now ≡ true }
@@ -152,6 +152,7 @@ fn most_room(addrs: &[u64]) -> Result<u64, NoMemory>
 }
 
 /// The client gives regions back, with room for 16 operations by each extent that is emptied.
+#[tactic(auto, using(crate::proofs::Books::booked_as))]
 fn give_back(body: &mut Body, client: u32, addrs: &Addresses) -> Result<Reply, NoMemory>
     requires client { client < 32 }
     requires stands { IsTrue (op_stands (space_of body.old.indexes) client (Op.Back addrs.now)) }
@@ -174,6 +175,7 @@ fn give_back(body: &mut Body, client: u32, addrs: &Addresses) -> Result<Reply, N
 }
 
 /// An operation for which no memory is taken.
+#[tactic(auto, using(crate::proofs::RoomSums::places_fewer))]
 fn follow(indexes: &mut Indexes, client: u32, op: &Op) -> Reply
     requires client { client < 32 }
     requires follows { opens op.now ≡ false }
@@ -205,6 +207,7 @@ fn follow(indexes: &mut Indexes, client: u32, op: &Op) -> Reply
 }
 
 /// An operation for which no memory is taken: it uses one of the client's room up.
+#[tactic(auto, using(crate::proofs::RoomSums::rooms_with))]
 fn use_up(body: &mut Body, client: u32, op: &Op) -> Reply
     requires client { client < 32 }
     requires follows { opens op.now ≡ false }

@@ -1,27 +1,13 @@
-use Rattle.arena_core.proofs.Words.{◌≡◌, false, refl, ◌∙◌, arith, Part, Rest, Retained, listed, moved_to, goes_to}
-use Rattle.space_model.specs.declared.parts.Rest.TheVariants.{Dirty, Muzzy}
-use Rattle.arena_core.proofs.Swaps.{there_placed}
-use Rattle.arena_core.proofs.Rounds.{none_ahead, walk_begins, walk_ends, walk_goes}
+use Rattle.arena_core.proofs.Words.{◌≡◌, false, refl, ◌∙◌, arith, Part, Rest, listed, moved_to, goes_to}
+use Rattle.arena_core.proofs.Rounds.{walk_begins, walk_ends, walk_goes}
 use Rattle.arena_core.proofs.ends.move_all.Goals as goal
 
 -- what is listed somewhere doesn't go there
 stays : (rest : Rest) → goes_to rest (listed rest) ≡ false
-stays Dirty = refl
-stays Muzzy = refl
-stays Retained = refl
+stays rest = grind arith
 
 pub loop-part-init : goal.loop-part-init
 loop-part-init c = record { walk = walk_begins (λ p. goes_to c.args.rest p.state) (moved_to c.args.rest) c.args.extents.now.parts c.requires; spare = refl }
-
-pub overflow_add-page : goal.overflow_add-page
-overflow_add-page c =
-    let placed = there_placed c.loop-part.extents.parts c.in-Some.part c.loop-part.invariant.walk.apart c.in-Some.ensures.there in
-    omega (arith, placed.2)
-
-pub loop-part-smaller : goal.loop-part-smaller
-loop-part-smaller c =
-    let placed = there_placed c.loop-part.extents.parts c.in-Some.part c.loop-part.invariant.walk.apart c.in-Some.ensures.there in
-    omega (arith, placed.0, placed.2, c.in-Some.ensures.first.from)
 
 pub loop-part-preserved : goal.loop-part-preserved
 loop-part-preserved c = record {
@@ -33,7 +19,7 @@ loop-part-preserved c = record {
 pub returns-clause-parts : goal.returns-clause-parts
 returns-clause-parts c =
     walk_ends (λ (p : Part). goes_to c.args.rest p.state) (moved_to c.args.rest) c.args.extents.now.parts c.loop-part.extents.parts c.loop-part.page
-    (none_ahead c.loop-part.invariant.walk (c.in_default.ensures.none refl)) c.loop-part.invariant.walk
+    (c.in_default.ensures.none refl) c.loop-part.invariant.walk
 
 pub returns-clause-spare : goal.returns-clause-spare
 returns-clause-spare c = c.loop-part.invariant.spare

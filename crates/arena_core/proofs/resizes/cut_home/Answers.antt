@@ -5,16 +5,10 @@ use Rattle.arena_core.proofs.resizes.cut_home.Goals as goal
 pub at-part-requires : goal.at-part-requires
 at-part-requires c = page_begins c.args.client c.args.span.first (space_of c.args.indexes.now) (λ p. same_span p.span c.args.span) c.requires.sound c.requires.home
 
-pub reclass-requires-clause-there : goal.reclass-requires-clause-there
-reclass-requires-clause-there c = (page_homed c.args.client c.args.span.first (space_of c.args.indexes.now) (λ p. same_span p.span c.args.span) c.requires.sound c.requires.home c.at-part.ensures.at).1.large
-
-pub reclass-requires-clause-page : goal.reclass-requires-clause-page
-reclass-requires-clause-page c =
+pub reclass-requires : goal.reclass-requires
+reclass-requires c =
     let h = page_homed c.args.client c.args.span.first (space_of c.args.indexes.now) (λ p. same_span p.span c.args.span) c.requires.sound c.requires.home c.at-part.ensures.at in
-    omega (arith, h.1.placed.2, h.1.start)
-
-pub reclass-requires-clause-bytes : goal.reclass-requires-clause-bytes
-reclass-requires-clause-bytes c = region_bytes_fits (space_of c.args.indexes.now) c.requires.sound
+    record { client = c.requires.client; page = omega (arith, h.1.placed.2, h.1.start); there = h.1.large; bytes = region_bytes_fits (space_of c.args.indexes.now) c.requires.sound; large = c.requires.large; class = c.requires.class }
 
 pub cut_off-requires-clause-fewer : goal.cut_off-requires-clause-fewer
 cut_off-requires-clause-fewer c =

@@ -1,5 +1,4 @@
-use Rattle.arena_core.proofs.Words.{◌∙◌, ap, sym, space_of}
-use Rattle.space_model.specs.Clients.{without_client}
+use Rattle.arena_core.proofs.Words.{◌∙◌, ap, sym, space_of, without_client}
 use Rattle.arena_core.proofs.Resized.{shrinking_aside}
 use Rattle.arena_core.proofs.resizes.trim_done.Goals as goal
 

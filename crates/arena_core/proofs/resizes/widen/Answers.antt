@@ -1,4 +1,4 @@
-use Rattle.arena_core.proofs.Words.{◌∙◌, ap, arith, sym, nat_lt, ltb-true, widen_at, space_of}
+use Rattle.arena_core.proofs.Words.{◌∙◌, ap, arith, sym, nat_lt, ltb-true, widen_at, space_of, rules, Stepped}
 use Rattle.arena_core.proofs.Resized.{home_begins, homed}
 use Rattle.arena_core.proofs.resizes.widen.Goals as goal
 
@@ -15,14 +15,9 @@ overflow_sub-pages c =
     let h = homed c.args.client c.args.addr (space_of c.args.indexes.now) (λ p. nat_lt p.span.pages c.args.pages) c.requires.sound c.requires.stands c.at-part.ensures.at in
     omega (arith, ltb-true _ _ h.1.passes)
 
-pub returns-clause-after : goal.returns-clause-after
-returns-clause-after c =
+pub returns : goal.returns
+returns c =
     let s = space_of c.args.indexes.now in
     let h = homed c.args.client c.args.addr s (λ p. nat_lt p.span.pages c.args.pages) c.requires.sound c.requires.stands c.at-part.ensures.at in
-    c.widen_by.ensures.after ∙ ap (λ o. (widen_at s c.args.client c.args.pages o).after) (sym h.1.found)
-
-pub returns-clause-reply : goal.returns-clause-reply
-returns-clause-reply c =
-    let s = space_of c.args.indexes.now in
-    let h = homed c.args.client c.args.addr s (λ p. nat_lt p.span.pages c.args.pages) c.requires.sound c.requires.stands c.at-part.ensures.at in
-    c.widen_by.ensures.reply ∙ ap (λ o. (widen_at s c.args.client c.args.pages o).reply) (sym h.1.found)
+    let done = ap (λ o. widen_at s c.args.client c.args.pages o) (sym h.1.found) in
+    record { after = c.widen_by.ensures.after ∙ ap (λ (step : Stepped). step.after) done; reply = c.widen_by.ensures.reply ∙ ap (λ (step : Stepped). step.reply) done; slabs = search rules; places = search rules }

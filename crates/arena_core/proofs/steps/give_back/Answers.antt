@@ -1,15 +1,6 @@
-use Rattle.arena_core.proofs.Words.{◌≡◌, ◌∙◌, ◌*◌, ◌≤◌, arith, ap, length, max, slice_set, Next, Space, after_back, all_rooms, room_of, space_of}
-use Rattle.space_model.specs.Step.{next_flight}
-use Rattle.arena_core.specs.Arenas.{emptied_by_return}
+use Rattle.arena_core.proofs.Words.{◌≡◌, ◌∙◌, ◌*◌, ◌≤◌, arith, ap, length, max, slice_set, Next, Space, after_back, all_rooms, room_of, space_of, next_flight, emptied_by_return}
 use Rattle.arena_core.proofs.RoomSums.{rooms_fewer}
-use Rattle.arena_core.proofs.Books.{booked_as}
 use Rattle.arena_core.proofs.steps.give_back.Goals as goal
-
-pub returns-in_err-make_places-clause-booked : goal.returns-in_err-make_places-clause-booked
-returns-in_err-make_places-clause-booked c = booked_as c.requires.body.booked (ap (λ a. a.space) c.make_places.ensures.standing) c.make_places.ensures.slabs
-
-pub give_back-emptied-requires-clause-booked : goal.give_back-emptied-requires-clause-booked
-give_back-emptied-requires-clause-booked c = booked_as c.requires.body.booked (ap (λ a. a.space) c.make_places.ensures.standing) c.make_places.ensures.slabs
 
 pub returns : goal.returns
 returns c =

@@ -11,16 +11,6 @@ returns-clause-ready c =
     let new = ap all_rooms (c.set.ensures ∙ (λ i. slice_set (ap (λ a. a.rooms) c.make_places.ensures.standing i) c.args.client c.max-room.result)) in
     record { places = c.in_ok-reply.ensures.places _ c.make_places.ensures.ready.places; rooms = omega (arith, new, c.in_ok-make_places.ensures.ok) }
 
-pub returns-in_err-make_places-clause-booked : goal.returns-in_err-make_places-clause-booked
-returns-in_err-make_places-clause-booked c = booked_as c.requires.body.booked (ap (λ a. a.space) c.make_places.ensures.standing) c.make_places.ensures.slabs
-
-pub returns-in_err-reply-clause-booked : goal.returns-in_err-reply-clause-booked
-returns-in_err-reply-clause-booked c =
-    booked_as c.requires.body.booked (c.in_err-reply.ensures.err ∙ ap (λ a. a.space) c.make_places.ensures.standing) (c.in_err-reply.ensures.same ∙ c.make_places.ensures.slabs)
-
-pub begin-requires-clause-booked : goal.begin-requires-clause-booked
-begin-requires-clause-booked c = booked_as c.requires.body.booked (ap (λ a. a.space) c.make_places.ensures.standing) c.make_places.ensures.slabs
-
 pub returns-clause-booked : goal.returns-clause-booked
 returns-clause-booked c =
     let op = c.args.op.now in

@@ -4,14 +4,6 @@ use Rattle.arena_core.proofs.Books.{booked_as}
 use Rattle.arena_core.proofs.RoomSums.{rooms_with}
 use Rattle.arena_core.proofs.steps.use_up.Goals as goal
 
-pub set-requires-clause-fits : goal.set-requires-clause-fits
-set-requires-clause-fits c =
-    omega (arith, rooms_with c.args.body.now.rooms c.args.client (c.of-room.result - 1) (omega (arith, c.requires.client, c.requires.body.clients)), c.of-room.ensures.room, c.of-room.ensures.total)
-
-pub overflow_sub-body : goal.overflow_sub-body
-overflow_sub-body c =
-    omega (arith, rooms_with c.args.body.now.rooms c.args.client (c.of-room.result - 1) (omega (arith, c.requires.client, c.requires.body.clients)), c.of-room.ensures.room, c.requires.room, c.requires.body.ready.rooms)
-
 pub returns-clause-ready : goal.returns-clause-ready
 returns-clause-ready c =
     let ready = c.args.body.now.ready in
