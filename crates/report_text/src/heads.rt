@@ -5,7 +5,7 @@ ghost use Rattle.report_text.specs.Heads.{head_word, head_name};
 
 use crate::rows::Row;
 
-/// How long a name is that has room in a row.
+/// How many bytes a name has at most that is laid in a row.
 const SHORT_NAME: usize = 32;
 
 /// What names a call in its line: its first word, and behind it the name that a malloc or a memalign binds.
@@ -66,7 +66,7 @@ pub(crate) fn word(head: Head<'_>) -> &'static str
     }
 }
 
-/// Whether a call binds no name, or one that has room in a row.
+/// Whether a call binds no name, or one that is short enough for a row.
 #[inline(always)]
 pub(crate) fn has_short_name(head: Head<'_>) -> bool
     ensures { result ≡ true → length (head_name head.entry) ≤ 33 }

@@ -29,7 +29,7 @@ pub fn call_line(
 ) -> Result<(), NoMemory>
     ensures { OnOk result (out.new.items ≡ out.old.items ++ call_line client head.entry answered.now) }
 {
-    // Of most calls the line is laid in a row, and put behind the others at once.
+    // Most lines are laid in a row, and put behind the others at once.
     if !has_short_name(head) {
         return rare_line(out, client, head, answered);
     }
@@ -85,7 +85,7 @@ fn write_ended(out: &mut Vec<u8>, head: Head<'_>, answered: &Answered) -> Result
     }
 }
 
-/// Lays a region and the end of the line.
+/// Lays the answer of a region, with the space before it and the newline behind it.
 #[inline(always)]
 fn lay_region(row: &mut Row, addr: u64, class: u8)
     requires { row.old ≡ [] }
