@@ -50,6 +50,7 @@ impl Names {
     /// Binds the name of a malloc or a memalign whose answer gives a region to the region's address. Other calls bind none.
     ///
     /// An `Err` says that a new name found no memory, and leaves the names as they were.
+    #[inline(always)]
     pub fn bind_answer(&mut self, verb: Verb, answer: Answered) -> Result<(), NoMemory>
         ensures bound { OnOk result (self.new ≡ names_ended self.old verb answer) }
         ensures err { OnErr result (self.new ≡ self.old) }

@@ -1,7 +1,12 @@
 //! Which call a line is about.
 
-ghost use Rattle.std.specs.Prelude.{◌≡◌};
-ghost use Rattle.report_text.specs.Heads.{head_word};
+ghost use Rattle.std.specs.Prelude.{◌≡◌, ◌≤◌, ◌++◌, true, length};
+ghost use Rattle.report_text.specs.Heads.{head_word, head_name};
+
+use crate::rows::Row;
+
+/// How many bytes a name has at most that is laid in a row.
+const SHORT_NAME: usize = 32;
 
 /// What names a call in its line: its first word, and behind it the name that a malloc or a memalign binds.
 #[derive(Clone, Copy)]
@@ -58,5 +63,38 @@ pub(crate) fn word(head: Head<'_>) -> &'static str
         Head::Arena => "arena",
         Head::Cache => "cache",
         Head::Flush => "flush",
+    }
+}
+
+/// Whether a call binds no name, or one that is short enough for a row.
+#[inline(always)]
+pub(crate) fn has_short_name(head: Head<'_>) -> bool
+    ensures { result ≡ true → length (head_name head.entry) ≤ 33 }
+{
+    match head {
+        Head::Malloc(name) | Head::Memalign(name) => name.len() <= SHORT_NAME,
+        _ => true,
+    }
+}
+
+/// Lays the first word of a call, and the name that it binds.
+#[inline(always)]
+pub(crate) fn lay_head(row: &mut Row, head: Head<'_>)
+    requires name { length (head_name head) ≤ 33 }
+    requires room { length row.old ≤ 40 }
+    ensures laid { row.new ≡ head_word head.entry ++ head_name head.entry ++ row.old }
+    ensures room { length row.new ≤ 81 }
+{
+    match head {
+        Head::Malloc(name) => {
+            row.lay_text(name);
+            row.lay_text(b"malloc ");
+        }
+        Head::Memalign(name) => {
+            row.lay_text(name);
+            row.lay_text(b"memalign ");
+        }
+        Head::Free => row.lay_text(b"free"),
+        _ => row.lay_text(word(head).as_bytes()),
     }
 }

@@ -10,6 +10,7 @@ mod counts;
 mod heads;
 mod lines;
 mod places;
+mod rows;
 
 pub use causes::Cause;
 pub use heads::Head;

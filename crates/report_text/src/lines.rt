@@ -1,25 +1,20 @@
 //! The lines of a report. Each is written behind what the buffer has. Where memory runs out, its beginning may be there.
 
-ghost use Rattle.std.specs.Prelude.{◌≡◌, ◌<◌, ◌++◌, false, drop, OnOk};
-ghost use Rattle.std.specs.Fmt.{decimal, digit_glyph};
+ghost use Rattle.std.specs.Prelude.{◌≡◌, ◌≤◌, ◌++◌, [], codes, length, OnOk};
 ghost use Rattle.call_plan.specs.declared.needs.Given.{Given};
 ghost use Rattle.report_text.specs.Heads.{head_name};
 ghost use Rattle.report_text.specs.Answers.{ended_text, given_text};
-ghost use Rattle.report_text.specs.Places.{hexadecimal};
 ghost use Rattle.report_text.specs.Lines.{newline, call_line, turn_line, ask_line, idle_line, counts_line, no_arena_line, bad_line, usage_line};
 
 use crate::answers::{AnswerText, SaidText, kind, size};
 use crate::counts::{MappedText, UnusedText, UsedText};
-use crate::heads::word;
+use crate::heads::{has_short_name, lay_head, word};
+use crate::rows::Row;
 use crate::{Cause, Head};
 use call_plan::{Answered, Given};
-use itoa::Buffer;
 use space_model::{Answer, Ask, Counts};
 use std::alloc::AllocError as NoMemory;
 use std::io::{Error, Write};
-
-/// How many hexadecimal digits a number of 64 bits has at most.
-const MOST_DIGITS: usize = 16;
 
 /// The line of a call that has ended: `tC`, its first word, the name that it binds, if it does, and its answer.
 ///
@@ -34,10 +29,36 @@ pub fn call_line(
 ) -> Result<(), NoMemory>
     ensures { OnOk result (out.new.items ≡ out.old.items ++ call_line client head.entry answered.now) }
 {
-    out.push(b't')?;
-    write_decimal(out, u64::from(client))?;
-    out.push(b' ')?;
-    out.extend_from_slice(word(head).as_bytes())?;
+    // Most lines are laid in a row, and put behind the others at once.
+    if !has_short_name(head) {
+        return rare_line(out, client, head, answered);
+    }
+    let mut row = Row::new();
+    match (head, answered) {
+        (Head::Take, Answered::Ok(Given::Region { .. })) => row.lay_text(b" ok\n"),
+        (_, Answered::Ok(Given::Done)) => row.lay_text(b" ok\n"),
+        (_, Answered::Ok(Given::Region { addr, class })) => lay_region(&mut row, *addr, *class),
+        _ => return rare_line(out, client, head, answered),
+    }
+    lay_head(&mut row, head);
+    row.lay(b' ');
+    row.lay_decimal(u64::from(client));
+    row.lay(b't');
+    out.extend_from_slice(row.as_slice())
+}
+
+/// The same for any answer, by its format, and for a name of any length.
+#[inline(never)]
+#[tactic(auto, unfolding(crate::specs::Lines::call_line))]
+fn rare_line(
+    out: &mut Vec<u8>,
+    client: u32,
+    head: Head<'_>,
+    answered: &Answered,
+) -> Result<(), NoMemory>
+    ensures { OnOk result (out.new.items ≡ out.old.items ++ call_line client head.entry answered.now) }
+{
+    write!(out, "t{client} {}", word(head)).map_err(no_memory)?;
     write_name(out, head)?;
     out.push(b' ')?;
     write_ended(out, head, answered)?;
@@ -55,69 +76,27 @@ fn write_name(out: &mut Vec<u8>, head: Head<'_>) -> Result<(), NoMemory>
     Ok(())
 }
 
-/// The answers that calls have most are written by hand, the others by their format.
 fn write_ended(out: &mut Vec<u8>, head: Head<'_>, answered: &Answered) -> Result<(), NoMemory>
     ensures { OnOk result (out.new.items ≡ out.old.items ++ ended_text head.entry answered.now) }
 {
     match (head, answered) {
         (Head::Take, Answered::Ok(Given::Region { .. })) => out.extend_from_slice(b"ok"),
-        (_, Answered::Ok(Given::Done)) => out.extend_from_slice(b"ok"),
-        (_, Answered::Ok(Given::Region { addr, class })) => write_region(out, *addr, *class),
         (_, answered) => write!(out, "{}", AnswerText(*answered)).map_err(no_memory),
     }
 }
 
-fn write_region(out: &mut Vec<u8>, addr: u64, class: u8) -> Result<(), NoMemory>
-    ensures { OnOk result (out.new.items ≡ out.old.items ++ given_text (Given.Region addr class)) }
-{
-    out.push(b'@')?;
-    write_hexadecimal(out, addr)?;
-    out.push(b' ')?;
-    write_decimal(out, size(class))
-}
-
-/// The digits are written by hand, since almost every line of a trace has an address.
-fn write_hexadecimal(out: &mut Vec<u8>, number: u64) -> Result<(), NoMemory>
-    ensures { OnOk result (out.new.items ≡ out.old.items ++ hexadecimal number) }
-{
-    let mut digits = [0; MOST_DIGITS];
-    let first = lay_digits(&mut digits, number);
-    out.extend_from_slice(&digits[first..])
-}
-
-/// Lays a number's hexadecimal digits at the end of an array, and gives where they begin.
-fn lay_digits(digits: &mut [u8; MOST_DIGITS], number: u64) -> usize
-    ensures within { result < 16 }
-    ensures laid { drop result digits.new ≡ hexadecimal number }
-{
-    let mut rest = number;
-    let mut first = MOST_DIGITS - 1;
-    while rest >= 16 {
-        digits[first] = digit(rest % 16);
-        rest /= 16;
-        first -= 1;
-    }
-    digits[first] = digit(rest);
-    first
-}
-
-/// The hexadecimal digit of a number below 16.
-fn digit(value: u64) -> u8
-    requires { value < 16 }
-    ensures { result ≡ digit_glyph false value }
-{
-    if value < 10 {
-        b'0' + value as u8
-    } else {
-        b'a' - 10 + value as u8
-    }
-}
-
+/// Lays the answer of a region, with the space before it and the newline behind it.
 #[inline(always)]
-fn write_decimal(out: &mut Vec<u8>, number: u64) -> Result<(), NoMemory>
-    ensures { OnOk result (out.new.items ≡ out.old.items ++ decimal number) }
+fn lay_region(row: &mut Row, addr: u64, class: u8)
+    requires { row.old ≡ [] }
+    ensures laid { row.new ≡ codes " " ++ given_text (Given.Region addr class) ++ newline }
+    ensures room { length row.new ≤ 40 }
 {
-    out.extend_from_slice(Buffer::new().format(number).as_bytes())
+    row.lay(b'\n');
+    row.lay_decimal(size(class));
+    row.lay(b' ');
+    row.lay_hexadecimal(addr);
+    row.lay_text(b" @");
 }
 
 /// Growing the buffer is all that can fail.

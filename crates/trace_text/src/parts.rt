@@ -56,6 +56,7 @@ pub fn is(word: &[u8], text: &str) -> bool
 
 /// The name of a region: a lower-case letter and up to 31 lower-case letters, digits or `_`.
 #[tactic(auto, unfolding(crate::specs::Names::name_of))]
+#[inline(always)]
 pub fn name(alloc: Global, word: &[u8]) -> Result<Name, LineFault>
     ensures { Gives result (name_of word.now) }
 {

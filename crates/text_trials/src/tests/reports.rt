@@ -57,6 +57,9 @@ fn prints_regions(rt: HostRuntime) -> Result<(), Fail> {
     let alloc = rt.alloc();
     let want = "t7 malloc a_1 @200000 20480\n";
     prints(&rt, alloc, Head::Malloc(b"a_1"), region(), want)?;
+    let long = Head::Memalign(b"a_name_of_three_and_thirty_bytes_");
+    let want = "t7 memalign a_name_of_three_and_thirty_bytes_ @200000 20480\n";
+    prints(&rt, alloc, long, region(), want)?;
     prints(&rt, alloc, Head::Take, region(), "t7 take ok\n")
 }
 
