@@ -1,7 +1,7 @@
 -- A request begins, and so does a heap.
 use Rattle.heap_core.proofs.Words.{◌≡◌, ◌≤◌, ◌<◌, ℕ, ◌+◌, List, None, Result, Ok, Err, OnOk, OnErr, length, replicate, slice_set, [], ◌∷◌, ◌++◌, length-append, refl, sym, ap, subst, ◌∙◌, arith, get_or-replicate, length-replicate, replicate-append-replicate, set-get_or, Request, IsInRange, begin, IsArenas, opening_records, owed_to, IsHeap, owing, Record, Seat, asked_for, first_seat, seat_at, seat_of, IsSeated, SeatSound}
 use Rattle.heap_core.proofs.Asking.{owed_begun}
-use Rattle.heap_core.proofs.Changes.{heap_seated}
+use Rattle.heap_core.proofs.Changes.{heap_changed, seated_stays}
 use Rattle.heap_core.proofs.Sitting.{opening-sits, starts-sit}
 
 -- a free of a region of another client is in range too
@@ -19,7 +19,7 @@ start_heap records seats owed c request asked (Ok told) old seat heap arenas few
     let may : IsInRange asked = subst IsInRange (sym is) (asked_in_range seats c request range) in
     let came = starts-sit records c desk asked arenas few sat may in
     let begun : seat ≡ seat_of c (begin asked desk) = ok ∙ ap (λ (s : Seat). seat_of c (begin asked s.desk)) same in
-    heap_seated records seats owed owed c seat heap few (λ o differ. refl) (subst (SeatSound records c) (sym begun) came.1)
+    heap_changed records records seats owed owed c seat heap few (seated_stays records owed owed c (λ o differ. refl)) (subst (SeatSound records c) (sym begun) came.1)
     (subst (λ (s : Seat). owing records c s.call ≤ owed_to owed c) (sym begun) (owed_begun records c (owed_to owed c) asked desk))
 
 -- one more client of a new heap

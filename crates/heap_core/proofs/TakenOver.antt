@@ -3,7 +3,7 @@ use Rattle.heap_core.proofs.Words.{inl, ◌≡◌, ◌≢◌, ◌≤◌, ◌<◌
 use Rattle.heap_core.specs.declared.heaps.Stepped.{Stepped}
 use Rattle.heap_core.proofs.Asking.{few_asks}
 use Rattle.heap_core.proofs.Clients.{at_or_else}
-use Rattle.heap_core.proofs.Changes.{heap_seated, heap_turned, room_elsewhere}
+use Rattle.heap_core.proofs.Changes.{heap_changed, room_elsewhere, seated_stays, turned_stays}
 use Rattle.heap_core.proofs.Sitting.{aims-sit, holders-publish}
 use Rattle.heap_core.proofs.Wanting.{some_has, taken_is}
 
@@ -52,7 +52,8 @@ publish_heap records records' seats owed owed' holder region told seat heap aren
     let owes : owing then holder new.call ≤ owed_to owed' holder =
     owes_then records then region.arena holder (owed_to owed holder) (owed_to owed' holder) (seat_at seats holder).call (heap.promised holder few) made.kept enough
     (λ i far. room_elsewhere records region.arena holder i holder (Publish region.addr) None arenas led.1 (λ same. absurd (far (sym same)))) in
-    let done : IsHeap then (slice_set seats holder new) owed' = heap_turned records seats owed owed' holder region.arena (Publish region.addr) None new heap arenas few led.1 led.2 made.others led.3 owes in
+    let done : IsHeap then (slice_set seats holder new) owed' = 
+    heap_changed records then seats owed owed' holder new heap few (turned_stays records owed owed' holder region.arena (Publish region.addr) None arenas led.1 led.2 made.others) led.3 owes in
     subst (λ rs. IsHeap rs (slice_set seats holder seat) owed') (sym made.after) (subst (λ s. IsHeap then (slice_set seats holder s) owed') (sym is) done)
 
 -- where memory is wanting, places may have been promised
@@ -105,7 +106,7 @@ aim_heap records seats owed c arena seat heap few there takes is =
     let sits : SitsAt records c old.desk (aimed t.call arena) (published_next t.call.stage.next) =
     subst (λ next. SitsAt records c old.desk (aimed t.call arena) (published_next next)) (sym t.goes) (aims-sit records c t.addr t.call.stage.arena arena old.desk t.call.request there t.sits) in
     let owes : asks_next (room_in records arena c) (published_next t.call.stage.next) ≤ owed_to owed c = subst (λ next. asks_next (room_in records arena c) (published_next next) ≤ owed_to owed c) (sym t.goes) (omega arith) in
-    heap_seated records seats owed owed c seat heap few (λ o differ. refl) (subst (SeatSound records c) (sym same) (t.client, sits)) (subst (λ (s : Seat). owing records c s.call ≤ owed_to owed c) (sym same) owes)
+    heap_changed records records seats owed owed c seat heap few (seated_stays records owed owed c (λ o differ. refl)) (subst (SeatSound records c) (sym same) (t.client, sits)) (subst (λ (s : Seat). owing records c s.call ≤ owed_to owed c) (sym same) owes)
 
 -- ---- the whole step
 

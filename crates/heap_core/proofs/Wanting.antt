@@ -1,5 +1,5 @@
 -- What a client's open call wants, and where a step for it leads.
-use Rattle.heap_core.proofs.Words.{inl, inr, ◌≡◌, ◌⊎◌, ◌≤◌, ◌<◌, ℕ, ◌+◌, true, false, List, Option, None, Some, IfSome, IsSomeAnd, is_some, refl, sym, ap, subst, ◌∙◌, arith, Shelf, opens, Item, Told, Starved, Answered, NoMemory, Owning, Point, Turns, Next, Go, More, Ends, Ask, Op, AskFacts, DeskFacts, Need, NeedsTurn, NeedsAsk, Turn, CallFacts, moment_of, desk_fed, NeedIs, NeedsWant, heard_next, taken_next, Moment, after, moved, starved_after, step_next, Want, WantTurn, WantAsk, is_marked, step, want, room_in, FedTo, never_starves, HeapFacts, IsStepFor, IsStep, IsSure, SureAt, SureFor, WantedAt, asks_at, asks_next, owing, Record, Seat, answer_of, heard_by, seat_at, seat_of, IsSeated, SeatSound, Sits, SitsAt, IsMarked, Needs, StarvesAt, StarvesNext}
+use Rattle.heap_core.proofs.Words.{inl, inr, ◌≡◌, ◌⊎◌, ◌≤◌, ◌<◌, ℕ, ◌+◌, true, false, List, Option, None, Some, IfSome, IsSomeAnd, is_some, refl, sym, ap, subst, ◌∙◌, arith, Shelf, opens, Item, Told, Starved, Answered, NoMemory, Owning, Point, Turns, Next, Go, More, Ends, Ask, Op, AskFacts, DeskFacts, Need, NeedsTurn, NeedsAsk, Turn, CallFacts, moment_of, desk_fed, Goes, NeedIs, NeedsWant, heard_next, taken_next, Moment, after, moved, starved_after, step_next, Want, WantTurn, WantAsk, is_marked, step, want, room_in, FedTo, never_starves, HeapFacts, IsStepFor, IsStep, IsSure, SureAt, SureFor, WantedAt, asks_at, asks_next, owing, Record, Seat, answer_of, heard_by, seat_at, seat_of, IsSeated, SeatSound, Sits, SitsAt, IsMarked, Needs, StarvesAt, StarvesNext}
 use Rattle.heap_core.specs.declared.heaps.Stepped.{Stepped}
 
 -- ---- the point of an open call
@@ -111,22 +111,28 @@ step_made h records shelf shelf' c wants arena stepped new w made =
     (subst (λ next. WantedAt next (λ want. IsStepFor h shelf c w.call want stepped new shelf')) (sym w.goes)
     (subst (λ want. IsStepFor h shelf c w.call want stepped new shelf') (sym w.want_is) made))
 
--- what an item leaves of the client's call
-pub fed_at : (records : List Record) (c : ℕ) (seat : Seat) (wants : Want) (arena : ℕ) (item : Item) (ended : Option Answered) (new : Seat) (w : Wanted records c seat wants arena) →
-    IfSome seat.call (λ call. FedTo call seat.desk item ended new) →
-    ((new ≡ seat_of c (after (moment_of w.call seat.desk) item)) × (ended ≡ answer_of (after (moment_of w.call seat.desk) item)))
-    ⊎ ((new ≡ seat_of c (starved_after (moment_of w.call seat.desk) item)) × (ended ≡ Some NoMemory) × (step w.point item ≡ More))
-fed_at records c seat wants arena item ended new w fed =
-    by (subst (λ call. IfSome call (λ call. FedTo call seat.desk item ended new)) w.is fed)
-  where
-    seated : (m : Moment) → new ≡ seat_of w.call.client m → new ≡ seat_of c m
-    seated m is = is ∙ ap (λ k. seat_of k m) w.client
+-- a client may be fed an item, and was fed one that told it this and left it so
+abbrev pub GoesOn : Item → Seat → Type 0
+GoesOn item seat = IsSomeAnd seat.call (λ call. Goes (after (moment_of call seat.desk) item).stage.next)
 
-    by : FedTo w.call seat.desk item ended new →
-        ((new ≡ seat_of c (after (moment_of w.call seat.desk) item)) × (ended ≡ answer_of (after (moment_of w.call seat.desk) item)))
-        ⊎ ((new ≡ seat_of c (starved_after (moment_of w.call seat.desk) item)) × (ended ≡ Some NoMemory) × (step w.point item ≡ More))
-    by (inl (is, told)) = inl (seated (after (moment_of w.call seat.desk) item) is, told)
-    by (inr (is, told, more)) = inr (seated (starved_after (moment_of w.call seat.desk) item) is, told, subst (λ next. step_next next item ≡ More) w.goes more)
+abbrev pub IsFed : Item → Option Answered → Seat → Seat → Type 0
+IsFed item ended new seat = IfSome seat.call (λ call. FedTo call seat.desk item ended new)
+
+-- what an item leaves of a client and tells it: the call goes on or has its answer, or no memory is left for what goes back next
+abbrev pub FedAs : ℕ → Moment → Next → Item → Option Answered → Seat → Type 0
+FedAs c at next item ended new = ((new ≡ seat_of c (after at item)) × (ended ≡ answer_of (after at item))) ⊎ ((new ≡ seat_of c (starved_after at item)) × (ended ≡ Some NoMemory) × (step_next next item ≡ More))
+
+pub fed_at : (records : List Record) (c : ℕ) (seat : Seat) (wants : Want) (arena : ℕ) (item : Item) (ended : Option Answered) (new : Seat) (w : Wanted records c seat wants arena) →
+    IsFed item ended new seat → FedAs c (moment_of w.call seat.desk) (Go w.point) item ended new
+fed_at records c seat wants arena item ended new w fed =
+    let at : Moment = moment_of w.call seat.desk in
+    subst (λ next. FedAs c at next item ended new) w.goes
+    (subst (λ k. FedAs k at w.call.stage.next item ended new) w.client (subst (λ call. IfSome call (λ call. FedTo call seat.desk item ended new)) w.is fed))
+
+-- what the call was promised is what may be asked at its point
+pub asks_promised : (records : List Record) (c n : ℕ) (seat : Seat) (wants : Want) (arena : ℕ) (w : Wanted records c seat wants arena) → owing records c seat.call ≤ n → asks_at (room_in records w.call.stage.arena c) w.point ≤ n
+asks_promised records c n seat wants arena w promised =
+    subst (λ next. asks_next (room_in records w.call.stage.arena c) next ≤ n) w.goes (subst (λ call. owing records c call ≤ n) w.is promised)
 
 -- ---- a turn that finds no memory
 
@@ -151,7 +157,7 @@ starved_ends records c seat op asked arena w marked =
 
 -- what it leaves of its client
 pub starved_at : (records : List Record) (c : ℕ) (seat : Seat) (op : Op) (asked : Option AskFacts) (arena : ℕ) (ended : Option Answered) (new : Seat) (w : Wanted records c seat (WantTurn op asked) arena) →
-    is_marked op ≡ true → IfSome seat.call (λ call. FedTo call seat.desk Starved ended new) → (new ≡ seat_of c (after (moment_of w.call seat.desk) Starved)) × (ended ≡ Some NoMemory)
+    is_marked op ≡ true → IsFed Starved ended new seat → (new ≡ seat_of c (after (moment_of w.call seat.desk) Starved)) × (ended ≡ Some NoMemory)
 starved_at records c seat op asked arena ended new w marked fed =
     let ends : after (moment_of w.call seat.desk) Starved ≡ starved_after (moment_of w.call seat.desk) Starved = starved_ends records c seat op asked arena w marked in
     elim (fed_at records c seat (WantTurn op asked) arena Starved ended new w fed) [
@@ -174,8 +180,7 @@ pub owed_asked : (records : List Record) (c n : ℕ) (seat : Seat) (ask : Ask) (
     owing records c (seat_of c (after (moment_of w.call seat.desk) (Told asked))).call ≤ n
 owed_asked records c n seat ask asked arena w few =
     let at : Moment = moment_of w.call seat.desk in
-    let here : asks_at (room_in records at.stage.arena c) w.point ≤ n + 1 =
-    subst (λ next. asks_next (room_in records at.stage.arena c) next ≤ n + 1) w.goes (subst (λ call. owing records c call ≤ n + 1) w.is few) in
+    let here = asks_promised records c (n + 1) seat (WantAsk ask) arena w few in
     subst (λ next. owing records c (seat_of c (moved at.request (desk_fed at.desk at.stage.arena at.stage.next (Told asked)) at.stage.arena next)).call ≤ n)
     (sym (ap (λ next. step_next next (Told asked)) w.goes)) (owed_told records c n at w.point ask asked w.want_is here)
 
@@ -224,7 +229,3 @@ sure_made h new c wants arena w sure =
 -- one that may find no memory takes some
 pub starving_sure : (h new : HeapFacts) (c : ℕ) → Starving h.records c (seat_at h.seats c) → IsSure h c (seat_at h.seats c).call new
 starving_sure h new c s = sure_made h new c (WantTurn s.op s.asked) s.arena s.wants (λ unmarked. let marked = s.marked in absurd (cc))
-
--- an operation of a call that takes no memory is not the first of a unit
-pub unmarked_opens : (point : Point) (op : Op) (asked : Option AskFacts) → want point ≡ WantTurn op asked → is_marked op ≡ false → opens op ≡ false
-unmarked_opens point op asked wants is = grind (arith, opens_marked point op asked wants)
