@@ -22,12 +22,6 @@ start_heap records seats owed c request asked (Ok told) old seat heap arenas few
     heap_changed records records seats owed owed c seat heap few (seated_stays records owed owed c (λ o differ. refl)) (subst (SeatSound records c) (sym begun) came.1)
     (subst (λ (s : Seat). owing records c s.call ≤ owed_to owed c) (sym begun) (owed_begun records c (owed_to owed c) asked desk))
 
--- one more client of a new heap
-pub one_more : (seats seats' : List Seat) → seats ≡ replicate (length seats) first_seat → seats' ≡ seats ++ first_seat ∷ [] → seats' ≡ replicate (length seats') first_seat
-one_more seats seats' was is =
-    let long : length seats' ≡ length seats + 1 = ap length is ∙ length-append seats (first_seat ∷ []) in
-    is ∙ ap (λ s. s ++ first_seat ∷ []) was ∙ replicate-append-replicate (length seats) 1 first_seat ∙ sym (ap (λ n. replicate n first_seat) long)
-
 -- a new heap is as it has to be
 pub opening_heap_is : (records : List Record) (seats : List Seat) (owed : List ℕ) → records ≡ opening_records → seats ≡ replicate 32 first_seat → IsHeap records seats owed
 opening_heap_is records seats owed begun is = subst (λ rs. IsHeap rs seats owed) (sym begun) (record {

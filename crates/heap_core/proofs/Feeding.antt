@@ -10,11 +10,6 @@ room_kept c room hand at next kept is has = grind arith
 pub started_open : (c : ℕ) (at : Moment) (next : Next) → started c at None next ≡ open_call c at next
 started_open c at next = grind arith
 
--- and has room for the region that it may get
-pub room_started : {A E : Type 0} (begun : Result A E) (c room : ℕ) (hand : Option Held) (at : Moment) (was kept : Option CallFacts) → was ≡ None → OnOk begun (kept ≡ started c at was at.stage.next) →
-    OnErr begun (kept ≡ was) → OnOk begun (HasRoomToHold hand room at.stage.next) → IfSome kept (λ call. HasRoomToHold hand room call.stage.next)
-room_started begun c room hand at was kept none ok err has = grind (arith, room_kept, started_open)
-
 -- What the call and its client's desk are after an item is what the client is then.
 pub fed_to : {A E : Type 0} (seat : Seat) (desk desk' : DeskFacts) (call call' : CallFacts) (item : Item) (named : Result A E) (place : Option CallFacts) (ended : Option Answered) →
     record { desk = desk; call = Some call } ≡ seat → call'.client ≡ call.client → OnOk named (moment_of call' desk' ≡ after (moment_of call desk) item) →

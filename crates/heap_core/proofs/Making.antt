@@ -1,5 +1,5 @@
 -- What a turn, an ask or the want of memory leaves of a heap, and what a step then tells.
-use Rattle.heap_core.proofs.Words.{inl, inr, ◌≡◌, ◌≢◌, ◌⊎◌, ◌≤◌, ◌<◌, ℕ, ◌+◌, Bool, true, false, List, Option, None, Some, Result, Ok, Err, IfSome, IsOk, IsSomeAnd, slice_set, refl, sym, ap, subst, ◌∙◌, arith, ◌++◌, ◌∷◌, [], AskStep, Shelf, opens, Ask, AnswersTo, Op, Point, Next, Go, Want, Reply, AskFacts, Replied, Told, Starved, Answered, NoMemory, More, Item, moment_of, Goes, Moment, after, starved_after, step_next, WantTurn, WantAsk, is_marked, step, IsArenas, record_at, reply_in, room_in, spaces_of, with_chunk_found, CanTurn, after_turn, FedTo, HeapFacts, IsStarved, IsStep, IsSure, answered_by, holder_for, replied, starved_on, told_to, turned_for, turned_on, unnamed_on, DidTurn, DidAsk, owed_to, IsHeap, asks_at, asks_next, owing, Record, Seat, answer_of, seat_at, seat_of, Comes, SeatSound, TurnFacts, MadeTurn, item_of}
+use Rattle.heap_core.proofs.Words.{inl, inr, ◌≡◌, ◌≢◌, ◌⊎◌, ◌≤◌, ◌<◌, ℕ, ◌+◌, Bool, true, false, List, Option, None, Some, Result, Ok, Err, IfSome, IsOk, IsSomeAnd, slice_set, refl, sym, ap, subst, ◌∙◌, arith, ◌++◌, ◌∷◌, [], AskStep, Shelf, opens, Ask, AnswersTo, Op, Point, Next, Go, Want, Reply, AskFacts, Replied, Told, Starved, Answered, NoMemory, More, Item, moment_of, Goes, CallFacts, want, Moment, after, starved_after, step_next, WantTurn, WantAsk, is_marked, step, IsArenas, record_at, reply_in, room_in, spaces_of, with_chunk_found, CanTurn, after_turn, FedTo, HeapFacts, IsStarved, IsStep, IsSure, answered_by, holder_for, replied, starved_on, told_to, turned_for, turned_on, unnamed_on, DidTurn, DidAsk, owed_to, IsHeap, asks_at, asks_next, owing, Record, Seat, answer_of, seat_at, seat_of, Comes, SeatSound, TurnFacts, MadeTurn, item_of}
 use Rattle.heap_core.proofs.Asking.{owed_after}
 use Rattle.heap_core.proofs.Changes.{Stays, heap_changed, room_used, seated_stays, turned_stays}
 use Rattle.heap_core.proofs.Sitting.{asks-sit, starves-sit, turns-sit}
@@ -52,14 +52,6 @@ starve_leads records owed owed' c seat arenas few others s =
       stays = seated_stays records owed owed' c others;
     }
 
-pub starve_done : (h : HeapFacts) (c : ℕ) (seat : Seat) (ended : Option Answered) (s : Starving h.records c (seat_at h.seats c)) → IsFed Starved ended seat (seat_at h.seats c) →
-    IsDone h c ended (record h { seats = slice_set h.seats c seat })
-starve_done h c seat ended s fed =
-    let starved = starved_at h.records c (seat_at h.seats c) s.op s.asked s.arena ended seat s.wants s.marked fed in
-    let new : HeapFacts = record h { seats = slice_set h.seats c seat } in
-    let same : new ≡ starved_on h c s.wants.call = (λ i. record h { seats = slice_set h.seats c (starved.0 i) }) in
-    (λ shelf. step_made h h.records shelf shelf c (WantTurn s.op s.asked) s.arena (record { did = DidTurn; ended = ended }) new s.wants (refl, refl, inr (inl (s.marked, same), starved.1)), starving_sure h new c s)
-
 -- ---- a turn
 
 module _ (h : HeapFacts) (c : ℕ) (op : Op) (asked : Option AskFacts) (arena : ℕ) (arenas : IsArenas h.records) (few : c < 32) (w : Wanted h.records c (seat_at h.seats c) (WantTurn op asked) arena) where
@@ -81,9 +73,6 @@ module _ (h : HeapFacts) (c : ℕ) (op : Op) (asked : Option AskFacts) (arena : 
   -- it can be made
   pub turn_can : CanTurn h.records c arena op asked
   turn_can = subst (λ a. CanTurn h.records c a op asked) (sym w.arena_is) led.0
-
-  pub turn_there : arena < 32
-  turn_there = subst (λ a. a < 32) (sym w.arena_is) w.sits.waits.there
 
   -- there are places for all asks after it
   places : (owed owed' : List ℕ) → owing h.records c (seat_at h.seats c).call ≤ owed_to owed c → owed_to owed c ≤ owed_to owed' c → (opens op ≡ true → room_in then there c + 1 ≤ owed_to owed' c) →
@@ -125,39 +114,14 @@ module _ (h : HeapFacts) (c : ℕ) (op : Op) (asked : Option AskFacts) (arena : 
             stays = turned_stays h.records owed owed' c there op asked arenas w.sits.waits.there led.0 is.others;
           }))
 
-  -- a turn that takes no memory is made
-  pub turn_done : {E : Type 0} (made : Result Reply E) (records' : List Record) (owed owed' : List ℕ) (seat : Seat) (ended : Option Answered) → holder_for h w.call ≡ None → Made made records' owed owed' arena →
-      IsFed (item_of made) ended seat (seat_at h.seats c) → IsDone h c ended (record { records = records'; seats = slice_set h.seats c seat; heard = h.heard })
-  turn_done made records' owed owed' seat ended free is fed = by made (subst (Made made records' owed owed') w.arena_is is) fed
-    where
-      new : HeapFacts
-      new = record { records = records'; seats = slice_set h.seats c seat; heard = h.heard }
-
-      so : (told : Reply) → told ≡ reply → records' ≡ then → FedAs c at (Go w.point) (Replied told) ended seat → ((new ≡ turned_for h c w.call op asked (holder_for h w.call)) × (ended ≡ answered_by h c w.call op (holder_for h w.call)))
-          ⊎ (IsStarved h c w.call op asked new × (ended ≡ Some NoMemory))
-      so told answer moved (inl (same, e)) =
-          let seated : seat ≡ seat_of c (after at (Replied reply)) = same ∙ ap (λ r. seat_of c (after at (Replied r))) answer in
-          let is_new : new ≡ turned_on h c w.call op asked = (λ i. record { records = moved i; seats = slice_set h.seats c (seated i); heard = h.heard }) in
-          inl (is_new ∙ ap (turned_for h c w.call op asked) (sym free), (e ∙ ap (λ r. answer_of (after at (Replied r))) answer) ∙ ap (answered_by h c w.call op) (sym free))
-      so told answer moved (inr (same, e, more)) =
-          let seated : seat ≡ seat_of c (starved_after at (Replied reply)) = same ∙ ap (λ r. seat_of c (starved_after at (Replied r))) answer in
-          let is_new : new ≡ unnamed_on h c w.call op asked = (λ i. record { records = moved i; seats = slice_set h.seats c (seated i); heard = h.heard }) in
-          inr (inr (free, ap (λ next. step_next next (replied h c w.call op)) w.goes ∙ (ap (λ r. step w.point (Replied r)) (sym answer) ∙ more), is_new), e)
-
-      by : {E : Type 0} (made : Result Reply E) → Made made records' owed owed' there → IsFed (item_of made) ended seat (seat_at h.seats c) → IsDone h c ended new
-      by (Err error) is fed = subst (λ rs. IsDone h c ended (record { records = rs; seats = slice_set h.seats c seat; heard = h.heard })) (sym is.err) (starve_done h c seat ended (starving_for (marked_for error records' owed owed' is)) fed)
-      by (Ok told) is fed =
-          let made_so = so told is.reply is.after (fed_at h.records c (seat_at h.seats c) (WantTurn op asked) arena (Replied told) ended seat w fed) in
-          (λ shelf. step_made h h.records shelf shelf c (WantTurn op asked) arena (record { did = DidTurn; ended = ended }) new w (refl, refl, made_so), sure_made h new c (WantTurn op asked) arena w (λ unmarked. is.after))
+-- a step tells what came of the turn, and a turn that takes no memory is made
+pub turn_done : {E : Type 0} (made : Result Reply E) (h : HeapFacts) (call : CallFacts) (c arena : ℕ) (op : Op) (asked : Option AskFacts) (point : Point) (records' : List Record) (owed owed' : List ℕ) (seat : Seat) (ended : Option Answered) → (seat_at h.seats c).call ≡ Some call → call.client ≡ c →
+    arena ≡ call.stage.arena → call.stage.next ≡ Go point → want point ≡ WantTurn op asked → holder_for h call ≡ None → MadeTurn h.records owed (record { arena = arena; client = c; op = op; asked = asked }) made records' owed' →
+    FedTo call (seat_at h.seats c).desk (item_of made) ended seat → IsDone h c ended (record { records = records'; seats = slice_set h.seats c seat; heard = h.heard })
+turn_done (Ok told) h call c arena op asked point records' owed owed' seat ended is client there goes wants free made fed = (λ shelf. grind arith, grind arith)
+turn_done (Err error) h call c arena op asked point records' owed owed' seat ended is client there goes wants free made fed = (λ shelf. grind (arith, opens_marked), grind (arith, opens_marked))
 
 -- ---- an ask
-
--- a place is promised for it
-pub ask_place : (records : List Record) (seats : List Seat) (owed : List ℕ) (c arena : ℕ) (ask : Ask) → IsHeap records seats owed → c < 32 → Wanted records c (seat_at seats c) (WantAsk ask) arena → 0 < owed_to owed c
-ask_place records seats owed c arena ask heap few w =
-    let here = asks_promised records c (owed_to owed c) (seat_at seats c) (WantAsk ask) arena w (heap.promised c few) in
-    let some = ask_some (room_in records w.call.stage.arena c) w.point ask w.want_is in
-    omega (arith, here, some)
 
 -- it always leads on
 pub ask_leads : (records : List Record) (owed owed' : List ℕ) (c arena : ℕ) (seat : Seat) (ask : Ask) (asked : AskFacts) → IsArenas records → c < 32 → (w : Wanted records c seat (WantAsk ask) arena) → asked.ask ≡ ask → AnswersTo asked.ask asked.answer →
@@ -168,18 +132,3 @@ ask_leads records owed owed' c arena seat ask asked arenas few w is answers othe
   owes = owed_asked records c (owed_to owed' c) seat ask asked arena w (omega (arith, promised, one));
   stays = seated_stays records owed owed' c others;
 }
-
--- and what the step tells is what was asked and answered
-pub ask_done : (h : HeapFacts) (heard' : List AskFacts) (c arena : ℕ) (ask : Ask) (asked : AskFacts) (seat : Seat) (ended : Option Answered) (shelf shelf' : Shelf) → heard' ≡ h.heard ++ asked ∷ [] → (w : Wanted h.records c (seat_at h.seats c) (WantAsk ask) arena) →
-    asked.ask ≡ ask → AskStep shelf asked shelf' → asked.box_no ≡ (record_at h.records arena).space.box_no → IsFed (Told asked) ended seat (seat_at h.seats c) →
-    IsStep h shelf c (seat_at h.seats c).call (record { did = DidAsk; ended = ended }) (record { records = h.records; seats = slice_set h.seats c seat; heard = heard' }) shelf'
-ask_done h heard' c arena ask asked seat ended shelf shelf' joins w is step box fed =
-    elim (fed_at h.records c (seat_at h.seats c) (WantAsk ask) arena (Told asked) ended seat w fed) [
-      | inl told ↦
-          let same : new ≡ told_to h c w.call asked = (λ i. record { records = h.records; seats = slice_set h.seats c (told.0 i); heard = joins i }) in
-          step_made h h.records shelf shelf' c (WantAsk ask) arena (record { did = DidAsk; ended = ended }) new w (asked, refl, is, box ∙ ap (λ a. (record_at h.records a).space.box_no) w.arena_is, step, same, told.1)
-      | inr off ↦ absurd (told_on w.point ask asked w.want_is off.2)
-    ]
-  where
-    new : HeapFacts
-    new = record { records = h.records; seats = slice_set h.seats c seat; heard = heard' }

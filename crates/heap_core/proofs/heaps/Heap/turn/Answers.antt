@@ -1,7 +1,7 @@
-use Rattle.heap_core.proofs.Words.{None, IfSome, slice_set, subst, sym, HeapFacts, seat_at, HolderIs, TurnFacts, WantTurn, item_of, replied_by, with_ask}
+use Rattle.heap_core.proofs.Words.{None, FedTo, IfSome, slice_set, subst, sym, HeapFacts, seat_at, HolderIs, TurnFacts, WantTurn, item_of, replied_by, with_ask}
 use Rattle.heap_core.proofs.Changes.{seat_is}
-use Rattle.heap_core.proofs.Making.{IsDone, led_goes, led_heap, turn_can, turn_done, turn_leads, turn_there}
-use Rattle.heap_core.proofs.Wanting.{GoesOn, IsFed, Wanted, turn_calls, turn_seen}
+use Rattle.heap_core.proofs.Making.{IsDone, led_goes, led_heap, turn_can, turn_done, turn_leads}
+use Rattle.heap_core.proofs.Wanting.{GoesOn, IsFed, Wanted, turn_seen}
 use Rattle.heap_core.proofs.heaps.Heap.turn.Goals as goal
 use Rattle.heap_core.proofs.heaps.Heap.turn.Goals.{After-feed, After-heard-asked}
 
@@ -20,17 +20,9 @@ fed : (c : After-feed) → IsFed (item_of (replied_by c.make_turn-made.result c.
 fed c = subst (IsFed (item_of (replied_by c.make_turn-made.result c.make_turn-made.new.reply)) c.feed.new.ended c.feed.new.self)
     (seat_is _ c.args.turn.now.client _ c.self.invariant.number c.requires.client c.index_mut.ensures.value) (subst (λ item. IsFed item c.feed.new.ended c.feed.new.self c.index_mut.result.now) c.item_of.ensures c.feed.ensures)
 
-pub heard-asked-requires : goal.heard-asked-requires
-heard-asked-requires c =
-    turn_calls _ _ c.args.turn.now c.index.result.now c.self.view_is c.requires.needs (seat_is _ c.args.turn.now.client c.index.result.now c.self.invariant.number c.requires.client c.index.ensures)
-
-pub make_turn-made-requires : goal.make_turn-made-requires
-make_turn-made-requires c =
-    let at = (goal.at.make_turn-made-requires c).After-heard-asked in record {
-      arena = turn_there (heap at) _ _ _ _ c.are_apart.ensures.arenas c.requires.client (wanted at);
-      client = c.requires.client;
-      can = turn_can (heap at) _ _ _ _ c.are_apart.ensures.arenas c.requires.client (wanted at);
-    }
+pub make_turn-made-requires-clause-can : goal.make_turn-made-requires-clause-can
+make_turn-made-requires-clause-can c =
+    let at = (goal.at.make_turn-made-requires-clause-can c).After-heard-asked in turn_can (heap at) _ _ _ _ c.are_apart.ensures.arenas c.requires.client (wanted at)
 
 pub feed-requires : goal.feed-requires
 feed-requires c =
@@ -58,7 +50,8 @@ returns c =
     let w = wanted at.After-heard-asked in
     let made = replied_by c.make_turn-made.result c.make_turn-made.new.reply in
     let free = subst (λ k. IfSome k (λ call. HolderIs h call None)) w.is (subst (λ (h : HeapFacts). IfSome (seat_at h.seats client).call (λ call. HolderIs h call None)) (sym c.self.view_is) c.requires.free) in
+    let told = subst (λ k. IfSome k (λ call. FedTo call (seat_at h.seats client).desk (item_of made) c.feed.new.ended c.feed.new.self)) w.is (fed at.After-feed) in
     let done = subst (λ heard. IsDone h client c.feed.new.ended (record { records = c.make_turn-made.new.arenas; seats = slice_set h.seats client c.feed.new.self; heard = heard })) (sym c.make_turn-made.ensures.asks)
-    (turn_done h client _ _ _ c.are_apart.ensures.arenas c.requires.client w made _ _ _ c.feed.new.self c.feed.new.ended free c.make_turn-made.ensures.turn (fed at.After-feed)) in
+    (turn_done made h w.call client _ _ _ w.point _ _ _ c.feed.new.self c.feed.new.ended w.is w.client w.arena_is w.goes w.want_is free c.make_turn-made.ensures.turn told) in
     let seen = subst (λ now. IsDone now client c.feed.new.ended (record { records = c.make_turn-made.new.arenas; seats = slice_set h.seats client c.feed.new.self; heard = c.make_turn-made.new.log.asks })) c.self.view_is done in
     record { step = seen.0; sure = seen.1 }
