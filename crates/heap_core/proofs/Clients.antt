@@ -142,17 +142,4 @@ turns-lead_on records c arena point op asked is few waits wants = (
 -- ---- the ask that a call wants
 
 pub asks-lead_on : AsksLeadOn
-asks-lead_on records c arena (Asks point None) asked is waits wants kind =
-    let same : ask_at point ≡ asked.ask = cc in record {
-      there = waits.there;
-      knows = (waits.knows.0, (sym same, subst (λ a. AnswersTo a asked.answer) (sym same) kind));
-      elsewhere = waits.elsewhere;
-      room = waits.room;
-    }
-asks-lead_on records c arena (Tells span b) asked is waits wants kind = record {
-  there = waits.there;
-  knows = waits.knows;
-  elsewhere = waits.elsewhere;
-  room = omega arith;
-}
-asks-lead_on records c arena point asked is waits wants kind = absurd (cc)
+asks-lead_on records c arena point asked is waits wants kind = grind arith

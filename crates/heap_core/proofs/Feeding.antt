@@ -16,16 +16,5 @@ pub fed_to : {A E : Type 0} (seat : Seat) (desk desk' : DeskFacts) (call call' :
     OnErr named (moment_of call' desk' ≡ starved_after (moment_of call desk) item) → OnErr named (step_next call.stage.next item ≡ More) →
     place ≡ open_call call'.client (moment_of call' desk') call'.stage.next → ended ≡ ended_by call'.stage.next →
     IfSome seat.call (λ k. FedTo k seat.desk item ended (record { desk = desk'; call = place }))
-fed_to seat desk desk' call call' item named place ended view client ok err more kept answer = subst (λ (s : Seat). IfSome s.call (λ k. FedTo k s.desk item ended (record { desk = desk'; call = place }))) view (by named ok err more)
-  where
-    seated : (m : Moment) → moment_of call' desk' ≡ m → record { desk = desk'; call = place } ≡ seat_of call.client m
-    seated m is = ap (λ (k : Option CallFacts). record { desk = desk'; call = k }) kept ∙ ap (λ c. seat_of c (moment_of call' desk')) client ∙ ap (seat_of call.client) is
-
-    told : (m : Moment) → moment_of call' desk' ≡ m → ended ≡ answer_of m
-    told m is = answer ∙ ap answer_of is
-
-    by : {A E : Type 0} (named : Result A E) → OnOk named (moment_of call' desk' ≡ after (moment_of call desk) item) →
-        OnErr named (moment_of call' desk' ≡ starved_after (moment_of call desk) item) → OnErr named (step_next call.stage.next item ≡ More) →
-        FedTo call desk item ended (record { desk = desk'; call = place })
-    by (Ok named) ok err more = inl (seated (after (moment_of call desk) item) ok, told (after (moment_of call desk) item) ok)
-    by (Err error) ok err more = inr (seated (starved_after (moment_of call desk) item) err, told (starved_after (moment_of call desk) item) err, more)
+fed_to seat desk desk' call call' item (Ok named) place ended view client ok err more kept answer = grind arith
+fed_to seat desk desk' call call' item (Err error) place ended view client ok err more kept answer = grind arith

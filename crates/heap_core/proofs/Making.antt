@@ -3,7 +3,7 @@ use Rattle.heap_core.proofs.Words.{inl, inr, ◌≡◌, ◌≢◌, ◌⊎◌, �
 use Rattle.heap_core.proofs.Asking.{owed_after}
 use Rattle.heap_core.proofs.Changes.{Stays, heap_changed, room_used, seated_stays, turned_stays}
 use Rattle.heap_core.proofs.Sitting.{asks-sit, starves-sit, turns-sit}
-use Rattle.heap_core.proofs.Wanting.{FedAs, GoesOn, IsFed, Starving, Wanted, ask_some, asks_promised, fed_at, opens_marked, owed_asked, room_asked, starved_at, starved_ends, starving_sure, step_made, sure_made, told_on}
+use Rattle.heap_core.proofs.Wanting.{FedAs, GoesOn, IsFed, Starving, Wanted, asks_promised, fed_at, opens_marked, owed_asked, room_asked, starved_ends, told_on}
 
 -- ---- what an item leaves
 

@@ -75,11 +75,7 @@ either : (a b : Bool) → (a || b) ≡ true → (a ≡ true) ⊎ (b ≡ true)
 either a b h = grind arith
 
 granted_or : (page : ℕ) (before : Bool) (op : Op) (reply : Reply) → granted_by page before op reply ≡ true → (before ≡ true) ⊎ Comes page op reply
-granted_or page before (GrowDone heard found) (Grown span committed) h = either before (has_page page span) h
-granted_or page before (OfferDone heard found) Kept h = either before (is_in_dalloc page heard.ask) h
-granted_or page before (Offer span) reply h = inl (both_true before (not (has_page page span)) h).0
-granted_or page before DestroyTake (Doomed span committed) h = inl (both_true before (not (has_page page span)) h).0
-granted_or page before op reply h = inl h
+granted_or page before op reply h = grind (arith, either)
 
 -- where a page was at most once, it was as often as one test tells
 one_or_none : (n : ℕ) → n ≤ 1 → n ≡ ones (nat_lt 0 n)

@@ -5,7 +5,7 @@ use Rattle.heap_core.proofs.Asking.{few_asks}
 use Rattle.heap_core.proofs.Clients.{at_or_else}
 use Rattle.heap_core.proofs.Changes.{heap_changed, room_elsewhere, seated_stays, turned_stays}
 use Rattle.heap_core.proofs.Sitting.{aims-sit, holders-publish}
-use Rattle.heap_core.proofs.Wanting.{some_has, taken_is}
+use Rattle.heap_core.proofs.Wanting.{some_has}
 
 -- ---- the holder
 
@@ -30,10 +30,7 @@ few_next room next = grind (arith, few_asks)
 -- the asks of its own call still have places, wherever that stands
 owes_then : (records records' : List Record) (arena c n n' : ℕ) (call : Option CallFacts) → owing records c call ≤ n → n ≤ n' → room_in records' arena c + 1 ≤ n' →
     ((i : ℕ) → i ≢ arena → room_in records' i c ≡ room_in records i c) → owing records' c call ≤ n'
-owes_then records records' arena c n n' None was more enough same = omega arith
-owes_then records records' arena c n n' (Some call) was more enough same =
-    at_or_else (λ i. asks_next (room_in records' i c) call.stage.next ≤ n') call.stage.arena arena (λ here. let few = few_next (room_in records' arena c) call.stage.next in omega (arith, few, enough))
-    (λ far. let is = ap (λ room. asks_next room call.stage.next) (same call.stage.arena far) in omega (arith, is, was, more))
+owes_then records records' arena c n n' call was more enough same = grind (arith, few_next)
 
 -- what it may do
 pub holder_led : (records : List Record) (seats : List Seat) (owed : List ℕ) (holder : ℕ) (region : Held) → IsHeap records seats owed → IsArenas records → holder < 32 → held_at region.addr (seat_at seats holder).desk ≡ Some region →

@@ -98,10 +98,7 @@ FedAs c at next item ended new = ((new ≡ seat_of c (after at item)) × (ended 
 
 pub fed_at : (records : List Record) (c : ℕ) (seat : Seat) (wants : Want) (arena : ℕ) (item : Item) (ended : Option Answered) (new : Seat) (w : Wanted records c seat wants arena) →
     IsFed item ended new seat → FedAs c (moment_of w.call seat.desk) (Go w.point) item ended new
-fed_at records c seat wants arena item ended new w fed =
-    let at : Moment = moment_of w.call seat.desk in
-    subst (λ next. FedAs c at next item ended new) w.goes
-    (subst (λ k. FedAs k at w.call.stage.next item ended new) w.client (subst (λ call. IfSome call (λ call. FedTo call seat.desk item ended new)) w.is fed))
+fed_at records c seat wants arena item ended new w fed = let same = w.is in let client = w.client in let goes = w.goes in grind arith
 
 -- what the call was promised is what may be asked at its point
 pub asks_promised : (records : List Record) (c n : ℕ) (seat : Seat) (wants : Want) (arena : ℕ) (w : Wanted records c seat wants arena) → owing records c seat.call ≤ n → asks_at (room_in records w.call.stage.arena c) w.point ≤ n
@@ -131,11 +128,7 @@ starved_ends records c seat op asked arena w marked =
 
 -- ---- an ask
 
--- a place is promised for it
-pub ask_some : (room : ℕ) (point : Point) (ask : Ask) → want point ≡ WantAsk ask → 0 < asks_at room point
-ask_some room point ask wants = grind arith
-
--- which it takes
+-- it takes one of the places that were promised
 owed_told : (records : List Record) (c n : ℕ) (at : Moment) (point : Point) (ask : Ask) (asked : AskFacts) → want point ≡ WantAsk ask → asks_at (room_in records at.stage.arena c) point ≤ n + 1 →
     owing records c (seat_of c (moved at.request (desk_fed at.desk at.stage.arena at.stage.next (Told asked)) at.stage.arena (step point (Told asked)))).call ≤ n
 owed_told records c n at point ask asked wants few = grind arith
@@ -152,12 +145,6 @@ owed_asked records c n seat ask asked arena w few =
 pub told_on : (point : Point) (ask : Ask) (asked : AskFacts) → want point ≡ WantAsk ask → step point (Told asked) ≡ More → ⊥
 told_on point ask asked wants more = grind arith
 
--- ---- a region that is taken over
-
-pub taken_is : (next : Next) (addr : ℕ) → taken_next next ≡ Some addr → next ≡ Go (Turns (Owning addr true false))
-taken_is (Go (Turns (Owning at true false))) addr is = ap (λ a. Go (Turns (Owning a true false))) (cc)
-taken_is next addr is = absurd (cc)
-
 -- ---- whose turn it is
 
 pub turn_client : (records : List Record) (c : ℕ) (seat : Seat) (turn : Turn) → SeatSound records c seat → Needs seat.call (NeedsTurn turn) → turn.client ≡ c
@@ -170,8 +157,4 @@ turn_client records c seat turn sound needs =
 -- what a client's call told is what it needs, seen of the heap
 pub turn_told : (h now : HeapFacts) (c : ℕ) (turn : Turn) (seat : Seat) (call : CallFacts) (need : Need) → h ≡ now → SeatSound h.records c (seat_at h.seats c) → seat ≡ seat_at h.seats c →
     seat.call ≡ Some call → NeedIs call.client call.stage.arena call.stage.next need → need ≡ NeedsTurn turn → Needs (seat_at now.seats turn.client).call (NeedsTurn turn)
-turn_told h now c turn seat call need view sound at is told same =
-    let here : Needs (seat_at h.seats c).call (NeedsTurn turn) =
-    subst (λ (s : Seat). Needs s.call (NeedsTurn turn)) at (subst (λ k. Needs k (NeedsTurn turn)) (sym is) (subst (NeedIs call.client call.stage.arena call.stage.next) same told)) in
-    subst (λ (n : HeapFacts). Needs (seat_at n.seats turn.client).call (NeedsTurn turn)) view
-    (subst (λ k. Needs (seat_at h.seats k).call (NeedsTurn turn)) (sym (turn_client h.records c (seat_at h.seats c) turn sound here)) here)
+turn_told h now c turn seat call need view sound at is told same = grind (arith, turn_client)
