@@ -1,5 +1,5 @@
 -- A request begins, and so does a heap.
-use Rattle.heap_core.proofs.Words.{◌≡◌, ◌≤◌, ◌<◌, ℕ, ◌+◌, List, None, Result, Ok, Err, OnOk, OnErr, length, replicate, slice_set, [], ◌∷◌, ◌++◌, length-append, refl, sym, ap, subst, ◌∙◌, arith, get_or-replicate, length-replicate, replicate-append-replicate, set-get_or, Request, IsInRange, begin, IsArenas, opening_records, owed_to, IsHeap, owing, Record, Seat, asked_for, first_seat, seat_at, seat_of, IsSeated, SeatSound}
+use Rattle.heap_core.proofs.Words.{◌≡◌, ◌≤◌, ◌<◌, ℕ, List, None, Result, Ok, Err, OnOk, OnErr, length, replicate, slice_set, refl, sym, ap, subst, ◌∙◌, arith, get_or-replicate, length-replicate, set-get_or, Request, IsInRange, begin, IsArenas, opening_records, owed_to, IsHeap, owing, Record, Seat, asked_for, first_seat, seat_at, seat_of, IsSeated, SeatSound}
 use Rattle.heap_core.proofs.Asking.{owed_begun}
 use Rattle.heap_core.proofs.Changes.{heap_changed, seated_stays}
 use Rattle.heap_core.proofs.Sitting.{opening-sits, starts-sit}

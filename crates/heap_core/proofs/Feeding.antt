@@ -1,5 +1,5 @@
 -- What is kept of a call that was fed.
-use Rattle.heap_core.proofs.Words.{arith, inl, inr, ◌≡◌, ℕ, Option, None, Some, Result, Ok, Err, OnOk, OnErr, IfSome, subst, ◌∙◌, ap, Held, DeskFacts, Item, Answered, Next, More, CallFacts, HasRoomToHold, moment_of, started, ended_by, Moment, after, starved_after, step_next, FedTo, Seat, answer_of, open_call, seat_of}
+use Rattle.heap_core.proofs.Words.{arith, ◌≡◌, ℕ, Option, None, Some, Result, Ok, Err, OnOk, OnErr, IfSome, Held, DeskFacts, Item, Answered, Next, More, CallFacts, HasRoomToHold, moment_of, started, ended_by, Moment, after, starved_after, step_next, FedTo, Seat, open_call}
 
 -- a call that is kept has room for the region that it may get
 pub room_kept : (c room : ℕ) (hand : Option Held) (at : Moment) (next : Next) (kept : Option CallFacts) → kept ≡ open_call c at next → HasRoomToHold hand room at.stage.next →

@@ -1,9 +1,9 @@
 -- What a turn, an ask or the want of memory leaves of a heap, and what a step then tells.
-use Rattle.heap_core.proofs.Words.{inl, inr, ◌≡◌, ◌≢◌, ◌⊎◌, ◌≤◌, ◌<◌, ℕ, ◌+◌, Bool, true, false, List, Option, None, Some, Result, Ok, Err, IfSome, IsOk, IsSomeAnd, slice_set, refl, sym, ap, subst, ◌∙◌, arith, ◌++◌, ◌∷◌, [], AskStep, Shelf, opens, Ask, AnswersTo, Op, Point, Next, Go, Want, Reply, AskFacts, Replied, Told, Starved, Answered, NoMemory, More, Item, moment_of, Goes, CallFacts, want, Moment, after, starved_after, step_next, WantTurn, WantAsk, is_marked, step, IsArenas, record_at, reply_in, room_in, spaces_of, with_chunk_found, CanTurn, after_turn, FedTo, HeapFacts, IsStarved, IsStep, IsSure, answered_by, holder_for, replied, starved_on, told_to, turned_for, turned_on, unnamed_on, DidTurn, DidAsk, owed_to, IsHeap, asks_at, asks_next, owing, Record, Seat, answer_of, seat_at, seat_of, Comes, SeatSound, TurnFacts, MadeTurn, item_of}
+use Rattle.heap_core.proofs.Words.{inl, inr, ◌≡◌, ◌≢◌, ◌≤◌, ◌<◌, ℕ, ◌+◌, Bool, true, false, List, Option, None, Some, Result, Ok, Err, IsSomeAnd, slice_set, refl, sym, ap, subst, ◌∙◌, arith, Shelf, opens, Ask, AnswersTo, Op, Point, Go, Want, Reply, AskFacts, Replied, Told, Starved, Answered, More, Item, moment_of, Goes, CallFacts, want, Moment, after, starved_after, WantTurn, WantAsk, is_marked, step, IsArenas, reply_in, room_in, spaces_of, with_chunk_found, CanTurn, after_turn, FedTo, HeapFacts, IsStep, IsSure, holder_for, DidTurn, owed_to, IsHeap, owing, Record, Seat, seat_at, seat_of, Comes, SeatSound, MadeTurn, item_of}
 use Rattle.heap_core.proofs.Asking.{owed_after}
 use Rattle.heap_core.proofs.Changes.{Stays, heap_changed, room_used, seated_stays, turned_stays}
 use Rattle.heap_core.proofs.Sitting.{asks-sit, starves-sit, turns-sit}
-use Rattle.heap_core.proofs.Wanting.{FedAs, GoesOn, IsFed, Starving, Wanted, asks_promised, fed_at, opens_marked, owed_asked, room_asked, starved_ends, told_on}
+use Rattle.heap_core.proofs.Wanting.{GoesOn, IsFed, Starving, Wanted, asks_promised, fed_at, opens_marked, owed_asked, room_asked, starved_ends, told_on}
 
 -- ---- what an item leaves
 

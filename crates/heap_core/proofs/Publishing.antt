@@ -1,5 +1,5 @@
 -- A client may publish a region that it holds at any moment.
-use Rattle.heap_core.proofs.Words.{rules, ◌≡◌, ◌≢◌, inl, inr, ℕ, ◌*◌, ◌<◌, ◌≤◌, ◌==◌, ◌&&◌, ◌||◌, Bool, true, cond, IsTrue, List, [], ◌∷◌, Option, None, Some, length, max, refl, sym, ◌∙◌, ap, subst, arith, lt-ltb, count_by, list_any, get_or-set_same, All-cons, All-nil, sum_by-cons, Publish, holds_at, is_live, emptied_by_op, room_after, room_of, not_holding, Request, Flush, Wish, Then, Change, TurnPoint, Filling, Looking, Landing, Giving, Finding, Resetting, Destroying, Dooming, Publishing, AskPoint, Skipping, Point, Turns, Asks, Tells, Next, Go, Op, Setting, Space, Part, Span, Mine, mine, Held, DeskFacts, BatchFacts, held_at, CallFacts, Alone, Flies, Settled, in_flight, Gets, GivesBack, HasOffered, Idle, Knows, KnowsAsk, KnowsTurn, HasPair, is_held, KnowsNext, Ready, flying, needed_at, batch_goes, stage, batches-know, live_where, region_found, IsArenas, record_after, record_at, room_in, CanTurn, IsIdle, after_turn, mine_in, Record, AimsSit, HasRegions, HoldersPublish, IsSeated, IsTheHand, Sits, SitsAt, Suits, SuitsAsk, SuitsChange, SuitsGet, SuitsThen, SuitsTurn, is_region, or-false}
+use Rattle.heap_core.proofs.Words.{rules, ◌≡◌, ◌≢◌, inl, inr, ℕ, ◌*◌, ◌<◌, ◌≤◌, ◌==◌, ◌&&◌, ◌||◌, Bool, true, cond, IsTrue, List, [], ◌∷◌, Option, None, Some, length, max, refl, sym, ◌∙◌, ap, subst, arith, lt-ltb, count_by, list_any, get_or-set_same, All-cons, All-nil, sum_by-cons, Publish, holds_at, is_live, emptied_by_op, room_after, room_of, not_holding, Request, Flush, Wish, Then, Change, TurnPoint, Filling, Looking, Landing, Giving, Resetting, Destroying, Publishing, AskPoint, Skipping, Point, Turns, Asks, Tells, Next, Go, Op, Setting, Space, Part, Span, Mine, mine, Held, DeskFacts, BatchFacts, held_at, CallFacts, Alone, Flies, Gets, GivesBack, HasOffered, Idle, Knows, KnowsAsk, KnowsTurn, HasPair, is_held, KnowsNext, Ready, flying, needed_at, batch_goes, stage, batches-know, live_where, region_found, IsArenas, record_after, record_at, room_in, CanTurn, IsIdle, after_turn, mine_in, Record, AimsSit, HasRegions, HoldersPublish, IsSeated, IsTheHand, Sits, SitsAt, Suits, SuitsAsk, SuitsChange, SuitsGet, SuitsThen, SuitsTurn, is_region, or-false}
 use Rattle.call_plan.proofs.Own.{Nothing}
 use Rattle.heap_core.proofs.Clients.{at_or_else, by_arena, sound_at}
 use Rattle.heap_core.proofs.Hands.{had_counts, hands_part, held_is}

@@ -1,6 +1,5 @@
 -- Which operations of an arena leave its regions and its clients alone.
-use Rattle.heap_core.proofs.Words.{◌≡◌, ℕ, true, false, cond, List, [], ◌∷◌, ◌++◌, refl, arith, nat_tests, Look, CutDone, GrowDone, CommitDone, Land, Back, PutLook, MergeDone, Fill, Advance, PurgeTake, LazyDone, Offer, OfferDone, DecommitDone, ForcedDone, Publish, TakeOver, DestroyTake, Set, with_client, after_set, step_of, Op, Setting, Unbind, DirtyMs, Bind, Space, is_in}
-use Rattle.space_model.specs.declared.entries.Op.TheVariants.{Reset, Destroy}
+use Rattle.heap_core.proofs.Words.{◌≡◌, ℕ, true, false, cond, List, [], ◌∷◌, ◌++◌, refl, arith, nat_tests, Look, CutDone, GrowDone, CommitDone, Land, PutLook, MergeDone, Advance, PurgeTake, LazyDone, Offer, OfferDone, DecommitDone, ForcedDone, DestroyTake, Set, with_client, after_set, step_of, Op, Setting, Unbind, DirtyMs, Bind, Space, is_in}
 
 -- ---- settings
 

@@ -1,5 +1,5 @@
 -- What a client has suits each point to which its call comes.
-use Rattle.heap_core.proofs.Words.{rules, ◌≡◌, ℕ, ◌<◌, ◌≤◌, true, false, List, [], ◌∷◌, None, refl, sym, ◌∙◌, subst, arith, nat_lt, cond_both, ltb-true, nat_tests, discarding, Request, Answered, Change, Stops, Visits, Leaves, TurnPoint, Filling, Looking, Landing, Changing, Making, Resetting, Owning, AskPoint, Next, Go, Over, Ends, Reply, Nothing, Noted, Took, Grow, Refuse, Landed, Regions, Owned, Setting, Bind, AskFacts, Held, DeskFacts, desk_turned, landed_behind, held_region, needed_at, make_next, told, turn_replied, HasSlots, Suits, SuitsChange, SuitsAsk, SuitsTurn, visited, Visit}
+use Rattle.heap_core.proofs.Words.{rules, ◌≡◌, ℕ, ◌<◌, ◌≤◌, true, false, List, [], ◌∷◌, None, refl, sym, ◌∙◌, subst, arith, nat_lt, cond_both, ltb-true, nat_tests, discarding, Request, Answered, Change, Leaves, TurnPoint, Filling, Landing, Changing, Making, Resetting, Owning, AskPoint, Next, Go, Over, Ends, Reply, Nothing, Noted, Landed, Regions, Owned, Setting, AskFacts, Held, DeskFacts, desk_turned, landed_behind, held_region, needed_at, make_next, told, turn_replied, HasSlots, Suits, SuitsChange, SuitsAsk, SuitsTurn, visited, Visit}
 use Rattle.heap_core.specs.Words.{Region, Ok}
 use Rattle.heap_core.proofs.Having.{CanKeep, share_stays}
 

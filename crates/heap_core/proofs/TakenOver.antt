@@ -1,10 +1,8 @@
 -- A region that its holder publishes for another client's call.
-use Rattle.heap_core.proofs.Words.{inl, ◌≡◌, ◌≢◌, ◌≤◌, ◌<◌, ℕ, ◌+◌, true, false, List, Option, None, Some, Ok, Err, IsSomeAnd, is_some, length, get_or, slice_set, refl, sym, ap, subst, ◌∙◌, arith, option_map, get_or_default, get_or-set_other, get_or-set_same, position-Some, Publish, TakeOver, Shelf, not_holding, Reply, AskFacts, Held, held_at, Owning, Turns, Next, Go, CallFacts, aimed, published_next, taken_next, IsArenas, room_in, CanTurn, after_turn, aimed_seat, HeapFacts, IsStepFor, IsStep, IsSure, SureAt, WantedAt, answered_by, holding_client, holder_for, parted, published_for, region_for, seated, turned_for, DidTurn, owed_to, IsHeap, asks_next, owing, Record, Seat, first_seat, holder_of, seat_at, IsSeated, SeatSound, Sits, SitsAt, HolderIs, IsPublished, TurnFacts, MadeTurn, StarvesAt, StarvesNext, TakesAt, records_turned, region_in_seat}
-use Rattle.heap_core.specs.declared.heaps.Stepped.{Stepped}
+use Rattle.heap_core.proofs.Words.{◌≡◌, ◌≢◌, ◌≤◌, ◌<◌, ℕ, ◌+◌, false, List, Option, None, Some, Ok, IsSomeAnd, is_some, get_or, slice_set, refl, sym, ap, subst, ◌∙◌, arith, get_or_default, position-Some, Publish, not_holding, Reply, Held, held_at, Next, CallFacts, taken_next, IsArenas, room_in, CanTurn, after_turn, HeapFacts, holding_client, holder_for, owed_to, IsHeap, asks_next, owing, Record, Seat, first_seat, holder_of, seat_at, SeatSound, HolderIs, TurnFacts, MadeTurn, region_in_seat}
 use Rattle.heap_core.proofs.Asking.{few_asks}
-use Rattle.heap_core.proofs.Clients.{at_or_else}
-use Rattle.heap_core.proofs.Changes.{heap_changed, room_elsewhere, seated_stays, turned_stays}
-use Rattle.heap_core.proofs.Sitting.{aims-sit, holders-publish}
+use Rattle.heap_core.proofs.Changes.{heap_changed, room_elsewhere, turned_stays}
+use Rattle.heap_core.proofs.Sitting.{holders-publish}
 use Rattle.heap_core.proofs.Wanting.{some_has}
 
 -- ---- the holder
@@ -49,7 +47,7 @@ publish_heap records records' seats owed owed' holder region told seat heap aren
     let owes : owing then holder new.call ≤ owed_to owed' holder =
     owes_then records then region.arena holder (owed_to owed holder) (owed_to owed' holder) (seat_at seats holder).call (heap.promised holder few) made.kept enough
     (λ i far. room_elsewhere records region.arena holder i holder (Publish region.addr) None arenas led.1 (λ same. absurd (far (sym same)))) in
-    let done : IsHeap then (slice_set seats holder new) owed' = 
+    let done : IsHeap then (slice_set seats holder new) owed' =
     heap_changed records then seats owed owed' holder new heap few (turned_stays records owed owed' holder region.arena (Publish region.addr) None arenas led.1 led.2 made.others) led.3 owes in
     subst (λ rs. IsHeap rs (slice_set seats holder seat) owed') (sym made.after) (subst (λ s. IsHeap then (slice_set seats holder s) owed') (sym is) done)
 

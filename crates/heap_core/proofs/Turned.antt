@@ -1,5 +1,5 @@
 -- What a turn in one of the arenas leaves of all of them.
-use Rattle.heap_core.proofs.Words.{inr, ◌≡◌, ℕ, ◌+◌, ◌/◌, ◌<◌, ◌≤◌, ◌^◌, ◌==◌, Bool, true, false, cond, List, [], Option, Result, Ok, Err, OnOk, OnErr, IfSome, IsSomeAnd, length, nat_lt, map, slice_set, get_or, refl, sym, ◌∙◌, ap, subst, arith, IsTrue, list_any, range_with_len, nat_tests, same_number_lists, get_or-map-range_with_len, get_or-range_with_len, Journal, IsByIndex, get_or_default, get_or-set_other, get_or-set_same, length-map, length-set, map-set, set-get_or, get_or-map, any_counts, chunk_span, has_page, meets, op_stands, stands, step_of, all_stand, replay, absent_space, first_space, first_replays_are_good, absent_replays_are_good, both_true, heard_in, IsKept, KeptFacts, heard_of, all_rooms, room_of, entry_of, Op, Space, Sound, AskFacts, AreRecorded, room_in, IsArenas, journal_of, no_record, opening_record, opening_records, record_after, record_at, spaces_of, Apart, owns_chunk, with_chunk_found, space_at, IsReplayed, most_room, Record, entries_of, opening_space, ◌≢◌, zero-add, cases_lt, inl}
+use Rattle.heap_core.proofs.Words.{inr, ◌≡◌, ℕ, ◌/◌, ◌<◌, ◌^◌, ◌==◌, Bool, true, false, cond, List, [], Option, Result, Ok, Err, OnOk, OnErr, length, nat_lt, map, slice_set, get_or, refl, sym, ◌∙◌, ap, subst, arith, IsTrue, list_any, range_with_len, nat_tests, same_number_lists, get_or-map-range_with_len, get_or-range_with_len, Journal, IsByIndex, get_or_default, get_or-set_other, get_or-set_same, length-map, length-set, map-set, set-get_or, get_or-map, any_counts, chunk_span, has_page, meets, op_stands, stands, step_of, all_stand, replay, absent_space, first_space, first_replays_are_good, absent_replays_are_good, both_true, KeptFacts, entry_of, Op, Space, Sound, AskFacts, AreRecorded, IsArenas, journal_of, no_record, opening_record, opening_records, record_after, record_at, spaces_of, Apart, owns_chunk, with_chunk_found, space_at, IsReplayed, Record, entries_of, opening_space, ◌≢◌, zero-add, cases_lt, inl}
 pub use Rattle.std.proofs.lemmas.List.{get_or_past as past}
 use Rattle.heap_core.proofs.Owning.{apart_turn, page_owned, at_or_else}
 

@@ -1,6 +1,5 @@
 -- The turn that a call wants leads on, with all that its client has.
-use Rattle.heap_core.proofs.Words.{rules, ◌≡◌, ◌≢◌, ◌⊎◌, inl, inr, ℕ, ◌<◌, true, false, cond_both, IsTrue, List, [], ◌∷◌, Option, None, Some, Ok, Result, slice_set, refl, sym, ◌∙◌, ap, subst, arith, count_by, Set, with_setting, is_live, stands, stays, step_of, Stepped, entry_of, gave, Request, Item, Replied, Told, Starved, NoMemory, Change, Stops, Visits, Leaves, TurnPoint, Filling, Landing, Giving, Changing, Making, Resetting, Destroying, Publishing, Owning, AskPoint, Skipping, Point, Turns, Asks, Next, Go, More, Ends, Op, Reply, Noted, Landed, NextFlight, Regions, Owned, Setting, Unbind, Bind, MakeLive, Space, Mine, mine, AskFacts, Held, DeskFacts, freeing, CallFacts, desk_fed, desk_turned, landed_behind, held_region, Idle, KnowsTurn, is_of_arena, after, closed, moved, stage, step_next, WantTurn, WantAsk, done_at, is_marked, op_at, starved, step, want, IsArenas, record_after, record_at, reply_in, spaces_of, with_chunk_found, CanTurn, IsIdle, Waits, WaitsNext, after_turn, mine_in, IsReplayed, Record, seat_of, AsksSit, Comes, HasRegions, IsSeated, OthersSit, SeatSound, Sits, SitsAt, StarvesSit, Suits, SuitsChange, SuitsTurn, TurnsSit, is_region, never_starves, is_in}
-use Rattle.call_plan.specs.Words.{NoArena}
+use Rattle.heap_core.proofs.Words.{rules, ◌≡◌, ◌≢◌, ◌⊎◌, inl, inr, ℕ, ◌<◌, true, false, cond_both, IsTrue, List, [], ◌∷◌, Option, None, Some, Ok, Result, slice_set, refl, sym, ◌∙◌, ap, subst, arith, count_by, Set, is_live, stands, step_of, Stepped, entry_of, gave, Request, Item, Replied, Told, Starved, NoMemory, Change, Stops, Visits, Leaves, TurnPoint, Filling, Landing, Giving, Changing, Making, Owning, AskPoint, Skipping, Point, Turns, Asks, Next, Go, More, Ends, Op, Reply, Landed, NextFlight, Regions, Owned, Setting, Unbind, Bind, MakeLive, Space, Mine, mine, AskFacts, Held, DeskFacts, freeing, CallFacts, desk_fed, desk_turned, landed_behind, held_region, Idle, KnowsTurn, is_of_arena, after, closed, moved, stage, step_next, WantTurn, WantAsk, done_at, is_marked, op_at, starved, step, want, IsArenas, record_after, record_at, reply_in, spaces_of, with_chunk_found, CanTurn, IsIdle, Waits, WaitsNext, after_turn, mine_in, IsReplayed, Record, seat_of, AsksSit, Comes, HasRegions, IsSeated, OthersSit, SeatSound, Sits, SitsAt, StarvesSit, Suits, SuitsChange, SuitsTurn, TurnsSit, is_region, never_starves, is_in}
 use Rattle.heap_core.proofs.Carrying.{carries}
 use Rattle.heap_core.proofs.Clients.{asks-lead_on, at_or_else, elsewhere_is, others-stay, others_own, sound_at, there_is, turns-lead_on}
 use Rattle.heap_core.proofs.Having.{cache_arena, share_stays}

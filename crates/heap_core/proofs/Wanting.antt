@@ -1,6 +1,5 @@
 -- What a client's open call wants, and where a step for it leads.
-use Rattle.heap_core.proofs.Words.{inl, inr, ◌≡◌, ◌⊎◌, ◌≤◌, ◌<◌, ℕ, ◌+◌, true, false, List, Option, None, Some, IfSome, IsSomeAnd, is_some, refl, sym, ap, subst, ◌∙◌, arith, Shelf, opens, Item, Told, Starved, Answered, NoMemory, Owning, Point, Turns, Next, Go, More, Ends, Ask, Op, AskFacts, DeskFacts, Need, NeedsTurn, NeedsAsk, Turn, CallFacts, moment_of, desk_fed, Goes, NeedIs, NeedsWant, heard_next, taken_next, Moment, after, moved, starved_after, step_next, Want, WantTurn, WantAsk, is_marked, step, want, room_in, FedTo, never_starves, HeapFacts, IsStepFor, IsStep, IsSure, SureAt, SureFor, WantedAt, asks_at, asks_next, owing, Record, Seat, answer_of, heard_by, seat_at, seat_of, IsSeated, SeatSound, Sits, SitsAt, IsMarked, Needs, StarvesAt, StarvesNext}
-use Rattle.heap_core.specs.declared.heaps.Stepped.{Stepped}
+use Rattle.heap_core.proofs.Words.{◌≡◌, ◌⊎◌, ◌≤◌, ℕ, ◌+◌, true, false, List, Option, None, Some, IfSome, IsSomeAnd, refl, sym, ap, subst, ◌∙◌, arith, opens, Item, Told, Starved, Answered, NoMemory, Point, Next, Go, More, Ends, Ask, Op, AskFacts, DeskFacts, Need, NeedsTurn, NeedsAsk, Turn, CallFacts, moment_of, desk_fed, Goes, NeedIs, NeedsWant, heard_next, Moment, after, moved, starved_after, step_next, Want, WantTurn, WantAsk, is_marked, step, want, room_in, FedTo, never_starves, HeapFacts, asks_at, asks_next, owing, Record, Seat, answer_of, heard_by, seat_at, seat_of, IsSeated, SeatSound, Sits, SitsAt, IsMarked, Needs, StarvesAt, StarvesNext}
 
 -- ---- the point of an open call
 
