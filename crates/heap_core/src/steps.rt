@@ -108,7 +108,6 @@ impl Heap {
     }
 
     /// The call of a client that is about to take a region over does so in the arena with this index.
-    #[tactic(auto, using(crate::proofs::Sitting::laws))]
     fn aim(&mut self, client: u32, arena: u32)
         requires client { client < 32 }
         requires arena { arena < 32 }
