@@ -1,7 +1,7 @@
 -- A request begins, and so does a heap.
-use Rattle.heap_core.proofs.Words.{◌≡◌, ◌≤◌, ◌<◌, ℕ, ◌+◌, List, None, Result, Ok, Err, OnOk, OnErr, length, replicate, slice_set, [], ◌∷◌, ◌++◌, length-append, refl, sym, ap, subst, ◌∙◌, arith, get_or-replicate, length-replicate, replicate-append-replicate, set-get_or, Request, IsInRange, begin, IsArenas, opening_records, owed_to, IsHeap, owing, Record, Seat, asked_for, first_seat, seat_at, seat_of, IsSeated, SeatSound}
+use Rattle.heap_core.proofs.Words.{◌≡◌, ◌≤◌, ◌<◌, ℕ, List, None, Result, Ok, Err, OnOk, OnErr, length, replicate, slice_set, refl, sym, ap, subst, ◌∙◌, arith, get_or-replicate, length-replicate, set-get_or, Request, IsInRange, begin, IsArenas, opening_records, owed_to, IsHeap, owing, Record, Seat, asked_for, first_seat, seat_at, seat_of, IsSeated, SeatSound}
 use Rattle.heap_core.proofs.Asking.{owed_begun}
-use Rattle.heap_core.proofs.Changes.{heap_seated}
+use Rattle.heap_core.proofs.Changes.{heap_changed, seated_stays}
 use Rattle.heap_core.proofs.Sitting.{opening-sits, starts-sit}
 
 -- a free of a region of another client is in range too
@@ -19,14 +19,8 @@ start_heap records seats owed c request asked (Ok told) old seat heap arenas few
     let may : IsInRange asked = subst IsInRange (sym is) (asked_in_range seats c request range) in
     let came = starts-sit records c desk asked arenas few sat may in
     let begun : seat ≡ seat_of c (begin asked desk) = ok ∙ ap (λ (s : Seat). seat_of c (begin asked s.desk)) same in
-    heap_seated records seats owed owed c seat heap few (λ o differ. refl) (subst (SeatSound records c) (sym begun) came.1)
+    heap_changed records records seats owed owed c seat heap few (seated_stays records owed owed c (λ o differ. refl)) (subst (SeatSound records c) (sym begun) came.1)
     (subst (λ (s : Seat). owing records c s.call ≤ owed_to owed c) (sym begun) (owed_begun records c (owed_to owed c) asked desk))
-
--- one more client of a new heap
-pub one_more : (seats seats' : List Seat) → seats ≡ replicate (length seats) first_seat → seats' ≡ seats ++ first_seat ∷ [] → seats' ≡ replicate (length seats') first_seat
-one_more seats seats' was is =
-    let long : length seats' ≡ length seats + 1 = ap length is ∙ length-append seats (first_seat ∷ []) in
-    is ∙ ap (λ s. s ++ first_seat ∷ []) was ∙ replicate-append-replicate (length seats) 1 first_seat ∙ sym (ap (λ n. replicate n first_seat) long)
 
 -- a new heap is as it has to be
 pub opening_heap_is : (records : List Record) (seats : List Seat) (owed : List ℕ) → records ≡ opening_records → seats ≡ replicate 32 first_seat → IsHeap records seats owed

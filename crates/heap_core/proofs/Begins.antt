@@ -1,5 +1,5 @@
 -- A client that rests may begin any request.
-use Rattle.heap_core.proofs.Words.{◌≡◌, ℕ, ◌+◌, ◌/◌, ◌<◌, ◌≤◌, ◌^◌, ◌==◌, ◌&&◌, inl, true, false, not, cond, List, [], ◌∷◌, Option, None, Some, length, refl, sym, ◌∙◌, ap, subst, arith, nat_lt, lt-ltb, min, ℤ, ltb-true, nat_tests, sum_by-cons, has_slot, not_holding, Request, Malloc, Memalign, Free, FreeForeign, Take, Flush, Cache, PurgeAll, Decay, Time, Reset, Destroy, Create, HookBox, GrowLimit, Finished, TooLarge, BadAlign, NotHeld, NoArena, Automatic, Stops, Leaves, TurnPoint, Filling, Looking, Taking, Advancing, Changing, Making, Resetting, Destroying, Publishing, Owning, Turns, Next, Go, Ends, Stage, Rest, SetBox, SetBound, SetLimit, MakeLive, Held, DeskFacts, batch_of, cached_of, caching, freeing, going, going_with, held_at, hit, hitting, is_cacheable, aligned_for, class_for, slots_at, most_regions, cached_in, held_region, KnowsNext, needed_at, after_time, batch_goes, begin, begin_bind, begin_free, begin_get, begin_malloc, begin_memalign, begin_publish, begin_stage, closed, desk_freed, desk_got, desk_published, first_turn, first_turn_but_0, is_alignment, page_align, purge_visit, share, small_hit, stage, decay_setting, wish_for, begins-know, both_true, IsArenas, IsIdle, mine_in, Record, Comes, HasSlots, StartsSit, Suits, SuitsChange, SuitsTurn}
+use Rattle.heap_core.proofs.Words.{◌≡◌, ℕ, ◌+◌, ◌/◌, ◌<◌, ◌≤◌, ◌^◌, ◌==◌, ◌&&◌, inl, true, false, not, cond, cond_both, List, [], ◌∷◌, Option, None, Some, length, refl, sym, ◌∙◌, ap, subst, arith, nat_lt, lt-ltb, min, ℤ, ltb-true, nat_tests, sum_by-cons, has_slot, not_holding, Request, Malloc, Memalign, Free, FreeForeign, Take, Flush, Cache, PurgeAll, Decay, Time, Reset, Destroy, Create, HookBox, GrowLimit, Finished, TooLarge, BadAlign, NotHeld, NoArena, Automatic, Stops, Leaves, TurnPoint, Filling, Looking, Taking, Advancing, Changing, Making, Resetting, Destroying, Publishing, Owning, Turns, Next, Go, Ends, Stage, Rest, SetBox, SetBound, SetLimit, MakeLive, Held, DeskFacts, batch_of, cached_of, caching, freeing, going, going_with, held_at, hit, hitting, is_cacheable, aligned_for, class_for, slots_at, most_regions, cached_in, held_region, KnowsNext, needed_at, after_time, batch_goes, begin, begin_bind, begin_free, begin_get, begin_malloc, begin_memalign, begin_publish, begin_stage, closed, desk_freed, desk_got, desk_published, first_turn, first_turn_but_0, is_alignment, page_align, purge_visit, share, small_hit, stage, decay_setting, wish_for, begins-know, both_true, IsArenas, IsIdle, mine_in, Record, Comes, HasSlots, StartsSit, Suits, SuitsChange, SuitsTurn}
 use Rattle.heap_core.specs.Words.{Publish, Bind, Region, Ok}
 use Rattle.heap_core.proofs.Hands.{had_counts}
 use Rattle.heap_core.proofs.Having.{cache_hand, drop_over, drop_shaped, free_gains, hit_is, miss_is, of_hand}
@@ -29,18 +29,13 @@ module _ (records : List Record) (c : ℕ) (is : IsArenas records) (idle : IsIdl
     -- a turn of an arena comes first, if there may be one
     first_comes : (request : Request) (index : ℕ) (point : TurnPoint) → KnowsAt (first_turn index point) → SuitsTurn desk request index point → needed_at 0 (Turns point) ≡ 0 → Comes records c (closed request desk (first_turn index point))
     first_comes request index point knows suits none =
-        elim (nat_lt index 32) as (λ v. nat_lt index 32 ≡ v → KnowsNext (mine_in records c index) (cond v (Go (Turns point)) (Ends (NoArena index))) → Comes records c (closed request desk (stage index (cond v (Go (Turns point)) (Ends (NoArena index)))))) [
-          | true ↦ λ low knows. begins_at request desk [] index (Go (Turns point)) owns knows (refl, ltb-true index 32 low, suits, none)
-          | false ↦ λ far knows. begins_at request desk [] index (Ends (NoArena index)) owns knows refl
-        ] refl knows
+        cond_both (nat_lt index 32) _ _ (λ next. KnowsNext (mine_in records c index) next → Comes records c (closed request desk (stage index next)))
+        (λ low knows. begins_at request desk [] index (Go (Turns point)) owns knows (refl, ltb-true index 32 low, suits, none)) (λ far knows. begins_at request desk [] index (Ends (NoArena index)) owns knows refl) knows
 
     first_comes_but_0 : (request : Request) (index : ℕ) (point : TurnPoint) → KnowsAt (first_turn_but_0 index point) → SuitsTurn desk request index point → needed_at 0 (Turns point) ≡ 0 →
         Comes records c (closed request desk (first_turn_but_0 index point))
     first_comes_but_0 request index point knows suits none =
-        elim (index == 0) as (λ v. KnowsAt (cond v (stage index (Ends Automatic)) (first_turn index point)) → Comes records c (closed request desk (cond v (stage index (Ends Automatic)) (first_turn index point)))) [
-          | true ↦ λ knows. begins_at request desk [] index (Ends Automatic) owns knows refl
-          | false ↦ λ knows. first_comes request index point knows suits none
-        ] knows
+        cond_both (index == 0) _ _ (λ at. KnowsAt at → Comes records c (closed request desk at)) (λ _ knows. begins_at request desk [] index (Ends Automatic) owns knows refl) (λ _ knows. first_comes request index point knows suits none) knows
 
     -- ---- regions that are got
 
@@ -73,13 +68,11 @@ module _ (records : List Record) (c : ℕ) (is : IsArenas records) (idle : IsIdl
         let count : ℕ = share class desk in
         let least : ℕ = min count (most_regions class) in
         let fewer : min count (most_regions class) ≤ count = omega arith in
-        elim (nat_lt class 36) as (λ v. nat_lt class 36 ≡ v → KnowsNext (mine_in records c desk.arena) (cond v (Go (Turns (Filling (wish_for class align least) count))) (Go (Turns (Looking (wish_for class align least))))) →
-        Comes records c (closed request desk (stage desk.arena (cond v (Go (Turns (Filling (wish_for class align least) count))) (Go (Turns (Looking (wish_for class align least)))))))) [
-          | true ↦ λ e knows. begins_at request desk [] desk.arena (Go (Turns (Filling (wish_for class align least) count))) owns knows
-              (refl, owns.low, (record { empty = empty; own = refl; slots = share_slots class (λ small. missed small refl) }, fewer), refl)
-          | false ↦ λ e knows. begins_at request desk [] desk.arena (Go (Turns (Looking (wish_for class align least)))) owns knows
-              (refl, owns.low, record { empty = empty; own = refl; slots = fewer_slots desk class least count fewer (share_slots class (λ small. missed small refl)) }, refl)
-        ] refl knows
+        cond_both (nat_lt class 36) _ _ (λ next. KnowsNext (mine_in records c desk.arena) next → Comes records c (closed request desk (stage desk.arena next)))
+        (λ e knows. begins_at request desk [] desk.arena (Go (Turns (Filling (wish_for class align least) count))) owns knows
+        (refl, owns.low, (record { empty = empty; own = refl; slots = share_slots class (λ small. missed small refl) }, fewer), refl))
+        (λ e knows. begins_at request desk [] desk.arena (Go (Turns (Looking (wish_for class align least)))) owns knows
+        (refl, owns.low, record { empty = empty; own = refl; slots = fewer_slots desk class least count fewer (share_slots class (λ small. missed small refl)) }, refl)) knows
 
     malloc_comes : (size : ℕ) → KnowsAt (begin_malloc size desk) → Comes records c (begin (Malloc size) desk)
     malloc_comes size knows =
@@ -157,11 +150,8 @@ module _ (records : List Record) (c : ℕ) (is : IsArenas records) (idle : IsIdl
 
     bind_comes : (index : ℕ) → KnowsAt (begin_bind desk.arena index) → Comes records c (closed (Bind index) desk (begin_bind desk.arena index))
     bind_comes index knows =
-        elim (index == desk.arena) as (λ v. (index == desk.arena) ≡ v → KnowsAt (cond v (stage desk.arena (Ends (Ok Finished))) (first_turn index (Changing SetBound (Leaves desk.arena)))) →
-        Comes records c (closed (Bind index) desk (cond v (stage desk.arena (Ends (Ok Finished))) (first_turn index (Changing SetBound (Leaves desk.arena)))))) [
-          | true ↦ λ e knows. begins_at (Bind index) desk [] desk.arena (Ends (Ok Finished)) owns knows (refl, can_keep desk empty)
-          | false ↦ λ e knows. first_comes (Bind index) index (Changing SetBound (Leaves desk.arena)) knows (empty, (refl, λ same. grind (arith, nat_tests))) refl
-        ] refl knows
+        cond_both (index == desk.arena) _ _ (λ at. KnowsAt at → Comes records c (closed (Bind index) desk at)) (λ e knows. begins_at (Bind index) desk [] desk.arena (Ends (Ok Finished)) owns knows (refl, can_keep desk empty))
+        (λ e knows. first_comes (Bind index) index (Changing SetBound (Leaves desk.arena)) knows (empty, (refl, λ same. grind (arith, nat_tests))) refl) knows
 
     -- ---- any request
 

@@ -1,12 +1,12 @@
 -- What a turn of a client does to the regions that it holds, and to those that it has.
-use Rattle.heap_core.proofs.Words.{◌≡◌, ◌≢◌, ℕ, ◌+◌, ◌-◌, ◌*◌, ◌<◌, ◌≤◌, ◌==◌, ◌&&◌, Bool, true, false, cond, List, [], ◌∷◌, Option, None, Some, length, map, refl, sym, ◌∙◌, ap, subst, arith, suc, zero, filter, find, nat_lt, count_by, list_any, range_with_len, eqb-true, ltb-true, length-map, length-take, All-cons, All-nil, All-weaker, filter_passes, length-range_with_len, sum_by-cons, regions_at, size_at, Region, emptied, ended, flight_count, held_count, if_free, is_published_at, take_over_at, is_flight_at, address_of, is_held_by_other, landing, region_of, regions_from, IsPlaced, is_live, stays, step_of, Stepped, is_dirty_time_over, is_lazy, find_has, both_true, discarding, empty_handed, gave, is_in_arena, Request, Wish, Change, Stops, Visits, Leaves, TurnPoint, Filling, Landing, Giving, Changing, Making, Resetting, Destroying, Publishing, Owning, Reply, Noted, Purge, Busy, Setting, Space, Part, Span, Sound, mine, Held, DeskFacts, cached_of, freeing, going, most_regions, fill_at, land_at, lowest_free, address_behind, desk_turned, flushes, landed_behind, held_region, sharing, KnowsTurn, op_at, HasSlots, IsTheHand, SuitsTurn, or-false}
+use Rattle.heap_core.proofs.Words.{◌≡◌, ◌≢◌, ℕ, ◌+◌, ◌-◌, ◌*◌, ◌<◌, ◌≤◌, ◌==◌, ◌&&◌, Bool, true, false, cond, cond_both, List, [], ◌∷◌, Option, None, Some, length, map, refl, sym, ◌∙◌, ap, subst, arith, suc, zero, filter, find, nat_lt, count_by, list_any, range_with_len, eqb-true, ltb-true, length-map, length-take, All-cons, All-nil, All-weaker, filter_passes, length-range_with_len, sum_by-cons, regions_at, size_at, Region, flight_count, held_count, is_published_at, take_over_at, is_flight_at, address_of, is_held_by_other, landing, region_of, regions_from, IsPlaced, is_live, stays, step_of, Stepped, is_dirty_time_over, is_lazy, find_has, both_true, discarding, empty_handed, gave, is_in_arena, Request, Wish, Change, Leaves, TurnPoint, Filling, Landing, Giving, Changing, Resetting, Destroying, Publishing, Owning, Reply, Noted, Purge, Set, Setting, Space, Part, Span, Sound, mine, Held, DeskFacts, cached_of, freeing, going, most_regions, fill_at, land_at, lowest_free, address_behind, desk_turned, flushes, landed_behind, held_region, sharing, KnowsTurn, op_at, HasSlots, IsTheHand, SuitsTurn, or-false}
 use Rattle.call_plan.specs.Words.{NoArena}
 use Rattle.heap_core.proofs.Hands.{Count, Hands, Single, hands_come, hands_discard, hands_part}
 use Rattle.heap_core.proofs.Having.{Shaped, discard_shaped, free_gains, of_hand, over, share_all}
 use Rattle.heap_core.proofs.Parting.{Parts, addrs_any, batch_addrs, gave_parts}
 use Rattle.heap_core.proofs.Regions.{any_at, back_counts, count_at, landed_counts, none_elsewhere, one_in, published_counts}
 use Rattle.heap_core.proofs.Singles.{behind_is, taken_counts}
-use Rattle.heap_core.proofs.Steady.{op_steady, set_regions}
+use Rattle.heap_core.proofs.Steady.{op_regions}
 use Rattle.heap_core.proofs.Suiting.{came}
 
 -- What a client has after a turn is what it holds then, and in order.
@@ -54,9 +54,7 @@ module _ (n m : Count) (c arena : ℕ) (s : Space) (desk : DeskFacts) (request :
     hands = stay_hands (record desk { arena = arena }) (λ f. refl) t same now;
     shaped = record { keyed = shaped.keyed; lists = shaped.lists; classed = shaped.classed };
   }
-  change setting (Leaves old) reply t same now = stay t same now
-  change setting Stops reply t same now = stay t same now
-  change setting (Visits visit) reply t same now = stay t same now
+  change setting chosen reply t same now = stay t same now
 
   -- ---- regions that come
 
@@ -78,11 +76,8 @@ module _ (n m : Count) (c arena : ℕ) (s : Space) (desk : DeskFacts) (request :
   fill wish count slots (addr ∷ addrs) few now = come wish.class addr addrs count (fill_at s c wish.class (addr ∷ addrs)).after refl (omega (arith, few)) slots now
 
   filling : (wish : Wish) (count : ℕ) → HasSlots desk wish.class count → Carries (Filling wish count) (step_of s c (op_at (Filling wish count)))
-  filling wish count slots =
-      elim (is_live s.life) as (λ v. Carries (Filling wish count) (cond v (fill_at s c wish.class (lowest_free wish.class count s)) (stays s NoArena))) [
-        | true ↦ fill wish count slots (lowest_free wish.class count s) (omega (arith, length-take {A = ℕ}))
-        | false ↦ λ now. stay s refl now
-      ]
+  filling wish count slots = cond_both (is_live s.life) _ _ (Carries (Filling wish count))
+      (λ _. fill wish count slots (lowest_free wish.class count s) (omega (arith, length-take {A = ℕ}))) (λ _ now. stay s refl now)
 
   landing_in : (wish : Wish) (span : Span) (o : Option Part) → find (is_flight_at c span) s.parts ≡ o → 0 < wish.count → wish.count ≤ most_regions wish.class → HasSlots desk wish.class wish.count →
       Carries (Landing wish span) (land_at s c wish.class wish.count o)
@@ -157,30 +152,20 @@ module _ (n m : Count) (c arena : ℕ) (s : Space) (desk : DeskFacts) (request :
       let none : others + cached ≡ 0 = eqb-true (others + cached) 0 (both_true (others + cached == 0) _ (both_true (others + cached == 0 && flights == 0) _ free).0).0 in omega (arith, none, is)
 
   resetting : (cached : ℕ) → SuitsTurn desk request arena (Resetting cached) → Carries (Resetting cached) (step_of s c (op_at (Resetting cached)))
-  resetting cached suits =
-      elim (is_live s.life) as (λ v. Carries (Resetting cached) (cond v (if_free s (held_count s c cached) (flight_count s c) 0 (emptied s)) (stays s NoArena))) [
-        | true ↦ elim (held_count s c cached == 0 && flight_count s c == 0 && zero == 0) as (λ v. (held_count s c cached == 0 && flight_count s c == 0 && zero == 0) ≡ v →
-            Carries (Resetting cached) (cond v (emptied s) (stays s (Busy (held_count s c cached) (flight_count s c) 0)))) [
-              | true ↦ λ free now. reset (is_dirty_time_over s) (emptied_hands suits.0 (none_cached cached (count_by (is_held_by_other c) s.regions) (flight_count s c) 0 suits.1 free) now)
-              | false ↦ λ used now. stay s refl now
-            ] refl
-        | false ↦ λ now. stay s refl now
-      ]
+  resetting cached suits = cond_both (is_live s.life) _ _ (Carries (Resetting cached)) (λ _.
+      cond_both (held_count s c cached == 0 && flight_count s c == 0 && zero == 0) _ _ (Carries (Resetting cached))
+      (λ free now. reset (is_dirty_time_over s) (emptied_hands suits.0 (none_cached cached (count_by (is_held_by_other c) s.regions) (flight_count s c) 0 suits.1 free) now)) (λ _ now. stay s refl now))
+      (λ _ now. stay s refl now)
     where
       reset : (over : Bool) → Carried m [] (discarding arena desk) → Carried m [] (desk_turned desk arena (Resetting cached) (cond over (Purge (is_lazy s)) Noted))
       reset true is = is
       reset false is = is
 
   destroying : (cached : ℕ) → SuitsTurn desk request arena (Destroying cached) → Carries (Destroying cached) (step_of s c (op_at (Destroying cached)))
-  destroying cached suits =
-      elim (is_live s.life) as (λ v. Carries (Destroying cached) (cond v (if_free s (held_count s c cached) (flight_count s c) (length s.bound) (ended s c)) (stays s NoArena))) [
-        | true ↦ elim (held_count s c cached == 0 && flight_count s c == 0 && length s.bound == 0) as (λ v. (held_count s c cached == 0 && flight_count s c == 0 && length s.bound == 0) ≡ v →
-            Carries (Destroying cached) (cond v (ended s c) (stays s (Busy (held_count s c cached) (flight_count s c) (length s.bound))))) [
-              | true ↦ λ free now. emptied_hands suits.0 (none_cached cached (count_by (is_held_by_other c) s.regions) (flight_count s c) (length s.bound) suits.1 free) now
-              | false ↦ λ used now. stay s refl now
-            ] refl
-        | false ↦ λ now. stay s refl now
-      ]
+  destroying cached suits = cond_both (is_live s.life) _ _ (Carries (Destroying cached)) (λ _.
+      cond_both (held_count s c cached == 0 && flight_count s c == 0 && length s.bound == 0) _ _ (Carries (Destroying cached))
+      (λ free now. emptied_hands suits.0 (none_cached cached (count_by (is_held_by_other c) s.regions) (flight_count s c) (length s.bound) suits.1 free) now) (λ _ now. stay s refl now))
+      (λ _ now. stay s refl now)
 
   -- ---- a region that is taken over
 
@@ -205,10 +190,7 @@ module _ (n m : Count) (c arena : ℕ) (s : Space) (desk : DeskFacts) (request :
 
   owning : (addr : ℕ) (frees past : Bool) → desk.hand ≡ None → Carries (Owning addr frees past) (step_of s c (op_at (Owning addr frees past)))
   owning addr frees past empty =
-      elim (is_live s.life) as (λ v. Carries (Owning addr frees past) (cond v (take_over_at s c addr (find (is_published_at addr) s.regions)) (stays s NoArena))) [
-        | true ↦ taking addr frees past (find (is_published_at addr) s.regions) refl empty
-        | false ↦ λ now. none frees now
-      ]
+      cond_both (is_live s.life) _ _ (Carries (Owning addr frees past)) (λ _. taking addr frees past (find (is_published_at addr) s.regions) refl empty) (λ _ now. none frees now)
     where
       none : (frees : Bool) → Carries (Owning addr frees past) (stays s NoArena)
       none true now = stay s refl now
@@ -223,10 +205,9 @@ module _ (n m : Count) (c arena : ℕ) (s : Space) (desk : DeskFacts) (request :
   carries (Filling wish count) knows suits now = filling wish count suits.0.slots now
   carries (Landing wish span) knows suits now = landing_in wish span (find (is_flight_at c span) s.parts) refl knows.0.is.some knows.0.is.fewer suits.slots now
   carries (Giving addrs) knows suits now = giving addrs suits now
-  carries (Changing setting chosen) knows suits now = change setting chosen (step_of s c (op_at (Changing setting chosen))).reply (left (Changing setting chosen)) (set_regions s c setting) now
-  carries (Making index setting) knows suits now = stay (left (Making index setting)) (set_regions s c setting) now
+  carries (Changing setting chosen) knows suits now = change setting chosen (step_of s c (op_at (Changing setting chosen))).reply (left (Changing setting chosen)) (op_regions s c (Set setting) tt) now
   carries (Resetting cached) knows suits now = resetting cached suits now
   carries (Destroying cached) knows suits now = destroying cached suits now
   carries (Publishing addr) knows suits now = publishing addr suits now
   carries (Owning addr frees past) knows suits now = owning addr frees past suits now
-  carries point knows suits now = stay (left point) (op_steady s c (op_at point) tt).regions now
+  carries point knows suits now = stay (left point) (op_regions s c (op_at point) tt) now

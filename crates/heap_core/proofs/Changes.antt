@@ -32,15 +32,20 @@ owing_same records records' c call same = grind (arith, same)
 
 -- ---- a change of one client
 
--- where other clients are as they have to be in the arenas after it, with the same rooms, and were promised no less
-heap_changed : (records records' : List Record) (seats : List Seat) (owed owed' : List ℕ) (c : ℕ) (seat : Seat) → IsHeap records seats owed → c < 32 →
-    ((o : ℕ) → o ≢ c → (s : Seat) → SeatSound records o s → SeatSound records' o s) → ((o : ℕ) → o ≢ c → (i : ℕ) → room_in records' i o ≡ room_in records i o) →
-    ((o : ℕ) → o ≢ c → owed_to owed' o ≡ owed_to owed o) → SeatSound records' c seat → owing records' c seat.call ≤ owed_to owed' c → IsHeap records' (slice_set seats c seat) owed'
-heap_changed records records' seats owed owed' c seat is few stays rooms owes sound enough = record {
+-- What a change of one client leaves to all others: each is as it has to be, with its rooms and the places that it was promised.
+pub record Stays (records records' : List Record) (owed owed' : List ℕ) (c : ℕ) : Type 0 where
+  pub sound : (o : ℕ) → o ≢ c → (s : Seat) → SeatSound records o s → SeatSound records' o s
+  pub rooms : (o : ℕ) → o ≢ c → (i : ℕ) → room_in records' i o ≡ room_in records i o
+  pub owes : (o : ℕ) → o ≢ c → owed_to owed' o ≡ owed_to owed o
+
+-- the heap after it, where the client is as it has to be and may ask no more than it was promised
+pub heap_changed : (records records' : List Record) (seats : List Seat) (owed owed' : List ℕ) (c : ℕ) (seat : Seat) → IsHeap records seats owed → c < 32 → Stays records records' owed owed' c →
+    SeatSound records' c seat → owing records' c seat.call ≤ owed_to owed' c → IsHeap records' (slice_set seats c seat) owed'
+heap_changed records records' seats owed owed' c seat is few stays sound enough = record {
   number = length-set seats c seat ∙ is.number;
-  sound = λ o low. at o (SeatSound records' o) (λ same. subst (λ k. SeatSound records' k seat) same sound) (λ differ. stays o differ (seat_at seats o) (is.sound o low));
+  sound = λ o low. at o (SeatSound records' o) (λ same. subst (λ k. SeatSound records' k seat) same sound) (λ differ. stays.sound o differ (seat_at seats o) (is.sound o low));
   promised = λ o low. at o (λ s. owing records' o s.call ≤ owed_to owed' o) (λ same. subst (λ k. owing records' k seat.call ≤ owed_to owed' k) same enough)
-      (λ differ. let same = owing_same records records' o (seat_at seats o).call (rooms o differ) in let was = is.promised o low in omega (arith, same, was, owes o differ));
+      (λ differ. let same = owing_same records records' o (seat_at seats o).call (stays.rooms o differ) in let was = is.promised o low in omega (arith, same, was, stays.owes o differ));
 }
   where
     at : (o : ℕ) (P : Seat → Type 0) → (c ≡ o → P seat) → (o ≢ c → P (seat_at seats o)) → P (seat_at (slice_set seats c seat) o)
@@ -48,20 +53,18 @@ heap_changed records records' seats owed owed' c seat is few stays rooms owes so
         at_or_else (λ k. P (seat_at (slice_set seats c seat) k)) o c (λ same. subst P (sym (get_or-set_same seats c seat first_seat (omega (arith, few, is.number)))) (here (sym same)))
         (λ far. subst P (sym (get_or-set_other seats c o seat first_seat far)) (there far))
 
--- a turn of a client, after which it is as it has to be
-pub heap_turned : (records : List Record) (seats : List Seat) (owed owed' : List ℕ) (c arena : ℕ) (op : Op) (asked : Option AskFacts) (seat : Seat) → IsHeap records seats owed → IsArenas records → c < 32 → arena < 32 →
-    CanTurn records c arena op asked → ((o : ℕ) → o ≢ c → owed_to owed' o ≡ owed_to owed o) → SeatSound (after_turn records arena c op asked) c seat →
-    owing (after_turn records arena c op asked) c seat.call ≤ owed_to owed' c → IsHeap (after_turn records arena c op asked) (slice_set seats c seat) owed'
-heap_turned records seats owed owed' c arena op asked seat is arenas few there can owes sound enough =
-    heap_changed records (after_turn records arena c op asked) seats owed owed' c seat is few
-    (λ o differ s. others-sit records arena c o op asked s arenas there differ can.stands)
-    (λ o differ i. room_elsewhere records arena c i o op asked arenas there (λ same. differ)) owes sound enough
+-- a turn of the client leaves all others
+pub turned_stays : (records : List Record) (owed owed' : List ℕ) (c arena : ℕ) (op : Op) (asked : Option AskFacts) → IsArenas records → arena < 32 → CanTurn records c arena op asked →
+    ((o : ℕ) → o ≢ c → owed_to owed' o ≡ owed_to owed o) → Stays records (after_turn records arena c op asked) owed owed' c
+turned_stays records owed owed' c arena op asked arenas there can owes = record {
+  sound = λ o differ s. others-sit records arena c o op asked s arenas there differ can.stands;
+  rooms = λ o differ i. room_elsewhere records arena c i o op asked arenas there (λ same. differ);
+  owes = owes;
+}
 
--- a client is another one, and the arenas stay
-pub heap_seated : (records : List Record) (seats : List Seat) (owed owed' : List ℕ) (c : ℕ) (seat : Seat) → IsHeap records seats owed → c < 32 →
-    ((o : ℕ) → o ≢ c → owed_to owed' o ≡ owed_to owed o) → SeatSound records c seat → owing records c seat.call ≤ owed_to owed' c → IsHeap records (slice_set seats c seat) owed'
-heap_seated records seats owed owed' c seat is few owes sound enough =
-    heap_changed records records seats owed owed' c seat is few (λ o differ s was. was) (λ o differ i. refl) owes sound enough
+-- and so does what leaves the arenas
+pub seated_stays : (records : List Record) (owed owed' : List ℕ) (c : ℕ) → ((o : ℕ) → o ≢ c → owed_to owed' o ≡ owed_to owed o) → Stays records records owed owed' c
+seated_stays records owed owed' c owes = record { sound = λ o differ s was. was; rooms = λ o differ i. refl; owes = owes }
 
 -- a client that was found by its index is the one there
 pub seat_is : (seats : List Seat) (c : ℕ) (seat : Seat) → length seats ≡ 32 → c < 32 → seat ≡ get_or seats c seat → seat ≡ seat_at seats c

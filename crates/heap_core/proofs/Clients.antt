@@ -1,5 +1,5 @@
 -- What a turn leaves of the calls of all clients.
-use Rattle.heap_core.proofs.Words.{◌≡◌, ◌≢◌, ℕ, ◌<◌, ◌≤◌, ◌&&◌, true, false, List, Option, None, refl, sym, ◌∙◌, ap, subst, arith, IsTrue, lt-ltb, nat_lt, get_or-set_other, get_or-set_same, Look, GrowDone, OfferDone, op_stands, stands, step_of, both_true, op_keeps, IsKept, entry_of, opens, room_after, room_of, Replied, Point, Asks, Tells, Next, Go, Over, Op, Reply, Space, Sound, mine, AskFacts, AnswersTo, WantTurn, ask_at, is_marked, step, want, Idle, Knows, Keeps, Moves, Stands, left, stages, with_found, Suffices, flying, needed_at, needed_next, room_then, rooms-suffice, wants-stand, steps-keep, IsArenas, record_after, record_at, room_in, spaces_of, met_by_alloc, met_by_dalloc, others_of, with_chunk_found, AsksLeadOn, CanTurn, IsIdle, OthersStay, TurnsLeadOn, Waits, WaitsNext, after_turn, mine_in, Record, rules}
+use Rattle.heap_core.proofs.Words.{◌≡◌, ◌≢◌, ℕ, ◌<◌, ◌≤◌, ◌&&◌, true, false, List, Option, None, refl, sym, ◌∙◌, ap, subst, arith, IsTrue, lt-ltb, nat_lt, get_or-set_other, get_or-set_same, Look, GrowDone, OfferDone, op_stands, stands, step_of, both_true, op_keeps, IsKept, entry_of, opens, room_after, room_of, Replied, Point, Next, Go, Over, Op, Reply, Space, Sound, mine, AskFacts, WantTurn, is_marked, step, want, Idle, Knows, Keeps, Moves, Stands, left, stages, with_found, Suffices, flying, needed_at, needed_next, room_then, rooms-suffice, wants-stand, steps-keep, IsArenas, record_after, record_at, room_in, spaces_of, met_by_alloc, met_by_dalloc, others_of, with_chunk_found, AsksLeadOn, CanTurn, IsIdle, OthersStay, TurnsLeadOn, Waits, WaitsNext, after_turn, mine_in, Record, rules}
 pub use Rattle.heap_core.proofs.Owning.{at_or_else}
 pub use Rattle.heap_core.proofs.Turned.{by_arena, elsewhere_is, replayed_sound, there_is}
 
@@ -142,17 +142,4 @@ turns-lead_on records c arena point op asked is few waits wants = (
 -- ---- the ask that a call wants
 
 pub asks-lead_on : AsksLeadOn
-asks-lead_on records c arena (Asks point None) asked is waits wants kind =
-    let same : ask_at point ≡ asked.ask = cc in record {
-      there = waits.there;
-      knows = (waits.knows.0, (sym same, subst (λ a. AnswersTo a asked.answer) (sym same) kind));
-      elsewhere = waits.elsewhere;
-      room = waits.room;
-    }
-asks-lead_on records c arena (Tells span b) asked is waits wants kind = record {
-  there = waits.there;
-  knows = waits.knows;
-  elsewhere = waits.elsewhere;
-  room = omega arith;
-}
-asks-lead_on records c arena point asked is waits wants kind = absurd (cc)
+asks-lead_on records c arena point asked is waits wants kind = grind arith

@@ -1,5 +1,5 @@
 -- What is kept of a call that was fed.
-use Rattle.heap_core.proofs.Words.{arith, inl, inr, ◌≡◌, ℕ, Option, None, Some, Result, Ok, Err, OnOk, OnErr, IfSome, subst, ◌∙◌, ap, Held, DeskFacts, Item, Answered, Next, More, CallFacts, HasRoomToHold, moment_of, started, ended_by, Moment, after, starved_after, step_next, FedTo, Seat, answer_of, open_call, seat_of}
+use Rattle.heap_core.proofs.Words.{arith, ◌≡◌, ℕ, Option, None, Some, Result, Ok, Err, OnOk, OnErr, IfSome, Held, DeskFacts, Item, Answered, Next, More, CallFacts, HasRoomToHold, moment_of, started, ended_by, Moment, after, starved_after, step_next, FedTo, Seat, open_call}
 
 -- a call that is kept has room for the region that it may get
 pub room_kept : (c room : ℕ) (hand : Option Held) (at : Moment) (next : Next) (kept : Option CallFacts) → kept ≡ open_call c at next → HasRoomToHold hand room at.stage.next →
@@ -10,27 +10,11 @@ room_kept c room hand at next kept is has = grind arith
 pub started_open : (c : ℕ) (at : Moment) (next : Next) → started c at None next ≡ open_call c at next
 started_open c at next = grind arith
 
--- and has room for the region that it may get
-pub room_started : {A E : Type 0} (begun : Result A E) (c room : ℕ) (hand : Option Held) (at : Moment) (was kept : Option CallFacts) → was ≡ None → OnOk begun (kept ≡ started c at was at.stage.next) →
-    OnErr begun (kept ≡ was) → OnOk begun (HasRoomToHold hand room at.stage.next) → IfSome kept (λ call. HasRoomToHold hand room call.stage.next)
-room_started begun c room hand at was kept none ok err has = grind (arith, room_kept, started_open)
-
 -- What the call and its client's desk are after an item is what the client is then.
 pub fed_to : {A E : Type 0} (seat : Seat) (desk desk' : DeskFacts) (call call' : CallFacts) (item : Item) (named : Result A E) (place : Option CallFacts) (ended : Option Answered) →
     record { desk = desk; call = Some call } ≡ seat → call'.client ≡ call.client → OnOk named (moment_of call' desk' ≡ after (moment_of call desk) item) →
     OnErr named (moment_of call' desk' ≡ starved_after (moment_of call desk) item) → OnErr named (step_next call.stage.next item ≡ More) →
     place ≡ open_call call'.client (moment_of call' desk') call'.stage.next → ended ≡ ended_by call'.stage.next →
     IfSome seat.call (λ k. FedTo k seat.desk item ended (record { desk = desk'; call = place }))
-fed_to seat desk desk' call call' item named place ended view client ok err more kept answer = subst (λ (s : Seat). IfSome s.call (λ k. FedTo k s.desk item ended (record { desk = desk'; call = place }))) view (by named ok err more)
-  where
-    seated : (m : Moment) → moment_of call' desk' ≡ m → record { desk = desk'; call = place } ≡ seat_of call.client m
-    seated m is = ap (λ (k : Option CallFacts). record { desk = desk'; call = k }) kept ∙ ap (λ c. seat_of c (moment_of call' desk')) client ∙ ap (seat_of call.client) is
-
-    told : (m : Moment) → moment_of call' desk' ≡ m → ended ≡ answer_of m
-    told m is = answer ∙ ap answer_of is
-
-    by : {A E : Type 0} (named : Result A E) → OnOk named (moment_of call' desk' ≡ after (moment_of call desk) item) →
-        OnErr named (moment_of call' desk' ≡ starved_after (moment_of call desk) item) → OnErr named (step_next call.stage.next item ≡ More) →
-        FedTo call desk item ended (record { desk = desk'; call = place })
-    by (Ok named) ok err more = inl (seated (after (moment_of call desk) item) ok, told (after (moment_of call desk) item) ok)
-    by (Err error) ok err more = inr (seated (starved_after (moment_of call desk) item) err, told (starved_after (moment_of call desk) item) err, more)
+fed_to seat desk desk' call call' item (Ok named) place ended view client ok err more kept answer = grind arith
+fed_to seat desk desk' call call' item (Err error) place ended view client ok err more kept answer = grind arith

@@ -1,10 +1,10 @@
 -- The regions that a client has are those that it holds in the arenas, however they are counted there.
-use Rattle.heap_core.proofs.Words.{◌≡◌, ◌≢◌, ℕ, ◌+◌, ◌<◌, ◌≤◌, ◌==◌, ◌&&◌, ◌||◌, inl, inr, Bool, true, false, cond, List, [], ◌∷◌, All, None, Some, length, get_or, refl, sym, ◌∙◌, ap, subst, arith, suc, zero, nat_eq, filter, count_by, flat_map, sum_by, lookup, eqb-true, nat_tests, All-head, All-tail, get_or-le-sum_by, sum_by-cons, Region, eqb_itself, ones, is_elsewhere, discarding, holding, is_in_arena, Held, DeskFacts, cached_of, held_at, is_region, both_true, Has}
+use Rattle.heap_core.proofs.Words.{◌≡◌, ◌≢◌, ℕ, ◌+◌, ◌<◌, ◌≤◌, ◌==◌, ◌&&◌, ◌||◌, inl, inr, Bool, true, false, cond, List, [], ◌∷◌, All, None, Some, length, get_or, cases_lt, refl, sym, ◌∙◌, ap, subst, arith, suc, nat_eq, filter, count_by, flat_map, sum_by, lookup, eqb-true, nat_tests, All-head, All-tail, get_or-le-sum_by, sum_by-cons, Region, eqb_itself, ones, is_elsewhere, discarding, holding, is_in_arena, Held, DeskFacts, cached_of, held_at, is_region, both_true, Has}
 use Rattle.heap_core.proofs.Entries.{IsKeyed, none_found, of_entry}
 use Rattle.heap_core.proofs.Clients.{at_or_else}
 use Rattle.heap_core.proofs.Having.{Shaped, hold_over, of_hand, over}
 use Rattle.heap_core.proofs.Parting.{Parts}
-use Rattle.heap_core.proofs.Regions.{any_at, one_in}
+use Rattle.heap_core.proofs.Regions.{any_at, filtered_sum, one_in}
 
 -- how many regions of a class at an address the client holds in each arena
 abbrev pub Count : Type 0
@@ -120,22 +120,10 @@ hands_part n m arena gone desk after single hands parts home here others i a k =
     at_home false e now = omega (arith, now, none_at arena a k gone e, hands arena a k, parts.less (one_in arena a k))
     at_home true e now =
         let some = some_at arena a gone home e in
-        let l : ℕ = some.0 in
-        let there : 0 < n arena a l = omega (arith, some.1, hands arena a l, parts.less (one_in arena a l)) in
-        class_is l some.1 there (k == l) refl now
-      where
-        class_is : (l : ℕ) → 0 < sum_by (one_in arena a l) gone → 0 < n arena a l → (w : Bool) → (k == l) ≡ w → m arena a k ≡ 0 → m arena a k ≡ over (one_in arena a k) after
-        class_is l some there true w now =
-            let same : k ≡ l = eqb-true k l w in
-            let sum : 0 < sum_by (one_in arena a k) gone = subst (λ (j : ℕ). 0 < sum_by (one_in arena a j) gone) (sym same) some in
-            omega (arith, now, sum, single.once arena a k, hands arena a k, parts.less (one_in arena a k))
-        class_is l some there false w now = none_of (n arena a k) refl
-          where
-            none_of : (many : ℕ) → n arena a k ≡ many → m arena a k ≡ over (one_in arena a k) after
-            none_of zero z = omega (arith, now, z, hands arena a k, parts.less (one_in arena a k))
-            none_of (suc many) z =
-                let same : k ≡ l = (single.alone arena arena a k l (omega (arith, z)) there).1 in
-                absurd (let no : (k == l) ≡ true = ap (λ j. j == l) same ∙ eqb_itself l in cc)
+        let there : 0 < n arena a some.0 = omega (arith, some.1, hands arena a some.0, parts.less (one_in arena a some.0)) in
+        at_or_else (λ _. m arena a k ≡ over (one_in arena a k) after) k some.0
+        (λ same. let sum = subst (λ (j : ℕ). 0 < sum_by (one_in arena a j) gone) (sym same) some.1 in omega (arith, now, sum, single.once arena a k, hands arena a k, parts.less (one_in arena a k)))
+        (λ differ. elim (cases_lt 0 (n arena a k)) [ inl z ↦ absurd (differ (single.alone arena arena a k some.0 z there).1) | inr none ↦ omega (arith, now, none, hands arena a k, parts.less (one_in arena a k)) ])
 
 -- ---- nothing is left in an arena
 
@@ -149,30 +137,10 @@ none_of_arena arena a k (r ∷ rs) none =
 -- what is held elsewhere stays
 elsewhere_sum : (arena i a k : ℕ) (es : List (ℕ × Held)) →
     sum_by (of_entry (one_in i a k)) (filter (λ (e : ℕ × Held). is_elsewhere arena e.1) es) ≡ cond (i == arena) 0 (sum_by (of_entry (one_in i a k)) es)
-elsewhere_sum arena i a k es = by (i == arena) refl
+elsewhere_sum arena i a k es = filtered_sum (of_entry (one_in i a k)) (λ (e : ℕ × Held). is_elsewhere arena e.1) (i == arena) (λ e. one e.1) es
   where
-    here : (x : ℕ × Held) → i ≡ arena → is_elsewhere arena x.1 ≡ true → of_entry (one_in i a k) x ≡ 0
-    here x same out = grind (arith, nat_tests)
-
-    gone : (x : ℕ × Held) → i ≢ arena → is_elsewhere arena x.1 ≡ false → of_entry (one_in i a k) x ≡ 0
-    gone x differ out = grind (arith, nat_tests)
-
-    sums_here : (xs : List (ℕ × Held)) → i ≡ arena → sum_by (of_entry (one_in i a k)) (filter (λ (e : ℕ × Held). is_elsewhere arena e.1) xs) ≡ 0
-    sums_here [] same = refl
-    sums_here (x ∷ xs) same =
-        let none = here x same in
-        let sum = sum_by-cons (of_entry (one_in i a k)) x (filter (λ (e : ℕ × Held). is_elsewhere arena e.1) xs) in grind (arith, sums_here xs same)
-
-    sums_there : (xs : List (ℕ × Held)) → i ≢ arena → sum_by (of_entry (one_in i a k)) (filter (λ (e : ℕ × Held). is_elsewhere arena e.1) xs) ≡ sum_by (of_entry (one_in i a k)) xs
-    sums_there [] differ = refl
-    sums_there (x ∷ xs) differ =
-        let none = gone x differ in
-        let sum = sum_by-cons (of_entry (one_in i a k)) x xs in
-        let kept = sum_by-cons (of_entry (one_in i a k)) x (filter (λ (e : ℕ × Held). is_elsewhere arena e.1) xs) in grind (arith, sums_there xs differ)
-
-    by : (v : Bool) → (i == arena) ≡ v → sum_by (of_entry (one_in i a k)) (filter (λ (e : ℕ × Held). is_elsewhere arena e.1) es) ≡ cond v 0 (sum_by (of_entry (one_in i a k)) es)
-    by true e = sums_here es (eqb-true i arena e)
-    by false e = sums_there es (λ same. grind (arith, nat_tests))
+    one : (r : Held) → cond (is_elsewhere arena r) (one_in i a k r) 0 ≡ cond (i == arena) 0 (one_in i a k r)
+    one r = grind (arith, nat_tests)
 
 -- all regions of an arena go, of which the client has none cached
 pub hands_discard : (n m : Count) (arena : ℕ) (desk : DeskFacts) → Hands n [] desk → desk.hand ≡ None → cached_of arena desk ≡ 0 →

@@ -1,5 +1,5 @@
 -- No chunk comes to have two owners.
-use Rattle.heap_core.proofs.Words.{◌≡◌, ◌≢◌, ◌⊎◌, inl, inr, ℕ, ◌+◌, ◌*◌, ◌/◌, ◌%◌, ◌<◌, ◌≤◌, ◌==◌, ◌&&◌, ◌||◌, Bool, true, false, not, cond, List, [], ◌∷◌, Option, None, Some, find, max, length, get_or, refl, sym, ◌∙◌, ap, subst, arith, All, suc, zero, ◌-◌, slice_set, option_map, All-head, All-tail, sum_by-cons, list_any, range_with_len, ltb-true, nat_tests, get_or-set_other, get_or-set_same, GrowDone, Offer, OfferDone, DestroyTake, absent_space, holders, IsPlaced, chunk_span, chunks_of, has_page, meets, OffSpace, Unaligned, Meets, after_offer, keep_offer, without_offer, after_grow, grow_unless, is_in_space, is_owned, op_stands, step_of, granted_by, is_in_dalloc, ones, both_true, op_keeps, Ask, Alloc, Dalloc, Answer, Placed, Refuses, Op, Reply, Grown, Kept, Doomed, Space, Part, Span, Sound, end_of, Apart, met_by_alloc, met_by_dalloc, met_in, others_of, owns_chunk, with_chunk_found, space_at, eqb-true}
+use Rattle.heap_core.proofs.Words.{◌≡◌, ◌≢◌, ◌⊎◌, inl, inr, ℕ, ◌+◌, ◌*◌, ◌/◌, ◌%◌, ◌<◌, ◌≤◌, ◌==◌, ◌&&◌, ◌||◌, Bool, true, false, not, cond, List, [], ◌∷◌, Option, None, Some, find, max, length, get_or, refl, sym, ◌∙◌, ap, subst, arith, All, suc, zero, ◌-◌, slice_set, option_map, All-head, All-tail, sum_by-cons, list_any, range_with_len, ltb-true, nat_tests, get_or-set_other, get_or-set_same, GrowDone, OfferDone, absent_space, holders, IsPlaced, chunk_span, chunks_of, has_page, meets, OffSpace, Unaligned, Meets, after_offer, keep_offer, without_offer, after_grow, grow_unless, is_in_space, is_owned, op_stands, step_of, granted_by, is_in_dalloc, ones, op_keeps, Ask, Alloc, Dalloc, Answer, Placed, Refuses, Op, Reply, Grown, Kept, Space, Part, Span, Sound, end_of, Apart, met_by_alloc, met_by_dalloc, met_in, others_of, owns_chunk, with_chunk_found, space_at, eqb-true}
 use Rattle.std.proofs.Common.{ltb as nat_lt}
 
 -- what is so at one index, and at each other one, is so at any
@@ -75,11 +75,7 @@ either : (a b : Bool) → (a || b) ≡ true → (a ≡ true) ⊎ (b ≡ true)
 either a b h = grind arith
 
 granted_or : (page : ℕ) (before : Bool) (op : Op) (reply : Reply) → granted_by page before op reply ≡ true → (before ≡ true) ⊎ Comes page op reply
-granted_or page before (GrowDone heard found) (Grown span committed) h = either before (has_page page span) h
-granted_or page before (OfferDone heard found) Kept h = either before (is_in_dalloc page heard.ask) h
-granted_or page before (Offer span) reply h = inl (both_true before (not (has_page page span)) h).0
-granted_or page before DestroyTake (Doomed span committed) h = inl (both_true before (not (has_page page span)) h).0
-granted_or page before op reply h = inl h
+granted_or page before op reply h = grind (arith, either)
 
 -- where a page was at most once, it was as often as one test tells
 one_or_none : (n : ℕ) → n ≤ 1 → n ≡ ones (nat_lt 0 n)

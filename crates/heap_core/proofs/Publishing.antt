@@ -1,5 +1,5 @@
 -- A client may publish a region that it holds at any moment.
-use Rattle.heap_core.proofs.Words.{rules, ◌≡◌, ◌≢◌, inl, inr, ℕ, ◌*◌, ◌<◌, ◌≤◌, ◌==◌, ◌&&◌, ◌||◌, Bool, true, cond, IsTrue, List, [], ◌∷◌, Option, None, Some, length, max, refl, sym, ◌∙◌, ap, subst, arith, lt-ltb, count_by, list_any, get_or-set_same, All-cons, All-nil, sum_by-cons, Publish, holds_at, is_live, emptied_by_op, room_after, room_of, not_holding, Request, Flush, Wish, Then, Change, TurnPoint, Filling, Looking, Landing, Giving, Finding, Resetting, Destroying, Dooming, Publishing, AskPoint, Skipping, Point, Turns, Asks, Tells, Next, Go, Op, Setting, Space, Part, Span, Mine, mine, Held, DeskFacts, BatchFacts, held_at, CallFacts, Alone, Flies, Settled, in_flight, Gets, GivesBack, HasOffered, Idle, Knows, KnowsAsk, KnowsTurn, HasPair, is_held, KnowsNext, Ready, flying, needed_at, batch_goes, stage, batches-know, live_where, region_found, IsArenas, record_after, record_at, room_in, CanTurn, IsIdle, after_turn, mine_in, Record, AimsSit, HasRegions, HoldersPublish, IsSeated, IsTheHand, Sits, SitsAt, Suits, SuitsAsk, SuitsChange, SuitsGet, SuitsThen, SuitsTurn, is_region, or-false}
+use Rattle.heap_core.proofs.Words.{rules, ◌≡◌, ◌≢◌, inl, inr, ℕ, ◌*◌, ◌<◌, ◌≤◌, ◌==◌, ◌&&◌, ◌||◌, Bool, true, cond, IsTrue, List, [], ◌∷◌, Option, None, Some, length, max, refl, sym, ◌∙◌, ap, subst, arith, lt-ltb, count_by, list_any, get_or-set_same, All-cons, All-nil, sum_by-cons, Publish, holds_at, is_live, emptied_by_op, room_after, room_of, not_holding, Request, Flush, Wish, Then, Change, TurnPoint, Filling, Looking, Landing, Giving, Resetting, Destroying, Publishing, AskPoint, Skipping, Point, Turns, Asks, Tells, Next, Go, Op, Setting, Space, Part, Span, Mine, mine, Held, DeskFacts, BatchFacts, held_at, CallFacts, Alone, Flies, Gets, GivesBack, HasOffered, Idle, Knows, KnowsAsk, KnowsTurn, HasPair, is_held, KnowsNext, Ready, flying, needed_at, batch_goes, stage, batches-know, live_where, region_found, IsArenas, record_after, record_at, room_in, CanTurn, IsIdle, after_turn, mine_in, Record, AimsSit, HasRegions, HoldersPublish, IsSeated, IsTheHand, Sits, SitsAt, Suits, SuitsAsk, SuitsChange, SuitsGet, SuitsThen, SuitsTurn, is_region, or-false}
 use Rattle.call_plan.proofs.Own.{Nothing}
 use Rattle.heap_core.proofs.Clients.{at_or_else, by_arena, sound_at}
 use Rattle.heap_core.proofs.Hands.{had_counts, hands_part, held_is}
@@ -61,26 +61,16 @@ module _ (records : List Record) (c arena : ℕ) (desk : DeskFacts) (request : R
   }
 
   alone_again : (span : Span) (b : Bool) → Alone m span b → Alone m' span b
-  alone_again span b alone = record { part = alone.part; flights = alike.flights ∙ alone.flights; spans = alone.spans; committed = alone.committed; offers = alike.offers ∙ alone.offers }
+  alone_again span b alone = grind arith
 
   flies_again : (span : Span) (P : Part → Type 0) → Flies m span P → Flies m' span P
-  flies_again span P flies = record { part = flies.part; found = ap (in_flight span) alike.flights ∙ flies.found; is = flies.is; offers = alike.offers ∙ flies.offers }
+  flies_again span P flies = grind arith
 
   pair_again : (low high : Span) (fresh : Bool) → HasPair m low high fresh → HasPair m' low high fresh
-  pair_again low high fresh pair = record {
-    low_part = pair.low_part;
-    high_part = pair.high_part;
-    low_found = ap (in_flight low) alike.flights ∙ pair.low_found;
-    high_found = ap (in_flight high) alike.flights ∙ pair.high_found;
-    alike = pair.alike;
-    side_by_side = pair.side_by_side;
-    low_settled = pair.low_settled;
-    high_settled = pair.high_settled;
-    offers = alike.offers ∙ pair.offers;
-  }
+  pair_again low high fresh pair = grind arith
 
   offered_again : (span : Span) → HasOffered m span → HasOffered m' span
-  offered_again span offered = record { offer = offered.offer; offers = alike.offers ∙ offered.offers; spans = offered.spans; committed = offered.committed }
+  offered_again span offered = grind arith
 
   gives_again : (addrs : List ℕ) → SuitsTurn desk request arena (Giving addrs) → GivesBack m addrs → GivesBack m' addrs
   gives_again addrs suits gives =
@@ -98,14 +88,12 @@ module _ (records : List Record) (c arena : ℕ) (desk : DeskFacts) (request : R
   turn_again (Looking wish) suits knows = (gets_again wish wish.count suits knows.0, idle_again m m' alike knows.1)
   turn_again (Landing wish span) suits knows = (gets_again wish wish.count suits knows.0, alone_again span true knows.1, knows.2)
   turn_again (Giving addrs) suits knows = gives_again addrs suits knows
-  turn_again (Finding own tries fresh later) suits knows = (knows.0, flies_again own (Settled fresh) knows.1, knows.2)
   turn_again (Resetting cached) suits knows =
       (idle_again m m' alike knows.0, (let few = (ready knows.0 (Go (Turns (Resetting cached)))).cached in omega (arith, few, suits.1)))
   turn_again (Destroying cached) suits knows =
       (idle_again m m' alike knows.0, (let few = (ready knows.0 (Go (Turns (Destroying cached)))).cached in omega (arith, few, suits.1)))
-  turn_again Dooming suits knows = (idle_again m m' alike knows.0, alike.dying ∙ knows.1)
   turn_again (Publishing addr) suits knows = (idle_again m m' alike knows.0, hand_again addr desk.hand refl suits knows.0)
-  turn_again point suits knows = let idle = idle_again m m' alike in search (rules, flies_again)
+  turn_again point suits knows = let idle = idle_again m m' alike in first_of (search (rules, flies_again), grind (arith, flies_again))
 
   ask_again : (point : AskPoint) → SuitsAsk desk arena point → KnowsAsk m point → KnowsAsk m' point
   ask_again (Skipping wish span b skip) suits knows = (gets_again wish wish.count suits knows.0, alone_again span b knows.1, knows.2, knows.3)
@@ -216,12 +204,7 @@ module _ (records : List Record) (c : ℕ) (region : Held) (desk : DeskFacts) (i
 
 -- what a client has is so at any moment
 seat_has : (records : List Record) (c : ℕ) (desk : DeskFacts) (call : Option CallFacts) → IsSeated records c desk call → HasRegions records c desk
-seat_has records c desk None rests = rests.has
-seat_has records c desk (Some call) sits = by call.stage.next sits.1
-  where
-    by : (next : Next) → SitsAt records c desk call next → HasRegions records c desk
-    by (Go point) sits = sits.has
-    by next sits = absurd sits
+seat_has records c desk call is = grind arith
 
 pub holders-publish : HoldersPublish
 holders-publish records c addr seat region is few sound held =
@@ -233,11 +216,4 @@ holders-publish records c addr seat region is few sound held =
 -- ---- a call takes a region over in any arena
 
 pub aims-sit : AimsSit
-aims-sit records c addr arena arena' desk request low sits = record {
-  has = sits.has;
-  waits = record { there = low; knows = idle arena'; elsewhere = λ i ne. idle i; room = omega arith };
-  suits = sits.suits;
-}
-  where
-    idle : (i : ℕ) → Idle (mine_in records c i)
-    idle i = at_or_else (λ n. Idle (mine_in records c n)) i arena (λ same. sits.waits.knows) (sits.waits.elsewhere i)
+aims-sit records c addr arena arena' desk request low sits = grind arith

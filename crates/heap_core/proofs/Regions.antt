@@ -69,20 +69,21 @@ none_elsewhere i arena a k class (x ∷ xs) differ =
 abbrev pub any_at : ℕ → List Held → Bool
 any_at a gone = list_any (λ r. r.addr == a) gone
 
+-- where a test leaves all that counts in a sum, or nothing of it, so does a filter by it
+pub filtered_sum : {X : Type 0} (f : X → ℕ) (keep : X → Bool) (gone : Bool) → ((x : X) → cond (keep x) (f x) 0 ≡ cond gone 0 (f x)) → (xs : List X) → sum_by f (filter keep xs) ≡ cond gone 0 (sum_by f xs)
+filtered_sum f keep gone one [] = grind arith
+filtered_sum f keep gone one (x ∷ xs) =
+    let own = one x in
+    let kept = sum_by-cons f x (filter keep xs) in
+    let all = sum_by-cons f x xs in grind (arith, filtered_sum f keep gone one xs)
+
 -- of those at the addresses none is left, and all others are
 pub left_counts : (c a k : ℕ) (keep : Region → Bool) (rs : List Region) (gone : Bool) → ((r : Region) → is_held_by c r ≡ true → r.addr ≡ a → keep r ≡ not gone) →
     count_at c a k (filter keep rs) ≡ cond gone 0 (count_at c a k rs)
-left_counts c a k keep rs gone is = count_sum c a k (filter keep rs) ∙ sums rs ∙ ap (cond gone 0) (sym (count_sum c a k rs))
+left_counts c a k keep rs gone is = count_sum c a k (filter keep rs) ∙ filtered_sum (one_at c a k) keep gone one rs ∙ ap (cond gone 0) (sym (count_sum c a k rs))
   where
     one : (r : Region) → cond (keep r) (one_at c a k r) 0 ≡ cond gone 0 (one_at c a k r)
     one r = grind (arith, nat_tests, is r)
-
-    sums : (xs : List Region) → sum_by (one_at c a k) (filter keep xs) ≡ cond gone 0 (sum_by (one_at c a k) xs)
-    sums [] = grind arith
-    sums (x ∷ xs) =
-        let own = one x in
-        let kept = sum_by-cons (one_at c a k) x (filter keep xs) in
-        let all = sum_by-cons (one_at c a k) x xs in grind (arith, sums xs)
 
 -- regions that went back
 pub back_counts : (c a k : ℕ) (addrs : List ℕ) (rs : List Region) → count_at c a k (staying c addrs rs) ≡ cond (list_any (λ x. x == a) addrs) 0 (count_at c a k rs)

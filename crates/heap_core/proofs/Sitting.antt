@@ -5,6 +5,7 @@ use Rattle.heap_core.proofs.Turned.{opening_at, past}
 pub use Rattle.heap_core.proofs.Begins.{starts-sit}
 pub use Rattle.heap_core.proofs.Turns.{asks-sit, others-sit, starves-sit, turns-sit}
 pub use Rattle.heap_core.proofs.Publishing.{aims-sit, holders-publish}
+pub use Rattle.heap_core.proofs.Clients.{asks-lead_on}
 
 -- Nothing of an arena is a client's but that it may be bound.
 pub record IsEmpty (m : Mine) : Type 0 where
@@ -46,3 +47,6 @@ opening-sits c few = record {
   idle = λ i. record { flights = (opening_empty c i).flights; offers = (opening_empty c i).offers };
   empty = refl;
 }
+
+-- the laws that a contract finds by their names
+pub ruleset laws = (asks-lead_on, starts-sit, asks-sit, aims-sit)

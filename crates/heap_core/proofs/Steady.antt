@@ -1,11 +1,5 @@
 -- Which operations of an arena leave its regions and its clients alone.
-use Rattle.heap_core.proofs.Words.{◌≡◌, ℕ, true, false, cond, List, [], ◌∷◌, ◌++◌, refl, arith, nat_tests, Look, CutDone, GrowDone, CommitDone, Land, Back, PutLook, MergeDone, Fill, Advance, PurgeTake, LazyDone, Offer, OfferDone, DecommitDone, ForcedDone, Publish, TakeOver, DestroyTake, Set, with_client, after_set, step_of, Op, Setting, Unbind, DirtyMs, Bind, Space, is_in}
-use Rattle.space_model.specs.declared.entries.Op.TheVariants.{Reset, Destroy}
-
--- The regions and the clients of an arena stay.
-pub record Steady (s t : Space) : Type 0 where
-  pub regions : t.regions ≡ s.regions
-  pub bound : t.bound ≡ s.bound
+use Rattle.heap_core.proofs.Words.{◌≡◌, ℕ, true, false, cond, List, [], ◌∷◌, ◌++◌, refl, arith, nat_tests, Look, CutDone, GrowDone, CommitDone, Land, PutLook, MergeDone, Advance, PurgeTake, LazyDone, Offer, OfferDone, DecommitDone, ForcedDone, DestroyTake, Set, with_client, after_set, step_of, Op, Setting, Unbind, DirtyMs, Bind, Space, is_in}
 
 -- ---- settings
 
@@ -15,9 +9,9 @@ IsElse Bind = ⊥
 IsElse Unbind = ⊥
 IsElse setting = Unit {0}
 
-pub set_steady : (s : Space) (c : ℕ) (setting : Setting) → IsElse setting → Steady s (after_set s c setting).after
-set_steady s c (DirtyMs ms now) is = grind arith
-set_steady s c setting is = grind arith
+pub set_bound : (s : Space) (c : ℕ) (setting : Setting) → IsElse setting → (after_set s c setting).after.bound ≡ s.bound
+set_bound s c (DirtyMs ms now) is = grind arith
+set_bound s c setting is = grind arith
 
 -- the regions stay with any setting
 pub set_regions : (s : Space) (c : ℕ) (setting : Setting) → (after_set s c setting).after.regions ≡ s.regions
@@ -37,7 +31,7 @@ bind_keeps s c is = grind (arith, added_in)
 
 -- ---- all operations
 
--- the operation neither lands regions nor takes any away, changes no holder, and binds nobody
+-- the operation neither lands regions nor takes any away, and changes no holder
 abbrev pub IsSteady : Op → Type 0
 IsSteady (Look pages align) = Unit {0}
 IsSteady (CutDone heard keep_low) = Unit {0}
@@ -53,27 +47,21 @@ IsSteady (OfferDone heard found) = Unit {0}
 IsSteady (DecommitDone heard) = Unit {0}
 IsSteady (ForcedDone heard) = Unit {0}
 IsSteady DestroyTake = Unit {0}
-IsSteady (Set setting) = IsElse setting
+IsSteady (Set setting) = Unit {0}
 IsSteady op = ⊥
 
-pub op_steady : (s : Space) (c : ℕ) (op : Op) → IsSteady op → Steady s (step_of s c op).after
-op_steady s c (Look pages align) is = grind arith
-op_steady s c (Set setting) is = set_steady s c setting is
-op_steady s c op is = grind arith
+pub op_regions : (s : Space) (c : ℕ) (op : Op) → IsSteady op → (step_of s c op).after.regions ≡ s.regions
+op_regions s c (Look pages align) is = grind arith
+op_regions s c (Set setting) is = set_regions s c setting
+op_regions s c op is = grind arith
 
--- ---- who is bound
+-- the operation sets nothing of who is bound
+abbrev pub BindsNobody : Op → Type 0
+BindsNobody (Set setting) = IsElse setting
+BindsNobody op = Unit {0}
 
--- the operation is one of those that move regions, and binds nobody
-abbrev pub Moves : Op → Type 0
-Moves (Land span class count) = Unit {0}
-Moves (Fill class count) = Unit {0}
-Moves (Back addrs) = Unit {0}
-Moves (Publish addr) = Unit {0}
-Moves (TakeOver addr) = Unit {0}
-Moves (Reset cached) = Unit {0}
-Moves (Destroy cached) = Unit {0}
-Moves op = ⊥
-
-pub moves_bound : (s : Space) (c : ℕ) (op : Op) → Moves op → (step_of s c op).after.bound ≡ s.bound
-moves_bound s c (Land span class count) is = grind arith
-moves_bound s c op is = grind arith
+pub op_bound : (s : Space) (c : ℕ) (op : Op) → BindsNobody op → (step_of s c op).after.bound ≡ s.bound
+op_bound s c (Look pages align) is = grind arith
+op_bound s c (Land span class count) is = grind arith
+op_bound s c (Set setting) is = set_bound s c setting is
+op_bound s c op is = grind arith

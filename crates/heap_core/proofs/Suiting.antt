@@ -1,5 +1,5 @@
 -- What a client has suits each point to which its call comes.
-use Rattle.heap_core.proofs.Words.{rules, ◌≡◌, ℕ, ◌<◌, ◌≤◌, true, false, List, [], ◌∷◌, None, refl, sym, ◌∙◌, subst, arith, nat_lt, cond_both, ltb-true, nat_tests, discarding, Request, Answered, Change, Stops, Visits, Leaves, TurnPoint, Filling, Looking, Landing, Changing, Making, Resetting, Owning, AskPoint, Next, Go, Over, Ends, Reply, Nothing, Noted, Took, Grow, Refuse, Landed, Regions, Owned, Setting, Bind, AskFacts, Held, DeskFacts, desk_turned, landed_behind, held_region, needed_at, make_next, told, turn_replied, HasSlots, Suits, SuitsChange, SuitsAsk, SuitsTurn, visited, Visit}
+use Rattle.heap_core.proofs.Words.{rules, ◌≡◌, ℕ, ◌<◌, ◌≤◌, true, false, List, [], ◌∷◌, None, refl, sym, ◌∙◌, subst, arith, nat_lt, cond_both, ltb-true, nat_tests, discarding, Request, Answered, Change, Leaves, TurnPoint, Filling, Landing, Changing, Making, Resetting, Owning, AskPoint, Next, Go, Over, Ends, Reply, Nothing, Noted, Landed, Regions, Owned, Setting, AskFacts, Held, DeskFacts, desk_turned, landed_behind, held_region, needed_at, make_next, told, turn_replied, HasSlots, Suits, SuitsChange, SuitsAsk, SuitsTurn, visited, Visit}
 use Rattle.heap_core.specs.Words.{Region, Ok}
 use Rattle.heap_core.proofs.Having.{CanKeep, share_stays}
 
@@ -49,26 +49,18 @@ fewer_slots desk class few many le slots more = let room = slots (omega (arith, 
 
 change_suits : (desk : DeskFacts) (request : Request) (arena : ℕ) (setting : Setting) (change : Change) → desk.arena < 32 → desk.hand ≡ None → SuitsChange desk arena setting change →
     Suited [] (desk_turned desk arena (Changing setting change) Noted) request arena (turn_replied (Changing setting change) Noted)
-change_suits desk request arena setting Stops low empty suits = (refl, can_keep desk empty)
-change_suits desk request arena setting (Visits visit) low empty suits = (refl, empty)
-change_suits desk request arena Bind (Leaves old) low empty suits =
-    (refl, omega (arith, suits.0, low), (empty, λ e. suits.1 (sym e ∙ suits.0)), refl)
-change_suits desk request arena setting (Leaves old) low empty suits = absurd suits
+change_suits desk request arena setting change low empty suits = grind (arith, can_keep)
 
 pub turned_suits : (desk : DeskFacts) (request : Request) (arena : ℕ) (point : TurnPoint) (reply : Reply) → desk.arena < 32 → SuitsTurn desk request arena point →
     Suited (came arena point reply) (desk_turned desk arena point reply) request arena (turn_replied point reply)
 turned_suits desk request arena (Filling wish count) (Regions (addr ∷ others)) low suits = (refl, (share_stays arena wish.class others desk).0 ∙ suits.0.empty)
-turned_suits desk request arena (Filling wish count) (Regions []) low suits = refl
 turned_suits desk request arena (Filling wish count) Nothing low suits =
     (refl, record { empty = suits.0.empty; own = suits.0.own; slots = fewer_slots desk wish.class wish.count count suits.1 suits.0.slots })
-turned_suits desk request arena (Looking wish) (Took span b skip) low suits = grind (arith, nat_tests)
-turned_suits desk request arena (Looking wish) (Grow series) low suits = grind (arith, nat_tests)
 turned_suits desk request arena (Landing wish span) (Landed first count) low suits = (refl, (share_stays arena wish.class (landed_behind first wish.class count) desk).0 ∙ suits.empty)
 turned_suits desk request arena (Changing setting change) Noted low suits = change_suits desk request arena setting change low suits.0 suits.1
 turned_suits desk request arena (Changing setting (Leaves old)) reply low suits = refl
 turned_suits desk request arena (Making index setting) Nothing low suits = make_suits desk request arena index setting suits
 turned_suits desk request arena (Resetting cached) Noted low suits = (refl, can_keep (discarding arena desk) suits.0)
 turned_suits desk request arena (Owning addr true past) reply low suits = grind arith
-turned_suits desk request arena point Refuse low suits = refl
 turned_suits desk request arena point reply low suits =
     let keep = can_keep desk in let visits = visited_suits desk request arena in first_of (search rules, grind (arith, nat_tests))

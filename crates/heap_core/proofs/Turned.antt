@@ -1,5 +1,5 @@
 -- What a turn in one of the arenas leaves of all of them.
-use Rattle.heap_core.proofs.Words.{inr, ◌≡◌, ℕ, ◌+◌, ◌/◌, ◌<◌, ◌≤◌, ◌^◌, ◌==◌, Bool, true, false, cond, List, [], Option, Result, Ok, Err, OnOk, OnErr, IfSome, IsSomeAnd, length, nat_lt, map, slice_set, get_or, refl, sym, ◌∙◌, ap, subst, arith, IsTrue, list_any, range_with_len, nat_tests, same_number_lists, get_or-map-range_with_len, get_or-range_with_len, Journal, IsByIndex, get_or_default, get_or-set_other, get_or-set_same, length-map, length-set, map-set, set-get_or, get_or-map, any_counts, chunk_span, has_page, meets, op_stands, stands, step_of, all_stand, replay, absent_space, first_space, first_replays_are_good, absent_replays_are_good, both_true, heard_in, IsKept, KeptFacts, heard_of, all_rooms, room_of, entry_of, Op, Space, Sound, AskFacts, AreRecorded, room_in, IsArenas, journal_of, no_record, opening_record, opening_records, record_after, record_at, spaces_of, Apart, owns_chunk, with_chunk_found, space_at, IsReplayed, most_room, Record, entries_of, opening_space, ◌≢◌, zero-add, cases_lt, inl}
+use Rattle.heap_core.proofs.Words.{inr, ◌≡◌, ℕ, ◌/◌, ◌<◌, ◌^◌, ◌==◌, Bool, true, false, cond, List, [], Option, Result, Ok, Err, OnOk, OnErr, length, nat_lt, map, slice_set, get_or, refl, sym, ◌∙◌, ap, subst, arith, IsTrue, list_any, range_with_len, nat_tests, same_number_lists, get_or-map-range_with_len, get_or-range_with_len, Journal, IsByIndex, get_or_default, get_or-set_other, get_or-set_same, length-map, length-set, map-set, set-get_or, get_or-map, any_counts, chunk_span, has_page, meets, op_stands, stands, step_of, all_stand, replay, absent_space, first_space, first_replays_are_good, absent_replays_are_good, both_true, KeptFacts, entry_of, Op, Space, Sound, AskFacts, AreRecorded, IsArenas, journal_of, no_record, opening_record, opening_records, record_after, record_at, spaces_of, Apart, owns_chunk, with_chunk_found, space_at, IsReplayed, Record, entries_of, opening_space, ◌≢◌, zero-add, cases_lt, inl}
 pub use Rattle.std.proofs.lemmas.List.{get_or_past as past}
 use Rattle.heap_core.proofs.Owning.{apart_turn, page_owned, at_or_else}
 
@@ -18,14 +18,6 @@ replayed_sound i kept s is = subst Sound (sym is.space) (by (i == 0) refl)
 -- the space of an arena is among the spaces at its index
 pub space_of_record : (records : List Record) (i : ℕ) → space_at (spaces_of records) i ≡ (record_at records i).space
 space_of_record records i = get_or-map (λ (r : Record). r.space) records i no_record
-
--- an operation with the chunk that was found carries the same answer
-heard_settled : (spaces : List Space) (arena : ℕ) (op : Op) → heard_of (with_chunk_found spaces arena op) ≡ heard_of op
-heard_settled spaces arena op = grind arith
-
-pub kept_settled : (spaces : List Space) (arena client : ℕ) (op settled_op : Op) (asked : Option AskFacts) → settled_op ≡ with_chunk_found spaces arena op → IsKept (entry_of client op) asked → IsKept (entry_of client settled_op) asked
-kept_settled spaces arena client op settled_op asked is kept =
-    subst (λ o. IfSome o (λ heard. IsSomeAnd asked (λ made. heard_in made ≡ heard))) (sym (ap heard_of is ∙ heard_settled spaces arena op)) kept
 
 -- ---- the arena of a turn, and the others
 
@@ -79,20 +71,6 @@ pub arenas_turned_from : {A E : Type 0} (records : List Record) (arena client : 
 arenas_turned_from records arena client op settled_op asked r old new at is there settles may after same index replayed =
     arenas_turned records arena client op settled_op asked r new is there settles may (subst (λ o. OnOk r (new ≡ record_after o client settled_op asked)) at after)
     (subst (λ o. OnErr r (new ≡ o)) at same) (index ∙ ap (λ (o : Record). o.index) at) replayed
-
--- the room of a client after a turn, where it is bounded by those that there were
-given_settled : (spaces : List Space) (arena : ℕ) (op : Op) → most_room (with_chunk_found spaces arena op) ≡ most_room op
-given_settled spaces arena op = grind arith
-
-pub room_turned : {A E : Type 0} (records now : List Record) (arena client : ℕ) (op settled_op : Op) (r : Result A E) (old new : Record) → records ≡ now → old ≡ record_at records arena → IsArenas records → arena < 32 →
-    settled_op ≡ with_chunk_found (spaces_of records) arena op → OnOk r (room_of client new.rooms ≤ all_rooms old.rooms + most_room settled_op) →
-    OnOk r (room_in (slice_set records arena new) arena client ≤ all_rooms (record_at now arena).rooms + most_room op)
-room_turned records now arena client op settled_op (Err e) old new view at is there settles few = tt
-room_turned records now arena client op settled_op (Ok reply) old new view at is there settles few =
-    let set : room_in (slice_set records arena new) arena client ≡ room_of client new.rooms = ap (λ (r : Record). room_of client r.rooms) (get_or-set_same records arena new no_record (omega (arith, there, is.number))) in
-    let most : most_room settled_op ≡ most_room op = ap most_room settles ∙ given_settled (spaces_of records) arena op in
-    let rooms : all_rooms old.rooms ≡ all_rooms (record_at now arena).rooms = ap (λ (r : Record). all_rooms r.rooms) (at ∙ ap (λ rs. record_at rs arena) view) in
-    omega (arith, set, most, rooms, few)
 
 -- ---- the beginning
 

@@ -1,12 +1,11 @@
 -- The turn that a call wants leads on, with all that its client has.
-use Rattle.heap_core.proofs.Words.{rules, ◌≡◌, ◌≢◌, ◌⊎◌, inl, inr, ℕ, ◌<◌, true, false, cond, IsTrue, List, [], ◌∷◌, Option, None, Some, Ok, Result, slice_set, refl, sym, ◌∙◌, ap, subst, arith, count_by, Set, with_setting, is_live, stands, stays, step_of, Stepped, entry_of, gave, Request, Item, Replied, Told, Starved, NoMemory, Change, Stops, Visits, Leaves, TurnPoint, Filling, Landing, Giving, Changing, Making, Resetting, Destroying, Publishing, Owning, AskPoint, Skipping, Point, Turns, Asks, Next, Go, More, Ends, Op, Reply, Noted, Landed, NextFlight, Regions, Owned, Setting, Unbind, Bind, MakeLive, Space, Mine, mine, AskFacts, Held, DeskFacts, freeing, CallFacts, desk_fed, desk_turned, landed_behind, held_region, Idle, KnowsTurn, is_of_arena, after, closed, moved, stage, step_next, WantTurn, WantAsk, done_at, is_marked, op_at, starved, step, want, IsArenas, record_after, record_at, reply_in, spaces_of, with_chunk_found, CanTurn, IsIdle, Waits, WaitsNext, after_turn, mine_in, IsReplayed, Record, seat_of, AsksSit, Comes, HasRegions, IsSeated, OthersSit, SeatSound, Sits, SitsAt, StarvesSit, Suits, SuitsChange, SuitsTurn, TurnsSit, is_region, never_starves, is_in}
-use Rattle.call_plan.specs.Words.{NoArena}
+use Rattle.heap_core.proofs.Words.{rules, ◌≡◌, ◌≢◌, ◌⊎◌, inl, inr, ℕ, ◌<◌, true, false, cond_both, IsTrue, List, [], ◌∷◌, Option, None, Some, Ok, Result, slice_set, refl, sym, ◌∙◌, ap, subst, arith, count_by, Set, is_live, stands, step_of, Stepped, entry_of, gave, Request, Item, Replied, Told, Starved, NoMemory, Change, Stops, Visits, Leaves, TurnPoint, Filling, Landing, Giving, Changing, Making, Owning, AskPoint, Skipping, Point, Turns, Asks, Next, Go, More, Ends, Op, Reply, Landed, NextFlight, Regions, Owned, Setting, Unbind, Bind, MakeLive, Space, Mine, mine, AskFacts, Held, DeskFacts, freeing, CallFacts, desk_fed, desk_turned, landed_behind, held_region, Idle, KnowsTurn, is_of_arena, after, closed, moved, stage, step_next, WantTurn, WantAsk, done_at, is_marked, op_at, starved, step, want, IsArenas, record_after, record_at, reply_in, spaces_of, with_chunk_found, CanTurn, IsIdle, Waits, WaitsNext, after_turn, mine_in, IsReplayed, Record, seat_of, AsksSit, Comes, HasRegions, IsSeated, OthersSit, SeatSound, Sits, SitsAt, StarvesSit, Suits, SuitsChange, SuitsTurn, TurnsSit, is_region, never_starves, is_in}
 use Rattle.heap_core.proofs.Carrying.{carries}
 use Rattle.heap_core.proofs.Clients.{asks-lead_on, at_or_else, elsewhere_is, others-stay, others_own, sound_at, there_is, turns-lead_on}
 use Rattle.heap_core.proofs.Having.{cache_arena, share_stays}
 use Rattle.heap_core.proofs.Regions.{count_at}
 use Rattle.heap_core.proofs.Settling.{Owns, comes_on, count_in, ends_rest, has_owns, single_in}
-use Rattle.heap_core.proofs.Steady.{IsSteady, added_in, bind_keeps, moves_bound, op_steady, set_steady}
+use Rattle.heap_core.proofs.Steady.{BindsNobody, IsSteady, added_in, bind_keeps, op_bound, op_regions, set_bound}
 use Rattle.heap_core.proofs.Suiting.{Suited, came, told_suits, turned_suits}
 use Rattle.heap_core.proofs.Turned.{arenas_turned}
 use Rattle.heap_core.proofs.Turning.{replayed_more}
@@ -54,32 +53,22 @@ module _ (s : Space) (c arena : ℕ) (desk : DeskFacts) (request : Request) (was
 
   change_binds : (setting : Setting) (change : Change) → SuitsChange desk arena setting change → Binds (Changing setting change) (step_of s c (Set setting))
   change_binds Bind (Leaves old) suits =
-      elim (is_live s.life) as (λ v. Binds (Changing Bind (Leaves old)) (cond v (stays (with_setting s c Bind) Noted) (stays s NoArena))) [
-        | true ↦ inr (refl, added_in c s.bound)
-        | false ↦ inl (refl, was)
-      ]
+      cond_both (is_live s.life) _ _ (Binds (Changing Bind (Leaves old))) (λ _. inr (refl, added_in c s.bound)) (λ _. inl (refl, was))
   change_binds Bind change suits = inl (refl, λ home. bind_keeps s c (was home))
   change_binds Unbind Stops suits = inl (refl, λ home. absurd (suits (sym home)))
   change_binds Unbind (Visits visit) suits = inl (refl, λ home. absurd (suits (sym home)))
   change_binds setting (Leaves old) suits = absurd suits
-  change_binds setting change suits = inl (refl, λ home. ap (is_in c) (set_steady s c setting tt).bound ∙ was home)
+  change_binds setting change suits = inl (refl, λ home. ap (is_in c) (set_bound s c setting tt) ∙ was home)
 
   -- a setting that makes an arena binds nobody
   make_bound : (setting : Setting) → is_of_arena setting ≡ false → (step_of s c (Set setting)).after.bound ≡ s.bound
-  make_bound (MakeLive box_no dirty_ms muzzy_ms now) e = (set_steady s c (MakeLive box_no dirty_ms muzzy_ms now) tt).bound
+  make_bound (MakeLive box_no dirty_ms muzzy_ms now) e = set_bound s c (MakeLive box_no dirty_ms muzzy_ms now) tt
   make_bound setting e = absurd (cc)
 
   pub binds : (point : TurnPoint) → KnowsTurn (mine c s) point → SuitsTurn desk request arena point → Binds point (step_of s c (op_at point))
   binds (Changing setting change) knows suits = change_binds setting change suits.1
   binds (Making index setting) knows suits = same_bound (Making index setting) (λ x y e. cc) (make_bound setting knows.2)
-  binds (Filling wish count) knows suits = same_bound (Filling wish count) (λ x y e. cc) (moves_bound s c (op_at (Filling wish count)) tt)
-  binds (Landing wish span) knows suits = same_bound (Landing wish span) (λ x y e. cc) (moves_bound s c (op_at (Landing wish span)) tt)
-  binds (Giving addrs) knows suits = same_bound (Giving addrs) (λ x y e. cc) (moves_bound s c (op_at (Giving addrs)) tt)
-  binds (Resetting cached) knows suits = same_bound (Resetting cached) (λ x y e. cc) (moves_bound s c (op_at (Resetting cached)) tt)
-  binds (Destroying cached) knows suits = same_bound (Destroying cached) (λ x y e. cc) (moves_bound s c (op_at (Destroying cached)) tt)
-  binds (Publishing addr) knows suits = same_bound (Publishing addr) (λ x y e. cc) (moves_bound s c (op_at (Publishing addr)) tt)
-  binds (Owning addr frees past) knows suits = same_bound (Owning addr frees past) (λ x y e. cc) (moves_bound s c (op_at (Owning addr frees past)) tt)
-  binds point knows suits = same_bound point (λ x y e. cc) (op_steady s c (op_at point) tt).bound
+  binds point knows suits = same_bound point (λ x y e. cc) (op_bound s c (op_at point) tt)
 
 -- ---- what a client has after its turn
 
@@ -87,10 +76,10 @@ module _ (s : Space) (c arena : ℕ) (desk : DeskFacts) (request : Request) (was
 settled_of : (spaces : List Space) (arena : ℕ) (point : TurnPoint) → with_chunk_found spaces arena (op_at point) ≡ op_at point
 settled_of spaces arena point = grind arith
 
--- an answer that is taken in moves no region
-steady_done : (spaces : List Space) (arena : ℕ) (point : AskPoint) (asked : AskFacts) → IsSteady (with_chunk_found spaces arena (done_at point asked))
-steady_done spaces arena (Skipping wish span b skip) asked = tt
-steady_done spaces arena point asked = tt
+-- an answer that is taken in moves no region, and binds nobody
+steady_done : (spaces : List Space) (arena : ℕ) (point : AskPoint) (asked : AskFacts) → IsSteady (with_chunk_found spaces arena (done_at point asked)) × BindsNobody (with_chunk_found spaces arena (done_at point asked))
+steady_done spaces arena (Skipping wish span b skip) asked = (tt, tt)
+steady_done spaces arena point asked = (tt, tt)
 
 module _ (records : List Record) (c arena : ℕ) (desk : DeskFacts) (request : Request) (asked : Option AskFacts) (is : IsArenas records) (there : arena < 32) (owns : Owns records c [] desk) where
   abbrev pub s : Space
@@ -191,8 +180,9 @@ module _ (records : List Record) (c : ℕ) (desk : DeskFacts) (call : CallFacts)
       can sits.waits.there waits (turned_suits desk call.request arena point reply sits.has.arena sits.suits)
   turn_at (Asks point (Some told_so)) sits wants can waits =
       let same : done_at point told_so ≡ op = cc in
-      let steady = op_steady (record_at records arena).space c done (subst (λ (o : Op). IsSteady (with_chunk_found (spaces_of records) arena o)) same (steady_done (spaces_of records) arena point told_so)) in
-      turned_from (Asks point (Some told_so)) [] (steady_owns records c arena desk call.request asked is sits.waits.there (has_owns records c desk sits.has) done steady.regions steady.bound)
+      let s : Space = (record_at records arena).space in
+      let steady = subst (λ (o : Op). IsSteady (with_chunk_found (spaces_of records) arena o) × BindsNobody (with_chunk_found (spaces_of records) arena o)) same (steady_done (spaces_of records) arena point told_so) in
+      turned_from (Asks point (Some told_so)) [] (steady_owns records c arena desk call.request asked is sits.waits.there (has_owns records c desk sits.has) done (op_regions s c done steady.0) (op_bound s c done steady.1))
       can sits.waits.there waits (told_suits desk call.request arena point told_so reply sits.suits)
   turn_at point sits wants can waits = absurd (cc)
 

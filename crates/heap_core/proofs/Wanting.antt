@@ -1,6 +1,5 @@
 -- What a client's open call wants, and where a step for it leads.
-use Rattle.heap_core.proofs.Words.{inl, inr, ◌≡◌, ◌⊎◌, ◌≤◌, ◌<◌, ℕ, ◌+◌, true, false, List, Option, None, Some, IfSome, IsSomeAnd, is_some, refl, sym, ap, subst, ◌∙◌, arith, Shelf, opens, Item, Told, Starved, Answered, NoMemory, Owning, Point, Turns, Next, Go, More, Ends, Ask, Op, AskFacts, DeskFacts, Need, NeedsTurn, NeedsAsk, Turn, CallFacts, moment_of, desk_fed, NeedIs, NeedsWant, heard_next, taken_next, Moment, after, moved, starved_after, step_next, Want, WantTurn, WantAsk, is_marked, step, want, room_in, FedTo, never_starves, HeapFacts, IsStepFor, IsStep, IsSure, SureAt, SureFor, WantedAt, asks_at, asks_next, owing, Record, Seat, answer_of, heard_by, seat_at, seat_of, IsSeated, SeatSound, Sits, SitsAt, IsMarked, Needs, StarvesAt, StarvesNext}
-use Rattle.heap_core.specs.declared.heaps.Stepped.{Stepped}
+use Rattle.heap_core.proofs.Words.{◌≡◌, ◌⊎◌, ◌≤◌, ℕ, ◌+◌, true, false, List, Option, None, Some, IfSome, IsSomeAnd, refl, sym, ap, subst, ◌∙◌, arith, opens, Item, Told, Starved, Answered, NoMemory, Point, Next, Go, More, Ends, Ask, Op, AskFacts, DeskFacts, Need, NeedsTurn, NeedsAsk, Turn, CallFacts, moment_of, desk_fed, Goes, NeedIs, NeedsWant, heard_next, Moment, after, moved, starved_after, step_next, Want, WantTurn, WantAsk, is_marked, step, want, room_in, FedTo, never_starves, HeapFacts, asks_at, asks_next, owing, Record, Seat, answer_of, heard_by, seat_at, seat_of, IsSeated, SeatSound, Sits, SitsAt, IsMarked, Needs, StarvesAt, StarvesNext}
 
 -- ---- the point of an open call
 
@@ -24,14 +23,14 @@ goes_on : (records : List Record) (c : ℕ) (desk : DeskFacts) (call : CallFacts
 goes_on records c desk call (Go point) sits = (point, refl, sits)
 goes_on records c desk call next sits = absurd sits
 
-wanted : (records : List Record) (c : ℕ) (seat : Seat) (wants : Want) (arena : ℕ) (P : CallFacts → Type 0) → SeatSound records c seat → IsSomeAnd seat.call P →
-    ((call : CallFacts) (point : Point) → call.stage.next ≡ Go point → P call → (want point ≡ wants) × (arena ≡ call.stage.arena)) → Wanted records c seat wants arena
+wanted : (records : List Record) (c : ℕ) (seat : Seat) (wants : Option AskFacts → Want) (arena : ℕ) (P : CallFacts → Type 0) → SeatSound records c seat → IsSomeAnd seat.call P →
+    ((call : CallFacts) (point : Point) → call.stage.next ≡ Go point → P call → (want point ≡ wants (heard_next call.stage.next)) × (arena ≡ call.stage.arena)) → Wanted records c seat (wants (heard_by seat.call)) arena
 wanted records c seat wants arena P sound some tells =
     let k = some_has seat.call P some in
     let s : IsSeated records c seat.desk (Some k.0) = subst (IsSeated records c seat.desk) k.1 sound in
     let g = goes_on records c seat.desk k.0 k.0.stage.next s.1 in
     let t = tells k.0 g.0 g.1 k.2 in
-    record { call = k.0; point = g.0; is = k.1; client = s.0; goes = g.1; sits = g.2; want_is = t.0; arena_is = t.1 }
+    record { call = k.0; point = g.0; is = k.1; client = s.0; goes = g.1; sits = g.2; want_is = t.0 ∙ ap (λ call. wants (heard_by call)) (sym k.1); arena_is = t.1 }
 
 -- what it needs is what it wants
 turn_needed : (client at : ℕ) (point : Point) (turn : Turn) → NeedsWant client at (want point) (NeedsTurn turn) → (want point ≡ WantTurn turn.op (heard_next (Go point))) × (turn.arena ≡ at) × (turn.client ≡ client)
@@ -40,38 +39,21 @@ turn_needed client at point turn is = grind arith
 ask_needed : (client at : ℕ) (w : Want) (arena : ℕ) (ask : Ask) → NeedsWant client at w (NeedsAsk arena ask) → (w ≡ WantAsk ask) × (arena ≡ at)
 ask_needed client at w arena ask is = grind arith
 
-pub turn_wanted : (records : List Record) (c : ℕ) (seat : Seat) (turn : Turn) → SeatSound records c seat → Needs seat.call (NeedsTurn turn) → Wanted records c seat (WantTurn turn.op (heard_by seat.call)) turn.arena
-turn_wanted records c seat turn sound needs =
-    let k = some_has seat.call (λ call. NeedIs call.client call.stage.arena call.stage.next (NeedsTurn turn)) needs in
-    subst (λ heard. Wanted records c seat (WantTurn turn.op heard) turn.arena) (ap heard_by (sym k.1))
-    (wanted records c seat (WantTurn turn.op (heard_next k.0.stage.next)) turn.arena (λ call. (call ≡ k.0) × NeedIs call.client call.stage.arena call.stage.next (NeedsTurn turn)) sound
-    (subst (λ call. IsSomeAnd call (λ call. (call ≡ k.0) × NeedIs call.client call.stage.arena call.stage.next (NeedsTurn turn))) (sym k.1) (refl, k.2))
-    (λ call point goes need.
-    let t = turn_needed call.client call.stage.arena point turn (subst (λ next. NeedIs call.client call.stage.arena next (NeedsTurn turn)) goes need.1) in
-    (t.0 ∙ ap (λ next. WantTurn turn.op (heard_next next)) (sym goes ∙ ap (λ (k : CallFacts). k.stage.next) need.0), t.1)))
-
-pub ask_wanted : (records : List Record) (c : ℕ) (seat : Seat) (arena : ℕ) (ask : Ask) → SeatSound records c seat → Needs seat.call (NeedsAsk arena ask) → Wanted records c seat (WantAsk ask) arena
-ask_wanted records c seat arena ask sound needs =
-    wanted records c seat (WantAsk ask) arena (λ call. NeedIs call.client call.stage.arena call.stage.next (NeedsAsk arena ask)) sound needs
-    (λ call point goes need. ask_needed call.client call.stage.arena (want point) arena ask (subst (λ next. NeedIs call.client call.stage.arena next (NeedsAsk arena ask)) goes need))
-
--- likewise where the heap is seen to be so, and the client with the ask that it heard
+-- where the heap is seen to be so, and the client with the ask that it heard
 pub turn_seen : (h now : HeapFacts) (turn : Turn) (seat : Seat) (asked : Option AskFacts) → h ≡ now → SeatSound h.records turn.client (seat_at h.seats turn.client) → Needs (seat_at now.seats turn.client).call (NeedsTurn turn) →
     seat ≡ seat_at h.seats turn.client → asked ≡ heard_by seat.call → Wanted h.records turn.client (seat_at h.seats turn.client) (WantTurn turn.op asked) turn.arena
 turn_seen h now turn seat asked view sound needs same heard =
     let at : Seat = seat_at h.seats turn.client in
     subst (λ a. Wanted h.records turn.client at (WantTurn turn.op a) turn.arena) (sym (heard ∙ ap (λ (s : Seat). heard_by s.call) same))
-    (turn_wanted h.records turn.client at turn sound (subst (λ (n : HeapFacts). Needs (seat_at n.seats turn.client).call (NeedsTurn turn)) (sym view) needs))
-
--- and it has an open call
-pub turn_calls : (h now : HeapFacts) (turn : Turn) (seat : Seat) → h ≡ now → Needs (seat_at now.seats turn.client).call (NeedsTurn turn) → seat ≡ seat_at h.seats turn.client → is_some seat.call ≡ true
-turn_calls h now turn seat view needs same =
-    let is : seat ≡ seat_at now.seats turn.client = same ∙ ap (λ (n : HeapFacts). seat_at n.seats turn.client) view in
-    let k = some_has (seat_at now.seats turn.client).call (λ call. NeedIs call.client call.stage.arena call.stage.next (NeedsTurn turn)) needs in
-    ap (λ (s : Seat). is_some s.call) is ∙ ap is_some k.1
+    (wanted h.records turn.client at (WantTurn turn.op) turn.arena (λ call. NeedIs call.client call.stage.arena call.stage.next (NeedsTurn turn)) sound
+    (subst (λ (n : HeapFacts). Needs (seat_at n.seats turn.client).call (NeedsTurn turn)) (sym view) needs) (λ call point goes need.
+    let t = turn_needed call.client call.stage.arena point turn (subst (λ next. NeedIs call.client call.stage.arena next (NeedsTurn turn)) goes need) in (t.0 ∙ ap (λ next. WantTurn turn.op (heard_next next)) (sym goes), t.1)))
 
 pub ask_seen : (h now : HeapFacts) (c arena : ℕ) (ask : Ask) → h ≡ now → SeatSound h.records c (seat_at h.seats c) → Needs (seat_at now.seats c).call (NeedsAsk arena ask) → Wanted h.records c (seat_at h.seats c) (WantAsk ask) arena
-ask_seen h now c arena ask view sound needs = ask_wanted h.records c (seat_at h.seats c) arena ask sound (subst (λ (n : HeapFacts). Needs (seat_at n.seats c).call (NeedsAsk arena ask)) (sym view) needs)
+ask_seen h now c arena ask view sound needs =
+    wanted h.records c (seat_at h.seats c) (λ _. WantAsk ask) arena (λ call. NeedIs call.client call.stage.arena call.stage.next (NeedsAsk arena ask)) sound
+    (subst (λ (n : HeapFacts). Needs (seat_at n.seats c).call (NeedsAsk arena ask)) (sym view) needs)
+    (λ call point goes need. ask_needed call.client call.stage.arena (want point) arena ask (subst (λ next. NeedIs call.client call.stage.arena next (NeedsAsk arena ask)) goes need))
 
 -- A client's open call wants a turn that may find no memory.
 pub record Starving (records : List Record) (c : ℕ) (seat : Seat) : Type 0 where
@@ -85,11 +67,12 @@ turn_marked : (w : Want) → IsMarked w → (op : Op) × (asked : Option AskFact
 turn_marked (WantTurn op asked) is = (op, asked, refl, is)
 turn_marked (WantAsk ask) is = absurd is
 
-pub starving : (records : List Record) (c : ℕ) (seat : Seat) → SeatSound records c seat → StarvesAt seat.call → Starving records c seat
-starving records c seat sound some =
-    let k = some_has seat.call (λ call. StarvesNext call.stage.next) some in
-    let s : IsSeated records c seat.desk (Some k.0) = subst (IsSeated records c seat.desk) k.1 sound in
-    let g = goes_on records c seat.desk k.0 k.0.stage.next s.1 in
+pub starving_seen : (h now : HeapFacts) (c : ℕ) → h ≡ now → SeatSound h.records c (seat_at h.seats c) → StarvesAt (seat_at now.seats c).call → Starving h.records c (seat_at h.seats c)
+starving_seen h now c view sound starves =
+    let seat : Seat = seat_at h.seats c in
+    let k = some_has seat.call (λ call. StarvesNext call.stage.next) (subst (λ (n : HeapFacts). StarvesAt (seat_at n.seats c).call) (sym view) starves) in
+    let s : IsSeated h.records c seat.desk (Some k.0) = subst (IsSeated h.records c seat.desk) k.1 sound in
+    let g = goes_on h.records c seat.desk k.0 k.0.stage.next s.1 in
     let m = turn_marked (want g.0) (subst StarvesNext g.1 k.2) in
     record {
       op = m.0;
@@ -99,34 +82,27 @@ starving records c seat sound some =
       wants = record { call = k.0; point = g.0; is = k.1; client = s.0; goes = g.1; sits = g.2; want_is = m.2; arena_is = refl };
     }
 
-pub starving_seen : (h now : HeapFacts) (c : ℕ) → h ≡ now → SeatSound h.records c (seat_at h.seats c) → StarvesAt (seat_at now.seats c).call → Starving h.records c (seat_at h.seats c)
-starving_seen h now c view sound starves = starving h.records c (seat_at h.seats c) sound (subst (λ (n : HeapFacts). StarvesAt (seat_at n.seats c).call) (sym view) starves)
-
 -- ---- what a step is
 
-pub step_made : (h : HeapFacts) (records : List Record) (shelf shelf' : Shelf) (c : ℕ) (wants : Want) (arena : ℕ) (stepped : Stepped) (new : HeapFacts) (w : Wanted records c (seat_at h.seats c) wants arena) →
-    IsStepFor h shelf c w.call wants stepped new shelf' → IsStep h shelf c (seat_at h.seats c).call stepped new shelf'
-step_made h records shelf shelf' c wants arena stepped new w made =
-    subst (λ call. IsStep h shelf c call stepped new shelf') (sym w.is)
-    (subst (λ next. WantedAt next (λ want. IsStepFor h shelf c w.call want stepped new shelf')) (sym w.goes)
-    (subst (λ want. IsStepFor h shelf c w.call want stepped new shelf') (sym w.want_is) made))
+-- a client may be fed an item, and was fed one that told it this and left it so
+abbrev pub GoesOn : Item → Seat → Type 0
+GoesOn item seat = IsSomeAnd seat.call (λ call. Goes (after (moment_of call seat.desk) item).stage.next)
 
--- what an item leaves of the client's call
+abbrev pub IsFed : Item → Option Answered → Seat → Seat → Type 0
+IsFed item ended new seat = IfSome seat.call (λ call. FedTo call seat.desk item ended new)
+
+-- what an item leaves of a client and tells it: the call goes on or has its answer, or no memory is left for what goes back next
+abbrev pub FedAs : ℕ → Moment → Next → Item → Option Answered → Seat → Type 0
+FedAs c at next item ended new = ((new ≡ seat_of c (after at item)) × (ended ≡ answer_of (after at item))) ⊎ ((new ≡ seat_of c (starved_after at item)) × (ended ≡ Some NoMemory) × (step_next next item ≡ More))
+
 pub fed_at : (records : List Record) (c : ℕ) (seat : Seat) (wants : Want) (arena : ℕ) (item : Item) (ended : Option Answered) (new : Seat) (w : Wanted records c seat wants arena) →
-    IfSome seat.call (λ call. FedTo call seat.desk item ended new) →
-    ((new ≡ seat_of c (after (moment_of w.call seat.desk) item)) × (ended ≡ answer_of (after (moment_of w.call seat.desk) item)))
-    ⊎ ((new ≡ seat_of c (starved_after (moment_of w.call seat.desk) item)) × (ended ≡ Some NoMemory) × (step w.point item ≡ More))
-fed_at records c seat wants arena item ended new w fed =
-    by (subst (λ call. IfSome call (λ call. FedTo call seat.desk item ended new)) w.is fed)
-  where
-    seated : (m : Moment) → new ≡ seat_of w.call.client m → new ≡ seat_of c m
-    seated m is = is ∙ ap (λ k. seat_of k m) w.client
+    IsFed item ended new seat → FedAs c (moment_of w.call seat.desk) (Go w.point) item ended new
+fed_at records c seat wants arena item ended new w fed = let same = w.is in let client = w.client in let goes = w.goes in grind arith
 
-    by : FedTo w.call seat.desk item ended new →
-        ((new ≡ seat_of c (after (moment_of w.call seat.desk) item)) × (ended ≡ answer_of (after (moment_of w.call seat.desk) item)))
-        ⊎ ((new ≡ seat_of c (starved_after (moment_of w.call seat.desk) item)) × (ended ≡ Some NoMemory) × (step w.point item ≡ More))
-    by (inl (is, told)) = inl (seated (after (moment_of w.call seat.desk) item) is, told)
-    by (inr (is, told, more)) = inr (seated (starved_after (moment_of w.call seat.desk) item) is, told, subst (λ next. step_next next item ≡ More) w.goes more)
+-- what the call was promised is what may be asked at its point
+pub asks_promised : (records : List Record) (c n : ℕ) (seat : Seat) (wants : Want) (arena : ℕ) (w : Wanted records c seat wants arena) → owing records c seat.call ≤ n → asks_at (room_in records w.call.stage.arena c) w.point ≤ n
+asks_promised records c n seat wants arena w promised =
+    subst (λ next. asks_next (room_in records w.call.stage.arena c) next ≤ n) w.goes (subst (λ call. owing records c call ≤ n) w.is promised)
 
 -- ---- a turn that finds no memory
 
@@ -149,23 +125,9 @@ starved_ends records c seat op asked arena w marked =
     ap (λ next. moved at.request (desk_fed at.desk at.stage.arena at.stage.next Starved) at.stage.arena next)
     (ap (λ next. step_next next Starved) w.goes ∙ starves_to w.point op asked w.want_is marked)
 
--- what it leaves of its client
-pub starved_at : (records : List Record) (c : ℕ) (seat : Seat) (op : Op) (asked : Option AskFacts) (arena : ℕ) (ended : Option Answered) (new : Seat) (w : Wanted records c seat (WantTurn op asked) arena) →
-    is_marked op ≡ true → IfSome seat.call (λ call. FedTo call seat.desk Starved ended new) → (new ≡ seat_of c (after (moment_of w.call seat.desk) Starved)) × (ended ≡ Some NoMemory)
-starved_at records c seat op asked arena ended new w marked fed =
-    let ends : after (moment_of w.call seat.desk) Starved ≡ starved_after (moment_of w.call seat.desk) Starved = starved_ends records c seat op asked arena w marked in
-    elim (fed_at records c seat (WantTurn op asked) arena Starved ended new w fed) [
-      | inl told ↦ (told.0, told.1 ∙ ap answer_of ends)
-      | inr off ↦ (off.0 ∙ ap (seat_of c) (sym ends), off.1)
-    ]
-
 -- ---- an ask
 
--- a place is promised for it
-pub ask_some : (room : ℕ) (point : Point) (ask : Ask) → want point ≡ WantAsk ask → 0 < asks_at room point
-ask_some room point ask wants = grind arith
-
--- which it takes
+-- it takes one of the places that were promised
 owed_told : (records : List Record) (c n : ℕ) (at : Moment) (point : Point) (ask : Ask) (asked : AskFacts) → want point ≡ WantAsk ask → asks_at (room_in records at.stage.arena c) point ≤ n + 1 →
     owing records c (seat_of c (moved at.request (desk_fed at.desk at.stage.arena at.stage.next (Told asked)) at.stage.arena (step point (Told asked)))).call ≤ n
 owed_told records c n at point ask asked wants few = grind arith
@@ -174,20 +136,13 @@ pub owed_asked : (records : List Record) (c n : ℕ) (seat : Seat) (ask : Ask) (
     owing records c (seat_of c (after (moment_of w.call seat.desk) (Told asked))).call ≤ n
 owed_asked records c n seat ask asked arena w few =
     let at : Moment = moment_of w.call seat.desk in
-    let here : asks_at (room_in records at.stage.arena c) w.point ≤ n + 1 =
-    subst (λ next. asks_next (room_in records at.stage.arena c) next ≤ n + 1) w.goes (subst (λ call. owing records c call ≤ n + 1) w.is few) in
+    let here = asks_promised records c (n + 1) seat (WantAsk ask) arena w few in
     subst (λ next. owing records c (seat_of c (moved at.request (desk_fed at.desk at.stage.arena at.stage.next (Told asked)) at.stage.arena next)).call ≤ n)
     (sym (ap (λ next. step_next next (Told asked)) w.goes)) (owed_told records c n at w.point ask asked w.want_is here)
 
 -- no more goes back next
 pub told_on : (point : Point) (ask : Ask) (asked : AskFacts) → want point ≡ WantAsk ask → step point (Told asked) ≡ More → ⊥
 told_on point ask asked wants more = grind arith
-
--- ---- a region that is taken over
-
-pub taken_is : (next : Next) (addr : ℕ) → taken_next next ≡ Some addr → next ≡ Go (Turns (Owning addr true false))
-taken_is (Go (Turns (Owning at true false))) addr is = ap (λ a. Go (Turns (Owning a true false))) (cc)
-taken_is next addr is = absurd (cc)
 
 -- ---- whose turn it is
 
@@ -198,33 +153,7 @@ turn_client records c seat turn sound needs =
     let g = goes_on records c seat.desk k.0 k.0.stage.next s.1 in
     (turn_needed k.0.client k.0.stage.arena g.0 turn (subst (λ next. NeedIs k.0.client k.0.stage.arena next (NeedsTurn turn)) g.1 k.2)).2 ∙ s.0
 
--- What a client's call told, seen of the heap: whose turn it is, and that the call needs it.
-pub record TurnTold (now : HeapFacts) (c : ℕ) (turn : Turn) : Type 0 where
-  pub client : turn.client ≡ c
-  pub needs : Needs (seat_at now.seats turn.client).call (NeedsTurn turn)
-
+-- what a client's call told is what it needs, seen of the heap
 pub turn_told : (h now : HeapFacts) (c : ℕ) (turn : Turn) (seat : Seat) (call : CallFacts) (need : Need) → h ≡ now → SeatSound h.records c (seat_at h.seats c) → seat ≡ seat_at h.seats c →
-    seat.call ≡ Some call → NeedIs call.client call.stage.arena call.stage.next need → need ≡ NeedsTurn turn → TurnTold now c turn
-turn_told h now c turn seat call need view sound at is told same =
-    let here : Needs (seat_at h.seats c).call (NeedsTurn turn) =
-    subst (λ (s : Seat). Needs s.call (NeedsTurn turn)) at (subst (λ k. Needs k (NeedsTurn turn)) (sym is) (subst (NeedIs call.client call.stage.arena call.stage.next) same told)) in
-    let who : turn.client ≡ c = turn_client h.records c (seat_at h.seats c) turn sound here in
-    record { client = who; needs = subst (λ k. Needs (seat_at now.seats k).call (NeedsTurn turn)) (sym who) (subst (λ (n : HeapFacts). Needs (seat_at n.seats c).call (NeedsTurn turn)) view here) }
-
--- a step without an ask leaves every shelf as it is
-pub step_of : (now new : HeapFacts) (k c : ℕ) (stepped : Stepped) (shelf : Shelf) → k ≡ c → ((s : Shelf) → IsStep now s k (seat_at now.seats k).call stepped new s) → IsStep now shelf c (seat_at now.seats c).call stepped new shelf
-step_of now new k c stepped shelf same made = subst (λ j. IsStep now shelf j (seat_at now.seats j).call stepped new shelf) same (made shelf)
-
--- ---- a turn that takes no memory
-
-pub sure_made : (h new : HeapFacts) (c : ℕ) (wants : Want) (arena : ℕ) (w : Wanted h.records c (seat_at h.seats c) wants arena) → SureFor h c w.call wants new → IsSure h c (seat_at h.seats c).call new
-sure_made h new c wants arena w sure =
-    subst (λ call. IsSure h c call new) (sym w.is) (subst (λ next. SureAt h c w.call next new) (sym w.goes) (subst (λ want. SureFor h c w.call want new) (sym w.want_is) sure))
-
--- one that may find no memory takes some
-pub starving_sure : (h new : HeapFacts) (c : ℕ) → Starving h.records c (seat_at h.seats c) → IsSure h c (seat_at h.seats c).call new
-starving_sure h new c s = sure_made h new c (WantTurn s.op s.asked) s.arena s.wants (λ unmarked. let marked = s.marked in absurd (cc))
-
--- an operation of a call that takes no memory is not the first of a unit
-pub unmarked_opens : (point : Point) (op : Op) (asked : Option AskFacts) → want point ≡ WantTurn op asked → is_marked op ≡ false → opens op ≡ false
-unmarked_opens point op asked wants is = grind (arith, opens_marked point op asked wants)
+    seat.call ≡ Some call → NeedIs call.client call.stage.arena call.stage.next need → need ≡ NeedsTurn turn → Needs (seat_at now.seats turn.client).call (NeedsTurn turn)
+turn_told h now c turn seat call need view sound at is told same = grind (arith, turn_client)

@@ -1,11 +1,6 @@
 -- The arenas of a heap, each with its journal.
 use Rattle.std.specs.Prelude.{◌≡◌, ℕ, ℤ, ◌<◌, ◌^◌, ◌++◌, ◌∷◌, [], List, Option, None, Some, if◌then◌else◌, length, map, replicate, slice_index_or, slice_set}
-use Rattle.std.specs.List.{range_with_len}
-use Rattle.space_model.specs.Step.{reply_to, space_after}
-use Rattle.space_model.specs.Stepped.{is_live}
-use Rattle.hook_api.specs.declared.kept.Journal.{Journal}
-use Rattle.arena_core.specs.Arenas.{entry_of, room_of, rooms_after}
-use Rattle.call_plan.specs.Words.{Op, Reply, Space, AskFacts}
+use Rattle.heap_core.specs.Words.{range_with_len, reply_to, space_after, is_live, Journal, entry_of, room_of, rooms_after, Op, Reply, Space, AskFacts}
 use Rattle.heap_core.specs.Chunks.{Apart}
 use Rattle.heap_core.specs.Records.{IsReplayed, Record, opening_space}
 

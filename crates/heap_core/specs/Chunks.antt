@@ -1,11 +1,6 @@
 -- Which arenas own a chunk, and the chunk that speaks against an answer.
 use Rattle.std.specs.Prelude.{◌≡◌, ℕ, ◌%◌, ◌==◌, ◌&&◌, Bool, true, List, Option, None, find, slice_index_or, slice_set, if◌then◌else◌}
-use Rattle.std.specs.List.{list_any}
-use Rattle.space_model.specs.declared.entries.Op.TheVariants.{GrowDone, OfferDone}
-use Rattle.space_model.specs.Opening.{absent_space}
-use Rattle.space_model.specs.Span.{chunk_span, chunks_of, meets}
-use Rattle.space_model.specs.Step.{is_in_space}
-use Rattle.call_plan.specs.Words.{Ask, Alloc, Dalloc, Answer, Placed, Refuses as Refused, Op, Space, Span}
+use Rattle.heap_core.specs.Words.{list_any, GrowDone, OfferDone, absent_space, chunk_span, chunks_of, meets, is_in_space, Ask, Alloc, Dalloc, Answer, Placed, Refuses as Refused, Op, Space, Span}
 
 -- the space of the arena with an index; where there is none, it is that of an index without an arena
 abbrev pub space_at : List Space → ℕ → Space

@@ -1,13 +1,6 @@
 -- What is so of a client's call among the arenas of a heap, whoever takes a turn.
 use Rattle.std.specs.Prelude.{◌≡◌, ◌≢◌, ℕ, ◌<◌, ◌≤◌, false, IsTrue, List, Option}
-use Rattle.space_model.specs.Step.{stands}
-use Rattle.hook_api.specs.Kept.{IsKept}
-use Rattle.arena_core.specs.Arenas.{entry_of, opens}
-use Rattle.call_plan.specs.Words.{Op, Mine, mine, AskFacts, AnswersTo}
-use Rattle.heap_core.specs.Words.{Replied, Told, Point, Next, Go, Over, More, Gone, Ends, Nowhere}
-use Rattle.call_plan.specs.Table.{WantTurn, WantAsk, step, want}
-use Rattle.call_plan.specs.Knows.{Idle, Knows}
-use Rattle.call_plan.specs.Rooms.{flying, needed_at}
+use Rattle.heap_core.specs.Words.{stands, IsKept, entry_of, opens, Op, Mine, mine, AskFacts, AnswersTo, Replied, Told, Point, Next, Go, Over, More, Gone, Ends, Nowhere, WantTurn, WantAsk, step, want, Idle, Knows, flying, needed_at}
 use Rattle.heap_core.specs.Arenas.{IsArenas, record_at, reply_in, room_in, spaces_of, records_turned}
 use Rattle.heap_core.specs.Chunks.{with_chunk_found}
 use Rattle.heap_core.specs.Records.{Record}

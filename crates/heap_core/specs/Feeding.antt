@@ -1,11 +1,6 @@
 -- A client, and its call as that is fed.
 use Rattle.std.specs.Prelude.{◌≡◌, ◌⊎◌, ℕ, Option, Some, IfSome}
-use Rattle.std.specs.Option.{option_map}
-use Rattle.call_plan.specs.Words.{DeskFacts}
-use Rattle.heap_core.specs.Words.{Item, Answered, NoMemory, More}
-use Rattle.call_plan.specs.Calls.{CallFacts, HasRoomToHold, moment_of}
-use Rattle.call_plan.specs.Reads.{aimed}
-use Rattle.call_plan.specs.Runs.{after, starved_after, step_next}
+use Rattle.heap_core.specs.Words.{option_map, DeskFacts, Item, Answered, NoMemory, More, CallFacts, HasRoomToHold, moment_of, aimed, after, starved_after, step_next}
 use Rattle.heap_core.specs.declared.seats.Client.TheInside.{Inside}
 use Rattle.heap_core.specs.Seats.{Seat, answer_of, seat_of}
 

@@ -1,14 +1,7 @@
 -- A heap, and what a step of a client does to it.
 use Rattle.std.specs.Prelude.{◌≡◌, ◌⊎◌, ℕ, true, false, List, [], ◌∷◌, ◌++◌, Option, None, Some, replicate, slice_set}
 use Rattle.space_model.specs.declared.entries.Op.TheVariants.{Publish}
-use Rattle.hook_api.specs.Shelf.{AskStep, Shelf}
-use Rattle.thread_cache.specs.Desks.{not_holding}
-use Rattle.call_plan.specs.Words.{Op, AskFacts, Held, held_at}
-use Rattle.heap_core.specs.Words.{Request, Item, Replied, Told, Starved, Answered, NoMemory, Next, Go, More}
-use Rattle.call_plan.specs.Calls.{CallFacts, moment_of}
-use Rattle.call_plan.specs.Reads.{aimed, taken_next}
-use Rattle.call_plan.specs.Runs.{Moment, after, starved_after, step_next}
-use Rattle.call_plan.specs.Table.{Want, WantTurn, WantAsk, is_marked, want}
+use Rattle.heap_core.specs.Words.{AskStep, Shelf, not_holding, Op, AskFacts, Held, held_at, Request, Item, Replied, Told, Starved, Answered, NoMemory, Next, Go, More, CallFacts, moment_of, aimed, taken_next, Moment, after, starved_after, step_next, Want, WantTurn, WantAsk, is_marked, want}
 use Rattle.heap_core.specs.declared.heaps.Did.TheVariants.{Idle, Turn, Ask}
 use Rattle.heap_core.specs.Arenas.{opening_records, record_at, reply_in, spaces_of, records_turned}
 use Rattle.heap_core.specs.Chunks.{with_chunk_found}

@@ -1,7 +1,6 @@
 -- The asks of a heap, and the places that are promised for those to come.
 use Rattle.std.specs.Prelude.{◌≡◌, ◌<◌, ◌≤◌, ◌^◌, ◌-◌, ℕ, List, Option, length, slice_index_or}
-use Rattle.std.specs.List.{slice_get, sum_by}
-use Rattle.call_plan.specs.Words.{AskFacts}
+use Rattle.heap_core.specs.Words.{slice_get, sum_by, AskFacts}
 use Rattle.heap_core.specs.declared.logs.AskLog.TheInside.{Inside}
 
 -- what callers see: the asks in order, and for how many more each client was promised places

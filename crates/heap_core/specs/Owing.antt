@@ -1,9 +1,6 @@
 -- How many asks a client may make until its next turn that takes memory, and what is so of a heap's clients.
 use Rattle.std.specs.Prelude.{◌≡◌, ◌<◌, ◌≤◌, ℕ, ◌+◌, List, Option, None, Some, length, if◌then◌else◌}
-use Rattle.arena_core.specs.Arenas.{opens}
-use Rattle.heap_core.specs.Words.{Point, Turns, Asks, Tells, Next, Go}
-use Rattle.call_plan.specs.Calls.{CallFacts}
-use Rattle.call_plan.specs.Table.{op_at}
+use Rattle.heap_core.specs.Words.{opens, Point, Turns, Asks, Tells, Next, Go, CallFacts, op_at}
 use Rattle.heap_core.specs.Arenas.{room_in}
 use Rattle.heap_core.specs.Logs.{owed_to}
 use Rattle.heap_core.specs.Records.{Record}

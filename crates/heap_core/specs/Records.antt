@@ -1,11 +1,6 @@
 -- An arena with its journal.
 use Rattle.std.specs.Prelude.{◌≡◌, ℕ, ◌*◌, ◌≤◌, ◌==◌, true, List, length, map, max, if◌then◌else◌}
-use Rattle.space_model.specs.declared.entries.Entry.{Entry}
-use Rattle.space_model.specs.Opening.{absent_space, first_space}
-use Rattle.space_model.specs.Journal.{all_stand, replay}
-use Rattle.hook_api.specs.Kept.{KeptFacts}
-use Rattle.arena_core.specs.Arenas.{all_rooms, given_by}
-use Rattle.call_plan.specs.Words.{Op, Space}
+use Rattle.heap_core.specs.Words.{Entry, absent_space, first_space, all_stand, replay, KeptFacts, all_rooms, given_by, Op, Space}
 use Rattle.heap_core.specs.declared.records.Recorded.TheInside.{Inside}
 
 -- what callers see of an arena with its journal: its index, its space, the rooms of its clients, and the entries of its

@@ -1,11 +1,6 @@
 -- The clients of a heap: what each has, its open call, and how both change.
 use Rattle.std.specs.Prelude.{ℕ, false, List, [], Option, None, Some, is_some, replicate, slice_index_or}
-use Rattle.std.specs.List.{position}
-use Rattle.call_plan.specs.Words.{AskFacts, Held, DeskFacts, held_at}
-use Rattle.heap_core.specs.Words.{Request, Free, FreeForeign, Answered, Next, Go}
-use Rattle.call_plan.specs.Calls.{CallFacts}
-use Rattle.call_plan.specs.Reads.{ended_by, heard_next}
-use Rattle.call_plan.specs.Runs.{Moment, begin}
+use Rattle.heap_core.specs.Words.{position, AskFacts, Held, DeskFacts, held_at, Request, Free, FreeForeign, Answered, Next, Go, CallFacts, ended_by, heard_next, Moment, begin}
 
 -- A client of a heap: what it has, and its call while one is open.
 pub record Seat : Type 0 where

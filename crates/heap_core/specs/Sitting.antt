@@ -1,21 +1,8 @@
 -- What is so of a client among the arenas of a heap: the regions that it has are those that it holds there, each once, and its
 -- open call knows what it has to.
 use Rattle.std.specs.Prelude.{◌≡◌, ◌≢◌, ℕ, ◌+◌, ◌<◌, ◌≤◌, ◌==◌, ◌&&◌, ◌++◌, ◌∷◌, [], Bool, true, false, IsTrue, List, Option, None, Some, count_by, length, map, All}
-use Rattle.std.specs.List.{flat_map}
+use Rattle.heap_core.specs.Words.{flat_map, SpaceRegion, stands, entry_of, not_holding, Request, Item, Replied, Told, Starved, Then, Batches, Visiting, Change, Stops, Visits, Leaves, TurnPoint, Filling, Looking, Landing, Giving, Finding, Offering, Changing, Resetting, Destroying, Publishing, Owning, AskPoint, Skipping, Trimming, Growing, Paring, Needing, Granting, Committing, Merging, Easing, Returning, Decommitting, Forcing, Point, Turns, Asks, Tells, Next, Go, More, Op, Setting, Unbind, SetBound as Bind, AskFacts, Held, DeskFacts, batch_of, cached_of, going, held_at, AnswersTo, slots_at, cached_in, CallFacts, moment_of, flushes, IsInRange, Goes, Moment, after, begin, starved_after, WantTurn, WantAsk, is_marked, step, want}
 use Rattle.space_model.specs.declared.entries.Op.TheVariants.{Publish}
-use Rattle.space_model.specs.declared.parts.Region.{Region as SpaceRegion}
-use Rattle.space_model.specs.Step.{stands}
-use Rattle.arena_core.specs.Arenas.{entry_of}
-use Rattle.thread_cache.specs.Desks.{not_holding}
-use Rattle.heap_core.specs.Words.{Request, Item, Replied, Told, Starved}
-use Rattle.heap_core.specs.Words.{Then, Batches, Visiting, Change, Stops, Visits, Leaves, TurnPoint, Filling, Looking, Landing, Giving, Finding, Offering, Changing, Resetting, Destroying, Publishing, Owning, AskPoint, Skipping, Trimming, Growing, Paring, Needing, Granting, Committing, Merging, Easing, Returning, Decommitting, Forcing, Point, Turns, Asks, Tells, Next, Go, More}
-use Rattle.call_plan.specs.Words.{Op, Setting, Unbind, SetBound as Bind, AskFacts, Held, DeskFacts, batch_of, cached_of, going, held_at, AnswersTo, slots_at, cached_in}
-use Rattle.call_plan.specs.Calls.{CallFacts, moment_of}
-use Rattle.call_plan.specs.Desks.{flushes}
-use Rattle.call_plan.specs.Laws.{IsInRange}
-use Rattle.call_plan.specs.Needs.{Goes}
-use Rattle.call_plan.specs.Runs.{Moment, after, begin, starved_after}
-use Rattle.call_plan.specs.Table.{WantTurn, WantAsk, is_marked, step, want}
 use Rattle.heap_core.specs.Arenas.{IsArenas, opening_records, record_at, reply_in, spaces_of}
 use Rattle.heap_core.specs.Chunks.{with_chunk_found}
 use Rattle.heap_core.specs.Clients.{CanTurn, IsIdle, Waits, after_turn, mine_in}

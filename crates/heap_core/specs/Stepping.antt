@@ -1,15 +1,7 @@
 -- What the parts of a step of a client rest on.
 use Rattle.std.specs.Prelude.{◌≡◌, ◌≢◌, ◌+◌, ◌<◌, ◌≤◌, ℕ, true, false, List, Option, None, Some, Result, Ok, Err, IfOk, IsOk, IsSomeAnd, OnOk, OnErr}
 use Rattle.space_model.specs.declared.entries.Op.TheVariants.{Publish}
-use Rattle.call_plan.specs.Words.{Op, Reply, AskFacts, Held}
-use Rattle.heap_core.specs.Words.{Item, Replied, Starved, Next, Go}
-use Rattle.call_plan.specs.declared.needs.Need.{Need}
-use Rattle.call_plan.specs.Calls.{CallFacts}
-use Rattle.call_plan.specs.Needs.{NeedIs}
-use Rattle.call_plan.specs.Reads.{taken_next}
-use Rattle.call_plan.specs.Table.{Want, WantTurn, WantAsk, is_marked, want}
-use Rattle.call_plan.specs.declared.needs.Turn.{Turn}
-use Rattle.arena_core.specs.Arenas.{opens}
+use Rattle.heap_core.specs.Words.{Op, Reply, AskFacts, Held, Item, Replied, Starved, Next, Go, Need, CallFacts, NeedIs, taken_next, Want, WantTurn, WantAsk, is_marked, want, Turn, opens}
 use Rattle.heap_core.specs.Arenas.{reply_in, room_in, spaces_of, records_turned}
 use Rattle.heap_core.specs.Chunks.{with_chunk_found}
 use Rattle.heap_core.specs.Clients.{after_turn}

@@ -1,12 +1,7 @@
 //! The arenas of a heap.
 
 ghost use Rattle.std.specs.Prelude.{[], ◌≡◌, ◌≢◌, ◌+◌, ◌<◌, ◌≤◌, ◌^◌, ℕ, false, true, length, map, vec_capacity, IsTrue, IsOk, IfOk, IfSome, OnOk, OnErr};
-ghost use Rattle.std.specs.List.{list_any, position};
-ghost use Rattle.space_model.specs.Span.{has_page};
-ghost use Rattle.space_model.specs.Step.{stands};
-ghost use Rattle.space_model.specs.Own.{mine};
-ghost use Rattle.hook_api.specs.Kept.{IsKept};
-ghost use Rattle.arena_core.specs.Arenas.{all_rooms, entry_of, opens};
+ghost use Rattle.heap_core.specs.Words.{list_any, position, has_page, stands, mine, IsKept, all_rooms, entry_of, opens};
 ghost use Rattle.heap_core.specs.Arenas.{IsArenas, journal_of, opening_records, record_at, reply_in, room_in, spaces_of, records_turned};
 ghost use Rattle.heap_core.specs.Records.{IsReplayed, most_room};
 ghost use Rattle.heap_core.specs.Chunks.{Apart, met_by_alloc, met_by_dalloc, met_in, others_of, owns_chunk, with_chunk_found};

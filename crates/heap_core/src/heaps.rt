@@ -1,13 +1,7 @@
 //! A heap.
 
 ghost use Rattle.std.specs.Prelude.{◌≡◌, ◌<◌, ◌/◌, ◌^◌, ℕ, None, length, map, is_some, false, IfOk, IfSome, IsOk, OnOk, OnErr};
-ghost use Rattle.std.specs.List.{list_any, position};
-ghost use Rattle.space_model.specs.Counts.{counts_of};
-ghost use Rattle.space_model.specs.Span.{has_page};
-ghost use Rattle.space_model.specs.Stepped.{is_live};
-ghost use Rattle.call_plan.specs.Calls.{takes_memory};
-ghost use Rattle.call_plan.specs.Laws.{IsInRange};
-ghost use Rattle.thread_cache.specs.Desks.{held_at};
+ghost use Rattle.heap_core.specs.Words.{list_any, position, counts_of, has_page, is_live, takes_memory, IsInRange, held_at};
 ghost use Rattle.heap_core.specs.Arenas.{IsArenas, journal_of, record_at, setting_of, where_live};
 ghost use Rattle.heap_core.specs.Heaps.{opening_heap, started};
 ghost use Rattle.heap_core.specs.Logs.{last_asked};

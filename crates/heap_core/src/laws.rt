@@ -1,4 +1,5 @@
 //! Laws of the calls of a heap's clients, as contracts of functions that do nothing.
+#![tactic(auto, using(crate::proofs::Sitting::laws))]
 
 ghost use Rattle.heap_core.specs.Clients.{AsksLeadOn, OthersStay, TurnsLeadOn};
 ghost use Rattle.heap_core.specs.Sitting.{AimsSit, AsksSit, HoldersPublish, OpeningSits, OthersSit, StartsSit, StarvesSit, TurnsSit};

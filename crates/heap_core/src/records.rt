@@ -1,11 +1,7 @@
 //! An arena with its journal.
 
 ghost use Rattle.std.specs.Prelude.{◌≡◌, ◌≢◌, ◌+◌, ◌*◌, ◌<◌, ◌≤◌, ◌^◌, ℕ, false, true, [], ◌∷◌, ◌++◌, length, max, replicate, IsTrue, IsOk, IfOk, IfSome, OnOk, OnErr};
-ghost use Rattle.space_model.specs.Opening.{absent_space, first_space};
-ghost use Rattle.space_model.specs.Own.{mine};
-ghost use Rattle.space_model.specs.Step.{reply_to, space_after, stands};
-ghost use Rattle.hook_api.specs.Kept.{IsKept};
-ghost use Rattle.arena_core.specs.Arenas.{all_rooms, entry_of, given_by, opens, room_of, rooms_after};
+ghost use Rattle.heap_core.specs.Words.{absent_space, first_space, mine, reply_to, space_after, stands, IsKept, all_rooms, entry_of, given_by, opens, room_of, rooms_after};
 ghost use Rattle.heap_core.specs.Arenas.{record_after};
 ghost use Rattle.heap_core.specs.Records.{IsReplayed, most_room, opening_space};
 

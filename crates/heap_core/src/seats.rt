@@ -1,13 +1,7 @@
 //! A client of a heap: what it has, and its call while one is open.
 
 ghost use Rattle.std.specs.Prelude.{◌≡◌, IfSome, IfNone, IfOk, IsOk, IsSomeAnd, None, Some, OnOk, OnErr, false, true, is_some};
-ghost use Rattle.std.specs.Option.{option_and_then};
-ghost use Rattle.thread_cache.specs.Desks.{DeskFacts, held_at, not_holding};
-ghost use Rattle.call_plan.specs.Calls.{moment_of, takes_memory};
-ghost use Rattle.call_plan.specs.Items.{lent};
-ghost use Rattle.call_plan.specs.Needs.{Goes};
-ghost use Rattle.call_plan.specs.Reads.{ended_by, taken_next};
-ghost use Rattle.call_plan.specs.Runs.{after, begin};
+ghost use Rattle.heap_core.specs.Words.{option_and_then, DeskFacts, held_at, not_holding, moment_of, takes_memory, lent, Goes, ended_by, taken_next, after, begin};
 ghost use Rattle.heap_core.specs.Seats.{answer_of, first_seat, heard_by, open_call, seat_of};
 ghost use Rattle.heap_core.specs.Feeding.{FedTo, aimed_seat};
 

@@ -1,12 +1,8 @@
 //! A step of a client of a heap: one turn or one ask for its open call.
 
 ghost use Rattle.std.specs.Prelude.{◌≡◌, ◌≢◌, ◌+◌, ◌<◌, ◌≤◌, ℕ, None, Some, false, true, length, IfOk, IfSome, IsOk, IsSomeAnd, OnOk, OnErr};
-ghost use Rattle.hook_api.specs.Shelf.{Shelf};
+ghost use Rattle.heap_core.specs.Words.{Shelf, all_rooms, opens, held_at, lent, NeedIs};
 ghost use Rattle.space_model.specs.declared.entries.Op.TheVariants.{Publish};
-ghost use Rattle.arena_core.specs.Arenas.{all_rooms, opens};
-ghost use Rattle.thread_cache.specs.Desks.{held_at};
-ghost use Rattle.call_plan.specs.Items.{lent};
-ghost use Rattle.call_plan.specs.Needs.{NeedIs};
 ghost use Rattle.heap_core.specs.Arenas.{reply_in, room_in, record_at, spaces_of};
 ghost use Rattle.heap_core.specs.Clients.{CanTurn, after_turn};
 ghost use Rattle.heap_core.specs.Feeding.{aimed_seat};

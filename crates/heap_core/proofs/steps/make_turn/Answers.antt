@@ -11,8 +11,8 @@ turned : {A E : Type 0} (made : Result A E) (reply : Reply) (records records' : 
     → OnOk made (reply ≡ reply_in records turn.arena turn.client (with_chunk_found (spaces_of records) turn.arena turn.op)) → OnErr made (records' ≡ records) → (opens turn.op ≡ false → IsOk made)
     → ((other : ℕ) → other ≢ turn.client → owed_to owed' other ≡ owed_to owed other) → owed_to owed turn.client ≤ owed_to owed' turn.client
     → OnOk made (opens turn.op ≡ true → room_in records' turn.arena turn.client + 1 ≤ owed_to owed' turn.client) → MadeTurn {E = E} records owed turn (replied_by made reply) records' owed'
-turned (Ok done) reply records records' owed owed' turn after told err sure others kept places = record { after = after; reply = told; err = err; sure = sure; others = others; kept = kept; places = places }
-turned (Err error) reply records records' owed owed' turn after told err sure others kept places = record { after = after; reply = told; err = err; sure = sure; others = others; kept = kept; places = places }
+turned (Ok done) reply records records' owed owed' turn after told err sure others kept places = grind arith
+turned (Err error) reply records records' owed owed' turn after told err sure others kept places = grind arith
 
 pub returns-clause-turn : goal.returns-clause-turn
 returns-clause-turn c =

@@ -1,70 +1,57 @@
-use Rattle.heap_core.proofs.Words.{None, IfSome, IsSomeAnd, slice_set, subst, sym, moment_of, Goes, after, FedTo, HeapFacts, IsStep, DidTurn, Seat, seat_at, HolderIs, item_of, replied_by, with_ask}
+use Rattle.heap_core.proofs.Words.{None, FedTo, IfSome, slice_set, subst, sym, HeapFacts, seat_at, HolderIs, TurnFacts, WantTurn, item_of, replied_by, with_ask}
 use Rattle.heap_core.proofs.Changes.{seat_is}
-use Rattle.heap_core.proofs.Making.{turn_can, turn_goes, turn_heap, turn_step, turn_sure, turn_there}
-use Rattle.heap_core.proofs.Wanting.{turn_calls, turn_seen}
+use Rattle.heap_core.proofs.Making.{IsDone, led_goes, led_heap, turn_can, turn_done, turn_leads}
+use Rattle.heap_core.proofs.Wanting.{GoesOn, IsFed, Wanted, turn_seen}
 use Rattle.heap_core.proofs.heaps.Heap.turn.Goals as goal
+use Rattle.heap_core.proofs.heaps.Heap.turn.Goals.{After-feed, After-heard-asked}
 
-pub heard-asked-requires : goal.heard-asked-requires
-heard-asked-requires c =
-    turn_calls _ _ c.args.turn.now c.index.result.now c.self.view_is c.requires.needs
-    (seat_is c.self.inside.clients.items c.args.turn.now.client c.index.result.now c.self.invariant.number c.requires.client c.index.ensures)
+abbrev heap : After-heard-asked → HeapFacts
+heap c = record { records = c.self.inside.arenas; seats = c.self.inside.clients.items; heard = c.self.inside.log.asks }
 
-pub make_turn-made-requires : goal.make_turn-made-requires
-make_turn-made-requires c =
-    let seats = c.self.inside.clients.items in
-    let client = c.args.turn.now.client in
-    let turn = with_ask c.args.turn.now c.heard-asked.result.now in
-    let w = turn_seen _ _ c.args.turn.now _ _ c.self.view_is (c.self.invariant.sound client c.requires.client) c.requires.needs
-    (seat_is seats client c.index.result.now c.self.invariant.number c.requires.client c.index.ensures) c.heard-asked.ensures in record {
-      arena = turn_there c.self.inside.arenas turn.client (seat_at seats turn.client) turn.op turn.asked turn.arena c.are_apart.ensures.arenas c.requires.client w;
-      client = c.requires.client;
-      can = turn_can c.self.inside.arenas turn.client (seat_at seats turn.client) turn.op turn.asked turn.arena c.are_apart.ensures.arenas c.requires.client w;
-    }
+abbrev turn : After-heard-asked → TurnFacts
+turn c = with_ask c.args.turn.now c.heard-asked.result.now
+
+wanted : (c : After-heard-asked) → Wanted (heap c).records (turn c).client (seat_at (heap c).seats (turn c).client) (WantTurn (turn c).op (turn c).asked) (turn c).arena
+wanted c =
+    turn_seen (heap c) _ c.args.turn.now _ _ c.self.view_is (c.self.invariant.sound (turn c).client c.requires.client) c.requires.needs
+    (seat_is _ (turn c).client c.index.result.now c.self.invariant.number c.requires.client c.index.ensures) c.heard-asked.ensures
+
+fed : (c : After-feed) → IsFed (item_of (replied_by c.make_turn-made.result c.make_turn-made.new.reply)) c.feed.new.ended c.feed.new.self (seat_at c.self.inside.clients.items c.args.turn.now.client)
+fed c = subst (IsFed (item_of (replied_by c.make_turn-made.result c.make_turn-made.new.reply)) c.feed.new.ended c.feed.new.self)
+    (seat_is _ c.args.turn.now.client _ c.self.invariant.number c.requires.client c.index_mut.ensures.value) (subst (λ item. IsFed item c.feed.new.ended c.feed.new.self c.index_mut.result.now) c.item_of.ensures c.feed.ensures)
+
+pub make_turn-made-requires-clause-can : goal.make_turn-made-requires-clause-can
+make_turn-made-requires-clause-can c =
+    let at = (goal.at.make_turn-made-requires-clause-can c).After-heard-asked in turn_can (heap at) _ _ _ _ c.are_apart.ensures.arenas c.requires.client (wanted at)
 
 pub feed-requires : goal.feed-requires
 feed-requires c =
-    let seats = c.self.inside.clients.items in
-    let client = c.args.turn.now.client in
-    let turn = with_ask c.args.turn.now c.heard-asked.result.now in
-    let w = turn_seen _ _ c.args.turn.now _ _ c.self.view_is (c.self.invariant.sound client c.requires.client) c.requires.needs
-    (seat_is seats client c.index.result.now c.self.invariant.number c.requires.client c.index.ensures) c.heard-asked.ensures in
-    let goes = subst (λ (seat : Seat). IsSomeAnd seat.call (λ call. Goes (after (moment_of call seat.desk) (item_of (replied_by c.make_turn-made.result c.make_turn-made.new.reply))).stage.next))
-    (sym (seat_is seats turn.client c.index_mut.result.now c.self.invariant.number c.requires.client c.index_mut.ensures.value))
-    (turn_goes c.self.inside.arenas c.make_turn-made.new.arenas c.self.inside.log.owed c.make_turn-made.new.log.owed (seat_at seats turn.client) turn (replied_by c.make_turn-made.result c.make_turn-made.new.reply) c.are_apart.ensures.arenas c.requires.client w c.make_turn-made.ensures.turn) in
-    subst (λ item. IsSomeAnd c.index_mut.result.now.call (λ call. Goes (after (moment_of call c.index_mut.result.now.desk) item).stage.next)) (sym c.item_of.ensures) goes
+    let at = (goal.at.feed-requires c).After-heard-asked in
+    let made = replied_by c.make_turn-made.result c.make_turn-made.new.reply in
+    let few = c.requires.client in
+    let leads = turn_leads (heap at) _ _ _ _ c.are_apart.ensures.arenas few (wanted at) made _ _ _ (c.self.invariant.promised _ few) c.make_turn-made.ensures.turn in
+    subst (λ item. GoesOn item c.index_mut.result.now) (sym c.item_of.ensures)
+    (subst (GoesOn (item_of made)) (sym (seat_is _ (turn at).client _ c.self.invariant.number few c.index_mut.ensures.value)) (led_goes (heap at) _ _ _ (turn at).client _ _ (item_of made) (wanted at) leads))
 
 pub invariant_of-self : goal.invariant_of-self
 invariant_of-self c =
-    let seats = c.self.inside.clients.items in
-    let client = c.args.turn.now.client in
-    let turn = with_ask c.args.turn.now c.heard-asked.result.now in
-    let w = turn_seen _ _ c.args.turn.now _ _ c.self.view_is (c.self.invariant.sound client c.requires.client) c.requires.needs
-    (seat_is seats client c.index.result.now c.self.invariant.number c.requires.client c.index.ensures) c.heard-asked.ensures in
-    let fed = subst (λ (seat : Seat). IfSome seat.call (λ call. FedTo call seat.desk (item_of (replied_by c.make_turn-made.result c.make_turn-made.new.reply)) c.feed.new.ended c.feed.new.self))
-    (seat_is seats turn.client c.index_mut.result.now c.self.invariant.number c.requires.client c.index_mut.ensures.value)
-    (subst (λ item. IfSome c.index_mut.result.now.call (λ call. FedTo call c.index_mut.result.now.desk item c.feed.new.ended c.feed.new.self)) c.item_of.ensures c.feed.ensures) in
-    turn_heap c.self.inside.arenas c.make_turn-made.new.arenas seats c.self.inside.log.owed c.make_turn-made.new.log.owed turn (replied_by c.make_turn-made.result c.make_turn-made.new.reply) c.feed.new.self c.feed.new.ended c.self.invariant
-    c.are_apart.ensures.arenas c.requires.client w c.make_turn-made.ensures.turn fed
+    let at = goal.at.invariant_of-self c in
+    let w = wanted at.After-heard-asked in
+    let made = replied_by c.make_turn-made.result c.make_turn-made.new.reply in
+    let few = c.requires.client in
+    let leads = turn_leads (heap at.After-heard-asked) _ _ _ _ c.are_apart.ensures.arenas few w made _ _ _ (c.self.invariant.promised _ few) c.make_turn-made.ensures.turn in
+    led_heap (heap at.After-heard-asked) _ _ _ _ _ _ (item_of made) w leads c.feed.new.ended c.feed.new.self c.self.invariant few (fed at.After-feed)
 
 pub returns : goal.returns
 returns c =
-    let seats = c.self.inside.clients.items in
+    let at = goal.at.returns c in
+    let h : HeapFacts = heap at.After-heard-asked in
     let client = c.args.turn.now.client in
-    let turn = with_ask c.args.turn.now c.heard-asked.result.now in
-    let w = turn_seen _ _ c.args.turn.now _ _ c.self.view_is (c.self.invariant.sound client c.requires.client) c.requires.needs
-    (seat_is seats client c.index.result.now c.self.invariant.number c.requires.client c.index.ensures) c.heard-asked.ensures in
-    let fed = subst (λ (seat : Seat). IfSome seat.call (λ call. FedTo call seat.desk (item_of (replied_by c.make_turn-made.result c.make_turn-made.new.reply)) c.feed.new.ended c.feed.new.self))
-    (seat_is seats turn.client c.index_mut.result.now c.self.invariant.number c.requires.client c.index_mut.ensures.value)
-    (subst (λ item. IfSome c.index_mut.result.now.call (λ call. FedTo call c.index_mut.result.now.desk item c.feed.new.ended c.feed.new.self)) c.item_of.ensures c.feed.ensures) in
-    let h : HeapFacts = record { records = c.self.inside.arenas; seats = seats; heard = c.self.inside.log.asks } in
-    let free = subst (λ k. IfSome k (λ call. HolderIs h call None)) w.is (subst (λ (h : HeapFacts). IfSome (seat_at h.seats turn.client).call (λ call. HolderIs h call None)) (sym c.self.view_is) c.requires.free) in
-    record {
-      step = λ shelf. subst (λ heard. IsStep c.args.self.now shelf turn.client (seat_at c.args.self.now.seats turn.client).call (record { did = DidTurn; ended = c.feed.new.ended })
-          (record { records = c.make_turn-made.new.arenas; seats = slice_set seats turn.client c.feed.new.self; heard = heard }) shelf) (sym c.make_turn-made.ensures.asks)
-          (subst (λ (h : HeapFacts). IsStep h shelf turn.client (seat_at h.seats turn.client).call (record { did = DidTurn; ended = c.feed.new.ended })
-          (record { records = c.make_turn-made.new.arenas; seats = slice_set seats turn.client c.feed.new.self; heard = c.self.inside.log.asks }) shelf) c.self.view_is
-          (turn_step h c.make_turn-made.new.arenas c.self.inside.log.owed c.make_turn-made.new.log.owed turn (replied_by c.make_turn-made.result c.make_turn-made.new.reply) c.feed.new.self c.feed.new.ended shelf c.are_apart.ensures.arenas c.requires.client w free
-          c.make_turn-made.ensures.turn fed));
-      sure = turn_sure h c.args.self.now c.make_turn-made.new.arenas (slice_set seats turn.client c.feed.new.self) c.make_turn-made.new.log.asks c.self.inside.log.owed c.make_turn-made.new.log.owed turn
-          (replied_by c.make_turn-made.result c.make_turn-made.new.reply) c.self.view_is w c.make_turn-made.ensures.turn;
-    }
+    let w = wanted at.After-heard-asked in
+    let made = replied_by c.make_turn-made.result c.make_turn-made.new.reply in
+    let free = subst (λ k. IfSome k (λ call. HolderIs h call None)) w.is (subst (λ (h : HeapFacts). IfSome (seat_at h.seats client).call (λ call. HolderIs h call None)) (sym c.self.view_is) c.requires.free) in
+    let told = subst (λ k. IfSome k (λ call. FedTo call (seat_at h.seats client).desk (item_of made) c.feed.new.ended c.feed.new.self)) w.is (fed at.After-feed) in
+    let done = subst (λ heard. IsDone h client c.feed.new.ended (record { records = c.make_turn-made.new.arenas; seats = slice_set h.seats client c.feed.new.self; heard = heard })) (sym c.make_turn-made.ensures.asks)
+    (turn_done made h w.call client _ _ _ w.point _ _ _ c.feed.new.self c.feed.new.ended w.is w.client w.arena_is w.goes w.want_is free c.make_turn-made.ensures.turn told) in
+    let seen = subst (λ now. IsDone now client c.feed.new.ended (record { records = c.make_turn-made.new.arenas; seats = slice_set h.seats client c.feed.new.self; heard = c.make_turn-made.new.log.asks })) c.self.view_is done in
+    record { step = seen.0; sure = seen.1 }
