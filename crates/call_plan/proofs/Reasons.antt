@@ -1,5 +1,5 @@
 -- The reasons of each point to which a call comes, and of its answer.
-use Rattle.call_plan.proofs.Words.{rules, ◌≡◌, ℕ, ◌+◌, ◌-◌, ◌<◌, ◌*◌, ◌^◌, ◌⊎◌, inl, inr, Bool, true, false, not, max, List, [], ◌∷◌, ◌++◌, Option, None, Some, refl, sym, ◌∙◌, ap, subst, arith, nat_lt, append_assoc, Contains, cond_both, ltb-true, not-true, not-false, nat_tests, step_of, after_cut, after_commit, after_grow, Request, Malloc, Memalign, Free, FreeForeign, Publish, Take, Item, Replied, Told, Starved, Refused, BadAnswer, NotHeld, aligned_for, class_for, held_at, hit, Wish, Then, Batches, Visiting, Change, Stops, Visits, Leaves, TurnPoint, Filling, Looking, Landing, Finding, Taking, Offering, Changing, Making, Owning, AskPoint, Skipping, Trimming, Growing, Paring, Needing, Granting, Committing, Merging, Easing, Returning, Decommitting, Forcing, Point, Turns, Asks, Tells, Next, Go, Over, Gone, More, Ends, Stage, Refuses, Reply, NoArena, Nothing, Noted, Taken, Took, Cut, Whole, Refuse, Bad, Grown, Landed, Regions, Owned, Space, Span, Why, AskFacts, Held, DeskFacts, answered_span, alloc_of, ask_at, done_at, op_at, is_marked, starved, whole_chunks, step, turn_replied, told, commit, trim, put_next, took_over, begin, begin_free, begin_get, begin_malloc, begin_memalign, begin_publish, begin_stage, is_alignment, page_align, settle, small_hit, step_next, wish_for, with_found, extent, extent_of, NothingFits, WasGranted, IsNeeded, IsWishOf, RegionCause, GivenCause, CauseOf, Came, AllCame, AnswersHaveCauses, Visit, visit_gives, visited, DoneCause, TakenBelow, FullCause}
+use Rattle.call_plan.proofs.Words.{rules, ◌≡◌, ℕ, ◌+◌, ◌-◌, ◌<◌, ◌*◌, ◌^◌, ◌⊎◌, inl, inr, Bool, true, false, not, max, List, [], ◌∷◌, ◌++◌, Option, None, Some, refl, sym, ◌∙◌, ap, subst, arith, nat_lt, append_assoc, Contains, cond_both, ltb-true, not-true, not-false, nat_tests, step_of, after_cut, after_commit, after_grow, Request, Malloc, Memalign, Free, FreeForeign, Publish, Take, Item, Replied, Told, Starved, Refused, BadAnswer, NotHeld, aligned_for, class_for, held_at, hit, Wish, Then, Batches, Visiting, Change, Stops, Visits, Leaves, TurnPoint, Filling, Looking, Landing, Finding, Taking, Offering, Advancing, Changing, Making, Resetting, Destroying, Owning, AskPoint, Skipping, Trimming, Growing, Paring, Needing, Granting, Committing, Merging, Easing, Returning, Decommitting, Forcing, Point, Turns, Asks, Tells, Next, Go, Over, Gone, More, Ends, Stage, Refuses, Reply, NoArena, Nothing, Noted, Taken, Took, Cut, Whole, Refuse, Bad, Grown, Landed, Regions, Owned, Space, Span, Why, AskFacts, Held, DeskFacts, answered_span, alloc_of, ask_at, done_at, op_at, is_marked, starved, whole_chunks, step, turn_replied, told, commit, trim, put_next, took_over, begin, begin_free, begin_get, begin_malloc, begin_memalign, begin_publish, begin_stage, is_alignment, page_align, settle, small_hit, step_next, wish_for, with_found, extent, extent_of, NothingFits, WasGranted, IsNeeded, IsWishOf, RegionCause, GivenCause, CauseOf, Came, AllCame, AnswersHaveCauses, Visit, visit_gives, visited, DoneCause, TakenBelow, FullCause, Empties, TellsTime}
 use Rattle.std.specs.Prelude.{replicate}
 use Rattle.std.proofs.lemmas.List.{replicate-append-replicate}
 use Rattle.call_plan.proofs.Aligned.{failing_is_not, passing_is}
@@ -38,6 +38,9 @@ module _ (desk : DeskFacts) where
   TurnWhy request items (Changing setting change) = ChangeWhy request items change
   TurnWhy request items (Owning addr frees past) = OwnWhy request addr frees
   TurnWhy request items (Making index setting) = TakenBelow request items index
+  TurnWhy request items (Advancing now) = TellsTime request
+  TurnWhy request items (Resetting cached) = Empties request
+  TurnWhy request items (Destroying cached) = Empties request
   TurnWhy request items point = DoneCause request
 
   -- the extent of a malloc is as the point says
@@ -90,6 +93,10 @@ module _ (desk : DeskFacts) where
   then_more : (request : Request) (items : List Item) (item : Item) (later : Then) → ThenWhy request items later → ThenWhy request (items ++ item ∷ []) later
   then_more request items item Batches why = why
   then_more request items item (Visiting visit left) why = visit_more request items item visit why
+
+  -- a request that empties an arena, or tells it the time, is one that is done without giving anything
+  emptying_done : (request : Request) → Empties request → DoneCause request
+  emptying_done request empties = grind arith
 
   -- ---- where a point leads
 
@@ -147,7 +154,7 @@ module _ (desk : DeskFacts) where
   turned_why request items point Whole why = tt
   turned_why request items point reply why =
       let last = last_in items (Replied reply) in
-      first_of (search (rules, visit_more, visited_why, then_more, put_why), grind (arith, nat_tests, visit_more, visited_why, then_more))
+      first_of (search (rules, visit_more, visited_why, then_more, put_why, emptying_done), grind (arith, nat_tests, visit_more, visited_why, then_more, emptying_done))
 
   -- ---- after an answer was taken in
 

@@ -57,7 +57,7 @@ unfoldable pub use lib.Count.{ones}
 pub use Rattle.call_plan.specs.Aligned.{IsCacheAligned, MemalignsAreAligned}
 pub use Rattle.call_plan.specs.Bounds.{is_told, is_turn, brings, is_malloc, most_asks, AsksAreFew, IsShort, MallocsAreShort, is_free, is_purge, Stride, Strides, Follows, Walks, emptied_by, emptied_by_all, asks, purges, FreesAreFew, taken_by, taken_of, found_by, found_of, PurgesAreFew}
 pub use Rattle.call_plan.specs.Calls.{IsCall, gets_at, may_hold, wants_place, HasRoomToHold, CallFacts, moment_of, started, gets_ask}
-pub use Rattle.call_plan.specs.Causes.{DoneCause, TakenBelow, FullCause, Extent, extent_after, extent_of, NothingFits, AllCame, Came, extent, WasGranted, IsNeeded, IsWishOf, RegionCause, GivenCause, CauseOf, AnswersHaveCauses}
+pub use Rattle.call_plan.specs.Causes.{DoneCause, Empties, TellsTime, TakenBelow, FullCause, Extent, extent_after, extent_of, NothingFits, AllCame, Came, extent, WasGranted, IsNeeded, IsWishOf, RegionCause, GivenCause, CauseOf, AnswersHaveCauses}
 pub use Rattle.call_plan.specs.Desks.{flushes, desk_fed, address_behind, held_region, sharing}
 pub use Rattle.call_plan.specs.Items.{lent}
 pub use Rattle.call_plan.specs.Knows.{IsWish, Idle, Gets, is_held, Flies, Droppable, HasOffered, IsThen, IsVisit, HasLeft, in_flight, Knows, KnowsTurn, Alone, is_served, HasPair, Settled, KnowsAsk, Heard, IsChange, is_of_arena}

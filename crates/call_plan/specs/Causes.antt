@@ -146,12 +146,23 @@ ArenaCause request items index = (earlier : List Item) × TakenBelow request ear
 abbrev pub FullCause : Request → List Item → Type 0
 FullCause request items = IsCreate request × (items ≡ replicate 31 (Replied Nothing))
 
+-- the request empties an arena: it resets or destroys one
+abbrev pub Empties : Request → Type 0
+Empties (Reset arena) = Unit {0}
+Empties (Destroy arena) = Unit {0}
+Empties request = ⊥
+
+-- the request tells an arena what time it is
+abbrev pub TellsTime : Request → Type 0
+TellsTime (Decay arena now) = Unit {0}
+TellsTime request = ⊥
+
 -- what a call gave has its cause
 abbrev pub GivenCause : DeskFacts → Request → List Item → Given → Type 0
 GivenCause desk request items (Region addr class) = RegionCause desk request items addr class
 GivenCause desk request items Finished = DoneCause request
 GivenCause desk request items (Arena index) = ArenaCause request items index
-GivenCause desk request items (Limits dirty muzzy) = Contains items (Replied (LimitsAre dirty muzzy))
+GivenCause desk request items (Limits dirty muzzy) = TellsTime request × Contains items (Replied (LimitsAre dirty muzzy))
 
 -- the client held no region at the address of the request, or none was published there
 abbrev pub NotHeldCause : DeskFacts → Request → List Item → ℕ → Type 0
@@ -201,7 +212,7 @@ CauseOf desk request items TooLarge = TooLargeCause request
 CauseOf desk request items BadAlign = BadAlignCause request
 CauseOf desk request items (NotHeld addr) = NotHeldCause desk request items addr
 CauseOf desk request items (NoSuchArena index) = (Names request index × (32 ≤ index)) ⊎ Contains items (Replied NoArena)
-CauseOf desk request items (Busy others flights threads) = Contains items (Replied (InUse others flights threads))
+CauseOf desk request items (Busy others flights threads) = Empties request × Contains items (Replied (InUse others flights threads))
 CauseOf desk request items NoMemory = Contains items Starved
 CauseOf desk request items ArenasFull = FullCause request items
 CauseOf desk request items Automatic = AutomaticCause request

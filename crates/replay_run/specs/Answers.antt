@@ -123,9 +123,10 @@ IsWrongIn h (Turned c call op (Some asked)) span why =
     SpeaksAgainst (spaces_of h.records) (record_at h.records call.stage.arena).space.parts asked.ask asked.answer span why
 IsWrongIn h event span why = ⊥
 
--- an arena that a turn says isn't there is the one in which it is made, and isn't live
+-- an arena that a turn says isn't there is the one in which it is made, and isn't live; no answer to an ask says so
 abbrev pub IsGoneIn : HeapFacts → WorldEvent → ℕ → Type 0
 IsGoneIn h (Turned c call op asked) index = (index ≡ call.stage.arena) × (is_live (record_at h.records index).space.life ≡ false)
+IsGoneIn h (Told c call asked) index = ⊥
 IsGoneIn h event index = Unit {0}
 
 -- what an answer says of the world is so
