@@ -5,8 +5,8 @@ use Rattle.hook_api.specs.Briefs.{answer_by, ask_by}
 use Rattle.hook_api.specs.declared.narrow_asks.NarrowAsk.TheInside.{Inside}
 
 -- the ask that few bytes tell, unless they are a mark
-abbrev pub told : Inside → AskFacts
-told n = record {
+abbrev pub widened : Inside → AskFacts
+widened n = record {
   box_no = n.box_no;
   place = n.place;
   ask = ask_by n.ask_shape n.flag n.a n.b n.c (if n.ranged then 0 else n.number);
@@ -18,8 +18,8 @@ told n = record {
 
 -- the ask that few bytes tell, if they tell one
 abbrev pub ask_told : Inside → Option AskFacts
-ask_told n = if n.whole then None else Some (told n)
+ask_told n = if n.whole then None else Some (widened n)
 
 -- a refusal that is told was counted
 abbrev pub IsNarrow : Inside → Type 0
-IsNarrow n = n.whole ≡ false → RefusalCounts (told n).answer (told n).before (told n).after
+IsNarrow n = n.whole ≡ false → RefusalCounts (widened n).answer (widened n).before (widened n).after
