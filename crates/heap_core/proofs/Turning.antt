@@ -1,5 +1,5 @@
 -- What a turn does to a journal and to the places behind it.
-use Rattle.heap_core.proofs.Words.{◌≡◌, ℕ, ◌+◌, ◌-◌, ◌*◌, ◌<◌, ◌≤◌, Bool, true, false, List, [], ◌∷◌, ◌++◌, length, max, cond, refl, sym, ◌∙◌, ap, subst, arith, nat_lt, IsTrue, ltb-true, length-set, get_or-le-sum_by, Entry, op_stands, space_after, stands, all_stand, replay, KeptFacts, all_rooms, emptied_by_op, entry_of, given_by, opens, room_after, room_of, rooms_after, both_true, rooms_with, Op, Space, IsRecorded, IsReplayed, Record, entries_of, most_room, opening_space, shown, Inside}
+use Rattle.heap_core.proofs.Words.{◌≡◌, ℕ, ◌+◌, ◌-◌, ◌*◌, ◌<◌, ◌≤◌, Bool, true, false, List, [], ◌∷◌, ◌++◌, length, max, cond, refl, sym, ◌∙◌, ap, subst, arith, nat_lt, IsTrue, ltb-true, length-set, get_or-le-sum_by, Entry, op_stands, space_after, stands, all_stand, replay, AskFacts, KeptFacts, Option, all_rooms, emptied_by_op, entry_of, given_by, opens, room_after, room_of, rooms_after, both_true, rooms_with, Op, Space, IsRecorded, IsReplayed, Record, entries_of, most_room, opening_space, shown, Inside}
 
 -- a journal with one more entry that may stand leaves what that entry leaves
 one_more : (s : Space) (es : List Entry) (e : Entry) → all_stand s es ≡ true → stands (replay s es) e ≡ true →
@@ -52,16 +52,17 @@ has_place r now client op spare view is may some more made false e =
     omega (arith, room, one_room r.arena.rooms client within, is.places, more)
 
 -- What a turn leaves is recorded.
-pub turn_recorded : (r new : Inside) (now : Record) (client : ℕ) (op : Op) (k : KeptFacts) (spare : ℕ) → shown r ≡ now → IsRecorded r → IsTrue (stands now.space (entry_of client op)) →
+pub turn_recorded : (r new : Inside) (now : Record) (client : ℕ) (op : Op) (asked : Option AskFacts) (spare : ℕ) → shown r ≡ now → IsRecorded r → IsTrue (stands now.space (entry_of client op)) →
     (opens op ≡ false → 0 < room_of client now.rooms) → r.journal.spare ≤ spare → (opens op ≡ true → all_rooms r.arena.rooms + most_room op < spare) →
-    k.entry ≡ entry_of client op → new.index ≡ r.index → new.arena.space ≡ space_after r.arena.space (entry_of client op) → new.arena.rooms ≡ rooms_after r.arena client op →
-    emptied_by_op client op r.arena.space ≤ given_by op → new.journal.kept ≡ r.journal.kept ++ k ∷ [] → spare ≤ new.journal.spare + 1 → IsRecorded new
-turn_recorded r new now client op k spare view is may some more made entry index after rooms few items one =
-    let may_here : stands r.arena.space k.entry ≡ true = subst (λ (x : Record). stands x.space k.entry ≡ true) (sym view) (subst (λ e. stands now.space e ≡ true) (sym entry) may) in
+    new.index ≡ r.index → new.arena.space ≡ space_after r.arena.space (entry_of client op) → new.arena.rooms ≡ rooms_after r.arena client op →
+    emptied_by_op client op r.arena.space ≤ given_by op → new.journal.kept ≡ r.journal.kept ++ record { entry = entry_of client op; asked = asked } ∷ [] → spare ≤ new.journal.spare + 1 → IsRecorded new
+turn_recorded r new now client op asked spare view is may some more made index after rooms few items one =
+    let k : KeptFacts = record { entry = entry_of client op; asked = asked } in
+    let may_here : stands r.arena.space k.entry ≡ true = subst (λ (x : Record). stands x.space k.entry ≡ true) (sym view) may in
     let within : client < length r.arena.rooms = omega (arith, client_is now.space client op may, is.clients) in
     let room : opens op ≡ false → 0 < room_of client r.arena.rooms = λ e. subst (λ (x : Record). 0 < room_of client x.rooms) (sym view) (some e) in
     record {
-      replayed = rw (index, items) (subst (IsReplayed r.index (r.journal.kept ++ k ∷ [])) (ap (space_after r.arena.space) entry ∙ sym after) (replayed_more r.index r.journal.kept k r.arena.space is.replayed may_here));
+      replayed = rw (index, items) (subst (IsReplayed r.index (r.journal.kept ++ k ∷ [])) (sym after) (replayed_more r.index r.journal.kept k r.arena.space is.replayed may_here));
       clients = ap length rooms ∙ length-set r.arena.rooms client _ ∙ is.clients;
       places = fits (opens op) refl within room;
     }

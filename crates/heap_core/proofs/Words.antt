@@ -33,7 +33,6 @@ pub use Rattle.call_plan.specs.Table.{op_at, WantTurn, ask_at, done_at, is_marke
 pub use Rattle.call_plan.specs.declared.needs.Need.TheVariants.{Turn as NeedsTurn, Ask as NeedsAsk}
 pub use Rattle.hook_api.specs.Journals.{IsByIndex}
 pub use Rattle.hook_api.specs.Kept.{IsKept, heard_of, KeptFacts}
-pub use Rattle.hook_api.specs.Kepts.{kept_of}
 pub use Rattle.indexmap.proofs.MapLemmas.{Found-position, Missing-position}
 pub use Rattle.indexmap.specs.IndexMap.{insert_entry, swap_remove_entry}
 pub use Rattle.space_model.proofs.Lists.{find_has, counted_any, map_terms, all_sum_le, find_passes, nothing_sum, only_one, sum_add, ones}

@@ -143,8 +143,9 @@ impl Arenas {
         Ok(Arenas { records, journals })
     }
 
-    /// A turn of a client in an arena, whose entry joins the journal beside the ask that it carries. The chunk that speaks
-    /// against that ask's answer is looked for among all arenas in this very turn. The reply is written into the place for it.
+    /// A turn of a client in an arena, whose entry joins the journal beside the ask that it carries, and may be taken out of its
+    /// place for that. The chunk that speaks against that ask's answer is looked for among all arenas in this very turn. The
+    /// reply is written into the place for it.
     /// Where memory is wanting, nothing changes in the arenas; that comes at the first turn of a unit alone.
     pub fn turn(
         &mut self,
@@ -164,7 +165,6 @@ impl Arenas {
         ensures err { OnErr result (self.new ≡ self.old) }
         ensures sure { opens op.old ≡ false → IsOk result }
         ensures others { (other : ℕ) → other ≢ client → (i : ℕ) → mine other (record_at self.new i).space ≡ mine other (record_at self.old i).space }
-        ensures op { op.new ≡ with_chunk_found (spaces_of self.old) arena op.old }
     {
         settle(&self.records, arena, op);
         self.records[arena as usize].turn(client, op, asked, reply)

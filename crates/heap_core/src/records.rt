@@ -6,7 +6,7 @@ ghost use Rattle.heap_core.specs.Arenas.{record_after};
 ghost use Rattle.heap_core.specs.Records.{IsReplayed, most_room, opening_space};
 
 use arena_core::Arena;
-use hook_api::{Asked, Journal, Slot, Writing};
+use hook_api::{Asked, Journal, Writing};
 use space_model::{Op, Reply, Space};
 use std::alloc::{AllocError as NoMemory, Global};
 use std::marker::Model;
@@ -21,7 +21,6 @@ pub struct Recorded {
     index: u32,
     arena: Arena,
     journal: Writing,
-    alloc: Global,
 }
 
 impl Model for Recorded {
@@ -82,7 +81,6 @@ impl Recorded {
             index,
             arena: Arena::new(alloc, space)?,
             journal: Writing::new(alloc),
-            alloc,
         })
     }
 
@@ -95,32 +93,32 @@ impl Recorded {
         &self.arena
     }
 
-    /// A turn of a client, whose entry joins the journal beside the ask that it carries. The reply is written into the place
-    /// for it. Where memory is wanting, nothing else changes; that comes at the first turn of a unit alone.
+    /// A turn of a client, whose entry joins the journal beside the ask that it carries, and may be taken out of its place for
+    /// that. The reply is written into the place for it. Where memory is wanting, nothing else changes; that comes at the first
+    /// turn of a unit alone.
     pub fn turn(
         &mut self,
         client: u32,
-        op: &Op,
+        op: &mut Op,
         asked: &Option<Asked>,
         reply: &mut Reply,
     ) -> Result<(), NoMemory>
-        requires stands { IsTrue (stands self.old.space (entry_of client op.now)) }
-        requires room { opens op.now ≡ false → 0 < room_of client self.old.rooms }
-        requires kept { IsKept (entry_of client op.now) asked.now }
+        requires stands { IsTrue (stands self.old.space (entry_of client op.old)) }
+        requires room { opens op.old ≡ false → 0 < room_of client self.old.rooms }
+        requires kept { IsKept (entry_of client op.old) asked.now }
         ensures index { self.new.index ≡ self.old.index }
-        ensures after { OnOk result (self.new ≡ record_after self.old client op.now asked.now) }
-        ensures reply { OnOk result (reply.new ≡ reply_to self.old.space (entry_of client op.now)) }
+        ensures after { OnOk result (self.new ≡ record_after self.old client op.old asked.now) }
+        ensures reply { OnOk result (reply.new ≡ reply_to self.old.space (entry_of client op.old)) }
         ensures replayed { IsReplayed self.new.index self.new.kept self.new.space }
         ensures few { OnOk result (length self.new.kept < 2 ^ 64) }
-        ensures room { OnOk result (room_of client self.new.rooms ≤ all_rooms self.old.rooms + most_room op.now) }
+        ensures room { OnOk result (room_of client self.new.rooms ≤ all_rooms self.old.rooms + most_room op.old) }
         ensures err { OnErr result (self.new ≡ self.old) }
-        ensures sure { opens op.now ≡ false → IsOk result }
+        ensures sure { opens op.old ≡ false → IsOk result }
         ensures others { (other : ℕ) → other ≢ client → mine other self.new.space ≡ mine other self.old.space }
     {
         make_places(&mut self.journal, &self.arena, op)?;
-        let slot = Slot::of(client, op, asked, self.alloc)?;
         let told = self.arena.step(client, op)?;
-        self.journal.push(slot, asked);
+        self.journal.push(client, op, asked);
         *reply = told;
         Ok(())
     }

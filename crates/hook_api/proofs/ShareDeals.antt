@@ -1,5 +1,5 @@
 -- How seats are dealt and gathered, and what boxes come back with.
-use Rattle.hook_api.proofs.Words.{◌≡◌, ℕ, ◌-◌, ◌<◌, zero, suc, Bool, false, set, List, [], ◌∷◌, ◌++◌, map, length, get_or, take, replicate, sym, refl, ap, ◌∙◌, subst, arith, append_assoc, Some, some, some-injective, some-ne-none, get_elem?, All, sum_by, map-append, All-pop, sum_by-cons, State, AskSeat, Sight, BoxState, no_account, no_box, refused_at, tallies_of, Covers, Rule, blank, clients_of, refused_by, refused_in, first_part, idle, joined, later_part, spent}
+use Rattle.hook_api.proofs.Words.{◌≡◌, ℕ, ◌-◌, ◌<◌, zero, suc, Bool, false, set, List, [], ◌∷◌, ◌++◌, map, length, get_or, take, replicate, sym, refl, ap, ◌∙◌, subst, arith, append_assoc, Some, some, some-injective, some-ne-none, get_elem?, All, sum_by, map-append, All-pop, sum_by-cons, State, AskSeat, Sight, BoxState, no_account, no_box, refused_at, tallies_of, Covers, Rule, blank, clients_of, refused_by, refused_in, first_part, idle, both_tallies, later_part, spent}
 use Rattle.hook_api.proofs.SeatSums.{at_within}
 use Rattle.hook_api.proofs.ShareKeeps.{settled}
 
@@ -23,9 +23,9 @@ last_and_others P before rest seat is all = let parts = All-pop P before rest (S
 
 -- the tally of the last seat moves to those that were joined
 pub gathered : (before rest : List AskSeat) (seat : AskSeat) (v w : Sight) → before ≡ rest ++ seat ∷ [] → w ≡ idle (record { refused = seat.refused } ∷ [])
-    → tallies_of rest ++ (joined v w).tallies ≡ tallies_of before ++ v.tallies
+    → tallies_of rest ++ (both_tallies v w).tallies ≡ tallies_of before ++ v.tallies
 gathered before rest seat v w is one =
-    ap (λ u. tallies_of rest ++ (joined v u).tallies) one
+    ap (λ u. tallies_of rest ++ (both_tallies v u).tallies) one
     ∙ sym (ap (λ l. tallies_of l ++ v.tallies) is ∙ (ap (λ l. l ++ v.tallies) (map-append (λ (s : AskSeat). record { refused = s.refused }) rest (seat ∷ [])) ∙ append_assoc (tallies_of rest) (record { refused = seat.refused } ∷ []) v.tallies))
 
 -- what the tallies of seats have is what the seats counted

@@ -1,5 +1,5 @@
 -- Each step on the locks of a shared shelf keeps the rule.
-use Rattle.hook_api.proofs.Words.{◌≡◌, ℕ, ◌+◌, ◌<◌, ◌≤◌, ◌≢◌, zero, suc, true, false, cond, eqb, List, [], ◌∷◌, ◌++◌, map, length, get_or, set, take, drop, replicate, min, sym, refl, ap, ◌∙◌, subst, ⊎_elim, arith, length-set, Option, Some, None, none, some, some-injective, some-ne-none, dite, ℕ_discrete, get_elem?, set-get_or, either, nat_tests, get_or-set_other, get_or-set_same, length-append, length-replicate, sum_by-cons, sum_by-append, sum_by_push, sum_by-take-drop, sum_by, State, Me, Act, rest, Valid, carried_after, step, keeps, takes, gives, stepped, Allows, Splits, Joins, opening, set_else, set_here, set_again, at_snoc, some_there, exchanged, Tally, Taken, Sight, capped, BoxState, blank, opening_sight, refused_in, refused_by, clients_of, taken_is, takers, Covers, Rule, most, with_refusal, HasBox, came_home, counted, idle, having, took, waited, first_part, later_part, joined, spent}
+use Rattle.hook_api.proofs.Words.{◌≡◌, ℕ, ◌+◌, ◌<◌, ◌≤◌, ◌≢◌, zero, suc, true, false, cond, eqb, List, [], ◌∷◌, ◌++◌, map, length, get_or, set, take, drop, replicate, min, sym, refl, ap, ◌∙◌, subst, ⊎_elim, arith, length-set, Option, Some, None, none, some, some-injective, some-ne-none, dite, ℕ_discrete, get_elem?, set-get_or, either, nat_tests, get_or-set_other, get_or-set_same, length-append, length-replicate, sum_by-cons, sum_by-append, sum_by_push, sum_by-take-drop, sum_by, State, Me, Act, rest, Valid, carried_after, step, keeps, takes, gives, stepped, Allows, Splits, Joins, opening, set_else, set_here, set_again, at_snoc, some_there, exchanged, Tally, Taken, Sight, capped, BoxState, blank, opening_sight, refused_in, refused_by, clients_of, taken_is, takers, Covers, Rule, most, with_refusal, HasBox, came_home, counted, idle, having, took, waited, first_part, later_part, both_tallies, spent}
 use Rattle.hook_api.proofs.SeatSums.{sum_set, sum_one, sum_two, sum_some, set_cases, at_only}
 
 -- 0 where a word is 0, and else 1
@@ -199,11 +199,11 @@ module _ (own : List ℕ) (clients : ℕ) where
       }
 
   -- putting the tallies of two seats together, neither of which has a box, keeps the rule
-  pub joins : (id : ℕ) (v : Sight) (other : ℕ) (w : Sight) → v.taken ≡ None → w.taken ≡ None → Joins Kept id v other w (joined v w) spent
+  pub joins : (id : ℕ) (v : Sight) (other : ℕ) (w : Sight) → v.taken ≡ None → w.taken ≡ None → Joins Kept id v other w (both_tallies v w) spent
   joins id v other w idle_now idle_too s r at apart there =
-      let views : List Sight = set (set s.views id (joined v w)) other spent in
-      let total : (f : Sight → ℕ) → f (joined v w) + f spent ≡ f v + f w → sum_by f views ≡ sum_by f s.views = λ f parts.
-      (let a = sum_set f s.views id v (joined v w) at in let b = sum_set f (set s.views id (joined v w)) other w spent there in omega arith) in
+      let views : List Sight = set (set s.views id (both_tallies v w)) other spent in
+      let total : (f : Sight → ℕ) → f (both_tallies v w) + f spent ≡ f v + f w → sum_by f views ≡ sum_by f s.views = λ f parts.
+      (let a = sum_set f s.views id v (both_tallies v w) at in let b = sum_set f (set s.views id (both_tallies v w)) other w spent there in omega arith) in
       let refused : (i : ℕ) → sum_by (refused_by i) views ≡ sum_by (refused_by i) s.views = λ i. total (refused_by i) (let c = sum_by-append (refused_in i) w.tallies v.tallies in omega arith) in
       let nobody : (i : ℕ) → taken_is i w.taken ≡ 0 = λ i. ap (taken_is i) idle_too in record {
         size = r.size;
@@ -212,8 +212,8 @@ module _ (own : List ℕ) (clients : ℕ) where
         home = λ i below free. let h = r.home i below free in (h.0, h.1, subst (λ n. Covers h.0.account.refusals (get_or own i 0) n) (sym (refused i)) h.2);
         away = λ j u t is_there taken.
             let P : Sight → Type 0 = λ u. u.taken ≡ Some t → (0 < clients_of u) × Covers t.own (get_or own t.box_no 0) (sum_by (refused_by t.box_no) views) in
-            set_cases P (set s.views id (joined v w)) other spent (λ none_is. absurd (not_taken None t refl none_is))
-            (λ j u _ e. set_cases P s.views id (joined v w) (λ is. absurd (not_taken v.taken t idle_now is))
+            set_cases P (set s.views id (both_tallies v w)) other spent (λ none_is. absurd (not_taken None t refl none_is))
+            (λ j u _ e. set_cases P s.views id (both_tallies v w) (λ is. absurd (not_taken v.taken t idle_now is))
             (λ j u _ e is. let was = r.away j u t e is in (was.0, subst (λ n. Covers t.own (get_or own t.box_no 0) n) (sym (refused t.box_no)) was.1)) j u e) j u is_there taken;
       }
 

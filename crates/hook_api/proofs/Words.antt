@@ -25,7 +25,7 @@ pub use prog.Atomic.{either}
 pub use Rattle.hook_api.specs.Asked.{AskFacts, heard_in, by_box, is_refusal}
 pub use Rattle.hook_api.specs.Chain.{AskChain, AskChainAtEachBox, BoxChain, Chain, ChainAtEachBox, Event, EventStep, Made, PlanSet, TellsAll, asks_in, asks_of}
 pub use Rattle.hook_api.specs.Counts.{greatest, capped}
-pub use Rattle.hook_api.specs.Deeds.{IsDeedOf, carried, op_of, carries}
+pub use Rattle.hook_api.specs.Deeds.{Bare, bare_of, carried, nothing, with_heard}
 pub use Rattle.hook_api.specs.Filling.{FillsIn, filled_in}
 pub use Rattle.hook_api.specs.Hooks.{Account, Tells}
 pub use Rattle.hook_api.specs.Kept.{IsKept, KeptFacts, heard_of}
@@ -33,12 +33,11 @@ pub use Rattle.hook_api.specs.Kepts.{IsPaired, asks_after, kept_of, paired}
 pub use Rattle.hook_api.specs.Orders.{no_order, had_at, no_orders}
 pub use Rattle.hook_api.specs.Plans.{PlanRefusesNth, next_plan, plan_after, plan_of, refuses_next, is_set, plan_at}
 pub use Rattle.hook_api.specs.Seats.{refused_at, tallies_of}
-pub use Rattle.hook_api.specs.ShareSteps.{first_part, idle, joined, later_part, spent, most, with_refusal, HasBox, came_home, counted, having, took, waited, Took}
+pub use Rattle.hook_api.specs.ShareSteps.{first_part, idle, both_tallies, later_part, spent, most, with_refusal, HasBox, came_home, counted, having, took, waited, Took}
 pub use Rattle.hook_api.specs.Shared.{HasCounted, IsAskOfSome, IsSeatOf, IsNewSeat}
 pub use Rattle.hook_api.specs.Sharing.{Covers, Rule, blank, clients_of, refused_by, refused_in, opening_sight, taken_is, takers}
 pub use Rattle.hook_api.specs.Shelf.{BoxState, no_account, no_box, AskStep, BoxStep, PlanStep, Shelf, box_at, count_of, new_book}
 pub use Rattle.hook_api.specs.declared.books.Book.{Book}
-pub use Rattle.hook_api.specs.declared.deeds.Deed.{Deed}
 pub use Rattle.hook_api.specs.declared.plans.Kind.{Kind}
 pub use Rattle.hook_api.specs.declared.plans.Plan.TheVariants.{Pass, After}
 pub use Rattle.hook_api.specs.declared.seat.AskSeat.{AskSeat}
@@ -46,4 +45,3 @@ pub use Rattle.hook_api.specs.declared.sights.Began.{Began}
 pub use Rattle.hook_api.specs.declared.sights.Sight.{Sight}
 pub use Rattle.hook_api.specs.declared.sights.Taken.{Taken}
 pub use Rattle.hook_api.specs.declared.sights.Tally.{Tally}
-pub use Rattle.hook_api.specs.declared.slots.Slot.{Slot}

@@ -1,70 +1,42 @@
--- What entries of a journal did, beside the asks that they carry.
-use Rattle.std.specs.Prelude.{◌≡◌, Bool, true, false, [], ◌∷◌, Option, None, Some, IfSome}
+-- Entries of a journal apart from the asks that they carry.
+use Rattle.std.specs.Prelude.{ℕ, Bool, Option, None, Some}
 use Rattle.space_model.specs.declared.asks.Ask.TheVariants.{Commit}
 use Rattle.space_model.specs.declared.asks.Answer.TheVariants.{Done}
 use Rattle.space_model.specs.declared.asks.Heard.{Heard}
 use Rattle.space_model.specs.declared.entries.Op.{Op}
-use Rattle.space_model.specs.declared.entries.Op.TheVariants.{Look, CutDone, GrowDone, CommitDone, Land, Back, PutLook, MergeDone, Fill, Advance, PurgeTake, LazyDone, Offer, OfferDone, DecommitDone, ForcedDone, Publish, TakeOver, Reset, Destroy, DestroyTake, Counts, Set, Widen, JoinDone, Trim, TrimDone}
+use Rattle.space_model.specs.declared.entries.Op.TheVariants.{CutDone, GrowDone, CommitDone, MergeDone, LazyDone, OfferDone, DecommitDone, ForcedDone, JoinDone, TrimDone}
 use Rattle.hook_api.specs.Asked.{AskFacts, heard_in}
-use Rattle.hook_api.specs.Kept.{heard_of}
-use Rattle.hook_api.specs.declared.deeds.Deed.{Deed}
-use Rattle.hook_api.specs.declared.deeds.Deed.TheVariants.{Looked, Cut, Grew, Committed, Landed, GaveOne, Gave, Sought, Merged, Filled, Advanced, Took, PurgedLazily, Offered, Returned, Decommitted, PurgedForcibly, Published, TookOver, Emptied, Ended, Doomed, Counted, Changed, Widened, Joined, Trimmed, Shrunk}
+
+-- what stands for an ask that is kept elsewhere
+abbrev pub nothing : Heard
+nothing = record { ask = Commit (record { first = 0; pages = 0 }); answer = Done }
 
 -- what a journal's ask heard; where there is none it doesn't matter
 abbrev pub carried : Option AskFacts → Heard
 carried (Some asked) = heard_in asked
-carried None = record { ask = Commit (record { first = 0; pages = 0 }); answer = Done }
+carried None = nothing
 
--- the operation that did this and carries that ask
-abbrev pub op_of : Deed → Heard → Op
-op_of (Looked pages align) heard = Look pages align
-op_of (Cut keep_low) heard = CutDone heard keep_low
-op_of (Grew found) heard = GrowDone heard found
-op_of Committed heard = CommitDone heard
-op_of (Landed class count span) heard = Land span class count
-op_of (GaveOne addr) heard = Back (addr ∷ [])
-op_of (Gave addrs) heard = Back addrs.items
-op_of (Sought tries span) heard = PutLook span tries
-op_of (Merged own_low) heard = MergeDone heard own_low
-op_of (Filled class count) heard = Fill class count
-op_of (Advanced now) heard = Advance now
-op_of (Took rest keep) heard = PurgeTake rest keep
-op_of PurgedLazily heard = LazyDone heard
-op_of (Offered span) heard = Offer span
-op_of (Returned found) heard = OfferDone heard found
-op_of Decommitted heard = DecommitDone heard
-op_of PurgedForcibly heard = ForcedDone heard
-op_of (Published addr) heard = Publish addr
-op_of (TookOver addr) heard = TakeOver addr
-op_of (Emptied cached) heard = Reset cached
-op_of (Ended cached) heard = Destroy cached
-op_of Doomed heard = DestroyTake
-op_of Counted heard = Counts
-op_of (Changed setting) heard = Set setting
-op_of (Widened addr pages) heard = Widen addr pages
-op_of (Joined class) heard = JoinDone heard class
-op_of (Trimmed class addr) heard = Trim addr class
-op_of (Shrunk class) heard = TrimDone heard class
+-- the operation with that ask in place of the one that it carries, if it carries one
+abbrev pub with_heard : Op → Heard → Op
+with_heard (CutDone past keep_low) heard = CutDone heard keep_low
+with_heard (GrowDone past found) heard = GrowDone heard found
+with_heard (CommitDone past) heard = CommitDone heard
+with_heard (MergeDone past own_low) heard = MergeDone heard own_low
+with_heard (LazyDone past) heard = LazyDone heard
+with_heard (OfferDone past found) heard = OfferDone heard found
+with_heard (DecommitDone past) heard = DecommitDone heard
+with_heard (ForcedDone past) heard = ForcedDone heard
+with_heard (JoinDone past class) heard = JoinDone heard class
+with_heard (TrimDone past class) heard = TrimDone heard class
+with_heard op heard = op
 
--- whether what an entry did takes the answer to an ask in
-abbrev pub carries : Deed → Bool
-carries (Cut keep_low) = true
-carries (Grew found) = true
-carries Committed = true
-carries (Merged own_low) = true
-carries PurgedLazily = true
-carries (Returned found) = true
-carries Decommitted = true
-carries PurgedForcibly = true
-carries (Joined class) = true
-carries (Shrunk class) = true
-carries deed = false
+-- An entry apart from its ask: its operation, with nothing in place of the ask that this carries, its client, and whether it
+-- has an ask.
+pub record Bare : Type 0 where
+  pub op : Op
+  pub client : ℕ
+  pub asks : Bool
 
--- whether an operation gives regions back
-abbrev pub gives_back : Op → Bool
-gives_back (Back addrs) = true
-gives_back op = false
-
--- beside the ask that an operation carries this is what it did
-abbrev pub IsDeedOf : Op → Deed → Type 0
-IsDeedOf op deed = (heard : Heard) → IfSome (heard_of op) (λ carried. carried ≡ heard) → op_of deed heard ≡ op
+-- the entry of a client's operation, apart from its ask
+abbrev pub bare_of : ℕ → Op → Bool → Bare
+bare_of client op asks = record { op = with_heard op nothing; client = client; asks = asks }

@@ -2,31 +2,30 @@
 use Rattle.std.specs.Prelude.{◌≡◌, ℕ, ◌-◌, List, [], ◌∷◌, Option, None, Some, if◌then◌else◌, count_by, drop, length, min, slice_get, vec_capacity, vec_len}
 use Rattle.hook_api.specs.Asked.{AskFacts}
 use Rattle.hook_api.specs.Kept.{KeptFacts}
-use Rattle.hook_api.specs.Deeds.{carried, op_of}
+use Rattle.hook_api.specs.Deeds.{Bare, carried, with_heard}
 use Rattle.hook_api.specs.Filling.{FillsIn, filled_in}
-use Rattle.hook_api.specs.declared.slots.Slot.{Slot}
 use Rattle.hook_api.specs.declared.kepts.Writing.TheInside.{Inside}
 
 -- an entry again, beside the ask that was made for it
-abbrev pub kept_of : Slot → Option AskFacts → KeptFacts
-kept_of slot asked = record { entry = record { client = slot.client; op = op_of slot.deed (carried asked) }; asked = asked }
+abbrev pub kept_of : Bare → Option AskFacts → KeptFacts
+kept_of slot asked = record { entry = record { client = slot.client; op = with_heard slot.op (carried asked) }; asked = asked }
 
 -- the ask of an entry: the first one that is left, where it has one
-abbrev pub ask_of : Slot → List AskFacts → Option AskFacts
+abbrev pub ask_of : Bare → List AskFacts → Option AskFacts
 ask_of slot asks = if slot.asks then slice_get asks 0 else None
 
 -- the asks that are left behind an entry
-abbrev pub asks_after : Slot → List AskFacts → List AskFacts
+abbrev pub asks_after : Bare → List AskFacts → List AskFacts
 asks_after slot asks = if slot.asks then drop 1 asks else asks
 
 -- the entries, each beside its ask
-abbrev pub paired : List Slot → List AskFacts → List KeptFacts
+abbrev pub paired : List Bare → List AskFacts → List KeptFacts
 paired [] asks = []
 paired (slot ∷ slots) asks = kept_of slot (ask_of slot asks) ∷ paired slots (asks_after slot asks)
 
 -- there are just as many asks as entries that have one
-abbrev pub IsPaired : List Slot → List AskFacts → Type 0
-IsPaired slots asks = length asks ≡ count_by (λ (s : Slot). s.asks) slots
+abbrev pub IsPaired : List Bare → List AskFacts → Type 0
+IsPaired slots asks = length asks ≡ count_by (λ (s : Bare). s.asks) slots
 
 -- the ask that there is, if there is one
 abbrev pub asks_in : Option AskFacts → List AskFacts
@@ -46,7 +45,7 @@ written_pairs w = record {
 }
 
 -- there are just as many whole entries as marks, and just as many asks as entries that have one
-abbrev pub AreKept : List (Option Slot) → List Slot → List AskFacts → Type 0
+abbrev pub AreKept : List (Option Bare) → List Bare → List AskFacts → Type 0
 AreKept few whole asks = FillsIn few whole × IsPaired (filled_in few whole) asks
 
 -- the lists belong together

@@ -68,8 +68,8 @@ abbrev pub later_part : Sight → Sight
 later_part v = idle (drop 1 v.tallies)
 
 -- the tallies of both, those of the second first
-abbrev pub joined : Sight → Sight → Sight
-joined v w = record { taken = v.taken; tallies = w.tallies ++ v.tallies }
+abbrev pub both_tallies : Sight → Sight → Sight
+both_tallies v w = record { taken = v.taken; tallies = w.tallies ++ v.tallies }
 
 -- a view that was joined to another has nothing
 abbrev pub spent : Sight

@@ -1,15 +1,18 @@
 //! The entries of a journal with their asks, kept in few bytes.
 
 ghost use Rattle.std.specs.Prelude.{◌≡◌, ◌+◌, ◌<◌, ◌≤◌, ◌^◌, None, [], ◌∷◌, ◌++◌, true, is_some, length, vec_capacity, vec_len, IfOk, IfSome, OnOk};
+ghost use Rattle.hook_api.specs.Deeds.{bare_of};
+ghost use Rattle.hook_api.specs.Kept.{IsKept, heard_of};
 ghost use Rattle.hook_api.specs.Kepts.{ask_of, asks_after, kept_of};
 ghost use Rattle.hook_api.specs.Filling.{FillsIn, filled_in};
 
 use crate::ask_list::AskReader;
-use crate::slots::NarrowSlot;
-use crate::{AskList, Asked, Kept, Slot};
-use space_model::Seq;
+use crate::slots::{NarrowSlot, Slot};
+use crate::{AskList, Asked, Kept};
+use space_model::{Op, Seq};
 use std::alloc::{AllocError as NoMemory, Global};
 use std::marker::Model;
+use std::mem;
 
 /// Entries of a journal with their asks, in order: a narrow one for each, and the whole ones for which one only stands.
 #[derive(Drop)]
@@ -97,7 +100,7 @@ impl<'a> KeptReader<'a> {
             return Ok(None);
         };
         self.few = behind;
-        if let Some(slot) = narrow.slot() {
+        if let Some(slot) = narrow.slot(alloc) {
             return Ok(Some(kept_with(&slot, &mut self.asks, alloc)?));
         }
         let Some((slot, others)) = self.whole.split_first() else {
@@ -125,26 +128,28 @@ fn next_ask(slot: &Slot, asks: &mut AskReader) -> Option<Asked>
     ensures has { is_some result ≡ slot.now.asks }
     ensures rest { asks.new ≡ asks_after slot.now asks.old }
 {
-    if slot.asks { asks.next() } else { None }
+    if slot.asks() { asks.next() } else { None }
 }
 
-/// Puts an entry behind the others: in few bytes if its numbers fit there, and else whole, behind a mark. There is a place for
-/// it in both lists.
+/// Puts an entry behind the others: in few bytes if its numbers fit there, and else whole, behind a mark, where its operation is
+/// taken out of its place. There is room for it in both lists. It has an ask where its operation carries one.
 #[tactic(auto, using(crate::proofs::Filling::filled_mark, crate::proofs::Filling::filled_member, crate::proofs::Filling::fits_push))]
-fn push_slot(few: &mut Vec<NarrowSlot>, whole: &mut Vec<Slot>, slot: Slot)
+fn push_slot(few: &mut Vec<NarrowSlot>, whole: &mut Vec<Slot>, client: u32, op: &mut Op, asks: bool)
     requires few { vec_len few.old < vec_capacity few.old }
     requires whole { vec_len whole.old < vec_capacity whole.old }
     requires fits { FillsIn few.old.items whole.old.items }
-    ensures slots { filled_in few.new.items whole.new.items ≡ filled_in few.old.items whole.old.items ++ slot ∷ [] }
+    requires carried { is_some (heard_of op.old) ≡ true → asks ≡ true }
+    ensures slots { filled_in few.new.items whole.new.items ≡ filled_in few.old.items whole.old.items ++ bare_of client op.old asks ∷ [] }
     ensures fits { FillsIn few.new.items whole.new.items }
     ensures narrow { vec_len few.new ≡ vec_len few.old + 1 }
     ensures wide { vec_len whole.new ≤ vec_len whole.old + 1 }
     ensures few_places { vec_capacity few.old ≤ vec_capacity few.new }
     ensures whole_places { vec_capacity whole.old ≤ vec_capacity whole.new }
 {
-    let narrow = NarrowSlot::of(&slot);
+    let narrow = NarrowSlot::of(client, op, asks);
     if narrow.is_mark() {
-        whole.push(slot).unwrap();
+        let op = mem::replace(op, Op::Counts);
+        whole.push(Slot::new(client, op, asks)).unwrap();
     }
     few.push(narrow).unwrap();
 }
@@ -191,19 +196,20 @@ impl Writing {
         Ok(())
     }
 
-    /// Puts an entry at the end, with its ask. It takes a place.
-    #[tactic(auto, using(crate::proofs::Pairing::paired_push, crate::proofs::Pairing::fits_push, crate::proofs::Pairing::kept_length))]
-    pub fn push(&mut self, slot: Slot, asked: &Option<Asked>)
+    /// Puts a client's operation at the end, as an entry beside the ask that it carries. It takes a place, and no memory: what
+    /// doesn't fit into few bytes is taken out of the operation's place.
+    #[tactic(auto, using(crate::proofs::Pairing::fits_push, crate::proofs::Pairing::kept_length, crate::proofs::Pairing::asked_carried))]
+    pub fn push(&mut self, client: u32, op: &mut Op, asked: &Option<Asked>)
         requires room { 0 < self.old.spare }
-        requires asks { slot.asks ≡ is_some asked.now }
-        ensures kept { self.new.kept ≡ self.old.kept ++ kept_of slot asked.now ∷ [] }
+        requires asked { IsKept (record { client = client; op = op.old }) asked.now }
+        ensures kept { self.new.kept ≡ self.old.kept ++ record { entry = record { client = client; op = op.old }; asked = asked.now } ∷ [] }
         ensures spare { self.old.spare ≤ self.new.spare + 1 }
         ensures few { length self.new.kept < 2 ^ 64 }
     {
         if let Some(asked) = asked {
             self.asks.push(asked);
         }
-        push_slot(&mut self.few, &mut self.whole, slot);
+        push_slot(&mut self.few, &mut self.whole, client, op, asked.is_some());
     }
 
     /// The entries, once no more are to come. Takes no memory.

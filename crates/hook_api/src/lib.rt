@@ -45,7 +45,6 @@ pub use rising::RisingHooks;
 pub use seat::{AskSeat, AskSeats};
 pub use shared::SharedShelf;
 pub use shelf::HookShelf;
-pub use slots::Slot;
 
 #[cfg(test)]
 mod tests;

@@ -1,10 +1,14 @@
 //! What entries of a journal did, in 16 bytes, where their numbers are small.
 
-ghost use Rattle.std.specs.Prelude.{◌≡◌, false, IfSome};
-ghost use Rattle.hook_api.specs.NarrowDeeds.{deed_of, says_elsewhere, of_halves};
+ghost use Rattle.std.specs.Prelude.{◌≡◌, [], ◌∷◌, false, IfSome};
+ghost use Rattle.space_model.specs.declared.entries.Op.TheVariants.{Back, PurgeTake};
+ghost use Rattle.hook_api.specs.Deeds.{nothing, with_heard};
+ghost use Rattle.hook_api.specs.NarrowDeeds.{op_of, says_elsewhere, of_halves};
 
-use crate::deeds::Deed;
-use space_model::{Rest, Span};
+use crate::deeds::NOTHING;
+use size_classes::Addrs;
+use space_model::{Addresses, Op, Rest, Span};
+use std::alloc::Global;
 
 /// The first number that 32 bits don't hold.
 pub(crate) const WIDE: u64 = 1 << 32;
@@ -91,35 +95,44 @@ fn halved(shape: NarrowShape, number: u64) -> NarrowDeed
 }
 
 impl NarrowDeed {
-    /// What an entry did in few small numbers, if they tell it.
-    pub(crate) fn of(deed: &Deed) -> Option<NarrowDeed>
-        ensures { IfSome result (λ narrow. (deed_of narrow ≡ deed.now) × (says_elsewhere narrow.shape ≡ false)) }
+    /// What an operation does in few small numbers, if they tell it.
+    pub(crate) fn of(op: &Op) -> Option<NarrowDeed>
+        ensures { IfSome result (λ narrow. (op_of narrow ≡ with_heard op.now nothing) × (says_elsewhere narrow.shape ≡ false)) }
     {
-        Some(match deed {
-            Deed::Looked(pages, align) => paired(NarrowShape::Looks, 0, *pages, *align, 0)?,
-            Deed::Cut(true) => marked(NarrowShape::CutsLow, 0, 0),
-            Deed::Cut(false) => marked(NarrowShape::CutsHigh, 0, 0),
-            Deed::Grew(None) => marked(NarrowShape::Grows, 0, 0),
-            Deed::Committed => marked(NarrowShape::Commits, 0, 0),
-            Deed::Landed(class, count, span) => {
+        Some(match op {
+            Op::Look { pages, align } => paired(NarrowShape::Looks, 0, *pages, *align, 0)?,
+            Op::CutDone { keep_low: true, .. } => marked(NarrowShape::CutsLow, 0, 0),
+            Op::CutDone { .. } => marked(NarrowShape::CutsHigh, 0, 0),
+            Op::GrowDone { found: None, .. } => marked(NarrowShape::Grows, 0, 0),
+            Op::CommitDone { .. } => marked(NarrowShape::Commits, 0, 0),
+            Op::Land { span, class, count } => {
                 paired(NarrowShape::Lands, *class, span.first, span.pages, *count)?
             }
-            Deed::GaveOne(addr) => halved(NarrowShape::GivesOne, *addr),
-            Deed::Sought(tries, span) => {
+            Op::Back { addrs } => match addrs.as_slice() {
+                [addr] => halved(NarrowShape::GivesOne, *addr),
+                _ => return None,
+            },
+            Op::PutLook { span, tries } => {
                 paired(NarrowShape::Seeks, *tries, span.first, span.pages, 0)?
             }
-            Deed::Merged(true) => marked(NarrowShape::MergesLow, 0, 0),
-            Deed::Merged(false) => marked(NarrowShape::MergesHigh, 0, 0),
-            Deed::Filled(class, count) => marked(NarrowShape::Fills, *class, *count),
-            Deed::Took(Rest::Dirty, keep) => halved(NarrowShape::TakesDirty, *keep),
-            Deed::Took(Rest::Muzzy, keep) => halved(NarrowShape::TakesMuzzy, *keep),
-            Deed::PurgedLazily => marked(NarrowShape::PurgesLazily, 0, 0),
-            Deed::Offered(span) => paired(NarrowShape::Offers, 0, span.first, span.pages, 0)?,
-            Deed::Returned(None) => marked(NarrowShape::Returns, 0, 0),
-            Deed::Decommitted => marked(NarrowShape::Decommits, 0, 0),
-            Deed::PurgedForcibly => marked(NarrowShape::PurgesForcibly, 0, 0),
-            Deed::Published(addr) => halved(NarrowShape::Publishes, *addr),
-            Deed::TookOver(addr) => halved(NarrowShape::TakesOver, *addr),
+            Op::MergeDone { own_low: true, .. } => marked(NarrowShape::MergesLow, 0, 0),
+            Op::MergeDone { .. } => marked(NarrowShape::MergesHigh, 0, 0),
+            Op::Fill { class, count } => marked(NarrowShape::Fills, *class, *count),
+            Op::PurgeTake {
+                rest: Rest::Dirty,
+                keep,
+            } => halved(NarrowShape::TakesDirty, *keep),
+            Op::PurgeTake {
+                rest: Rest::Muzzy,
+                keep,
+            } => halved(NarrowShape::TakesMuzzy, *keep),
+            Op::LazyDone { .. } => marked(NarrowShape::PurgesLazily, 0, 0),
+            Op::Offer { span } => paired(NarrowShape::Offers, 0, span.first, span.pages, 0)?,
+            Op::OfferDone { found: None, .. } => marked(NarrowShape::Returns, 0, 0),
+            Op::DecommitDone { .. } => marked(NarrowShape::Decommits, 0, 0),
+            Op::ForcedDone { .. } => marked(NarrowShape::PurgesForcibly, 0, 0),
+            Op::Publish { addr } => halved(NarrowShape::Publishes, *addr),
+            Op::TakeOver { addr } => halved(NarrowShape::TakesOver, *addr),
             _ => return None,
         })
     }
@@ -141,33 +154,80 @@ impl NarrowDeed {
         u64::from(self.a) + u64::from(self.b) * WIDE
     }
 
-    /// What the entry did.
-    pub(crate) fn deed(self) -> Deed
-        ensures { result ≡ deed_of self }
+    /// The operation, with nothing for an ask. Takes no memory.
+    pub(crate) fn op(self, alloc: Global) -> Op
+        ensures { result ≡ op_of self }
     {
-        let mark = self.mark;
+        let (mark, span) = (self.mark, self.span());
+        let (heard, found) = (NOTHING, None);
         match self.shape {
-            NarrowShape::Looks => Deed::Looked(u64::from(self.a), u64::from(self.b)),
-            NarrowShape::CutsLow => Deed::Cut(true),
-            NarrowShape::CutsHigh => Deed::Cut(false),
-            NarrowShape::Grows => Deed::Grew(None),
-            NarrowShape::Commits => Deed::Committed,
-            NarrowShape::Lands => Deed::Landed(mark, self.c, self.span()),
-            NarrowShape::GivesOne => Deed::GaveOne(self.number()),
-            NarrowShape::Seeks => Deed::Sought(mark, self.span()),
-            NarrowShape::MergesLow => Deed::Merged(true),
-            NarrowShape::MergesHigh => Deed::Merged(false),
-            NarrowShape::Fills => Deed::Filled(mark, self.c),
-            NarrowShape::TakesDirty => Deed::Took(Rest::Dirty, self.number()),
-            NarrowShape::TakesMuzzy => Deed::Took(Rest::Muzzy, self.number()),
-            NarrowShape::PurgesLazily => Deed::PurgedLazily,
-            NarrowShape::Offers => Deed::Offered(self.span()),
-            NarrowShape::Returns => Deed::Returned(None),
-            NarrowShape::Decommits => Deed::Decommitted,
-            NarrowShape::PurgesForcibly => Deed::PurgedForcibly,
-            NarrowShape::Publishes => Deed::Published(self.number()),
-            NarrowShape::TakesOver => Deed::TookOver(self.number()),
-            NarrowShape::Elsewhere => Deed::Counted,
+            NarrowShape::Looks => Op::Look {
+                pages: span.first,
+                align: span.pages,
+            },
+            NarrowShape::CutsLow => Op::CutDone {
+                heard,
+                keep_low: true,
+            },
+            NarrowShape::CutsHigh => Op::CutDone {
+                heard,
+                keep_low: false,
+            },
+            NarrowShape::Grows => Op::GrowDone { heard, found },
+            NarrowShape::Commits => Op::CommitDone { heard },
+            NarrowShape::Lands => Op::Land {
+                span,
+                class: mark,
+                count: self.c,
+            },
+            NarrowShape::GivesOne => back_one(self.number(), alloc),
+            NarrowShape::Seeks => Op::PutLook { span, tries: mark },
+            NarrowShape::MergesLow => Op::MergeDone {
+                heard,
+                own_low: true,
+            },
+            NarrowShape::MergesHigh => Op::MergeDone {
+                heard,
+                own_low: false,
+            },
+            NarrowShape::Fills => Op::Fill {
+                class: mark,
+                count: self.c,
+            },
+            NarrowShape::TakesDirty => self.take(Rest::Dirty),
+            NarrowShape::TakesMuzzy => self.take(Rest::Muzzy),
+            NarrowShape::PurgesLazily => Op::LazyDone { heard },
+            NarrowShape::Offers => Op::Offer { span },
+            NarrowShape::Returns => Op::OfferDone { heard, found },
+            NarrowShape::Decommits => Op::DecommitDone { heard },
+            NarrowShape::PurgesForcibly => Op::ForcedDone { heard },
+            NarrowShape::Publishes => Op::Publish {
+                addr: self.number(),
+            },
+            NarrowShape::TakesOver => Op::TakeOver {
+                addr: self.number(),
+            },
+            NarrowShape::Elsewhere => Op::Counts,
         }
     }
+
+    /// An extent of a list is taken, with as many pages to stay as the first two numbers say.
+    fn take(self, rest: Rest) -> Op
+        ensures { result ≡ PurgeTake rest (of_halves self.a self.b) }
+    {
+        Op::PurgeTake {
+            rest,
+            keep: self.number(),
+        }
+    }
+}
+
+/// The return of the region at an address. Takes no memory.
+fn back_one(addr: u64, alloc: Global) -> Op
+    ensures { result ≡ Back (addr ∷ []) }
+{
+    let mut list = Addrs::new(alloc);
+    list.push(addr);
+    let addrs = Addresses::new(list);
+    Op::Back { addrs }
 }

@@ -78,9 +78,9 @@ impl Split<Sight> for Parts {
 pub struct Gathers;
 
 impl Join<Sight> for Gathers {
-    ghost use Rattle.hook_api.specs.ShareSteps.{joined, spent};
+    ghost use Rattle.hook_api.specs.ShareSteps.{both_tallies, spent};
 
-    ghost both = { joined };
+    ghost both = { both_tallies };
 
     ghost spent = { spent };
 }

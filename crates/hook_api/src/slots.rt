@@ -1,52 +1,62 @@
-//! An entry of a journal in few bytes, without its ask, and in fewer where its numbers are small.
+//! Entries of a journal whose asks are kept elsewhere, in few bytes where their numbers are small.
 
-ghost use Rattle.std.specs.Prelude.{◌≡◌, false, true, None, Some, is_none, is_some, IfOk, IfSome, IsOk};
-ghost use Rattle.hook_api.specs.Deeds.{carries, gives_back};
-ghost use Rattle.hook_api.specs.Kept.{IsKept};
-ghost use Rattle.hook_api.specs.NarrowDeeds.{deed_by};
+ghost use Rattle.std.specs.Prelude.{◌≡◌, true, None, Some, is_none, is_some, IfOk, IfSome};
+ghost use Rattle.hook_api.specs.Deeds.{bare_of};
+ghost use Rattle.hook_api.specs.Kept.{heard_of};
+ghost use Rattle.hook_api.specs.NarrowDeeds.{op_by};
 
-use crate::deeds::Deed;
+use crate::deeds::{NOTHING, again};
 use crate::narrow_deeds::{NarrowDeed, NarrowShape};
 use crate::{Asked, Kept};
 use space_model::{Entry, Op};
 use std::alloc::{AllocError as NoMemory, Global};
 use std::marker::Model;
 
-/// An entry without its ask, in 48 bytes.
+/// An entry whose ask is kept elsewhere. Contracts see it with nothing in place of the ask that its operation carries.
 #[derive(Drop)]
-pub struct Slot {
-    pub(crate) deed: Deed,
+pub(crate) struct Slot {
+    pub(crate) op: Op,
     pub(crate) client: u32,
     pub(crate) asks: bool,
-    ghost carried: { carries deed ≡ true → asks ≡ true },
+    ghost carried: { is_some (heard_of op) ≡ true → asks ≡ true },
+}
+
+impl Model for Slot {
+    ghost use Rattle.hook_api.specs.Deeds.{Bare, bare_of};
+
+    ghost Value = { Bare };
+
+    ghost view = { λ s. bare_of s.client s.op s.asks };
 }
 
 impl Slot {
     ghost use Rattle.hook_api.specs.Kepts.{kept_of};
 
-    /// What a client's operation is in few bytes. Only a return of several regions takes memory.
-    #[tactic(auto, using(crate::proofs::Pairing::deed_kept, crate::proofs::Pairing::asked_carried))]
-    pub fn of(client: u32, op: &Op, asked: &Option<Asked>, alloc: Global) -> Result<Slot, NoMemory>
-        requires { IsKept (record { client = client; op = op.now }) asked.now }
-        ensures kept { IfOk result (λ slot. kept_of slot asked.now ≡ record { entry = record { client = client; op = op.now }; asked = asked.now }) }
-        ensures asks { IfOk result (λ slot. slot.asks ≡ is_some asked.now) }
-        ensures sure { gives_back op.now ≡ false → IsOk result }
+    /// An entry, which has an ask where its operation carries one.
+    pub(crate) fn new(client: u32, op: Op, asks: bool) -> Slot
+        requires { is_some (heard_of op) ≡ true → asks ≡ true }
+        ensures { result ≡ bare_of client op asks }
     {
-        Ok(Slot {
-            deed: Deed::of(op, alloc)?,
-            client,
-            asks: asked.is_some(),
-        })
+        Slot { op, client, asks }
+    }
+
+    /// Whether it has an ask.
+    pub(crate) fn asks(&self) -> bool
+        ensures { result ≡ self.now.asks }
+    {
+        self.asks
     }
 
     /// The entry again, beside the ask that was made for it.
+    #[tactic(auto, using(crate::proofs::Pairing::heard_again, crate::proofs::Pairing::kept_again))]
     pub(crate) fn kept(&self, asked: Option<Asked>, alloc: Global) -> Result<Kept, NoMemory>
         requires { is_some asked ≡ self.now.asks }
         ensures { IfOk result (λ kept. kept ≡ kept_of self.now asked) }
     {
+        let heard = asked.map_or(NOTHING, |asked| asked.heard());
         let entry = Entry {
             client: self.client,
-            op: self.deed.op(asked, alloc)?,
+            op: again(&self.op, heard, alloc)?,
         };
         Ok(Kept::new(entry, asked))
     }
@@ -63,32 +73,33 @@ pub(crate) struct NarrowSlot {
     a: u32,
     b: u32,
     c: u32,
-    ghost carried: { carries (deed_by shape mark a b c) ≡ true → asks ≡ true },
+    ghost carried: { is_some (heard_of (op_by shape mark a b c)) ≡ true → asks ≡ true },
 }
 
 impl Model for NarrowSlot {
     ghost use Rattle.std.specs.Prelude.{Option};
     ghost use Rattle.hook_api.specs.NarrowSlots.{slot_told};
-    ghost use Rattle.hook_api.specs.declared.slots.Slot.{Slot};
+    ghost use Rattle.hook_api.specs.Deeds.{Bare};
 
-    ghost Value = { Option Slot };
+    ghost Value = { Option Bare };
 
     ghost view = { slot_told };
 }
 
 /// An entry in few bytes, if its numbers fit there.
-fn small(slot: &Slot) -> Option<NarrowSlot>
-    ensures { IfSome result (λ narrow. narrow ≡ Some slot.now) }
+fn small(client: u32, op: &Op, asks: bool) -> Option<NarrowSlot>
+    requires { is_some (heard_of op.now) ≡ true → asks ≡ true }
+    ensures { IfSome result (λ narrow. narrow ≡ Some (bare_of client op.now asks)) }
 {
-    let deed = NarrowDeed::of(&slot.deed)?;
-    if slot.client >= 256 {
+    let deed = NarrowDeed::of(op)?;
+    if client >= 256 {
         return None;
     }
     Some(NarrowSlot {
         shape: deed.shape,
         mark: deed.mark,
-        asks: slot.asks,
-        client: slot.client as u8,
+        asks,
+        client: client as u8,
         a: deed.a,
         b: deed.b,
         c: deed.c,
@@ -111,11 +122,12 @@ fn mark() -> NarrowSlot
 }
 
 impl NarrowSlot {
-    /// An entry in few bytes, or the mark of one whose numbers don't fit.
-    pub(crate) fn of(slot: &Slot) -> NarrowSlot
-        ensures { IfSome result (λ small. small ≡ slot.now) }
+    /// An entry in few bytes, or the mark of one whose numbers don't fit. It has an ask where its operation carries one.
+    pub(crate) fn of(client: u32, op: &Op, asks: bool) -> NarrowSlot
+        requires { is_some (heard_of op.now) ≡ true → asks ≡ true }
+        ensures { IfSome result (λ small. small ≡ bare_of client op.now asks) }
     {
-        match small(slot) {
+        match small(client, op, asks) {
             Some(narrow) => narrow,
             None => mark(),
         }
@@ -129,7 +141,7 @@ impl NarrowSlot {
     }
 
     /// The entry, unless this is the mark of one.
-    pub(crate) fn slot(&self) -> Option<Slot>
+    pub(crate) fn slot(&self, alloc: Global) -> Option<Slot>
         ensures { result ≡ self.now }
     {
         if self.is_mark() {
@@ -143,7 +155,7 @@ impl NarrowSlot {
             c: self.c,
         };
         Some(Slot {
-            deed: deed.deed(),
+            op: deed.op(alloc),
             client: u32::from(self.client),
             asks: self.asks,
         })
