@@ -1,10 +1,10 @@
 -- What an exchange makes of the extents, and of their slots.
-use Rattle.part_book.proofs.Words.{◌≡◌, ◌≢◌, ℕ, ◌+◌, ◌-◌, ◌≤◌, nat_cmp, unsigned_tied, nat_cmp_total, true, false, not, eqb, ltb, [], ◌∷◌, ◌++◌, filter, length-append, Some, option_map, vec_len, vec_capacity, inl, inr, refl, sym, ap, ◌∙◌, subst, arith, All, Contains, count_by, ◌/◌, ◌<◌, ◌||◌, List, find, Option, None, append_assoc, IfSome, IsSome, cases_Bool, eq-eqb, eqb-true, not_from_false, nat_tests, map-append, All-contains, All-filter, All-push, All-weaker, sum_by_push, Pages, Part, Span, IsPlaced, end_of, has_page, meets, begins_at, exchanged, Table, IsKeyed, Own, Row, first_key, is_edge, keys_without, with_edges, without_edges, IsApart, CanLower, HasListRoom, IsIndexed, IsLifted, IsRowTable, KeepsExtents, parts_of, rows_of, bit, find_is, all_from, filter_neither, filter_swap, find_kept, found, State, low_piece, high_piece, AreBeside, joined, leaves_for}
-use Rattle.part_book.proofs.Additions.{IsAdded, IsFresh, added, can_lower, numbers_more, rows_added, count_fewer, fewer, numbers_less, one, removed, rows_removed}
+use Rattle.part_book.proofs.Words.{HaveRows, GainsLists, HasMore, LosesLists, lists_of, set_at, ◌≡◌, ◌≢◌, ℕ, ◌-◌, ◌≤◌, nat_cmp, unsigned_tied, nat_cmp_total, true, false, not, eqb, [], ◌∷◌, ◌++◌, filter, length-append, Some, option_map, vec_len, vec_capacity, refl, sym, ap, ◌∙◌, subst, arith, All, Contains, count_by, ◌/◌, ◌<◌, ◌||◌, List, find, Option, None, append_assoc, IfSome, IsSome, eqb-true, not_from_false, nat_tests, map-append, All-contains, All-filter, All-push, All-weaker, sum_by_push, Pages, Part, Span, IsPlaced, end_of, has_page, meets, begins_at, exchanged, Table, IsKeyed, Own, Row, first_key, is_edge, with_edges, without_edges, IsApart, IsRowTable, KeepsExtents, parts_of, rows_of, bit, find_is, all_from, filter_neither, filter_swap, find_kept, found, State, low_piece, high_piece, AreBeside, joined, leaves_for}
+use Rattle.part_book.proofs.Additions.{IsFresh, count_fewer, edges_less, edges_more, fewer, fresh_again, lists_less, lists_more, numbers_less, numbers_more, one, order_less, parts_more, slots_less, slots_more, slotted}
 use Rattle.part_book.proofs.Indexes.{IsLeafed, in_slots, keeps, parts_in}
 use Rattle.part_book.proofs.Keyed.{keyed_same}
 use Rattle.part_book.proofs.Parts.{edge_has, placed}
-use Rattle.part_book.proofs.Rowed.{one_row, other_row, others, others_begin, row_placed}
+use Rattle.part_book.proofs.Rowed.{apart_less, one_row, other_row, others, others_begin, row_placed}
 use Rattle.part_book.proofs.Chunks.{leaves_both, leaves_none}
 use Rattle.std.specs.FinMap as map_of
 use Rattle.std.specs.FinSet as set
@@ -42,12 +42,12 @@ module _ (t : Table) (row : Row) (i : IsRowTable t (rows_of t)) (m : Contains (r
       let rows = rows_of t in
       let has : (x : Row) → Contains rows x → is_edge page x.part ≡ true → has_page page x.part.span ≡ true = λ x k. edge_has x.part page (row_placed rows x i.indexes.apart k) in
       let is = find_is (λ r. is_edge page r.part) rows row m e (λ y n u. one_row rows i.indexes.apart page row y m n (has row m e) (has y n u)) in
-      i.indexes.edges page ∙ ap (option_map (λ r. r.number)) is
+      i.indexes.edges.numbers page ∙ ap (option_map (λ r. r.number)) is
 
   pub own : (edges : Pages) → edges ≡ t.edges → Own edges row.part.span row.number
   own edges same =
       let placed = row_placed (rows_of t) row i.indexes.apart m in
-      let leaves = All-contains (IsLeafed t.edges.chunks) (rows_of t) row i.indexes.leaves m in
+      let leaves = All-contains (IsLeafed t.edges.chunks) (rows_of t) row i.indexes.edges.leaves m in
       let first : is_edge row.part.span.first row.part ≡ true = grind (arith, nat_tests) in
       let last : is_edge (end_of row.part.span - 1) row.part ≡ true = grind (arith, nat_tests) in
       subst (λ e. Own e row.part.span row.number) (sym same) (record {
@@ -57,82 +57,50 @@ module _ (t : Table) (row : Row) (i : IsRowTable t (rows_of t)) (m : Contains (r
         last_leaf = leaves.1;
       })
 
-  module _ (w : Table) (l : IsLifted t w row) (other : Row) (same : other.number ≡ row.number) (placed : IsPlaced other.part.span)
-      (apart : All (λ p. meets p.span other.part.span ≡ false) (filter (λ p. not (begins_at row.part.span.first p)) (parts_of t))) where
-    -- the table without the extent
-    abbrev pub between : Table
-    between = record w {
-      firsts = record t.firsts { keys = keys_without t.firsts.keys (first_key row) };
-      edges = record t.edges { numbers = without_edges t.edges.numbers row.part.span };
-    }
+  -- the others are those that begin elsewhere
+  pub begins : parts_in (others row.number (rows_of t)) ≡ filter (λ p. not (begins_at row.part.span.first p)) (parts_of t)
+  begins = others_begin t (rows_of t) row row.part.span.first i m (grind (arith, nat_tests))
 
-    pub left : IsIndexed between (others row.number (rows_of t))
-    left = removed t (rows_of t) row i m between (record {
-      order = l.order;
-      places = l.places;
-      dirty = l.dirty;
-      muzzy = l.muzzy;
-      retained = l.retained;
-      flights = l.flights;
-      firsts = refl;
-      sizes = l.sizes;
-      numbers = refl;
-      chunks = refl;
-      slots = l.slots;
-    })
+  -- an extent that gets its number, and meets no other, is fresh among the others
+  pub fresh_for : (other : Row) → other.number ≡ row.number → IsPlaced other.part.span → All (λ p. meets p.span other.part.span ≡ false) (filter (λ p. not (begins_at row.part.span.first p)) (parts_of t)) → IsFresh (vec_len t.slots) (others row.number (rows_of t)) other
+  fresh_for other same placed apart =
+      fresh_again t (rows_of t) row i m other placed (subst (All (λ p. meets p.span other.part.span ≡ false)) (sym begins) apart)
+      (let slot = in_slots t (rows_of t) row i.slots m in omega arith) (λ r n e. (other_row row.number (rows_of t) r n).1 (e ∙ same))
 
-    pub begins : parts_in (others row.number (rows_of t)) ≡ filter (λ p. not (begins_at row.part.span.first p)) (parts_of t)
-    begins = others_begin t (rows_of t) row row.part.span.first i m (grind (arith, nat_tests))
-
-    -- the other extent is new to it
-    again : IsFresh between (others row.number (rows_of t)) other
-    again =
-        let len : vec_len w.slots ≡ vec_len t.slots = ap (λ v. vec_len v) l.slots in
-        let within = λ (r : Row) (n : Contains (rows_of t) r). in_slots t (rows_of t) r i.slots n in
-        record {
-          placed = placed;
-          apart = subst (All (λ p. meets p.span other.part.span ≡ false)) (sym begins) apart;
-          number = λ r n e. (let o = other_row row.number (rows_of t) r n in let t' = eq-eqb r.number row.number (e ∙ same) in let no : true ≡ false = sym t' ∙ o.1 in cc);
-          slot = let in_it = within row m in omega arith;
-          small = omega arith;
-          within = λ r n. (let in_it = within r (other_row row.number (rows_of t) r n).0 in omega arith);
-          few = omega (arith, fewer t (rows_of t) row i m);
-        }
-
-    -- so the lists take it
-    pub lowerable : HasListRoom w 1 → CanLower w other
-    lowerable room =
-        let can = can_lower between (others row.number (rows_of t)) other left again (record { sizes = room.sizes; flights = room.flights }) in
-        record { place = can.place; new_number = can.new_number; lists = record { placed = can.lists.placed; dirty = can.lists.dirty; muzzy = can.lists.muzzy; retained = can.lists.retained; sizes = can.lists.sizes; absent = can.lists.absent; flights = can.lists.flights } }
-
-    -- the table keeps the extents, and the other one in place of the one
-    pub table_exchanged : (u : Table) → other.part.span.first ≡ row.part.span.first → IsAdded between u other → u.firsts ≡ t.firsts → u.free ≡ t.free → KeepsExtents u (exchanged (begins_at row.part.span.first) (parts_of t) (other.part ∷ []))
-    table_exchanged u first a firsts free =
-        let rows = rows_of t in
-        let now = others row.number rows ++ other ∷ [] in
-        let key : first_key row ≡ first_key other = λ k. Some (record { major = sym first k; minor = sym same k }) in
-        let keyed = keyed_same first_key rows row t.firsts.keys i.indexes.firsts m (one t rows row i m) other key in
-        let len : vec_len u.slots ≡ vec_len t.slots = a.slots_len ∙ ap (λ v. vec_len v) l.slots in
-        let free_len = ap (λ v. vec_len v) free in
-        let free_room = ap (λ v. vec_capacity v) free in
-        let were = rows_removed t between row.number l.slots l.order in
-        subst (KeepsExtents u) (map-append (λ r. r.part) (others row.number rows) (other ∷ []) ∙ ap (λ ps. ps ++ other.part ∷ []) begins)
-        (keeps u now (rows_added between (others row.number rows) other left again u were a) (record {
-          indexes = added between (others row.number rows) other left again u a (subst (λ k. IsKeyed first_key now k.keys) (sym firsts) keyed);
-          slots = record {
-            free = λ number.
-                let count = i.slots.free number in
-                let of = ap (λ v. count_by (λ n. eqb n number) v.items) free in
-                let less = count_fewer t rows row i m number in
-                let new = sum_by_push (λ r. bit (eqb r.number number)) (others row.number rows) other in
-                let own = ap (λ n. bit (eqb n number)) same in
-                let test = ap (λ n. bit (ltb number n)) len in
-                omega arith;
-            places = omega (arith, length-append (others row.number rows) (other ∷ []), fewer t rows row i m);
-            small = omega arith;
-            room = omega arith;
-          };
-        }))
+  -- the table keeps the extents, and the other one in place of the one
+  pub table_exchanged : (w u : Table) (other : Row) → other.number ≡ row.number → IsPlaced other.part.span → All (λ p. meets p.span other.part.span ≡ false) (filter (λ p. not (begins_at row.part.span.first p)) (parts_of t)) → other.part.span.first ≡ row.part.span.first →
+      LosesLists (lists_of t) (lists_of w) row → GainsLists (lists_of w) (lists_of u) other → u.order.numbers ≡ filter (λ n. not (eqb n row.number)) t.order.numbers ++ other.number ∷ [] → u.order.places ≡ t.order.places → u.firsts ≡ t.firsts →
+      ((page : ℕ) → map_of.get u.edges.numbers page ≡ map_of.get (with_edges (without_edges t.edges.numbers row.part.span) other.part.span other.number) page) → HasMore t.edges.chunks u.edges.chunks other.part.span →
+      u.slots.items ≡ set_at t.slots.items other.number other.part → vec_len u.slots ≡ vec_len t.slots → u.free ≡ t.free → KeepsExtents u (exchanged (begins_at row.part.span.first) (parts_of t) (other.part ∷ []))
+  table_exchanged w u other same placed apart first lost gained order places firsts numbers chunks slots slots_len free =
+      let rows = rows_of t in
+      let x = i.indexes in
+      let n = vec_len t.slots in
+      let rest = others row.number rows in
+      let now = rest ++ other ∷ [] in
+      let f = fresh_for other same placed apart in
+      let key : first_key row ≡ first_key other = λ k. Some (record { major = sym first k; minor = sym same k }) in
+      let few = apart_less row.number rows x.apart in
+      let without = edges_less t rows row i m (record t.edges { numbers = without_edges t.edges.numbers row.part.span }) refl refl in
+      let all = x.places in
+      subst (KeepsExtents u) (map-append (λ r. r.part) rest (other ∷ []) ∙ ap (λ ps. ps ++ other.part ∷ []) begins)
+      (keeps u now (record {
+        indexes = record {
+          apart = parts_more rest other n f few;
+          order = order ∙ ap (λ ns. ns ++ other.number ∷ []) (order_less t rows row i m _ refl) ∙ sym (map-append (λ r. r.number) rest (other ∷ []));
+          places = omega arith;
+          lists = subst (λ k. HaveRows (lists_of u) k now) (sym slots_len) (lists_more rest other n f (lists_of w) (lists_of u) (lists_less t rows row i m (lists_of w) lost) gained);
+          firsts = subst (λ k. IsKeyed first_key now k.keys) (sym firsts) (keyed_same first_key rows row t.firsts.keys x.firsts m (one t rows row i m) other key);
+          edges = edges_more rest other n f _ u.edges few without numbers chunks;
+          slots = slots_more rest other n f t.slots.items u.slots.items (omega (arith, t.slots.ok.0)) slots (slots_less t rows row i m);
+        };
+        slots = slotted t u rows now i.slots slots_len (λ number.
+            let of = ap (λ v. count_by (λ n. eqb n number) v.items) free in
+            let new = sum_by_push (λ r. bit (eqb r.number number)) rest other in
+            let own = ap (λ n. bit (eqb n number)) same in
+            omega (arith, count_fewer t rows row i m number))
+            (omega (arith, length-append rest (other ∷ []), fewer t rows row i m, ap (λ v. vec_len v) free)) (omega (arith, ap (λ v. vec_capacity v) free));
+      }))
 
 -- ---- an exchange
 

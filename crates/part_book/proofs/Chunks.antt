@@ -1,5 +1,5 @@
 -- The leaves that are left after chunks got some.
-use Rattle.part_book.proofs.Words.{◌≡◌, ℕ, ◌+◌, ◌-◌, ◌/◌, ◌<◌, ◌≤◌, min, Bool, true, false, not, cond, eqb, ◌||◌, List, length, filter, count_by, inl, inr, refl, sym, ap, ◌∙◌, subst, arith, Contains, nat_cmp, range_with_len, unsigned_tied, nat_cmp_total, cases_Bool, eq-eqb, filter_agree, sum_by-filter_both, count_by-le-length, length-filter, get_or-range_with_len, length-range_with_len, filter_has, Pages, CHUNKS, Span, IsPlaced, end_of, HasLeaves, HasMore, leaves_for, missing, bit, count_some, filter_neither}
+use Rattle.part_book.proofs.Words.{◌≡◌, ℕ, ◌+◌, ◌-◌, ◌/◌, ◌<◌, ◌≤◌, min, Bool, true, false, not, cond, eqb, ◌||◌, List, length, filter, count_by, refl, sym, ap, ◌∙◌, subst, arith, Contains, nat_cmp, range_with_len, unsigned_tied, nat_cmp_total, eq-eqb, filter_agree, sum_by-filter_both, count_by-le-length, length-filter, get_or-range_with_len, length-range_with_len, filter_has, Pages, CHUNKS, Span, IsPlaced, end_of, HasLeaves, HasMore, leaves_for, missing, bit, count_some, filter_neither}
 use Rattle.std.specs.FinSet as set
 
 -- a chunk is in a set to which another one was added where it is that one or was in it

@@ -1,5 +1,5 @@
 -- The walk through the unused extents by size finds the one that fits best.
-use Rattle.part_book.proofs.Words.{◌≡◌, ℕ, ◌+◌, ◌*◌, ◌-◌, ◌/◌, ◌%◌, ◌^◌, ◌<◌, ◌≤◌, Bool, true, false, ◌&&◌, eqb, List, [], ◌∷◌, length, count_by, cond, filter, find, slice_get, Some, None, Ordering, Less, Equal, Greater, is_gt, inl, inr, refl, sym, ap, ◌∙◌, subst, arith, sum_by, Contains, list_any, ordering_reverse, and_left, and_parts, cases_Bool, cases_lt, eq-eqb, false_from_ne_true, ne_eqb, not-true, nat_tests, list_any-from_Any, list_any_none, get_or-le-sum_by, sum_by-cons, mul-le, Key, IsAscending, is_above, is_from, key_cmp, key_tie, key_total, contains_later, filter_has, from_start, less_from_parts, less_major, start, start_from, Part, Rest, ToDirty, ToMuzzy, ToRetained, Span, State, Dirty, Muzzy, Retained, IsPlaced, holds_run, is_listed, fit_of, is_best, is_better, is_candidate, IsApart, IsKeyed, Row, key_span, listed_in, numbers_of, pages_of_rows, rank, rank_of, ranked_key, size_key, all_from, find_is, find_none, head, map_from, map_has, mapped_some, none_found}
+use Rattle.part_book.proofs.Words.{◌≡◌, ℕ, ◌+◌, ◌*◌, ◌-◌, ◌/◌, ◌%◌, ◌^◌, ◌<◌, ◌≤◌, Bool, true, false, ◌&&◌, eqb, List, [], ◌∷◌, length, count_by, cond, filter, find, slice_get, Some, None, Less, inl, inr, refl, sym, ap, ◌∙◌, subst, arith, sum_by, Contains, list_any, and_left, and_parts, cases_Bool, false_from_ne_true, not-true, nat_tests, list_any-from_Any, list_any_none, get_or-le-sum_by, sum_by-cons, mul-le, Key, IsAscending, is_above, is_from, key_cmp, key_tie, key_total, contains_later, filter_has, from_start, less_from_parts, less_major, start, start_from, Part, Rest, Span, State, IsPlaced, holds_run, is_listed, fit_of, is_best, is_better, is_candidate, IsApart, IsKeyed, Row, key_span, listed_in, numbers_of, pages_of_rows, rank, rank_of, ranked_key, size_key, all_from, find_is, find_none, head, map_from, map_has, mapped_some, none_found}
 use Rattle.part_book.proofs.Walks.{find_some}
 use Rattle.part_book.proofs.Indexes.{parts_in}
 use Rattle.part_book.proofs.Parts.{one_owner, placed}

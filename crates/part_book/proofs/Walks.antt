@@ -1,5 +1,5 @@
 -- The first key of a list that passes a test.
-use Rattle.part_book.proofs.Words.{◌≡◌, ◌<◌, zero, Bool, true, false, List, [], ◌∷◌, length, filter, find, Some, Ordering, Less, Equal, Greater, is_gt, inl, inr, refl, sym, ap, ◌∙◌, subst, arith, Every, IsStrictlySortedBy, ordering_reverse, cases_Bool, tied_itself, Key, key_cmp, IsAscending, is_above, key_total, every_map, every_member, filter_all, contains_cases, contains_later}
+use Rattle.part_book.proofs.Words.{◌≡◌, ◌<◌, zero, Bool, true, false, List, [], ◌∷◌, length, filter, find, Some, Ordering, Less, Equal, Greater, is_gt, inl, inr, sym, ap, ◌∙◌, subst, arith, Every, IsStrictlySortedBy, ordering_reverse, cases_Bool, tied_itself, Key, key_cmp, IsAscending, is_above, key_total, every_map, every_member, filter_all, contains_cases, contains_later}
 use Rattle.std.specs.List.{Contains}
 
 -- it is listed, passes, and none below it passes
