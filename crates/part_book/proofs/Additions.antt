@@ -69,8 +69,7 @@ more test rows row = grind (arith, filter-append test rows (row ∷ []))
 
 -- and so do their numbers
 more_numbers : (test : Row → Bool) (rows : List Row) (row : Row) → numbers_of (filter test (rows ++ row ∷ [])) ≡ numbers_of (filter test rows) ++ cond (test row) (row.number ∷ []) []
-more_numbers test rows row =
-    grind (arith, more test rows row, map-append (λ (r : Row). r.number) (filter test rows) (cond (test row) (row ∷ []) []))
+more_numbers test rows row = grind (arith, nat_tests, map-append, more)
 
 -- an extent is unused for one rest at most, and then it has a key
 pub one_rest : (row : Row) → bit (is_listed ToDirty row.part.state) + bit (is_listed ToMuzzy row.part.state) + bit (is_listed ToRetained row.part.state) ≡ bit (is_some (size_key row))
@@ -157,19 +156,7 @@ module _ (rows : List Row) (row : Row) (slots : ℕ) (f : IsFresh slots rows row
 
   -- a list of a rest gets its number and its pages if it is listed there
   listed_more : (rest : Rest) (old new : AgeList) → IsListOf rest old slots rows → GainsRow rest old new row → IsListOf rest new slots (rows ++ row ∷ [])
-  listed_more rest old new l g =
-      let test : Row → Bool = λ r. is_listed rest r.part.state in
-      let pages : Row → ℕ = λ r. r.part.span.pages in
-      let sum = ap (sum_by pages) (more test rows row) ∙ sum_by-append pages (filter test rows) (cond (test row) (row ∷ []) []) in
-      record {
-        numbers = g.numbers ∙ ap (λ ns. ns ++ cond (test row) (row.number ∷ []) []) l.numbers ∙ sym (more_numbers test rows row);
-        pages = omega (arith, sum, g.pages, l.pages, one (test row));
-        places = omega (arith, g.places, l.places);
-      }
-    where
-      one : (b : Bool) → sum_by (λ (r : Row). r.part.span.pages) (cond b (row ∷ []) []) ≡ cond b row.part.span.pages 0
-      one true = omega (arith, sum_by-cons (λ (r : Row). r.part.span.pages) row [])
-      one false = refl
+  listed_more rest old new l g = grind (arith, nat_tests, more, more_numbers, sum_by-append, sum_by-cons)
 
   -- the lists have it besides
   pub lists_more : (l k : Lists) → HaveRows l slots rows → GainsLists l k row → HaveRows k slots (rows ++ row ∷ [])
@@ -220,15 +207,7 @@ some_number t first (Some number) i some e = refl
 -- the slot of that number has the extent
 pub row_read : (t : Table) (first number : ℕ) → IsRowTable t (rows_of t) → IsSome (find (begins_at first) (parts_of t)) →
     map_of.get t.edges.numbers first ≡ Some number → IsRowAt t first (record { number = number; part = part_at t.slots.items number })
-row_read t first number i some e =
-    let r = edge_row t (rows_of t) first number i e in
-    let part = sym (slot_of t (rows_of t) r.0 i r.2 r.3).1 in
-    let row : r.0 ≡ record { number = number; part = part_at t.slots.items number } = λ k. record { number = r.3 k; part = part k } in
-    let closer = begins_by_edge (parts_of t) first i.indexes.apart _ (edge_part t (rows_of t) first number i e) in
-    record {
-      there = subst (Contains (rows_of t)) row r.2;
-      found = grind (arith, closer, some);
-    }
+row_read t first number i some e = grind (arith, nat_tests, begins_by_edge, edge_part, edge_row, slot_of)
 
 -- it begins there
 pub row_first : (t : Table) (first : ℕ) (row : Row) → IsRowAt t first row → row.part.span.first ≡ first
@@ -449,6 +428,4 @@ order_fewer t row i m numbers e =
 
 -- its first and its last page have leaves
 pub leaves_there : (t : Table) (edges : Pages) (row : Row) → IsRowTable t (rows_of t) → Contains (rows_of t) row → edges.chunks ≡ t.edges.chunks → leaves_for edges row.part.span ≡ 0
-leaves_there t edges row i m chunks =
-    let has = All-contains (IsLeafed t.edges.chunks) (rows_of t) row i.indexes.edges.leaves m in
-    rw (chunks, has.0, has.1) refl
+leaves_there t edges row i m chunks = grind (arith, nat_tests)

@@ -1,13 +1,12 @@
 -- What an exchange makes of the extents, and of their slots.
-use Rattle.part_book.proofs.Words.{HaveRows, GainsLists, HasMore, LosesLists, lists_of, set_at, ◌≡◌, ◌≢◌, ℕ, ◌-◌, ◌≤◌, nat_cmp, unsigned_tied, nat_cmp_total, true, false, not, eqb, [], ◌∷◌, ◌++◌, filter, length-append, Some, option_map, vec_len, vec_capacity, refl, sym, ap, ◌∙◌, subst, arith, All, Contains, count_by, ◌/◌, ◌<◌, ◌||◌, List, find, Option, None, append_assoc, IfSome, IsSome, eqb-true, not_from_false, nat_tests, map-append, All-contains, All-filter, All-push, All-weaker, sum_by_push, Pages, Part, Span, IsPlaced, end_of, has_page, meets, begins_at, exchanged, Table, IsKeyed, Own, Row, first_key, is_edge, with_edges, without_edges, IsApart, IsRowTable, KeepsExtents, parts_of, rows_of, bit, find_is, all_from, filter_neither, filter_swap, find_kept, found, State, low_piece, high_piece, AreBeside, joined, leaves_for}
+use Rattle.part_book.proofs.Words.{HaveRows, GainsLists, HasMore, LosesLists, lists_of, set_at, ◌≡◌, ◌≢◌, ℕ, ◌-◌, ◌≤◌, nat_cmp, unsigned_tied, nat_cmp_total, true, false, not, eqb, [], ◌∷◌, ◌++◌, filter, length-append, Some, option_map, vec_len, vec_capacity, refl, sym, ap, ◌∙◌, subst, arith, All, Contains, count_by, ◌<◌, ◌||◌, List, find, Option, None, append_assoc, IfSome, IsSome, eqb-true, not_from_false, nat_tests, map-append, All-contains, All-filter, All-push, All-weaker, sum_by_push, Pages, Part, Span, IsPlaced, end_of, has_page, meets, begins_at, exchanged, Table, IsKeyed, Own, Row, first_key, is_edge, with_edges, without_edges, IsApart, IsRowTable, KeepsExtents, parts_of, rows_of, bit, find_is, all_from, filter_neither, filter_swap, find_kept, found, State, low_piece, high_piece, AreBeside, joined, leaves_for}
 use Rattle.part_book.proofs.Additions.{IsFresh, count_fewer, edges_less, edges_more, fewer, fresh_again, lists_less, lists_more, numbers_less, numbers_more, one, order_less, parts_more, slots_less, slots_more, slotted}
-use Rattle.part_book.proofs.Indexes.{IsLeafed, in_slots, keeps, parts_in}
+use Rattle.part_book.proofs.Indexes.{in_slots, keeps, parts_in}
 use Rattle.part_book.proofs.Keyed.{keyed_same}
 use Rattle.part_book.proofs.Parts.{edge_has, placed}
 use Rattle.part_book.proofs.Rowed.{apart_less, one_row, other_row, others, others_begin, row_placed}
 use Rattle.part_book.proofs.Chunks.{leaves_both, leaves_none}
 use Rattle.std.specs.FinMap as map_of
-use Rattle.std.specs.FinSet as set
 
 -- ---- the first and the last page
 
@@ -28,9 +27,7 @@ moved_up m s t number page from to first own one =
 
 -- a map that has the number already is as if it were taken away and given again
 pub own_again : (pages : Pages) (p : Part) (number page : ℕ) → IsPlaced p.span → Own pages p.span number → map_of.get pages.numbers page ≡ map_of.get (with_edges (without_edges pages.numbers p.span) p.span number) page
-own_again pages p number page placed own =
-    sym (numbers_more (without_edges pages.numbers p.span) p number page placed
-    ∙ grind (arith, edge_own pages p number page placed own, numbers_less pages.numbers p page placed))
+own_again pages p number page placed own = grind (arith, nat_tests, edge_own, numbers_less, numbers_more)
 
 pub same_span : (s t : Span) → s.first ≡ t.first → s.pages ≡ t.pages → s ≡ t
 same_span s t e f = λ i. record { first = e i; pages = f i }
@@ -45,17 +42,7 @@ module _ (t : Table) (row : Row) (i : IsRowTable t (rows_of t)) (m : Contains (r
       i.indexes.edges.numbers page ∙ ap (option_map (λ r. r.number)) is
 
   pub own : (edges : Pages) → edges ≡ t.edges → Own edges row.part.span row.number
-  own edges same =
-      let placed = row_placed (rows_of t) row i.indexes.apart m in
-      let leaves = All-contains (IsLeafed t.edges.chunks) (rows_of t) row i.indexes.edges.leaves m in
-      let first : is_edge row.part.span.first row.part ≡ true = grind (arith, nat_tests) in
-      let last : is_edge (end_of row.part.span - 1) row.part ≡ true = grind (arith, nat_tests) in
-      subst (λ e. Own e row.part.span row.number) (sym same) (record {
-        first = own_page row.part.span.first first;
-        last = own_page (end_of row.part.span - 1) last;
-        first_leaf = leaves.0;
-        last_leaf = leaves.1;
-      })
+  own edges same = grind (arith, nat_tests, own_page, row_placed)
 
   -- the others are those that begin elsewhere
   pub begins : parts_in (others row.number (rows_of t)) ≡ filter (λ p. not (begins_at row.part.span.first p)) (parts_of t)
@@ -111,8 +98,7 @@ others_from old first at p e all = rw e all
 -- the extents after one was exchanged
 pub changed_parts : (change : Part → Part) (old now v : List Part) (first at : ℕ) (p : Part) → old ≡ now → find (begins_at first) old ≡ Some p → at ≡ first → v ≡ exchanged (begins_at at) old (change p ∷ []) →
     IfSome (find (begins_at first) now) (λ q. v ≡ exchanged (begins_at first) now (change q ∷ []))
-changed_parts change old now v first at p same e is to =
-    rw (sym (ap (find (begins_at first)) same) ∙ e) (to ∙ ap (λ n. exchanged (begins_at n) old (change p ∷ [])) is ∙ ap (λ ps. exchanged (begins_at first) ps (change p ∷ [])) same)
+changed_parts change old now v first at p same e is to = grind (arith, nat_tests)
 
 -- ---- a cut
 
@@ -143,14 +129,7 @@ high_apart left p low others now fewer all same e =
 -- the extents after a cut
 pub cut_parts : (old now u v : List Part) (first at left : ℕ) (p low high : Part) (a b : State) → old ≡ now → find (begins_at first) old ≡ Some p → at ≡ first → u ≡ exchanged (begins_at at) old (record low { state = a } ∷ []) → v ≡ u ++ record high { state = b } ∷ [] → low ≡ low_piece left p → high ≡ high_piece left p →
     IfSome (find (begins_at first) now) (λ q. v ≡ exchanged (begins_at first) now (record (low_piece left q) { state = a } ∷ record (high_piece left q) { state = b } ∷ []))
-cut_parts old now u v first at left p low' high' a b same e is more last low_is high_is =
-    let low : Part = record low' { state = a } in
-    let high : Part = record high' { state = b } in
-    let others = filter (λ q. not (begins_at first q)) old in
-    rw (sym (ap (find (begins_at first)) same) ∙ e) (
-    last ∙ ap (λ xs. xs ++ high ∷ []) (more ∙ ap (λ n. exchanged (begins_at n) old (low ∷ [])) is)
-    ∙ append_assoc others (low ∷ []) (high ∷ [])
-    ∙ cc)
+cut_parts old now u v first at left p low' high' a b same e is more last low_is high_is = grind (arith, nat_tests, append_assoc)
 
 -- ---- a join
 
@@ -205,11 +184,7 @@ joined_apart old at p q sound beside from_p from_q =
 
 -- its first and its last page have leaves
 pub joined_leaves : (t : Pages) (p q : Part) → AreBeside p q → leaves_for t p.span ≡ 0 → leaves_for t q.span ≡ 0 → leaves_for t (joined p q).span ≡ 0
-joined_leaves t p q beside of_p of_q =
-    let low = leaves_none t p.span of_p in
-    let high = leaves_none t q.span of_q in
-    let end : end_of (joined p q).span ≡ end_of q.span = omega (arith, beside) in
-    leaves_both t (joined p q).span low.0 (ap (λ n. set.contains t.chunks ((n - 1) / 512)) end ∙ high.1)
+joined_leaves t p q beside of_p of_q = grind (arith, nat_tests, leaves_both, leaves_none)
 
 -- the extents after a join
 pub join_parts : (old now t v : List Part) (low high at : ℕ) (p q : Part) → old ≡ now → find (begins_at low) old ≡ Some p → find (begins_at high) old ≡ Some q → t ≡ filter (λ x. not (begins_at high x)) old → at ≡ low → v ≡ exchanged (begins_at at) t (joined p q ∷ []) →

@@ -1,5 +1,5 @@
 -- What two pieces of an extent make of the extents, where the low one comes last.
-use Rattle.part_book.proofs.Words.{GainsLists, HasEdges, HaveRows, LosesLists, lists_of, ArePieces, Pages, length-set, without_edges, ◌≡◌, ◌≢◌, ℕ, ◌+◌, ◌<◌, ◌≤◌, true, false, not, eqb, nat_cmp, List, [], ◌∷◌, ◌++◌, append_assoc, length-append, map-append, filter, count_by, sum_by_push, bit, set_at, vec_len, vec_capacity, inl, inr, refl, sym, ap, ◌∙◌, subst, arith, nat_tests, All, All-push, All-weaker, Contains, Contains-append_left, Contains-push, Contains-push_cases, Some, Option, Key, Part, meets, is_edge, begins_at, exchanged, Table, IsKeyed, IsRowTable, KeepsExtents, Row, first_key, keys_with, parts_of, rows_of, with_edges, IsPlaced, HasMore}
+use Rattle.part_book.proofs.Words.{GainsLists, HasEdges, HaveRows, LosesLists, lists_of, ArePieces, Pages, length-set, without_edges, ◌≡◌, ◌≢◌, ℕ, ◌+◌, ◌<◌, ◌≤◌, false, not, eqb, nat_cmp, List, [], ◌∷◌, ◌++◌, append_assoc, length-append, map-append, filter, count_by, sum_by_push, bit, set_at, vec_len, vec_capacity, inl, inr, refl, sym, ap, ◌∙◌, subst, arith, nat_tests, All, All-push, All-weaker, Contains, Contains-append_left, Contains-push, Contains-push_cases, Some, Option, Key, Part, meets, begins_at, exchanged, Table, IsKeyed, IsRowTable, KeepsExtents, Row, first_key, keys_with, parts_of, rows_of, with_edges, IsPlaced, HasMore}
 use Rattle.part_book.proofs.Additions.{IsFresh, IsUnused, count_fewer, edges_less, edges_more, fewer, fresh_again, lists_less, lists_more, numbers_more, one, order_less, parts_more, slots_less, slots_more, slotted}
 use Rattle.part_book.proofs.Changed.{begins, fresh_for}
 use Rattle.part_book.proofs.Indexes.{keeps, parts_in}
@@ -18,9 +18,7 @@ high_misses p low high x pieces f = let some = pieces.low in grind (arith, nat_t
 -- two extents that don't meet may get their numbers in either order
 pub edges_swapped : (m n : map_of.FinMap nat_cmp ℕ) (a b : Part) (x y page : ℕ) → IsPlaced a.span → IsPlaced b.span → meets b.span a.span ≡ false →
     map_of.get n page ≡ map_of.get (with_edges m a.span x) page → map_of.get (with_edges n b.span y) page ≡ map_of.get (with_edges (with_edges m b.span y) a.span x) page
-edges_swapped m n a b x y page of_a of_b apart same =
-    let both : is_edge page a ≡ true → is_edge page b ≡ true → true ≡ false = λ e f. sym (page_meets b a page (edge_has b page of_b f) (edge_has a page of_a e)) ∙ apart in
-    grind (arith, numbers_more n b y page of_b, numbers_more m a x page of_a, numbers_more (with_edges m b.span y) a x page of_a, numbers_more m b y page of_b, same, both)
+edges_swapped m n a b x y page of_a of_b apart same = grind (arith, nat_tests, edge_has, numbers_more, page_meets)
 
 -- the keys of extents are the same in whatever order these are
 keyed_turned : (rows : List Row) (a b : Row) (key_of : Row → Option Key) (keys : List Key) → IsKeyed key_of ((rows ++ a ∷ []) ++ b ∷ []) keys → IsKeyed key_of ((rows ++ b ∷ []) ++ a ∷ []) keys

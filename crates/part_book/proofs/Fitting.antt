@@ -13,17 +13,11 @@ no_lower first align k some le = grind (arith, mul-le (k + 1) align ((first + (a
 
 -- the next multiple is where a run starts
 pub next_multiple : (first align skipped : ℕ) → 0 < align → (k : ℕ) × (k * align ≡ first + skipped) → ((k : ℕ) → first ≤ k * align → first + skipped ≤ k * align) → first + skipped ≡ (first + (align - 1)) / align * align
-next_multiple first align skipped some (k, e) least =
-    let low = no_lower first align k some (omega arith) in
-    let up : first ≤ (first + (align - 1)) / align * align = omega arith in
-    let high = least ((first + (align - 1)) / align) up in
-    omega arith
+next_multiple first align skipped some (k, e) least = grind (arith, nat_tests, no_lower)
 
 -- a span that holds a run has no fewer pages
 holds_pages : (s : Span) (pages align : ℕ) → 0 < align → holds_run pages align s ≡ true → pages ≤ s.pages
-holds_pages s pages align some t =
-    let up : s.first ≤ (s.first + (align - 1)) / align * align = omega arith in
-    grind (arith, nat_tests)
+holds_pages s pages align some t = grind (arith, nat_tests)
 
 -- ---- keys
 
@@ -56,10 +50,7 @@ pub record IsKeyOf (row : Row) (r : ℕ) (key : Key) : Type 0 where
   pub number : key.minor % 2 ^ 32 ≡ row.number
 
 key_is : (row : Row) (r : ℕ) → IsPlaced row.part.span → row.number < 2 ^ 32 → IsKeyOf row r (ranked_key row r)
-key_is row r inside small =
-    let first : (row.part.span.first * 2 ^ 32 + row.number) / 2 ^ 32 ≡ row.part.span.first = omega arith in
-    let pages : (r * 2 ^ 32 + row.part.span.pages) % 2 ^ 32 ≡ row.part.span.pages = omega arith in
-    record { own = refl; span = λ j. record { first = first j; pages = pages j }; rank = omega arith; number = omega arith }
+key_is row r inside small = grind (arith, nat_tests)
 
 -- ---- the walk
 

@@ -19,9 +19,7 @@ rows_read slots (r ∷ rows) all =
 -- a table in order with some rows keeps their extents
 pub keeps : (t : Table) (rows : List Row) → IsRowTable t rows → KeepsExtents t (parts_in rows)
 unfolding rows_of
-keeps t rows i =
-    let e : rows_of t ≡ rows = ap (map (row_at t.slots.items)) i.indexes.order ∙ rows_read t.slots.items rows i.indexes.slots in
-    record { table = subst (IsRowTable t) (sym e) i; parts = ap parts_in e }
+keeps t rows i = grind (arith, nat_tests, rows_read)
 
 -- the first and the last page of an extent lie in chunks that have leaves
 abbrev pub IsLeafed : set.FinSet nat_cmp → Row → Type 0
@@ -48,21 +46,15 @@ slot_of t rows r i m e = (subst (λ n. n < vec_len t.slots) e (in_slots t rows r
 
 -- the row of a number that the map gives for a page
 pub edge_row : (t : Table) (rows : List Row) (page number : ℕ) → IsRowTable t rows → map_of.get t.edges.numbers page ≡ Some number → (r : Row) × (find (λ row. is_edge page row.part) rows ≡ Some r) × Contains rows r × (r.number ≡ number)
-edge_row t rows page number i e =
-    let p = mapped_some (λ row. row.number) (find (λ row. is_edge page row.part) rows) number (sym (i.indexes.edges.numbers page) ∙ e) in
-    (p.0, p.1, (found (λ row. is_edge page row.part) rows p.0 p.1).0, p.2)
+edge_row t rows page number i e = grind (arith, nat_tests, found, mapped_some)
 
 -- the slot of that number has the extent whose first or last page it is
 pub edge_part : (t : Table) (rows : List Row) (page number : ℕ) → IsRowTable t rows → map_of.get t.edges.numbers page ≡ Some number → find (is_edge page) (parts_in rows) ≡ Some (part_at t.slots.items number)
-edge_part t rows page number i e =
-    let p = edge_row t rows page number i e in
-    find_map (λ row. row.part) (is_edge page) rows ∙ ap (option_map (λ row. row.part)) p.1 ∙ ap (λ q. Some q) (sym (slot_of t rows p.0 i p.2 p.3).1)
+edge_part t rows page number i e = grind (arith, nat_tests, edge_row, find_map, slot_of)
 
 -- a page without a number is no first or last page
 pub edge_none : (t : Table) (rows : List Row) (page : ℕ) → IsRowTable t rows → map_of.get t.edges.numbers page ≡ None → find (is_edge page) (parts_in rows) ≡ None
-edge_none t rows page i e =
-    let none = mapped_none (λ row. row.number) (find (λ row. is_edge page row.part) rows) (sym (i.indexes.edges.numbers page) ∙ e) in
-    find_map (λ row. row.part) (is_edge page) rows ∙ ap (option_map (λ row. row.part)) none
+edge_none t rows page i e = grind (arith, nat_tests, find_map, mapped_none)
 
 -- ---- the first pages
 
@@ -198,10 +190,7 @@ no_list rest list slots e none = record { numbers = ap (λ l. l.ages.numbers) e;
 
 -- a set without keys
 no_keys : (key_of : Row → Option Key) (keys : List Key) → keys ≡ [] → IsKeyed key_of [] keys
-no_keys key_of keys e = record {
-  has = λ r k m is. absurd (omega arith);
-  from = λ k m. absurd (let n : Contains {X = Key} [] k = subst (λ ks. Contains ks k) e m in omega arith);
-}
+no_keys key_of keys e = grind (arith, nat_tests)
 
 -- a table whose indexes have nothing
 pub empty_table : (t : Table) → t.order.numbers ≡ [] → (dirty : t.dirty ≡ record { ages = record { numbers = []; places = 0 }; pages = 0 }) → (muzzy : t.muzzy ≡ record { ages = record { numbers = []; places = 0 }; pages = 0 }) → (retained : t.retained ≡ record { ages = record { numbers = []; places = 0 }; pages = 0 }) →

@@ -1,5 +1,5 @@
 -- A table that was given room keeps its extents.
-use Rattle.part_book.proofs.Words.{◌≡◌, ℕ, ◌+◌, ◌<◌, ◌≤◌, eqb, ltb, count_by, vec_len, vec_capacity, sym, ap, ◌∙◌, subst, arith, refl, All, Table, AgesGrow, IsKeyed, first_key, part_at, size_key, HasRoomFor, IsRowTable, KeepsExtents, parts_of, rows_of, all_from, bit}
+use Rattle.part_book.proofs.Words.{◌≡◌, ℕ, ◌+◌, ◌<◌, ◌≤◌, eqb, ltb, count_by, vec_len, vec_capacity, sym, ap, ◌∙◌, subst, arith, refl, All, Table, AgesGrow, IsKeyed, first_key, part_at, size_key, HasRoomFor, IsRowTable, KeepsExtents, parts_of, rows_of, all_from, bit, nat_tests}
 use Rattle.part_book.proofs.Indexes.{IsLeafed, in_slot, in_slots, keeps}
 use Rattle.std.specs.FinMap as map_of
 
@@ -75,8 +75,4 @@ grown t u i slots free flights a =
 
 -- room for some is room for fewer
 pub room_less : (t : Table) (m n : ℕ) → HasRoomFor t m → n ≤ m → HasRoomFor t n
-room_less t m n room le = record {
-  firsts = omega (arith, room.firsts);
-  free = omega (arith, room.free);
-  lists = record { sizes = omega (arith, room.lists.sizes); flights = omega (arith, room.lists.flights) };
-}
+room_less t m n room le = grind (arith, nat_tests)
