@@ -1,5 +1,5 @@
 -- An extent comes, or goes.
-use Rattle.part_book.proofs.Words.{CanEnter, GainsLists, HasEdges, HaveRows, KeepsOthers, Lists, LosesLists, lists_of, ◌≡◌, ◌≢◌, ℕ, ◌+◌, ◌-◌, ◌/◌, ◌^◌, ◌<◌, ◌≤◌, Bool, true, false, cond, eqb, ltb, ◌||◌, List, [], ◌∷◌, ◌++◌, filter, find, length, count_by, Option, Some, None, is_some, option_map, set_at, vec_len, vec_capacity, inl, inr, refl, sym, ap, ◌∙◌, subst, arith, All, length-append, Contains, option_to_list, nat_cmp, sum_by, not, IsSome, unsigned_tied, nat_cmp_total, cases_Bool, eq-eqb, false_from_ne_true, eqb-true, not-true, nat_tests, get_or-set_other, get_or-set_same, length-map, map-append, All-contains, All-filter, All-map, All-push, All-weaker, filter-append, find-append, count_by-le-length, length-filter, sum_by-append, sum_by-cons, sum_by_push, Part, Rest, ToDirty, ToMuzzy, ToRetained, State, IsPlaced, end_of, meets, has_page, is_listed, begins_at, is_in_flight, AgeList, Table, HasMore, leaves_for, CanList, GainsRow, CanUnlist, LosesRow, IsApart, IsKeyed, Row, first_key, is_edge, keys_with, listed_in, numbers_of, part_at, rank_of, ranked_key, size_key, with_edges, keys_without, without_edges, CanLower, HasListRoom, IsListOf, IsSlotted, IsRowTable, KeepsExtents, parts_of, rows_of, IsRowAt, all_from, bit, count_some, find_none, map_has, count_less_one, count_kept, count_map, filter_all_of, filter_map_is, filter_none_of, filter_swap, find_kept, found, kept_length, only, sum_by-filter_both, filter_from, filter_has, Pages}
+use Rattle.part_book.proofs.Words.{CanEnter, GainsLists, HasEdges, HaveRows, KeepsOthers, Lists, LosesLists, lists_of, ◌≡◌, ◌≢◌, ℕ, ◌+◌, ◌-◌, ◌/◌, ◌^◌, ◌<◌, ◌≤◌, Bool, true, false, cond, eqb, ltb, ◌||◌, List, [], ◌∷◌, ◌++◌, filter, find, length, count_by, Option, Some, None, is_some, option_map, set_at, vec_len, vec_capacity, inl, inr, refl, sym, ap, ◌∙◌, subst, arith, All, length-append, Contains, option_to_list, nat_cmp, sum_by, not, IsSome, unsigned_tied, nat_cmp_total, cases_Bool, eq-eqb, false_from_ne_true, eqb-true, not-true, nat_tests, get_or-set_other, get_or-set_same, length-map, map-append, All-contains, All-filter, All-map, All-push, All-weaker, filter-append, find-append, count_by-le-length, length-filter, sum_by-append, sum_by-cons, sum_by_push, Part, Rest, ToDirty, ToMuzzy, ToRetained, IsPlaced, end_of, meets, has_page, is_listed, begins_at, is_in_flight, AgeList, Table, HasMore, leaves_for, CanList, GainsRow, CanUnlist, LosesRow, IsApart, IsKeyed, Row, first_key, is_edge, keys_with, listed_in, numbers_of, part_at, size_key, with_edges, keys_without, without_edges, CanLower, HasListRoom, IsListOf, IsSlotted, IsRowTable, KeepsExtents, parts_of, rows_of, IsRowAt, all_from, bit, count_some, find_none, map_has, count_less_one, count_kept, count_map, filter_all_of, filter_map_is, filter_none_of, filter_swap, find_kept, found, kept_length, only, sum_by-filter_both, filter_from, filter_has, Pages}
 use Rattle.part_book.proofs.Indexes.{IsLeafed, in_slots, keeps, parts_in, edge_none, edge_part, edge_row, slot_of, small_numbers}
 use Rattle.part_book.proofs.Keyed.{first_own, key_absent, keyed_more, size_own, keyed_less}
 use Rattle.part_book.proofs.Parts.{edge_has, begins_by_edge}
@@ -73,10 +73,7 @@ more_numbers test rows row = grind (arith, nat_tests, map-append, more)
 
 -- an extent is unused for one rest at most, and then it has a key
 pub one_rest : (row : Row) → bit (is_listed ToDirty row.part.state) + bit (is_listed ToMuzzy row.part.state) + bit (is_listed ToRetained row.part.state) ≡ bit (is_some (size_key row))
-one_rest row = by row.part.state
-  where
-    by : (s : State) → bit (is_listed ToDirty s) + bit (is_listed ToMuzzy s) + bit (is_listed ToRetained s) ≡ bit (is_some (option_map (ranked_key row) (rank_of s)))
-    by s = grind arith
+one_rest row = grind (arith, nat_tests)
 
 -- no more are unused than there are
 unused_most : (rows : List Row) → length (listed_in ToDirty rows) + length (listed_in ToMuzzy rows) + length (listed_in ToRetained rows) ≤ length rows

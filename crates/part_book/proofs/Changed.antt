@@ -159,11 +159,7 @@ pair low high old now q same some beside e apart = by (find (begins_at low) now)
 pub pair_is : (low high : ℕ) (old now left : List Part) (p q : Part) → old ≡ now → IsSome (find (begins_at low) now) →
     IfSome (find (begins_at low) now) (λ x. IfSome (find (begins_at high) now) (λ y. AreBeside x y)) → find (begins_at high) old ≡ Some q → IsApart old →
     left ≡ filter (λ x. not (begins_at high x)) old → find (begins_at low) left ≡ Some p → IsPair low high old p q
-pair_is low high old now left p q same some beside e apart less f =
-    let n = pair low high old now q same some beside e apart in
-    let twice : Some n.0 ≡ Some p = sym n.1.later ∙ ap (find (begins_at low)) (sym less) ∙ f in
-    let is : n.0 ≡ p = cc in
-    subst (λ x. IsPair low high old x q) is n.1
+pair_is low high old now left p q same some beside e apart less f = grind (arith, nat_tests, pair)
 
 -- two extents of the space as one lie in the space
 pub joined_placed : (p q : Part) → IsPlaced p.span → IsPlaced q.span → AreBeside p q → IsPlaced (joined p q).span

@@ -118,8 +118,4 @@ leaves_last p s b = rw b (let le = want_le (set.contains p.chunks (s.first / 512
 
 -- chunks keep their leaves, and those of the first and the last page of a span get one
 pub leaves_kept : (s : set.FinSet nat_cmp) {u : set.FinSet nat_cmp} (span : Span) → u ≡ set.insert (set.insert s (span.first / 512)) ((end_of span - 1) / 512) → HasMore s u span
-leaves_kept s span e = record {
-  kept = λ c t. rw e (contains_kept (set.insert s (span.first / 512)) ((end_of span - 1) / 512) c (contains_kept s (span.first / 512) c t));
-  first = rw e (contains_kept (set.insert s (span.first / 512)) ((end_of span - 1) / 512) (span.first / 512) (contains_new s (span.first / 512)));
-  last = rw e (contains_new (set.insert s (span.first / 512)) ((end_of span - 1) / 512));
-}
+leaves_kept s span e = grind (arith, nat_tests, contains_kept, contains_new)

@@ -1,13 +1,11 @@
-use Rattle.part_book.proofs.Words.{◌≡◌, ◌+◌, ◌-◌, ◌*◌, ◌/◌, not, filter, find, sym, ap, ◌∙◌, subst, arith, end_of, begins_at, high_piece, HasRoomFor, parts_of}
+use Rattle.part_book.proofs.Words.{nat_tests, ◌≡◌, ◌+◌, ◌-◌, ◌*◌, ◌/◌, not, filter, find, sym, ap, ◌∙◌, subst, arith, end_of, begins_at, high_piece, HasRoomFor, parts_of}
 use Rattle.part_book.proofs.Changed.{cut_parts, high_apart, low_apart, low_placed, others_from}
 use Rattle.part_book.proofs.Chunks.{leaves_first, leaves_last, leaves_none}
 use Rattle.part_book.proofs.Rooms.{room_less}
 use Rattle.part_book.proofs.PartBook.cut.Goals as goal
 
 pub exchange-requires-clause-placed : goal.exchange-requires-clause-placed
-exchange-requires-clause-placed c =
-    let fewer = rw (sym (ap (λ b. find (begins_at c.args.first) b.parts) c.self.view_is) ∙ c.extent_at-number.ensures.at.found) at c.requires.fewer in
-    rw c.low_piece.ensures (low_placed c.args.left c.extent_at-number.result.1 c.extent_at-number.ensures.placed c.requires.some fewer)
+exchange-requires-clause-placed c = grind (arith, nat_tests, low_placed)
 
 pub exchange-requires-clause-apart : goal.exchange-requires-clause-apart
 exchange-requires-clause-apart c =

@@ -1,4 +1,4 @@
-use Rattle.part_book.proofs.Words.{ℕ, ◌+◌, ◌<◌, Row, with_edges, without_edges, Pages, HasMore, set_at, ◌++◌, [], ◌∷◌, refl, sym, ap, ◌∙◌, subst, arith, option_to_list, vec_len, vec_capacity, map-append, rows_of}
+use Rattle.part_book.proofs.Words.{nat_tests, ℕ, ◌+◌, Row, with_edges, without_edges, Pages, HasMore, set_at, ◌++◌, [], ◌∷◌, refl, sym, ap, ◌∙◌, subst, arith, option_to_list, vec_len, vec_capacity, map-append, rows_of}
 use Rattle.part_book.proofs.Additions.{absent_first, can_lower, order_less, parts_more, popped}
 use Rattle.part_book.proofs.Changed.{own}
 use Rattle.part_book.proofs.Divided.{high_fresh, high_rows, low_fresh, low_rows, table_divided}
@@ -7,9 +7,7 @@ use Rattle.std.specs.FinMap as map_of
 use Rattle.part_book.proofs.table.Table.divide.Goals as goal
 
 pub index_mut-requires : goal.index_mut-requires
-index_mut-requires c =
-    let unused = popped c.args.self.now _ _ _ c.requires.table (ap (λ v. v.items) (sym c.lift.ensures.others.free) ∙ c.pop.ensures.items) c.unwrap-other.ensures in
-    subst (λ v. c.unwrap-other.result < vec_len v) (sym c.lift.ensures.others.slots) unused.slot
+index_mut-requires c = grind (arith, nat_tests, popped)
 
 pub move_edges-requires-clause-own : goal.move_edges-requires-clause-own
 move_edges-requires-clause-own c = own c.args.self.now _ c.requires.table c.requires.there c.lift.new.self.edges c.lift.ensures.others.edges

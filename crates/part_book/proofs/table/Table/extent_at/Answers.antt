@@ -1,4 +1,4 @@
-use Rattle.part_book.proofs.Words.{refl, sym, ◌∙◌, rows_of}
+use Rattle.part_book.proofs.Words.{nat_tests, arith, refl, sym, ◌∙◌, rows_of}
 use Rattle.part_book.proofs.Indexes.{in_slots}
 use Rattle.part_book.proofs.Additions.{leaves_there, row_apart, row_first, row_read, some_number}
 use Rattle.part_book.proofs.Rowed.{row_placed}
@@ -16,9 +16,7 @@ pub returns-clause-at : goal.returns-clause-at
 returns-clause-at c = rw c.part_at.ensures (row_read c.args.self.now c.args.first c.unwrap-number.result c.requires.table c.requires.begins (sym c.get.ensures.number ∙ c.unwrap-number.ensures))
 
 pub returns-clause-first : goal.returns-clause-first
-returns-clause-first c =
-    let at = row_read c.args.self.now c.args.first c.unwrap-number.result c.requires.table c.requires.begins (sym c.get.ensures.number ∙ c.unwrap-number.ensures) in
-    rw c.part_at.ensures (row_first c.args.self.now c.args.first _ at)
+returns-clause-first c = grind (arith, nat_tests, row_first, row_read)
 
 pub returns-clause-placed : goal.returns-clause-placed
 returns-clause-placed c =

@@ -14,16 +14,7 @@ returns-then-list_of-pages c =
     sym (too_few c.args.rest (rows_of t) t.sizes.keys c.args.pages c.args.align i.indexes.apart (small_numbers t (rows_of t) i.slots) i.indexes.lists.sizes c.requires.aligned few)
 
 pub overflow_add-start : goal.overflow_add-start
-overflow_add-start c =
-    let t = c.args.self.now in
-    let i = c.requires.table in
-    let most = pages_most c.args.rest (rows_of t) i.indexes.apart in
-    let pages = c.list_of.ensures.pages in
-    let small = i.slots.small in
-    let places = i.slots.places in
-    let r = c.rank-rank.ensures.small in
-    let test = c.if-list_of-pages.false in
-    grind (arith, nat_tests)
+overflow_add-start c = grind (arith, nat_tests, pages_most)
 
 pub returns-in_err-size : goal.returns-in_err-size
 returns-in_err-size c =
@@ -67,9 +58,7 @@ pub loop-size-smaller : goal.loop-size-smaller
 loop-size-smaller c = fewer_above c.args.self.now.sizes.keys c.loop-size.size c.in_ok-size-2.size c.after.ensures.ascending (sym c.in_ok-size-2.ensures.found)
 
 pub loop-size-preserved : goal.loop-size-preserved
-loop-size-preserved c =
-    let no = serves_not c.rank-rank.result c.args.pages c.args.align c.loop-size.size (sym c.holds_run.ensures ∙ c.if-holds_run.false) in
-    goes_on c.rank-rank.result c.args.pages c.args.align c.args.self.now.sizes.keys c.loop-size.size c.in_ok-size-2.size c.after.ensures.ascending c.loop-size.invariant no (sym c.in_ok-size-2.ensures.found)
+loop-size-preserved c = grind (arith, nat_tests, goes_on, serves_not)
 
 pub returns : goal.returns
 returns c =
