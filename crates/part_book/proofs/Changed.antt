@@ -91,10 +91,6 @@ module _ (t : Table) (row : Row) (i : IsRowTable t (rows_of t)) (m : Contains (r
 
 -- ---- an exchange
 
--- the extents but the one at a page don't meet what it is exchanged for
-pub others_from : (old : List Part) (first at : ℕ) (p : Part) → at ≡ first → All (λ x. meets x.span p.span ≡ false) (filter (λ x. not (begins_at first x)) old) → All (λ x. meets x.span p.span ≡ false) (filter (λ x. not (begins_at at x)) old)
-others_from old first at p e all = rw e all
-
 -- the extents after one was exchanged
 pub changed_parts : (change : Part → Part) (old now v : List Part) (first at : ℕ) (p : Part) → old ≡ now → find (begins_at first) old ≡ Some p → at ≡ first → v ≡ exchanged (begins_at at) old (change p ∷ []) →
     IfSome (find (begins_at first) now) (λ q. v ≡ exchanged (begins_at first) now (change q ∷ []))

@@ -25,6 +25,7 @@ impl Table {
         ensures first { result.1.span.first ≡ first }
         ensures placed { IsPlaced result.1.span }
         ensures apart { All (λ p. meets p.span result.1.span ≡ false) (filter (λ p. not (begins_at first p)) (parts_of self.now)) }
+        ensures others { All (λ p. meets p.span result.1.span ≡ false) (filter (λ p. not (begins_at result.1.span.first p)) (parts_of self.now)) }
         ensures leaves { leaves_for self.now.edges result.1.span ≡ 0 }
     {
         let number = self.edges.get(first).unwrap();

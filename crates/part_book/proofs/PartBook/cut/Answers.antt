@@ -1,5 +1,5 @@
 use Rattle.part_book.proofs.Words.{nat_tests, ◌≡◌, ◌+◌, ◌-◌, ◌*◌, ◌/◌, not, filter, find, sym, ap, ◌∙◌, subst, arith, end_of, begins_at, high_piece, HasRoomFor, parts_of}
-use Rattle.part_book.proofs.Changed.{cut_parts, high_apart, low_apart, low_placed, others_from}
+use Rattle.part_book.proofs.Changed.{cut_parts, high_apart, low_apart, low_placed}
 use Rattle.part_book.proofs.Chunks.{leaves_first, leaves_last, leaves_none}
 use Rattle.part_book.proofs.Rooms.{room_less}
 use Rattle.part_book.proofs.PartBook.cut.Goals as goal
@@ -12,16 +12,14 @@ exchange-requires-clause-apart c =
     let p = c.extent_at-number.result.1 in
     let at = c.extent_at-number.ensures in
     let fewer = rw (sym (ap (λ b. find (begins_at c.args.first) b.parts) c.self.view_is) ∙ at.at.found) at c.requires.fewer in
-    let others = others_from (parts_of c.self.inside.table) c.args.first p.span.first p at.first at.apart in
-    rw c.low_piece.ensures (low_apart c.args.left p (filter (λ x. not (begins_at p.span.first x)) (parts_of c.self.inside.table)) fewer others)
+    rw c.low_piece.ensures (low_apart c.args.left p (filter (λ x. not (begins_at p.span.first x)) (parts_of c.self.inside.table)) fewer at.others)
 
 pub put_on-requires-clause-apart : goal.put_on-requires-clause-apart
 put_on-requires-clause-apart c =
     let p = c.extent_at-number.result.1 in
     let at = c.extent_at-number.ensures in
     let fewer = rw (sym (ap (λ b. find (begins_at c.args.first) b.parts) c.self.view_is) ∙ at.at.found) at c.requires.fewer in
-    let others = others_from (parts_of c.self.inside.table) c.args.first p.span.first p at.first at.apart in
-    rw c.high_piece.ensures (high_apart c.args.left p _ (filter (λ x. not (begins_at p.span.first x)) (parts_of c.self.inside.table)) (parts_of c.exchange.new.self) fewer others (ap (λ q. q.span) c.low_piece.ensures) c.exchange.ensures.kept.parts)
+    rw c.high_piece.ensures (high_apart c.args.left p _ (filter (λ x. not (begins_at p.span.first x)) (parts_of c.self.inside.table)) (parts_of c.exchange.new.self) fewer at.others (ap (λ q. q.span) c.low_piece.ensures) c.exchange.ensures.kept.parts)
 
 pub put_on-requires-clause-room : goal.put_on-requires-clause-room
 put_on-requires-clause-room c =

@@ -1,5 +1,5 @@
 use Rattle.part_book.proofs.Words.{nat_tests, ◌+◌, ◌*◌, ap, arith, parts_of}
-use Rattle.part_book.proofs.Changed.{join_parts, joined_apart, joined_leaves, joined_placed, others_from, pair, pair_is}
+use Rattle.part_book.proofs.Changed.{join_parts, joined_apart, joined_leaves, joined_placed, pair, pair_is}
 use Rattle.part_book.proofs.Chunks.{more_leaves}
 use Rattle.part_book.proofs.Rooms.{room_less}
 use Rattle.part_book.proofs.PartBook.join.Goals as goal
@@ -17,7 +17,7 @@ exchange-requires-clause-apart c =
     let p = c.extent_at-number.result.1 in
     let t = c.take_off-high.new.self in
     let both = pair_is c.args.low c.args.high _ _ _ _ _ (ap (λ x. x.parts) c.self.view_is) c.requires.low c.requires.beside high.part c.self.invariant.table.indexes.apart high.kept.parts low.at.found in
-    joined_apart (parts_of t) p.span.first p c.take_off-high.result high.kept.table.indexes.apart both.beside (others_from (parts_of t) c.args.low p.span.first p low.first low.apart) high.apart
+    joined_apart (parts_of t) p.span.first p c.take_off-high.result high.kept.table.indexes.apart both.beside low.others high.apart
 
 pub exchange-requires-clause-leaves : goal.exchange-requires-clause-leaves
 exchange-requires-clause-leaves c = grind (arith, nat_tests, joined_leaves, pair_is)

@@ -1,9 +1,6 @@
 use Rattle.part_book.proofs.Words.{◌*◌, ap, arith, parts_of}
-use Rattle.part_book.proofs.Changed.{changed_parts, others_from}
+use Rattle.part_book.proofs.Changed.{changed_parts}
 use Rattle.part_book.proofs.PartBook.set_state.Goals as goal
-
-pub exchange-requires-clause-apart : goal.exchange-requires-clause-apart
-exchange-requires-clause-apart c = others_from (parts_of c.self.inside.table) c.args.first _ c.extent_at-number.result.1 c.extent_at-number.ensures.first c.extent_at-number.ensures.apart
 
 pub invariant_of-self : goal.invariant_of-self
 invariant_of-self c =
