@@ -1,11 +1,8 @@
-use Rattle.part_book.proofs.Words.{nat_tests, ◌≡◌, ◌+◌, ◌-◌, ◌*◌, ◌/◌, not, filter, find, sym, ap, ◌∙◌, subst, arith, end_of, begins_at, high_piece, HasRoomFor, parts_of}
-use Rattle.part_book.proofs.Changed.{cut_parts, high_apart, low_apart, low_placed}
+use Rattle.part_book.proofs.Words.{◌≡◌, ◌+◌, ◌-◌, ◌*◌, ◌/◌, not, filter, find, sym, ap, ◌∙◌, subst, arith, end_of, begins_at, high_piece, HasRoomFor, parts_of}
+use Rattle.part_book.proofs.Changed.{high_apart, low_apart}
 use Rattle.part_book.proofs.Chunks.{leaves_first, leaves_last, leaves_none}
 use Rattle.part_book.proofs.Rooms.{room_less}
 use Rattle.part_book.proofs.PartBook.cut.Goals as goal
-
-pub exchange-requires-clause-placed : goal.exchange-requires-clause-placed
-exchange-requires-clause-placed c = grind (arith, nat_tests, low_placed)
 
 pub exchange-requires-clause-apart : goal.exchange-requires-clause-apart
 exchange-requires-clause-apart c =
@@ -47,7 +44,3 @@ invariant_of-self c =
       room = c.put_on.ensures.room (n - 1) (subst (HasRoomFor u) back (c.exchange.ensures.room n c.self.invariant.room));
       leaves = c.put_on.ensures.leaves (2 * (n - 1)) (omega arith);
     }
-
-pub returns-clause-parts : goal.returns-clause-parts
-returns-clause-parts c =
-    cut_parts (parts_of c.self.inside.table) _ (parts_of c.exchange.new.self) _ c.args.first _ c.args.left c.extent_at-number.result.1 c.low_piece.result c.high_piece.result _ _ (ap (λ b. b.parts) c.self.view_is) c.extent_at-number.ensures.at.found c.extent_at-number.ensures.first c.exchange.ensures.kept.parts c.put_on.ensures.kept.parts c.low_piece.ensures c.high_piece.ensures

@@ -1,4 +1,4 @@
-use Rattle.part_book.proofs.Words.{◌≡◌, ◌+◌, ◌-◌, ◌*◌, ap, subst, arith, HasRoomFor, parts_of}
+use Rattle.part_book.proofs.Words.{◌≡◌, ◌+◌, ◌-◌, ◌*◌, ap, subst, arith, HasRoomFor}
 use Rattle.part_book.proofs.PartBook.shed.Goals as goal
 
 pub invariant_of-self : goal.invariant_of-self

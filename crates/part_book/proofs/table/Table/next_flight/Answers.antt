@@ -22,6 +22,3 @@ returns c =
     let len = ap length c.deref-number-items.ensures.value in
     let none = no_number (is_flown t.slots.items c.args.client) t.flights.items (λ k l. c.loop-number.invariant k (omega arith)) in
     sym (ap (option_map (λ p. p.span)) (flight_of t c.args.client c.requires.table ∙ ap (option_map (part_at t.slots.items)) none))
-
-pub loop-number-preserved : goal.loop-number-preserved
-loop-number-preserved c = grind (arith, nat_tests)

@@ -1,4 +1,4 @@
-use Rattle.part_book.proofs.Words.{nat_tests, rules, refl, ap, arith, on_ok_weaker}
+use Rattle.part_book.proofs.Words.{nat_tests, rules, ap, arith, on_ok_weaker}
 use Rattle.part_book.proofs.Chunks.{leaves_enough}
 use Rattle.part_book.proofs.Rooms.{grown, same_table}
 use Rattle.part_book.proofs.table.Table.reserve.Goals as goal
