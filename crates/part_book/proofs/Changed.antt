@@ -1,5 +1,5 @@
 -- What an exchange makes of the extents, and of their slots.
-use Rattle.part_book.proofs.Words.{HaveRows, GainsLists, HasMore, LosesLists, lists_of, set_at, ◌≡◌, ◌≢◌, ℕ, ◌-◌, ◌≤◌, nat_cmp, unsigned_tied, nat_cmp_total, true, false, not, eqb, [], ◌∷◌, ◌++◌, filter, length-append, Some, option_map, vec_len, vec_capacity, refl, sym, ap, ◌∙◌, subst, arith, All, Contains, count_by, ◌<◌, ◌||◌, List, find, Option, None, append_assoc, IfSome, IsSome, eqb-true, not_from_false, nat_tests, map-append, All-contains, All-filter, All-push, All-weaker, sum_by_push, Pages, Part, Span, IsPlaced, end_of, has_page, meets, begins_at, exchanged, Table, IsKeyed, Own, Row, first_key, is_edge, with_edges, without_edges, IsApart, IsRowTable, KeepsExtents, parts_of, rows_of, bit, find_is, all_from, filter_neither, filter_swap, find_kept, found, State, low_piece, high_piece, AreBeside, joined, leaves_for}
+use Rattle.part_book.proofs.Words.{HaveRows, GainsLists, HasMore, LosesLists, lists_of, set_at, ◌≡◌, ◌≢◌, ℕ, ◌-◌, ◌≤◌, nat_cmp, unsigned_tied, nat_cmp_total, true, false, not, eqb, [], ◌∷◌, ◌++◌, filter, length-append, Some, option_map, vec_len, vec_capacity, refl, sym, ap, ◌∙◌, subst, arith, All, Contains, count_by, ◌<◌, ◌||◌, List, find, Option, None, IfSome, IsSome, eqb-true, not_from_false, nat_tests, map-append, All-contains, All-filter, All-push, All-weaker, sum_by_push, Pages, Part, Span, IsPlaced, end_of, has_page, meets, begins_at, exchanged, Table, IsKeyed, Own, Row, first_key, is_edge, with_edges, without_edges, IsApart, IsRowTable, KeepsExtents, parts_of, rows_of, bit, find_is, all_from, filter_neither, filter_swap, find_kept, found, low_piece, high_piece, AreBeside, joined, leaves_for}
 use Rattle.part_book.proofs.Additions.{IsFresh, count_fewer, edges_less, edges_more, fewer, fresh_again, lists_less, lists_more, numbers_less, numbers_more, one, order_less, parts_more, slots_less, slots_more, slotted}
 use Rattle.part_book.proofs.Indexes.{in_slots, keeps, parts_in}
 use Rattle.part_book.proofs.Keyed.{keyed_same}
@@ -89,13 +89,6 @@ module _ (t : Table) (row : Row) (i : IsRowTable t (rows_of t)) (m : Contains (r
             (omega (arith, length-append rest (other ∷ []), fewer t rows row i m, ap (λ v. vec_len v) free)) (omega (arith, ap (λ v. vec_capacity v) free));
       }))
 
--- ---- an exchange
-
--- the extents after one was exchanged
-pub changed_parts : (change : Part → Part) (old now v : List Part) (first at : ℕ) (p : Part) → old ≡ now → find (begins_at first) old ≡ Some p → at ≡ first → v ≡ exchanged (begins_at at) old (change p ∷ []) →
-    IfSome (find (begins_at first) now) (λ q. v ≡ exchanged (begins_at first) now (change q ∷ []))
-changed_parts change old now v first at p same e is to = grind (arith, nat_tests)
-
 -- ---- a cut
 
 -- the pieces of an extent lie in the space
@@ -121,11 +114,6 @@ high_apart left p low others now fewer all same e =
     rw e (All-push (λ x. meets x.span (high_piece left p).span ≡ false) others low
     (All-weaker (λ x. meets x.span p.span ≡ false) (λ x. meets x.span (high_piece left p).span ≡ false) (λ x f. meets_high left x p fewer f) others all)
     (rw same (grind (arith, nat_tests))))
-
--- the extents after a cut
-pub cut_parts : (old now u v : List Part) (first at left : ℕ) (p low high : Part) (a b : State) → old ≡ now → find (begins_at first) old ≡ Some p → at ≡ first → u ≡ exchanged (begins_at at) old (record low { state = a } ∷ []) → v ≡ u ++ record high { state = b } ∷ [] → low ≡ low_piece left p → high ≡ high_piece left p →
-    IfSome (find (begins_at first) now) (λ q. v ≡ exchanged (begins_at first) now (record (low_piece left q) { state = a } ∷ record (high_piece left q) { state = b } ∷ []))
-cut_parts old now u v first at left p low' high' a b same e is more last low_is high_is = grind (arith, nat_tests, append_assoc)
 
 -- ---- a join
 
